@@ -1,0 +1,32 @@
+-- How a querystring is read and written.
+use Rattle.std.specs.Prelude.{ℕ, Bool, true, false, List, [], Option, Some, None, decimal}
+
+-- how the place of an element is written: its number, nothing between brackets, or no brackets at all
+pub data ArrayFormat : Type 0 where
+  indexed : ArrayFormat
+  empty_indexed : ArrayFormat
+  unindexed : ArrayFormat
+
+-- several values where one is asked for: the last one is taken, or they are refused
+pub data Duplicates : Type 0 where
+  take_last : Duplicates
+  refuse : Duplicates
+
+pub record Config : Type 0 where
+  pub max_depth : ℕ
+  pub form : Bool
+  pub array_format : ArrayFormat
+  pub duplicates : Duplicates
+
+abbrev pub default : Config
+default = record { max_depth = 5; form = false; array_format = indexed; duplicates = take_last }
+
+abbrev pub are_refused : Duplicates → Bool
+are_refused take_last = false
+are_refused refuse = true
+
+-- the segment that the i-th element adds to its path, if it adds one
+abbrev pub element_segment : ArrayFormat → ℕ → Option (List ℕ)
+element_segment indexed i = Some (decimal i)
+element_segment empty_indexed i = Some []
+element_segment unindexed i = None

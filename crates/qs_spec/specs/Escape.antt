@@ -1,0 +1,53 @@
+-- How bytes are escaped in a querystring, and what escaped bytes stand for.
+-- Query mode escapes the query percent-encode set of the URL Standard (section 1.3) and the separators of this notation;
+-- form mode escapes all that the application/x-www-form-urlencoded set does (section 1.3), and a space as `%20`.
+use Rattle.std.specs.Prelude.{ℕ, ◌+◌, ◌*◌, ◌/◌, ◌%◌, Bool, true, false, not, ◌&&◌, ◌||◌, ◌==◌, nat_le, List, [], ◌∷◌, if◌then◌else◌, flat_map}
+use Rattle.std.specs.List.{list_any}
+use Rattle.std.specs.Char.{digit_value, is_digit}
+use Rattle.std.specs.Fmt.{digit_glyph}
+
+-- `%` and two upper case hexadecimal digits
+abbrev pub escape : ℕ → List ℕ
+escape b = 37 ∷ digit_glyph true (b / 16) ∷ digit_glyph true (b % 16) ∷ []
+
+abbrev pub is_between : ℕ → ℕ → ℕ → Bool
+is_between low high b = nat_le low b && nat_le b high
+
+-- ASCII letters, digits, `*`, `-`, `.`, `_`
+abbrev pub is_kept_in_form : ℕ → Bool
+is_kept_in_form b = is_between 48 57 b || is_between 65 90 b || is_between 97 122 b || b == 42 || b == 45 || b == 46 || b == 95
+
+-- all above the space and below 0x7F but `"`, `#`, `<`, `>`, `%`, `+`, `[`, `]`, `=`, `&`
+abbrev pub is_kept_in_query : ℕ → Bool
+is_kept_in_query b = is_between 33 126 b && not (b == 34 || b == 35 || b == 60 || b == 62 || b == 37 || b == 43 || b == 91 || b == 93 || b == 61 || b == 38)
+
+-- how one byte is written, in form mode or in query mode
+abbrev pub spelling : Bool → ℕ → List ℕ
+spelling true b = if is_kept_in_form b then b ∷ [] else escape b
+spelling false b = if is_kept_in_query b then b ∷ [] else (if b == 32 then 43 ∷ [] else escape b)
+
+-- how bytes are written: the spellings one after the other
+abbrev pub encoded : Bool → List ℕ → List ℕ
+encoded form bytes = flat_map (spelling form) bytes
+
+-- `+` is a space
+abbrev pub unplus : ℕ → ℕ
+unplus b = if b == 43 then 32 else b
+
+-- What bytes stand for, by cases on the front, each followed by what the rest stands for: `+` is a space, and `%` with two
+-- hexadecimal digits of either case is one byte. A broken escape stays as it is: `%` and the byte after it where that is no
+-- digit, and with the next byte too where only the second one is none.
+abbrev pub decoded : List ℕ → List ℕ
+decoded [] = []
+decoded (b ∷ []) = unplus b ∷ []
+decoded (b ∷ c ∷ []) = if b == 37 then b ∷ c ∷ [] else unplus b ∷ decoded (c ∷ [])
+decoded (b ∷ c ∷ e ∷ rest) =
+    let digits = (16 * digit_value c + digit_value e) ∷ decoded rest in
+    let one_digit = b ∷ c ∷ e ∷ decoded rest in
+    let no_digit = b ∷ c ∷ decoded (e ∷ rest) in
+    let plain = unplus b ∷ decoded (c ∷ e ∷ rest) in
+    if b == 37 then (if is_digit c 16 then (if is_digit e 16 then digits else one_digit) else no_digit) else plain
+
+-- the bytes hold `+` or `%`, so they may stand for others
+abbrev pub is_marked : List ℕ → Bool
+is_marked raw = list_any (λ b. b == 43 || b == 37) raw

@@ -1,0 +1,102 @@
+-- Which pairs a list of tokens spells.
+use Rattle.std.specs.Prelude.{◌≡◌, ℕ, zero, suc, Bool, true, false, ◌||◌, not, List, [], ◌∷◌, ◌++◌, IsTrue, IsFalse}
+use Rattle.std.specs.List.{list_all}
+use Rattle.qs_spec.specs.Token.{Kind, Token, raw_of}
+use Rattle.qs_spec.specs.Segment.{Step, step_of}
+use Rattle.qs_spec.specs.Leaf.{Leaf, value_leaf}
+use Rattle.qs_spec.specs.Token.Kind.{Amp, Equals, Open, Close}
+use Rattle.qs_spec.specs.Leaf.Leaf.{NoValue}
+
+-- A pair pushes its leaf onto a sequence, or is plain.
+pub record Pair : Type 0 where
+  pub path : List Step
+  pub push : Bool
+  pub leaf : Leaf
+
+abbrev pub plain : List Step → Leaf → Pair
+plain path leaf = record { path = path; push = false; leaf = leaf }
+
+abbrev pub pushed : List Step → Leaf → Pair
+pushed path leaf = record { path = path; push = true; leaf = leaf }
+
+abbrev pub is_amp : Kind → Bool
+is_amp Amp = true
+is_amp _ = false
+
+abbrev pub is_equals : Kind → Bool
+is_equals Equals = true
+is_equals _ = false
+
+abbrev pub is_open : Kind → Bool
+is_open Open = true
+is_open _ = false
+
+abbrev pub is_close : Kind → Bool
+is_close Close = true
+is_close _ = false
+
+-- what ends the last key; a root key ends at a bracket too, where the depth is above 0
+abbrev pub ends_last : Kind → Bool
+ends_last k = is_amp k || is_equals k
+
+abbrev pub ends_root : ℕ → Kind → Bool
+ends_root zero k = ends_last k
+ends_root (suc depth) k = ends_last k || is_open k
+
+-- a run without what ends it
+abbrev pub IsRun : (Kind → Bool) → List Token → Type 0
+IsRun ends ts = IsTrue (list_all (λ t. not (ends t.kind)) ts)
+
+-- the path of a root key
+abbrev pub root : List Token → List Step
+root [] = []
+root (t ∷ key) = step_of (raw_of (t ∷ key)) ∷ []
+
+-- a path and one segment more
+abbrev pub longer : List Step → List ℕ → List Step
+longer path raw = path ++ step_of raw ∷ []
+
+-- nothing, or `=` and a value
+pub data IsValue : List Token → Leaf → Type 0 where
+  none : IsValue [] NoValue
+  some : {t : Token} {v : List Token} → t.kind ≡ Equals → IsRun is_amp v → IsValue (t ∷ v) (value_leaf (raw_of v))
+
+-- What follows an opening bracket with these bytes behind a path, with room for so many segments: a push, a segment where there is room, or else the last key.
+pub data IsBrackets : ℕ → List Step → List ℕ → List Token → Pair → Type 0 where
+  push : {room : ℕ} {path : List Step} {bracket : List ℕ} {t : Token} {value : List Token} {leaf : Leaf}
+      → t.kind ≡ Close → IsValue value leaf
+      → IsBrackets room path bracket (t ∷ value) (pushed path leaf)
+  segment : {room : ℕ} {path : List Step} {bracket : List ℕ} {leaf : Leaf} (s t : Token) (run value : List Token)
+      → IsRun is_close (s ∷ run) → t.kind ≡ Close → IsValue value leaf
+      → IsBrackets (suc room) path bracket (s ∷ run ++ t ∷ value) (plain (longer path (raw_of (s ∷ run))) leaf)
+  deeper : {room : ℕ} {path : List Step} {bracket : List ℕ} {pair : Pair} (s t u : Token) (run rest : List Token)
+      → IsRun is_close (s ∷ run) → t.kind ≡ Close → u.kind ≡ Open
+      → IsBrackets room (longer path (raw_of (s ∷ run))) u.raw rest pair
+      → IsBrackets (suc room) path bracket (s ∷ run ++ t ∷ u ∷ rest) pair
+  last : {path : List Step} {bracket : List ℕ} {leaf : Leaf} (t : Token) (run value : List Token)
+      → IsFalse (is_close t.kind) → IsRun ends_last run → IsValue value leaf
+      → IsBrackets 0 path bracket (t ∷ run ++ value) (plain (longer path (bracket ++ t.raw ++ raw_of run)) leaf)
+
+-- the tokens are one pair
+pub data IsPair (depth : ℕ) : List Token → Pair → Type 0 where
+  name : {t : Token} {key : List Token}
+      → IsRun (ends_root depth) (t ∷ key)
+      → IsPair depth (t ∷ key) (plain (root (t ∷ key)) NoValue)
+  value : {leaf : Leaf} (t : Token) (key value : List Token)
+      → IsRun (ends_root depth) key → IsValue (t ∷ value) leaf
+      → IsPair depth (key ++ t ∷ value) (plain (root key) leaf)
+  brackets : {pair : Pair} (t : Token) (key rest : List Token)
+      → IsRun (ends_root depth) key → IsTrue (is_open t.kind) → IsTrue (ends_root depth Open) → IsBrackets depth (root key) t.raw rest pair
+      → IsPair depth (key ++ t ∷ rest) pair
+
+-- the end, or `&` first
+abbrev pub IsEnd : List Token → Type 0
+IsEnd [] = Unit {0}
+IsEnd (t ∷ rest) = t.kind ≡ Amp
+
+-- the tokens are these pairs, with `&` between them and any number of `&` more
+pub data ArePairs (depth : ℕ) : List Token → List Pair → Type 0 where
+  none : ArePairs depth [] []
+  amp : {t : Token} {rest : List Token} {pairs : List Pair} → t.kind ≡ Amp → ArePairs depth rest pairs → ArePairs depth (t ∷ rest) pairs
+  pair : {pair : Pair} {pairs : List Pair} (front rest : List Token)
+      → IsPair depth front pair → IsEnd rest → ArePairs depth rest pairs → ArePairs depth (front ++ rest) (pair ∷ pairs)

@@ -1,0 +1,61 @@
+-- Histories: what the pairs of an input do, in turn, to the node at one path.
+use Rattle.std.specs.Prelude.{Bool, true, false, ◌||◌, ◌&&◌, not, List, [], ◌∷◌, map, if◌then◌else◌}
+use Rattle.std.specs.List.{list_any}
+use Rattle.qs_spec.specs.Segment.{Segment, Step, is_same_segment}
+use Rattle.qs_spec.specs.Leaf.{Leaf}
+use Rattle.qs_spec.specs.Grammar.{Pair}
+
+pub data Event : Type 0 where
+  plain : Leaf → Event
+  push : Leaf → Event
+  below : Event
+
+-- what a pair does to the node that its path begins at
+abbrev pub event_of : List Step → Bool → Leaf → Event
+event_of (s ∷ path) p leaf = below
+event_of [] true leaf = push leaf
+event_of [] false leaf = plain leaf
+
+abbrev pub event : Pair → Event
+event p = event_of p.path p.push p.leaf
+
+abbrev pub onto : List Step → Pair → List Pair → List Pair
+onto path p ps = record p { path = path } ∷ ps
+
+abbrev pub under_one : Segment → List Step → Pair → List Pair → List Pair
+under_one k [] p ps = ps
+under_one k (s ∷ path) p ps = if is_same_segment k s.seg then onto path p ps else ps
+
+-- the pairs whose path begins with a segment, without it
+abbrev pub under : Segment → List Pair → List Pair
+under k [] = []
+under k (p ∷ ps) = under_one k p.path p (under k ps)
+
+-- the pairs whose path begins with a path, without it
+abbrev pub at : List Segment → List Pair → List Pair
+at [] ps = ps
+at (k ∷ path) ps = at path (under k ps)
+
+-- the history of a path
+abbrev pub events : List Pair → List Segment → List Event
+events ps path = map event (at path ps)
+
+abbrev pub is_below : Event → Bool
+is_below below = true
+is_below _ = false
+
+abbrev pub is_push : Event → Bool
+is_push (push leaf) = true
+is_push _ = false
+
+abbrev pub begins_below : List Event → Bool
+begins_below (below ∷ h) = true
+begins_below _ = false
+
+abbrev pub begins_plain_push : List Event → Bool
+begins_plain_push (plain leaf ∷ push other ∷ h) = true
+begins_plain_push _ = false
+
+-- no event is below, and a single plain leaf isn't followed by a push; or below comes first, and nothing is pushed
+abbrev pub permitted : List Event → Bool
+permitted h = (not (list_any is_below h) && not (begins_plain_push h)) || (begins_below h && not (list_any is_push h))

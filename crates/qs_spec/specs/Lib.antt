@@ -1,0 +1,17 @@
+pub mod Config
+pub mod Escape
+pub mod Token
+pub mod Segment
+pub mod Leaf
+pub mod Grammar
+pub mod History
+pub mod Tree
+pub mod Holds
+pub mod Order
+pub mod Data
+pub mod Shape
+pub mod Scalar
+pub mod Read
+pub mod Entry
+pub mod Written
+pub mod toward

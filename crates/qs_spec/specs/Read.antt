@@ -1,0 +1,261 @@
+-- What a shape reads from a node. docs/QUERYSTRINGS.md has the same as a table.
+use Rattle.std.specs.Prelude.{ℕ, ◌+◌, Bool, true, false, ◌&&◌, ◌==◌, nat_lt, cond, List, [], ◌∷◌, Option, Some, None, option_map, option_and_then}
+use Rattle.std.specs.Str.{bytes_eq, is_utf8}
+use Rattle.qs_spec.specs.Segment.{Segment, segment_text}
+use Rattle.qs_spec.specs.Segment.Segment.{Int, Str}
+use Rattle.qs_spec.specs.Leaf.{leaf_text}
+use Rattle.qs_spec.specs.Leaf.Leaf.{NoValue, Null, Text}
+use Rattle.qs_spec.specs.Tree.{Tree, Items, Entries}
+use Rattle.qs_spec.specs.Tree.Tree.{leaf, sequence, mapping, uninitialized}
+use Rattle.qs_spec.specs.Tree.Items.{no_items, item}
+use Rattle.qs_spec.specs.Tree.Entries.{no_entries, entry}
+use Rattle.qs_spec.specs.Config.{Config, are_refused}
+use Rattle.qs_spec.specs.Data.{Data, Values, no_values, one_value, Pairs, no_pairs, one_pair, values_of, pairs_of, members_of, Named}
+use Rattle.qs_spec.specs.Shape.{Shape, Shapes, no_shapes, one_shape, Fields, no_fields, one_field, Variants, no_variants, one_variant, VariantKind, unit_kind, newtype_kind, tuple_kind, struct_kind, KeyShape, is_option}
+use Rattle.qs_spec.specs.Scalar.{boolean_data, unsigned_data, signed_data, character_data, text_data, key_data}
+
+-- how a part is read
+abbrev pub Reader : Type 0
+Reader = Tree → Option Data
+
+-- the bytes of a leaf among others, where Null and NoValue count as the empty text
+abbrev pub item_text : Tree → Option (List ℕ)
+item_text (leaf l) = Some (leaf_text l)
+item_text _ = None
+
+-- the bytes of the last item; several are refused under `strict`
+abbrev pub last_item : Bool → Items → Option (List ℕ)
+last_item strict no_items = None
+last_item strict (item t no_items) = item_text t
+last_item strict (item t (item u xs)) = cond strict None (last_item strict (item u xs))
+
+-- a scalar, with what it is for Null and NoValue, and how the last text is read otherwise
+abbrev pub read_scalar : Bool → Option Data → (List ℕ → Option Data) → Reader
+read_scalar strict empty get (leaf NoValue) = empty
+read_scalar strict empty get (leaf Null) = empty
+read_scalar strict empty get (leaf (Text bytes mark)) = get bytes
+read_scalar strict empty get (sequence xs) = option_and_then get (last_item strict xs)
+read_scalar strict empty get (mapping es) = None
+read_scalar strict empty get uninitialized = None
+
+abbrev pub read_unit : Reader
+read_unit (leaf NoValue) = Some Data.unit
+read_unit (leaf Null) = Some Data.unit
+read_unit _ = None
+
+abbrev pub read_character : Reader
+read_character (leaf (Text bytes mark)) = character_data bytes
+read_character _ = None
+
+abbrev pub read_ignored : Reader
+read_ignored uninitialized = None
+read_ignored _ = Some Data.unit
+
+-- NoValue is none; Null is some of what the part reads from NoValue
+abbrev pub read_option : Reader → Reader
+read_option r (leaf NoValue) = Some Data.none
+read_option r (leaf Null) = option_map Data.some (r (leaf NoValue))
+read_option r (leaf (Text bytes mark)) = option_map Data.some (r (leaf (Text bytes mark)))
+read_option r (sequence xs) = option_map Data.some (r (sequence xs))
+read_option r (mapping es) = option_map Data.some (r (mapping es))
+read_option r uninitialized = None
+
+-- the key is this place, of which there are 4,294,967,295 at most
+abbrev pub is_place : ℕ → Segment → Bool
+is_place i (Int n) = n == i && nat_lt n 4294967295
+is_place i (Str bytes) = false
+
+abbrev pub is_int : Segment → Bool
+is_int (Int n) = true
+is_int (Str bytes) = false
+
+abbrev pub are_ints : Entries → Bool
+are_ints no_entries = true
+are_ints (entry k mark t es) = is_int k && are_ints es
+
+-- each item at its place; an entry elsewhere is no item
+abbrev pub placed : ℕ → Entries → List (Option Tree)
+placed i no_entries = []
+placed i (entry k mark t es) = cond (is_place i k) (Some t) None ∷ placed (i + 1) es
+
+abbrev pub each_item : Items → List (Option Tree)
+each_item no_items = []
+each_item (item t xs) = Some t ∷ each_item xs
+
+-- the items of a node, if it has a list of them
+abbrev pub items : Tree → Option (List (Option Tree))
+items (leaf NoValue) = Some []
+items (leaf Null) = Some []
+items (leaf (Text bytes mark)) = Some (Some (leaf (Text bytes mark)) ∷ [])
+items (sequence xs) = Some (each_item xs)
+items (mapping es) = cond (are_ints es) (Some (placed 0 es)) None
+items uninitialized = None
+
+abbrev pub with_front : {A : Type 0} → A → Option (List A) → Option (List A)
+with_front x r = option_map (λ xs. x ∷ xs) r
+
+-- every item
+abbrev pub read_each : Reader → List (Option Tree) → Option (List Data)
+read_each r [] = Some []
+read_each r (x ∷ xs) = option_and_then (λ d. with_front d (read_each r xs)) (option_and_then r x)
+
+unfoldable pub read_list : Reader → Tree → Option (List Data)
+read_list r t = option_and_then (read_each r) (items t)
+
+-- the values whose key has the text
+abbrev pub found : List ℕ → Entries → List Tree
+found name no_entries = []
+found name (entry k mark t es) = cond (bytes_eq (segment_text k) name) (t ∷ found name es) (found name es)
+
+abbrev pub keys_are_text : Entries → Bool
+keys_are_text no_entries = true
+keys_are_text (entry k mark t es) = is_utf8 (segment_text k) && keys_are_text es
+
+-- A field by its name: Some None where it is left out. Two keys with its text are refused; with none it is left out if it is
+-- optional, and else none if its shape is an option.
+abbrev pub read_field : Bool → Bool → Reader → List Tree → Option (Option Data)
+read_field optional is_opt r [] = cond optional (Some None) (cond is_opt (Some (Some Data.none)) None)
+read_field optional is_opt r (t ∷ []) = option_map Some (r t)
+read_field optional is_opt r (t ∷ u ∷ ts) = None
+
+-- a field by its place
+abbrev pub read_place : Bool → Reader → Items → Option (Option Data)
+read_place optional r no_items = cond optional (Some None) None
+read_place optional r (item t xs) = option_map Some (r t)
+
+abbrev pub items_after : Items → Items
+items_after no_items = no_items
+items_after (item t xs) = xs
+
+abbrev pub with_field : List ℕ → Option Data → Option (List Named) → Option (List Named)
+with_field name None rest = rest
+with_field name (Some d) rest = with_front (name, d) rest
+
+-- The fields of a node: by their names in a map, whose keys are all texts, and in Null and NoValue, which have no keys; by their
+-- places in a sequence.
+unfoldable pub struct_members : (Entries → Option (List Named)) → (Items → Option (List Named)) → Tree → Option (List Named)
+struct_members names places (leaf NoValue) = names no_entries
+struct_members names places (leaf Null) = names no_entries
+struct_members names places (leaf (Text bytes mark)) = None
+struct_members names places (sequence xs) = places xs
+struct_members names places (mapping es) = option_and_then (λ ms. cond (keys_are_text es) (Some ms) None) (names es)
+struct_members names places uninitialized = None
+
+abbrev pub read_pairs : KeyShape → Reader → Entries → Option (List (Data × Data))
+read_pairs k r no_entries = Some []
+read_pairs k r (entry key mark t es) = option_and_then (λ a. option_and_then (λ d. with_front (a, d) (read_pairs k r es)) (r t)) (key_data k (segment_text key))
+
+-- a leaf as the map from the empty text to it
+abbrev pub under_empty : Tree → Entries
+under_empty t = entry (Str []) false t no_entries
+
+unfoldable pub read_map : KeyShape → Reader → Tree → Option (List (Data × Data))
+read_map k r (leaf NoValue) = Some []
+read_map k r (leaf Null) = Some []
+read_map k r (leaf (Text bytes mark)) = read_pairs k r (under_empty (leaf (Text bytes mark)))
+read_map k r (sequence xs) = None
+read_map k r (mapping es) = read_pairs k r es
+read_map k r uninitialized = None
+
+-- what a struct variant reads: a text counts as a map
+abbrev pub as_map : Tree → Tree
+as_map (leaf NoValue) = leaf NoValue
+as_map (leaf Null) = leaf Null
+as_map (leaf (Text bytes mark)) = mapping (under_empty (leaf (Text bytes mark)))
+as_map (sequence xs) = sequence xs
+as_map (mapping es) = mapping es
+as_map uninitialized = uninitialized
+
+abbrev pub is_unit_kind : VariantKind → Bool
+is_unit_kind unit_kind = true
+is_unit_kind _ = false
+
+-- the unit variant of the name
+abbrev pub unit_variant_data : Variants → List ℕ → Option Data
+unit_variant_data no_variants name = None
+unit_variant_data (one_variant n k vs) name = cond (bytes_eq n name) (cond (is_unit_kind k) (Some (Data.unit_variant n)) None) (unit_variant_data vs name)
+
+-- the least key of a map names the variant, and a text names a unit variant
+unfoldable pub read_enum : Variants → (List ℕ → Reader) → Reader
+read_enum vs by_name (leaf NoValue) = None
+read_enum vs by_name (leaf Null) = None
+read_enum vs by_name (leaf (Text bytes mark)) = unit_variant_data vs bytes
+read_enum vs by_name (sequence xs) = None
+read_enum vs by_name (mapping no_entries) = None
+read_enum vs by_name (mapping (entry k mark t es)) = by_name (segment_text k) t
+read_enum vs by_name uninitialized = None
+
+-- anything: maps with integer keys alone and sequences as sequences, other maps with their keys as texts
+unfoldable mutual
+  pub any_data : Reader
+  any_data (leaf NoValue) = Some Data.unit
+  any_data (leaf Null) = Some (Data.text [])
+  any_data (leaf (Text bytes mark)) = text_data bytes
+  any_data (sequence xs) = option_map Data.sequence (any_items xs)
+  any_data (mapping es) = cond (are_ints es) (option_map Data.sequence (any_places 0 es)) (option_map Data.mapping (any_pairs es))
+  any_data uninitialized = None
+
+  pub any_items : Items → Option Values
+  any_items no_items = Some no_values
+  any_items (item t xs) = option_and_then (λ d. option_map (one_value d) (any_items xs)) (any_data t)
+
+  pub any_places : ℕ → Entries → Option Values
+  any_places i no_entries = Some no_values
+  any_places i (entry k mark t es) = cond (is_place i k) (option_and_then (λ d. option_map (one_value d) (any_places (i + 1) es)) (any_data t)) None
+
+  pub any_pairs : Entries → Option Pairs
+  any_pairs no_entries = Some no_pairs
+  any_pairs (entry k mark t es) = option_and_then (λ a. option_and_then (λ d. option_map (one_pair a d) (any_pairs es)) (any_data t)) (text_data (segment_text k))
+
+-- what the shape reads from the node; under `strict` several values for a scalar are refused
+unfoldable mutual
+  pub reads : Bool → Shape → Reader
+  reads strict Shape.unit t = read_unit t
+  reads strict Shape.boolean t = read_scalar strict (Some (Data.boolean true)) boolean_data t
+  reads strict (Shape.unsigned bits) t = read_scalar strict None (unsigned_data bits) t
+  reads strict (Shape.signed bits) t = read_scalar strict None (signed_data bits) t
+  reads strict Shape.character t = read_character t
+  reads strict Shape.text t = read_scalar strict (Some (Data.text [])) text_data t
+  reads strict Shape.bytes t = read_scalar strict (Some (Data.bytes [])) (λ b. Some (Data.bytes b)) t
+  reads strict (Shape.option s) t = read_option (reads strict s) t
+  reads strict (Shape.sequence s) t = option_map (λ ds. Data.sequence (values_of ds)) (read_list (reads strict s) t)
+  reads strict (Shape.tuple ss) t = option_map (λ ds. Data.tuple (values_of ds)) (option_and_then (reads_tuple strict ss) (items t))
+  reads strict (Shape.mapping k s) t = option_map (λ ps. Data.mapping (pairs_of ps)) (read_map k (reads strict s) t)
+  reads strict (Shape.struct fs) t = option_map (λ ms. Data.struct (members_of ms)) (struct_members (reads_names strict fs) (reads_places strict fs) t)
+  reads strict (Shape.newtype s) t = option_map Data.newtype (reads strict s t)
+  reads strict (Shape.enumeration vs) t = read_enum vs (reads_variant strict vs) t
+  reads strict Shape.any t = any_data t
+  reads strict Shape.ignored t = read_ignored t
+
+  -- the first items, each by its shape
+  pub reads_tuple : Bool → Shapes → List (Option Tree) → Option (List Data)
+  reads_tuple strict no_shapes xs = Some []
+  reads_tuple strict (one_shape s ss) [] = None
+  reads_tuple strict (one_shape s ss) (x ∷ xs) = option_and_then (λ d. with_front d (reads_tuple strict ss xs)) (option_and_then (reads strict s) x)
+
+  -- the fields in their order, each looked up among the entries
+  pub reads_names : Bool → Fields → Entries → Option (List Named)
+  reads_names strict no_fields es = Some []
+  reads_names strict (one_field name s optional fs) es =
+      option_and_then (λ d. with_field name d (reads_names strict fs es)) (read_field optional (is_option s) (reads strict s) (found name es))
+
+  -- the fields in their order, each by its place
+  pub reads_places : Bool → Fields → Items → Option (List Named)
+  reads_places strict no_fields xs = Some []
+  reads_places strict (one_field name s optional fs) xs =
+      option_and_then (λ d. with_field name d (reads_places strict fs (items_after xs))) (read_place optional (reads strict s) xs)
+
+  -- the variant of the name, on a value
+  pub reads_variant : Bool → Variants → List ℕ → Reader
+  reads_variant strict no_variants name t = None
+  reads_variant strict (one_variant n k vs) name t = cond (bytes_eq n name) (reads_kind strict k n t) (reads_variant strict vs name t)
+
+  pub reads_kind : Bool → VariantKind → List ℕ → Reader
+  reads_kind strict unit_kind n t = Some (Data.unit_variant n)
+  reads_kind strict (newtype_kind s) n t = option_map (Data.newtype_variant n) (reads strict s t)
+  reads_kind strict (tuple_kind ss) n t = option_map (λ ds. Data.tuple_variant n (values_of ds)) (option_and_then (reads_tuple strict ss) (items t))
+  reads_kind strict (struct_kind fs) n t = option_map (λ ms. Data.struct_variant n (members_of ms)) (struct_members (reads_names strict fs) (reads_places strict fs) (as_map t))
+
+-- what a configuration and a shape read from a node
+abbrev pub read_by : Config → Shape → Reader
+read_by config s t = reads (are_refused config.duplicates) s t

@@ -1,0 +1,48 @@
+-- Segments, of which a path is made.
+use Rattle.std.specs.Prelude.{ℕ, ◌+◌, ◌-◌, ◌*◌, Bool, false, ◌&&◌, nat_le, List, [], ◌∷◌, if◌then◌else◌, fold, decimal}
+use Rattle.std.specs.List.{list_all}
+use Rattle.std.specs.declared.cmp.Ordering.{Ordering}
+use Rattle.std.specs.declared.cmp.Ordering.TheVariants.{Less, Greater}
+use Rattle.std.specs.Ordering.{nat_cmp, is_eq}
+use Rattle.std.specs.Cmp.Lexicographic.{slice_cmp}
+use Rattle.qs_spec.specs.Escape.{is_between, decoded, is_marked}
+
+pub data Segment : Type 0 where
+  Int : ℕ → Segment
+  Str : List ℕ → Segment
+
+-- a segment as an input spells it, and whether its raw bytes hold `+` or `%`
+pub record Step : Type 0 where
+  pub seg : Segment
+  pub mark : Bool
+
+-- the number that ASCII digits write
+abbrev pub number : List ℕ → ℕ
+number raw = fold (λ n b. 10 * n + (b - 48)) 0 raw
+
+-- digits alone, at least one, of a value that 32 bits hold
+abbrev pub is_index : List ℕ → Bool
+is_index [] = false
+is_index (b ∷ raw) = list_all (is_between 48 57) (b ∷ raw) && nat_le (number (b ∷ raw)) 4294967295
+
+-- raw bytes that are an index are a number, and others what they stand for; so the escaped digit `%31` is a text
+abbrev pub segment_of : List ℕ → Segment
+segment_of raw = if is_index raw then Int (number raw) else Str (decoded raw)
+
+abbrev pub step_of : List ℕ → Step
+step_of raw = record { seg = segment_of raw; mark = is_marked raw }
+
+-- the decimal digits, or the bytes
+abbrev pub segment_text : Segment → List ℕ
+segment_text (Int n) = decimal n
+segment_text (Str bytes) = bytes
+
+-- numbers before texts, numbers by value, texts by bytes
+abbrev pub compare_segments : Segment → Segment → Ordering
+compare_segments (Int m) (Int n) = nat_cmp m n
+compare_segments (Int m) (Str b) = Less
+compare_segments (Str a) (Int n) = Greater
+compare_segments (Str a) (Str b) = slice_cmp nat_cmp a b
+
+abbrev pub is_same_segment : Segment → Segment → Bool
+is_same_segment k l = is_eq (compare_segments k l)

@@ -1,0 +1,38 @@
+-- The bytes of a querystring, cut into tokens.
+use Rattle.std.specs.Prelude.{ℕ, Bool, ◌&&◌, ◌||◌, ◌==◌, List, [], ◌∷◌, if◌then◌else◌, flat_map}
+
+pub data Kind : Type 0 where
+  Amp : Kind
+  Equals : Kind
+  Open : Kind
+  Close : Kind
+  Other : Kind
+
+pub record Token : Type 0 where
+  pub kind : Kind
+  pub raw : List ℕ
+
+-- a byte that is a token by itself: `&`, `=`, `[`, `]` or another
+abbrev pub kind_of : ℕ → Kind
+kind_of b = if b == 38 then Amp else (if b == 61 then Equals else (if b == 91 then Open else (if b == 93 then Close else Other)))
+
+abbrev pub byte_token : ℕ → Token
+byte_token b = record { kind = kind_of b; raw = b ∷ [] }
+
+-- `%5B` and `%5D`
+abbrev pub is_escaped_bracket : ℕ → ℕ → ℕ → Bool
+is_escaped_bracket b c e = b == 37 && c == 53 && (e == 66 || e == 68)
+
+-- the bytes cut from the left: each byte is a token, and in form mode `%5B` and `%5D` are brackets too
+abbrev pub tokens : Bool → List ℕ → List Token
+tokens form [] = []
+tokens form (b ∷ []) = byte_token b ∷ []
+tokens form (b ∷ c ∷ []) = byte_token b ∷ byte_token c ∷ []
+tokens form (b ∷ c ∷ e ∷ rest) =
+    let bracket = record { kind = if e == 66 then Open else Close; raw = b ∷ c ∷ e ∷ [] } ∷ tokens form rest in
+    let byte = byte_token b ∷ tokens form (c ∷ e ∷ rest) in
+    if form && is_escaped_bracket b c e then bracket else byte
+
+-- the bytes of some tokens
+abbrev pub raw_of : List Token → List ℕ
+raw_of ts = flat_map (λ t. t.raw) ts

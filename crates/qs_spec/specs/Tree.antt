@@ -1,0 +1,120 @@
+-- The tree of an input: each node by the history of its own path.
+use Rattle.std.specs.Prelude.{◌≡◌, ℕ, zero, suc, max, Bool, false, List, [], ◌∷◌, ◌++◌, length, IsTrue, if◌then◌else◌}
+use Rattle.std.specs.List.{list_any}
+use Rattle.std.specs.declared.cmp.Ordering.{Ordering}
+use Rattle.std.specs.declared.cmp.Ordering.TheVariants.{Less, Equal, Greater}
+use Rattle.qs_spec.specs.Token.{tokens}
+use Rattle.qs_spec.specs.Segment.{Segment, Step, compare_segments, is_same_segment}
+use Rattle.qs_spec.specs.Segment.Segment.{Str}
+use Rattle.qs_spec.specs.Leaf.{Leaf}
+use Rattle.qs_spec.specs.Leaf.Leaf.{NoValue}
+use Rattle.qs_spec.specs.Grammar.{Pair, ArePairs}
+use Rattle.qs_spec.specs.History.{Event, events, is_below, under, permitted}
+use Rattle.qs_spec.specs.History.Event.{plain, push, below}
+
+-- A node. An entry of a map keeps the mark of its key; comparisons of segments don't see it.
+mutual
+  pub data Tree : Type 0 where
+    leaf : Leaf → Tree
+    sequence : Items → Tree
+    mapping : Entries → Tree
+    uninitialized : Tree
+
+  pub data Items : Type 0 where
+    no_items : Items
+    item : Tree → Items → Items
+
+  pub data Entries : Type 0 where
+    no_entries : Entries
+    entry : (key : Segment) → (mark : Bool) → Tree → Entries → Entries
+
+abbrev pub leaf_in : Event → List Leaf
+leaf_in (plain l) = l ∷ []
+leaf_in (push l) = l ∷ []
+leaf_in below = []
+
+abbrev pub leaves_in : List Event → List Leaf
+leaves_in [] = []
+leaves_in (e ∷ h) = leaf_in e ++ leaves_in h
+
+abbrev pub leaf_items : List Leaf → Items
+leaf_items [] = no_items
+leaf_items (l ∷ ls) = item (leaf l) (leaf_items ls)
+
+-- a node without below: nothing, one plain leaf, or a sequence
+abbrev pub flat : List Event → Tree
+flat [] = uninitialized
+flat (plain l ∷ []) = leaf l
+flat h = sequence (leaf_items (leaves_in h))
+
+-- a plain leaf at a map stands under the empty text
+abbrev pub empty_step : Step
+empty_step = record { seg = Str []; mark = false }
+
+abbrev pub filled_path : List Step → List Step
+filled_path [] = empty_step ∷ []
+filled_path (s ∷ path) = s ∷ path
+
+abbrev pub filled : List Pair → List Pair
+filled [] = []
+filled (p ∷ ps) = record p { path = filled_path p.path } ∷ filled ps
+
+-- the segments that come first, each once, in order
+abbrev pub put_by : Ordering → Segment → Segment → List Segment → List Segment → List Segment
+put_by Less k x xs more = k ∷ x ∷ xs
+put_by Equal k x xs more = x ∷ xs
+put_by Greater k x xs more = x ∷ more
+
+abbrev pub put : Segment → List Segment → List Segment
+put k [] = k ∷ []
+put k (x ∷ xs) = put_by (compare_segments k x) k x xs (put k xs)
+
+abbrev pub put_head : List Step → List Segment → List Segment
+put_head [] ks = ks
+put_head (s ∷ path) ks = put s.seg ks
+
+abbrev pub heads : List Pair → List Segment
+heads [] = []
+heads (p ∷ ps) = put_head p.path (heads ps)
+
+-- the mark of a segment in the first pair that has it
+abbrev pub head_mark_or : Segment → List Step → Bool → Bool
+head_mark_or k [] more = more
+head_mark_or k (s ∷ path) more = if is_same_segment k s.seg then s.mark else more
+
+abbrev pub head_mark : Segment → List Pair → Bool
+head_mark k [] = false
+head_mark k (p ∷ ps) = head_mark_or k p.path (head_mark k ps)
+
+abbrev pub entries_of : (Segment → Bool) → (Segment → Tree) → List Segment → Entries
+entries_of mark node [] = no_entries
+entries_of mark node (k ∷ ks) = entry k (mark k) (node k) (entries_of mark node ks)
+
+-- the node where these pairs' paths begin, of no more than so many segments
+abbrev pub node_within : ℕ → List Pair → Tree
+node_within zero ps = flat (events ps [])
+node_within (suc n) ps =
+    if list_any is_below (events ps [])
+    then mapping (entries_of (λ k. head_mark k (filled ps)) (λ k. node_within n (under k (filled ps))) (heads (filled ps)))
+    else flat (events ps [])
+
+abbrev pub longest : List Pair → ℕ
+longest [] = 0
+longest (p ∷ ps) = max (length p.path) (longest ps)
+
+-- the node of some pairs: a map where one of them goes below, with the node of the pairs under each segment
+abbrev pub node : List Pair → Tree
+node ps = node_within (longest ps) ps
+
+-- the tokens are these pairs, and each path's history is permitted
+pub record Splits (form : Bool) (depth : ℕ) (bytes : List ℕ) (pairs : List Pair) : Type 0 where
+  pub grammar : ArePairs depth (tokens form bytes) pairs
+  pub histories : (path : List Segment) → IsTrue (permitted (events pairs path))
+
+-- the tree of an input; an input that no tree stands for is refused
+abbrev pub IsTree : Bool → ℕ → List ℕ → Tree → Type 0
+IsTree form depth [] tree = tree ≡ leaf NoValue
+IsTree form depth (b ∷ bytes) tree = (pairs : List Pair) × Splits form depth (b ∷ bytes) pairs × (tree ≡ node pairs)
+
+abbrev pub IsRefused : Bool → ℕ → List ℕ → Type 0
+IsRefused form depth bytes = (tree : Tree) → IsTree form depth bytes tree → ⊥

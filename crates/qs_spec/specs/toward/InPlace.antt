@@ -1,0 +1,60 @@
+-- What one pair does to a tree in place, as the scan does it: by the manner of the pair and the node that it meets.
+use Rattle.std.specs.Prelude.{Bool, true, false, List, [], ◌∷◌, Option, Some, None, option_map, option_and_then}
+use Rattle.std.specs.declared.cmp.Ordering.{Ordering}
+use Rattle.std.specs.declared.cmp.Ordering.TheVariants.{Less, Equal, Greater}
+use Rattle.qs_spec.specs.Segment.{Segment, Step, compare_segments}
+use Rattle.qs_spec.specs.Leaf.{Leaf}
+use Rattle.qs_spec.specs.Grammar.{Pair}
+use Rattle.qs_spec.specs.Tree.{empty_step, Tree, Items, Entries}
+use Rattle.qs_spec.specs.Tree.Tree.{leaf, sequence, mapping, uninitialized}
+use Rattle.qs_spec.specs.Tree.Items.{item, no_items}
+use Rattle.qs_spec.specs.Tree.Entries.{entry, no_entries}
+
+-- the entries with what f makes of the one at a segment, which may be fresh
+abbrev pub update_by : Ordering → Step → (Tree → Option Tree) → Segment → Bool → Tree → Entries → Option Entries → Option Entries
+update_by Less s f k m t es more = option_map (λ u. entry s.seg s.mark u (entry k m t es)) (f uninitialized)
+update_by Equal s f k m t es more = option_map (λ u. entry k m u es) (f t)
+update_by Greater s f k m t es more = option_map (entry k m t) more
+
+abbrev pub update : Step → (Tree → Option Tree) → Entries → Option Entries
+update s f no_entries = option_map (λ u. entry s.seg s.mark u no_entries) (f uninitialized)
+update s f (entry k m t es) = update_by (compare_segments s.seg k) s f k m t es (update s f es)
+
+-- the items and one more
+abbrev pub push_item : Items → Tree → Items
+push_item no_items t = item t no_items
+push_item (item x xs) t = item x (push_item xs t)
+
+-- at a node that is no map
+abbrev pub add_flat : Bool → Leaf → Tree → Option Tree
+add_flat false l uninitialized = Some (leaf l)
+add_flat true l uninitialized = Some (sequence (item (leaf l) no_items))
+add_flat false l (leaf o) = Some (sequence (item (leaf o) (item (leaf l) no_items)))
+add_flat true l (leaf o) = None
+add_flat b l (sequence xs) = Some (sequence (push_item xs (leaf l)))
+add_flat b l (mapping es) = None
+
+-- at the pair's own path; a plain leaf at a map goes to the empty text
+abbrev pub add_here : Bool → Leaf → Tree → Option Tree
+add_here false l (mapping es) = option_map mapping (update empty_step (add_flat false l) es)
+add_here b l (leaf o) = add_flat b l (leaf o)
+add_here b l (sequence xs) = add_flat b l (sequence xs)
+add_here b l uninitialized = add_flat b l uninitialized
+add_here true l (mapping es) = None
+
+-- at a node on the way
+abbrev pub add_below : Step → (Tree → Option Tree) → Tree → Option Tree
+add_below s f uninitialized = option_map (λ u. mapping (entry s.seg s.mark u no_entries)) (f uninitialized)
+add_below s f (leaf o) = None
+add_below s f (sequence xs) = None
+add_below s f (mapping es) = option_map mapping (update s f es)
+
+-- one pair
+abbrev pub add : List Step → Bool → Leaf → Tree → Option Tree
+add [] b l t = add_here b l t
+add (s ∷ path) b l t = add_below s (add path b l) t
+
+-- the pairs one after another
+abbrev pub add_all : List Pair → Tree → Option Tree
+add_all [] t = Some t
+add_all (p ∷ ps) t = option_and_then (add_all ps) (add p.path p.push p.leaf t)

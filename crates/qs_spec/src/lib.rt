@@ -1,0 +1,5 @@
+//! The meaning of querystrings.
+#![tactic(auto)]
+
+/// There.
+pub fn there() {}

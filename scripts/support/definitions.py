@@ -1,0 +1,192 @@
+"""Writes the answered cases as equations over the definitions of qs_spec, each to be proved by computing both sides.
+
+usage: definitions.py program|trees TABLE [wrong]     with `wrong` the first case has another answer, which is to be refused
+"""
+
+import sys
+
+HEAD = {
+    "trees": """\
+use Rattle.std.specs.Prelude.{◌≡◌, Bool, true, false, [], ◌∷◌, Some, None, refl}
+use Rattle.qs_spec.specs.Tree.{leaf, sequence, mapping, uninitialized, no_items, item, no_entries, entry}
+use Rattle.qs_spec.specs.Leaf.Leaf.{NoValue, Null, Text}
+use Rattle.qs_spec.specs.Segment.Segment.{Int, Str}
+use Rattle.qs_spec.proofs.TreeOf.{tree_of}
+""",
+    "program": """\
+use Rattle.std.specs.Prelude.{◌≡◌, ℕ, Bool, true, false, List, [], ◌∷◌, codes, Option, Some, None, option_and_then, refl, ⊤}
+use Rattle.std.specs.Str.{is_utf8, chars}
+use Rattle.std.specs.Fmt.{digits}
+use lib.Utf8.{encode}
+use Rattle.qs_spec.specs.Config.{ArrayFormat, indexed, empty_indexed, unindexed}
+use Rattle.qs_spec.specs.Data.{Data, no_values, one_value, no_pairs, one_pair}
+use Rattle.qs_spec.specs.Shape.{Shape, no_fields, one_field}
+use Rattle.qs_spec.specs.Read.{read_list, struct_members, read_map, read_enum, any_data, any_items, any_places, any_pairs, reads, reads_tuple, reads_names, reads_places, reads_variant, reads_kind}
+use Rattle.qs_spec.specs.Entry.{deeper, entries_at, elements_from, pair_entries, member_entries, Output, Refusal}
+use Rattle.qs_spec.specs.Written.{path_text, entry_text, written}
+use Rattle.qs_spec.proofs.TreeOf.{tree_of}
+
+-- what computes
+unfoldable pub all_of_it : ⊤
+unfolding is_utf8 chars digits encode read_list struct_members read_map read_enum any_data any_items any_places any_pairs reads reads_tuple reads_names reads_places reads_variant reads_kind deeper entries_at elements_from pair_entries member_entries path_text entry_text written
+all_of_it = tt
+
+abbrev read : Bool → ℕ → Bool → Shape → List ℕ → Option Data
+read form depth strict shape bytes = option_and_then (reads strict shape) (tree_of form depth bytes)
+
+abbrev text_unless : Option Refusal → List ℕ → Option (List ℕ)
+text_unless None text = Some text
+text_unless (Some refusal) text = None
+
+abbrev text_of : Bool → Output → Option (List ℕ)
+text_of form output = text_unless output.refusal (written form false output.entries)
+
+abbrev rewritten : Bool → ℕ → Bool → Shape → ArrayFormat → List ℕ → Option (List ℕ)
+rewritten form depth strict shape format bytes = option_and_then (λ d. text_of form (entries_at depth format d [])) (read form depth strict shape bytes)
+
+abbrev flat : Shape
+flat = Shape.struct (one_field (codes "name") Shape.text false (one_field (codes "age") (Shape.unsigned 8) false (one_field (codes "occupation") Shape.text false (one_field (codes "active") Shape.boolean true (one_field (codes "note") (Shape.option Shape.text) false no_fields)))))
+
+abbrev address : Shape
+address = Shape.struct (one_field (codes "city") Shape.text false (one_field (codes "street") Shape.text false (one_field (codes "postcode") Shape.text false no_fields)))
+
+abbrev params : Shape
+params = Shape.struct (one_field (codes "id") (Shape.unsigned 8) false (one_field (codes "name") Shape.text false (one_field (codes "phone") (Shape.unsigned 32) false (one_field (codes "address") address false (one_field (codes "user_ids") (Shape.sequence (Shape.unsigned 8)) false no_fields)))))
+""",
+}
+
+FORMATS = {"indexed": "indexed", "empty": "empty_indexed", "unindexed": "unindexed"}
+
+
+def bytes_term(data):
+    return "(" + " ∷ ".join([str(byte) for byte in data] + ["[]"]) + ")"
+
+
+def flag(value):
+    return "true" if value else "false"
+
+
+def chain(one, none, parts):
+    """A list of a family of its own: its constructors, applied."""
+    term = none
+    for part in reversed(parts):
+        term = f"({one} {part} {term})"
+    return term
+
+
+class Reader:
+    """Reads a tree or shown data from the left, and writes it as a term."""
+
+    def __init__(self, text):
+        self.text = text
+        self.at = 0
+
+    def skip(self, text):
+        found = self.text.startswith(text, self.at)
+        self.at += len(text) if found else 0
+        return found
+
+    def until(self, stop):
+        end = self.text.index(stop, self.at)
+        part, self.at = self.text[self.at:end], end + len(stop)
+        return part
+
+    def parts(self, close, read):
+        parts = []
+        while not self.skip(close):
+            parts.append(read())
+            self.skip(",")
+        return parts
+
+
+class TreeReader(Reader):
+    def text_and_mark(self):
+        data = bytes_term(bytes.fromhex(self.until('"')))
+        return f"{data} {flag(self.skip('*'))}"
+
+    def entry(self):
+        if self.skip('"'):
+            text, mark = self.text_and_mark().rsplit(" ", 1)
+            key = f"(Str {text}) {mark}"
+            assert self.skip(":")
+        else:
+            key = f"(Int {self.until(':')}) false"
+        return f"{key} {self.node()}"
+
+    def node(self):
+        if self.skip("NoValue"):
+            return "(leaf NoValue)"
+        if self.skip("Null"):
+            return "(leaf Null)"
+        if self.skip("Uninit"):
+            self.at = len(self.text)
+            return "uninitialized"
+        if self.skip('"'):
+            return f"(leaf (Text {self.text_and_mark()}))"
+        if self.skip("["):
+            return f"(sequence {chain('item', 'no_items', self.parts(']', self.node))})"
+        assert self.skip("{")
+        return f"(mapping {chain('entry', 'no_entries', self.parts('}', self.entry))})"
+
+
+class ShownReader(Reader):
+    """What `qs_tool any` prints."""
+
+    def shown_text(self):
+        assert self.skip("'")
+        pieces = self.until("'").split("%")
+        data = pieces[0].encode() + b"".join(bytes.fromhex(p[:2]) + p[2:].encode() for p in pieces[1:])
+        return f"(Data.text {bytes_term(data)})"
+
+    def pair(self):
+        key = self.shown_text()
+        assert self.skip(":")
+        return f"{key} {self.data()}"
+
+    def data(self):
+        if self.skip("()"):
+            return "Data.unit"
+        if self.skip("["):
+            return f"(Data.sequence {chain('one_value', 'no_values', self.parts(']', self.data))})"
+        if self.skip("{"):
+            return f"(Data.mapping {chain('one_pair', 'no_pairs', self.parts('}', self.pair))})"
+        return self.shown_text()
+
+
+def tree_case(fields):
+    form, depth, given, outcome, tree = fields[:5]
+    answer = f"Some {TreeReader(tree).node()}" if outcome == "ok" else "None"
+    return f"tree_of {flag(form == '1')} {depth} {bytes_term(bytes.fromhex(given))} ≡ {answer}"
+
+
+def program_case(fields):
+    words, given, status, shown = fields[0].split(" "), *fields[1:4]
+    option = dict(zip(words, words[1:] + [""]))
+    command, form, strict = words[0], flag("--form" in words), flag(option.get("--duplicates") == "error")
+    depth = "0" if command == "flat" else option.get("--depth", "5")
+    given, line = bytes.fromhex(given).removesuffix(b"\n"), bytes.fromhex(shown)[:-1]
+    if command == "any":
+        answer = f"Some {ShownReader(line.decode()).data()}" if status == "0" else "None"
+        return f"read {form} {depth} {strict} Shape.any {bytes_term(given)} ≡ {answer}"
+    answer = f"Some {bytes_term(line)}" if status == "0" else "None"
+    places = FORMATS[option.get("--format", "indexed")]
+    return f"rewritten {form} {depth} {strict} {command} {places} {bytes_term(given)} ≡ {answer}"
+
+
+def main():
+    kind, table = sys.argv[1:3]
+    with open(table, encoding="ascii") as lines:
+        rows = [line.rstrip("\n").split("\t") for line in lines]
+    if kind == "program":
+        rows = [row for row in rows if row[2] in ("0", "1")]
+    if "wrong" in sys.argv:
+        accepted = next(row for row in rows if row[3] == "ok" or row[2] == "0")
+        rows = [["0", "0", "", "refused", ""] if kind == "trees" else [*accepted[:2], "1", accepted[3]]]
+    case = {"trees": tree_case, "program": program_case}[kind]
+    unfolding = "unfolding all_of_it\n" if kind == "program" else ""
+    print(HEAD[kind])
+    for number, row in enumerate(rows):
+        print(f"case_{number} : {case(row)}\n{unfolding}case_{number} = refl\n")
+
+
+main()

@@ -4,6 +4,8 @@ pub mod ReadPairs
 pub mod ReadIsRelated
 pub mod RelatedIsRead
 pub mod TreeOf
+pub mod Worked
+pub mod OnLiterals
 pub mod Leaves
 pub mod OneMore
 pub mod Update

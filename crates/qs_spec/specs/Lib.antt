@@ -14,4 +14,5 @@ pub mod Scalar
 pub mod Read
 pub mod Entry
 pub mod Written
+pub mod Worked
 pub mod toward

@@ -13,4 +13,11 @@ pub mod Flat
 pub mod Insert
 pub mod Empty
 pub mod Scan
+pub mod Sound
+pub mod Reorder
+pub mod Places
+pub mod Marks
+pub mod Alike
 pub mod Unescaped
+pub mod Spelled
+pub mod EntryRead

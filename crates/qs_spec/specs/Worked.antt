@@ -1,13 +1,13 @@
 -- Short words for the worked examples: trees, shapes and data, and what is read of an input and written of data.
-use Rattle.std.specs.Prelude.{◌≡◌, ℕ, Bool, false, List, [], ◌∷◌, Option, Some, None}
+use Rattle.std.specs.Prelude.{◌≡◌, ℕ, false, List, [], ◌∷◌, Option}
 use Rattle.qs_spec.specs.Config.{Config}
 use Rattle.qs_spec.specs.Segment.{Segment}
 use Rattle.qs_spec.specs.Leaf.{Leaf}
 use Rattle.qs_spec.specs.Tree.{Tree, Items, Entries, IsTree}
 use Rattle.qs_spec.specs.Shape.{Shape, no_fields, one_field}
-use Rattle.qs_spec.specs.Data.{Data, members_of, Named}
+use Rattle.qs_spec.specs.Data.{Data, members_of}
 use Rattle.qs_spec.specs.Read.{read_by}
-use Rattle.qs_spec.specs.Entry.{Refusal, Output, entries}
+use Rattle.qs_spec.specs.Entry.{Refusal, entries}
 use Rattle.qs_spec.specs.Written.{written}
 
 -- a leaf without `+` and `%`

@@ -1,33 +1,24 @@
 //! What querystrings mean, and the laws that hold of the meaning alone. No code runs here.
 #![tactic(auto)]
 
+mod entries;
 mod escapes;
 mod inputs;
+mod orders;
 mod readings;
 mod texts;
 mod trees;
 
-pub use escapes::broken_escapes_stay;
-pub use escapes::decoded_texts;
-pub use escapes::encoded_texts;
-pub use escapes::escapes_round_trip;
-pub use inputs::brackets_in_form_mode;
-pub use inputs::deep_keys;
-pub use inputs::indices_and_texts;
-pub use inputs::nearly_empty_inputs;
-pub use inputs::repeated_keys;
-pub use inputs::values_beside_maps;
-pub use readings::fields_by_name;
-pub use readings::flags;
-pub use readings::items_by_place;
-pub use readings::last_of_several;
-pub use readings::least_key_names_the_variant;
-pub use readings::numbers_in_range;
-pub use readings::options;
-pub use texts::array_formats;
-pub use texts::depth_limit;
-pub use texts::keys_of_maps;
-pub use texts::optional_values;
-pub use texts::variants;
-pub use trees::in_place;
-pub use trees::one_reading;
+pub use entries::written_entries_are_read;
+pub use escapes::{broken_escapes_stay, decoded_texts, encoded_texts, escapes_round_trip};
+pub use inputs::{
+    brackets_in_form_mode, deep_keys, indices_and_texts, nearly_empty_inputs, repeated_keys,
+    values_beside_maps,
+};
+pub use orders::{orders_by_place, reordered_inputs, reordered_pairs};
+pub use readings::{
+    fields_by_name, flags, items_by_place, last_of_several, least_key_names_the_variant,
+    numbers_in_range, options,
+};
+pub use texts::{array_formats, depth_limit, keys_of_maps, optional_values, variants};
+pub use trees::{in_place, nothing_lost, one_reading, sound_trees};

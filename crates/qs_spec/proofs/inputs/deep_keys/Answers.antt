@@ -1,4 +1,4 @@
-use Rattle.std.proofs.Common.{refl, false, codes, []}
+use Rattle.std.proofs.Common.{refl, false, codes}
 use Rattle.qs_spec.specs.Leaf.Leaf.{NoValue}
 use Rattle.qs_spec.specs.Tree.Tree.{leaf, mapping}
 use Rattle.qs_spec.specs.Tree.Entries.{no_entries}

@@ -21,3 +21,7 @@ pub mod Alike
 pub mod Unescaped
 pub mod Spelled
 pub mod EntryRead
+pub mod ReadParts
+pub mod VariantNames
+pub mod Anything
+pub mod RelatedReads

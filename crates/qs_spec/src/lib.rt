@@ -6,6 +6,7 @@ mod escapes;
 mod inputs;
 mod orders;
 mod readings;
+mod relation;
 mod texts;
 mod trees;
 

@@ -25,3 +25,7 @@ pub mod ReadParts
 pub mod VariantNames
 pub mod Anything
 pub mod RelatedReads
+pub mod SomeAnswers
+pub mod ReadsRelated
+pub mod AnyRelated
+pub mod Reading

@@ -1,21 +1,12 @@
 -- Variants and their names.
-use Rattle.std.proofs.Common.{◌≡◌, ℕ, Bool, true, false, cond, ◌+◌, ◌&&◌, ◌||◌, not, List, [], ◌∷◌, Option, Some, None, refl, sym, ap, ap₂, ◌∙◌, subst}
-use Rattle.std.specs.Option.{option_map, option_and_then}
-use Rattle.std.specs.Str.{bytes_eq, is_utf8}
-use Rattle.std.proofs.lemmas.Option.{none-some, same_Some}
-use Rattle.qs_spec.specs.Segment.{Segment, segment_text}
-use Rattle.qs_spec.specs.Leaf.{Leaf}
-use Rattle.qs_spec.specs.Leaf.Leaf.{NoValue, Null, Text}
-use Rattle.qs_spec.specs.Tree.{Tree, Items, Entries}
-use Rattle.qs_spec.specs.Tree.Tree.{leaf, sequence, mapping, uninitialized}
-use Rattle.qs_spec.specs.Tree.Items.{item, no_items}
-use Rattle.qs_spec.specs.Tree.Entries.{entry, no_entries}
-use Rattle.qs_spec.specs.Data.{Data, Values, no_values, one_value, Pairs, no_pairs, one_pair, Members, no_members, one_member, values_of, pairs_of, members_of, Named}
-use Rattle.qs_spec.specs.Shape.{Shape, Shapes, no_shapes, one_shape, Fields, no_fields, one_field, Variants, no_variants, one_variant, VariantKind, unit_kind, newtype_kind, tuple_kind, struct_kind, KeyShape, is_option, is_variant_name, variant_names_differ, is_distinct_key, field_names_differ, is_distinct, are_distinct, are_distinct_fields, are_distinct_variants, is_distinct_kind}
-use Rattle.qs_spec.specs.Scalar.{text_data, key_data}
-use Rattle.qs_spec.specs.Read.{Reader, read_scalar, read_option, read_unit, last_item, are_ints, items, is_place, placed, each_item, read_each, read_list, with_front, found, keys_are_text, read_field, read_place, with_field, struct_members, read_pairs, under_empty, read_map, as_map, is_unit_kind, unit_variant_data, read_enum, any_data, any_items, any_places, any_pairs, reads, reads_tuple, reads_names, reads_places, reads_variant, reads_kind}
-use Rattle.qs_spec.specs.Relation.{last, IsThere, IsFull, HasVariant, Reads, ReadsEach, ReadsFirst, ReadsPairs, ReadsStruct, ReadsNames, ReadsPlaces, ReadsVariant}
-use Rattle.qs_spec.proofs.Booleans.{and_both, not_of, or_both}
+use Rattle.std.proofs.Common.{◌≡◌, ℕ, Bool, true, false, cond, ◌||◌, not, List, Some, None, refl, sym, ap, ◌∙◌}
+use Rattle.std.specs.Str.{bytes_eq}
+use Rattle.qs_spec.specs.Tree.{Tree}
+use Rattle.qs_spec.specs.Data.{Data}
+use Rattle.qs_spec.specs.Shape.{Variants, VariantKind, unit_kind, is_variant_name, variant_names_differ, are_distinct_variants, is_distinct_kind}
+use Rattle.qs_spec.specs.Read.{is_unit_kind, unit_variant_data, reads_variant, reads_kind}
+use Rattle.qs_spec.specs.Relation.{HasVariant}
+use Rattle.qs_spec.proofs.Booleans.{and_both, not_of}
 use Rattle.std.proofs.lemmas.Slice.Eq.{bytes_eq-Decides}
 
 pub bytes_same : (xs : List ℕ) → bytes_eq xs xs ≡ true

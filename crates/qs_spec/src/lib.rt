@@ -1,8 +1,25 @@
 //! What querystrings mean, and the laws that hold of the meaning alone. No code runs here.
 #![tactic(auto)]
 
+mod entries;
 mod escapes;
+mod inputs;
+mod orders;
+mod readings;
+mod relation;
+mod texts;
 mod trees;
 
-pub use escapes::escapes_round_trip;
-pub use trees::{in_place, one_reading};
+pub use entries::written_entries_are_read;
+pub use escapes::{broken_escapes_stay, decoded_texts, encoded_texts, escapes_round_trip};
+pub use inputs::{
+    brackets_in_form_mode, deep_keys, indices_and_texts, nearly_empty_inputs, repeated_keys,
+    values_beside_maps,
+};
+pub use orders::{orders_by_place, reordered_inputs, reordered_pairs};
+pub use readings::{
+    fields_by_name, flags, items_by_place, last_of_several, least_key_names_the_variant,
+    numbers_in_range, options,
+};
+pub use texts::{array_formats, depth_limit, keys_of_maps, optional_values, variants};
+pub use trees::{in_place, nothing_lost, one_reading, sound_trees};

@@ -29,3 +29,5 @@ pub mod SomeAnswers
 pub mod ReadsRelated
 pub mod AnyRelated
 pub mod Reading
+pub mod Numerals
+pub mod KeysBack

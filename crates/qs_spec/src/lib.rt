@@ -4,6 +4,7 @@
 mod entries;
 mod escapes;
 mod inputs;
+mod keys;
 mod orders;
 mod readings;
 mod relation;

@@ -1,5 +1,5 @@
 -- What is written of a key or of a value is read back.
-use Rattle.std.proofs.Common.{◌≡◌, ℕ, ◌^◌, ◌<◌, ◌≤◌, Bool, true, false, cond, not, ◌&&◌, ◌||◌, List, [], ◌∷◌, ◌++◌, length, refl, sym, ap, ap₂, ◌∙◌, arith, nat_le, Option, Some, None}
+use Rattle.std.proofs.Common.{◌≡◌, ℕ, ◌<◌, ◌≤◌, Bool, true, false, cond, not, ◌&&◌, ◌||◌, List, [], ◌∷◌, ◌++◌, refl, sym, ap, ap₂, ◌∙◌, arith, nat_le}
 use Rattle.std.specs.List.{list_all, AllByRecursion}
 use Rattle.std.specs.Str.{bytes_eq}
 use Rattle.std.specs.Fmt.{decimal}
@@ -7,13 +7,13 @@ use Rattle.std.proofs.lemmas.Bool.{agree_below_at}
 use Rattle.std.proofs.lemmas.Bool.Decides.{nat_tests}
 use Rattle.std.proofs.lemmas.List.Folds.{list_all-append}
 use Rattle.qs_spec.specs.Escape.{is_between, spelling, encoded, decoded, is_marked}
-use Rattle.qs_spec.specs.Segment.{Segment, number, is_index, segment_of, segment_text}
+use Rattle.qs_spec.specs.Segment.{number, is_index, segment_of, segment_text}
 use Rattle.qs_spec.specs.Segment.Segment.{Int, Str}
-use Rattle.qs_spec.specs.Leaf.{Leaf, value_leaf, leaf_text}
+use Rattle.qs_spec.specs.Leaf.{value_leaf, leaf_text}
 use Rattle.qs_spec.specs.Leaf.Leaf.{Text}
 use Rattle.qs_spec.specs.Scalar.{is_numeral}
 use Rattle.qs_spec.specs.toward.Keys.{written_segment, has_leading_zero}
-use Rattle.qs_spec.proofs.Booleans.{and_both, not_of}
+use Rattle.qs_spec.proofs.Booleans.{and_both}
 use Rattle.qs_spec.proofs.Unescaped.{decoded-encoded}
 use Rattle.qs_spec.proofs.VariantNames.{bytes_equal}
 use Rattle.qs_spec.proofs.Numerals.{AreDigits, printed, digits_of_number, number_of_digits}
@@ -74,11 +74,11 @@ segment_back form s l = ap (λ b. cond b (Int (number (encoded form s))) (Str (d
     by true e = ap (λ t. Int (number t)) (encoded_digits form s l (digits_of_index s e))
     by false e = ap Str (decoded-encoded form s l)
 
-index_below : (s : List ℕ) → is_index s ≡ true → number s ≤ 4294967295
+pub index_below : (s : List ℕ) → is_index s ≡ true → number s ≤ 4294967295
 index_below [] e = cc
 index_below (b ∷ s) e = let h = and_both (list_all is_digit_byte (b ∷ s)) (nat_le (number (b ∷ s)) 4294967295) e in grind (arith, nat_tests)
 
-numeral_of_index : (s : List ℕ) → is_index s ≡ true → is_numeral s ≡ true
+pub numeral_of_index : (s : List ℕ) → is_index s ≡ true → is_numeral s ≡ true
 numeral_of_index [] e = cc
 numeral_of_index (b ∷ s) e = digits_of_index (b ∷ s) e
 
@@ -97,7 +97,7 @@ bytes_of_digits (b ∷ s) e = let h = and_both (is_digit_byte b) (list_all is_di
     small : (b : ℕ) → is_digit_byte b ≡ true → b < 256
     small b e = let h = and_both (nat_le 48 b) (nat_le b 57) e in grind (arith, nat_tests)
 
-index_of_numeral : (s : List ℕ) (n : ℕ) → is_numeral s ≡ true → number s ≡ n → n ≤ 4294967295 → is_index s ≡ true
+pub index_of_numeral : (s : List ℕ) (n : ℕ) → is_numeral s ≡ true → number s ≡ n → n ≤ 4294967295 → is_index s ≡ true
 index_of_numeral [] n e f l = cc
 index_of_numeral (b ∷ s) n e f l = ap₂ (λ x y. x && y) e (below (number (b ∷ s)) (omega arith))
   where

@@ -11,6 +11,7 @@ pub mod OneMore
 pub mod Update
 pub mod Flat
 pub mod Insert
+pub mod Segments
 pub mod Empty
 pub mod Scan
 pub mod Sound
@@ -31,3 +32,5 @@ pub mod AnyRelated
 pub mod Reading
 pub mod Numerals
 pub mod KeysBack
+pub mod Ascending
+pub mod Lookup

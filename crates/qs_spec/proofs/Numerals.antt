@@ -1,5 +1,5 @@
 -- Digits and their numbers.
-use Rattle.std.proofs.Common.{◌≡◌, ℕ, zero, suc, ◌+◌, ◌-◌, ◌*◌, ◌^◌, ◌<◌, ◌≤◌, Bool, true, false, not, ◌&&◌, cond, List, [], ◌∷◌, length, refl, sym, ap, ap₂, ◌∙◌, arith, rules, get_or, nat_le, IsTrue, IsFalse}
+use Rattle.std.proofs.Common.{◌≡◌, ℕ, zero, suc, ◌+◌, ◌-◌, ◌*◌, ◌^◌, ◌<◌, true, false, ◌&&◌, List, [], ◌∷◌, length, refl, sym, ap, ap₂, ◌∙◌, arith, get_or, nat_le}
 use Rattle.std.specs.List.{list_all, fold}
 use Rattle.std.specs.Fmt.{decimal}
 use Rattle.std.specs.Int.{IsInRange}
@@ -7,10 +7,10 @@ use Rattle.std.proofs.lemmas.Bool.Decides.{nat_tests}
 use Rattle.std.proofs.lemmas.Fmt.{digits_decimal, digits_value-decimal, decimal-digits_value, decimal_nonempty, decimal_digit, first_decimal}
 use Rattle.std.proofs.lemmas.Str.Parse.{IsNumeralModel, IsDigitsTest, FoldsDigits, numerals_by_fold}
 use Rattle.qs_spec.specs.Escape.{is_between}
-use Rattle.qs_spec.specs.Segment.{number, is_index}
+use Rattle.qs_spec.specs.Segment.{number}
 use Rattle.qs_spec.specs.Scalar.{is_numeral}
 use Rattle.qs_spec.specs.toward.Keys.{has_leading_zero}
-use Rattle.qs_spec.proofs.Booleans.{and_both, not_of}
+use Rattle.qs_spec.proofs.Booleans.{and_both}
 
 abbrev pub AreDigits : List ℕ → Type 0
 AreDigits ds = list_all (is_between 48 57) ds ≡ true

@@ -17,8 +17,7 @@ pair path b l = record { path = path; push = b; leaf = l }
 
 -- no segment is the empty text
 abbrev pub NoEmpty : List Step → Type 0
-NoEmpty [] = Unit {0}
-NoEmpty (s ∷ path) = (is_same_segment (Str []) s.seg ≡ false) × NoEmpty path
+NoEmpty path = AllByRecursion (λ s. is_same_segment (Str []) s.seg ≡ false) path
 
 abbrev pub NoneEmpty : List Pair → Type 0
 NoneEmpty ps = AllByRecursion (λ p. NoEmpty p.path) ps

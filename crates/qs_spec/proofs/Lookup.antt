@@ -9,8 +9,8 @@ use Rattle.qs_spec.specs.Tree.Entries.{entry, no_entries}
 use Rattle.qs_spec.specs.Read.{found}
 use Rattle.qs_spec.specs.toward.Keys.{has_leading_zero, printed_index, lookup, lookup_index, list_of, AreAbove, AreAscending}
 use Rattle.qs_spec.proofs.Booleans.{and_both, not_of}
-use Rattle.qs_spec.proofs.Order.{seg_total, is_itself}
-use Rattle.qs_spec.proofs.TreeOf.{seg_same}
+use Rattle.qs_spec.proofs.Order.{segments_total, is_itself}
+use Rattle.qs_spec.proofs.TreeOf.{same_segment}
 use Rattle.qs_spec.proofs.SomeAnswers.{tested}
 use Rattle.qs_spec.proofs.VariantNames.{bytes_same, bytes_equal}
 use Rattle.qs_spec.proofs.Numerals.{printed, digits_of_number, number_of_digits, no_leading_zero}
@@ -23,7 +23,7 @@ none_at k (entry j m t es) h = ap (λ o. cond (is_eq o) (Some t) (lookup k es)) 
 
 above_more : (j k : Segment) (es : Entries) → compare_segments j k ≡ Less → AreAbove k es → AreAbove j es
 above_more j k no_entries e h = tt
-above_more j k (entry i m t es) e h = (seg_total.trans j k i e h.0, above_more j k es e h.1)
+above_more j k (entry i m t es) e h = (segments_total.trans j k i e h.0, above_more j k es e h.1)
 
 -- a number is the index that its text prints, and an index that a text prints is printed so
 index_printed : (n : ℕ) → n ≤ 4294967295 → printed_index (decimal n) ≡ Some n
@@ -51,7 +51,7 @@ module _ (name : List ℕ) where
         where
           each : (b : Bool) → is_same_segment (Int k) (Int n) ≡ b → cond b (Some t) (lookup (Int k) es) ≡ lookup (Int k) es
           each true d =
-              let same : Int k ≡ Int n = seg_same (Int k) (Int n) d in
+              let same : Int k ≡ Int n = same_segment (Int k) (Int n) d in
               let k_n : k ≡ n = cc in
               let w = sym e ∙ ap (λ j. bytes_eq (decimal j) name) (sym k_n) ∙ ap (λ s. bytes_eq s name) (printed_back name k p) ∙ bytes_same name in cc
           each false d = refl
@@ -86,7 +86,7 @@ module _ (name : List ℕ) where
         where
           other : (b : Bool) → is_same_segment (Str name) (Str s) ≡ b → is_same_segment (Str name) (Str s) ≡ false
           other true d =
-              let same : Str name ≡ Str s = seg_same (Str name) (Str s) d in
+              let same : Str name ≡ Str s = same_segment (Str name) (Str s) d in
               let n_s : name ≡ s = cc in
               let w = sym e ∙ ap (λ b. bytes_eq s b) n_s ∙ bytes_same s in cc
           other false d = d

@@ -8,6 +8,7 @@ mod keys;
 mod orders;
 mod readings;
 mod relation;
+mod scalars;
 mod texts;
 mod trees;
 

@@ -1,4 +1,4 @@
--- The laws, of inputs.
+-- Inputs with reordered pairs are alike; as many leaves as pairs, and how deep maps nest.
 use Rattle.std.proofs.Common.{◌≡◌, ℕ, ◌+◌, ◌≤◌, Bool, true, List, [], ◌∷◌, ◌++◌, length, refl, sym, ap, ◌∙◌, arith}
 use Rattle.std.proofs.lemmas.Option.{same_Some}
 use Rattle.qs_spec.specs.Segment.{Segment}

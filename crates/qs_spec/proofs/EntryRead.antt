@@ -11,7 +11,7 @@ use Rattle.qs_spec.specs.Written.{open_bytes, close_bytes, value_text, brackets_
 use Rattle.qs_spec.specs.toward.Entries.{leaf_of, steps, pair_of, IsSegment, IsValueOf, IsWritable, HasSegments, HasPath}
 use Rattle.qs_spec.specs.Leaf.Leaf.{NoValue}
 use Rattle.qs_spec.specs.Grammar.{Pair, plain, is_close, ends_root, IsRun, root, longer, IsValue, IsBrackets, IsPair, ArePairs}
-use Rattle.qs_spec.proofs.Spelled.{token_of_byte, no_bracket, is_other, enc_tokens, open_token, close_token, open_first, close_first, clear_value, Front, value_front, segment_tokens}
+use Rattle.qs_spec.proofs.Spelled.{token_of_byte, no_bracket, is_other, encoded_tokens, open_token, close_token, open_first, close_first, clear_value, Front, value_front, segment_tokens}
 use Rattle.qs_spec.proofs.Booleans.{and_both}
 
 -- segments in brackets and then some text, and a whole key and then some text
@@ -99,7 +99,7 @@ key_value form depth s None rest h i =
       whole = ap (λ l. tokens form (l ++ rest)) (append-nil (encoded form s)) ∙ g.whole;
     }
 key_value form depth s (Some v) rest h i =
-    let t = enc_tokens false form v rest i (clear_value form v) in
+    let t = encoded_tokens false form v rest i (clear_value form v) in
     let g = segment_tokens form s (value_text form (Some v) ++ rest) h in
     record {
       toks = g.first ∷ g.more ++ byte_token 61 ∷ t.toks;
@@ -143,7 +143,7 @@ entry_pair form depth e rest w k =
 value_pair : (form : Bool) (depth : ℕ) (v : Option (List ℕ)) → IsValueOf [] v → Front (λ ts. IsPair depth ts (plain [] (leaf_of form v))) form (value_text form v) []
 value_pair form depth None h = absurd h
 value_pair form depth (Some v) h =
-    let t = enc_tokens false form v [] h (clear_value form v) in
+    let t = encoded_tokens false form v [] h (clear_value form v) in
     record {
       toks = byte_token 61 ∷ t.toks;
       is = subst (λ (raw : List ℕ). IsPair depth (byte_token 61 ∷ t.toks) (plain [] (value_leaf raw))) t.raw (IsPair.value (byte_token 61) [] t.toks refl (IsValue.some refl t.suit));

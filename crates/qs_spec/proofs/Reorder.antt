@@ -8,7 +8,7 @@ use Rattle.qs_spec.specs.History.{Event, event, event_of, under, under_one, even
 use Rattle.qs_spec.specs.Tree.{Tree, Entries, flat, filled, filled_path, put_head, heads, entries_of, node_within, longest, node}
 use Rattle.qs_spec.specs.Segment.{is_same_segment}
 use Rattle.qs_spec.specs.Order.{is_front, meet, IsReordering, unmarked, unmarked_entries}
-use Rattle.qs_spec.proofs.Order.{is_seg_both, put_comm}
+use Rattle.qs_spec.proofs.Order.{same_as_both, put_twice}
 
 -- neighbours that don't meet change places, any number of times
 pub data Swaps : List Pair → List Pair → Type 0 where
@@ -49,7 +49,7 @@ under_swap k (s ∷ a) (t ∷ b) p q rest h = by (is_same_segment k s.seg) (is_s
   where
     by : (x y : Bool) → is_same_segment k s.seg ≡ x → is_same_segment k t.seg ≡ y
         → Swaps (cond x (record p { path = a } ∷ cond y (record q { path = b } ∷ rest) rest) (cond y (record q { path = b } ∷ rest) rest)) (cond y (record q { path = b } ∷ cond x (record p { path = a } ∷ rest) rest) (cond x (record p { path = a } ∷ rest) rest))
-    by true true e f = swap (record p { path = a }) (record q { path = b }) rest (apart_rest s t a b (is_seg_both k s.seg t.seg e f) (is_seg_both k t.seg s.seg f e) h)
+    by true true e f = swap (record p { path = a }) (record q { path = b }) rest (apart_rest s t a b (same_as_both k s.seg t.seg e f) (same_as_both k t.seg s.seg f e) h)
     by true false e f = same _
     by false true e f = same _
     by false false e f = same _
@@ -90,7 +90,7 @@ swaps_filled (both w v) = both (swaps_filled w) (swaps_filled v)
 heads_swap : (a b : List Step) (ks : List Segment) → put_head a (put_head b ks) ≡ put_head b (put_head a ks)
 heads_swap [] b ks = refl
 heads_swap (s ∷ a) [] ks = refl
-heads_swap (s ∷ a) (t ∷ b) ks = put_comm s.seg t.seg ks
+heads_swap (s ∷ a) (t ∷ b) ks = put_twice s.seg t.seg ks
 
 -- the keys of a node depend on which segments come first, and not on their order
 heads_swaps : {ps qs : List Pair} → Swaps ps qs → heads ps ≡ heads qs

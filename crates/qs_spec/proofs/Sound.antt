@@ -12,7 +12,7 @@ use Rattle.qs_spec.specs.History.Event.{plain, push, below}
 use Rattle.qs_spec.specs.Tree.Entries.{no_entries}
 use Rattle.qs_spec.specs.Holds.{AreLeaves, IsSound, AreSound, IsLow, IsLowAtEmpty}
 use Rattle.qs_spec.proofs.OneMore.{NoneEmpty, NoEmpty}
-use Rattle.qs_spec.proofs.Insert.{node_flat, node_table}
+use Rattle.qs_spec.proofs.Insert.{node_flat, node_mapping}
 use Rattle.qs_spec.proofs.Order.{is_itself}
 use Rattle.qs_spec.proofs.TreeOf.{any_put, longest_under}
 use Rattle.qs_spec.proofs.Leaves.{none_below, longest_filled}
@@ -111,7 +111,7 @@ sound_within zero ps l m = flat_sound (events ps []) (none_below ps l)
 sound_within (suc n) ps l m = by (list_any is_below (map event ps)) refl (λ qs. sound_within n qs)
   where
     by : (b : Bool) → list_any is_below (map event ps) ≡ b → ((qs : List Pair) → longest qs ≤ n → NoneEmpty qs → IsSound (node_within n qs)) → IsSound (node_within (suc n) ps)
-    by true e h = subst IsSound (sym (node_table n ps e))
+    by true e h = subst IsSound (sym (node_mapping n ps e))
         (some_entries _ _ (heads (filled ps)) (some_heads ps e), entries_sound _ (λ k. node_within n (under k (filled ps))) (heads (filled ps)) (low_at n ps m) (λ k. h (under k (filled ps)) (longest_under k n (filled ps) (longest_filled n ps l)) (none_empty_filled k ps m)))
     by false e h = subst IsSound (sym (node_flat (suc n) ps e)) (flat_sound (map event ps) e)
 

@@ -135,10 +135,10 @@ AreBytes s = AllByRecursion (λ b. b < 256) s
 abbrev pub IsClear : Bool → Bool → List ℕ → Type 0
 IsClear strict form s = AllByRecursion (λ b. (strict && (form && is_bracket b)) ≡ false) s
 
-pub enc_tokens : (strict form : Bool) (s rest : List ℕ) → AreBytes s → IsClear strict form s → Tokens strict form (encoded form s) rest
-enc_tokens strict form [] rest l n = record { toks = []; suit = refl; raw = refl; whole = refl }
-enc_tokens strict form (b ∷ s) rest l n =
-    joined strict form (spelling form b) (encoded form s) rest (tokens_of strict form b (spelling form b) (encoded form s ++ rest) (fine form b l.0) (other_kinds form b l.0) n.0) (enc_tokens strict form s rest l.1 n.1)
+pub encoded_tokens : (strict form : Bool) (s rest : List ℕ) → AreBytes s → IsClear strict form s → Tokens strict form (encoded form s) rest
+encoded_tokens strict form [] rest l n = record { toks = []; suit = refl; raw = refl; whole = refl }
+encoded_tokens strict form (b ∷ s) rest l n =
+    joined strict form (spelling form b) (encoded form s) rest (tokens_of strict form b (spelling form b) (encoded form s ++ rest) (fine form b l.0) (other_kinds form b l.0) n.0) (encoded_tokens strict form s rest l.1 n.1)
 
 abbrev pub open_token : Bool → Token
 open_token form = record { kind = Kind.Open; raw = open_bytes form }
@@ -167,7 +167,7 @@ pub record Front (Is : List Token → Type 0) (form : Bool) (bytes rest : List �
 pub value_front : (form : Bool) (v : Option (List ℕ)) (rest : List ℕ) → IsValueOf ([] ∷ []) v → Front (λ ts. IsValue ts (leaf_of form v)) form (value_text form v) rest
 value_front form None rest h = record { toks = []; is = IsValue.none; whole = refl }
 value_front form (Some v) rest h =
-    let t = enc_tokens false form v rest h (clear_value form v) in
+    let t = encoded_tokens false form v rest h (clear_value form v) in
     record {
       toks = byte_token 61 ∷ t.toks;
       is = subst (λ (raw : List ℕ). IsValue (byte_token 61 ∷ t.toks) (value_leaf raw)) t.raw (IsValue.some refl t.suit);
@@ -195,7 +195,7 @@ segment_tokens form (b ∷ s) rest h = by (t.toks) t.suit t.raw t.whole
     clears (b ∷ s) h = (h.0.1, clears s h.1)
 
     t : Tokens true form (encoded form (b ∷ s)) rest
-    t = enc_tokens true form (b ∷ s) rest (lows (b ∷ s) h) (clears (b ∷ s) h)
+    t = encoded_tokens true form (b ∷ s) rest (lows (b ∷ s) h) (clears (b ∷ s) h)
 
     some_of : (xs ys : List ℕ) → is_fine form b xs ≡ true → [] ≡ xs ++ ys → ⊥
     some_of [] ys f e = cc

@@ -4,9 +4,11 @@
 mod entries;
 mod escapes;
 mod inputs;
+mod keys;
 mod orders;
-mod readings;
 mod relation;
+mod scalars;
+mod shapes;
 mod texts;
 mod trees;
 
@@ -16,8 +18,14 @@ pub use inputs::{
     brackets_in_form_mode, deep_keys, indices_and_texts, nearly_empty_inputs, repeated_keys,
     values_beside_maps,
 };
+pub use keys::{
+    ascending_keys, digits_and_numbers, found_by_lookup, written_keys_are_read,
+    written_values_are_read,
+};
 pub use orders::{orders_by_place, reordered_inputs, reordered_pairs};
-pub use readings::{
+pub use relation::{one_data, reads_is_the_relation};
+pub use scalars::written_scalars_are_read;
+pub use shapes::{
     fields_by_name, flags, items_by_place, last_of_several, least_key_names_the_variant,
     numbers_in_range, options,
 };

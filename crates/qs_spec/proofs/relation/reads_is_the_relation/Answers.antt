@@ -1,4 +1,4 @@
-use Rattle.qs_spec.proofs.Reading.{is_the_relation, none_related}
+use Rattle.qs_spec.proofs.ReadingIsRelation.{is_the_relation, none_related}
 use Rattle.qs_spec.proofs.relation.reads_is_the_relation.Goals as goal
 
 pub returns-clause-where_some : goal.returns-clause-where_some

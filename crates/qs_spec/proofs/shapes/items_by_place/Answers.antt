@@ -1,7 +1,7 @@
 use Rattle.std.proofs.Common.{refl}
 use Rattle.qs_spec.proofs.OnLiterals.{on_literals}
 use Rattle.qs_spec.proofs.Worked.{is_read}
-use Rattle.qs_spec.proofs.readings.items_by_place.Goals as goal
+use Rattle.qs_spec.proofs.shapes.items_by_place.Goals as goal
 
 pub returns-clause-gap : goal.returns-clause-gap
 unfolding on_literals

@@ -1,7 +1,7 @@
 use Rattle.std.proofs.Common.{refl}
 use Rattle.qs_spec.proofs.OnLiterals.{on_literals}
 use Rattle.qs_spec.proofs.Worked.{is_read}
-use Rattle.qs_spec.proofs.readings.fields_by_name.Goals as goal
+use Rattle.qs_spec.proofs.shapes.fields_by_name.Goals as goal
 
 pub returns-clause-index : goal.returns-clause-index
 unfolding on_literals

@@ -1,7 +1,7 @@
 use Rattle.std.proofs.Common.{refl}
 use Rattle.qs_spec.proofs.OnLiterals.{on_literals}
 use Rattle.qs_spec.proofs.Worked.{is_read}
-use Rattle.qs_spec.proofs.readings.last_of_several.Goals as goal
+use Rattle.qs_spec.proofs.shapes.last_of_several.Goals as goal
 
 pub returns-clause-last : goal.returns-clause-last
 unfolding on_literals

@@ -16,9 +16,9 @@ use Rattle.qs_spec.specs.Relation.{HasVariant, Reads, ReadsFirst, ReadsNames, Re
 use Rattle.std.proofs.Common.{◌↔◌}
 use Rattle.qs_spec.proofs.SomeAnswers.{mapped, chained}
 use Rattle.qs_spec.proofs.VariantNames.{bytes_equal}
-use Rattle.qs_spec.proofs.ReadsRelated.{text_related, scalar_related, unit_related, character_related, ignored_related, option_related, each_related, map_related, field_cut, name_related, place_related, struct_related, unit_variant_related}
-use Rattle.qs_spec.proofs.AnyRelated.{any_related}
-use Rattle.qs_spec.proofs.RelatedReads.{sound}
+use Rattle.qs_spec.proofs.DataReadIsRelated.{text_related, scalar_related, unit_related, character_related, ignored_related, option_related, each_related, map_related, field_cut, name_related, place_related, struct_related, unit_variant_related}
+use Rattle.qs_spec.proofs.AnyReadIsRelated.{any_related}
+use Rattle.qs_spec.proofs.DataRelatedIsRead.{sound}
 
 -- the variant of a name, as which a value is related
 abbrev Variant : Bool → Variants → List ℕ → Tree → Data → Type 0

@@ -14,7 +14,7 @@ use Rattle.qs_spec.specs.Scalar.{text_data}
 use Rattle.qs_spec.specs.Read.{are_ints, is_place, placed, each_item, any_data, any_items, any_places, any_pairs}
 use Rattle.qs_spec.specs.Relation.{Reads, ReadsEach, ReadsPairs}
 use Rattle.qs_spec.proofs.SomeAnswers.{mapped, chained, guarded}
-use Rattle.qs_spec.proofs.ReadsRelated.{text_related}
+use Rattle.qs_spec.proofs.DataReadIsRelated.{text_related}
 
 -- a map by what is related of its places and pairs
 any_map_related : (st : Bool) (es : Entries) (d : Data) → ((ds : Values) → any_places 0 es ≡ Some ds → ReadsEach st Shape.any (placed 0 es) ds) → ((ps : Pairs) → any_pairs es ≡ Some ps → ReadsPairs st KeyShape.text Shape.any es ps)

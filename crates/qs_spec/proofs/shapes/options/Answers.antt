@@ -1,7 +1,7 @@
 use Rattle.std.proofs.Common.{refl}
 use Rattle.qs_spec.proofs.OnLiterals.{on_literals}
 use Rattle.qs_spec.proofs.Worked.{is_read}
-use Rattle.qs_spec.proofs.readings.flags.Goals as goal
+use Rattle.qs_spec.proofs.shapes.options.Goals as goal
 
 pub returns-clause-key_alone : goal.returns-clause-key_alone
 unfolding on_literals
@@ -11,14 +11,10 @@ pub returns-clause-nothing_behind : goal.returns-clause-nothing_behind
 unfolding on_literals
 returns-clause-nothing_behind c = is_read _ _ _ _ refl
 
-pub returns-clause-text : goal.returns-clause-text
+pub returns-clause-missing : goal.returns-clause-missing
 unfolding on_literals
-returns-clause-text c = is_read _ _ _ _ refl
+returns-clause-missing c = is_read _ _ _ _ refl
 
-pub returns-clause-twice : goal.returns-clause-twice
+pub returns-clause-number : goal.returns-clause-number
 unfolding on_literals
-returns-clause-twice c = is_read _ _ _ _ refl
-
-pub returns-clause-twice_where_refused : goal.returns-clause-twice_where_refused
-unfolding on_literals
-returns-clause-twice_where_refused c = is_read _ _ _ _ refl
+returns-clause-number c = is_read _ _ _ _ refl

@@ -83,7 +83,7 @@ pairs_related st k s h (entry key mark t es) ps e =
     let a = chained (λ a. option_and_then (λ d. with_front (a, d) (read_pairs k (reads st s) es)) (reads st s t)) (key_data k (segment_text key)) ps e in
     let d = chained (λ d. with_front (a.0, d) (read_pairs k (reads st s) es)) (reads st s t) ps a.2 in
     let m = mapped (λ ps. (a.0, d.0) ∷ ps) (read_pairs k (reads st s) es) ps d.2 in
-    subst (λ (ps : List (Data × Data)). ReadsPairs st k s (entry key mark t es) (pairs_of ps)) m.2 (ReadsPairs.pairs_more a.1 (h t d.0 d.1) (pairs_related st k s h es m.0 m.1))
+    subst (λ (ps : List (Data × Data)). ReadsPairs st k s (entry key mark t es) (pairs_of ps)) {x = (a.0, d.0) ∷ m.0} m.2 (ReadsPairs.pairs_more a.1 (h t d.0 d.1) (pairs_related st k s h es m.0 m.1))
 
 pub map_related : (st : Bool) (k : KeyShape) (s : Shape) (n : Tree) (ps : List (Data × Data)) → Reading st s → read_map k (reads st s) n ≡ Some ps → Reads st (Shape.mapping k s) n (Data.mapping (pairs_of ps))
 unfolding read_map

@@ -1,7 +1,7 @@
 use Rattle.std.proofs.Common.{refl}
 use Rattle.qs_spec.proofs.OnLiterals.{on_literals}
 use Rattle.qs_spec.proofs.Worked.{is_read}
-use Rattle.qs_spec.proofs.readings.options.Goals as goal
+use Rattle.qs_spec.proofs.shapes.flags.Goals as goal
 
 pub returns-clause-key_alone : goal.returns-clause-key_alone
 unfolding on_literals
@@ -11,10 +11,14 @@ pub returns-clause-nothing_behind : goal.returns-clause-nothing_behind
 unfolding on_literals
 returns-clause-nothing_behind c = is_read _ _ _ _ refl
 
-pub returns-clause-missing : goal.returns-clause-missing
+pub returns-clause-text : goal.returns-clause-text
 unfolding on_literals
-returns-clause-missing c = is_read _ _ _ _ refl
+returns-clause-text c = is_read _ _ _ _ refl
 
-pub returns-clause-number : goal.returns-clause-number
+pub returns-clause-twice : goal.returns-clause-twice
 unfolding on_literals
-returns-clause-number c = is_read _ _ _ _ refl
+returns-clause-twice c = is_read _ _ _ _ refl
+
+pub returns-clause-twice_where_refused : goal.returns-clause-twice_where_refused
+unfolding on_literals
+returns-clause-twice_where_refused c = is_read _ _ _ _ refl

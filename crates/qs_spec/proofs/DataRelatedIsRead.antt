@@ -10,9 +10,9 @@ use Rattle.qs_spec.specs.Shape.{Shape, Shapes, Fields, VariantKind, KeyShape, is
 use Rattle.qs_spec.specs.Read.{read_ignored, read_each, with_front, keys_are_text, read_field, with_field, struct_members, read_pairs, read_map, read_enum, any_data, reads, reads_tuple, reads_names, reads_places, reads_kind}
 use Rattle.qs_spec.specs.Relation.{IsThere, Reads, ReadsEach, ReadsFirst, ReadsPairs, ReadsStruct, ReadsNames, ReadsPlaces, ReadsVariant}
 use Rattle.qs_spec.proofs.Booleans.{and_both}
-use Rattle.qs_spec.proofs.ReadParts.{value_list, pair_list, member_list, values_made, pairs_made, members_made, scalar_read, text_read, option_read, list_read}
+use Rattle.qs_spec.proofs.ReadingParts.{value_list, pair_list, member_list, values_made, pairs_made, members_made, scalar_read, text_read, option_read, list_read}
 use Rattle.qs_spec.proofs.VariantNames.{variant_read, unit_variant_read, kind_distinct}
-use Rattle.qs_spec.proofs.Anything.{sequence_of_any, places_of_any, map_of_any}
+use Rattle.qs_spec.proofs.AnyIsRead.{sequence_of_any, places_of_any, map_of_any}
 
 there_read : (n : Tree) → IsThere n → read_ignored n ≡ Some Data.unit
 there_read (leaf l) h = refl

@@ -5,7 +5,7 @@ use Rattle.qs_spec.specs.Data.{Data}
 use Rattle.qs_spec.specs.Worked.{field, one_member}
 use Rattle.qs_spec.proofs.OnLiterals.{on_literals}
 use Rattle.qs_spec.proofs.Worked.{is_read}
-use Rattle.qs_spec.proofs.readings.numbers_in_range.Goals as goal
+use Rattle.qs_spec.proofs.shapes.numbers_in_range.Goals as goal
 
 pub returns-clause-greatest : goal.returns-clause-greatest
 unfolding on_literals

@@ -1,0 +1,5 @@
+pub mod LaneLemmas
+pub mod FirstPlace
+pub mod EncodedSets
+pub mod EncodedFronts
+pub mod DecodedFronts

@@ -1,0 +1,14 @@
+//! Querystrings as trees: configuration, errors, escapes, scanner, tree.
+#![tactic(auto)]
+
+mod config;
+mod decoding;
+mod encoding;
+mod error;
+mod search;
+
+pub use crate::config::{ArrayFormat, Config, DuplicateKeyBehavior};
+pub use crate::decoding::decode;
+pub use crate::encoding::encode;
+pub use crate::error::{Error, Result};
+pub use crate::search::{find_ampersand, find_encoded, find_escape};

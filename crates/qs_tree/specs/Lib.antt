@@ -1,0 +1,4 @@
+pub mod Places
+pub mod formers
+pub mod Views
+pub mod Keys

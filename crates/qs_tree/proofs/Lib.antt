@@ -1,2 +1,4 @@
 pub mod Places
 pub mod Keys
+pub mod Views
+pub mod Turns

@@ -2,11 +2,14 @@
 #![tactic(auto)]
 
 mod add;
+mod conflict;
 mod entries;
 mod key;
 mod map;
 mod pair;
 mod tree_laws;
+#[cfg(test)]
+mod tree_tests;
 mod value;
 
 pub use crate::key::Key;

@@ -3,3 +3,8 @@ pub mod FirstPlace
 pub mod EncodedSets
 pub mod EncodedFronts
 pub mod DecodedFronts
+pub mod Places
+pub mod Keys
+pub mod Views
+pub mod Turns
+pub mod Equality

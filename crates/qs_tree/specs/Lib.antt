@@ -2,3 +2,10 @@ pub mod Settings
 pub mod Error
 pub mod Search
 pub mod Escapes
+pub mod Places
+pub mod formers
+pub mod Views
+pub mod Keys
+pub mod Pairs
+pub mod Conflict
+pub mod Adding

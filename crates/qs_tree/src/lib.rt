@@ -1,14 +1,28 @@
 //! Querystrings as trees: configuration, errors, escapes, scanner, tree.
 #![tactic(auto)]
 
+mod add;
 mod config;
+mod conflict;
 mod decoding;
 mod encoding;
+mod entries;
 mod error;
+mod key;
+mod map;
+mod pair;
 mod search;
+mod tree_laws;
+#[cfg(test)]
+mod tree_tests;
+mod value;
 
 pub use crate::config::{ArrayFormat, Config, DuplicateKeyBehavior};
 pub use crate::decoding::decode;
 pub use crate::encoding::encode;
 pub use crate::error::{Error, Result};
+pub use crate::key::Key;
+pub use crate::map::ParsedMap;
 pub use crate::search::{find_ampersand, find_encoded, find_escape};
+pub use crate::tree_laws::{equality_of_keys, equality_of_values, order_of_keys};
+pub use crate::value::ParsedValue;

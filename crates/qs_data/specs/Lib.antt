@@ -1,1 +1,4 @@
 pub mod Views
+pub mod Put
+pub mod Writes
+pub mod Scalars

@@ -5,6 +5,9 @@ mod copy;
 mod data;
 mod distinct;
 mod shape;
+mod sink;
+mod write;
 
 pub use data::Data;
 pub use shape::{Field, KeyShape, Shape, Variant, VariantKind};
+pub use sink::{ByWrite, Sink};

@@ -1,0 +1,5 @@
+//! Writing: the walk over data, and the entries that it puts.
+
+mod entry;
+mod scalar;
+mod walk;

@@ -1,6 +1,6 @@
 -- Texts, one after another.
 use Rattle.std.proofs.Common.{◌≡◌, ℕ, ◌+◌, ◌<◌, ◌≤◌, Bool, true, false, List, [], ◌∷◌, ◌++◌, length, take, refl, sym, ap, ◌∙◌, subst, Option, Some, None, Result, Ok, Err, append_assoc, append-nil, length-append, arith}
-use Rattle.std.proofs.Math.Seq.{take-append-add}
+use Rattle.std.proofs.Math.Seq.{take-append-add, take-append_seam}
 use Rattle.std.proofs.lemmas.List.{take-append-le}
 use Rattle.std.proofs.lemmas.List.Elements.{All-nil, All-append}
 use Rattle.std.proofs.KnownBytes.{Appends-nil, Appends-trans}
@@ -13,6 +13,7 @@ use Rattle.qs_spec.specs.Entry.{Entry, Output, follow, and_then, nothing, Refusa
 use Rattle.qs_spec.specs.Written.{written, started_after, entry_text, has_key}
 use Rattle.qs_tree.specs.declared.error.Error.{Error}
 use Rattle.qs_tree.specs.declared.error.Error.TheVariants.{Custom, MaxSerializationDepthExceeded, Parse, Unsupported, FromUtf8, Io, ParseInt, Utf8, OutOfMemory, Failed}
+use Rattle.qs_tree.specs.Error.{IsOutOfMemory}
 use Rattle.qs_data.specs.Writes.{IsVisible, Text, Adds, AddsSome, AddsPart, Stops, Writes}
 
 pub written-append : (form s : Bool) (es fs : List Entry) → written form s (es ++ fs) ≡ written form s es ++ written form (started_after s es) fs
@@ -175,3 +176,35 @@ continue_end config start now old whole go same =
 pub writes_exit : (r : Result (Unit {0}) Error) (e : Error) (config : Config) (a b : Text) (o : Output) → IsErrAnd r (λ y. y ≡ e) → Stops e config a b o → Writes r config a b o
 writes_exit (Ok x) e config a b o h s = absurd h
 writes_exit (Err y) e config a b o h s = let P : Error → Type 0 = λ z. Stops z config a b o in subst P (sym h) s
+
+-- after want of memory the text of some first entries stands
+pub writes_memory : (r : Result (Unit {0}) Error) (config : Config) (a b : Text) (o : Output) → Writes r config a b o → IsOutOfMemory r
+    → (k : ℕ) × Appends a.taken b.taken (written config.form a.started (take k o.entries))
+writes_memory (Ok x) config a b o w m = absurd m
+writes_memory (Err (Custom e)) config a b o w m = absurd m
+writes_memory (Err (MaxSerializationDepthExceeded n)) config a b o w m = absurd m
+writes_memory (Err (Parse e n)) config a b o w m = absurd m
+writes_memory (Err Unsupported) config a b o w m = absurd m
+writes_memory (Err (FromUtf8 e)) config a b o w m = absurd m
+writes_memory (Err (Io e)) config a b o w m = absurd m
+writes_memory (Err (ParseInt e)) config a b o w m = absurd m
+writes_memory (Err (Utf8 e)) config a b o w m = absurd m
+writes_memory (Err OutOfMemory) config a b o w m =
+    let front : take (length w.front) o.entries ≡ w.front = ap (take (length w.front)) w.parts ∙ take-append_seam w.front w.rest in
+    (length w.front, subst (λ es. Appends a.taken b.taken (written config.form a.started es)) (sym front) w.adds.text)
+writes_memory (Err Failed) config a b o w m = absurd m
+
+-- whatever was added is visible
+pub writes_visible : (r : Result (Unit {0}) Error) (config : Config) (a b : Text) (o : Output) → Writes r config a b o
+    → (added : List ℕ) × Appends a.taken b.taken added × All IsVisible added
+writes_visible (Ok x) config a b o w = (_, w.1.text, w.1.visible)
+writes_visible (Err (Custom e)) config a b o w = absurd w
+writes_visible (Err (MaxSerializationDepthExceeded n)) config a b o w = (_, w.2.text, w.2.visible)
+writes_visible (Err (Parse e n)) config a b o w = absurd w
+writes_visible (Err Unsupported) config a b o w = (_, w.1.text, w.1.visible)
+writes_visible (Err (FromUtf8 e)) config a b o w = absurd w
+writes_visible (Err (Io e)) config a b o w = (_, w.text, w.visible)
+writes_visible (Err (ParseInt e)) config a b o w = absurd w
+writes_visible (Err (Utf8 e)) config a b o w = absurd w
+writes_visible (Err OutOfMemory) config a b o w = (_, w.adds.text, w.adds.visible)
+writes_visible (Err Failed) config a b o w = absurd w

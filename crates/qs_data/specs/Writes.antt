@@ -92,3 +92,17 @@ IsBare (Data.unit_variant name) = ⊥
 IsBare (Data.newtype_variant name d) = ⊥
 IsBare (Data.tuple_variant name ds) = ⊥
 IsBare (Data.struct_variant name ms) = ⊥
+
+-- no other error than those of writing
+abbrev pub IsWriteError : {T : Type 0} → Result T Error → Type 0
+IsWriteError (Ok x) = Unit {0}
+IsWriteError (Err (Custom message)) = ⊥
+IsWriteError (Err (MaxSerializationDepthExceeded depth)) = Unit {0}
+IsWriteError (Err (Parse message position)) = ⊥
+IsWriteError (Err Unsupported) = Unit {0}
+IsWriteError (Err (FromUtf8 cause)) = ⊥
+IsWriteError (Err (Io cause)) = Unit {0}
+IsWriteError (Err (ParseInt cause)) = ⊥
+IsWriteError (Err (Utf8 cause)) = ⊥
+IsWriteError (Err OutOfMemory) = Unit {0}
+IsWriteError (Err Failed) = Unit {0}

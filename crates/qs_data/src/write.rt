@@ -3,3 +3,6 @@
 mod entry;
 mod scalar;
 mod walk;
+
+pub(crate) use entry::{Stream, Walk};
+pub(crate) use walk::write_data;

@@ -25,10 +25,10 @@ pub(crate) enum Scalar<'a> {
 impl<'a> Scalar<'a> {
     /// The scalar that the data are, where they are one.
     #[tactic(auto, using(crate::proofs::Levels::levels))]
-    pub(crate) fn of(data: &'a Data) -> Option<Scalar<'a>>
-        ensures { option_map scalar_text result ≡ key_text (data_of data.now) }
+    pub(crate) fn of(datum: &'a Data) -> Option<Scalar<'a>>
+        ensures { option_map scalar_text result ≡ key_text (data_of datum.now) }
     {
-        match data {
+        match datum {
             Data::Bool(true) => Some(Scalar::Bytes(b"true")),
             Data::Bool(false) => Some(Scalar::Bytes(b"false")),
             Data::Unsigned(n) => Some(Scalar::Unsigned(*n)),

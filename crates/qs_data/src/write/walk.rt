@@ -18,26 +18,26 @@ use qs_tree::{ArrayFormat, Config, Error, Result};
 /// Writes the entries of the data at the walk's path.
 #[cycle(write)]
 #[tactic(auto, using(crate::proofs::Levels::levels), unfolding(qs_spec::specs::Entry::entries_at))]
-pub(crate) fn write<'a, S: Sink>(
+pub(crate) fn write_data<'a, S: Sink>(
     stream: &mut Stream<S>,
     walk: &mut Walk<'a>,
     config: Config,
-    data: &'a Data,
+    datum: &'a Data,
 ) -> Result<()>
     ensures writes { WritesTo S.taken S.failed S.writer_name result config stream.old stream.new
-        (entries_at config.max_depth config.array_format (data_of data.now) (path_of walk.old.path.items)) }
+        (entries_at config.max_depth config.array_format (data_of datum.now) (path_of walk.old.path.items)) }
     ensures path { OnOk result (walk.new.path.items ≡ walk.old.path.items) }
-    ensures bare { IsBare (data_of data.now) → walk.old.path.items ≡ [] → IsOutOfMemory result → ⊥ }
+    ensures bare { IsBare (data_of datum.now) → walk.old.path.items ≡ [] → IsOutOfMemory result → ⊥ }
 {
-    match data {
+    match datum {
         Data::Unit => put_empty(stream, walk, config),
         Data::None | Data::Bool(_) | Data::Unsigned(_) | Data::Signed(_) | Data::Char(_) => {
-            put(stream, walk, config, Scalar::of(data))
+            put(stream, walk, config, Scalar::of(datum))
         }
         Data::Text(_) | Data::Bytes(_) | Data::UnitVariant(_) => {
-            put(stream, walk, config, Scalar::of(data))
+            put(stream, walk, config, Scalar::of(datum))
         }
-        Data::Some(held) | Data::Newtype(held) => write(stream, walk, config, held),
+        Data::Some(held) | Data::Newtype(held) => write_data(stream, walk, config, held),
         Data::Seq(items) | Data::Tuple(items) => {
             if items.is_empty() {
                 return put_empty(stream, walk, config);
@@ -101,7 +101,7 @@ fn write_element<'a, S: Sink>(
         ArrayFormat::EmptyIndexed => {
             write_under(stream, walk, config, Scalar::Bytes(&[]), item)
         }
-        ArrayFormat::Unindexed => write(stream, walk, config, item),
+        ArrayFormat::Unindexed => write_data(stream, walk, config, item),
     }
 }
 
@@ -196,7 +196,7 @@ fn write_under<'a, S: Sink>(
     ensures path { OnOk result (walk.new.path.items ≡ walk.old.path.items) }
 {
     enter(walk, config, segment)?;
-    write(stream, walk, config, part)?;
+    write_data(stream, walk, config, part)?;
     walk.path.pop();
     Ok(())
 }

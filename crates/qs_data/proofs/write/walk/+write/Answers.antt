@@ -15,26 +15,26 @@ use Rattle.qs_data.proofs.Wrote.{Wrote, continue_step, continue_stop, continue_e
 use Rattle.qs_data.proofs.Walk.{elements_here, elements_end, pairs_here, pairs_with_key, pairs_without_key, pairs_end, members_here, members_end, seq_elements, tup_elements, map_pairs}
 use Rattle.qs_data.proofs.write.walk.+write.Goals as goal
 
-pub write-returns-else-is_empty-clause-writes : goal.write-returns-else-is_empty-clause-writes
-write-returns-else-is_empty-clause-writes g t c =
+pub write_data-returns-else-is_empty-clause-writes : goal.write_data-returns-else-is_empty-clause-writes
+write_data-returns-else-is_empty-clause-writes g t c =
     let view = text_in g.S.Sink.taken g.S.Sink.failed g.S.Sink.writer_name in
     let config = c.args.config in
     let v = c.in-Map.pairs in
     let some : 0 < length v.items = omega (arith, v.ok.0, eqb-false (vec_len v) 0 (sym c.if-is_empty.ensures)) in
-    let same = map_pairs config.max_depth config.array_format c.args.data.now v (path_of c.args.walk.now.path.items) c.in-Map.is some in
+    let same = map_pairs config.max_depth config.array_format c.args.datum.now v (path_of c.args.walk.now.path.items) c.in-Map.is some in
     let P : Output → Type 0 = λ o. Writes c.write_pairs.result config (view c.args.stream.now) (view c.write_pairs.new.stream) o in
     subst P (sym same) c.write_pairs.ensures.writes
 
-pub write-returns-else-is_empty-2-clause-writes : goal.write-returns-else-is_empty-2-clause-writes
-write-returns-else-is_empty-2-clause-writes g t c =
+pub write_data-returns-else-is_empty-2-clause-writes : goal.write_data-returns-else-is_empty-2-clause-writes
+write_data-returns-else-is_empty-2-clause-writes g t c =
     let view = text_in g.S.Sink.taken g.S.Sink.failed g.S.Sink.writer_name in
     let config = c.args.config in
     let p = path_of c.args.walk.now.path.items in
     let v = c.in-Seq.items in
     let some : 0 < length v.items = omega (arith, v.ok.0, eqb-false (vec_len v) 0 (sym c.if-is_empty-2.ensures)) in
     let same = ⊎_elim
-      (λ is. seq_elements config.max_depth config.array_format c.args.data.now v p is some)
-      (λ is. tup_elements config.max_depth config.array_format c.args.data.now v p is some)
+      (λ is. seq_elements config.max_depth config.array_format c.args.datum.now v p is some)
+      (λ is. tup_elements config.max_depth config.array_format c.args.datum.now v p is some)
       c.in-Seq.is in
     let P : Output → Type 0 = λ o. Writes c.write_elements.result config (view c.args.stream.now) (view c.write_elements.new.stream) o in
     subst P (sym same) c.write_elements.ensures.writes

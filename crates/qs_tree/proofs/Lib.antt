@@ -1,10 +1,10 @@
 pub mod LaneLemmas
 pub mod FirstPlace
+pub mod Places
+pub mod Keys
 pub mod EncodedSets
 pub mod EncodedFronts
 pub mod DecodedFronts
-pub mod Places
-pub mod Keys
 pub mod Views
 pub mod Turns
 pub mod Equality

@@ -31,7 +31,7 @@ expect() {
     if [ "$ended" -ne "$wanted" ]; then
         fail "$what: status $ended, and not $wanted"
     elif ! cmp -s "$room/output" "$room/wanted"; then
-        fail "$what: wrote '$(head -c 200 "$room/output")', and not '$line'"
+        fail "$what: wrote '$(head -c 200 "$room/output")', and not '${line:0:200}'"
     else
         pass
     fi

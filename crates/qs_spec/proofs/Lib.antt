@@ -1,0 +1,14 @@
+pub mod Booleans
+pub mod Order
+pub mod ReadPairs
+pub mod ReadIsRelated
+pub mod RelatedIsRead
+pub mod TreeOf
+pub mod Leaves
+pub mod OneMore
+pub mod Update
+pub mod Flat
+pub mod Insert
+pub mod Empty
+pub mod Scan
+pub mod Unescaped

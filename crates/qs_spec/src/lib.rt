@@ -1,5 +1,8 @@
-//! The meaning of querystrings.
+//! What querystrings mean, and the laws that hold of the meaning alone. No code runs here.
 #![tactic(auto)]
 
-/// There.
-pub fn there() {}
+mod escapes;
+mod trees;
+
+pub use escapes::escapes_round_trip;
+pub use trees::{in_place, one_reading};

@@ -1,0 +1,87 @@
+-- Lists of pairs with one more at their end.
+use Rattle.std.proofs.Common.{◌≡◌, Bool, true, false, cond, ◌||◌, List, [], ◌∷◌, ◌++◌, map, refl, sym, ap, ◌∙◌}
+use Rattle.std.specs.List.{list_any, AllByRecursion}
+use Rattle.qs_spec.specs.Segment.{Segment, Step}
+use Rattle.qs_spec.specs.Leaf.{Leaf}
+use Rattle.qs_spec.specs.Segment.Segment.{Str}
+use Rattle.qs_spec.specs.Grammar.{Pair}
+use Rattle.qs_spec.specs.History.{event, events, permitted, under, under_one}
+use Rattle.qs_spec.specs.Tree.{heads, put_head, put, filled, filled_path, head_mark, head_mark_or}
+use Rattle.qs_spec.specs.Segment.{is_same_segment}
+use Rattle.qs_spec.proofs.Order.{put_comm}
+use Rattle.qs_spec.proofs.TreeOf.{any_put}
+use Rattle.qs_spec.proofs.Booleans.{or_both}
+
+abbrev pub pair : List Step → Bool → Leaf → Pair
+pair path b l = record { path = path; push = b; leaf = l }
+
+-- no segment is the empty text
+abbrev pub NoEmpty : List Step → Type 0
+NoEmpty [] = Unit {0}
+NoEmpty (s ∷ path) = (is_same_segment (Str []) s.seg ≡ false) × NoEmpty path
+
+abbrev pub NoneEmpty : List Pair → Type 0
+NoneEmpty ps = AllByRecursion (λ p. NoEmpty p.path) ps
+
+abbrev pub Permitted : List Pair → Type 0
+Permitted ps = (path : List Segment) → permitted (events ps path) ≡ true
+
+-- lists of pairs with one more
+pub under_push : (k : Segment) (ps : List Pair) (p : Pair) → under k (ps ++ p ∷ []) ≡ under k ps ++ under k (p ∷ [])
+under_push k [] p = refl
+under_push k (q ∷ ps) p = by q.path (under_push k ps p)
+  where
+    by : (path : List Step) → under k (ps ++ p ∷ []) ≡ under k ps ++ under k (p ∷ []) → under_one k path q (under k (ps ++ p ∷ [])) ≡ under_one k path q (under k ps) ++ under k (p ∷ [])
+    by [] e = e
+    by (s ∷ path) e = each (is_same_segment k s.seg)
+      where
+        each : (b : Bool) → cond b (record q { path = path } ∷ under k (ps ++ p ∷ [])) (under k (ps ++ p ∷ [])) ≡ cond b (record q { path = path } ∷ under k ps) (under k ps) ++ under k (p ∷ [])
+        each true = ap (λ l. record q { path = path } ∷ l) e
+        each false = e
+
+pub history_push : (ps : List Pair) (p : Pair) → map event (ps ++ p ∷ []) ≡ map event ps ++ event p ∷ []
+history_push [] p = refl
+history_push (q ∷ ps) p = ap (λ h. event q ∷ h) (history_push ps p)
+
+pub filled_push : (ps : List Pair) (p : Pair) → filled (ps ++ p ∷ []) ≡ filled ps ++ filled (p ∷ [])
+filled_push [] p = refl
+filled_push (q ∷ ps) p = ap (λ l. record q { path = filled_path q.path } ∷ l) (filled_push ps p)
+
+pub heads_push : (ps : List Pair) (s : Step) (path : List Step) (b : Bool) (l : Leaf) → heads (ps ++ pair (s ∷ path) b l ∷ []) ≡ put s.seg (heads ps)
+heads_push [] s path b l = refl
+heads_push (q ∷ ps) s path b l = ap (put_head q.path) (heads_push ps s path b l) ∙ by q.path
+  where
+    by : (p : List Step) → put_head p (put s.seg (heads ps)) ≡ put s.seg (put_head p (heads ps))
+    by [] = refl
+    by (t ∷ p) = put_comm t.seg s.seg (heads ps)
+
+pub or-false : (b : Bool) → (b || false) ≡ b
+or-false true = refl
+or-false false = refl
+
+-- the mark of another key stays, and so does that of a key that is there
+pub mark_push : (k : Segment) (ps : List Pair) (s : Step) (path : List Step) (b : Bool) (l : Leaf) → is_same_segment k s.seg ≡ false → head_mark k (ps ++ pair (s ∷ path) b l ∷ []) ≡ head_mark k ps
+mark_push k [] s path b l e = ap (λ x. cond x s.mark false) e
+mark_push k (q ∷ ps) s path b l e = ap (head_mark_or k q.path) (mark_push k ps s path b l e)
+
+pub mark_there : (k : Segment) (ps qs : List Pair) → list_any (is_same_segment k) (heads ps) ≡ true → head_mark k (ps ++ qs) ≡ head_mark k ps
+mark_there k [] qs e = cc
+mark_there k (q ∷ ps) qs e = by q.path e (mark_there k ps qs)
+  where
+    by : (p : List Step) → list_any (is_same_segment k) (put_head p (heads ps)) ≡ true → (list_any (is_same_segment k) (heads ps) ≡ true → head_mark k (ps ++ qs) ≡ head_mark k ps) → head_mark_or k p (head_mark k (ps ++ qs)) ≡ head_mark_or k p (head_mark k ps)
+    by [] e h = h e
+    by (t ∷ p) e h = each (is_same_segment k t.seg) (sym (any_put k t.seg (heads ps)) ∙ e)
+      where
+        each : (x : Bool) → (x || list_any (is_same_segment k) (heads ps)) ≡ true → cond x t.mark (head_mark k (ps ++ qs)) ≡ cond x t.mark (head_mark k ps)
+        each true d = refl
+        each false d = h d
+
+pub mark_new : (k : Segment) (ps : List Pair) (s : Step) (path : List Step) (b : Bool) (l : Leaf) → list_any (is_same_segment k) (heads ps) ≡ false → is_same_segment k s.seg ≡ true → head_mark k (ps ++ pair (s ∷ path) b l ∷ []) ≡ s.mark
+mark_new k [] s path b l n e = ap (λ x. cond x s.mark false) e
+mark_new k (q ∷ ps) s path b l n e = by q.path n (mark_new k ps s path b l)
+  where
+    by : (p : List Step) → list_any (is_same_segment k) (put_head p (heads ps)) ≡ false → (list_any (is_same_segment k) (heads ps) ≡ false → is_same_segment k s.seg ≡ true → head_mark k (ps ++ pair (s ∷ path) b l ∷ []) ≡ s.mark) → head_mark_or k p (head_mark k (ps ++ pair (s ∷ path) b l ∷ [])) ≡ s.mark
+    by [] n h = h n e
+    by (t ∷ p) n h =
+        let parts = or_both (is_same_segment k t.seg) _ (sym (any_put k t.seg (heads ps)) ∙ n) in
+        ap (λ x. cond x t.mark (head_mark k (ps ++ pair (s ∷ path) b l ∷ []))) parts.0 ∙ h parts.1 e

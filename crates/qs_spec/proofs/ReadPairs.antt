@@ -1,0 +1,106 @@
+-- A plain function that reads the pairs of some tokens.
+use Rattle.std.proofs.Common.{ℕ, zero, suc, Bool, true, false, List, [], ◌∷◌, ◌++◌, length, Option, Some, None, option_map}
+use Rattle.qs_spec.specs.Token.{Kind, Token, raw_of}
+use Rattle.qs_spec.specs.Segment.{Step}
+use Rattle.qs_spec.specs.Leaf.{Leaf, value_leaf}
+use Rattle.qs_spec.specs.Token.Kind.{Amp, Equals, Open, Close, Other}
+use Rattle.qs_spec.specs.Leaf.Leaf.{NoValue}
+use Rattle.qs_spec.specs.Grammar.{Pair, plain, pushed, is_amp, is_close, ends_last, ends_root, root, longer}
+
+abbrev pub Rest : Type 0 → Type 0
+Rest A = Option (A × List Token)
+
+-- a run, and what ends it
+abbrev pub cut_at : Bool → Token → List Token → List Token × List Token → List Token × List Token
+cut_at true t ts more = ([], t ∷ ts)
+cut_at false t ts more = (t ∷ more.0, more.1)
+
+abbrev pub cut : (Kind → Bool) → List Token → List Token × List Token
+cut ends [] = ([], [])
+cut ends (t ∷ ts) = cut_at (ends t.kind) t ts (cut ends ts)
+
+abbrev pub valued : List Token × List Token → Rest Leaf
+valued c = Some (value_leaf (raw_of c.0), c.1)
+
+abbrev pub value_at : Kind → Token → List Token → Rest Leaf
+value_at Amp t ts = Some (NoValue, t ∷ ts)
+value_at Equals t ts = valued (cut is_amp ts)
+value_at Open t ts = None
+value_at Close t ts = None
+value_at Other t ts = None
+
+abbrev pub read_value : List Token → Rest Leaf
+read_value [] = Some (NoValue, [])
+read_value (t ∷ ts) = value_at t.kind t ts
+
+abbrev pub with_leaf : (Leaf → Pair) → Rest Leaf → Rest Pair
+with_leaf pair None = None
+with_leaf pair (Some r) = Some (pair r.0, r.1)
+
+abbrev pub Deeper : Type 0
+Deeper = List Step → List ℕ → List Token → Rest Pair
+
+abbrev pub after_close_at : Kind → Deeper → List Step → Token → List Token → Rest Pair
+after_close_at Open deeper q u rest = deeper q u.raw rest
+after_close_at Amp deeper q u rest = with_leaf (plain q) (value_at Amp u rest)
+after_close_at Equals deeper q u rest = with_leaf (plain q) (value_at Equals u rest)
+after_close_at Close deeper q u rest = None
+after_close_at Other deeper q u rest = None
+
+abbrev pub after_close : Deeper → List Step → List Token → Rest Pair
+after_close deeper q [] = with_leaf (plain q) (read_value [])
+after_close deeper q (u ∷ rest) = after_close_at u.kind deeper q u rest
+
+abbrev pub after_run : Deeper → List Step → List Token → Rest Pair
+after_run deeper q [] = None
+after_run deeper q (t ∷ rest) = after_close deeper q rest
+
+abbrev pub last_key : List Step → List ℕ → Token → List Token × List Token → Rest Pair
+last_key path bracket t c = with_leaf (plain (longer path (bracket ++ t.raw ++ raw_of c.0))) (read_value c.1)
+
+abbrev pub in_last : Bool → List Step → List ℕ → Token → List Token → Rest Pair
+in_last true path bracket t ts = with_leaf (pushed path) (read_value ts)
+in_last false path bracket t ts = last_key path bracket t (cut ends_last ts)
+
+abbrev pub in_segment : Bool → Deeper → List Step → Token → List Token → Rest Pair
+in_segment true deeper path t ts = with_leaf (pushed path) (read_value ts)
+in_segment false deeper path t ts = after_run deeper (longer path (raw_of (t ∷ (cut is_close ts).0))) (cut is_close ts).1
+
+abbrev pub read_brackets : ℕ → Deeper
+read_brackets zero path bracket [] = None
+read_brackets zero path bracket (t ∷ ts) = in_last (is_close t.kind) path bracket t ts
+read_brackets (suc room) path bracket [] = None
+read_brackets (suc room) path bracket (t ∷ ts) = in_segment (is_close t.kind) (read_brackets room) path t ts
+
+abbrev pub named : List Token → List Token → Rest Pair
+named [] rest = None
+named (t ∷ key) rest = Some (plain (root (t ∷ key)) NoValue, rest)
+
+abbrev pub after_root_at : Kind → ℕ → List Token → Token → List Token → Rest Pair
+after_root_at Amp depth key t rest = named key (t ∷ rest)
+after_root_at Equals depth key t rest = with_leaf (plain (root key)) (value_at Equals t rest)
+after_root_at Open depth key t rest = read_brackets depth (root key) t.raw rest
+after_root_at Close depth key t rest = None
+after_root_at Other depth key t rest = None
+
+abbrev pub after_root : ℕ → List Token → List Token → Rest Pair
+after_root depth key [] = named key []
+after_root depth key (t ∷ rest) = after_root_at t.kind depth key t rest
+
+abbrev pub read_pair : ℕ → List Token → Rest Pair
+read_pair depth ts = after_root depth (cut (ends_root depth) ts).0 (cut (ends_root depth) ts).1
+
+abbrev pub read_pairs_at : Bool → Option (List Pair) → Rest Pair → (List Token → Option (List Pair)) → Option (List Pair)
+read_pairs_at true skipped pair more = skipped
+read_pairs_at false skipped None more = None
+read_pairs_at false skipped (Some r) more = option_map (λ ps. r.0 ∷ ps) (more r.1)
+
+-- The number bounds the turns. The count of the tokens is always enough.
+abbrev pub read_pairs : ℕ → ℕ → List Token → Option (List Pair)
+read_pairs depth zero [] = Some []
+read_pairs depth zero (t ∷ ts) = None
+read_pairs depth (suc n) [] = Some []
+read_pairs depth (suc n) (t ∷ ts) = read_pairs_at (is_amp t.kind) (read_pairs depth n ts) (read_pair depth (t ∷ ts)) (read_pairs depth n)
+
+abbrev pub pairs_of : ℕ → List Token → Option (List Pair)
+pairs_of depth ts = read_pairs depth (length ts) ts

@@ -1,0 +1,151 @@
+//! How a querystring is read and written.
+
+ghost use Rattle.std.specs.Prelude.{◌≡◌};
+ghost use Rattle.qs_spec.specs.Config.{default};
+ghost use Rattle.qs_tree.specs.Settings.{array_format_of, duplicates_of};
+
+use std::marker::Model;
+
+/// How the place of a list's element is written in a key.
+#[derive(Clone, Copy, Debug, Default, PartialEq, Eq)]
+pub enum ArrayFormat {
+    /// By its number: `a[0]=x&a[1]=y`.
+    #[default]
+    Indexed,
+    /// By empty brackets: `a[]=x&a[]=y`.
+    EmptyIndexed,
+    /// Not at all: `a=x&a=y`.
+    Unindexed,
+}
+
+/// What becomes of several values where one is asked for.
+#[derive(Clone, Copy, Debug, Default, PartialEq, Eq)]
+pub enum DuplicateKeyBehavior {
+    /// The last one is taken.
+    #[default]
+    TakeLast,
+    /// They are refused.
+    Error,
+}
+
+/// How a querystring is read and written.
+///
+/// ```
+/// let config = Config::new().max_depth(2).use_form_encoding(true);
+/// ```
+#[derive(Clone, Copy, Debug)]
+pub struct Config {
+    max_depth: usize,
+    form: bool,
+    array_format: ArrayFormat,
+    duplicates: DuplicateKeyBehavior,
+}
+
+impl Model for Config {
+    ghost use Rattle.qs_spec.specs.Config.{Config as Meaning};
+    ghost use Rattle.qs_tree.specs.Settings.{array_format_of, array_format_from, array_format_back, duplicates_of, duplicates_from, duplicates_back};
+
+    ghost Value = { Meaning };
+
+    ghost view = { λ c. record {
+      max_depth = c.max_depth;
+      form = c.form;
+      array_format = array_format_of c.array_format;
+      duplicates = duplicates_of c.duplicates;
+    } };
+
+    ghost inverse = { λ c. record {
+      max_depth = c.max_depth;
+      form = c.form;
+      array_format = array_format_from c.array_format;
+      duplicates = duplicates_from c.duplicates;
+    } };
+
+    ghost inverse_ok = { λ c _ i. record {
+      max_depth = c.max_depth;
+      form = c.form;
+      array_format = array_format_back c.array_format i;
+      duplicates = duplicates_back c.duplicates i;
+    } };
+}
+
+impl Config {
+    /// Five levels of brackets below the first, query encoding, numbered elements, and the last of several values.
+    pub fn new() -> Config
+        ensures { result ≡ default }
+    {
+        Config {
+            max_depth: 5,
+            form: false,
+            array_format: ArrayFormat::Indexed,
+            duplicates: DuplicateKeyBehavior::TakeLast,
+        }
+    }
+
+    /// With this many levels of brackets; what nests deeper is one last key on reading, and refused on writing.
+    pub fn max_depth(self, max_depth: usize) -> Config
+        ensures { result ≡ record self { max_depth = max_depth } }
+    {
+        Config { max_depth, ..self }
+    }
+
+    /// With form encoding (true), where brackets may be escaped and a space is `%20`, or query encoding (false).
+    pub fn use_form_encoding(self, form: bool) -> Config
+        ensures { result ≡ record self { form = form } }
+    {
+        Config { form, ..self }
+    }
+
+    /// With this way to write the place of a list's element.
+    pub fn array_format(self, array_format: ArrayFormat) -> Config
+        ensures { result ≡ record self { array_format = array_format_of array_format } }
+    {
+        Config {
+            array_format,
+            ..self
+        }
+    }
+
+    /// With this answer to several values where one is asked for.
+    pub fn duplicate_key_behavior(self, duplicates: DuplicateKeyBehavior) -> Config
+        ensures { result ≡ record self { duplicates = duplicates_of duplicates } }
+    {
+        Config { duplicates, ..self }
+    }
+
+    /// How many levels of brackets are read and written.
+    pub fn get_max_depth(&self) -> usize
+        ensures { result ≡ self.now.max_depth }
+    {
+        self.max_depth
+    }
+
+    /// Whether form encoding is used.
+    pub fn get_form(&self) -> bool
+        ensures { result ≡ self.now.form }
+    {
+        self.form
+    }
+
+    /// How the place of a list's element is written.
+    pub fn get_array_format(&self) -> ArrayFormat
+        ensures { array_format_of result ≡ self.now.array_format }
+    {
+        self.array_format
+    }
+
+    /// What becomes of several values where one is asked for.
+    pub fn get_duplicates(&self) -> DuplicateKeyBehavior
+        ensures { duplicates_of result ≡ self.now.duplicates }
+    {
+        self.duplicates
+    }
+}
+
+impl Default for Config {
+    ghost is_default = { λ c. c ≡ default };
+
+    fn default() -> Config {
+        Config::new()
+    }
+}

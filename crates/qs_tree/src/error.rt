@@ -1,0 +1,178 @@
+//! Why a call failed.
+
+use std::alloc::{AllocError, AllocFailed, Global};
+use std::fmt::Display;
+use std::{fmt, io, num, str, string};
+
+/// What calls of this crate answer: a value, or why there is none.
+pub type Result<T, E = Error> = std::result::Result<T, E>;
+
+/// Why a call failed.
+///
+/// Its `Display` is the text for a user. That of [`FromUtf8`](Error::FromUtf8), [`Io`](Error::Io),
+/// [`ParseInt`](Error::ParseInt) and [`Utf8`](Error::Utf8) is the text of the cause.
+#[derive(Debug, Drop)]
+pub enum Error {
+    /// The tree doesn't fit what is read from it; the message says why.
+    Custom(String),
+    /// A value nests deeper than the configuration's `max_depth`, which is the number here.
+    MaxSerializationDepthExceeded(usize),
+    /// The querystring is refused, with this message, at this position: the number of bytes that were
+    /// read, and one more where the end was read.
+    Parse(String, usize),
+    /// A map's key is of a kind that a querystring can't show.
+    Unsupported,
+    /// An owned text isn't UTF-8. No call answers it; it is there for callers' own conversions.
+    FromUtf8(string::FromUtf8Error),
+    /// A write failed.
+    Io(io::Error),
+    /// A text isn't a number. No call answers it; it is there for callers' own conversions.
+    ParseInt(num::ParseIntError),
+    /// Bytes that are read as text aren't UTF-8.
+    Utf8(str::Utf8Error),
+    /// A growth was refused.
+    OutOfMemory,
+    /// A serializer was used after an error.
+    Failed,
+}
+
+impl Error {
+    ghost use Rattle.std.specs.Prelude.{◌++◌, Some, codes};
+    ghost use Rattle.qs_tree.specs.Error.{IsCustomSaying, IsParseSaying};
+
+    /// The error of a kind of value that doesn't stand at the top of a querystring.
+    ///
+    /// Takes memory for the text, and answers [`OutOfMemory`](Error::OutOfMemory) where there is none.
+    pub fn top_level(alloc: Global, object: &'static str) -> Error
+        ensures { IsCustomSaying result (Some (codes "cannot deserialize " ++ (object.now
+            ++ codes " at the top level.Try deserializing into a struct."))) }
+    {
+        let message = format!(in alloc;
+            "cannot deserialize {object} at the top level.Try deserializing into a struct."
+        );
+        match message {
+            Ok(message) => Error::Custom(message),
+            Err(_) => Error::OutOfMemory,
+        }
+    }
+
+    /// The error of a querystring that is refused with this message at this position.
+    ///
+    /// Takes memory for the text, and answers [`OutOfMemory`](Error::OutOfMemory) where there is none, or
+    /// where the message's own `fmt` fails.
+    pub fn parse_err<T: Display + Drop>(alloc: Global, msg: T, position: usize) -> Error
+        ensures { IsParseSaying result (T.output msg) position }
+    {
+        match String::format(alloc, msg) {
+            Ok(message) => Error::Parse(message, position),
+            Err(_) => Error::OutOfMemory,
+        }
+    }
+
+    /// The error of a tree that doesn't fit, with this message. What was parsed is not used.
+    ///
+    /// Takes memory for the text, and answers [`OutOfMemory`](Error::OutOfMemory) where there is none, or
+    /// where the message's own `fmt` fails.
+    pub fn custom<T: Display + Drop, D>(alloc: Global, msg: T, _parsed: &D) -> Error
+        ensures { IsCustomSaying result (T.output msg) }
+    {
+        match String::format(alloc, msg) {
+            Ok(message) => Error::Custom(message),
+            Err(_) => Error::OutOfMemory,
+        }
+    }
+}
+
+impl Display for Error {
+    ghost use Rattle.qs_tree.specs.Error.{error_text};
+
+    ghost output = { λ e. error_text e };
+
+    fn fmt<W: fmt::Write>(&self, f: &mut fmt::Formatter<W>) -> fmt::Result {
+        match self {
+            Error::Custom(message) => write!(f, "{message}"),
+            Error::MaxSerializationDepthExceeded(depth) => {
+                write!(f, "Maximum serialization depth `{depth}` exceeded")
+            }
+            Error::Parse(message, position) => {
+                write!(
+                    f,
+                    "parsing failed with error: '{message}' at position: {position}"
+                )
+            }
+            Error::Unsupported => f.write_str("unsupported type for serialization"),
+            Error::FromUtf8(cause) => write!(f, "{cause}"),
+            Error::Io(cause) => write!(f, "{cause}"),
+            Error::ParseInt(cause) => write!(f, "{cause}"),
+            Error::Utf8(cause) => write!(f, "{cause}"),
+            Error::OutOfMemory => f.write_str("out of memory"),
+            Error::Failed => f.write_str("serializer has failed"),
+        }
+    }
+}
+
+impl From<string::FromUtf8Error> for Error {
+    ghost use Rattle.std.specs.Prelude.{◌≡◌};
+    ghost use Rattle.qs_tree.specs.declared.error.Error.TheVariants.{FromUtf8};
+
+    ghost from_gives = { λ cause e. e ≡ FromUtf8 cause };
+
+    fn from(cause: string::FromUtf8Error) -> Error {
+        Error::FromUtf8(cause)
+    }
+}
+
+impl From<io::Error> for Error {
+    ghost use Rattle.std.specs.Prelude.{◌≡◌};
+    ghost use Rattle.qs_tree.specs.declared.error.Error.TheVariants.{Io};
+
+    ghost from_gives = { λ cause e. e ≡ Io cause };
+
+    fn from(cause: io::Error) -> Error {
+        Error::Io(cause)
+    }
+}
+
+impl From<num::ParseIntError> for Error {
+    ghost use Rattle.std.specs.Prelude.{◌≡◌};
+    ghost use Rattle.qs_tree.specs.declared.error.Error.TheVariants.{ParseInt};
+
+    ghost from_gives = { λ cause e. e ≡ ParseInt cause };
+
+    fn from(cause: num::ParseIntError) -> Error {
+        Error::ParseInt(cause)
+    }
+}
+
+impl From<str::Utf8Error> for Error {
+    ghost use Rattle.std.specs.Prelude.{◌≡◌};
+    ghost use Rattle.qs_tree.specs.declared.error.Error.TheVariants.{Utf8};
+
+    ghost from_gives = { λ cause e. e ≡ Utf8 cause };
+
+    fn from(cause: str::Utf8Error) -> Error {
+        Error::Utf8(cause)
+    }
+}
+
+impl From<AllocError> for Error {
+    ghost use Rattle.std.specs.Prelude.{◌≡◌};
+    ghost use Rattle.qs_tree.specs.declared.error.Error.TheVariants.{OutOfMemory};
+
+    ghost from_gives = { λ _ e. e ≡ OutOfMemory };
+
+    fn from(_refused: AllocError) -> Error {
+        Error::OutOfMemory
+    }
+}
+
+impl<T: Drop> From<AllocFailed<T>> for Error {
+    ghost use Rattle.std.specs.Prelude.{◌≡◌};
+    ghost use Rattle.qs_tree.specs.declared.error.Error.TheVariants.{OutOfMemory};
+
+    ghost from_gives = { λ _ e. e ≡ OutOfMemory };
+
+    fn from(_refused: AllocFailed<T>) -> Error {
+        Error::OutOfMemory
+    }
+}

@@ -3,6 +3,8 @@
 
 mod config;
 mod error;
+mod search;
 
 pub use crate::config::{ArrayFormat, Config, DuplicateKeyBehavior};
 pub use crate::error::{Error, Result};
+pub use crate::search::{find_ampersand, find_encoded, find_escape};

@@ -105,3 +105,26 @@ variant_of = fold-Variant s.Shape s.VariantKind s.Field s.Variant shape_layer ki
 
 abbrev pub kind_of : VariantKind → s.VariantKind
 kind_of = fold-VariantKind s.Shape s.VariantKind s.Field s.Variant shape_layer kind_layer field_layer variant_layer
+
+-- lists of them
+abbrev pub values_in : List Data → d.Values
+values_in xs = d.values_of (map data_of xs)
+
+abbrev pub members_in : List (String Global × Data) → d.Members
+members_in ms = d.members_of (map (named data_of) ms)
+
+abbrev pub shapes_in : List Shape → s.Shapes
+shapes_in ss = s.shapes_of (map shape_of ss)
+
+abbrev pub fields_in : List Field → s.Fields
+fields_in fs = s.fields_of (map field_of fs)
+
+abbrev pub variants_in : List Variant → s.Variants
+variants_in vs = s.variants_of (map variant_of vs)
+
+-- a key with its value
+abbrev pub pair_of : Data × Data → d.Data × d.Data
+pair_of p = (data_of p.0, data_of p.1)
+
+abbrev pub pairs_in : List (Data × Data) → d.Pairs
+pairs_in ps = d.pairs_of (map pair_of ps)

@@ -1,7 +1,9 @@
 //! Reading data by a shape, and writing data.
 #![tactic(auto)]
 
+mod copy;
 mod data;
+mod distinct;
 mod shape;
 
 pub use data::Data;

@@ -1,2 +1,4 @@
 pub mod LaneLemmas
 pub mod FirstPlace
+pub mod Places
+pub mod Keys

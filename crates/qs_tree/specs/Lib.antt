@@ -1,3 +1,7 @@
 pub mod Settings
 pub mod Error
 pub mod Search
+pub mod Places
+pub mod formers
+pub mod Views
+pub mod Keys

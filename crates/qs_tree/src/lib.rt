@@ -2,9 +2,16 @@
 #![tactic(auto)]
 
 mod config;
+mod entries;
 mod error;
+mod key;
+mod map;
 mod search;
+mod value;
 
 pub use crate::config::{ArrayFormat, Config, DuplicateKeyBehavior};
 pub use crate::error::{Error, Result};
+pub use crate::key::Key;
+pub use crate::map::ParsedMap;
 pub use crate::search::{find_ampersand, find_encoded, find_escape};
+pub use crate::value::ParsedValue;

@@ -2,6 +2,7 @@
 #![tactic(auto)]
 
 mod arguments;
+mod flat;
 mod program;
 
 use std::alloc::AllocError;

@@ -4,6 +4,7 @@
 mod arguments;
 mod flat;
 mod program;
+mod streams;
 
 use std::alloc::AllocError;
 use std::process::ExitCode;

@@ -1,0 +1,57 @@
+#!/usr/bin/env bash
+# Each allocation of a run is refused in turn: the right line comes, or status 3 with the line that says so or with nothing.
+source "$(dirname "${BASH_SOURCE[0]}")/support/counting.sh"
+
+refuse=$room/refuse_memory.so
+kit=$(dirname "$(dirname "$(readlink -f "$(command -v rt)")")")
+for compiler in "$kit/toolchain/bin/clang" clang gcc cc; do
+    if [ ! -e "$refuse" ] && command -v "$compiler" >/dev/null; then
+        "$compiler" -shared -fPIC -O1 -nostdlib -fno-builtin -o "$refuse" "$root/scripts/support/refuse_memory.c" \
+            >>"$room/compiled" 2>&1 || rm -f "$refuse"
+    fi
+done
+if [ ! -e "$refuse" ]; then
+    cat "$room/compiled"
+    fail 'no compiler makes the library that refuses memory'
+    report
+    exit 1
+fi
+
+# refuse_each INPUT STATUS LINE ARGUMENTS..
+refuse_each() {
+    local input=$1 wanted=$2 line=$3 at
+    shift 3
+    printf '%s\n' "$line" >"$room/right"
+    printf 'error: out of memory\n' >"$room/memory"
+    for ((at = 1; at <= 1000; at++)); do
+        printf '%s' "$input" >"$room/input"
+        REFUSED_ALLOCATION=$at LD_PRELOAD=$refuse "$program" "$@" \
+            <"$room/input" >"$room/output" 2>/dev/null 9>"$room/refused"
+        status=$?
+        if [ "$status" -eq "$wanted" ] && cmp -s "$room/output" "$room/right"; then
+            pass
+        elif [ "$status" -eq 3 ] && [ -s "$room/refused" ] && { [ ! -s "$room/output" ] || cmp -s "$room/output" "$room/memory"; }; then
+            pass
+        else
+            fail "qs_tool $* with allocation $at refused: status $status, wrote '$(head -c 200 "$room/output")'"
+        fi
+        if [ ! -s "$room/refused" ]; then
+            if [ "$at" -lt 3 ]; then
+                fail "qs_tool $*: no allocation was refused"
+            fi
+            return
+        fi
+    done
+    fail "qs_tool $*: no end of its allocations"
+}
+
+long=$(printf '%*s' 20000 '' | tr ' ' x)
+refuse_each 'age=24&occupation=Student&name=Alice+B.' 0 'name=Alice+B.&age=24&occupation=Student&note' flat
+refuse_each 'age=24&occupation=%53tudent&name=Alice+B.&note=n&active&x=1&x=2' 0 \
+    'name=Alice%20B.&age=24&occupation=Student&active=true&note=n' flat --form --duplicates last --format indexed
+refuse_each "name=$long&age=1&occupation=b" 0 "name=$long&age=1&occupation=b&note" flat
+refuse_each 'name=a' 1 'error: missing field `age`' flat
+refuse_each '=1&name=a' 1 "error: parsing failed with error: 'invalid input: the same key is used for both a value and a nested map' at position: 10" flat
+refuse_each '' 2 'usage: qs_tool flat|params|any [--form] [--depth N] [--format indexed|empty|unindexed] [--duplicates last|error]' round
+
+report

@@ -1,0 +1,43 @@
+# Counts what passes and what fails on the built program. A script sources this first and ends with `report`.
+set -u
+root=$(cd "$(dirname "${BASH_SOURCE[0]}")/../.." && pwd) || exit 1
+program=${1:-$root/crates/qs_tool/out/qs_tool}
+subject=$(basename "$0" .sh)
+passed=0
+failed=0
+
+if [ ! -x "$program" ]; then
+    echo "  there is no program $program: run ./qs_tool once"
+    echo "$subject: 0 passed, 1 failed"
+    exit 1
+fi
+
+room=$(mktemp -d) || exit 1
+trap 'rm -rf "$room"' EXIT
+
+pass() {
+    passed=$((passed + 1))
+}
+
+fail() {
+    failed=$((failed + 1))
+    printf '  FAILED: %s\n' "$1"
+}
+
+# expect WHAT STATUS LINE: the last run ended with STATUS, and wrote LINE to $room/output.
+expect() {
+    local what=$1 wanted=$2 line=$3 ended=$status
+    printf '%s' "$line" >"$room/wanted"
+    if [ "$ended" -ne "$wanted" ]; then
+        fail "$what: status $ended, and not $wanted"
+    elif ! cmp -s "$room/output" "$room/wanted"; then
+        fail "$what: wrote '$(head -c 200 "$room/output")', and not '${line:0:200}'"
+    else
+        pass
+    fi
+}
+
+report() {
+    echo "$subject: $passed passed, $failed failed"
+    [ "$failed" -eq 0 ]
+}

@@ -1,6 +1,5 @@
 pub mod Booleans
 pub mod Order
-pub mod ReadPairs
 pub mod ReadIsRelated
 pub mod RelatedIsRead
 pub mod TreeOf
@@ -12,3 +11,4 @@ pub mod Insert
 pub mod Empty
 pub mod Scan
 pub mod Unescaped
+pub mod ReadOn

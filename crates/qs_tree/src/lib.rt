@@ -2,7 +2,10 @@
 #![tactic(auto)]
 
 mod config;
+mod cursor;
 mod error;
+mod steps;
 
 pub use crate::config::{ArrayFormat, Config, DuplicateKeyBehavior};
 pub use crate::error::{Error, Result};
+pub use crate::steps::Steps;

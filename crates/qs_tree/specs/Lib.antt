@@ -1,3 +1,4 @@
 pub mod Settings
 pub mod Error
+pub mod Search
 pub mod Cursor

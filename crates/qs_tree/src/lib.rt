@@ -4,8 +4,10 @@
 mod config;
 mod cursor;
 mod error;
+mod search;
 mod steps;
 
 pub use crate::config::{ArrayFormat, Config, DuplicateKeyBehavior};
 pub use crate::error::{Error, Result};
+pub use crate::search::{find_ampersand, find_encoded, find_escape};
 pub use crate::steps::Steps;

@@ -1,0 +1,30 @@
+-- The bytes that the searches look for, and where the first of them stands.
+use Rattle.std.specs.Prelude.{◌≡◌, ℕ, ◌+◌, ◌<◌, ◌≤◌, Bool, true, false, not, ◌||◌, ◌==◌, List, slice_index, if◌then◌else◌}
+use Rattle.std.specs.Int.{w64, trailing_zeros}
+use Rattle.qs_spec.specs.Escape.{is_kept_in_form, is_kept_in_query}
+
+-- `+` and `%`, with which a byte may be escaped
+abbrev pub is_escape : ℕ → Bool
+is_escape b = b == 43 || b == 37
+
+-- `&`, which stands between two pairs
+abbrev pub is_ampersand : ℕ → Bool
+is_ampersand b = b == 38
+
+-- the bytes that form mode (true), or query mode, doesn't write as themselves
+abbrev pub is_encoded : Bool → ℕ → Bool
+is_encoded true b = not (is_kept_in_form b)
+is_encoded false b = not (is_kept_in_query b)
+
+-- no byte from `at` up to `end` is of the class
+abbrev pub NoneBetween : (ℕ → Bool) → List ℕ → ℕ → ℕ → Type 0
+NoneBetween contains bytes at end = (k : ℕ) → at ≤ k → k < end → contains (slice_index bytes k) ≡ false
+
+-- of the `n` bytes from `at` on, the first `run` are not of the class, and the next one is
+abbrev pub IsFirstIn : (ℕ → Bool) → List ℕ → ℕ → ℕ → ℕ → Type 0
+IsFirstIn contains bytes at n run =
+    (run ≤ n) × NoneBetween contains bytes at (at + run) × (run < n → contains (slice_index bytes (at + run)) ≡ true)
+
+-- the place of the lowest bit that is set, or `n` where none is
+abbrev pub first_set : ℕ → ℕ → ℕ
+first_set mask n = if mask == 0 then n else trailing_zeros w64 mask

@@ -1,0 +1,67 @@
+//! The first byte of a class.
+
+mod class;
+mod encoded;
+mod marks;
+
+ghost use Rattle.std.specs.Prelude.{◌≡◌, ◌<◌, ◌↔◌, false, length, position, IfSome, IsNone};
+ghost use Rattle.qs_spec.specs.Escape.{is_marked};
+ghost use Rattle.qs_tree.specs.Search.{is_escape, is_ampersand, is_encoded};
+
+use self::class::{Class, LANES};
+use self::encoded::Encoded;
+use self::marks::{Ampersand, Escape};
+
+/// The first place of `+` or `%`.
+///
+/// Takes no memory and looks at each byte up to that place once, 32 of them at a time.
+pub fn find_escape(bytes: &[u8]) -> Option<usize>
+    ensures first { result ≡ position is_escape bytes.now }
+    ensures within { IfSome result (λ at. at < length bytes.now) }
+    ensures none { IsNone result ↔ (is_marked bytes.now ≡ false) }
+{
+    find(Escape, bytes)
+}
+
+/// The first place of `&`.
+///
+/// Takes no memory and looks at each byte up to that place once, 32 of them at a time.
+pub fn find_ampersand(bytes: &[u8]) -> Option<usize>
+    ensures first { result ≡ position is_ampersand bytes.now }
+    ensures within { IfSome result (λ at. at < length bytes.now) }
+{
+    find(Ampersand, bytes)
+}
+
+/// The first place of a byte that form mode (`form`), or query mode, doesn't write as itself: a space too,
+/// for which query mode writes `+`.
+///
+/// Takes no memory and looks at each byte up to that place once, 32 of them at a time.
+pub fn find_encoded(bytes: &[u8], form: bool) -> Option<usize>
+    ensures first { result ≡ position (is_encoded form) bytes.now }
+    ensures within { IfSome result (λ at. at < length bytes.now) }
+{
+    find(Encoded { form }, bytes)
+}
+
+/// The first place of a byte of the class: 32 bytes at a time, and the rest one by one.
+fn find<C: Class>(class: C, bytes: &[u8]) -> Option<usize>
+    ensures first { result ≡ position (C.contains class) bytes.now }
+    ensures within { IfSome result (λ at. at < length bytes.now) }
+{
+    let mut at = 0;
+    while bytes.len() - at >= LANES {
+        let run = class.run(bytes, at);
+        if run < LANES {
+            return Some(at + run);
+        }
+        at += LANES;
+    }
+    while at < bytes.len() {
+        if class.has(bytes[at]) {
+            return Some(at);
+        }
+        at += 1;
+    }
+    None
+}

@@ -1,2 +1,3 @@
 pub mod LaneLemmas
 pub mod FirstPlace
+pub mod Runs

@@ -1,5 +1,5 @@
 -- What the calls of a cursor take.
-use Rattle.std.specs.Prelude.{◌≡◌, ℕ, ◌+◌, List, [], ◌∷◌, take, drop, length, Bool, Option, Some, None}
+use Rattle.std.specs.Prelude.{◌≡◌, ℕ, ◌+◌, ◌≤◌, List, [], ◌∷◌, take, drop, length, Bool, Option, Some, None}
 use Rattle.qs_spec.specs.Token.{Kind, Token, tokens}
 use Rattle.qs_spec.specs.Grammar.{is_close, ends_last, ends_root}
 use Rattle.qs_tree.specs.declared.cursor.Kind as kind
@@ -45,3 +45,20 @@ looks (Some t) = 0
 abbrev pub behind : Option token.Token → List Token → List Token
 behind None ts = []
 behind (Some t) ts = token_of t ∷ ts
+
+-- some tokens begin with the `&` that the cursor stands behind; or there are none, and it met the end
+abbrev pub IsPast : List Token → cursor.Cursor → Type 0
+IsPast [] c = c.rest.now ≡ []
+IsPast (t ∷ ts) c = (t.kind ≡ Kind.Amp) × (ts ≡ left c)
+
+-- with nothing left the end may have been looked at
+abbrev pub slack : List ℕ → ℕ
+slack [] = 1
+slack (b ∷ rest) = 0
+
+-- A cursor moved on: each byte that it took is a step, and so is a look that met the end, at most one.
+pub record GoesOn (old new : cursor.Cursor) : Type 0 where
+  pub form : new.form ≡ old.form
+  pub shorter : length new.rest.now ≤ length old.rest.now
+  pub least : spent old ≤ spent new
+  pub most : spent new ≤ spent old + slack new.rest.now

@@ -1,11 +1,12 @@
 //! The input, taken token by token.
 
-ghost use Rattle.std.specs.Prelude.{◌≡◌, ℕ, ◌+◌, ◌<◌, ◌≤◌, [], length, IfSome, IfNone, true};
+ghost use Rattle.std.specs.Prelude.{◌≡◌, ℕ, ◌+◌, ◌++◌, ◌<◌, ◌≤◌, [], length, IfSome, IfNone, true};
 ghost use Rattle.qs_spec.specs.Token.{raw_of};
 ghost use Rattle.qs_spec.specs.Grammar.{is_amp};
 ghost use Rattle.qs_spec.specs.toward.Reading.{cut};
-ghost use Rattle.qs_tree.specs.Cursor.{kind_of_token, token_of, BeginsWith, ends_of, left, spent, looks, behind};
+ghost use Rattle.qs_tree.specs.Cursor.{kind_of_token, token_of, BeginsWith, ends_of, left, spent, looks, behind, IsPast, GoesOn};
 
+use crate::search::find_ampersand;
 use crate::steps::Steps;
 
 /// What a token is for the grammar.
@@ -106,6 +107,7 @@ impl<'qs> Cursor<'qs> {
     /// Takes the next token, or meets the end.
     pub fn next(&mut self) -> Option<Token<'qs>>
         ensures token { left self.old ≡ behind result (left self.new) }
+        ensures bytes { IfSome result (λ t. self.old.rest.now ≡ t.raw.now ++ self.new.rest.now) }
         ensures end { IfNone result (self.new.rest.now ≡ []) }
         ensures shorter { IfSome result (λ _. length self.new.rest.now < length self.old.rest.now) }
         ensures form { self.new.form ≡ self.old.form }
@@ -142,5 +144,18 @@ impl<'qs> Cursor<'qs> {
                 return (&start[..taken], Some(token));
             }
         }
+    }
+    /// Takes a value: the bytes up to the next `&` or the end, and that `&` or the end too.
+    pub fn value(&mut self) -> &'qs [u8]
+        ensures value { result.now ≡ raw_of (cut is_amp (left self.old)).0 }
+        ensures past { IsPast (cut is_amp (left self.old)).1 self.new }
+        ensures moves { GoesOn self.old self.new }
+    {
+        let end = find_ampersand(self.rest).unwrap_or(self.rest.len());
+        let (value, rest) = self.rest.split_at(end);
+        self.rest = rest;
+        self.steps.add(end);
+        let _ = self.next();
+        value
     }
 }

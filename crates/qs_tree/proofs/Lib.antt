@@ -1,3 +1,5 @@
 pub mod LaneLemmas
 pub mod FirstPlace
 pub mod Runs
+pub mod Places
+pub mod Keys

@@ -2,3 +2,7 @@ pub mod Settings
 pub mod Error
 pub mod Search
 pub mod Cursor
+pub mod Places
+pub mod formers
+pub mod Views
+pub mod Keys

@@ -11,3 +11,11 @@ pub use crate::config::{ArrayFormat, Config, DuplicateKeyBehavior};
 pub use crate::error::{Error, Result};
 pub use crate::search::{find_ampersand, find_encoded, find_escape};
 pub use crate::steps::Steps;
+mod entries;
+mod key;
+mod map;
+mod value;
+
+pub use crate::key::Key;
+pub use crate::map::ParsedMap;
+pub use crate::value::ParsedValue;

@@ -1,0 +1,111 @@
+//! A vector of entries in the order of their keys, each key once.
+ghost use Rattle.std.specs.Prelude.{◌≡◌, ◌<◌, [], length, ◌∷◌, OnOk, OnErr, Some, option_map, slice_get};
+ghost use Rattle.std.specs.List.{remove};
+ghost use Rattle.std.specs.List.Sorted.{IsStrictlySortedBy};
+ghost use Rattle.std.specs.Map.{keys_of};
+ghost use Rattle.std.specs.BTreeMap.{insert_entry};
+ghost use Rattle.qs_tree.specs.Places.{IsGap, put_value};
+
+use std::alloc::{AllocError, Global};
+use std::marker::Model;
+use std::mem;
+
+/// Seen as the list of its entries, which is sorted.
+#[derive(Debug, Drop)]
+pub(crate) struct Entries<K: Ord, V> {
+    items: Vec<(K, V)>,
+}
+
+impl<K: Ord, V> Model for Entries<K, V> {
+    ghost use Rattle.std.specs.Prelude.{List};
+    ghost use Rattle.std.specs.Coded.{coded_list, coded×};
+    ghost use Rattle.std.specs.List.Sorted.{IsStrictlySortedBy};
+    ghost use Rattle.std.specs.Map.{keys_of};
+
+    ghost Value = { List (K × V) };
+
+    ghost coded = { coded_list (coded× K.code V.code) };
+
+    ghost view = { λ a. a.items.items };
+
+    ghost invariant = { λ a. IsStrictlySortedBy K.cmp (keys_of a.items.items) };
+}
+
+impl<K: Ord, V> Entries<K, V> {
+    /// No entries. Nothing is allocated.
+    pub fn new(alloc: Global) -> Self
+        ensures { result ≡ [] }
+    {
+        Entries {
+            items: Vec::new(alloc),
+        }
+    }
+
+    /// How many entries there are.
+    pub fn len(&self) -> usize
+        ensures { result ≡ length self.now }
+    {
+        self.items.len()
+    }
+
+    /// The entries, in the order of their keys.
+    pub fn as_slice(&self) -> &[(K, V)]
+        ensures all { result.now ≡ self.now }
+        ensures sorted { IsStrictlySortedBy K.cmp (keys_of self.now) }
+    {
+        &self.items
+    }
+
+    /// The entry at a place.
+    pub fn at(&self, at: usize) -> Option<(&K, &V)>
+        ensures { option_map (λ p. (p.0.now, p.1.now)) result ≡ slice_get self.now at }
+    {
+        match self.items.get(at) {
+            Some(entry) => Some((&entry.0, &entry.1)),
+            None => None,
+        }
+    }
+}
+
+impl<K: Ord + Drop, V: Drop> Entries<K, V> {
+    /// Puts a value in the place of the one that is there, and answers that one.
+    pub fn replace(&mut self, at: usize, value: V) -> V
+        requires { at < length self.old }
+        ensures old { option_map (λ e. e.1) (slice_get self.old at) ≡ Some result }
+        ensures new { self.new ≡ put_value self.old at value }
+    {
+        mem::replace(&mut self.items[at].1, value)
+    }
+
+    /// Puts an entry at the place where its key is missing. On an error nothing is changed.
+    pub fn insert_at(&mut self, at: usize, key: K, value: V) -> Result<(), AllocError>
+        requires { IsGap K.cmp key self.old at }
+        ensures ok { OnOk result (self.new ≡ insert_entry K.cmp self.old key value) }
+        ensures err { OnErr result (self.new ≡ self.old) }
+    {
+        Ok(self.items.insert(at, (key, value))?)
+    }
+
+    /// Takes the entry at a place out.
+    pub fn remove_at(&mut self, at: usize) -> (K, V)
+        requires { at < length self.old }
+        ensures entry { slice_get self.old at ≡ Some result }
+        ensures rest { self.new ≡ remove self.old at }
+    {
+        self.items.remove(at)
+    }
+}
+
+impl<K: Ord, V: PartialEq> PartialEq for Entries<K, V> {
+    ghost use Rattle.std.specs.Prelude.{◌&&◌};
+    ghost use Rattle.std.specs.Cmp.{on_per, and_per};
+    ghost use Rattle.std.specs.Cmp.Lexicographic.{pointwise, lists_per};
+
+    ghost eq = { pointwise (λ p q. K.eq p.0 q.0 && V.eq p.1 q.1) };
+
+    ghost laws = { lists_per (and_per (on_per (λ p. p.0) K.PartialEq.laws) (on_per (λ p. p.1) V.laws)) };
+
+    fn eq(&self, other: &Entries<K, V>) -> bool {
+        self.items == other.items
+    }
+}

@@ -1,0 +1,58 @@
+//! Keys of maps.
+ghost use Rattle.std.specs.Prelude.{◌≡◌, false};
+ghost use Rattle.qs_spec.specs.Segment.Segment.{Int, Str};
+ghost use Rattle.qs_tree.specs.Keys.{key_cmp};
+ghost use Rattle.qs_tree.specs.Views.{step_of_key};
+
+use std::borrow::CowSlice;
+use std::cmp::Ordering;
+
+/// A key of a map: a number, or a text, which may be borrowed from the input.
+///
+/// Numbers come before texts; numbers are ordered by value, texts by their bytes. A borrowed text and an owned one with the
+/// same bytes are equal.
+#[derive(PartialEq, Eq, PartialOrd, Ord, Debug, Drop)]
+pub enum Key<'a> {
+    /// Digits alone, as the place of an element.
+    Int(u32),
+    /// Any other key.
+    String(CowSlice<'a, u8>),
+}
+
+impl<'a> Key<'a> {
+    /// How this key stands to another one, of any lifetime.
+    pub(crate) fn compare<'b>(&self, other: &Key<'b>) -> Ordering
+        ensures { result ≡ key_cmp self.now other.now }
+    {
+        match (self, other) {
+            (Key::Int(m), Key::Int(n)) => m.cmp(n),
+            (Key::Int(_), Key::String(_)) => Ordering::Less,
+            (Key::String(_), Key::Int(_)) => Ordering::Greater,
+            (Key::String(s), Key::String(t)) => s.as_slice().cmp(&t.as_slice()),
+        }
+    }
+}
+
+impl<'a> From<&'a [u8]> for Key<'a> {
+    ghost from_gives = { λ bytes key. step_of_key key ≡ record { seg = Str bytes.now; mark = false } };
+
+    fn from(bytes: &'a [u8]) -> Key<'a> {
+        Key::String(CowSlice::Borrowed(bytes))
+    }
+}
+
+impl<'a> From<&'a str> for Key<'a> {
+    ghost from_gives = { λ text key. step_of_key key ≡ record { seg = Str text.now; mark = false } };
+
+    fn from(text: &'a str) -> Key<'a> {
+        Key::String(CowSlice::Borrowed(text.as_bytes()))
+    }
+}
+
+impl<'a> From<u32> for Key<'a> {
+    ghost from_gives = { λ number key. step_of_key key ≡ record { seg = Int number; mark = false } };
+
+    fn from(number: u32) -> Key<'a> {
+        Key::Int(number)
+    }
+}

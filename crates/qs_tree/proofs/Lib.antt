@@ -3,3 +3,4 @@ pub mod FirstPlace
 pub mod Runs
 pub mod Places
 pub mod Keys
+pub mod Values

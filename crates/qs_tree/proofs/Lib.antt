@@ -4,3 +4,5 @@ pub mod Runs
 pub mod Places
 pub mod Keys
 pub mod Values
+pub mod EncodedSets
+pub mod EncodedFronts

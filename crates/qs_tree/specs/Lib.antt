@@ -6,3 +6,4 @@ pub mod Places
 pub mod formers
 pub mod Views
 pub mod Keys
+pub mod Escapes

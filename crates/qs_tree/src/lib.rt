@@ -3,11 +3,13 @@
 
 mod config;
 mod cursor;
+mod encoding;
 mod error;
 mod search;
 mod steps;
 
 pub use crate::config::{ArrayFormat, Config, DuplicateKeyBehavior};
+pub use crate::encoding::encode;
 pub use crate::error::{Error, Result};
 pub use crate::search::{find_ampersand, find_encoded, find_escape};
 pub use crate::steps::Steps;

@@ -6,3 +6,5 @@ pub mod Keys
 pub mod Values
 pub mod EncodedSets
 pub mod EncodedFronts
+pub mod DecodedFronts
+pub mod Indexes

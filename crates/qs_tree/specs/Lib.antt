@@ -7,3 +7,5 @@ pub mod formers
 pub mod Views
 pub mod Keys
 pub mod Escapes
+pub mod Pairs
+pub mod Raw

@@ -3,21 +3,24 @@
 
 mod config;
 mod cursor;
+mod decoding;
 mod encoding;
-mod error;
-mod search;
-mod steps;
-
-pub use crate::config::{ArrayFormat, Config, DuplicateKeyBehavior};
-pub use crate::encoding::encode;
-pub use crate::error::{Error, Result};
-pub use crate::search::{find_ampersand, find_encoded, find_escape};
-pub use crate::steps::Steps;
 mod entries;
+mod error;
 mod key;
 mod map;
+mod pair;
+mod raw;
+mod search;
+mod steps;
 mod value;
 
+pub use crate::config::{ArrayFormat, Config, DuplicateKeyBehavior};
+pub use crate::decoding::decode;
+pub use crate::encoding::encode;
+pub use crate::error::{Error, Result};
 pub use crate::key::Key;
 pub use crate::map::ParsedMap;
+pub use crate::search::{find_ampersand, find_encoded, find_escape};
+pub use crate::steps::Steps;
 pub use crate::value::ParsedValue;

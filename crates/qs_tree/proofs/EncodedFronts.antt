@@ -1,5 +1,5 @@
 -- `encoded` up to the first byte that isn't written as itself, and from it on.
-use Rattle.std.proofs.Common.{◌≡◌, ◌≢◌, ℕ, zero, suc, ◌+◌, ◌/◌, ◌%◌, ◌-◌, ◌<◌, ◌≤◌, true, false, Bool, List, [], ◌∷◌, ◌++◌, length, get_or, take, drop, refl, sym, ap, ◌∙◌, arith, take-append-drop, Some, None, Fits, w8, cond, eqb}
+use Rattle.std.proofs.Common.{◌≡◌, ◌≢◌, ℕ, suc, ◌/◌, ◌%◌, ◌<◌, true, false, Bool, List, [], ◌∷◌, ◌++◌, length, get_or, take, drop, refl, sym, ap, ◌∙◌, arith, take-append-drop, Some, None, Fits, w8}
 use Rattle.std.specs.List.{position, AllByRecursion}
 use Rattle.std.specs.Fmt.{digit_glyph}
 use Rattle.std.proofs.lemmas.List.{length-take-le, get_or-take, get_or-drop, drop_more, length-drop}
@@ -7,7 +7,7 @@ use Rattle.std.proofs.lemmas.List.Sums.{passes_at_first}
 use Rattle.std.proofs.lemmas.Grind.{flat_map-append}
 use Rattle.std.proofs.lemmas.Bool.{cond-true, cond-false, ne_eqb, not-true, not-false}
 use Rattle.percent_encoding.specs.Percent.{percent_encode_byte}
-use Rattle.qs_spec.specs.Escape.{encoded, spelling, escape, is_kept_in_form, is_kept_in_query}
+use Rattle.qs_spec.specs.Escape.{encoded, spelling, escape}
 use Rattle.qs_tree.specs.Search.{is_encoded}
 use Rattle.qs_tree.proofs.FirstPlace.{position_some_is, before_first_fails, all_fail}
 
@@ -49,8 +49,8 @@ pub encoded_front : (form : Bool) (bs : List ℕ) (at : ℕ) → Some at ≡ pos
 encoded_front form bs at is =
     let place = position_some_is (is_encoded form) bs at is in
     let kept = encoded_kept form (take at bs) (λ k below.
-      let inside : k < at = omega (arith, length-take-le at bs (omega (arith, place.1))) in
-      ap (is_encoded form) (get_or-take at bs k 0 inside) ∙ before_first_fails (is_encoded form) bs at is k inside) in
+    let inside : k < at = omega (arith, length-take-le at bs (omega (arith, place.1))) in
+    ap (is_encoded form) (get_or-take at bs k 0 inside) ∙ before_first_fails (is_encoded form) bs at is k inside) in
     let some : 0 < length (drop at bs) = omega (arith, length-drop at bs, place.1) in
     ap (encoded form) (sym (take-append-drop at bs))
     ∙ flat_map-append (spelling form) (take at bs) (drop at bs)

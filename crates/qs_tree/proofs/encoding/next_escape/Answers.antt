@@ -1,6 +1,5 @@
-use Rattle.std.proofs.Common.{◌∙◌, sym, ap, ◌++◌, ◌-◌, length, take, drop}
+use Rattle.std.proofs.Common.{◌∙◌, sym}
 use Rattle.std.proofs.lemmas.List.{take_rest}
-use Rattle.qs_spec.specs.Escape.{encoded}
 use Rattle.qs_tree.proofs.EncodedFronts.{encoded_none, encoded_there, encoded_front}
 use Rattle.qs_tree.proofs.encoding.next_escape.Goals as goal
 

@@ -4,13 +4,7 @@ use Rattle.std.proofs.Math.Seq.{take-add, take-append_seam}
 use Rattle.std.proofs.lemmas.List.{drop_at}
 use Rattle.qs_spec.specs.Token.{Kind, Token, raw_of}
 use Rattle.qs_spec.specs.toward.Reading.{cut, cut_at}
-
--- the bytes between a start and what is left of it
-abbrev pub taken : List ℕ → List ℕ → List ℕ
-taken start rest = take (length start - length rest) start
-
-abbrev pub IsLeft : List ℕ → List ℕ → Type 0
-IsLeft start rest = rest ≡ drop (length start - length rest) start
+use Rattle.qs_tree.specs.Cursor.{taken, IsLeft}
 
 count : (start rest raw next : List ℕ) → IsLeft start rest → rest ≡ raw ++ next → length start - length next ≡ (length start - length rest) + length raw
 count start rest raw next h e =

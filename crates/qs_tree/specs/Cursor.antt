@@ -1,5 +1,5 @@
 -- What the calls of a cursor take.
-use Rattle.std.specs.Prelude.{◌≡◌, ℕ, ◌+◌, ◌≤◌, List, [], ◌∷◌, take, drop, length, Bool, Option, Some, None}
+use Rattle.std.specs.Prelude.{◌≡◌, ℕ, ◌+◌, ◌-◌, ◌≤◌, List, [], ◌∷◌, ◌++◌, take, drop, length, Bool, Option, Some, None}
 use Rattle.qs_spec.specs.Token.{Kind, Token, tokens}
 use Rattle.qs_spec.specs.Grammar.{is_close, ends_last, ends_root}
 use Rattle.qs_tree.specs.declared.cursor.Kind as kind
@@ -45,6 +45,19 @@ looks (Some t) = 0
 abbrev pub behind : Option token.Token → List Token → List Token
 behind None ts = []
 behind (Some t) ts = token_of t ∷ ts
+
+-- the same as bytes
+abbrev pub raw_behind : Option token.Token → List ℕ → List ℕ
+raw_behind None rest = []
+raw_behind (Some t) rest = t.raw.now ++ rest
+
+-- the bytes between a place and what is left
+abbrev pub taken : List ℕ → List ℕ → List ℕ
+taken start rest = take (length start - length rest) start
+
+-- what is left of what stood there
+abbrev pub IsLeft : List ℕ → List ℕ → Type 0
+IsLeft start rest = rest ≡ drop (length start - length rest) start
 
 -- some tokens begin with the `&` that the cursor stands behind; or there are none, and it met the end
 abbrev pub IsPast : List Token → cursor.Cursor → Type 0

@@ -1,10 +1,10 @@
 //! The input, taken token by token.
 
-ghost use Rattle.std.specs.Prelude.{◌≡◌, ℕ, ◌+◌, ◌++◌, ◌<◌, ◌≤◌, [], length, IfSome, IfNone, true};
+ghost use Rattle.std.specs.Prelude.{◌≡◌, ℕ, ◌+◌, ◌++◌, ◌<◌, ◌≤◌, ◌-◌, [], length, IfSome, IfNone, true};
 ghost use Rattle.qs_spec.specs.Token.{raw_of};
 ghost use Rattle.qs_spec.specs.Grammar.{is_amp};
 ghost use Rattle.qs_spec.specs.toward.Reading.{cut};
-ghost use Rattle.qs_tree.specs.Cursor.{kind_of_token, token_of, BeginsWith, ends_of, left, spent, looks, behind, IsPast, GoesOn};
+ghost use Rattle.qs_tree.specs.Cursor.{kind_of_token, token_of, BeginsWith, ends_of, left, spent, looks, raw_behind, behind, IsPast, GoesOn, taken, IsLeft};
 
 use crate::search::find_ampersand;
 use crate::steps::Steps;
@@ -24,6 +24,14 @@ pub(crate) enum Kind {
 pub(crate) struct Token<'qs> {
     pub kind: Kind,
     pub raw: &'qs [u8],
+    /// The place of its first byte.
+    pub place: Place<'qs>,
+}
+
+/// A place in the input, to which a cursor came.
+#[derive(Clone, Copy)]
+pub(crate) struct Place<'qs> {
+    rest: &'qs [u8],
 }
 
 /// What a run of tokens ends at.
@@ -79,6 +87,7 @@ fn first_token(bytes: &[u8], form: bool) -> (Kind, usize)
 #[derive(Drop)]
 pub(crate) struct Cursor<'qs> {
     rest: &'qs [u8],
+    ended: bool,
     form: bool,
     steps: Steps,
 }
@@ -92,6 +101,7 @@ impl<'qs> Cursor<'qs> {
     {
         Cursor {
             rest: input,
+            ended: false,
             form,
             steps,
         }
@@ -104,47 +114,92 @@ impl<'qs> Cursor<'qs> {
         self.steps
     }
 
+    /// The place before what is left.
+    pub fn place(&self) -> Place<'qs>
+        ensures { result.rest.now ≡ self.now.rest.now }
+    {
+        Place { rest: self.rest }
+    }
+
+    /// How many bytes of an input were read up to here, and one more where its end was.
+    pub fn position(&self, input: &[u8]) -> usize
+        requires { length self.now.rest.now ≤ length input.now }
+        ensures { result ≤ length input.now + 1 }
+    {
+        input.len() - self.rest.len() + usize::from(self.ended)
+    }
+
+    /// The bytes that were taken since a place.
+    pub fn since(&self, place: Place<'qs>) -> &'qs [u8]
+        requires { length self.now.rest.now ≤ length place.rest.now }
+        ensures { result.now ≡ taken place.entry.rest.now self.now.rest.now }
+    {
+        let len = place.rest.len() - self.rest.len();
+        &place.rest[..len]
+    }
+
     /// Takes the next token, or meets the end.
     pub fn next(&mut self) -> Option<Token<'qs>>
         ensures token { left self.old ≡ behind result (left self.new) }
-        ensures bytes { IfSome result (λ t. self.old.rest.now ≡ t.raw.now ++ self.new.rest.now) }
+        ensures bytes { self.old.rest.now ≡ raw_behind result self.new.rest.now }
+        ensures place { IfSome result (λ t. t.place.rest.now ≡ self.old.rest.now) }
         ensures end { IfNone result (self.new.rest.now ≡ []) }
         ensures shorter { IfSome result (λ _. length self.new.rest.now < length self.old.rest.now) }
         ensures form { self.new.form ≡ self.old.form }
         ensures cost { spent self.new ≡ spent self.old + looks result }
     {
         if self.rest.is_empty() {
+            self.ended = true;
             self.steps.add(1);
             return None;
         }
+        let place = self.place();
         let (kind, len) = first_token(self.rest, self.form);
         let (raw, rest) = self.rest.split_at(len);
         self.rest = rest;
         self.steps.add(len);
-        Some(Token { kind, raw })
+        Some(Token { kind, raw, place })
     }
-    /// Takes the tokens up to the first one that ends a run of this kind, and that one too, or up to the end: the bytes before
-    /// it, and it.
+
+    /// Takes the tokens up to the first one that ends a run, and that one too, or up to the end: the bytes before it, and it.
     pub fn run(&mut self, until: Until) -> (&'qs [u8], Option<Token<'qs>>)
         ensures run { result.0.now ≡ raw_of (cut (ends_of until) (left self.old)).0 }
         ensures token { (cut (ends_of until) (left self.old)).1 ≡ behind result.1 (left self.new) }
         ensures kind { IfSome result.1 (λ t. ends_of until (kind_of_token t.kind) ≡ true) }
+        ensures place { IfSome result.1 (λ t. t.place.rest.now ≡ t.raw.now ++ self.new.rest.now) }
         ensures end { IfNone result.1 (self.new.rest.now ≡ []) }
         ensures shorter { IfSome result.1 (λ _. length self.new.rest.now < length self.old.rest.now) }
-        ensures form { self.new.form ≡ self.old.form }
-        ensures cost { spent self.new ≡ spent self.old + looks result.1 }
+        ensures moves { GoesOn self.old self.new }
     {
-        let start = self.rest;
+        self.run_from(self.place(), until)
+    }
+
+    /// The same, but the answer's bytes begin at an earlier place.
+    pub fn run_from(
+        &mut self,
+        place: Place<'qs>,
+        until: Until,
+    ) -> (&'qs [u8], Option<Token<'qs>>)
+        requires { IsLeft place.rest.now self.old.rest.now }
+        ensures run { result.0.now ≡ taken place.entry.rest.now self.old.rest.now ++ raw_of (cut (ends_of until) (left self.old)).0 }
+        ensures token { (cut (ends_of until) (left self.old)).1 ≡ behind result.1 (left self.new) }
+        ensures kind { IfSome result.1 (λ t. ends_of until (kind_of_token t.kind) ≡ true) }
+        ensures place { IfSome result.1 (λ t. t.place.rest.now ≡ t.raw.now ++ self.new.rest.now) }
+        ensures end { IfNone result.1 (self.new.rest.now ≡ []) }
+        ensures shorter { IfSome result.1 (λ _. length self.new.rest.now < length self.old.rest.now) }
+        ensures moves { GoesOn self.old self.new }
+    {
         loop {
-            let taken = start.len() - self.rest.len();
+            let before = self.since(place);
             let Some(token) = self.next() else {
-                return (start, None);
+                return (before, None);
             };
             if until.is_at(token.kind) {
-                return (&start[..taken], Some(token));
+                return (before, Some(token));
             }
         }
     }
+
     /// Takes a value: the bytes up to the next `&` or the end, and that `&` or the end too.
     pub fn value(&mut self) -> &'qs [u8]
         ensures value { result.now ≡ raw_of (cut is_amp (left self.old)).0 }

@@ -13,7 +13,7 @@ kind_of_token kind.TheVariants.Ampersand = Kind.Amp
 kind_of_token kind.TheVariants.Equals = Kind.Equals
 kind_of_token kind.TheVariants.Open = Kind.Open
 kind_of_token kind.TheVariants.Close = Kind.Close
-kind_of_token kind.TheVariants.Other = Kind.Other
+kind_of_token (kind.TheVariants.Other b) = Kind.Other
 
 abbrev pub token_of : token.Token → Token
 token_of t = record { kind = kind_of_token t.kind; raw = t.raw.now }

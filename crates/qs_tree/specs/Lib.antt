@@ -9,3 +9,4 @@ pub mod Keys
 pub mod Escapes
 pub mod Pairs
 pub mod Raw
+pub mod Reading

@@ -16,7 +16,7 @@ pub(crate) enum Kind {
     Equals,
     Open,
     Close,
-    Other,
+    Other(u8),
 }
 
 /// A byte, or in form mode an escaped bracket.
@@ -78,7 +78,7 @@ fn first_token(bytes: &[u8], form: bool) -> (Kind, usize)
         b'=' => (Kind::Equals, 1),
         b'[' => (Kind::Open, 1),
         b']' => (Kind::Close, 1),
-        _ => (Kind::Other, 1),
+        byte => (Kind::Other(byte), 1),
     }
 }
 

@@ -11,6 +11,7 @@ mod key;
 mod map;
 mod pair;
 mod raw;
+mod reading;
 mod search;
 mod steps;
 mod value;

@@ -8,3 +8,5 @@ pub mod EncodedSets
 pub mod EncodedFronts
 pub mod DecodedFronts
 pub mod Indexes
+pub mod Views
+pub mod Turns

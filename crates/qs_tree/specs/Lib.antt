@@ -10,3 +10,6 @@ pub mod Escapes
 pub mod Pairs
 pub mod Raw
 pub mod Reading
+pub mod Pairs
+pub mod Conflict
+pub mod Adding

@@ -5,6 +5,7 @@ mod config;
 mod cursor;
 mod decoding;
 mod encoding;
+mod add;
 mod entries;
 mod error;
 mod key;

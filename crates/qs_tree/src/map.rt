@@ -2,6 +2,7 @@
 ghost use Rattle.std.specs.Prelude.{◌≡◌, [], length, ◌∷◌, ◌<◌, ◌≤◌, option_map, slice_get, MatchOption, IfOk, IfErr, IsTrue, ◌↔◌};
 ghost use Rattle.std.specs.List.Sorted.{IsStrictlySortedBy};
 ghost use Rattle.std.specs.Map.{keys_of};
+ghost use Rattle.qs_spec.specs.Tree.Entries.{no_entries};
 ghost use Rattle.qs_tree.specs.Keys.{key_cmp};
 ghost use Rattle.qs_tree.specs.Places.{IsHit, IsGap, binary_digits};
 ghost use Rattle.qs_tree.specs.Views.{segment_of_key, step_of_key, tree_of, entries_of_map, map_pairs, find, take_out};
@@ -16,14 +17,14 @@ use std::cmp::Ordering;
 #[cycle(tree)]
 #[derive(PartialEq, Debug, Drop)]
 pub struct ParsedMap<'qs> {
-    map: Entries<Key<'qs>, ParsedValue<'qs>>,
+    pub(crate) map: Entries<Key<'qs>, ParsedValue<'qs>>,
 }
 
 impl<'qs> ParsedMap<'qs> {
     /// A map without entries. Nothing is allocated.
     #[must_use]
     pub fn new(alloc: Global) -> Self
-        ensures { map_pairs result ≡ [] }
+        ensures { entries_of_map result ≡ no_entries }
     {
         ParsedMap {
             map: Entries::new(alloc),

@@ -10,3 +10,4 @@ pub mod DecodedFronts
 pub mod Indexes
 pub mod Views
 pub mod Turns
+pub mod BehindKeys

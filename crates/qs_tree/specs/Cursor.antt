@@ -69,9 +69,10 @@ abbrev pub slack : List ℕ → ℕ
 slack [] = 1
 slack (b ∷ rest) = 0
 
--- A cursor moved on: each byte that it took is a step, and so is a look that met the end, at most one.
-pub record GoesOn (old new : cursor.Cursor) : Type 0 where
+-- A cursor moved on: each byte that it took is a step, and so is a look that met the end, of which there is at most one, with
+-- those before.
+pub record GoesOn (looked : ℕ) (old new : cursor.Cursor) : Type 0 where
   pub form : new.form ≡ old.form
   pub shorter : length new.rest.now ≤ length old.rest.now
   pub least : spent old ≤ spent new
-  pub most : spent new ≤ spent old + slack new.rest.now
+  pub most : spent new + looked ≤ spent old + slack new.rest.now

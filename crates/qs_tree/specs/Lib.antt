@@ -10,6 +10,5 @@ pub mod Escapes
 pub mod Pairs
 pub mod Raw
 pub mod Reading
-pub mod Pairs
 pub mod Conflict
 pub mod Adding

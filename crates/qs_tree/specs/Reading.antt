@@ -1,10 +1,10 @@
 -- What the calls that read a pair answer.
-use Rattle.std.specs.Prelude.{◌≡◌, ◌≢◌, ℕ, List, [], ◌∷◌, ◌++◌, Option, Some, None, Result, Ok, Err, option_map, IsTrue}
+use Rattle.std.specs.Prelude.{◌≡◌, ◌≢◌, ℕ, List, [], ◌∷◌, ◌++◌, Option, Some, None, Result, Ok, Err, option_map, IsTrue, Bool, ◌&&◌, ◌==◌, length}
 use Rattle.qs_spec.specs.Token.{Kind, Token}
 use Rattle.qs_spec.specs.Token.Kind.{Amp, Equals, Open, Close, Other}
 use Rattle.qs_spec.specs.Segment.{Step, step_of}
 use Rattle.qs_spec.specs.Leaf.{Leaf}
-use Rattle.qs_spec.specs.Grammar.{Pair, plain, pushed, longer, ends_last, ends_root}
+use Rattle.qs_spec.specs.Grammar.{Pair, is_amp, plain, pushed, longer, ends_last, ends_root}
 use Rattle.qs_spec.specs.toward.Reading.{Rest, with_leaf, read_value, after_close, read_brackets, pairs_of}
 use Rattle.qs_tree.specs.declared.cursor.Token as token
 use Rattle.qs_tree.specs.declared.cursor.Cursor as cursor
@@ -63,6 +63,11 @@ IsMore (Ok item.TheVariants.End) = ⊥
 IsMore (Ok item.TheVariants.Ampersand) = Unit {0}
 IsMore (Ok (item.TheVariants.Pair p)) = Unit {0}
 IsMore (Err e) = ⊥
+
+-- an empty root key before `&` or the end
+abbrev pub is_nothing : List ℕ → Option token.Token → Bool
+is_nothing raw None = length raw == 0
+is_nothing raw (Some t) = length raw == 0 && is_amp (kind_of_token t.kind)
 
 -- the path of a root key with these raw bytes
 abbrev pub root_path : List ℕ → List Step

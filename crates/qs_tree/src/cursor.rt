@@ -2,7 +2,7 @@
 
 ghost use Rattle.std.specs.Prelude.{◌≡◌, ℕ, ◌+◌, ◌++◌, ◌<◌, ◌≤◌, ◌-◌, [], length, IfSome, IfNone, true};
 ghost use Rattle.qs_spec.specs.Token.{raw_of};
-ghost use Rattle.qs_spec.specs.Grammar.{is_amp};
+ghost use Rattle.qs_spec.specs.Grammar.{is_amp, is_equals, is_open, is_close};
 ghost use Rattle.qs_spec.specs.toward.Reading.{cut};
 ghost use Rattle.qs_tree.specs.Cursor.{kind_of_token, token_of, BeginsWith, ends_of, left, spent, looks, raw_behind, behind, IsPast, GoesOn, taken, IsLeft};
 
@@ -17,6 +17,32 @@ pub(crate) enum Kind {
     Open,
     Close,
     Other(u8),
+}
+
+impl Kind {
+    pub fn is_ampersand(self) -> bool
+        ensures { result ≡ is_amp (kind_of_token self) }
+    {
+        matches!(self, Kind::Ampersand)
+    }
+
+    pub fn is_equals(self) -> bool
+        ensures { result ≡ is_equals (kind_of_token self) }
+    {
+        matches!(self, Kind::Equals)
+    }
+
+    pub fn is_open(self) -> bool
+        ensures { result ≡ is_open (kind_of_token self) }
+    {
+        matches!(self, Kind::Open)
+    }
+
+    pub fn is_close(self) -> bool
+        ensures { result ≡ is_close (kind_of_token self) }
+    {
+        matches!(self, Kind::Close)
+    }
 }
 
 /// A byte, or in form mode an escaped bracket.
@@ -169,7 +195,8 @@ impl<'qs> Cursor<'qs> {
         ensures place { IfSome result.1 (λ t. t.place.rest.now ≡ t.raw.now ++ self.new.rest.now) }
         ensures end { IfNone result.1 (self.new.rest.now ≡ []) }
         ensures shorter { IfSome result.1 (λ _. length self.new.rest.now < length self.old.rest.now) }
-        ensures moves { GoesOn self.old self.new }
+        ensures cost { spent self.new ≡ spent self.old + looks result.1 }
+        ensures moves { GoesOn 0 self.old self.new }
     {
         self.run_from(self.place(), until)
     }
@@ -187,7 +214,8 @@ impl<'qs> Cursor<'qs> {
         ensures place { IfSome result.1 (λ t. t.place.rest.now ≡ t.raw.now ++ self.new.rest.now) }
         ensures end { IfNone result.1 (self.new.rest.now ≡ []) }
         ensures shorter { IfSome result.1 (λ _. length self.new.rest.now < length self.old.rest.now) }
-        ensures moves { GoesOn self.old self.new }
+        ensures cost { spent self.new ≡ spent self.old + looks result.1 }
+        ensures moves { GoesOn 0 self.old self.new }
     {
         loop {
             let before = self.since(place);
@@ -204,7 +232,7 @@ impl<'qs> Cursor<'qs> {
     pub fn value(&mut self) -> &'qs [u8]
         ensures value { result.now ≡ raw_of (cut is_amp (left self.old)).0 }
         ensures past { IsPast (cut is_amp (left self.old)).1 self.new }
-        ensures moves { GoesOn self.old self.new }
+        ensures moves { GoesOn 0 self.old self.new }
     {
         let end = find_ampersand(self.rest).unwrap_or(self.rest.len());
         let (value, rest) = self.rest.split_at(end);

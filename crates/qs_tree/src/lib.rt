@@ -1,11 +1,11 @@
 //! Querystrings as trees: configuration, errors, escapes, scanner, tree.
 #![tactic(auto)]
 
+mod add;
 mod config;
 mod cursor;
 mod decoding;
 mod encoding;
-mod add;
 mod entries;
 mod error;
 mod key;

@@ -1,13 +1,13 @@
 //! One pair, read from what is left of an input.
 
 ghost use Rattle.std.specs.Prelude.{◌≡◌, ◌++◌, ◌<◌, length, IfOk};
-ghost use Rattle.qs_spec.specs.Grammar.{plain, pushed};
+ghost use Rattle.qs_spec.specs.Grammar.{plain, pushed, ends_root};
 ghost use Rattle.qs_spec.specs.toward.Reading.{with_leaf, read_value, read_brackets};
 ghost use Rattle.qs_tree.specs.declared.reading.Fault.TheVariants.{Other};
 ghost use Rattle.qs_tree.specs.Error.{OnlyOutOfMemory};
 ghost use Rattle.qs_tree.specs.Pairs.{path_of};
-ghost use Rattle.qs_tree.specs.Cursor.{left, behind, GoesOn};
-ghost use Rattle.qs_tree.specs.Reading.{IsRootStop, IsClosing, IsBehind, StandsBehind, IsMore, ReadsItem, ReadsLeaf, ReadsPair, root_path, behind_root};
+ghost use Rattle.qs_tree.specs.Cursor.{ends_of, left, looks, behind, GoesOn};
+ghost use Rattle.qs_tree.specs.Reading.{IsRootStop, IsClosing, IsBehind, StandsBehind, IsMore, ReadsItem, ReadsLeaf, ReadsPair, is_nothing, root_path, behind_root};
 
 use crate::cursor::{Cursor, Kind, Token, Until};
 use crate::error::{Error, Result};
@@ -85,18 +85,37 @@ pub(crate) fn read_item<'qs>(
 ) -> Result<Item<'qs>, Fault<'qs>>
     ensures item { ReadsItem max_depth (left cursor.old) result cursor.new }
     ensures shorter { IsMore result → length cursor.new.rest.now < length cursor.old.rest.now }
-    ensures moves { GoesOn cursor.old cursor.new }
+    ensures moves { GoesOn 0 cursor.old cursor.new }
 {
-    let until = if max_depth == 0 {
+    let (key, stop) = cursor.run(root_end(max_depth));
+    if is_nothing(key, stop) {
+        return Ok(match stop {
+            None => Item::End,
+            Some(_) => Item::Ampersand,
+        });
+    }
+    let pair = read_behind_root(alloc, cursor, max_depth, key, stop)?;
+    Ok(Item::Pair(pair))
+}
+
+/// An empty root key before `&` or the end is no pair.
+fn is_nothing(key: &[u8], stop: Option<Token<'_>>) -> bool
+    ensures { result ≡ is_nothing key.now stop.entry }
+{
+    match stop {
+        None => key.is_empty(),
+        Some(token) => key.is_empty() && token.kind.is_ampersand(),
+    }
+}
+
+/// What ends a root key: a bracket only where there may be brackets.
+fn root_end(max_depth: usize) -> Until
+    ensures { ends_of result ≡ ends_root max_depth }
+{
+    if max_depth == 0 {
         Until::Separator
     } else {
         Until::SeparatorOrOpen
-    };
-    let (key, stop) = cursor.run(until);
-    match stop {
-        None if key.is_empty() => Ok(Item::End),
-        Some(Token { kind: Kind::Ampersand, .. }) if key.is_empty() => Ok(Item::Ampersand),
-        _ => Ok(Item::Pair(read_behind_root(alloc, cursor, max_depth, key, stop)?)),
     }
 }
 
@@ -111,12 +130,12 @@ fn read_behind_root<'qs>(
     requires root { IsRootStop stop }
     requires behind { StandsBehind stop cursor.old }
     ensures pair { ReadsPair (behind_root max_depth key.now (behind stop.entry (left cursor.old))) result cursor.new }
-    ensures moves { GoesOn cursor.old cursor.new }
+    ensures moves { GoesOn (looks stop.entry) cursor.old cursor.new }
 {
     let path = read_root(alloc, key)?;
     match stop {
-        Some(bracket @ Token { kind: Kind::Open, .. }) => {
-            read_brackets(alloc, cursor, max_depth, path, bracket)
+        Some(token) if token.kind.is_open() => {
+            read_brackets(alloc, cursor, max_depth, path, token)
         }
         _ => read_plain(alloc, cursor, path, stop),
     }
@@ -143,10 +162,10 @@ fn read_value<'qs>(
     requires closing { IsClosing stop }
     requires behind { StandsBehind stop cursor.old }
     ensures leaf { ReadsLeaf (read_value (behind stop.entry (left cursor.old))) result cursor.new }
-    ensures moves { GoesOn cursor.old cursor.new }
+    ensures moves { GoesOn (looks stop.entry) cursor.old cursor.new }
 {
     match stop {
-        Some(Token { kind: Kind::Equals, .. }) => read_leaf(alloc, cursor.value()),
+        Some(token) if token.kind.is_equals() => read_leaf(alloc, cursor.value()),
         _ => Ok(Leaf::NoValue),
     }
 }
@@ -161,7 +180,7 @@ fn read_plain<'qs>(
     requires closing { IsClosing stop }
     requires behind { StandsBehind stop cursor.old }
     ensures pair { ReadsPair (with_leaf (plain (path_of path.entry.items)) (read_value (behind stop.entry (left cursor.old)))) result cursor.new }
-    ensures moves { GoesOn cursor.old cursor.new }
+    ensures moves { GoesOn (looks stop.entry) cursor.old cursor.new }
 {
     let leaf = read_value(alloc, cursor, stop)?;
     Ok(Pair {
@@ -178,7 +197,7 @@ fn read_push<'qs>(
     path: Vec<Key<'qs>>,
 ) -> Result<Pair<'qs>, Fault<'qs>>
     ensures pair { ReadsPair (with_leaf (pushed (path_of path.entry.items)) (read_value (left cursor.old))) result cursor.new }
-    ensures moves { GoesOn cursor.old cursor.new }
+    ensures moves { GoesOn 0 cursor.old cursor.new }
 {
     let next = cursor.next();
     let reason = match next {
@@ -206,28 +225,31 @@ fn read_brackets<'qs>(
 ) -> Result<Pair<'qs>, Fault<'qs>>
     requires { IsBehind bracket cursor.old }
     ensures pair { ReadsPair (read_brackets max_depth (path_of path.entry.items) bracket.entry.raw.now (left cursor.old)) result cursor.new }
-    ensures moves { GoesOn cursor.old cursor.new }
+    ensures moves { GoesOn 0 cursor.old cursor.new }
 {
     let mut room = max_depth;
     while room > 0 {
         let (segment, stop) = cursor.run(Until::Close);
-        if stop.is_none() {
+        let Some(_) = stop else {
             return Err(Fault::Unread(unended(alloc, path, segment)?));
-        }
+        };
         if segment.is_empty() {
             return read_push(alloc, cursor, path);
         }
         path.push(read_key(alloc, segment)?)?;
         let next = cursor.next();
-        let character = match next {
-            Some(token @ Token { kind: Kind::Open, .. }) => {
+        let Some(token) = next else {
+            return read_plain(alloc, cursor, path, next);
+        };
+        let character = match token.kind {
+            Kind::Open => {
                 bracket = token;
                 room -= 1;
                 continue;
             }
-            Some(Token { kind: Kind::Close, .. }) => ']',
-            Some(Token { kind: Kind::Other(byte), .. }) => char::from(byte),
-            _ => return read_plain(alloc, cursor, path, next),
+            Kind::Ampersand | Kind::Equals => return read_plain(alloc, cursor, path, next),
+            Kind::Close => ']',
+            Kind::Other(byte) => char::from(byte),
         };
         let reason = Reason::BehindSegment(character);
         return Err(Fault::Unread(Unread { path, reason }));
@@ -257,13 +279,13 @@ fn read_last_key<'qs>(
 ) -> Result<Pair<'qs>, Fault<'qs>>
     requires { IsBehind bracket cursor.old }
     ensures pair { ReadsPair (read_brackets 0 (path_of path.entry.items) bracket.entry.raw.now (left cursor.old)) result cursor.new }
-    ensures moves { GoesOn cursor.old cursor.new }
+    ensures moves { GoesOn 0 cursor.old cursor.new }
 {
     let Some(first) = cursor.next() else {
         let reason = Reason::EndBehindOpen;
         return Err(Fault::Unread(Unread { path, reason }));
     };
-    if matches!(first.kind, Kind::Close) {
+    if first.kind.is_close() {
         return read_push(alloc, cursor, path);
     }
     let (key, stop) = cursor.run_from(bracket.place, Until::Separator);

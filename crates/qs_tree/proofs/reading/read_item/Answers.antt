@@ -1,0 +1,1 @@
+use Rattle.qs_tree.proofs.reading.read_item.Goals as goal

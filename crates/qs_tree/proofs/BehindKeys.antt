@@ -32,11 +32,11 @@ taken_behind start front rest e =
     ap (λ k. take k start) n ∙ ap (take (length front)) e ∙ take-append_seam front rest
 
 -- a token has bytes
-abbrev HasBytes : List Token → Type 0
+abbrev pub HasBytes : List Token → Type 0
 HasBytes [] = Unit {0}
 HasBytes (t ∷ ts) = (b : ℕ) × (more : List ℕ) × (t.raw ≡ b ∷ more)
 
-has_bytes : (form : Bool) (bytes : List ℕ) → HasBytes (tokens form bytes)
+pub has_bytes : (form : Bool) (bytes : List ℕ) → HasBytes (tokens form bytes)
 has_bytes form [] = tt
 has_bytes form (b ∷ []) = (b, [], refl)
 has_bytes form (b ∷ c ∷ []) = (b, [], refl)

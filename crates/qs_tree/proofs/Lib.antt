@@ -11,3 +11,4 @@ pub mod Indexes
 pub mod Views
 pub mod Turns
 pub mod BehindKeys
+pub mod Items

@@ -94,8 +94,7 @@ pub(crate) fn read_item<'qs>(
             Some(_) => Item::Ampersand,
         });
     }
-    let pair = read_behind_root(alloc, cursor, max_depth, key, stop)?;
-    Ok(Item::Pair(pair))
+    read_behind_root(alloc, cursor, max_depth, key, stop).map(Item::Pair)
 }
 
 /// An empty root key before `&` or the end is no pair.

@@ -12,3 +12,4 @@ pub mod Views
 pub mod Turns
 pub mod BehindKeys
 pub mod Items
+pub mod Equality

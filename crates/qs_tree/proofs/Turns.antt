@@ -16,8 +16,8 @@ use Rattle.qs_tree.specs.declared.key.Key.{Key}
 use Rattle.qs_tree.specs.declared.value.ParsedValue.{ParsedValue}
 use Rattle.qs_tree.specs.declared.map.ParsedMap.{ParsedMap}
 use Rattle.qs_tree.specs.declared.add.Rest.{Rest}
-use Rattle.qs_tree.specs.declared.add.Refusal.{Refusal}
-use Rattle.qs_tree.specs.declared.add.Refusal.TheVariants as refusal
+use Rattle.qs_tree.specs.declared.conflict.Refusal.{Refusal}
+use Rattle.qs_tree.specs.declared.conflict.Refusal.TheVariants as refusal
 use Rattle.qs_tree.specs.Keys.{key_cmp}
 use Rattle.qs_tree.specs.Views.{segment_of_key, step_of_key, tree_of, entries_of_map}
 use Rattle.qs_tree.specs.Conflict.{Conflict, child, node_below, clash_below}

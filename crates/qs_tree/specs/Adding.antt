@@ -1,19 +1,19 @@
 -- What the steps of adding a pair answer.
-use Rattle.std.specs.Prelude.{◌≡◌, ℕ, ◌+◌, ◌<◌, ◌^◌, List, length, Option, Some, None, Result, Ok, Err}
+use Rattle.std.specs.Prelude.{◌≡◌, ℕ, ◌+◌, ◌<◌, ◌^◌, List, length, Option, Some, None, unwrap_or, Result, Ok, Err}
 use Rattle.std.specs.String.{string_bytes}
 use Rattle.std.specs.Vec.Iter.{into_iter_items}
-use Rattle.qs_spec.specs.Segment.{Step}
+use Rattle.qs_spec.specs.Segment.{Segment, Step}
 use Rattle.qs_spec.specs.Tree.{Tree, Entries}
 use Rattle.qs_spec.specs.Tree.Tree.{leaf, sequence, mapping, uninitialized}
 use Rattle.qs_spec.specs.Tree.Entries.{no_entries}
 use Rattle.qs_spec.specs.toward.InPlace.{add}
 use Rattle.qs_tree.specs.declared.add.Rest.{Rest}
-use Rattle.qs_tree.specs.declared.add.Refusal.{Refusal}
-use Rattle.qs_tree.specs.declared.add.Refusal.TheVariants as refusal
-use Rattle.qs_tree.specs.declared.add.Conflict as code
-use Rattle.qs_tree.specs.declared.add.Clash as code_clash
-use Rattle.qs_tree.specs.declared.add.Clash.TheVariants as clash
-use Rattle.qs_tree.specs.Conflict.{Clash, push_on_leaf, leaf_on_map, below_sequence, below_text, below_unit, Conflict, clash_here, conflict_along}
+use Rattle.qs_tree.specs.declared.conflict.Refusal.{Refusal}
+use Rattle.qs_tree.specs.declared.conflict.Refusal.TheVariants as refusal
+use Rattle.qs_tree.specs.declared.conflict.Conflict as code
+use Rattle.qs_tree.specs.declared.conflict.Clash as code_clash
+use Rattle.qs_tree.specs.declared.conflict.Clash.TheVariants as clash
+use Rattle.qs_tree.specs.Conflict.{Clash, push_on_leaf, leaf_on_map, below_sequence, below_text, below_unit, Conflict, clash_here, clash_below, node_below, conflict_along}
 use Rattle.qs_tree.specs.Pairs.{leaf_of, is_push, path_of}
 
 abbrev pub clash_view : code_clash.Clash → Clash
@@ -57,3 +57,7 @@ entries_below (mapping es) = Some es
 entries_below uninitialized = Some no_entries
 entries_below (leaf l) = None
 entries_below (sequence xs) = None
+
+-- the way below a node is free, and leads to this one, where nothing may be yet
+abbrev pub IsBelow : Option Tree → Segment → Tree → Type 0
+IsBelow child s t = (clash_below t ≡ None) × (unwrap_or child uninitialized ≡ node_below s t)

@@ -1,12 +1,12 @@
 -- Where a pair conflicts with the tree that it is added to.
-use Rattle.std.specs.Prelude.{ℕ, ◌+◌, Bool, true, false, List, [], ◌∷◌, ◌++◌, Option, Some, None, option_map, if◌then◌else◌}
-use Rattle.qs_spec.specs.Segment.{Segment, Step, is_same_segment}
+use Rattle.std.specs.Prelude.{ℕ, ◌+◌, Bool, true, false, List, [], ◌∷◌, ◌++◌, Option, Some, None, option_map, unwrap_or}
+use Rattle.qs_spec.specs.Segment.{Segment, Step}
 use Rattle.qs_spec.specs.Segment.Segment.{Str}
 use Rattle.qs_spec.specs.Leaf.Leaf.{NoValue, Null, Text}
 use Rattle.qs_spec.specs.Tree.{Tree, Entries}
 use Rattle.qs_spec.specs.Tree.Tree.{leaf, sequence, mapping, uninitialized}
 use Rattle.qs_spec.specs.Tree.Entries.{no_entries, entry}
-use Rattle.qs_tree.specs.Views.{shown}
+use Rattle.qs_tree.specs.Views.{shown, find}
 
 -- What can't be: a push onto a leaf, a leaf at a map with these keys, or a way below a sequence, a text, or Null or NoValue.
 pub data Clash : Type 0 where
@@ -33,8 +33,7 @@ keys_text first (entry k mark t es) = separator first ++ shown k ++ keys_text fa
 
 -- the node at a segment of a map or of another node, where nothing may be yet
 abbrev pub child : Segment → Entries → Tree
-child s no_entries = uninitialized
-child s (entry k mark t es) = if is_same_segment s k then t else child s es
+child s es = unwrap_or (find s es) uninitialized
 
 abbrev pub node_below : Segment → Tree → Tree
 node_below s (mapping es) = child s es

@@ -6,66 +6,19 @@ ghost use Rattle.qs_spec.specs.Tree.{Tree, empty_step};
 ghost use Rattle.qs_spec.specs.Tree.Tree.{sequence};
 ghost use Rattle.qs_spec.specs.toward.InPlace as in_place;
 ghost use Rattle.qs_spec.specs.toward.InPlace.{add, add_flat, push_item, update};
-ghost use Rattle.qs_tree.specs.declared.add.Refusal.TheVariants.{OutOfMemory};
 ghost use Rattle.qs_tree.specs.Views.{segment_of_key, step_of_key, tree_of, items_of, entries_of_map};
 ghost use Rattle.qs_tree.specs.Pairs.{leaf_of, leaf_tree, is_push, pair_of};
 ghost use Rattle.qs_tree.specs.Conflict.{child, clash_below, clash_flat, clash_here, conflict_at, conflict_of, keys_text, leaf_on_map};
 ghost use Rattle.qs_tree.specs.Adding.{Gives, IsRefusal, IsShort, added, conflict_ahead, entries_below};
 
+use crate::conflict::{Clash, Conflict, Refusal};
 use crate::key::Key;
 use crate::map::{ParsedMap, search};
 use crate::pair::{Leaf, Manner, Pair};
 use crate::value::ParsedValue;
-use std::alloc::{AllocError, AllocFailed, Global};
+use std::alloc::{AllocError, Global};
 use std::fmt::Write;
 use std::vec::IntoIter;
-
-/// Why a pair could not be added.
-#[derive(Debug, Drop)]
-pub(crate) enum Refusal {
-    Conflict(Conflict),
-    OutOfMemory,
-}
-
-/// Where a pair met a node that it can't be added to.
-#[derive(Debug, Drop)]
-pub(crate) struct Conflict {
-    /// How many keys of the path lead to the node.
-    pub level: usize,
-    pub clash: Clash,
-}
-
-/// What a node and a pair were in conflict about.
-#[derive(Debug, Drop)]
-pub(crate) enum Clash {
-    /// A push at a leaf.
-    PushOnLeaf,
-    /// A push at a map, or a plain leaf where the map at its path has another map under the empty text. The keys of the map
-    /// as they are shown, with `, ` between them.
-    LeafOnMap(String),
-    /// A path that goes on below a sequence.
-    BelowSequence,
-    /// A path that goes on below a text.
-    BelowText,
-    /// A path that goes on below a leaf that is no text.
-    BelowUnit,
-}
-
-impl From<AllocError> for Refusal {
-    ghost from_gives = { λ _ refusal. refusal ≡ OutOfMemory };
-
-    fn from(_: AllocError) -> Refusal {
-        Refusal::OutOfMemory
-    }
-}
-
-impl<T: Drop> From<AllocFailed<T>> for Refusal {
-    ghost from_gives = { λ _ refusal. refusal ≡ OutOfMemory };
-
-    fn from(_: AllocFailed<T>) -> Refusal {
-        Refusal::OutOfMemory
-    }
-}
 
 /// What is left of a pair on the way to the end of its path.
 struct Rest<'qs> {

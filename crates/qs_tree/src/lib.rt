@@ -6,6 +6,7 @@ mod config;
 mod cursor;
 mod decoding;
 mod encoding;
+mod conflict;
 mod entries;
 mod error;
 mod key;
@@ -15,6 +16,9 @@ mod raw;
 mod reading;
 mod search;
 mod steps;
+mod tree_laws;
+#[cfg(test)]
+mod tree_tests;
 mod value;
 
 pub use crate::config::{ArrayFormat, Config, DuplicateKeyBehavior};
@@ -25,4 +29,5 @@ pub use crate::key::Key;
 pub use crate::map::ParsedMap;
 pub use crate::search::{find_ampersand, find_encoded, find_escape};
 pub use crate::steps::Steps;
+pub use crate::tree_laws::{equality_of_keys, equality_of_values, order_of_keys};
 pub use crate::value::ParsedValue;

@@ -80,3 +80,6 @@ fn spelling(byte: u8, form: bool) -> &'static str
         percent_encode_byte(byte)
     }
 }
+
+#[cfg(test)]
+mod tests;

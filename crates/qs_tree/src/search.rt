@@ -65,3 +65,6 @@ fn find<C: Class>(class: C, bytes: &[u8]) -> Option<usize>
     }
     None
 }
+
+#[cfg(test)]
+mod tests;

@@ -18,6 +18,8 @@ pub fn deep_keys()
     ensures bracket_in_brackets { IsTree false 5 (codes "a[[]=1") (only (codes "a") (only (codes "[") (text (codes "1")))) }
     ensures text_behind_brackets { IsRefused false 5 (codes "a[b]c=1") }
     ensures open_bracket { IsRefused false 5 (codes "a[b") }
+    ensures push_at_the_limit { IsTree false 1 (codes "a[b][]=1") (only (codes "a") (only (codes "b") (texts (codes "1" ∷ [])))) }
+    ensures no_depth { IsTree false 0 (codes "a[b]=1") (only (codes "a[b]") (text (codes "1"))) }
 {}
 
 /// In form mode `%5B` and `%5D` are brackets, in upper case alone; otherwise they are escapes.

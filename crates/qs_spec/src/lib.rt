@@ -3,15 +3,10 @@
 
 mod entries;
 mod escapes;
-mod reading;
-mod trees;
-
-pub use escapes::escapes_round_trip;
-pub use reading::pairs_are_read;
-pub use trees::{in_place, one_reading};
 mod inputs;
 mod keys;
 mod orders;
+mod reading;
 mod relation;
 mod scalars;
 mod shapes;
@@ -31,6 +26,7 @@ pub use keys::{
     written_values_are_read,
 };
 pub use orders::{orders_by_place, reordered_inputs, reordered_pairs};
+pub use reading::pairs_are_read;
 pub use relation::{one_data, reads_is_the_relation};
 pub use scalars::written_scalars_are_read;
 pub use shapes::{

@@ -13,3 +13,4 @@ pub mod Turns
 pub mod BehindKeys
 pub mod Items
 pub mod Equality
+pub mod Growing

@@ -12,3 +12,4 @@ pub mod Raw
 pub mod Reading
 pub mod Conflict
 pub mod Adding
+pub mod Parsing

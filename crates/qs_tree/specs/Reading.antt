@@ -57,6 +57,13 @@ ReadsItem depth ts (Ok item.TheVariants.Ampersand) new = pairs_of depth ts ≡ p
 ReadsItem depth ts (Ok (item.TheVariants.Pair p)) new = pairs_of depth ts ≡ option_map (λ ps. pair_of p ∷ ps) (pairs_of depth (left new))
 ReadsItem depth ts (Err f) new = IsFault (pairs_of depth ts) f
 
+-- the end was met
+abbrev pub IsEnd : Result item.Item fault.Fault → Type 0
+IsEnd (Ok item.TheVariants.End) = Unit {0}
+IsEnd (Ok item.TheVariants.Ampersand) = ⊥
+IsEnd (Ok (item.TheVariants.Pair p)) = ⊥
+IsEnd (Err e) = ⊥
+
 -- something was read
 abbrev pub IsMore : Result item.Item fault.Fault → Type 0
 IsMore (Ok item.TheVariants.End) = ⊥

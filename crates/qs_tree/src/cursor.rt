@@ -108,6 +108,15 @@ fn first_token(bytes: &[u8], form: bool) -> (Kind, usize)
     }
 }
 
+impl<'qs> Place<'qs> {
+    /// A cursor that begins at this place again, with steps of its own.
+    pub fn again(self, form: bool) -> Cursor<'qs>
+        ensures { result.rest.now ≡ self.entry.rest.now }
+    {
+        Cursor::new(self.rest, form, Steps::new())
+    }
+}
+
 /// What is left of an input. The input is seen only through the calls below, and each counts: a byte that is taken is a step,
 /// and so is a look that meets the end.
 #[derive(Drop)]

@@ -3,17 +3,19 @@
 
 mod add;
 mod config;
+mod conflict;
 mod cursor;
 mod decoding;
 mod encoding;
-mod conflict;
 mod entries;
 mod error;
 mod key;
 mod map;
 mod pair;
+mod parsing;
 mod raw;
 mod reading;
+mod refusal;
 mod search;
 mod steps;
 mod tree_laws;
@@ -27,6 +29,7 @@ pub use crate::encoding::encode;
 pub use crate::error::{Error, Result};
 pub use crate::key::Key;
 pub use crate::map::ParsedMap;
+pub use crate::parsing::{parse, parse_with};
 pub use crate::search::{find_ampersand, find_encoded, find_escape};
 pub use crate::steps::Steps;
 pub use crate::tree_laws::{equality_of_keys, equality_of_values, order_of_keys};

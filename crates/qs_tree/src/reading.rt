@@ -1,13 +1,13 @@
 //! One pair, read from what is left of an input.
 
-ghost use Rattle.std.specs.Prelude.{◌≡◌, ◌++◌, ◌<◌, length, IfOk};
+ghost use Rattle.std.specs.Prelude.{◌≡◌, ◌++◌, ◌<◌, [], length, IfOk};
 ghost use Rattle.qs_spec.specs.Grammar.{plain, pushed, ends_root};
 ghost use Rattle.qs_spec.specs.toward.Reading.{with_leaf, read_value, read_brackets};
 ghost use Rattle.qs_tree.specs.declared.reading.Fault.TheVariants.{Other};
 ghost use Rattle.qs_tree.specs.Error.{OnlyOutOfMemory};
 ghost use Rattle.qs_tree.specs.Pairs.{path_of};
 ghost use Rattle.qs_tree.specs.Cursor.{ends_of, left, looks, behind, GoesOn};
-ghost use Rattle.qs_tree.specs.Reading.{IsRootStop, IsClosing, IsBehind, StandsBehind, IsMore, ReadsItem, ReadsLeaf, ReadsPair, is_nothing, root_path, behind_root};
+ghost use Rattle.qs_tree.specs.Reading.{IsRootStop, IsClosing, IsBehind, StandsBehind, IsEnd, IsMore, ReadsItem, ReadsLeaf, ReadsPair, is_nothing, root_path, behind_root};
 
 use crate::cursor::{Cursor, Kind, Token, Until};
 use crate::error::{Error, Result};
@@ -84,6 +84,7 @@ pub(crate) fn read_item<'qs>(
     max_depth: usize,
 ) -> Result<Item<'qs>, Fault<'qs>>
     ensures item { ReadsItem max_depth (left cursor.old) result cursor.new }
+    ensures end { IsEnd result → cursor.new.rest.now ≡ [] }
     ensures shorter { IsMore result → length cursor.new.rest.now < length cursor.old.rest.now }
     ensures moves { GoesOn 0 cursor.old cursor.new }
 {
@@ -108,7 +109,7 @@ fn is_nothing(key: &[u8], stop: Option<Token<'_>>) -> bool
 }
 
 /// What ends a root key: a bracket only where there may be brackets.
-fn root_end(max_depth: usize) -> Until
+pub(crate) fn root_end(max_depth: usize) -> Until
     ensures { ends_of result ≡ ends_root max_depth }
 {
     if max_depth == 0 {

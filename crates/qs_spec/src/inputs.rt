@@ -60,5 +60,12 @@ pub fn nearly_empty_inputs()
     ensures a_key { IsTree false 5 (codes "a") (only (codes "a") (leaf NoValue)) }
     ensures no_value { IsTree false 5 (codes "a=") (only (codes "a") (leaf Null)) }
     ensures no_key { IsTree false 5 (codes "=foo") (text (codes "foo")) }
-    ensures marks { IsTree false 5 (codes "a=%2B+") (only (codes "a") (leaf (Text (codes "+ ") true))) }
+{}
+
+/// A key has the mark of the first pair that brought it, and a text that of its own bytes.
+pub fn marks_of_keys_and_texts()
+    ensures plain_first { IsTree false 5 (codes "a=1&%61=2") (mapping (entry (Str (codes "a")) false (texts (codes "1" ∷ codes "2" ∷ [])) no_entries)) }
+    ensures escaped_first { IsTree false 5 (codes "%61=1&a=2") (mapping (entry (Str (codes "a")) true (texts (codes "1" ∷ codes "2" ∷ [])) no_entries)) }
+    ensures text { IsTree false 5 (codes "a=%2B+") (only (codes "a") (leaf (Text (codes "+ ") true))) }
+    ensures broken_escape { IsTree false 5 (codes "a=%") (only (codes "a") (leaf (Text (codes "%") true))) }
 {}

@@ -21,6 +21,8 @@ pub fn options()
     ensures nothing_behind { IsRead default (field (codes "a") (Shape.option Shape.text)) (codes "a=") (Some (one_member (codes "a") (Data.some (Data.text [])))) }
     ensures missing { IsRead default (field (codes "a") (Shape.option Shape.text)) [] (Some (one_member (codes "a") Data.none)) }
     ensures number { IsRead default (field (codes "a") (Shape.option (Shape.unsigned 8))) (codes "a=") None }
+    ensures some_of_nothing { IsRead default (field (codes "a") (Shape.option Shape.any)) (codes "a=") (Some (one_member (codes "a") (Data.some Data.unit))) }
+    ensures some_of_a_sequence { IsRead default (field (codes "a") (Shape.option Shape.text)) (codes "a&a=x") (Some (one_member (codes "a") (Data.some (Data.text (codes "x"))))) }
 {}
 
 /// A field is found by the text of its key: twice is refused, other keys are ignored where they are texts, and an optional field is left out.
@@ -33,6 +35,11 @@ pub fn fields_by_name()
     ensures missing { IsRead default (field (codes "a") Shape.text) (codes "b=x") None }
     ensures by_place { IsRead default (field (codes "p") (Shape.struct (one_field (codes "x") (Shape.unsigned 8) false (one_field (codes "y") (Shape.unsigned 8) false no_fields)))) (codes "p=1&p=2")
         (Some (one_member (codes "p") (Data.struct (members_of ((codes "x", Data.unsigned 1) ∷ (codes "y", Data.unsigned 2) ∷ []))))) }
+    ensures left_out_beyond_the_end { IsRead default (field (codes "p") (Shape.struct (one_field (codes "x") (Shape.unsigned 8) false (one_field (codes "y") (Shape.unsigned 8) true no_fields)))) (codes "p[]=1")
+        (Some (one_member (codes "p") (Data.struct (members_of ((codes "x", Data.unsigned 1) ∷ []))))) }
+    ensures option_beyond_the_end { IsRead default (field (codes "p") (Shape.struct (one_field (codes "x") (Shape.unsigned 8) false (one_field (codes "y") (Shape.option Shape.text) false no_fields)))) (codes "p[]=1") None }
+    ensures fields_of_a_text { IsRead default (field (codes "p") (Shape.struct (one_field (codes "x") Shape.text true no_fields))) (codes "p=x") None }
+    ensures fields_of_nothing { IsRead default (field (codes "p") (Shape.struct (one_field (codes "x") Shape.text true no_fields))) (codes "p=") (Some (one_member (codes "p") (Data.struct (members_of [])))) }
 {}
 
 /// A scalar is the last of several values, or they are refused.
@@ -41,6 +48,9 @@ pub fn last_of_several()
     ensures refused { IsRead (record default { duplicates = refuse }) (field (codes "f") Shape.text) (codes "f=a&f=b") None }
     ensures no_text { IsRead default (field (codes "f") Shape.text) (codes "f=%FF") None }
     ensures bytes { IsRead default (field (codes "f") Shape.bytes) (codes "f=%FF") (Some (one_member (codes "f") (Data.bytes (255 ∷ [])))) }
+    ensures last_is_nothing { IsRead default (field (codes "f") Shape.text) (codes "f=a&f") (Some (one_member (codes "f") (Data.text []))) }
+    ensures nothing { IsRead default (field (codes "f") Shape.bytes) (codes "f=") (Some (one_member (codes "f") (Data.bytes []))) }
+    ensures one_where_refused { IsRead (record default { duplicates = refuse }) (field (codes "f") Shape.text) (codes "f[]=a") (Some (one_member (codes "f") (Data.text (codes "a")))) }
 {}
 
 /// Items have the places 0, 1, 2 and so on, as far as they are read.
@@ -66,6 +76,12 @@ pub fn numbers_in_range()
     ensures minus { IsRead default (field (codes "x") (Shape.unsigned 8)) (codes "x=-0") None }
     ensures least { IsRead default (field (codes "x") (Shape.signed 8)) (codes "x=-128") (Some (one_member (codes "x") (Data.signed (neg_ℤ (pos 128))))) }
     ensures too_small { IsRead default (field (codes "x") (Shape.signed 8)) (codes "x=-129") None }
+    ensures minus_zero { IsRead default (field (codes "x") (Shape.signed 8)) (codes "x=-0") (Some (one_member (codes "x") (Data.signed (pos 0)))) }
+    ensures signed_plus { IsRead default (field (codes "x") (Shape.signed 8)) (codes "x=%2B127") (Some (one_member (codes "x") (Data.signed (pos 127)))) }
+    ensures too_great_for_a_sign { IsRead default (field (codes "x") (Shape.signed 8)) (codes "x=128") None }
+    ensures leading_zeros { IsRead default (field (codes "x") (Shape.unsigned 8)) (codes "x=007") (Some (one_member (codes "x") (Data.unsigned 7))) }
+    ensures no_digits { IsRead default (field (codes "x") (Shape.unsigned 8)) (codes "x=%2B") None }
+    ensures nothing { IsRead default (field (codes "x") (Shape.unsigned 8)) (codes "x=") None }
 {}
 
 /// A map's keys are read by their texts, in the order of the keys; a text is the one pair of the empty key, and no value is no pair.
@@ -78,6 +94,7 @@ pub fn maps()
     ensures another_key { IsRead default (field (codes "m") (Shape.mapping (KeyShape.unsigned 8) Shape.text)) (codes "m[x]=y") None }
     ensures listed_key { IsRead default (field (codes "m") (Shape.mapping (KeyShape.variants (codes "a" ∷ codes "b" ∷ [])) Shape.text)) (codes "m[b]=y")
         (Some (one_member (codes "m") (Data.mapping (pairs_of ((Data.unit_variant (codes "b"), Data.text (codes "y")) ∷ []))))) }
+    ensures key_is_no_text { IsRead default (field (codes "m") (Shape.mapping KeyShape.text Shape.text)) (codes "m[%FF]=y") None }
 {}
 
 /// Anything is a list where all keys are indices, and else a map of texts.
@@ -89,6 +106,7 @@ pub fn anything()
     ensures several { IsRead default Shape.any (codes "=1&=2") (Some (Data.sequence (values_of (Data.text (codes "1") ∷ Data.text (codes "2") ∷ [])))) }
     ensures empty { IsRead default Shape.any [] (Some Data.unit) }
     ensures ampersand { IsRead default Shape.any (codes "&") None }
+    ensures no_text { IsRead default Shape.any (codes "=%FF") None }
 {}
 
 /// A unit is a key without a value, a character is a text of just one, and what is ignored may be anything.

@@ -15,6 +15,9 @@ pub fn depth_limit()
         (Data.struct (members_of ((codes "a", Data.unsigned 1) ∷ (codes "b", Data.sequence (values_of (Data.unsigned 2 ∷ Data.unsigned 3 ∷ []))) ∷ (codes "c", Data.sequence (values_of (Data.sequence (values_of (Data.unsigned 4 ∷ [])) ∷ []))) ∷ [])))
         (codes "a=1&b[0]=2&b[1]=3") (Some too_deep) }
     ensures in_form_mode { IsWritten (record default { form = true }) (one_member (codes "a") (Data.sequence (values_of (Data.text (codes "x y!") ∷ [])))) (codes "a%5B0%5D=x%20y%21") None }
+    ensures nothing_behind { IsWritten (record default { max_depth = 1 })
+        (Data.struct (members_of ((codes "a", Data.unsigned 1) ∷ (codes "c", Data.sequence (values_of (Data.sequence (values_of (Data.unsigned 4 ∷ [])) ∷ []))) ∷ (codes "b", Data.unsigned 2) ∷ [])))
+        (codes "a=1") (Some too_deep) }
 {}
 
 /// The list of 1 and 2 at the top, in each format.
@@ -45,6 +48,10 @@ pub fn keys_of_maps()
     ensures number { IsWritten default (one_member (codes "m") (Data.mapping (pairs_of ((Data.unsigned 7, Data.text (codes "x")) ∷ [])))) (codes "m[7]=x") None }
     ensures unit { IsWritten default (Data.mapping (pairs_of ((Data.unit, Data.unit) ∷ []))) [] (Some bad_key) }
     ensures unit_at_no_depth { IsWritten (record default { max_depth = 0 }) (Data.mapping (pairs_of ((Data.unit, Data.unit) ∷ []))) [] (Some bad_key) }
+    ensures others { IsWritten default
+        (Data.mapping (pairs_of ((Data.boolean true, Data.none) ∷ (Data.character 233, Data.none) ∷ (Data.signed (neg_ℤ (pos 1)), Data.none) ∷ (Data.text (codes "x"), Data.none) ∷ (Data.bytes (codes "y"), Data.none) ∷ (Data.unit_variant (codes "z"), Data.none) ∷ [])))
+        (codes "true&%C3%A9&-1&x&y&z") None }
+    ensures newtype { IsWritten default (Data.mapping (pairs_of ((Data.newtype (Data.unsigned 7), Data.none) ∷ []))) [] (Some bad_key) }
 {}
 
 /// Scalars are written as their texts, and what a wrapper holds as itself.

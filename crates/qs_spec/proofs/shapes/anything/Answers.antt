@@ -30,3 +30,7 @@ returns-clause-empty c = is_read _ _ _ _ refl
 pub returns-clause-ampersand : goal.returns-clause-ampersand
 unfolding on_literals
 returns-clause-ampersand c = is_read _ _ _ _ refl
+
+pub returns-clause-no_text : goal.returns-clause-no_text
+unfolding on_literals
+returns-clause-no_text c = is_read _ _ _ _ refl

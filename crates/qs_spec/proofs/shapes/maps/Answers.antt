@@ -26,3 +26,7 @@ returns-clause-another_key c = is_read _ _ _ _ refl
 pub returns-clause-listed_key : goal.returns-clause-listed_key
 unfolding on_literals
 returns-clause-listed_key c = is_read _ _ _ _ refl
+
+pub returns-clause-key_is_no_text : goal.returns-clause-key_is_no_text
+unfolding on_literals
+returns-clause-key_is_no_text c = is_read _ _ _ _ refl

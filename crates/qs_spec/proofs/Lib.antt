@@ -1,6 +1,5 @@
 pub mod Booleans
 pub mod Order
-pub mod ReadPairs
 pub mod ReadIsRelated
 pub mod RelatedIsRead
 pub mod TreeOf
@@ -20,6 +19,7 @@ pub mod Places
 pub mod Marks
 pub mod Alike
 pub mod Unescaped
+pub mod ReadOn
 pub mod Spelled
 pub mod EntryRead
 pub mod ReadingParts

@@ -1,5 +1,5 @@
 -- Digits and their numbers.
-use Rattle.std.proofs.Common.{◌≡◌, ℕ, zero, suc, ◌+◌, ◌-◌, ◌*◌, ◌^◌, ◌<◌, true, false, ◌&&◌, List, [], ◌∷◌, length, refl, sym, ap, ap₂, ◌∙◌, arith, get_or, nat_le}
+use Rattle.std.proofs.Common.{◌≡◌, ℕ, zero, suc, ◌+◌, ◌-◌, ◌*◌, ◌^◌, ◌<◌, true, false, ◌&&◌, ◌==◌, List, [], ◌∷◌, length, refl, sym, ap, ap₂, ◌∙◌, arith, get_or, nat_le}
 use Rattle.std.specs.List.{list_all, fold}
 use Rattle.std.specs.Fmt.{decimal}
 use Rattle.std.specs.Int.{IsInRange}
@@ -45,7 +45,7 @@ numerals = numerals_by_fold AreDigits tests from_left folds
 pub printed : (ds : List ℕ) → is_numeral ds ≡ true → has_leading_zero ds ≡ false → number ds < 2 ^ 64 → decimal (number ds) ≡ ds
 printed [] e z l = cc
 printed (b ∷ []) e z l = decimal-digits_value numerals (b ∷ []) e (omega arith) (λ w. refl) l
-printed (b ∷ c ∷ ds) e z l = decimal-digits_value numerals (b ∷ c ∷ ds) e (omega arith) (λ w. let v = sym z ∙ ap (is_between 48 48) w in cc) l
+printed (b ∷ c ∷ ds) e z l = decimal-digits_value numerals (b ∷ c ∷ ds) e (omega arith) (λ w. let v = sym z ∙ ap (λ x. x == 48) w in cc) l
 
 numeral_of : (ds : List ℕ) → AreDigits ds → 0 < length ds → is_numeral ds ≡ true
 numeral_of [] e l = absurd (omega arith)

@@ -10,7 +10,7 @@ use Rattle.qs_spec.specs.History.{events, under, under_one, permitted}
 use Rattle.qs_spec.specs.Tree.{heads, put_head, put, node, longest, Tree, IsTree}
 use Rattle.qs_spec.specs.Segment.{compare_segments, is_same_segment}
 use Rattle.qs_spec.proofs.Order.{exact_segment, put_lt, put_eq, put_gt}
-use Rattle.qs_spec.proofs.ReadPairs.{pairs_of}
+use Rattle.qs_spec.specs.toward.Reading.{pairs_of}
 use Rattle.qs_spec.proofs.RelatedIsRead.{are_pairs, found_pairs}
 use Rattle.qs_spec.proofs.Booleans.{and_both, or_both}
 

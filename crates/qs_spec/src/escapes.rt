@@ -34,3 +34,12 @@ pub fn encoded_texts()
     ensures letter_in_query { encoded false (195 ∷ 169 ∷ []) ≡ codes "%C3%A9" }
     ensures letter_in_form { encoded true (195 ∷ 169 ∷ []) ≡ codes "%C3%A9" }
 {}
+
+/// Which bytes are kept and which are escaped, beside letters and digits.
+pub fn kept_bytes()
+    ensures query_keeps { encoded false (codes "*-._~:/@!',;?$") ≡ codes "*-._~:/@!',;?$" }
+    ensures query_escapes { encoded false (codes "#<>[]=&") ≡ codes "%23%3C%3E%5B%5D%3D%26" }
+    ensures query_escapes_others { encoded false (0 ∷ 31 ∷ 34 ∷ 127 ∷ 128 ∷ 255 ∷ []) ≡ codes "%00%1F%22%7F%80%FF" }
+    ensures form_keeps { encoded true (codes "*-._09AZaz") ≡ codes "*-._09AZaz" }
+    ensures form_escapes { encoded true (codes "/:@[`{~ ") ≡ codes "%2F%3A%40%5B%60%7B%7E%20" }
+{}

@@ -18,6 +18,8 @@ pub fn deep_keys()
     ensures bracket_in_brackets { IsTree false 5 (codes "a[[]=1") (only (codes "a") (only (codes "[") (text (codes "1")))) }
     ensures text_behind_brackets { IsRefused false 5 (codes "a[b]c=1") }
     ensures open_bracket { IsRefused false 5 (codes "a[b") }
+    ensures push_at_the_limit { IsTree false 1 (codes "a[b][]=1") (only (codes "a") (only (codes "b") (texts (codes "1" ∷ [])))) }
+    ensures no_depth { IsTree false 0 (codes "a[b]=1") (only (codes "a[b]") (text (codes "1"))) }
 {}
 
 /// In form mode `%5B` and `%5D` are brackets, in upper case alone; otherwise they are escapes.
@@ -58,5 +60,12 @@ pub fn nearly_empty_inputs()
     ensures a_key { IsTree false 5 (codes "a") (only (codes "a") (leaf NoValue)) }
     ensures no_value { IsTree false 5 (codes "a=") (only (codes "a") (leaf Null)) }
     ensures no_key { IsTree false 5 (codes "=foo") (text (codes "foo")) }
-    ensures marks { IsTree false 5 (codes "a=%2B+") (only (codes "a") (leaf (Text (codes "+ ") true))) }
+{}
+
+/// A key has the mark of the first pair that brought it, and a text that of its own bytes.
+pub fn marks_of_keys_and_texts()
+    ensures plain_first { IsTree false 5 (codes "a=1&%61=2") (mapping (entry (Str (codes "a")) false (texts (codes "1" ∷ codes "2" ∷ [])) no_entries)) }
+    ensures escaped_first { IsTree false 5 (codes "%61=1&a=2") (mapping (entry (Str (codes "a")) true (texts (codes "1" ∷ codes "2" ∷ [])) no_entries)) }
+    ensures text { IsTree false 5 (codes "a=%2B+") (only (codes "a") (leaf (Text (codes "+ ") true))) }
+    ensures broken_escape { IsTree false 5 (codes "a=%") (only (codes "a") (leaf (Text (codes "%") true))) }
 {}

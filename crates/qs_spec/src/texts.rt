@@ -1,6 +1,6 @@
 // Worked texts: what is written of data.
 
-ghost use Rattle.std.specs.Prelude.{codes, [], ◌∷◌, Some, None, true};
+ghost use Rattle.std.specs.Prelude.{codes, [], ◌∷◌, Some, None, true, false, pos, neg_ℤ};
 ghost use Rattle.qs_spec.specs.Config.{default, empty_indexed, unindexed};
 ghost use Rattle.qs_spec.specs.Data.{Data, values_of, pairs_of, members_of};
 ghost use Rattle.qs_spec.specs.Entry.{too_deep, bad_key};
@@ -15,6 +15,9 @@ pub fn depth_limit()
         (Data.struct (members_of ((codes "a", Data.unsigned 1) ∷ (codes "b", Data.sequence (values_of (Data.unsigned 2 ∷ Data.unsigned 3 ∷ []))) ∷ (codes "c", Data.sequence (values_of (Data.sequence (values_of (Data.unsigned 4 ∷ [])) ∷ []))) ∷ [])))
         (codes "a=1&b[0]=2&b[1]=3") (Some too_deep) }
     ensures in_form_mode { IsWritten (record default { form = true }) (one_member (codes "a") (Data.sequence (values_of (Data.text (codes "x y!") ∷ [])))) (codes "a%5B0%5D=x%20y%21") None }
+    ensures nothing_behind { IsWritten (record default { max_depth = 1 })
+        (Data.struct (members_of ((codes "a", Data.unsigned 1) ∷ (codes "c", Data.sequence (values_of (Data.sequence (values_of (Data.unsigned 4 ∷ [])) ∷ []))) ∷ (codes "b", Data.unsigned 2) ∷ [])))
+        (codes "a=1") (Some too_deep) }
 {}
 
 /// The list of 1 and 2 at the top, in each format.
@@ -45,4 +48,22 @@ pub fn keys_of_maps()
     ensures number { IsWritten default (one_member (codes "m") (Data.mapping (pairs_of ((Data.unsigned 7, Data.text (codes "x")) ∷ [])))) (codes "m[7]=x") None }
     ensures unit { IsWritten default (Data.mapping (pairs_of ((Data.unit, Data.unit) ∷ []))) [] (Some bad_key) }
     ensures unit_at_no_depth { IsWritten (record default { max_depth = 0 }) (Data.mapping (pairs_of ((Data.unit, Data.unit) ∷ []))) [] (Some bad_key) }
+    ensures others { IsWritten default
+        (Data.mapping (pairs_of ((Data.boolean true, Data.none) ∷ (Data.character 233, Data.none) ∷ (Data.signed (neg_ℤ (pos 1)), Data.none) ∷ (Data.text (codes "x"), Data.none) ∷ (Data.bytes (codes "y"), Data.none) ∷ (Data.unit_variant (codes "z"), Data.none) ∷ [])))
+        (codes "true&%C3%A9&-1&x&y&z") None }
+    ensures newtype { IsWritten default (Data.mapping (pairs_of ((Data.newtype (Data.unsigned 7), Data.none) ∷ []))) [] (Some bad_key) }
+{}
+
+/// Scalars are written as their texts, and what a wrapper holds as itself.
+pub fn scalar_values()
+    ensures { IsWritten default
+        (Data.struct (members_of ((codes "b", Data.boolean false) ∷ (codes "n", Data.signed (neg_ℤ (pos 5))) ∷ (codes "c", Data.character 233) ∷ (codes "u", Data.unit) ∷ (codes "y", Data.bytes (codes "x y")) ∷ (codes "w", Data.newtype (Data.unsigned 1)) ∷ [])))
+        (codes "b=false&n=-5&c=%C3%A9&u=&y=x+y&w=1") None }
+{}
+
+/// Parts without fields write nothing.
+pub fn parts_without_fields()
+    ensures struct_alone { IsWritten default (one_member (codes "s") (Data.struct (members_of []))) [] None }
+    ensures variant { IsWritten default (one_member (codes "e") (Data.struct_variant (codes "c") (members_of []))) [] None }
+    ensures variant_too_deep { IsWritten (record default { max_depth = 0 }) (one_member (codes "e") (Data.struct_variant (codes "c") (members_of []))) [] (Some too_deep) }
 {}

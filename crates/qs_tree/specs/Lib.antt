@@ -1,11 +1,15 @@
 pub mod Settings
 pub mod Error
 pub mod Search
-pub mod Escapes
+pub mod Cursor
 pub mod Places
 pub mod formers
 pub mod Views
 pub mod Keys
+pub mod Escapes
 pub mod Pairs
+pub mod Raw
+pub mod Reading
 pub mod Conflict
 pub mod Adding
+pub mod Parsing

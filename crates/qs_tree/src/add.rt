@@ -71,16 +71,13 @@ fn add_along<'qs>(
         return add_here(alloc, node, manner, leaf, level);
     };
     let mut map = map_of(alloc, node, level)?;
-    map.add_below(
-        alloc,
-        key,
-        Rest {
-            path,
-            level: level + 1,
-            manner,
-            leaf,
-        },
-    )?;
+    let below = Rest {
+        path,
+        level: level + 1,
+        manner,
+        leaf,
+    };
+    map.add_below(alloc, key, below)?;
     Ok(ParsedValue::Map(map))
 }
 

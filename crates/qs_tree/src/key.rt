@@ -66,7 +66,7 @@ impl fmt::Display for Key<'_> {
 
     fn fmt<W: fmt::Write>(&self, f: &mut fmt::Formatter<W>) -> fmt::Result {
         match self {
-            Key::Int(number) => write!(f, "{number}"),
+            Key::Int(index) => write!(f, "{index}"),
             Key::String(text) => {
                 f.write_str("\"")?;
                 write_lossy(text.as_slice(), f)?;

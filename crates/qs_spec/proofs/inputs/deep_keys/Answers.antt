@@ -1,8 +1,8 @@
-use Rattle.std.proofs.Common.{refl, false, codes}
+use Rattle.std.proofs.Common.{refl, false, codes, [], ◌∷◌}
 use Rattle.qs_spec.specs.Leaf.Leaf.{NoValue}
 use Rattle.qs_spec.specs.Tree.Tree.{leaf, mapping}
 use Rattle.qs_spec.specs.Tree.Entries.{no_entries}
-use Rattle.qs_spec.specs.Worked.{text, at_text, only}
+use Rattle.qs_spec.specs.Worked.{text, texts, at_text, only}
 use Rattle.qs_spec.proofs.TreeOf.{is_tree, no_tree}
 use Rattle.qs_spec.proofs.inputs.deep_keys.Goals as goal
 
@@ -26,3 +26,9 @@ returns-clause-text_behind_brackets c = no_tree false 5 (codes "a[b]c=1") refl
 
 pub returns-clause-open_bracket : goal.returns-clause-open_bracket
 returns-clause-open_bracket c = no_tree false 5 (codes "a[b") refl
+
+pub returns-clause-push_at_the_limit : goal.returns-clause-push_at_the_limit
+returns-clause-push_at_the_limit c = is_tree false 1 (codes "a[b][]=1") (only (codes "a") (only (codes "b") (texts (codes "1" ∷ [])))) refl
+
+pub returns-clause-no_depth : goal.returns-clause-no_depth
+returns-clause-no_depth c = is_tree false 0 (codes "a[b]=1") (only (codes "a[b]") (text (codes "1"))) refl

@@ -1,5 +1,5 @@
-use Rattle.std.proofs.Common.{refl, true, false, codes, []}
-use Rattle.qs_spec.specs.Leaf.Leaf.{Text, Null, NoValue}
+use Rattle.std.proofs.Common.{refl, false, codes, []}
+use Rattle.qs_spec.specs.Leaf.Leaf.{Null, NoValue}
 use Rattle.qs_spec.specs.Tree.Tree.{leaf, uninitialized}
 use Rattle.qs_spec.specs.Worked.{text, only}
 use Rattle.qs_spec.proofs.TreeOf.{is_tree}
@@ -19,6 +19,3 @@ returns-clause-no_value c = is_tree false 5 (codes "a=") (only (codes "a") (leaf
 
 pub returns-clause-no_key : goal.returns-clause-no_key
 returns-clause-no_key c = is_tree false 5 (codes "=foo") (text (codes "foo")) refl
-
-pub returns-clause-marks : goal.returns-clause-marks
-returns-clause-marks c = is_tree false 5 (codes "a=%2B+") (only (codes "a") (leaf (Text (codes "+ ") true))) refl

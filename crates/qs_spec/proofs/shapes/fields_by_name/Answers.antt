@@ -30,3 +30,19 @@ returns-clause-missing c = is_read _ _ _ _ refl
 pub returns-clause-by_place : goal.returns-clause-by_place
 unfolding on_literals
 returns-clause-by_place c = is_read _ _ _ _ refl
+
+pub returns-clause-left_out_beyond_the_end : goal.returns-clause-left_out_beyond_the_end
+unfolding on_literals
+returns-clause-left_out_beyond_the_end c = is_read _ _ _ _ refl
+
+pub returns-clause-option_beyond_the_end : goal.returns-clause-option_beyond_the_end
+unfolding on_literals
+returns-clause-option_beyond_the_end c = is_read _ _ _ _ refl
+
+pub returns-clause-fields_of_a_text : goal.returns-clause-fields_of_a_text
+unfolding on_literals
+returns-clause-fields_of_a_text c = is_read _ _ _ _ refl
+
+pub returns-clause-fields_of_nothing : goal.returns-clause-fields_of_nothing
+unfolding on_literals
+returns-clause-fields_of_nothing c = is_read _ _ _ _ refl

@@ -18,3 +18,15 @@ returns-clause-no_text c = is_read _ _ _ _ refl
 pub returns-clause-bytes : goal.returns-clause-bytes
 unfolding on_literals
 returns-clause-bytes c = is_read _ _ _ _ refl
+
+pub returns-clause-last_is_nothing : goal.returns-clause-last_is_nothing
+unfolding on_literals
+returns-clause-last_is_nothing c = is_read _ _ _ _ refl
+
+pub returns-clause-nothing : goal.returns-clause-nothing
+unfolding on_literals
+returns-clause-nothing c = is_read _ _ _ _ refl
+
+pub returns-clause-one_where_refused : goal.returns-clause-one_where_refused
+unfolding on_literals
+returns-clause-one_where_refused c = is_read _ _ _ _ refl

@@ -30,3 +30,27 @@ returns-clause-least c = is_read default (field (codes "x") (Shape.signed 8)) (c
 pub returns-clause-too_small : goal.returns-clause-too_small
 unfolding on_literals
 returns-clause-too_small c = is_read default (field (codes "x") (Shape.signed 8)) (codes "x=-129") None refl
+
+pub returns-clause-minus_zero : goal.returns-clause-minus_zero
+unfolding on_literals
+returns-clause-minus_zero c = is_read default (field (codes "x") (Shape.signed 8)) (codes "x=-0") (Some (one_member (codes "x") (Data.signed (pos 0)))) refl
+
+pub returns-clause-signed_plus : goal.returns-clause-signed_plus
+unfolding on_literals
+returns-clause-signed_plus c = is_read default (field (codes "x") (Shape.signed 8)) (codes "x=%2B127") (Some (one_member (codes "x") (Data.signed (pos 127)))) refl
+
+pub returns-clause-too_great_for_a_sign : goal.returns-clause-too_great_for_a_sign
+unfolding on_literals
+returns-clause-too_great_for_a_sign c = is_read default (field (codes "x") (Shape.signed 8)) (codes "x=128") None refl
+
+pub returns-clause-leading_zeros : goal.returns-clause-leading_zeros
+unfolding on_literals
+returns-clause-leading_zeros c = is_read default (field (codes "x") (Shape.unsigned 8)) (codes "x=007") (Some (one_member (codes "x") (Data.unsigned 7))) refl
+
+pub returns-clause-no_digits : goal.returns-clause-no_digits
+unfolding on_literals
+returns-clause-no_digits c = is_read default (field (codes "x") (Shape.unsigned 8)) (codes "x=%2B") None refl
+
+pub returns-clause-nothing : goal.returns-clause-nothing
+unfolding on_literals
+returns-clause-nothing c = is_read default (field (codes "x") (Shape.unsigned 8)) (codes "x=") None refl

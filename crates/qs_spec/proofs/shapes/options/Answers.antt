@@ -18,3 +18,11 @@ returns-clause-missing c = is_read _ _ _ _ refl
 pub returns-clause-number : goal.returns-clause-number
 unfolding on_literals
 returns-clause-number c = is_read _ _ _ _ refl
+
+pub returns-clause-some_of_nothing : goal.returns-clause-some_of_nothing
+unfolding on_literals
+returns-clause-some_of_nothing c = is_read _ _ _ _ refl
+
+pub returns-clause-some_of_a_sequence : goal.returns-clause-some_of_a_sequence
+unfolding on_literals
+returns-clause-some_of_a_sequence c = is_read _ _ _ _ refl

@@ -13,3 +13,7 @@ returns-clause-beyond c = record { text_is = refl; refusal_is = refl }
 pub returns-clause-in_form_mode : goal.returns-clause-in_form_mode
 unfolding on_literals
 returns-clause-in_form_mode c = record { text_is = refl; refusal_is = refl }
+
+pub returns-clause-nothing_behind : goal.returns-clause-nothing_behind
+unfolding on_literals
+returns-clause-nothing_behind c = record { text_is = refl; refusal_is = refl }

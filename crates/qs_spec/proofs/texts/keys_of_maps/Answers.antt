@@ -13,3 +13,11 @@ returns-clause-unit c = record { text_is = refl; refusal_is = refl }
 pub returns-clause-unit_at_no_depth : goal.returns-clause-unit_at_no_depth
 unfolding on_literals
 returns-clause-unit_at_no_depth c = record { text_is = refl; refusal_is = refl }
+
+pub returns-clause-others : goal.returns-clause-others
+unfolding on_literals
+returns-clause-others c = record { text_is = refl; refusal_is = refl }
+
+pub returns-clause-newtype : goal.returns-clause-newtype
+unfolding on_literals
+returns-clause-newtype c = record { text_is = refl; refusal_is = refl }

@@ -4,4 +4,5 @@ pub mod Search
 pub mod Places
 pub mod formers
 pub mod Views
+pub mod Ordered
 pub mod Keys

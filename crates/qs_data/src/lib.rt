@@ -5,6 +5,7 @@ mod copy;
 mod data;
 mod distinct;
 mod serializer;
+mod read;
 mod shape;
 mod sink;
 mod write;

@@ -5,6 +5,7 @@ pub mod Cursor
 pub mod Places
 pub mod formers
 pub mod Views
+pub mod Ordered
 pub mod Keys
 pub mod Escapes
 pub mod Pairs

@@ -1,6 +1,7 @@
 //! Reads a querystring from standard input and writes it again: `qs_tool flat|params|any` with options.
 #![tactic(auto)]
 
+mod answer;
 mod arguments;
 mod flat;
 mod program;

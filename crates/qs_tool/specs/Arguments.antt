@@ -83,8 +83,8 @@ request command depth s = record {
     max_depth = depth;
     form = s.form;
     array_format = array_format_of (or_else Indexed s.format);
-    duplicates = duplicates_of (or_else TakeLast s.duplicates)
-  }
+    duplicates = duplicates_of (or_else TakeLast s.duplicates);
+  };
 }
 
 -- `flat` takes no depth: its own is 0

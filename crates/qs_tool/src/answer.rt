@@ -29,11 +29,21 @@ pub fn respond<R: Read>(alloc: Global, request: Request, reader: &mut R) -> Resu
 {
     let input = read_input(alloc, reader)?;
     let shape = flat::shape(alloc)?;
-    Ok(answer_to(alloc, request.config, &shape, before_newline(input.as_slice()))?)
+    Ok(answer_to(
+        alloc,
+        request.config,
+        &shape,
+        before_newline(input.as_slice()),
+    )?)
 }
 
 /// The answer to an input that this shape reads.
-fn answer_to(alloc: Global, config: Config, shape: &Shape, input: &[u8]) -> Result<Answer, AllocError>
+fn answer_to(
+    alloc: Global,
+    config: Config,
+    shape: &Shape,
+    input: &[u8],
+) -> Result<Answer, AllocError>
     requires { is_distinct (shape_of shape.now) ≡ true }
     ensures { IfOk result (λ answer. IsAnswer config (shape_of shape.now) input.now answer.line.items answer.status) }
 {

@@ -103,9 +103,18 @@ impl Settings {
     {
         match choice {
             Choice::Form if !self.form => Some(Settings { form: true, ..self }),
-            Choice::Depth(depth) if self.depth.is_none() => Some(Settings { depth: Some(depth), ..self }),
-            Choice::Format(format) if self.format.is_none() => Some(Settings { format: Some(format), ..self }),
-            Choice::Duplicates(duplicates) if self.duplicates.is_none() => Some(Settings { duplicates: Some(duplicates), ..self }),
+            Choice::Depth(depth) if self.depth.is_none() => Some(Settings {
+                depth: Some(depth),
+                ..self
+            }),
+            Choice::Format(format) if self.format.is_none() => Some(Settings {
+                format: Some(format),
+                ..self
+            }),
+            Choice::Duplicates(duplicates) if self.duplicates.is_none() => Some(Settings {
+                duplicates: Some(duplicates),
+                ..self
+            }),
             _ => None,
         }
     }

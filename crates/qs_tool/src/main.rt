@@ -6,6 +6,8 @@ mod arguments;
 mod flat;
 mod program;
 mod streams;
+#[cfg(test)]
+mod tests;
 
 use std::alloc::AllocError;
 use std::process::ExitCode;

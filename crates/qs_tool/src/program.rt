@@ -12,7 +12,8 @@ use std::alloc::Global;
 use std::io::{Read, Write};
 
 /// What is written where the arguments are wrong.
-const USAGE: &str = "usage: qs_tool flat|params|any [--form] [--depth N] [--format indexed|empty|unindexed] [--duplicates last|error]\n";
+const USAGE: &str =
+    "usage: qs_tool flat|params|any [--form] [--depth N] [--format indexed|empty|unindexed] [--duplicates last|error]\n";
 
 /// What is written where a growth was refused.
 const NO_MEMORY: &str = "error: out of memory\n";

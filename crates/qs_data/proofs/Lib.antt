@@ -1,1 +1,6 @@
 pub mod Levels
+pub mod Puts
+pub mod Wrote
+pub mod Visible
+pub mod Entry
+pub mod Walk

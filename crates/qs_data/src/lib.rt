@@ -4,7 +4,12 @@
 mod copy;
 mod data;
 mod distinct;
+mod serializer;
 mod shape;
+mod sink;
+mod write;
 
 pub use data::Data;
+pub use serializer::Serializer;
 pub use shape::{Field, KeyShape, Shape, Variant, VariantKind};
+pub use sink::{ByWrite, Sink};

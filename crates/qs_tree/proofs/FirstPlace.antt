@@ -1,6 +1,6 @@
 -- The first place at which a test passes: from what stands before it, and back.
-use Rattle.std.proofs.Common.{◌≡◌, ℕ, zero, suc, Option, ◌<◌, ◌≤◌, true, false, Bool, List, [], ◌∷◌, length, get_or, ap, ◌∙◌, arith, sym, refl, Some, None, ltb, inl, inr}
-use Rattle.std.specs.Option.{IsNone}
+use Rattle.std.proofs.Common.{◌≡◌, ℕ, zero, suc, Option, ◌<◌, ◌≤◌, true, false, Bool, List, [], ◌∷◌, length, get_or, ap, ◌∙◌, arith, sym, Some, None, ltb, inl, inr}
+use Rattle.std.specs.Option.{is_some}
 use Rattle.std.specs.List.{position_or_len, position, list_any}
 use Rattle.std.proofs.lemmas.Bool.{cond-true, cond-false, lt-ltb, le-ltb, cases_Bool, ltb-true, ltb-false, both_ways}
 use Rattle.std.proofs.lemmas.List.Sums.{position_or_len_is, fails_before_first, passes_at_first}
@@ -46,18 +46,20 @@ before_first_fails p xs n is k below = fails_before_first p xs k 0 (omega (arith
 pub all_fail : (p : ℕ → Bool) (xs : List ℕ) → None ≡ position p xs → (k : ℕ) → k < length xs → p (get_or xs k 0) ≡ false
 all_fail p xs is k below = fails_before_first p xs k 0 (omega (arith, position_none_is p xs is))
 
-no_place : (p : ℕ → Bool) (xs : List ℕ) → list_any p xs ≡ false → (n : ℕ) → n < length xs → p (get_or xs n 0) ≡ false
-no_place p [] none n below = absurd (omega arith)
-no_place p (x ∷ xs) none zero below = (or_both (p x) (list_any p xs) none).0
-no_place p (x ∷ xs) none (suc n) below = no_place p xs (or_both (p x) (list_any p xs) none).1 n (omega arith)
+-- where the test passes nowhere, each element fails
+pub none_passes : (p : ℕ → Bool) (xs : List ℕ) → list_any p xs ≡ false → (n : ℕ) → n < length xs → p (get_or xs n 0) ≡ false
+none_passes p [] none n below = absurd (omega arith)
+none_passes p (x ∷ xs) none zero below = (or_both (p x) (list_any p xs) none).0
+none_passes p (x ∷ xs) none (suc n) below = none_passes p xs (or_both (p x) (list_any p xs) none).1 n (omega arith)
 
--- none is found just where none passes
-pub none_found : (p : ℕ → Bool) (xs : List ℕ) (r : Option ℕ) → r ≡ position p xs → (IsNone r → list_any p xs ≡ false) × (list_any p xs ≡ false → IsNone r)
-none_found p xs None is = (λ _. list_any_none p xs (All-from_get_or (λ x. p x ≡ false) xs 0 (all_fail p xs is)), λ _. refl)
-none_found p xs (Some n) is = (
-  λ h. absurd (cc),
-  λ none.
-      let at = position_some_is p xs n is in
-      let first : position_or_len p xs < length xs = omega (arith, at.0, at.1) in
-      absurd (both_ways _ (no_place p xs none (position_or_len p xs) first) (passes_at_first p xs 0 first)),
-)
+-- a place is found just where an element passes
+pub is_found : (p : ℕ → Bool) (xs : List ℕ) (r : Option ℕ) → r ≡ position p xs → is_some r ≡ list_any p xs
+is_found p xs None is = sym (list_any_none p xs (All-from_get_or (λ x. p x ≡ false) xs 0 (all_fail p xs is)))
+is_found p xs (Some n) is =
+    elim (cases_Bool (list_any p xs)) [
+      | inl some ↦ sym some
+      | inr none ↦
+          let at = position_some_is p xs n is in
+          let first : position_or_len p xs < length xs = omega (arith, at.0, at.1) in
+          absurd (both_ways _ (none_passes p xs none (position_or_len p xs) first) (passes_at_first p xs 0 first))
+    ]

@@ -5,3 +5,4 @@ pub mod Places
 pub mod formers
 pub mod Views
 pub mod Keys
+pub mod Escapes

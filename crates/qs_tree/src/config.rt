@@ -149,3 +149,6 @@ impl Default for Config {
         Config::new()
     }
 }
+
+#[cfg(test)]
+mod tests;

@@ -2,6 +2,8 @@
 #![tactic(auto)]
 
 mod config;
+mod decoding;
+mod encoding;
 mod entries;
 mod error;
 mod key;
@@ -10,6 +12,8 @@ mod search;
 mod value;
 
 pub use crate::config::{ArrayFormat, Config, DuplicateKeyBehavior};
+pub use crate::decoding::decode;
+pub use crate::encoding::encode;
 pub use crate::error::{Error, Result};
 pub use crate::key::Key;
 pub use crate::map::ParsedMap;

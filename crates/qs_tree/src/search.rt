@@ -4,7 +4,7 @@ mod class;
 mod encoded;
 mod marks;
 
-ghost use Rattle.std.specs.Prelude.{◌≡◌, ◌<◌, ◌↔◌, false, length, position, IfSome, IsNone};
+ghost use Rattle.std.specs.Prelude.{◌≡◌, ◌<◌, length, position, IfSome, is_some};
 ghost use Rattle.qs_spec.specs.Escape.{is_marked};
 ghost use Rattle.qs_tree.specs.Search.{is_escape, is_ampersand, is_encoded};
 
@@ -18,7 +18,7 @@ use self::marks::{Ampersand, Escape};
 pub fn find_escape(bytes: &[u8]) -> Option<usize>
     ensures first { result ≡ position is_escape bytes.now }
     ensures within { IfSome result (λ at. at < length bytes.now) }
-    ensures none { IsNone result ↔ (is_marked bytes.now ≡ false) }
+    ensures found { is_some result ≡ is_marked bytes.now }
 {
     find(Escape, bytes)
 }
@@ -65,3 +65,6 @@ fn find<C: Class>(class: C, bytes: &[u8]) -> Option<usize>
     }
     None
 }
+
+#[cfg(test)]
+mod tests;

@@ -4,7 +4,35 @@ ghost use Rattle.std.specs.Prelude.{◌+◌, ◌≤◌, length, true, false};
 ghost use Rattle.qs_tree.specs.Search.{IsFirstIn, is_encoded};
 
 use super::class::{Class, LANES, first_set};
+use percent_encoding::{AsciiSet, CONTROLS, NON_ALPHANUMERIC, ascii_set};
 use std::simd::prelude::*;
+
+/// What form mode doesn't write as itself: the application/x-www-form-urlencoded percent-encode set of the
+/// URL standard, section 1.3.
+const FORM: AsciiSet = ascii_set!(
+    NON_ALPHANUMERIC
+        .remove(b'*')
+        .remove(b'-')
+        .remove(b'.')
+        .remove(b'_')
+);
+
+/// What query mode doesn't write as itself: the query percent-encode set of the URL standard, section 1.3,
+/// and what separates the parts of a querystring.
+const QUERY: AsciiSet = ascii_set!(
+    CONTROLS
+        .add(b' ')
+        .add(b'"')
+        .add(b'#')
+        .add(b'<')
+        .add(b'>')
+        .add(b'%')
+        .add(b'+')
+        .add(b'[')
+        .add(b']')
+        .add(b'=')
+        .add(b'&')
+);
 
 /// What form mode, or query mode, doesn't write as itself.
 #[derive(Clone, Copy)]
@@ -26,9 +54,9 @@ impl Class for Encoded {
 
     fn has(self, byte: u8) -> bool {
         if self.form {
-            !matches!(byte, b'0'..=b'9' | b'A'..=b'Z' | b'a'..=b'z' | b'*' | b'-' | b'.' | b'_')
+            FORM.should_percent_encode(byte)
         } else {
-            matches!(byte, 0..=b' ' | 127..=255 | b'"' | b'#' | b'<' | b'>' | b'%' | b'+' | b'[' | b']' | b'=' | b'&')
+            QUERY.should_percent_encode(byte)
         }
     }
 }

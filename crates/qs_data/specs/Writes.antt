@@ -1,0 +1,108 @@
+-- What a call that writes leaves.
+use Rattle.std.specs.Prelude.{◌≡◌, ℕ, ◌<◌, ◌≤◌, Bool, true, List, ◌++◌, length, take, Option, Some, None, Result, Ok, Err}
+use Rattle.std.specs.List.{All}
+use Rattle.std.specs.Io.KnownBytes.{Appends}
+use Rattle.qs_spec.specs.Config.{Config}
+use Rattle.qs_spec.specs.Data.{Data}
+use Rattle.qs_spec.specs.Entry.{Entry, Output, too_deep, bad_key}
+use Rattle.qs_spec.specs.Written.{written, started_after}
+use Rattle.qs_tree.specs.declared.error.Error.{Error}
+use Rattle.qs_tree.specs.declared.error.Error.TheVariants.{Custom, MaxSerializationDepthExceeded, Parse, Unsupported, FromUtf8, Io, ParseInt, Utf8, OutOfMemory, Failed}
+use Rattle.qs_data.specs.declared.write.entry.Stream.{Stream}
+
+-- a byte above the space and below 0x7F
+abbrev pub IsVisible : ℕ → Type 0
+IsVisible b = (33 ≤ b) × (b ≤ 126)
+
+-- what is known of a sink and of the text in it: the bytes where the sink tells them, whether a put was refused, the name of a
+-- lent writer, and whether an entry with a key was written
+pub record Text : Type 0 where
+  pub taken : Option (List ℕ)
+  pub failed : Bool
+  pub writer : ℕ
+  pub started : Bool
+
+-- exactly the text of these entries was added
+pub record Adds (form : Bool) (old new : Text) (es : List Entry) : Type 0 where
+  pub text : Appends old.taken new.taken (written form old.started es)
+  pub visible : All IsVisible (written form old.started es)
+  pub started : new.started ≡ started_after old.started es
+  pub failed : new.failed ≡ old.failed
+  pub writer : new.writer ≡ old.writer
+
+-- the text of some first entries was added
+pub record AddsSome (form : Bool) (old new : Text) (es : List Entry) : Type 0 where
+  pub front : List Entry
+  pub rest : List Entry
+  pub parts : es ≡ front ++ rest
+  pub adds : Adds form old new front
+
+-- a proper beginning of the text was added, and then a put was refused
+pub record AddsPart (form : Bool) (old new : Text) (es : List Entry) : Type 0 where
+  pub count : ℕ
+  pub proper : count < length (written form old.started es)
+  pub text : Appends old.taken new.taken (take count (written form old.started es))
+  pub visible : All IsVisible (take count (written form old.started es))
+  pub failed : new.failed ≡ true
+  pub writer : new.writer ≡ old.writer
+
+-- what stands after each error
+abbrev pub Stops : Error → Config → Text → Text → Output → Type 0
+Stops (Custom message) config old new o = ⊥
+Stops (MaxSerializationDepthExceeded depth) config old new o = (depth ≡ config.max_depth) × (o.refusal ≡ Some too_deep) × Adds config.form old new o.entries
+Stops (Parse message position) config old new o = ⊥
+Stops Unsupported config old new o = (o.refusal ≡ Some bad_key) × Adds config.form old new o.entries
+Stops (FromUtf8 cause) config old new o = ⊥
+Stops (Io cause) config old new o = AddsPart config.form old new o.entries
+Stops (ParseInt cause) config old new o = ⊥
+Stops (Utf8 cause) config old new o = ⊥
+Stops OutOfMemory config old new o = AddsSome config.form old new o.entries
+Stops Failed config old new o = ⊥
+
+-- all entries were written and there is no refusal, or what the error says
+abbrev pub Writes : {T : Type 0} → Result T Error → Config → Text → Text → Output → Type 0
+Writes (Ok x) config old new o = (o.refusal ≡ None) × Adds config.form old new o.entries
+Writes (Err e) config old new o = Stops e config old new o
+
+-- a stream and the text in it, by what its sink tells
+abbrev pub text_in : {S : Type 0} → (S → Option (List ℕ)) → (S → Bool) → (S → ℕ) → Stream S → Text
+text_in taken failed name stream = record { taken = taken stream.sink; failed = failed stream.sink; writer = name stream.sink; started = stream.started }
+
+-- what a call that writes to a stream leaves
+abbrev pub WritesTo : {S T : Type 0} → (S → Option (List ℕ)) → (S → Bool) → (S → ℕ) → Result T Error → Config → Stream S → Stream S → Output → Type 0
+WritesTo taken failed name result config old new o = Writes result config (text_in taken failed name old) (text_in taken failed name new) o
+
+-- no value or nothing, also in options and types of their own: what takes no memory where it stands alone
+abbrev pub IsBare : Data → Type 0
+IsBare Data.unit = Unit {0}
+IsBare Data.none = Unit {0}
+IsBare (Data.some d) = IsBare d
+IsBare (Data.boolean b) = ⊥
+IsBare (Data.unsigned n) = ⊥
+IsBare (Data.signed n) = ⊥
+IsBare (Data.character c) = ⊥
+IsBare (Data.text t) = ⊥
+IsBare (Data.bytes b) = ⊥
+IsBare (Data.sequence ds) = ⊥
+IsBare (Data.tuple ds) = ⊥
+IsBare (Data.mapping ps) = ⊥
+IsBare (Data.struct ms) = ⊥
+IsBare (Data.newtype d) = IsBare d
+IsBare (Data.unit_variant name) = ⊥
+IsBare (Data.newtype_variant name d) = ⊥
+IsBare (Data.tuple_variant name ds) = ⊥
+IsBare (Data.struct_variant name ms) = ⊥
+
+-- no other error than those of writing
+abbrev pub IsWriteError : {T : Type 0} → Result T Error → Type 0
+IsWriteError (Ok x) = Unit {0}
+IsWriteError (Err (Custom message)) = ⊥
+IsWriteError (Err (MaxSerializationDepthExceeded depth)) = Unit {0}
+IsWriteError (Err (Parse message position)) = ⊥
+IsWriteError (Err Unsupported) = Unit {0}
+IsWriteError (Err (FromUtf8 cause)) = ⊥
+IsWriteError (Err (Io cause)) = Unit {0}
+IsWriteError (Err (ParseInt cause)) = ⊥
+IsWriteError (Err (Utf8 cause)) = ⊥
+IsWriteError (Err OutOfMemory) = Unit {0}
+IsWriteError (Err Failed) = Unit {0}

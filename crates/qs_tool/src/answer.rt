@@ -1,17 +1,18 @@
 //! The answer to an input: a line and a status.
 
-ghost use Rattle.std.specs.Prelude.{◌≡◌, ◌++◌, true, IfOk, IfSome};
+ghost use Rattle.std.specs.Prelude.{◌≡◌, true, IfOk, IfSome};
 ghost use Rattle.qs_spec.specs.Shape.{is_distinct};
 ghost use Rattle.qs_data.specs.Views.{shape_of};
-ghost use Rattle.qs_tool.specs.Fault.{IfFault, is_out_of_memory};
+ghost use Rattle.qs_tool.specs.Fault.{is_memory};
 ghost use Rattle.qs_tool.specs.Flat.{flat_shape};
-ghost use Rattle.qs_tool.specs.Line.{IsAnswer, IsErrorLine, IsFaulty, IsRewritten, without_newline};
+ghost use Rattle.qs_tool.specs.Line.{IsAnswer, IsErrorLine, without_newline};
 
 use crate::arguments::Request;
 use crate::flat;
+use crate::rewriting::rewritten;
 use crate::streams::{Stop, read_input};
 use qs_data::Shape;
-use qs_tree::{Config, Error, Result};
+use qs_tree::{Config, Error};
 use std::alloc::{AllocError, Global};
 use std::io::Read;
 
@@ -53,7 +54,7 @@ fn answer_to(
             Ok(Answer { line, status: 0 })
         }
         Err(error) => {
-            if is_out_of_memory(&error) {
+            if is_memory(&error) {
                 return Err(AllocError);
             }
             let line = error_line(alloc, &error)?;
@@ -62,20 +63,11 @@ fn answer_to(
     }
 }
 
-/// What the input is written as again.
-fn rewritten(alloc: Global, config: Config, shape: &Shape, input: &[u8]) -> Result<Vec<u8>>
-    requires { is_distinct (shape_of shape.now) ≡ true }
-    ensures text { IfOk result (λ text. IsRewritten config (shape_of shape.now) input.now text.items) }
-    ensures fault { IfFault result (IsFaulty config (shape_of shape.now) input.now) }
+/// Whether the error is that memory was refused: a growth, or a write to memory, which fails for no other reason.
+fn is_memory(error: &Error) -> bool
+    ensures { result ≡ is_memory error.now }
 {
-    Err(Error::OutOfMemory)
-}
-
-/// Whether the error is that a growth was refused.
-fn is_out_of_memory(error: &Error) -> bool
-    ensures { result ≡ is_out_of_memory error.now }
-{
-    matches!(error, Error::OutOfMemory)
+    matches!(error, Error::OutOfMemory | Error::Io(_))
 }
 
 /// The line that says why.

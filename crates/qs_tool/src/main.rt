@@ -5,6 +5,7 @@ mod answer;
 mod arguments;
 mod flat;
 mod program;
+mod rewriting;
 mod streams;
 #[cfg(test)]
 mod tests;

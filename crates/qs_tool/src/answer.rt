@@ -11,8 +11,7 @@ use crate::arguments::Request;
 use crate::flat;
 use crate::rewriting::rewritten;
 use crate::streams::{Stop, read_input};
-use qs_data::Shape;
-use qs_tree::{Config, Error};
+use serde_qs::{Config, Error, Shape};
 use std::alloc::{AllocError, Global};
 use std::io::Read;
 

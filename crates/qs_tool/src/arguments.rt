@@ -5,7 +5,7 @@ ghost use Rattle.std.specs.Option.{option_and_then};
 ghost use Rattle.qs_spec.specs.Scalar.{unsigned_number};
 ghost use Rattle.qs_tool.specs.Arguments.{asked, command_named, choices_of, chosen, choose, valued, format_named, duplicates_named, unchosen, configured};
 
-use qs_tree::{ArrayFormat, Config, DuplicateKeyBehavior};
+use serde_qs::{ArrayFormat, Config, DuplicateKeyBehavior};
 
 /// What the program does.
 #[derive(Clone, Copy, Debug, PartialEq, Eq)]

@@ -8,8 +8,7 @@ ghost use Rattle.qs_data.specs.Views.{data_of, shape_of};
 ghost use Rattle.qs_tool.specs.Fault.{IfFault};
 ghost use Rattle.qs_tool.specs.Line.{IsFaulty, IsRewritten};
 
-use qs_data::{Data, Serializer, Shape};
-use qs_tree::{Config, Error, Result};
+use serde_qs::{Config, Data, Error, Result, Serializer, Shape};
 use std::alloc::Global;
 
 /// What the input is written as again, or why it is refused.

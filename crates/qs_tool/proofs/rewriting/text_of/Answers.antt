@@ -14,4 +14,4 @@ returns-in_err-serialize-clause-fault c =
     let made = c.new-serializer.ensures in
     let P : Config → Type 0 = λ config. (refusal : Refusal) × ((entries config (data_of c.args.value.now)).refusal ≡ Some refusal) in
     rw (p.1, p.2) (λ other. subst P made.config (refusal_told c.in_err-serialize.field-0.0 _ _
-      told.errors (λ h. false≢true (sym made.fresh ∙ told.failed.0 h)) told.too_deep told.bad_key other))
+    told.errors (λ h. false≢true (sym made.fresh ∙ told.failed.0 h)) told.too_deep told.bad_key other))

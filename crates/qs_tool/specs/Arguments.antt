@@ -1,4 +1,4 @@
--- What the program's arguments ask for. docs/PROGRAM.md has the same in words.
+-- What the program's arguments ask for.
 use Rattle.std.specs.Prelude.{ℕ, Bool, true, false, cond, List, [], ◌∷◌, Option, Some, None, option_map, option_and_then, codes}
 use Rattle.std.specs.Str.{bytes_eq}
 use Rattle.qs_spec.specs.Config.{default}

@@ -144,3 +144,6 @@ impl<S: Sink> Serializer<S> {
         result
     }
 }
+
+#[cfg(test)]
+mod tests;

@@ -74,7 +74,8 @@ impl Fields {
     }
 
     fn with(mut self, name: &str, part: Data) -> Result<Fields, AllocError> {
-        self.members.push((String::from_str(self.alloc, name)?, part))?;
+        self.members
+            .push((String::from_str(self.alloc, name)?, part))?;
         Ok(self)
     }
 }
@@ -84,7 +85,13 @@ fn field(alloc: Global, part: Data) -> Result<Data, AllocError> {
     Ok(Data::Struct(Fields::new(alloc).with("a", part)?.members))
 }
 
-fn expect(rt: &impl Abort, alloc: Global, config: Config, datum: &Data, wanted: &str) -> Result<(), Fail> {
+fn expect(
+    rt: &impl Abort,
+    alloc: Global,
+    config: Config,
+    datum: &Data,
+    wanted: &str,
+) -> Result<(), Fail> {
     let mut serializer = Serializer::new(Vec::new(alloc), config);
     serializer.serialize(alloc, datum)?;
     let out = serializer.into_sink().into_writer();
@@ -98,7 +105,13 @@ fn expect_field(rt: &impl Abort, alloc: Global, part: Data, wanted: &str) -> Res
 }
 
 /// The error that the data meet under this limit of depth, in the indexed format, and what is written before it.
-fn expect_error(rt: &impl Abort, alloc: Global, max_depth: usize, datum: &Data, wanted: &str) -> Error {
+fn expect_error(
+    rt: &impl Abort,
+    alloc: Global,
+    max_depth: usize,
+    datum: &Data,
+    wanted: &str,
+) -> Error {
     let config = Config::new().max_depth(max_depth);
     let mut serializer = Serializer::new(Vec::new(alloc), config);
     let result = serializer.serialize(alloc, datum);
@@ -118,8 +131,15 @@ fn writes_a_record(rt: HostRuntime) -> Result<(), Fail> {
         .with("id", Data::Unsigned(42))?
         .with("address", Data::Struct(address.members))?
         .with("user_ids", Data::Seq(pair(alloc, 1, 2)?))?;
-    let wanted = "id=42&address[city]=Carrot+City&address[street]=Special-Street*+No.+11&user_ids[0]=1&user_ids[1]=2";
-    expect(&rt, alloc, Config::new(), &Data::Struct(record.members), wanted)
+    let wanted =
+        "id=42&address[city]=Carrot+City&address[street]=Special-Street*+No.+11&user_ids[0]=1&user_ids[1]=2";
+    expect(
+        &rt,
+        alloc,
+        Config::new(),
+        &Data::Struct(record.members),
+        wanted,
+    )
 }
 
 #[test]
@@ -132,7 +152,9 @@ fn writes_variants(rt: HostRuntime) -> Result<(), Fail> {
     expect_field(&rt, alloc, newtype, "a[b]=true")?;
     let tuple = Data::TupleVariant(String::from_str(alloc, "d")?, pair(alloc, 128, 1)?);
     expect_field(&rt, alloc, tuple, "a[d][0]=128&a[d][1]=1")?;
-    let members = Fields::new(alloc).with("x", Data::Unsigned(2))?.with("y", Data::Unsigned(3))?;
+    let members = Fields::new(alloc)
+        .with("x", Data::Unsigned(2))?
+        .with("y", Data::Unsigned(3))?;
     let fields = Data::StructVariant(String::from_str(alloc, "c")?, members.members);
     expect_field(&rt, alloc, fields, "a[c][x]=2&a[c][y]=3")
 }
@@ -143,7 +165,13 @@ fn writes_lists(rt: HostRuntime) -> Result<(), Fail> {
     let list = Data::Seq(pair(alloc, 1, 2)?);
     let unindexed = Config::new().array_format(ArrayFormat::Unindexed);
     expect(&rt, alloc, Config::new(), &list, "0=1&1=2")?;
-    expect(&rt, alloc, Config::new().array_format(ArrayFormat::EmptyIndexed), &list, "=1&=2")?;
+    expect(
+        &rt,
+        alloc,
+        Config::new().array_format(ArrayFormat::EmptyIndexed),
+        &list,
+        "=1&=2",
+    )?;
     expect(&rt, alloc, unindexed, &list, "=1=2")?;
     let deep = field(alloc, list)?;
     expect(&rt, alloc, unindexed.max_depth(0), &deep, "a=1&a=2")?;
@@ -162,7 +190,12 @@ fn writes_options_and_empty_parts(rt: HostRuntime) -> Result<(), Fail> {
     expect_field(&rt, alloc, Data::Map(Vec::new(alloc)), "a=")?;
     expect_field(&rt, alloc, Data::Struct(Vec::new(alloc)), "")?;
     let list = Data::Seq(pair(alloc, 1, 2)?);
-    expect_field(&rt, alloc, Data::Some(Box::new(alloc, list)?), "a[0]=1&a[1]=2")
+    expect_field(
+        &rt,
+        alloc,
+        Data::Some(Box::new(alloc, list)?),
+        "a[0]=1&a[1]=2",
+    )
 }
 
 #[test]
@@ -172,7 +205,10 @@ fn writes_scalars(rt: HostRuntime) -> Result<(), Fail> {
     expect_field(&rt, alloc, Data::Signed(-129), "a=-129")?;
     expect_field(&rt, alloc, Data::Char('\u{e9}'), "a=%C3%A9")?;
     let form = Config::new().use_form_encoding(true);
-    let bytes = field(alloc, Data::Bytes(Vec::from_slice(alloc, b"hello, world!")?))?;
+    let bytes = field(
+        alloc,
+        Data::Bytes(Vec::from_slice(alloc, b"hello, world!")?),
+    )?;
     expect(&rt, alloc, Config::new(), &bytes, "a=hello,+world!")?;
     expect(&rt, alloc, form, &bytes, "a=hello%2C%20world%21")?;
     let mut pairs = Vec::new(alloc);
@@ -205,7 +241,10 @@ fn tests_a_key_before_the_depth(rt: HostRuntime) -> Result<(), Fail> {
     pairs.push((Data::Unit, Data::Unit))?;
     let map = field(alloc, Data::Map(pairs))?;
     assert!(rt; matches!(expect_error(&rt, alloc, 0, &map, ""), Error::Unsupported));
-    let variant = field(alloc, Data::TupleVariant(String::from_str(alloc, "v")?, Vec::new(alloc)))?;
+    let variant = field(
+        alloc,
+        Data::TupleVariant(String::from_str(alloc, "v")?, Vec::new(alloc)),
+    )?;
     let refused = expect_error(&rt, alloc, 0, &variant, "");
     assert!(rt; matches!(refused, Error::MaxSerializationDepthExceeded(0)));
     expect(&rt, alloc, Config::new().max_depth(1), &variant, "")

@@ -4,3 +4,10 @@ pub mod Wrote
 pub mod Visible
 pub mod Entry
 pub mod Walk
+pub mod Refusals
+pub mod Numbers
+pub mod Scalars
+pub mod Found
+pub mod Entries
+pub mod Steps
+pub mod Fields

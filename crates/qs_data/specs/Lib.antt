@@ -3,3 +3,8 @@ pub mod Put
 pub mod Writes
 pub mod Scalars
 pub mod State
+pub mod Text
+pub mod Gives
+pub mod Widths
+pub mod ScalarText
+pub mod Keys

@@ -4,6 +4,7 @@
 mod copy;
 mod data;
 mod distinct;
+mod read;
 mod serializer;
 mod shape;
 mod sink;

@@ -5,3 +5,4 @@ pub mod Keys
 pub mod EncodedSets
 pub mod EncodedFronts
 pub mod DecodedFronts
+pub mod Ordered

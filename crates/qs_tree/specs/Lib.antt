@@ -4,5 +4,6 @@ pub mod Search
 pub mod Places
 pub mod formers
 pub mod Views
+pub mod Ordered
 pub mod Keys
 pub mod Escapes

@@ -3,6 +3,7 @@ ghost use Rattle.std.specs.Prelude.{◌≡◌, [], length, ◌∷◌, ◌<◌, �
 ghost use Rattle.std.specs.List.Sorted.{IsStrictlySortedBy};
 ghost use Rattle.std.specs.Map.{keys_of};
 ghost use Rattle.qs_tree.specs.Keys.{key_cmp};
+ghost use Rattle.qs_tree.specs.Ordered.{AreOrdered};
 ghost use Rattle.qs_tree.specs.Places.{IsHit, IsGap, binary_digits};
 ghost use Rattle.qs_tree.specs.Views.{segment_of_key, step_of_key, tree_of, entries_of_map, map_pairs, find, take_out};
 
@@ -49,7 +50,8 @@ impl<'qs> ParsedMap<'qs> {
     /// The value at a key, of any lifetime. Compares at most as many keys as the length has binary digits.
     #[must_use]
     pub fn get<'k>(&self, key: &Key<'k>) -> Option<&ParsedValue<'qs>>
-        ensures { option_map (λ v. tree_of v.now) result ≡ find (segment_of_key key.now) (entries_of_map self.now) }
+        ensures value { option_map (λ v. tree_of v.now) result ≡ find (segment_of_key key.now) (entries_of_map self.now) }
+        ensures ordered { AreOrdered (entries_of_map self.now) }
     {
         let entries = self.map.as_slice();
         match search(entries, key).place {

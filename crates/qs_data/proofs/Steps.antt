@@ -1,0 +1,16 @@
+-- Steps of a loop that reads part by part.
+use Rattle.std.proofs.Common.{◌≡◌, ℕ, suc, ◌+◌, ◌<◌, Bool, List, [], ◌∷◌, ◌++◌, map, Option, Some, None, drop, length, get_or, refl, sym, ap, ◌∙◌, append_assoc}
+use Rattle.std.specs.Option.{option_map}
+use Rattle.qs_spec.specs.Read.{with_front}
+
+-- what was read, in front of what is read of the rest
+abbrev pub before : {A : Type 0} → List A → Option (List A) → Option (List A)
+before xs r = option_map (λ ys. xs ++ ys) r
+
+pub before-nil : {A : Type 0} (r : Option (List A)) → r ≡ before [] r
+before-nil None = refl
+before-nil (Some x) = refl
+
+pub before-front : {A : Type 0} (xs : List A) (x : A) (r : Option (List A)) → before xs (with_front x r) ≡ before (xs ++ x ∷ []) r
+before-front xs x None = refl
+before-front xs x (Some ys) = ap Some (sym (append_assoc xs (x ∷ []) ys))

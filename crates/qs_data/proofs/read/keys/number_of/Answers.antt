@@ -1,0 +1,20 @@
+use Rattle.std.proofs.Common.{◌≡◌, ℕ, Ok, decimal, sym, ap, ◌∙◌, arith}
+use Rattle.std.specs.Str.{bytes_eq}
+use Rattle.std.proofs.lemmas.Bool.{false≢true}
+use Rattle.std.proofs.lemmas.Fmt.{parse-decimal}
+use Rattle.qs_data.proofs.Found.{bytes_eq_same}
+use Rattle.qs_data.proofs.read.keys.number_of.Goals as goal
+
+pub returns-else-eq : goal.returns-else-eq
+returns-else-eq c = λ n lt is.
+    let name = c.args.name.now in
+    let read : c.parse.result ≡ Ok n = parse-decimal 32 n name c.parse.result lt (omega arith) (sym is) c.parse.ensures.value.0 in
+    let same : n ≡ c.in-Ok.number = cc in
+    let written = c.format.ensures.text ∙ ap decimal (sym same) ∙ is in
+    false≢true (c.if-eq.ensures ∙ bytes_eq_same c.format.result.now name written)
+
+pub returns-in-Err : goal.returns-in-Err
+returns-in-Err c = λ n lt is.
+    let name = c.args.name.now in
+    let read : c.parse.result ≡ Ok n = parse-decimal 32 n name c.parse.result lt (omega arith) (sym is) c.parse.ensures.value.0 in
+    absurd cc

@@ -1,0 +1,7 @@
+use Rattle.qs_tree.specs.Views.{entries_of_map}
+use Rattle.qs_data.specs.Keys.{entries_after}
+use Rattle.qs_data.proofs.Entries.{Tested}
+use Rattle.qs_data.proofs.read.keys.test_map.Given as goal
+
+abbrev pub invariant-loop-i : goal.invariant-loop-i
+invariant-loop-i l = Tested (entries_of_map l.map) (entries_after l.i (entries_of_map l.map)) l.tested

@@ -1,0 +1,17 @@
+use Rattle.std.specs.Str.{is_utf8}
+use Rattle.qs_spec.specs.Scalar.{boolean_data}
+use Rattle.qs_data.specs.Views.{data_of}
+use Rattle.qs_data.specs.ScalarText.{utf8_text}
+use Rattle.qs_data.proofs.Refusals.{gives_exit, frugal_exit}
+use Rattle.qs_data.proofs.Scalars.{boolean_none}
+use Rattle.qs_data.proofs.read.scalar.bool_data.Goals as goal
+
+pub returns-in_err-as_text-clause-gives : goal.returns-in_err-as_text-clause-gives
+returns-in_err-as_text-clause-gives c =
+    let b = c.args.bytes.now in
+    gives_exit data_of (is_utf8 b) (is_utf8 b) c.from_residual.result c.in_err-as_text.field-0.0 (utf8_text b) (boolean_data b) c.from_residual.ensures.1 c.in_err-as_text.ensures.gives (boolean_none b) (λ n. n)
+
+pub returns-in_err-as_text-clause-frugal : goal.returns-in_err-as_text-clause-frugal
+returns-in_err-as_text-clause-frugal c =
+    let b = c.args.bytes.now in
+    frugal_exit c.from_residual.result c.in_err-as_text.field-0.0 (utf8_text b) (boolean_data b) c.from_residual.ensures.1 c.in_err-as_text.ensures.frugal (boolean_none b)

@@ -1,0 +1,43 @@
+-- What a reader of the code answers, against what the definitions give.
+use Rattle.std.specs.Prelude.{◌≡◌, ⊤, Bool, true, false, Result, Ok, Err, Option, Some, None}
+use Rattle.qs_spec.specs.Shape.{Shape}
+use Rattle.qs_tree.specs.declared.error.Error.{Error}
+use Rattle.qs_tree.specs.declared.error.Error.TheVariants.{Custom, Utf8, OutOfMemory}
+
+-- the error says that a tree doesn't fit a shape, or that its message found no memory
+abbrev pub IsFault : Error → Type 0
+IsFault (Custom message) = ⊤
+IsFault OutOfMemory = ⊤
+IsFault _ = ⊥
+
+-- The error says that there is nothing to answer, unless it says that memory ran out; and `Utf8` comes only where not all
+-- that was read is text.
+abbrev pub Refuses : {Y : Type 0} → Bool → Error → Option Y → Type 0
+Refuses all_text (Custom message) r = r ≡ None
+Refuses all_text (Utf8 cause) r = (r ≡ None) × (all_text ≡ false)
+Refuses all_text OutOfMemory r = ⊤
+Refuses all_text _ r = ⊥
+
+-- seen by view, what was answered is what there is to answer
+abbrev pub Gives : {X Y : Type 0} → (X → Y) → Bool → Result X Error → Option Y → Type 0
+Gives view all_text (Ok x) r = r ≡ Some (view x)
+Gives view all_text (Err e) r = Refuses all_text e r
+
+-- the error says that memory ran out only where there is nothing to answer
+abbrev pub Spares : {Y : Type 0} → Error → Option Y → Type 0
+Spares OutOfMemory r = r ≡ None
+Spares _ r = ⊤
+
+-- memory runs out only where there is nothing to answer
+abbrev pub IsFrugal : {X Y : Type 0} → Result X Error → Option Y → Type 0
+IsFrugal (Ok x) r = ⊤
+IsFrugal (Err e) r = Spares e r
+
+-- data of the shape take no memory
+abbrev pub takes_no_memory : Shape → Bool
+takes_no_memory Shape.unit = true
+takes_no_memory Shape.boolean = true
+takes_no_memory (Shape.unsigned bits) = true
+takes_no_memory (Shape.signed bits) = true
+takes_no_memory Shape.character = true
+takes_no_memory _ = false

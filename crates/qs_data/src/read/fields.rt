@@ -1,0 +1,140 @@
+//! Reading the fields of a struct.
+
+ghost use Rattle.std.specs.Prelude.{Some, None, cond, drop, map, option_map, option_and_then};
+ghost use Rattle.qs_spec.specs.Shape.{is_option as is_option_shape};
+ghost use Rattle.qs_spec.specs.Read.{struct_members, reads, reads_names, reads_places, read_field, read_place, found, keys_are_text};
+ghost use Rattle.qs_tree.specs.Views.{tree_of, items_from};
+ghost use Rattle.qs_data.specs.Views.{data_of, field_of, fields_in, named, shape_of};
+ghost use Rattle.qs_data.specs.Text.{is_text, items_are_text, entries_are_text};
+ghost use Rattle.qs_data.specs.Gives.{Gives};
+ghost use Rattle.qs_data.specs.Keys.{NumbersFit, entries_of};
+ghost use Rattle.std.specs.Prelude.{◌≡◌};
+
+use crate::data::Data;
+use crate::read::fault::{Expected, Fault};
+use crate::read::keys::{Entries, Found, find, test_keys};
+use crate::read::read;
+use crate::read::scalar::as_text;
+use crate::shape::{Field, Shape};
+use qs_tree::{ParsedValue, Result};
+use std::alloc::Global;
+
+/// The fields of a node: by their names among keys, and by their places among items.
+#[cycle(read)]
+#[tactic(auto, unfolding(qs_spec::specs::Read::struct_members))]
+pub(crate) fn read_struct(alloc: Global, strict: bool, fields: &Vec<Field>, value: &ParsedValue<'_>) -> Result<Vec<(String, Data)>>
+    ensures { Gives (λ v. map (named data_of) v.items) (is_text (tree_of value.now)) result
+        (struct_members (reads_names strict (fields_in fields.now.items)) (reads_places strict (fields_in fields.now.items)) (tree_of value.now)) }
+{
+    match value {
+        ParsedValue::NoValue | ParsedValue::Null => read_entries(alloc, strict, fields, Entries::Empty),
+        ParsedValue::Map(map) => read_entries(alloc, strict, fields, Entries::Map(map)),
+        ParsedValue::Sequence(items) => read_places(alloc, strict, fields, items),
+        ParsedValue::String(text) => {
+            as_text(text.as_slice())?;
+            Err(Fault::mismatch(alloc, value, Expected::Struct))
+        }
+        ParsedValue::Uninitialized => Err(Fault::mismatch(alloc, value, Expected::Struct)),
+    }
+}
+
+/// The fields by their names, and then a test of all keys.
+#[cycle(read)]
+pub(crate) fn read_entries(alloc: Global, strict: bool, fields: &Vec<Field>, entries: Entries<'_, '_>) -> Result<Vec<(String, Data)>>
+    ensures { Gives (λ v. map (named data_of) v.items) (entries_are_text (entries_of entries.entry)) result
+        (option_and_then (λ ms. cond (keys_are_text (entries_of entries.entry)) (Some ms) None)
+            (reads_names strict (fields_in fields.now.items) (entries_of entries.entry))) }
+{
+    let tested = test_keys(entries);
+    let members = read_names(alloc, strict, fields, entries)?;
+    tested?;
+    Ok(members)
+}
+
+// The fields by their names, in their order.
+#[cycle(read)]
+#[tactic(auto, unfolding(qs_spec::specs::Read::reads))]
+fn read_names(alloc: Global, strict: bool, fields: &Vec<Field>, entries: Entries<'_, '_>) -> Result<Vec<(String, Data)>>
+    requires { NumbersFit (entries_of entries) }
+    ensures { Gives (λ v. map (named data_of) v.items) (entries_are_text (entries_of entries.entry)) result
+        (reads_names strict (fields_in fields.now.items) (entries_of entries.entry)) }
+{
+    let mut members = Vec::new(alloc);
+    for field in fields {
+        let Some(value) = read_field(alloc, strict, field, entries)? else {
+            continue;
+        };
+        let name = field.name.clone()?;
+        members.push((name, value))?;
+    }
+    Ok(members)
+}
+
+// A field by its name, if it isn't left out.
+#[cycle(read)]
+fn read_field(alloc: Global, strict: bool, field: &Field, entries: Entries<'_, '_>) -> Result<Option<Data>>
+    requires { NumbersFit (entries_of entries) }
+    ensures { let f = field_of field.now in
+        Gives (option_map data_of) (entries_are_text (entries_of entries.entry)) result
+            (read_field f.2 (is_option_shape f.1) (reads strict f.1) (found f.0 (entries_of entries.entry))) }
+{
+    match find(entries, &field.name) {
+        Found::Missing => {
+            if field.optional {
+                Ok(None)
+            } else if is_option(&field.shape) {
+                Ok(Some(Data::None))
+            } else {
+                Err(Fault::MissingField(&field.name).error(alloc))
+            }
+        }
+        Found::One(value) => Ok(Some(read(alloc, strict, &field.shape, value)?)),
+        Found::Several => Err(Fault::DuplicateField(&field.name).error(alloc)),
+    }
+}
+
+fn is_option(shape: &Shape) -> bool
+    ensures { result ≡ is_option_shape (shape_of shape.now) }
+{
+    match shape {
+        Shape::Option(_) => true,
+        _ => false,
+    }
+}
+
+// The fields by their places.
+#[cycle(read)]
+#[tactic(auto, unfolding(qs_spec::specs::Read::reads))]
+fn read_places(alloc: Global, strict: bool, fields: &Vec<Field>, items: &[ParsedValue<'_>]) -> Result<Vec<(String, Data)>>
+    ensures { Gives (λ v. map (named data_of) v.items) (items_are_text (items_from (map tree_of items.now))) result
+        (reads_places strict (fields_in fields.now.items) (items_from (map tree_of items.now))) }
+{
+    let mut members = Vec::new(alloc);
+    for (i, field) in fields.iter().enumerate() {
+        let Some(value) = read_place(alloc, strict, field, items, i)? else {
+            continue;
+        };
+        let name = field.name.clone()?;
+        members.push((name, value))?;
+    }
+    Ok(members)
+}
+
+// A field by its place, if it isn't left out.
+#[cycle(read)]
+fn read_place(alloc: Global, strict: bool, field: &Field, items: &[ParsedValue<'_>], place: usize) -> Result<Option<Data>>
+    ensures { let f = field_of field.now in
+        Gives (option_map data_of) (items_are_text (items_from (map tree_of items.now))) result
+            (read_place f.2 (reads strict f.1) (items_from (map tree_of (drop place items.now)))) }
+{
+    match items.get(place) {
+        Some(item) => Ok(Some(read(alloc, strict, &field.shape, item)?)),
+        None => {
+            if field.optional {
+                Ok(None)
+            } else {
+                Err(Fault::InvalidLength(items.len()).error(alloc))
+            }
+        }
+    }
+}

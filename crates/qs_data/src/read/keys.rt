@@ -1,0 +1,141 @@
+//! The keys of a map.
+
+ghost use Rattle.std.specs.Prelude.{◌++◌, true};
+ghost use Rattle.std.specs.Str.{is_utf8};
+ghost use Rattle.qs_spec.specs.Segment.{segment_text};
+ghost use Rattle.qs_spec.specs.Read.{found, keys_are_text};
+ghost use Rattle.qs_tree.specs.Views.{entries_of_map, segment_of_key};
+ghost use Rattle.qs_data.specs.Gives.{Gives};
+ghost use Rattle.qs_data.specs.Keys.{Finds, NumbersFit, TellsNumber, KeyFits, entries_of, value_in, passed};
+ghost use Rattle.qs_data.specs.Text.{entries_are_text};
+
+use crate::read::scalar::as_text;
+use itoa::Buffer;
+use qs_tree::{Key, ParsedMap, ParsedValue, Result};
+
+/// Keys with their values.
+#[derive(Clone, Copy)]
+pub(crate) enum Entries<'t, 'qs> {
+    /// None.
+    Empty,
+    /// Those of a map.
+    Map(&'t ParsedMap<'qs>),
+    /// A leaf under the empty text.
+    Leaf(&'t ParsedValue<'qs>),
+}
+
+/// What stands under a name.
+#[derive(Clone, Copy)]
+pub(crate) enum Found<'t, 'qs> {
+    /// Nothing.
+    Missing,
+    /// This value.
+    One(&'t ParsedValue<'qs>),
+    /// Two values, one under the text and one under the number that is written so.
+    Several,
+}
+
+/// The value under a name.
+pub(crate) fn find<'t, 'qs>(entries: Entries<'t, 'qs>, name: &str) -> Found<'t, 'qs>
+    requires { NumbersFit (entries_of entries) }
+    ensures { Finds result (found name.now (entries_of entries.entry)) }
+{
+    match entries {
+        Entries::Empty => Found::Missing,
+        Entries::Map(map) => find_in_map(map, name),
+        Entries::Leaf(leaf) => {
+            if name.is_empty() {
+                Found::One(leaf)
+            } else {
+                Found::Missing
+            }
+        }
+    }
+}
+
+// The same in a map: by the text, and by the number that is written so.
+fn find_in_map<'t, 'qs>(map: &'t ParsedMap<'qs>, name: &str) -> Found<'t, 'qs>
+    requires { NumbersFit (entries_of_map map.now) }
+    ensures { Finds result (found name.now (entries_of_map map.now)) }
+{
+    let by_text = map.get(&Key::from(name));
+    match number_of(name) {
+        Some(number) => either(map.get(&Key::from(number)), by_text),
+        None => either(None, by_text),
+    }
+}
+
+// The only one of two values.
+fn either<'t, 'qs>(a: Option<&'t ParsedValue<'qs>>, b: Option<&'t ParsedValue<'qs>>) -> Found<'t, 'qs>
+    ensures { Finds result (value_in a.entry ++ value_in b.entry) }
+{
+    match (a, b) {
+        (None, None) => Found::Missing,
+        (Some(value), None) | (None, Some(value)) => Found::One(value),
+        (Some(_), Some(_)) => Found::Several,
+    }
+}
+
+// The number that is written so.
+fn number_of(name: &str) -> Option<u32>
+    ensures { TellsNumber result name.now }
+{
+    match name.parse::<u32>() {
+        Ok(number) => {
+            let mut buffer = Buffer::new();
+            if buffer.format(number) == name {
+                Some(number)
+            } else {
+                None
+            }
+        }
+        Err(_) => None,
+    }
+}
+
+/// Whether all keys are texts: the first fault, of all that there are.
+pub(crate) fn test_keys(entries: Entries<'_, '_>) -> Result<()>
+    ensures text { Gives (λ _. true) (entries_are_text (entries_of entries.entry)) result
+        (passed (keys_are_text (entries_of entries.entry))) }
+    ensures fit { NumbersFit (entries_of entries.entry) }
+{
+    match entries {
+        Entries::Empty => Ok(()),
+        Entries::Leaf(_) => Ok(()),
+        Entries::Map(map) => test_map(map),
+    }
+}
+
+// The same of a map. All keys are looked at, so their numbers are known to have 32 bits whatever comes of the test.
+fn test_map(map: &ParsedMap<'_>) -> Result<()>
+    ensures text { Gives (λ _. true) (entries_are_text (entries_of_map map.now)) result
+        (passed (keys_are_text (entries_of_map map.now))) }
+    ensures fit { NumbersFit (entries_of_map map.now) }
+{
+    let mut tested = Ok(());
+    for i in 0..map.len() {
+        let Some((key, _)) = map.at(i) else {
+            break;
+        };
+        tested = tested.and(test_key(key));
+    }
+    tested
+}
+
+// Whether a key is a text.
+fn test_key(key: &Key<'_>) -> Result<()>
+    ensures text { Gives (λ _. true) (is_utf8 (segment_text (segment_of_key key.now))) result
+        (passed (is_utf8 (segment_text (segment_of_key key.now)))) }
+    ensures fit { KeyFits (segment_of_key key.now) }
+{
+    match key {
+        Key::Int(number) => {
+            let _fits = *number;
+            Ok(())
+        }
+        Key::String(text) => {
+            as_text(text.as_slice())?;
+            Ok(())
+        }
+    }
+}

@@ -1,0 +1,249 @@
+//! Reading one value: a boolean, a number, a character, a text or bytes.
+
+ghost use Rattle.std.specs.Prelude.{◌≡◌, [], Some, None, true, option_map};
+ghost use Rattle.std.specs.Str.{is_utf8};
+ghost use Rattle.qs_spec.specs.Data as d;
+ghost use Rattle.qs_spec.specs.Scalar.{boolean_data, unsigned_data, signed_data, character_data, text_data, unsigned_number, signed_number};
+ghost use Rattle.qs_spec.specs.Read.{read_scalar, read_unit, read_character, last_item, item_text};
+ghost use Rattle.qs_tree.specs.Views.{tree_of, items_from};
+ghost use Rattle.qs_data.specs.Views.{data_of};
+ghost use Rattle.qs_data.specs.Text.{is_text};
+ghost use Rattle.qs_data.specs.Gives.{Gives, IsFrugal};
+ghost use Rattle.qs_data.specs.Widths.{bits_of};
+ghost use Rattle.qs_data.specs.ScalarText.{scalar_text, utf8_text};
+ghost use Rattle.std.specs.Prelude.{map};
+
+use crate::data::Data;
+use crate::read::fault::{Expected, Fault, Kind};
+use crate::read::width::Width;
+use qs_tree::{ParsedValue, Result};
+use std::alloc::Global;
+use std::str;
+
+/// Nothing, where there is no value or an empty one.
+pub(crate) fn read_unit(alloc: Global, value: &ParsedValue<'_>) -> Result<Data>
+    ensures gives { Gives data_of (is_text (tree_of value.now)) result (read_unit (tree_of value.now)) }
+    ensures frugal { IsFrugal result (read_unit (tree_of value.now)) }
+{
+    match value {
+        ParsedValue::NoValue | ParsedValue::Null => Ok(Data::Unit),
+        ParsedValue::String(text) => {
+            as_text(text.as_slice())?;
+            Err(Fault::mismatch(alloc, value, Expected::Unit))
+        }
+        _ => Err(Fault::mismatch(alloc, value, Expected::Unit)),
+    }
+}
+
+/// A boolean: the last text, and true where there is none.
+pub(crate) fn read_bool(alloc: Global, strict: bool, value: &ParsedValue<'_>) -> Result<Data>
+    ensures gives { Gives data_of (is_text (tree_of value.now)) result
+        (read_scalar strict (Some (d.boolean true)) boolean_data (tree_of value.now)) }
+    ensures frugal { IsFrugal result (read_scalar strict (Some (d.boolean true)) boolean_data (tree_of value.now)) }
+{
+    match scalar_text(alloc, strict, value, Expected::Bool)? {
+        Some(bytes) => bool_data(alloc, bytes),
+        None => Ok(Data::Bool(true)),
+    }
+}
+
+/// An unsigned number: the last text.
+pub(crate) fn read_unsigned(alloc: Global, strict: bool, width: Width, value: &ParsedValue<'_>) -> Result<Data>
+    ensures gives { Gives data_of (is_text (tree_of value.now)) result
+        (read_scalar strict None (unsigned_data (bits_of width)) (tree_of value.now)) }
+    ensures frugal { IsFrugal result (read_scalar strict None (unsigned_data (bits_of width)) (tree_of value.now)) }
+{
+    let expected = Expected::Unsigned(width);
+    match scalar_text(alloc, strict, value, expected)? {
+        Some(bytes) => unsigned_data(alloc, width, bytes),
+        None => Err(Fault::mismatch(alloc, value, expected)),
+    }
+}
+
+/// A signed number: the last text.
+pub(crate) fn read_signed(alloc: Global, strict: bool, width: Width, value: &ParsedValue<'_>) -> Result<Data>
+    ensures gives { Gives data_of (is_text (tree_of value.now)) result
+        (read_scalar strict None (signed_data (bits_of width)) (tree_of value.now)) }
+    ensures frugal { IsFrugal result (read_scalar strict None (signed_data (bits_of width)) (tree_of value.now)) }
+{
+    let expected = Expected::Signed(width);
+    match scalar_text(alloc, strict, value, expected)? {
+        Some(bytes) => signed_data(alloc, width, bytes),
+        None => Err(Fault::mismatch(alloc, value, expected)),
+    }
+}
+
+/// A character: a text of just one.
+pub(crate) fn read_char(alloc: Global, value: &ParsedValue<'_>) -> Result<Data>
+    ensures gives { Gives data_of (is_text (tree_of value.now)) result (read_character (tree_of value.now)) }
+    ensures frugal { IsFrugal result (read_character (tree_of value.now)) }
+{
+    match value {
+        ParsedValue::String(text) => char_data(alloc, text.as_slice()),
+        _ => Err(Fault::mismatch(alloc, value, Expected::Char)),
+    }
+}
+
+/// A text: the last one, and the empty one where there is none.
+pub(crate) fn read_text(alloc: Global, strict: bool, value: &ParsedValue<'_>) -> Result<Data>
+    ensures { Gives data_of (is_text (tree_of value.now)) result (read_scalar strict (Some (d.text [])) text_data (tree_of value.now)) }
+{
+    match scalar_text(alloc, strict, value, Expected::Text)? {
+        Some(bytes) => text_data(alloc, bytes),
+        None => Ok(Data::Text(String::new(alloc))),
+    }
+}
+
+/// Bytes: those of the last text, and none where there is none.
+pub(crate) fn read_bytes(alloc: Global, strict: bool, value: &ParsedValue<'_>) -> Result<Data>
+    ensures { Gives data_of (is_text (tree_of value.now)) result
+        (read_scalar strict (Some (d.bytes [])) (λ b. Some (d.bytes b)) (tree_of value.now)) }
+{
+    match scalar_text(alloc, strict, value, Expected::Bytes)? {
+        Some(bytes) => Ok(Data::Bytes(Vec::from_slice(alloc, bytes)?)),
+        None => Ok(Data::Bytes(Vec::new(alloc))),
+    }
+}
+
+// The last text of a node, if it has one; none where there is no value or an empty one.
+fn scalar_text<'t>(
+    alloc: Global,
+    strict: bool,
+    value: &'t ParsedValue<'_>,
+    expected: Expected,
+) -> Result<Option<&'t [u8]>>
+    ensures gives { Gives (option_map (λ b. b.now)) true result (scalar_text strict (tree_of value.now)) }
+    ensures frugal { IsFrugal result (scalar_text strict (tree_of value.now)) }
+{
+    match value {
+        ParsedValue::NoValue | ParsedValue::Null => Ok(None),
+        ParsedValue::String(text) => Ok(Some(text.as_slice())),
+        ParsedValue::Sequence(items) => Ok(Some(last_text(alloc, strict, items, expected)?)),
+        ParsedValue::Map(_) | ParsedValue::Uninitialized => Err(Fault::mismatch(alloc, value, expected)),
+    }
+}
+
+// The text of the last item; several items are refused under `strict`.
+fn last_text<'t>(
+    alloc: Global,
+    strict: bool,
+    items: &'t [ParsedValue<'_>],
+    expected: Expected,
+) -> Result<&'t [u8]>
+    ensures gives { Gives (λ b. b.now) true result (last_item strict (items_from (map tree_of items.now))) }
+    ensures frugal { IsFrugal result (last_item strict (items_from (map tree_of items.now))) }
+{
+    let Some(last) = items.last() else {
+        let found = Kind::Sequence;
+        return Err(Fault::InvalidType { found, expected }.error(alloc));
+    };
+    if strict && items.len() > 1 {
+        return Err(Fault::SeveralValues.error(alloc));
+    }
+    item_text(alloc, last, expected)
+}
+
+// The text of an item, which is empty where there is no value or an empty one.
+fn item_text<'t>(alloc: Global, value: &'t ParsedValue<'_>, expected: Expected) -> Result<&'t [u8]>
+    ensures gives { Gives (λ b. b.now) true result (item_text (tree_of value.now)) }
+    ensures frugal { IsFrugal result (item_text (tree_of value.now)) }
+{
+    match value {
+        ParsedValue::NoValue | ParsedValue::Null => Ok(&[]),
+        ParsedValue::String(text) => Ok(text.as_slice()),
+        _ => Err(Fault::mismatch(alloc, value, expected)),
+    }
+}
+
+/// Bytes as text, where they are UTF-8.
+#[tactic(auto, using(crate::proofs::Refusals::utf8_tests))]
+pub(crate) fn as_text(bytes: &[u8]) -> Result<&str>
+    ensures gives { Gives (λ s. s.now) (is_utf8 bytes.now) result (utf8_text bytes.now) }
+    ensures frugal { IsFrugal result (utf8_text bytes.now) }
+{
+    Ok(str::from_utf8(bytes)?)
+}
+
+/// The boolean that a text stands for.
+pub(crate) fn bool_data(alloc: Global, bytes: &[u8]) -> Result<Data>
+    ensures gives { Gives data_of (is_utf8 bytes.now) result (boolean_data bytes.now) }
+    ensures frugal { IsFrugal result (boolean_data bytes.now) }
+{
+    match as_text(bytes)?.parse::<bool>() {
+        Ok(value) => Ok(Data::Bool(value)),
+        Err(_) => Err(Fault::unreadable(alloc, Expected::Bool)),
+    }
+}
+
+/// The unsigned number that a text stands for: digits, and a `+` before them or none.
+pub(crate) fn unsigned_data(alloc: Global, width: Width, bytes: &[u8]) -> Result<Data>
+    ensures gives { Gives data_of (is_utf8 bytes.now) result (unsigned_data (bits_of width) bytes.now) }
+    ensures frugal { IsFrugal result (unsigned_data (bits_of width) bytes.now) }
+{
+    match unsigned(width, as_text(bytes)?) {
+        Some(number) => Ok(Data::Unsigned(number)),
+        None => Err(Fault::unreadable(alloc, Expected::Unsigned(width))),
+    }
+}
+
+/// The signed number that a text stands for: digits, and a `+` or a `-` before them or none.
+pub(crate) fn signed_data(alloc: Global, width: Width, bytes: &[u8]) -> Result<Data>
+    ensures gives { Gives data_of (is_utf8 bytes.now) result (signed_data (bits_of width) bytes.now) }
+    ensures frugal { IsFrugal result (signed_data (bits_of width) bytes.now) }
+{
+    match signed(width, as_text(bytes)?) {
+        Some(number) => Ok(Data::Signed(number)),
+        None => Err(Fault::unreadable(alloc, Expected::Signed(width))),
+    }
+}
+
+/// The one character of a text.
+pub(crate) fn char_data(alloc: Global, bytes: &[u8]) -> Result<Data>
+    ensures gives { Gives data_of (is_utf8 bytes.now) result (character_data bytes.now) }
+    ensures frugal { IsFrugal result (character_data bytes.now) }
+{
+    match as_text(bytes)?.parse::<char>() {
+        Ok(character) => Ok(Data::Char(character)),
+        Err(_) => Err(Fault::unreadable(alloc, Expected::Char)),
+    }
+}
+
+/// A text, which must be UTF-8.
+pub(crate) fn text_data(alloc: Global, bytes: &[u8]) -> Result<Data>
+    ensures { Gives data_of (is_utf8 bytes.now) result (text_data bytes.now) }
+{
+    let text = as_text(bytes)?;
+    Ok(Data::Text(String::from_str(alloc, text)?))
+}
+
+// The number of a text, where it has this width.
+fn unsigned(width: Width, text: &str) -> Option<u64>
+    ensures { result ≡ unsigned_number (bits_of width) text.now }
+{
+    match text.parse::<u64>() {
+        Ok(number) => {
+            if number <= width.unsigned_max() {
+                Some(number)
+            } else {
+                None
+            }
+        }
+        Err(_) => None,
+    }
+}
+
+// The same of a signed number.
+fn signed(width: Width, text: &str) -> Option<i64>
+    ensures { result ≡ signed_number (bits_of width) text.now }
+{
+    match text.parse::<i64>() {
+        Ok(number) => {
+            if width.signed_min() <= number && number <= width.signed_max() {
+                Some(number)
+            } else {
+                None
+            }
+        }
+        Err(_) => None,
+    }
+}

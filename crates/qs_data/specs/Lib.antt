@@ -8,3 +8,5 @@ pub mod Gives
 pub mod Widths
 pub mod ScalarText
 pub mod Keys
+pub mod Supported
+pub mod Parsed

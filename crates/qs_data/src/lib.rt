@@ -3,14 +3,18 @@
 
 mod copy;
 mod data;
+mod deserializer;
 mod distinct;
-mod serializer;
 mod read;
+mod serializer;
 mod shape;
 mod sink;
+mod supported;
 mod write;
 
 pub use data::Data;
+pub use deserializer::Deserializer;
+pub use qs_tree::{ArrayFormat, Config, DuplicateKeyBehavior, Error, Result};
 pub use serializer::Serializer;
 pub use shape::{Field, KeyShape, Shape, Variant, VariantKind};
 pub use sink::{ByWrite, Sink};

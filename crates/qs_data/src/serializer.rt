@@ -3,7 +3,7 @@
 ghost use Rattle.std.specs.Prelude.{◌≡◌, ℕ, ◌<◌, ◌↔◌, true, false, not, List, length, take, Some, None, OnOk, is_ok};
 ghost use Rattle.std.specs.List.{All};
 ghost use Rattle.std.specs.Io.KnownBytes.{Appends};
-ghost use Rattle.qs_spec.specs.Entry.{entries, too_deep, bad_key};
+ghost use Rattle.qs_spec.specs.Entry.{too_deep, bad_key};
 ghost use Rattle.qs_spec.specs.Written.{written, started_after};
 ghost use Rattle.qs_tree.specs.Error.{IsTooDeep, IsUnsupported, IsIo, IsOutOfMemory, IsFailed};
 ghost use Rattle.qs_data.specs.Views.{data_of};
@@ -56,6 +56,7 @@ impl<W: Write + Drop> Serializer<ByWrite<W>> {
 }
 
 impl<S: Sink> Serializer<S> {
+    ghost use Rattle.qs_data.specs.State.{output_of, text_of};
     ghost use Rattle.qs_data.specs.Writes.{IsVisible, IsBare, IsWriteError};
 
     /// A serializer over a sink that has not failed. Nothing is put yet, and no memory is taken.
@@ -106,25 +107,22 @@ impl<S: Sink> Serializer<S> {
     /// It takes memory for the path and for the longest entry, and none for `Unit` or `None` alone (also within
     /// `Some` or `Newtype`). Its time grows with the data and the length of what is written.
     pub fn serialize(&mut self, alloc: Global, datum: &Data) -> Result<()>
-        ensures whole { OnOk result ((entries self.old.config (data_of datum.now)).refusal ≡ None) }
-        ensures text { OnOk result (Appends (S.taken self.old.sink) (S.taken self.new.sink)
-            (written self.old.config.form self.old.started (entries self.old.config (data_of datum.now)).entries)) }
-        ensures continues { OnOk result (self.new.started
-            ≡ started_after self.old.started (entries self.old.config (data_of datum.now)).entries) }
+        ensures whole { OnOk result ((output_of self.old (data_of datum.now)).refusal ≡ None) }
+        ensures text { OnOk result (Appends (S.taken self.old.sink) (S.taken self.new.sink) (text_of self.old (data_of datum.now))) }
+        ensures started { OnOk result (self.new.started
+            ≡ started_after self.old.started (output_of self.old (data_of datum.now)).entries) }
         ensures too_deep { (n : ℕ) → IsTooDeep result n
-            → (n ≡ self.old.config.max_depth) × ((entries self.old.config (data_of datum.now)).refusal ≡ Some too_deep) }
-        ensures too_deep_text { (n : ℕ) → IsTooDeep result n → Appends (S.taken self.old.sink) (S.taken self.new.sink)
-            (written self.old.config.form self.old.started (entries self.old.config (data_of datum.now)).entries) }
-        ensures bad_key { IsUnsupported result → (entries self.old.config (data_of datum.now)).refusal ≡ Some bad_key }
-        ensures bad_key_text { IsUnsupported result → Appends (S.taken self.old.sink) (S.taken self.new.sink)
-            (written self.old.config.form self.old.started (entries self.old.config (data_of datum.now)).entries) }
+            → (n ≡ self.old.config.max_depth) × ((output_of self.old (data_of datum.now)).refusal ≡ Some too_deep) }
+        ensures too_deep_text { (n : ℕ) → IsTooDeep result n
+            → Appends (S.taken self.old.sink) (S.taken self.new.sink) (text_of self.old (data_of datum.now)) }
+        ensures bad_key { IsUnsupported result → (output_of self.old (data_of datum.now)).refusal ≡ Some bad_key }
+        ensures bad_key_text { IsUnsupported result
+            → Appends (S.taken self.old.sink) (S.taken self.new.sink) (text_of self.old (data_of datum.now)) }
         ensures io { IsIo result ↔ ((S.failed self.old.sink ≡ false) × (S.failed self.new.sink ≡ true)) }
-        ensures io_text { IsIo result → (n : ℕ)
-            × (n < length (written self.old.config.form self.old.started (entries self.old.config (data_of datum.now)).entries))
-            × Appends (S.taken self.old.sink) (S.taken self.new.sink)
-                (take n (written self.old.config.form self.old.started (entries self.old.config (data_of datum.now)).entries)) }
+        ensures io_text { IsIo result → (n : ℕ) × (n < length (text_of self.old (data_of datum.now)))
+            × Appends (S.taken self.old.sink) (S.taken self.new.sink) (take n (text_of self.old (data_of datum.now))) }
         ensures memory_text { IsOutOfMemory result → (k : ℕ) × Appends (S.taken self.old.sink) (S.taken self.new.sink)
-            (written self.old.config.form self.old.started (take k (entries self.old.config (data_of datum.now)).entries)) }
+            (written self.old.config.form self.old.started (take k (output_of self.old (data_of datum.now)).entries)) }
         ensures no_memory { IsBare (data_of datum.now) → IsOutOfMemory result → ⊥ }
         ensures failed { IsFailed result ↔ (self.old.failed ≡ true) }
         ensures failed_keeps { IsFailed result → self.new ≡ self.old }
@@ -144,3 +142,6 @@ impl<S: Sink> Serializer<S> {
         result
     }
 }
+
+#[cfg(test)]
+mod tests;

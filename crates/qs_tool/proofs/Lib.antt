@@ -1,2 +1,4 @@
+pub mod Lines
 pub mod Numbers
+pub mod Refusals
 pub mod Taken

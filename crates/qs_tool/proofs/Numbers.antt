@@ -38,6 +38,7 @@ numeral (b ∷ ds) r h = decided (list_all (is_between 48 57) (b ∷ ds)) (numbe
 pub parsed : {E : Type 0} (bs : List ℕ) (r : Result ℕ E) → ParsesUnsigned 64 10 bs r → result_ok r ≡ unsigned_number 64 bs
 parsed [] r h = numeral [] r (parse_plain own 64 [] r h (λ e. absurd (omega (arith, e))))
 parsed (b ∷ ds) r h =
-    elim (eqb_tells b 43)
-    [ inl t ↦ rw t.0 (numeral ds r (parse_plus own 64 (b ∷ ds) r h t.1))
-    | inr f ↦ rw f.0 (numeral (b ∷ ds) r (parse_plain own 64 (b ∷ ds) r h f.1)) ]
+    elim (eqb_tells b 43) [
+      | inl t ↦ rw t.0 (numeral ds r (parse_plus own 64 (b ∷ ds) r h t.1))
+      | inr f ↦ rw f.0 (numeral (b ∷ ds) r (parse_plain own 64 (b ∷ ds) r h f.1))
+    ]

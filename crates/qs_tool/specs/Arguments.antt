@@ -1,4 +1,4 @@
--- What the program's arguments ask for. docs/PROGRAM.md has the same in words.
+-- What the program's arguments ask for.
 use Rattle.std.specs.Prelude.{ℕ, Bool, true, false, cond, List, [], ◌∷◌, Option, Some, None, option_map, option_and_then, codes}
 use Rattle.std.specs.Str.{bytes_eq}
 use Rattle.qs_spec.specs.Config.{default}
@@ -83,8 +83,8 @@ request command depth s = record {
     max_depth = depth;
     form = s.form;
     array_format = array_format_of (or_else Indexed s.format);
-    duplicates = duplicates_of (or_else TakeLast s.duplicates)
-  }
+    duplicates = duplicates_of (or_else TakeLast s.duplicates);
+  };
 }
 
 -- `flat` takes no depth: its own is 0

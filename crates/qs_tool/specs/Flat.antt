@@ -5,7 +5,7 @@ use Rattle.qs_spec.specs.Shape.{Shape, fields_of}
 -- five fields, none of them nested
 abbrev pub flat_shape : Shape
 flat_shape = Shape.struct (fields_of
-    ( (codes "name", Shape.text, false)
+    ((codes "name", Shape.text, false)
     ∷ (codes "age", Shape.unsigned 8, false)
     ∷ (codes "occupation", Shape.text, false)
     ∷ (codes "active", Shape.boolean, true)

@@ -1,2 +1,4 @@
 pub mod Arguments
+pub mod Fault
 pub mod Flat
+pub mod Line

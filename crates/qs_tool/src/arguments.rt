@@ -5,7 +5,7 @@ ghost use Rattle.std.specs.Option.{option_and_then};
 ghost use Rattle.qs_spec.specs.Scalar.{unsigned_number};
 ghost use Rattle.qs_tool.specs.Arguments.{asked, command_named, choices_of, chosen, choose, valued, format_named, duplicates_named, unchosen, configured};
 
-use qs_tree::{ArrayFormat, Config, DuplicateKeyBehavior};
+use serde_qs::{ArrayFormat, Config, DuplicateKeyBehavior};
 
 /// What the program does.
 #[derive(Clone, Copy, Debug, PartialEq, Eq)]
@@ -103,9 +103,18 @@ impl Settings {
     {
         match choice {
             Choice::Form if !self.form => Some(Settings { form: true, ..self }),
-            Choice::Depth(depth) if self.depth.is_none() => Some(Settings { depth: Some(depth), ..self }),
-            Choice::Format(format) if self.format.is_none() => Some(Settings { format: Some(format), ..self }),
-            Choice::Duplicates(duplicates) if self.duplicates.is_none() => Some(Settings { duplicates: Some(duplicates), ..self }),
+            Choice::Depth(depth) if self.depth.is_none() => Some(Settings {
+                depth: Some(depth),
+                ..self
+            }),
+            Choice::Format(format) if self.format.is_none() => Some(Settings {
+                format: Some(format),
+                ..self
+            }),
+            Choice::Duplicates(duplicates) if self.duplicates.is_none() => Some(Settings {
+                duplicates: Some(duplicates),
+                ..self
+            }),
             _ => None,
         }
     }

@@ -4,7 +4,7 @@ ghost use Rattle.std.specs.Prelude.{◌≡◌, IfOk};
 ghost use Rattle.qs_data.specs.Views.{shape_of, field_of};
 ghost use Rattle.qs_tool.specs.Flat.{flat_shape};
 
-use qs_data::{Field, Shape};
+use serde_qs::{Field, Shape};
 use std::alloc::{AllocError, Global};
 
 /// A struct of a name, an age, an occupation, whether it is active, which may be left out, and a note, which may be absent.

@@ -1,10 +1,14 @@
 //! Reads a querystring from standard input and writes it again: `qs_tool flat|params|any` with options.
 #![tactic(auto)]
 
+mod answer;
 mod arguments;
 mod flat;
 mod program;
+mod rewriting;
 mod streams;
+#[cfg(test)]
+mod tests;
 
 use std::alloc::AllocError;
 use std::process::ExitCode;

@@ -1,13 +1,73 @@
 //! The program over any reader and writer.
 
-use crate::arguments::Request;
-use crate::{flat, streams};
+ghost use Rattle.std.specs.Prelude.{◌≡◌, ◌≢◌, ℕ, ◌≤◌, List, None, length, take, map, option_map, string_bytes, IfSome};
+ghost use Rattle.std.specs.Io.KnownBytes.{Appends};
+ghost use Rattle.qs_tool.specs.Flat.{flat_shape};
+ghost use Rattle.qs_tool.specs.Line.{IsLine, IsBegun, usage_line, task_of};
+
+use crate::answer::respond;
+use crate::arguments::{Command, Request};
+use crate::streams::{Stop, write_all};
 use std::alloc::Global;
 use std::io::{Read, Write};
 
-pub fn run<R: Read, W: Write>(alloc: Global, args: &[String], reader: &mut R, writer: &mut W) -> u8 {
-    let Ok(_shape) = flat::shape(alloc) else { return 3; };
-    let Ok(input) = streams::read_input(alloc, reader) else { return 3; };
-    let Ok(()) = streams::write_all(writer, input.as_slice()) else { return 3; };
-    match Request::parse(args) { Some(_) => 0, None => 2 }
+/// What is written where the arguments are wrong.
+const USAGE: &str =
+    "usage: qs_tool flat|params|any [--form] [--depth N] [--format indexed|empty|unindexed] [--duplicates last|error]\n";
+
+/// What is written where a growth was refused.
+const NO_MEMORY: &str = "error: out of memory\n";
+
+/// Runs the program with these arguments: reads the input to its end, writes one line, and answers the status.
+///
+/// | status | line |
+/// |---|---|
+/// | 0 | what was read, written again |
+/// | 1 | `error: ` and why the input was refused |
+/// | 2 | how the program is called; nothing was read |
+/// | 3 | memory was refused, with a line that says so where it can be written, or a read or a write failed |
+///
+/// The input is read by at most 1,000,000 reads of 8,192 bytes; where none of them was the end, that is a failed read. One final
+/// newline is no part of it. The line is written by one `write` after another, and none is repeated: one that fails, is
+/// interrupted or takes nothing ends the run with status 3.
+pub fn run<R: Read, W: Write>(alloc: Global, args: &[String], reader: &mut R, writer: &mut W) -> u8
+    ensures line { IfSome (R.remaining reader.old) (λ input. result ≢ 3 →
+        (line : List ℕ) × IsLine (map string_bytes args.now) input line result
+        × Appends (W.contents writer.old) (W.contents writer.new) line) }
+    ensures usage { task_of (map string_bytes args.now) ≡ None → result ≢ 3 →
+        (result ≡ 2) × Appends (W.contents writer.old) (W.contents writer.new) usage_line }
+    ensures stopped { IfSome (R.remaining reader.old) (λ input. result ≡ 3 →
+        (line : List ℕ) × (n : ℕ) × IsBegun (map string_bytes args.now) input line
+        × Appends (W.contents writer.old) (W.contents writer.new) (take n line)) }
+{
+    let Some(request) = understood(args) else {
+        return finish(writer, USAGE.as_bytes(), 2);
+    };
+    match respond(alloc, request, reader) {
+        Ok(answer) => finish(writer, answer.line.as_slice(), answer.status),
+        Err(Stop::OutOfMemory) => finish(writer, NO_MEMORY.as_bytes(), 3),
+        Err(Stop::Stream) => 3,
+    }
+}
+
+/// What the arguments ask for, where its command is there.
+fn understood(args: &[String]) -> Option<Request>
+    ensures { option_map (λ request. (request.config, flat_shape)) result ≡ task_of (map string_bytes args.now) }
+{
+    let request = Request::parse(args)?;
+    match request.command {
+        Command::Flat => Some(request),
+        Command::Params | Command::Any => None,
+    }
+}
+
+/// Writes the line, and answers the status, or 3 where the line was not taken whole.
+fn finish<W: Write>(writer: &mut W, line: &[u8], status: u8) -> u8
+    ensures done { result ≢ 3 → (result ≡ status) × Appends (W.contents writer.old) (W.contents writer.new) line.now }
+    ensures part { (n : ℕ) × Appends (W.contents writer.old) (W.contents writer.new) (take n line.now) }
+{
+    match write_all(writer, line) {
+        Ok(()) => status,
+        Err(_) => 3,
+    }
 }

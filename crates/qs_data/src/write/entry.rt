@@ -51,7 +51,13 @@ pub(crate) fn put<S: Sink>(
     ensures path { walk.new.path.items ≡ walk.old.path.items }
     ensures bare { walk.old.path.items ≡ [] → IsNone value.entry → IsOutOfMemory result → ⊥ }
 {
-    render(&mut walk.entry, config.get_form(), stream.started, &walk.path, value)?;
+    render(
+        &mut walk.entry,
+        config.get_form(),
+        stream.started,
+        &walk.path,
+        value,
+    )?;
     put_all(&mut stream.sink, &walk.entry)?;
     stream.started |= !walk.path.is_empty();
     Ok(())

@@ -98,9 +98,7 @@ fn write_element<'a, S: Sink>(
         ArrayFormat::Indexed => {
             write_under(stream, walk, config, Scalar::Unsigned(place as u64), item)
         }
-        ArrayFormat::EmptyIndexed => {
-            write_under(stream, walk, config, Scalar::Bytes(&[]), item)
-        }
+        ArrayFormat::EmptyIndexed => { write_under(stream, walk, config, Scalar::Bytes(&[]), item) }
         ArrayFormat::Unindexed => write_data(stream, walk, config, item),
     }
 }
@@ -139,7 +137,13 @@ fn write_members<'a, S: Sink>(
     ensures path { OnOk result (walk.new.path.items ≡ walk.old.path.items) }
 {
     for member in members {
-        write_under(stream, walk, config, Scalar::Bytes(member.0.as_bytes()), &member.1)?;
+        write_under(
+            stream,
+            walk,
+            config,
+            Scalar::Bytes(member.0.as_bytes()),
+            &member.1,
+        )?;
     }
     Ok(())
 }

@@ -13,7 +13,7 @@ pub returns-clause-memory_text : goal.returns-clause-memory_text
 returns-clause-memory_text g c refused =
     let taken = g.S.Sink.taken in
     let P : State g.row.S.Denot → Type 0 = λ s.
-      (k : ℕ) × Appends (taken s.sink) (taken c.write_data-result.new.stream.sink) (written s.config.form s.started (take k (entries s.config (data_of c.args.datum.now)).entries)) in
+    (k : ℕ) × Appends (taken s.sink) (taken c.write_data-result.new.stream.sink) (written s.config.form s.started (take k (entries s.config (data_of c.args.datum.now)).entries)) in
     let wrote = rw c.new-walk.ensures at c.write_data-result.ensures.writes in
     subst P c.self.view_is (writes_memory c.write_data-result.result _ _ _ _ wrote refused)
 

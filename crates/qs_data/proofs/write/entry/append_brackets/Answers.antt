@@ -22,10 +22,10 @@ loop-segment-preserved c =
     record {
       text = brackets_turn c.args.out.now.items out _ _ _ _ _ _ rest (brackets_text form (path_of path)) opened c.in_ok-append.ensures.ok closed whole;
       visible = λ h. subst (All IsVisible) (sym closed)
-        (All-append IsVisible _ _
+          (All-append IsVisible _ _
           (subst (All IsVisible) (sym c.in_ok-append.ensures.ok)
-            (All-append IsVisible _ _
-              (subst (All IsVisible) (sym opened) (All-append IsVisible _ _ (c.loop-segment.invariant.visible h) (open_visible form)))
-              c.append.ensures.visible))
+          (All-append IsVisible _ _
+          (subst (All IsVisible) (sym opened) (All-append IsVisible _ _ (c.loop-segment.invariant.visible h) (open_visible form)))
+          c.append.ensures.visible))
           (close_visible form));
     }

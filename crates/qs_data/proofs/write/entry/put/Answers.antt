@@ -20,22 +20,24 @@ returns-in_err-put_all-clause-writes g c =
     let started = c.args.stream.now.started in
     let value = option_map scalar_text c.args.value in
     let text = c.deref-2.ensures.value ∙ c.in_ok-render.ensures.ok
-        ∙ ap (λ f. entry_text f started (path_of c.deref.result.now) value) c.get_form.ensures
-        ∙ ap (λ p. entry_text c.args.config.form started (path_of p) value) c.deref.ensures.value in
+    ∙ ap (λ f. entry_text f started (path_of c.deref.result.now) value) c.get_form.ensures
+    ∙ ap (λ p. entry_text c.args.config.form started (path_of p) value) c.deref.ensures.value in
     let part = c.in_err-put_all.ensures.part in
     writes_exit _ (Io c.in_err-put_all.field-0.0) c.args.config _ _ _ c.from_residual-in_err-put_all.ensures.1
-      (part_one c.args.config.form _ _ _ value _ text part.0 part.1 part.2 (subst (All IsVisible) (sym c.deref-2.ensures.value) c.in_ok-render.ensures.visible)
-        (c.in_err-put_all.ensures.fails ∙ or-true _) c.put_all.ensures.same_writer)
+    (part_one c.args.config.form _ _ _ value _ text part.0 part.1 part.2 (subst (All IsVisible) (sym c.deref-2.ensures.value) c.in_ok-render.ensures.visible)
+    (c.in_err-put_all.ensures.fails ∙ or-true _) c.put_all.ensures.same_writer)
 
 pub returns-clause-writes : goal.returns-clause-writes
 returns-clause-writes g c =
     let started = c.args.stream.now.started in
     let value = option_map scalar_text c.args.value in
     let text = c.deref-2.ensures.value ∙ c.in_ok-render.ensures.ok
-        ∙ ap (λ f. entry_text f started (path_of c.deref.result.now) value) c.get_form.ensures
-        ∙ ap (λ p. entry_text c.args.config.form started (path_of p) value) c.deref.ensures.value in
+    ∙ ap (λ f. entry_text f started (path_of c.deref.result.now) value) c.get_form.ensures
+    ∙ ap (λ p. entry_text c.args.config.form started (path_of p) value) c.deref.ensures.value in
     let path = c.args.walk.now.path in
     let key : not c.is_empty.result ≡ has_key (path_of path.items) =
-      ap not (c.is_empty.ensures ∙ ap (λ n. eqb n 0) path.ok.0) ∙ has_key_of path.items in
-    (refl, adds_one c.args.config.form _ _ _ value _ text c.in_ok-put_all.ensures.all (subst (All IsVisible) (sym c.deref-2.ensures.value) c.in_ok-render.ensures.visible)
-      (ap (λ b. started || b) key) (c.in_ok-put_all.ensures.fails ∙ or-false _) c.put_all.ensures.same_writer)
+    ap not (c.is_empty.ensures ∙ ap (λ n. eqb n 0) path.ok.0) ∙ has_key_of path.items in (
+      refl,
+      adds_one c.args.config.form _ _ _ value _ text c.in_ok-put_all.ensures.all (subst (All IsVisible) (sym c.deref-2.ensures.value) c.in_ok-render.ensures.visible)
+          (ap (λ b. started || b) key) (c.in_ok-put_all.ensures.fails ∙ or-false _) c.put_all.ensures.same_writer,
+    )

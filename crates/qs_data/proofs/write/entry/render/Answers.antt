@@ -27,6 +27,6 @@ returns-clause-ok c =
     ] in
     let parts = ap (λ t. t ++ brackets_text form (path_of rest)) (c.in_ok-append.ensures.ok ∙ ap (λ t. t ++ encoded form (scalar_text first)) front) in
     let same = ap (λ t. t ++ value_text form value) (c.in_ok-append_brackets.ensures.ok ∙ parts)
-        ∙ entry_joined (cond c.args.started (38 ∷ []) []) (encoded form (scalar_text first)) (brackets_text form (path_of rest)) (value_text form value) _
-          (entry_with_key form c.args.started c.args.path.now first rest value (search rules)) in
+    ∙ entry_joined (cond c.args.started (38 ∷ []) []) (encoded form (scalar_text first)) (brackets_text form (path_of rest)) (value_text form value) _
+    (entry_with_key form c.args.started c.args.path.now first rest value (search rules)) in
     IfOk-equal c.append_value-2.result c.append_value-2.new.out.items _ _ c.append_value-2.ensures.ok same

@@ -33,9 +33,9 @@ write_data-returns-else-is_empty-2-clause-writes g t c =
     let v = c.in-Seq.items in
     let some : 0 < length v.items = omega (arith, v.ok.0, eqb-false (vec_len v) 0 (sym c.if-is_empty-2.ensures)) in
     let same = ⊎_elim
-      (λ is. seq_elements config.max_depth config.array_format c.args.datum.now v p is some)
-      (λ is. tup_elements config.max_depth config.array_format c.args.datum.now v p is some)
-      c.in-Seq.is in
+    (λ is. seq_elements config.max_depth config.array_format c.args.datum.now v p is some)
+    (λ is. tup_elements config.max_depth config.array_format c.args.datum.now v p is some)
+    c.in-Seq.is in
     let P : Output → Type 0 = λ o. Writes c.write_elements.result config (view c.args.stream.now) (view c.write_elements.new.stream) o in
     subst P (sym same) c.write_elements.ensures.writes
 
@@ -79,7 +79,7 @@ write_elements-returns-in_err-write_element-clause-writes g t c =
     let R : List (Data) → Type 0 = λ ys. Stops e config (view c.args.stream.now) (view c.write_element.new.stream) (elements_from config.max_depth config.array_format 0 (values_of (map data_of ys)) p) in
     let mine = subst P l.invariant.path c.in_err-write_element.ensures.writes in
     writes_exit _ e config _ _ _ c.from_residual.ensures.1
-      (subst R c.deref-item-items.ensures.value (continue_stop e config _ _ _ _ _ _ _ l.invariant.going (elements_here config.max_depth config.array_format xs l.place x p (omega arith) c.item-item.is) mine))
+    (subst R c.deref-item-items.ensures.value (continue_stop e config _ _ _ _ _ _ _ l.invariant.going (elements_here config.max_depth config.array_format xs l.place x p (omega arith) c.item-item.is) mine))
 
 pub write_members-returns-clause-writes : goal.write_members-returns-clause-writes
 write_members-returns-clause-writes g t c =
@@ -123,7 +123,7 @@ write_members-returns-in_err-write_under-clause-writes g t c =
     let R : List (String Global × Data) → Type 0 = λ ys. Stops e config (view c.args.stream.now) (view c.write_under.new.stream) (member_entries config.max_depth config.array_format (members_of (map (named data_of) ys)) p) in
     let mine = subst Q c.as_bytes.ensures.value (subst P l.invariant.path c.in_err-write_under.ensures.writes) in
     writes_exit _ e config _ _ _ c.from_residual.ensures.1
-      (subst R c.deref-member-items.ensures.value (continue_stop e config _ _ _ _ _ _ _ l.invariant.going (members_here config.max_depth config.array_format xs l.member-index x p (omega arith) c.member-item.is) mine))
+    (subst R c.deref-member-items.ensures.value (continue_stop e config _ _ _ _ _ _ _ l.invariant.going (members_here config.max_depth config.array_format xs l.member-index x p (omega arith) c.member-item.is) mine))
 
 pub write_pairs-returns-clause-writes : goal.write_pairs-returns-clause-writes
 write_pairs-returns-clause-writes g t c =
@@ -165,7 +165,7 @@ write_pairs-returns-in_err-write_under-clause-writes g t c =
     let R : List (Data × Data) → Type 0 = λ ys. Stops e config (view c.args.stream.now) (view c.write_under.new.stream) (pair_entries config.max_depth config.array_format (pairs_of (map pair_of ys)) p) in
     let mine = subst P l.invariant.path c.in_err-write_under.ensures.writes in
     writes_exit _ e config _ _ _ c.from_residual.ensures.1
-      (subst R c.deref-pair-items.ensures.value (continue_stop e config _ _ _ _ _ _ _ l.invariant.going (pairs_with_key config.max_depth config.array_format xs l.pair-index x p _ (omega arith) c.pair-item.is c.in-Some.ensures) mine))
+    (subst R c.deref-pair-items.ensures.value (continue_stop e config _ _ _ _ _ _ _ l.invariant.going (pairs_with_key config.max_depth config.array_format xs l.pair-index x p _ (omega arith) c.pair-item.is c.in-Some.ensures) mine))
 
 pub write_pairs-returns-in_default-clause-writes : goal.write_pairs-returns-in_default-clause-writes
 write_pairs-returns-in_default-clause-writes g t c =
@@ -179,4 +179,4 @@ write_pairs-returns-in_default-clause-writes g t c =
     let rest = pair_entries config.max_depth config.array_format (pairs_of (map pair_of (drop (l.pair-index + 1) xs))) p in
     let here = pairs_without_key config.max_depth config.array_format xs l.pair-index x p (omega arith) c.pair-item.is c.in_default.ensures in
     subst R c.deref-pair-items.ensures.value
-      (continue_stop Unsupported config _ _ _ (refused bad_key) rest _ _ l.invariant.going here (refl, adds_nothing config.form (view l.stream)))
+    (continue_stop Unsupported config _ _ _ (refused bad_key) rest _ _ l.invariant.going here (refl, adds_nothing config.form (view l.stream)))

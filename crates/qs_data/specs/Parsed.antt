@@ -1,0 +1,16 @@
+-- What callers see of a deserializer, and what it answers.
+use Rattle.std.specs.Prelude.{◌≡◌, ◌≢◌, Bool, true, false, Option, Result}
+use Rattle.qs_spec.specs.Config.{Config}
+use Rattle.qs_spec.specs.Shape.{Shape}
+use Rattle.qs_spec.specs.Data.{Data}
+use Rattle.qs_spec.specs.Tree.{Tree}
+use Rattle.qs_spec.specs.Read.{read_by}
+
+-- how it reads, and the tree that it reads from
+pub record Parsed : Type 0 where
+  pub config : Config
+  pub tree : Tree
+
+-- the data that the shape reads from the tree, if there are any
+abbrev pub reading : Parsed → Shape → Option Data
+reading parsed shape = read_by parsed.config shape parsed.tree

@@ -1,0 +1,92 @@
+//! The deserializer: a querystring that was parsed, and is to be read by a shape.
+
+ghost use Rattle.std.specs.Prelude.{◌≡◌, ◌+◌, ◌≤◌, false, true, length, IfOk, IfErr, IsOk, IsErr};
+ghost use Rattle.qs_spec.specs.Config.{default};
+ghost use Rattle.qs_spec.specs.Shape.{is_distinct};
+ghost use Rattle.qs_spec.specs.Tree.{IsTree, IsRefused};
+ghost use Rattle.qs_tree.specs.Error.{IsParse, IfParse, OnlyParseOrOutOfMemory};
+ghost use Rattle.qs_data.specs.Views.{data_of, shape_of};
+ghost use Rattle.qs_data.specs.Text.{is_text};
+ghost use Rattle.qs_data.specs.Gives.{Gives, IsFrugal, IsFault, takes_no_memory};
+ghost use Rattle.qs_data.specs.Supported.{is_supported};
+ghost use Rattle.qs_data.specs.Parsed.{reading};
+
+use crate::data::Data;
+use crate::read::read;
+use crate::shape::Shape;
+use crate::supported::is_supported;
+use qs_tree::{Config, DuplicateKeyBehavior, Error, ParsedValue, Result, parse};
+use std::alloc::Global;
+use std::marker::Model;
+
+/// A querystring that was parsed, to be read by a [`Shape`].
+///
+/// ```
+/// let deserializer = Deserializer::with_config(alloc, Config::new(), b"age=24&name=Alice")?;
+/// let person = deserializer.read(alloc, &shape)?;
+/// ```
+#[derive(Debug, Drop)]
+pub struct Deserializer<'qs> {
+    config: Config,
+    tree: ParsedValue<'qs>,
+}
+
+impl<'qs> Model for Deserializer<'qs> {
+    ghost use Rattle.qs_tree.specs.Views.{tree_of};
+    ghost use Rattle.qs_data.specs.Parsed.{Parsed};
+
+    ghost Value = { Parsed };
+
+    ghost view = { λ d. record { config = d.config; tree = tree_of d.tree } };
+}
+
+impl<'qs> Deserializer<'qs> {
+    /// The querystring, parsed with the default configuration: see [`with_config`](Deserializer::with_config).
+    pub fn new(alloc: Global, input: &'qs [u8]) -> Result<Deserializer<'qs>>
+        ensures config { IfOk result (λ d. d.config ≡ default) }
+        ensures tree { IfOk result (λ d. IsTree default.form default.max_depth input.now d.tree) }
+        ensures refused { IsParse result → IsRefused default.form default.max_depth input.now }
+        ensures position { IfParse result (λ position. position ≤ length input.now + 1) }
+        ensures errors { OnlyParseOrOutOfMemory result }
+    {
+        Deserializer::with_config(alloc, Config::new(), input)
+    }
+
+    /// The querystring, parsed.
+    ///
+    /// It is refused, with [`Parse`](Error::Parse) and the position of the first fault, exactly where it has no tree. Texts and
+    /// keys that hold neither `+` nor `%` are borrowed from it. The time grows with the input's length and the depth of its keys.
+    pub fn with_config(alloc: Global, config: Config, input: &'qs [u8]) -> Result<Deserializer<'qs>>
+        ensures config { IfOk result (λ d. d.config ≡ config) }
+        ensures tree { IfOk result (λ d. IsTree config.form config.max_depth input.now d.tree) }
+        ensures refused { IsParse result → IsRefused config.form config.max_depth input.now }
+        ensures position { IfParse result (λ position. position ≤ length input.now + 1) }
+        ensures errors { OnlyParseOrOutOfMemory result }
+    {
+        let tree = parse(alloc, input, config)?;
+        Ok(Deserializer { config, tree })
+    }
+
+    /// Reads the querystring by a shape whose names differ.
+    ///
+    /// The data are those that docs/QUERYSTRINGS.md has for the shape and the tree. Where there are none, that is
+    /// [`Custom`](Error::Custom) with the first fault that was met, or [`Utf8`](Error::Utf8) where a text that is read isn't
+    /// UTF-8. Fields are read in the shape's order, then the other keys are looked at.
+    ///
+    /// So far the shape may hold scalars, options, structs and types of their own; any other is refused with
+    /// `unsupported shape` before anything is read. Memory is taken for what the data keep and for a fault's message; data
+    /// of a scalar without bytes take none.
+    pub fn read(self, alloc: Global, shape: &Shape) -> Result<Data>
+        requires { is_distinct (shape_of shape.now) ≡ true }
+        ensures exact { is_supported (shape_of shape.now) ≡ true → Gives data_of (is_text self.tree) result (reading self (shape_of shape.now)) }
+        ensures no_memory { takes_no_memory (shape_of shape.now) ≡ true → IsFrugal result (reading self (shape_of shape.now)) }
+        ensures unsupported { is_supported (shape_of shape.now) ≡ false → IfErr result IsFault }
+        ensures nothing { is_supported (shape_of shape.now) ≡ false → IsErr result }
+    {
+        if !is_supported(shape) {
+            return Err(Error::custom(alloc, "unsupported shape", &()));
+        }
+        let strict = self.config.get_duplicates() == DuplicateKeyBehavior::Error;
+        read(alloc, strict, shape, &self.tree)
+    }
+}

@@ -1,0 +1,23 @@
+-- Which error tells of which refusal.
+use Rattle.std.proofs.Common.{◌≡◌, ℕ, false, Option, Some, Err, refl}
+use Rattle.qs_spec.specs.Entry.{Refusal, too_deep, bad_key}
+use Rattle.qs_tree.specs.declared.error.Error.{Error}
+use Rattle.qs_tree.specs.declared.error.Error.TheVariants.{Custom, MaxSerializationDepthExceeded, Parse, Unsupported, FromUtf8, Io, ParseInt, Utf8, OutOfMemory, Failed}
+use Rattle.qs_tree.specs.Error.{IsFailed, IsTooDeep, IsUnsupported}
+use Rattle.qs_data.specs.Writes.{IsWriteError}
+use Rattle.qs_tool.specs.Fault.{is_memory}
+
+-- a serializer that hadn't failed tells of a refusal, or that memory was refused
+pub refusal_told : (e : Error) (depth : ℕ) (r : Option Refusal) → IsWriteError {T = Unit {0}} (Err e) → (IsFailed {T = Unit {0}} (Err e) → ⊥)
+    → ((n : ℕ) → IsTooDeep {T = Unit {0}} (Err e) n → (n ≡ depth) × (r ≡ Some too_deep)) → (IsUnsupported {T = Unit {0}} (Err e) → r ≡ Some bad_key)
+    → is_memory e ≡ false → (refusal : Refusal) × (r ≡ Some refusal)
+refusal_told (Custom message) depth r told fresh deep key other = absurd told
+refusal_told (MaxSerializationDepthExceeded n) depth r told fresh deep key other = (too_deep, (deep n refl).1)
+refusal_told (Parse message position) depth r told fresh deep key other = absurd told
+refusal_told Unsupported depth r told fresh deep key other = (bad_key, key tt)
+refusal_told (FromUtf8 cause) depth r told fresh deep key other = absurd told
+refusal_told (Io cause) depth r told fresh deep key other = cc
+refusal_told (ParseInt cause) depth r told fresh deep key other = absurd told
+refusal_told (Utf8 cause) depth r told fresh deep key other = absurd told
+refusal_told OutOfMemory depth r told fresh deep key other = cc
+refusal_told Failed depth r told fresh deep key other = absurd (fresh tt)

@@ -1,0 +1,164 @@
+//! Readers and writers that fail in mid-stream.
+ghost use Rattle.std.specs.Prelude.{◌≡◌, IfOk};
+
+use super::words;
+use crate::program::run;
+use std::io;
+use std::io::{Read, Write};
+use std::test::Fail;
+
+const INPUT: &[u8] = b"name=a&age=1&occupation=b";
+
+const LINE: &[u8] = b"name=a&age=1&occupation=b&note\n";
+
+/// What a stream does when it has no room or no bytes left.
+#[derive(Clone, Copy)]
+enum End {
+    Fails,
+    IsInterrupted,
+    TakesNothing,
+}
+
+impl End {
+    fn meet(self) -> io::Result<usize>
+        ensures { IfOk result (λ count. count ≡ 0) }
+    {
+        match self {
+            End::Fails => Err(io::Error::from(io::ErrorKind::BrokenPipe)),
+            End::IsInterrupted => Err(io::Error::from(io::ErrorKind::Interrupted)),
+            End::TakesNothing => Ok(0),
+        }
+    }
+}
+
+/// Gives a byte a read, and then ends.
+#[derive(Drop)]
+struct Source<'a> {
+    rest: &'a [u8],
+    end: End,
+}
+
+impl Read for Source<'_> {
+    fn read(&mut self, buf: &mut [u8]) -> io::Result<usize> {
+        let [byte, rest @ ..] = self.rest else {
+            return self.end.meet();
+        };
+        let [place, ..] = buf else {
+            return Ok(0);
+        };
+        *place = *byte;
+        self.rest = rest;
+        Ok(1)
+    }
+}
+
+/// Gives bytes for ever.
+#[derive(Drop)]
+struct Endless;
+
+impl Read for Endless {
+    fn read(&mut self, buf: &mut [u8]) -> io::Result<usize> {
+        let [place, ..] = buf else {
+            return Ok(0);
+        };
+        *place = b'a';
+        Ok(1)
+    }
+}
+
+/// Takes up to `step` bytes a write while there is room, and then ends.
+#[derive(Drop)]
+struct Target {
+    held: Vec<u8>,
+    step: usize,
+    room: usize,
+    end: End,
+}
+
+impl Write for Target {
+    fn write(&mut self, buf: &[u8]) -> io::Result<usize> {
+        if self.room == 0 {
+            return self.end.meet();
+        }
+        let count = buf.len().min(self.step).min(self.room);
+        self.held.extend_from_slice(&buf[..count])?;
+        self.room -= count;
+        Ok(count)
+    }
+
+    fn flush(&mut self) -> io::Result<()> {
+        Ok(())
+    }
+}
+
+#[test]
+fn reads_that_fail(rt: HostRuntime) -> Result<(), Fail> {
+    let words = words(rt.alloc(), "flat")?;
+    for (end, line, status) in [
+        (End::Fails, b"".as_slice(), 3),
+        (End::IsInterrupted, b"".as_slice(), 3),
+        (End::TakesNothing, LINE, 0),
+    ] {
+        let mut reader = Source { rest: INPUT, end };
+        let mut writer = Vec::new(rt.alloc());
+        assert_eq!(rt;
+            run(rt.alloc(), words.as_slice(), &mut reader, &mut writer),
+            status
+        );
+        assert_eq!(rt; writer.as_slice(), line);
+    }
+    Ok(())
+}
+
+#[test]
+fn an_input_without_end(rt: HostRuntime) -> Result<(), Fail> {
+    let words = words(rt.alloc(), "flat")?;
+    let mut writer = Vec::new(rt.alloc());
+    assert_eq!(rt;
+        run(rt.alloc(), words.as_slice(), &mut Endless, &mut writer),
+        3
+    );
+    assert_eq!(rt; writer.len(), 0);
+    Ok(())
+}
+
+#[test]
+fn writes_that_fail(rt: HostRuntime) -> Result<(), Fail> {
+    let words = words(rt.alloc(), "flat")?;
+    for end in [End::Fails, End::IsInterrupted, End::TakesNothing] {
+        for room in 0..LINE.len() {
+            let mut reader = INPUT;
+            let mut writer = Target {
+                held: Vec::new(rt.alloc()),
+                step: 5,
+                room,
+                end,
+            };
+            assert_eq!(rt;
+                run(rt.alloc(), words.as_slice(), &mut reader, &mut writer),
+                3,
+                "{room}"
+            );
+            assert_eq!(rt; writer.held.as_slice(), &LINE[..room], "{room}");
+        }
+    }
+    Ok(())
+}
+
+#[test]
+fn a_byte_at_a_time(rt: HostRuntime) -> Result<(), Fail> {
+    let words = words(rt.alloc(), "flat")?;
+    let mut reader = INPUT;
+    let mut writer = Target {
+        held: Vec::new(rt.alloc()),
+        step: 1,
+        room: LINE.len(),
+        end: End::Fails,
+    };
+    assert_eq!(rt;
+        run(rt.alloc(), words.as_slice(), &mut reader, &mut writer),
+        0
+    );
+    assert_eq!(rt; writer.held.as_slice(), LINE);
+    Ok(())
+}

@@ -1,0 +1,46 @@
+//! Querystrings with nested values, read and written.
+//!
+//! A flat querystring such as `name=Alice&age=24` is a list of names with texts. Here a key may go further down by brackets,
+//! as `user[name]=Alice&user[langs][0]=en`, so that a querystring can hold structs, lists, maps and enums inside one another.
+//!
+//! What is read is asked for by a [`Shape`], and comes as [`Data`]; what is written is given as [`Data`]. Both follow serde's
+//! data model.
+//!
+//! ```
+//! use serde_qs::{Config, Data, Deserializer, Serializer, Shape};
+//!
+//! // a struct of a text `name` and a small number `age`
+//! let shape = Shape::Struct(fields);
+//! let deserializer = Deserializer::with_config(alloc, Config::new(), b"age=24&name=Alice")?;
+//! let person = deserializer.read(alloc, &shape)?;
+//!
+//! // name=Alice&age=24
+//! let mut serializer = Serializer::new(&mut out, Config::new());
+//! serializer.serialize(alloc, &person)?;
+//! ```
+//!
+//! # Two encodings
+//!
+//! By default a space is `+`, and only what would be misread is escaped: `name=John+Doe&langs[0]=en`. Form encoding,
+//! [`Config::use_form_encoding`], escapes all but letters, digits and `*-._`, the brackets of keys too:
+//! `name=John%20Doe&langs%5B0%5D=en`. On reading it takes escaped brackets for brackets.
+//!
+//! # Keys that come again
+//!
+//! Where one value is asked for, the last of several is taken, or they are refused: [`DuplicateKeyBehavior`].
+//!
+//! # Lists
+//!
+//! The place of a list's element is written as a number, as empty brackets, or not at all: [`ArrayFormat`].
+//!
+//! # Memory
+//!
+//! A call that takes memory is passed the allocator, and answers [`Error::OutOfMemory`] where it was refused a growth, and
+//! only there.
+#![tactic(auto)]
+
+pub use qs_data::{
+    ByWrite, Data, Field, KeyShape, Serializer, Serializer as QsSerializer, Shape, Sink, Variant,
+    VariantKind,
+};
+pub use qs_tree::{ArrayFormat, Config, DuplicateKeyBehavior, Error, Result};

@@ -3,6 +3,7 @@
 ghost use Rattle.std.specs.Prelude.{◌≡◌, true, IfOk, IfSome};
 ghost use Rattle.qs_spec.specs.Shape.{is_distinct};
 ghost use Rattle.qs_data.specs.Views.{shape_of};
+ghost use Rattle.qs_data.specs.Supported.{is_supported};
 ghost use Rattle.qs_tool.specs.Fault.{is_memory};
 ghost use Rattle.qs_tool.specs.Flat.{flat_shape};
 ghost use Rattle.qs_tool.specs.Line.{IsAnswer, IsErrorLine, without_newline};
@@ -44,7 +45,8 @@ fn answer_to(
     shape: &Shape,
     input: &[u8],
 ) -> Result<Answer, AllocError>
-    requires { is_distinct (shape_of shape.now) ≡ true }
+    requires distinct { is_distinct (shape_of shape.now) ≡ true }
+    requires supported { is_supported (shape_of shape.now) ≡ true }
     ensures { IfOk result (λ answer. IsAnswer config (shape_of shape.now) input.now answer.line.items answer.status) }
 {
     match rewritten(alloc, config, shape, input) {

@@ -5,19 +5,23 @@ ghost use Rattle.qs_spec.specs.Shape.{is_distinct};
 ghost use Rattle.qs_spec.specs.Entry.{Refusal, entries};
 ghost use Rattle.qs_spec.specs.Written.{written};
 ghost use Rattle.qs_data.specs.Views.{data_of, shape_of};
+ghost use Rattle.qs_data.specs.Supported.{is_supported};
 ghost use Rattle.qs_tool.specs.Fault.{IfFault};
 ghost use Rattle.qs_tool.specs.Line.{IsFaulty, IsRewritten};
 
-use serde_qs::{Config, Data, Error, Result, Serializer, Shape};
+use serde_qs::{Config, Data, Deserializer, Result, Serializer, Shape};
 use std::alloc::Global;
 
 /// What the input is written as again, or why it is refused.
 pub fn rewritten(alloc: Global, config: Config, shape: &Shape, input: &[u8]) -> Result<Vec<u8>>
-    requires { is_distinct (shape_of shape.now) ≡ true }
+    requires distinct { is_distinct (shape_of shape.now) ≡ true }
+    requires supported { is_supported (shape_of shape.now) ≡ true }
     ensures text { IfOk result (λ text. IsRewritten config (shape_of shape.now) input.now text.items) }
     ensures fault { IfFault result (IsFaulty config (shape_of shape.now) input.now) }
 {
-    Err(Error::OutOfMemory)
+    let deserializer = Deserializer::with_config(alloc, config, input)?;
+    let value = deserializer.read(alloc, shape)?;
+    text_of(alloc, config, &value)
 }
 
 /// The text that the data are written as.

@@ -40,7 +40,7 @@
 #![tactic(auto)]
 
 pub use qs_data::{
-    ByWrite, Data, Field, KeyShape, Serializer, Serializer as QsSerializer, Shape, Sink, Variant,
-    VariantKind,
+    ByWrite, Data, Deserializer, Deserializer as QsDeserializer, Field, KeyShape, Serializer,
+    Serializer as QsSerializer, Shape, Sink, Variant, VariantKind,
 };
 pub use qs_tree::{ArrayFormat, Config, DuplicateKeyBehavior, Error, Result};

@@ -14,3 +14,4 @@ pub mod BehindKeys
 pub mod Items
 pub mod Equality
 pub mod Growing
+pub mod SmallItems

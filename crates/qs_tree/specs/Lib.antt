@@ -13,3 +13,4 @@ pub mod Reading
 pub mod Conflict
 pub mod Adding
 pub mod Parsing
+pub mod Small

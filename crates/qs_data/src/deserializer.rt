@@ -5,6 +5,7 @@ ghost use Rattle.qs_spec.specs.Config.{default};
 ghost use Rattle.qs_spec.specs.Shape.{is_distinct};
 ghost use Rattle.qs_spec.specs.Tree.{IsTree, IsRefused};
 ghost use Rattle.qs_tree.specs.Error.{IsParse, IfParse, OnlyParseOrOutOfMemory};
+ghost use Rattle.qs_tree.specs.Small.{TakesNoMemory};
 ghost use Rattle.qs_data.specs.Views.{data_of, shape_of};
 ghost use Rattle.qs_data.specs.Text.{is_text};
 ghost use Rattle.qs_data.specs.Gives.{Gives, IsFrugal, IsFault, takes_no_memory};
@@ -47,6 +48,7 @@ impl<'qs> Deserializer<'qs> {
         ensures tree { IfOk result (λ d. IsTree default.form default.max_depth input.now d.tree) }
         ensures refused { IsParse result → IsRefused default.form default.max_depth input.now }
         ensures position { IfParse result (λ position. position ≤ length input.now + 1) }
+        ensures no_memory { TakesNoMemory input.now → IsOk result }
         ensures errors { OnlyParseOrOutOfMemory result }
     {
         Deserializer::with_config(alloc, Config::new(), input)
@@ -61,6 +63,7 @@ impl<'qs> Deserializer<'qs> {
         ensures tree { IfOk result (λ d. IsTree config.form config.max_depth input.now d.tree) }
         ensures refused { IsParse result → IsRefused config.form config.max_depth input.now }
         ensures position { IfParse result (λ position. position ≤ length input.now + 1) }
+        ensures no_memory { TakesNoMemory input.now → IsOk result }
         ensures errors { OnlyParseOrOutOfMemory result }
     {
         let tree = parse(alloc, input, config)?;

@@ -14,4 +14,5 @@ pub mod BehindKeys
 pub mod Items
 pub mod Equality
 pub mod Growing
+pub mod SmallItems
 pub mod Ordered

@@ -1,8 +1,11 @@
 -- A value that is found by its first `&`, and the tokens that it is.
-use Rattle.std.proofs.Common.{◌≡◌, ℕ, zero, suc, ◌+◌, ◌<◌, ◌==◌, Bool, true, false, cond, not, ◌&&◌, ◌||◌, List, [], ◌∷◌, ◌++◌, length, take, drop, ◌≤◌, eqb-true, refl, sym, ap, ◌∙◌, subst, arith, Option, Some, None}
+use Rattle.std.proofs.Common.{◌≡◌, ℕ, zero, suc, ◌+◌, ◌<◌, ◌==◌, Bool, true, false, cond, not, ◌&&◌, ◌||◌, List, [], ◌∷◌, ◌++◌, length, take, drop, ◌≤◌, eqb-true, refl, sym, ap, ap₂, ◌∙◌, le_refl, subst, arith, Option, Some, None}
 use Rattle.std.specs.Option.{IfNone, unwrap_or}
 use Rattle.std.specs.List.{position, position_or_len, prefix_len}
 use Rattle.std.proofs.lemmas.List.Sums.{prefix_len-le-length}
+use Rattle.std.proofs.Math.Seq.{take-length}
+use Rattle.std.proofs.lemmas.List.{drop_all}
+use Rattle.qs_spec.specs.Escape.{is_marked}
 use Rattle.qs_spec.proofs.Booleans.{and_both}
 use Rattle.qs_spec.specs.Token.{Kind, Token, tokens, byte_token, kind_of, is_escaped_bracket, raw_of}
 use Rattle.qs_spec.specs.Token.Kind.{Amp, Equals, Open, Close, Other}
@@ -11,7 +14,8 @@ use Rattle.qs_spec.specs.toward.Reading.{cut, cut_at}
 use Rattle.qs_tree.specs.Search.{is_ampersand}
 use Rattle.qs_tree.specs.declared.cursor.Token as code
 use Rattle.qs_tree.specs.declared.cursor.Cursor as cursor
-use Rattle.qs_tree.specs.Cursor.{kind_of_token, token_of, behind, left, IsPast}
+use Rattle.qs_tree.specs.Cursor.{kind_of_token, token_of, raw_behind, behind, left, IsPast}
+use Rattle.qs_tree.specs.Small.{is_plain}
 use Rattle.qs_tree.proofs.FirstPlace.{position_some_is, position_none_is}
 
 -- where the value ends
@@ -126,3 +130,38 @@ value_past ts (Some t) new e end = subst (λ l. IsPast l new) (sym e) (amp_of (k
     amp_of Open e = cc
     amp_of Close e = cc
     amp_of Other e = cc
+
+-- bytes without `&`, `+` and `%` are one value, which stands for itself
+plain_parts : (b : ℕ) (bytes : List ℕ) → is_plain (b ∷ bytes) ≡ true → ((b == 38) ≡ false) × ((b == 43 || b == 37) ≡ false) × (is_plain bytes ≡ true)
+plain_parts b bytes e =
+    let parts = and_both (not (b == 38 || b == 43 || b == 37)) (is_plain bytes) e in
+    by (b == 38) (b == 43) (b == 37) parts.0 parts.1
+  where
+    by : (x y z : Bool) → not (x || y || z) ≡ true → is_plain bytes ≡ true → (x ≡ false) × ((y || z) ≡ false) × (is_plain bytes ≡ true)
+    by true y z e h = cc
+    by false true z e h = cc
+    by false false true e h = cc
+    by false false false e h = (refl, refl, h)
+
+plain_end : (bytes : List ℕ) → is_plain bytes ≡ true → value_end bytes ≡ length bytes
+plain_end [] e = refl
+plain_end (b ∷ bytes) e = let parts = plain_parts b bytes e in other_byte b bytes parts.0 ∙ ap suc (plain_end bytes parts.2)
+
+plain_marked : (bytes : List ℕ) → is_plain bytes ≡ true → is_marked bytes ≡ false
+plain_marked [] e = refl
+plain_marked (b ∷ bytes) e = let parts = plain_parts b bytes e in ap₂ ◌||◌ parts.1 (plain_marked bytes parts.2)
+
+no_bytes : (front back : List ℕ) → [] ≡ front ++ back → back ≡ []
+no_bytes [] back e = sym e
+no_bytes (b ∷ front) back e = cc
+
+pub plain_value : (bytes value rest : List ℕ) (found : Option code.Token) (new : List ℕ) → is_plain bytes ≡ true → value ≡ take (value_end bytes) bytes → rest ≡ drop (value_end bytes) bytes
+    → rest ≡ raw_behind found new → IfNone found (new ≡ []) → (is_marked value ≡ false) × (new ≡ [])
+plain_value bytes value rest found new e front back behind_it end =
+    let whole = plain_end bytes e in
+    (ap is_marked (front ∙ ap (λ n. take n bytes) whole ∙ take-length bytes) ∙ plain_marked bytes e,
+    by found (sym (back ∙ ap (λ n. drop n bytes) whole ∙ drop_all (length bytes) bytes (le_refl (length bytes))) ∙ behind_it) end)
+  where
+    by : (found : Option code.Token) → [] ≡ raw_behind found new → IfNone found (new ≡ []) → new ≡ []
+    by None e end = end
+    by (Some t) e end = no_bytes t.raw.now new e

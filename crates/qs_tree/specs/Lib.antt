@@ -14,3 +14,4 @@ pub mod Reading
 pub mod Conflict
 pub mod Adding
 pub mod Parsing
+pub mod Small

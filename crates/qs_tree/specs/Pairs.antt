@@ -1,5 +1,5 @@
 -- What the types of a pair stand for.
-use Rattle.std.specs.Prelude.{List, Bool, true, false, map}
+use Rattle.std.specs.Prelude.{◌≡◌, [], List, Bool, true, false, map}
 use Rattle.std.specs.declared.borrow.CowSlice.TheVariants.{Borrowed, Owned}
 use Rattle.qs_spec.specs.Segment.{Step}
 use Rattle.qs_spec.specs.Leaf.{Leaf, NoValue, Null, Text}
@@ -33,3 +33,7 @@ pair_of p = record { path = path_of p.path.items; push = is_push p.manner; leaf 
 -- a leaf as a node
 abbrev pub leaf_tree : code.Leaf → Tree
 leaf_tree l = leaf (leaf_of l)
+
+-- a plain pair at the empty path
+abbrev pub IsBare : Pair → Type 0
+IsBare p = (p.path.items ≡ []) × (p.manner ≡ Plain)

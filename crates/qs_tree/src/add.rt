@@ -1,13 +1,15 @@
 //! Adding a pair to a tree.
-ghost use Rattle.std.specs.Prelude.{◌≡◌, [], true, false, IfOk, Some, None};
+ghost use Rattle.std.specs.Prelude.{◌≡◌, [], true, false, IfOk, IsOk, Some, None};
 ghost use Rattle.std.specs.String.{string_bytes};
 ghost use Rattle.qs_spec.specs.Segment.Segment.{Str};
 ghost use Rattle.qs_spec.specs.Tree.{Tree, empty_step};
 ghost use Rattle.qs_spec.specs.Tree.Tree.{sequence};
 ghost use Rattle.qs_spec.specs.toward.InPlace as in_place;
 ghost use Rattle.qs_spec.specs.toward.InPlace.{add, add_flat, push_item, update};
+ghost use Rattle.qs_tree.specs.declared.pair.Manner.TheVariants.{Plain};
+ghost use Rattle.qs_tree.specs.declared.value.ParsedValue.TheVariants.{Uninitialized};
 ghost use Rattle.qs_tree.specs.Views.{segment_of_key, step_of_key, tree_of, items_of, entries_of_map};
-ghost use Rattle.qs_tree.specs.Pairs.{leaf_of, leaf_tree, is_push, pair_of};
+ghost use Rattle.qs_tree.specs.Pairs.{IsBare, leaf_of, leaf_tree, is_push, pair_of};
 ghost use Rattle.qs_tree.specs.Conflict.{child, clash_below, clash_flat, clash_here, conflict_at, conflict_of, keys_text, leaf_on_map};
 ghost use Rattle.qs_tree.specs.Adding.{Gives, IsRefusal, IsShort, added, conflict_ahead, entries_below};
 
@@ -32,16 +34,21 @@ struct Rest<'qs> {
 
 /// Adds a pair to a tree: its leaf goes to the end of its path, as its manner says.
 ///
-/// Refused where the pair is in conflict with a node, or memory runs out; the tree is lost then.
+/// Refused where the pair is in conflict with a node, or memory runs out; the tree is lost then. A plain leaf at the path of
+/// a fresh tree takes no memory.
 pub(crate) fn add_pair<'qs>(
     alloc: Global,
     tree: ParsedValue<'qs>,
     pair: Pair<'qs>,
 ) -> Result<ParsedValue<'qs>, Refusal>
-    ensures { let p = pair_of pair.entry in let before = tree_of tree.entry in
+    ensures added { let p = pair_of pair.entry in let before = tree_of tree.entry in
         Gives tree_of (add p.path p.push p.leaf before) (conflict_of p.path p.push before) result }
+    ensures fresh { IsBare pair.entry → tree.entry ≡ Uninitialized → IsOk result }
 {
     let Pair { path, manner, leaf } = pair;
+    if path.is_empty() {
+        return add_here(alloc, tree, manner, leaf, 0);
+    }
     let rest = Rest {
         path: path.into_iter(),
         level: 0,
@@ -107,8 +114,9 @@ fn add_here<'qs>(
     leaf: Leaf<'qs>,
     level: usize,
 ) -> Result<ParsedValue<'qs>, Refusal>
-    ensures { let before = tree_of node.entry in
+    ensures added { let before = tree_of node.entry in
         Gives tree_of (in_place.add_here (is_push manner) (leaf_of leaf.entry) before) (conflict_at level (clash_here (is_push manner) before)) result }
+    ensures fresh { manner ≡ Plain → node.entry ≡ Uninitialized → IsOk result }
 {
     match (manner, node) {
         (Manner::Plain, ParsedValue::Map(mut map)) => {
@@ -128,8 +136,9 @@ fn add_plain<'qs>(
     leaf: Leaf<'qs>,
     level: usize,
 ) -> Result<ParsedValue<'qs>, Refusal>
-    ensures { let before = tree_of node.entry in
+    ensures added { let before = tree_of node.entry in
         Gives tree_of (add_flat false (leaf_of leaf.entry) before) (conflict_at level (clash_flat false before)) result }
+    ensures fresh { node.entry ≡ Uninitialized → IsOk result }
 {
     match node {
         ParsedValue::Uninitialized => Ok(leaf.into_value()),

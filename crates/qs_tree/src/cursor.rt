@@ -1,7 +1,9 @@
 //! The input, taken token by token.
 
-ghost use Rattle.std.specs.Prelude.{◌≡◌, ℕ, ◌+◌, ◌++◌, ◌<◌, ◌≤◌, ◌-◌, [], length, IfSome, IfNone, true};
+ghost use Rattle.std.specs.Prelude.{◌≡◌, ℕ, ◌+◌, ◌++◌, ◌<◌, ◌≤◌, ◌-◌, [], length, IfSome, IfNone, IsTrue, true, false};
+ghost use Rattle.qs_spec.specs.Escape.{is_marked};
 ghost use Rattle.qs_spec.specs.Token.{raw_of};
+ghost use Rattle.qs_tree.specs.Small.{is_plain};
 ghost use Rattle.qs_spec.specs.Grammar.{is_amp, is_equals, is_open, is_close};
 ghost use Rattle.qs_spec.specs.toward.Reading.{cut};
 ghost use Rattle.qs_tree.specs.Cursor.{kind_of_token, token_of, BeginsWith, ends_of, left, spent, looks, raw_behind, behind, IsPast, GoesOn, taken, IsLeft};
@@ -200,6 +202,7 @@ impl<'qs> Cursor<'qs> {
     pub fn run(&mut self, until: Until) -> (&'qs [u8], Option<Token<'qs>>)
         ensures run { result.0.now ≡ raw_of (cut (ends_of until) (left self.old)).0 }
         ensures token { (cut (ends_of until) (left self.old)).1 ≡ behind result.1 (left self.new) }
+        ensures bytes { self.old.rest.now ≡ result.0.now ++ raw_behind result.1 self.new.rest.now }
         ensures kind { IfSome result.1 (λ t. ends_of until (kind_of_token t.kind) ≡ true) }
         ensures place { IfSome result.1 (λ t. t.place.rest.now ≡ t.raw.now ++ self.new.rest.now) }
         ensures end { IfNone result.1 (self.new.rest.now ≡ []) }
@@ -219,6 +222,7 @@ impl<'qs> Cursor<'qs> {
         requires { IsLeft place.rest.now self.old.rest.now }
         ensures run { result.0.now ≡ taken place.entry.rest.now self.old.rest.now ++ raw_of (cut (ends_of until) (left self.old)).0 }
         ensures token { (cut (ends_of until) (left self.old)).1 ≡ behind result.1 (left self.new) }
+        ensures bytes { place.entry.rest.now ≡ result.0.now ++ raw_behind result.1 self.new.rest.now }
         ensures kind { IfSome result.1 (λ t. ends_of until (kind_of_token t.kind) ≡ true) }
         ensures place { IfSome result.1 (λ t. t.place.rest.now ≡ t.raw.now ++ self.new.rest.now) }
         ensures end { IfNone result.1 (self.new.rest.now ≡ []) }
@@ -241,6 +245,7 @@ impl<'qs> Cursor<'qs> {
     pub fn value(&mut self) -> &'qs [u8]
         ensures value { result.now ≡ raw_of (cut is_amp (left self.old)).0 }
         ensures past { IsPast (cut is_amp (left self.old)).1 self.new }
+        ensures plain { IsTrue (is_plain self.old.rest.now) → (is_marked result.now ≡ false) × (self.new.rest.now ≡ []) }
         ensures moves { GoesOn 0 self.old self.new }
     {
         let end = find_ampersand(self.rest).unwrap_or(self.rest.len());

@@ -1,14 +1,16 @@
 //! The tree of a querystring.
 
-ghost use Rattle.std.specs.Prelude.{◌≡◌, ◌≤◌, ◌+◌, [], length, IfOk};
+ghost use Rattle.std.specs.Prelude.{◌≡◌, ◌≤◌, ◌+◌, [], length, IfOk, IsOk};
 ghost use Rattle.qs_spec.specs.Tree.{IsTree, IsRefused};
 ghost use Rattle.qs_spec.specs.Tree.Tree.{uninitialized};
 ghost use Rattle.qs_spec.specs.toward.InPlace as in_place;
 ghost use Rattle.qs_tree.specs.Error.{IsParse, IfParse, OnlyParseOrOutOfMemory};
 ghost use Rattle.qs_tree.specs.Views.{tree_of};
-ghost use Rattle.qs_tree.specs.Pairs.{pair_of};
+ghost use Rattle.qs_tree.specs.Pairs.{IsBare, pair_of};
 ghost use Rattle.qs_tree.specs.Cursor.{left, GoesOn, spent, slack};
+ghost use Rattle.qs_tree.specs.declared.value.ParsedValue.TheVariants.{Uninitialized};
 ghost use Rattle.qs_tree.specs.Parsing.{grown, IsAnswer};
+ghost use Rattle.qs_tree.specs.Small.{TakesNoMemory};
 
 use crate::add::add_pair;
 use crate::config::Config;
@@ -29,6 +31,7 @@ pub fn parse(alloc: Global, input: &[u8], config: Config) -> Result<ParsedValue<
     ensures refused { IsParse result → IsRefused config.form config.max_depth input.now }
     ensures position { IfParse result (λ position. position ≤ length input.now + 1) }
     ensures errors { OnlyParseOrOutOfMemory result }
+    ensures no_memory { TakesNoMemory input.now → IsOk result }
 {
     parse_with(alloc, &mut Steps::new(), input, config)
 }
@@ -44,6 +47,7 @@ pub fn parse_with<'qs>(
     ensures refused { IsParse result → IsRefused config.form config.max_depth input.now }
     ensures position { IfParse result (λ position. position ≤ length input.now + 1) }
     ensures errors { OnlyParseOrOutOfMemory result }
+    ensures no_memory { TakesNoMemory input.now → IsOk result }
     ensures most { steps.new ≤ steps.old + length input.now + 2 }
     ensures least { IfOk result (λ _. steps.old + length input.now ≤ steps.new) }
 {
@@ -70,6 +74,7 @@ fn scan<'qs>(
     ensures most { spent cursor.new ≤ spent cursor.old + 2 }
     ensures least { spent cursor.old ≤ spent cursor.new }
     ensures end { IfOk result (λ _. cursor.new.rest.now ≡ []) }
+    ensures no_memory { TakesNoMemory cursor.old.rest.now → IsOk result }
 {
     let mut tree = ParsedValue::Uninitialized;
     loop {
@@ -103,8 +108,9 @@ fn added<'qs>(
     site: Site<'qs>,
 ) -> Result<ParsedValue<'qs>>
     requires { length site.start.rest.now ≤ length site.input.now }
-    ensures { let p = pair_of pair.entry in
+    ensures answer { let p = pair_of pair.entry in
         IsAnswer (in_place.add p.path p.push p.leaf (tree_of tree.entry)) (length site.entry.input.now + 1) result }
+    ensures fresh { IsBare pair.entry → tree.entry ≡ Uninitialized → IsOk result }
 {
     match add_pair(alloc, tree, pair) {
         Ok(tree) => Ok(tree),

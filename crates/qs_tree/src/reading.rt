@@ -1,6 +1,6 @@
 //! One pair, read from what is left of an input.
 
-ghost use Rattle.std.specs.Prelude.{◌≡◌, ◌++◌, ◌<◌, [], length, IfOk};
+ghost use Rattle.std.specs.Prelude.{◌≡◌, ◌++◌, ◌<◌, [], length, IfOk, IsOk, IsOkAnd, IsTrue};
 ghost use Rattle.qs_spec.specs.Grammar.{plain, pushed, ends_root};
 ghost use Rattle.qs_spec.specs.toward.Reading.{with_leaf, read_value, read_brackets};
 ghost use Rattle.qs_tree.specs.declared.reading.Fault.TheVariants.{Other};
@@ -8,6 +8,7 @@ ghost use Rattle.qs_tree.specs.Error.{OnlyOutOfMemory};
 ghost use Rattle.qs_tree.specs.Pairs.{path_of};
 ghost use Rattle.qs_tree.specs.Cursor.{ends_of, left, looks, behind, GoesOn};
 ghost use Rattle.qs_tree.specs.Reading.{IsRootStop, IsClosing, IsBehind, StandsBehind, IsEnd, IsMore, ReadsItem, ReadsLeaf, ReadsPair, is_nothing, root_path, behind_root};
+ghost use Rattle.qs_tree.specs.Small.{is_plain, TakesNoMemory, IsEqualsStop, ReadsBare, ReadsSmall};
 
 use crate::cursor::{Cursor, Kind, Token, Until};
 use crate::error::{Error, Result};
@@ -87,6 +88,7 @@ pub(crate) fn read_item<'qs>(
     ensures end { IsEnd result → cursor.new.rest.now ≡ [] }
     ensures shorter { IsMore result → length cursor.new.rest.now < length cursor.old.rest.now }
     ensures moves { GoesOn 0 cursor.old cursor.new }
+    ensures small { TakesNoMemory cursor.old.rest.now → ReadsSmall result cursor.new }
 {
     let (key, stop) = cursor.run(root_end(max_depth));
     if is_nothing(key, stop) {
@@ -131,6 +133,7 @@ fn read_behind_root<'qs>(
     requires behind { StandsBehind stop cursor.old }
     ensures pair { ReadsPair (behind_root max_depth key.now (behind stop.entry (left cursor.old))) result cursor.new }
     ensures moves { GoesOn (looks stop.entry) cursor.old cursor.new }
+    ensures bare { key.now ≡ [] → IsEqualsStop stop.entry → IsTrue (is_plain cursor.old.rest.now) → ReadsBare result cursor.new }
 {
     let path = read_root(alloc, key)?;
     match stop {
@@ -145,6 +148,7 @@ fn read_behind_root<'qs>(
 fn read_root<'qs>(alloc: Global, key: &'qs [u8]) -> Result<Vec<Key<'qs>>>
     ensures path { IfOk result (λ path. path_of path.items ≡ root_path key.now) }
     ensures errors { OnlyOutOfMemory result }
+    ensures empty { key.now ≡ [] → IsOkAnd result (λ path. path.items ≡ []) }
 {
     let mut path = Vec::new(alloc);
     if !key.is_empty() {
@@ -163,6 +167,7 @@ fn read_value<'qs>(
     requires behind { StandsBehind stop cursor.old }
     ensures leaf { ReadsLeaf (read_value (behind stop.entry (left cursor.old))) result cursor.new }
     ensures moves { GoesOn (looks stop.entry) cursor.old cursor.new }
+    ensures plain { IsEqualsStop stop.entry → IsTrue (is_plain cursor.old.rest.now) → IsOk result × (cursor.new.rest.now ≡ []) }
 {
     match stop {
         Some(token) if token.kind.is_equals() => read_leaf(alloc, cursor.value()),
@@ -181,6 +186,7 @@ fn read_plain<'qs>(
     requires behind { StandsBehind stop cursor.old }
     ensures pair { ReadsPair (with_leaf (plain (path_of path.entry.items)) (read_value (behind stop.entry (left cursor.old)))) result cursor.new }
     ensures moves { GoesOn (looks stop.entry) cursor.old cursor.new }
+    ensures bare { path.entry.items ≡ [] → IsEqualsStop stop.entry → IsTrue (is_plain cursor.old.rest.now) → ReadsBare result cursor.new }
 {
     let leaf = read_value(alloc, cursor, stop)?;
     Ok(Pair {

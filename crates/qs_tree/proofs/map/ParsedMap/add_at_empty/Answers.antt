@@ -27,13 +27,13 @@ returns-in_err-new-in-Ok c =
     (refused_too (f (tree_of old)) _ _ _ c.in_err-new-in-Ok.field-0.0
     (λ none. rw (← c.from-key.ensures) (refused key f c.args.self.now c.in-Ok.at found old c.replace-old.ensures.old none))
     (ap (λ t. conflict_at c.args.level (clash_flat false t)) (sym there))
-    c.in_err-new-in-Ok.ensures)
+    c.in_err-new-in-Ok.ensures.added)
 
 pub returns-in_ok-new-in-Ok : goal.returns-in_ok-new-in-Ok
 returns-in_ok-new-in-Ok c =
     let found = rw (c.in-Ok.is, c.as_slice.ensures.all) at c.search.ensures.found in
     let f : Tree → Option Tree = add_flat false (leaf_of c.args.leaf) in
-    rw (← c.from-key.ensures) (written c.from-key.result f c.args.self.now c.in-Ok.at found c.replace-old.result c.replace-old.ensures.old _ _ c.in_ok-new-in-Ok.new c.in_ok-new-in-Ok.ensures (rw c.replace-old.ensures.new at c.replace.ensures.new))
+    rw (← c.from-key.ensures) (written c.from-key.result f c.args.self.now c.in-Ok.at found c.replace-old.result c.replace-old.ensures.old _ _ c.in_ok-new-in-Ok.new c.in_ok-new-in-Ok.ensures.added (rw c.replace-old.ensures.new at c.replace.ensures.new))
 
 pub returns-in_ok-insert_at-in-Err : goal.returns-in_ok-insert_at-in-Err
 returns-in_ok-insert_at-in-Err c =

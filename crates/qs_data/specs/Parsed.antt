@@ -1,15 +1,20 @@
 -- What callers see of a deserializer, and what it answers.
-use Rattle.std.specs.Prelude.{◌≡◌, ◌≢◌, Bool, true, false, Option, Result}
+use Rattle.std.specs.Prelude.{Option}
 use Rattle.qs_spec.specs.Config.{Config}
 use Rattle.qs_spec.specs.Shape.{Shape}
 use Rattle.qs_spec.specs.Data.{Data}
 use Rattle.qs_spec.specs.Tree.{Tree}
 use Rattle.qs_spec.specs.Read.{read_by}
+use Rattle.qs_tree.specs.Views.{tree_of}
+use Rattle.qs_data.specs.declared.deserializer.Deserializer.{Deserializer}
 
 -- how it reads, and the tree that it reads from
 pub record Parsed : Type 0 where
   pub config : Config
   pub tree : Tree
+
+abbrev pub parsed_of : Deserializer → Parsed
+parsed_of d = record { config = d.config; tree = tree_of d.tree }
 
 -- the data that the shape reads from the tree, if there are any
 abbrev pub reading : Parsed → Shape → Option Data

@@ -10,7 +10,7 @@ ghost use Rattle.qs_data.specs.Views.{data_of, shape_of};
 ghost use Rattle.qs_data.specs.Text.{is_text};
 ghost use Rattle.qs_data.specs.Gives.{Gives, IsFrugal, IsFault, takes_no_memory};
 ghost use Rattle.qs_data.specs.Supported.{is_supported};
-ghost use Rattle.qs_data.specs.Parsed.{reading};
+ghost use Rattle.qs_data.specs.Parsed.{parsed_of, reading};
 
 use crate::data::Data;
 use crate::read::read;
@@ -18,7 +18,6 @@ use crate::shape::Shape;
 use crate::supported::is_supported;
 use qs_tree::{Config, DuplicateKeyBehavior, Error, ParsedValue, Result, parse};
 use std::alloc::Global;
-use std::marker::Model;
 
 /// A querystring that was parsed, to be read by a [`Shape`].
 ///
@@ -32,20 +31,11 @@ pub struct Deserializer<'qs> {
     tree: ParsedValue<'qs>,
 }
 
-impl<'qs> Model for Deserializer<'qs> {
-    ghost use Rattle.qs_tree.specs.Views.{tree_of};
-    ghost use Rattle.qs_data.specs.Parsed.{Parsed};
-
-    ghost Value = { Parsed };
-
-    ghost view = { λ d. record { config = d.config; tree = tree_of d.tree } };
-}
-
 impl<'qs> Deserializer<'qs> {
     /// The querystring, parsed with the default configuration: see [`with_config`](Deserializer::with_config).
     pub fn new(alloc: Global, input: &'qs [u8]) -> Result<Deserializer<'qs>>
-        ensures config { IfOk result (λ d. d.config ≡ default) }
-        ensures tree { IfOk result (λ d. IsTree default.form default.max_depth input.now d.tree) }
+        ensures config { IfOk result (λ d. (parsed_of d).config ≡ default) }
+        ensures tree { IfOk result (λ d. IsTree default.form default.max_depth input.now (parsed_of d).tree) }
         ensures refused { IsParse result → IsRefused default.form default.max_depth input.now }
         ensures position { IfParse result (λ position. position ≤ length input.now + 1) }
         ensures no_memory { TakesNoMemory input.now → IsOk result }
@@ -59,8 +49,8 @@ impl<'qs> Deserializer<'qs> {
     /// It is refused, with [`Parse`](Error::Parse) and the position of the first fault, exactly where it has no tree. Texts and
     /// keys that hold neither `+` nor `%` are borrowed from it. The time grows with the input's length and the depth of its keys.
     pub fn with_config(alloc: Global, config: Config, input: &'qs [u8]) -> Result<Deserializer<'qs>>
-        ensures config { IfOk result (λ d. d.config ≡ config) }
-        ensures tree { IfOk result (λ d. IsTree config.form config.max_depth input.now d.tree) }
+        ensures config { IfOk result (λ d. (parsed_of d).config ≡ config) }
+        ensures tree { IfOk result (λ d. IsTree config.form config.max_depth input.now (parsed_of d).tree) }
         ensures refused { IsParse result → IsRefused config.form config.max_depth input.now }
         ensures position { IfParse result (λ position. position ≤ length input.now + 1) }
         ensures no_memory { TakesNoMemory input.now → IsOk result }
@@ -81,8 +71,8 @@ impl<'qs> Deserializer<'qs> {
     /// of a scalar without bytes take none.
     pub fn read(self, alloc: Global, shape: &Shape) -> Result<Data>
         requires { is_distinct (shape_of shape.now) ≡ true }
-        ensures exact { is_supported (shape_of shape.now) ≡ true → Gives data_of (is_text self.tree) result (reading self (shape_of shape.now)) }
-        ensures no_memory { takes_no_memory (shape_of shape.now) ≡ true → IsFrugal result (reading self (shape_of shape.now)) }
+        ensures exact { is_supported (shape_of shape.now) ≡ true → Gives data_of (is_text (parsed_of self.entry).tree) result (reading (parsed_of self.entry) (shape_of shape.now)) }
+        ensures no_memory { takes_no_memory (shape_of shape.now) ≡ true → IsFrugal result (reading (parsed_of self.entry) (shape_of shape.now)) }
         ensures unsupported { is_supported (shape_of shape.now) ≡ false → IfErr result IsFault }
         ensures nothing { is_supported (shape_of shape.now) ≡ false → IsErr result }
     {

@@ -13,8 +13,8 @@ use Rattle.qs_spec.specs.History.Event.{plain, push, below}
 use Rattle.qs_spec.specs.Tree.Tree.{mapping, uninitialized}
 use Rattle.qs_spec.specs.Tree.Entries.{entry, no_entries}
 use Rattle.qs_spec.specs.toward.InPlace.{update, add_flat, add_here, add_below, add}
-use Rattle.qs_spec.proofs.Order.{is_itself, is_seg_turn}
-use Rattle.qs_spec.proofs.TreeOf.{longest_under, seg_same}
+use Rattle.qs_spec.proofs.Order.{is_itself, same_turned}
+use Rattle.qs_spec.proofs.TreeOf.{longest_under, same_segment}
 use Rattle.qs_spec.proofs.Leaves.{none_below}
 use Rattle.qs_spec.proofs.OneMore.{pair, NoEmpty, NoneEmpty, Permitted, under_push, history_push, filled_push}
 use Rattle.qs_spec.proofs.Update.{entries_within, node_nothing, under_same, under_other, update_pairs}
@@ -24,8 +24,8 @@ pub node_flat : (n : ℕ) (ps : List Pair) → list_any is_below (map event ps) 
 node_flat zero ps e = refl
 node_flat (suc n) ps e = ap (λ b. cond b (mapping (entries_within n (filled ps))) (flat (map event ps))) e
 
-pub node_table : (n : ℕ) (ps : List Pair) → list_any is_below (map event ps) ≡ true → node_within (suc n) ps ≡ mapping (entries_within n (filled ps))
-node_table n ps e = ap (λ b. cond b (mapping (entries_within n (filled ps))) (flat (map event ps))) e
+pub node_mapping : (n : ℕ) (ps : List Pair) → list_any is_below (map event ps) ≡ true → node_within (suc n) ps ≡ mapping (entries_within n (filled ps))
+node_mapping n ps e = ap (λ b. cond b (mapping (entries_within n (filled ps))) (flat (map event ps))) e
 
 -- a pair that is added goes on exactly where the histories stay permitted
 abbrev pub Goes : ℕ → List Pair → Pair → Option Tree → Type 0
@@ -66,7 +66,7 @@ any_after : (ps : List Pair) (p : Pair) → list_any is_below (map event ps) ≡
 any_after ps p e = ap (list_any is_below) (history_push ps p) ∙ any_push is_below (map event ps) (event p) true e
 
 adds_map : (n : ℕ) (ps : List Pair) (b : Bool) (l : Leaf) → NoneEmpty ps → Permitted ps → list_any is_below (map event ps) ≡ true → Goes (suc n) ps (pair [] b l) (add_here b l (node_within (suc n) ps))
-adds_map n ps true l m p e = subst (λ t. Goes (suc n) ps (pair [] true l) (add_here true l t)) (sym (node_table n ps e))
+adds_map n ps true l m p e = subst (λ t. Goes (suc n) ps (pair [] true l) (add_here true l t)) (sym (node_mapping n ps e))
     (λ q. let h = begun (map event ps) e (p []) in
     let w = sym (q []) ∙ root_history ps (pair [] true l) ∙ still_permitted (map event ps) (push l) h.0 h.1 in cc)
 adds_map n ps false l m p e =
@@ -78,9 +78,9 @@ adds_map n ps false l m p e =
     ap flat (sym (history_push own (pair [] false l))) ∙ sym (node_flat n (own ++ pair [] false l ∷ []) (ap (list_any is_below) (history_push own (pair [] false l)) ∙ plain_no_below (map event own ++ plain l ∷ []) (plain_push (map event own) l all))) in
     let up : update empty_step (add_flat false l) (entries_within n (filled ps)) ≡ Some (entries_within n (filled ps ++ pair (empty_step ∷ []) false l ∷ [])) =
     update_pairs n (filled ps) empty_step [] false l (add_flat false l) (Some (flat (map event own ++ plain l ∷ []))) made (λ t d. sym (same_Some _ t d) ∙ next) in
-    subst (λ o. Goes (suc n) ps (pair [] false l) o) (sym (ap (add_here false l) (node_table n ps e) ∙ ap (option_map mapping) up)) (
+    subst (λ o. Goes (suc n) ps (pair [] false l) o) (sym (ap (add_here false l) (node_mapping n ps e) ∙ ap (option_map mapping) up)) (
       own_permitted ps false l p (still_permitted (map event ps) (plain l) h.0 h.1),
-      ap (λ (qs : List Pair). mapping (entries_within n qs)) (sym (filled_push ps (pair [] false l))) ∙ sym (node_table n (ps ++ pair [] false l ∷ []) (any_after ps (pair [] false l) e)),
+      ap (λ (qs : List Pair). mapping (entries_within n qs)) (sym (filled_push ps (pair [] false l))) ∙ sym (node_mapping n (ps ++ pair [] false l ∷ []) (any_after ps (pair [] false l) e)),
     )
 
 under_filled : (k : Segment) (ps : List Pair) → is_same_segment (Str []) k ≡ false → under k (filled ps) ≡ under k ps
@@ -88,7 +88,7 @@ under_filled k [] e = refl
 under_filled k (p ∷ ps) e = by p.path (under_filled k ps e)
   where
     by : (path : List Step) → under k (filled ps) ≡ under k ps → under_one k (filled_path path) (record p { path = filled_path path }) (under k (filled ps)) ≡ under_one k path p (under k ps)
-    by [] h = ap (λ x. cond x (record p { path = [] } ∷ under k (filled ps)) (under k (filled ps))) (is_seg_turn k (Str []) ∙ e) ∙ h
+    by [] h = ap (λ x. cond x (record p { path = [] } ∷ under k (filled ps)) (under k (filled ps))) (same_turned k (Str []) ∙ e) ∙ h
     by (s ∷ path) h = ap (λ (l : List Pair). cond (is_same_segment k s.seg) (record p { path = path } ∷ l) l) h
 
 none_empty_under : (k : Segment) (ps : List Pair) → NoneEmpty ps → NoneEmpty (under k ps)
@@ -112,7 +112,7 @@ below_permitted ps s path b l p r h [] = root_history ps (pair (s ∷ path) b l)
 below_permitted ps s path b l p r h (k ∷ rest) = by (is_same_segment k s.seg) refl
   where
     by : (x : Bool) → is_same_segment k s.seg ≡ x → permitted (events (under k (ps ++ pair (s ∷ path) b l ∷ [])) rest) ≡ true
-    by true e = ap (λ (j : Segment). permitted (events (under j (ps ++ pair (s ∷ path) b l ∷ [])) rest)) (seg_same k s.seg e) ∙ ap (λ (qs : List Pair). permitted (events qs rest)) (under_same s ps path b l) ∙ h rest
+    by true e = ap (λ (j : Segment). permitted (events (under j (ps ++ pair (s ∷ path) b l ∷ [])) rest)) (same_segment k s.seg e) ∙ ap (λ (qs : List Pair). permitted (events qs rest)) (under_same s ps path b l) ∙ h rest
     by false e = ap (λ (qs : List Pair). permitted (events qs rest)) (under_other k s ps path b l e) ∙ p (k ∷ rest)
 
 permitted_below : (ps : List Pair) (s : Step) (path : List Step) (b : Bool) (l : Leaf) → Permitted (ps ++ pair (s ∷ path) b l ∷ []) → Permitted (under s.seg ps ++ pair path b l ∷ [])
@@ -145,7 +145,7 @@ adds_below n s path b l (q ∷ qs) m p ih = by (list_any is_below (map event (q 
     made (Some t) e f a =
         let h = begun (map event (q ∷ qs)) a (p []) in (
           below_permitted (q ∷ qs) s path b l p (still_permitted (map event (q ∷ qs)) below h.0 h.1) f.0,
-          ap (λ (rs : List Pair). mapping (entries_within n rs)) (sym (filled_push (q ∷ qs) (pair (s ∷ path) b l))) ∙ sym (node_table n ((q ∷ qs) ++ pair (s ∷ path) b l ∷ []) (any_after (q ∷ qs) (pair (s ∷ path) b l) a)),
+          ap (λ (rs : List Pair). mapping (entries_within n rs)) (sym (filled_push (q ∷ qs) (pair (s ∷ path) b l))) ∙ sym (node_mapping n ((q ∷ qs) ++ pair (s ∷ path) b l ∷ []) (any_after (q ∷ qs) (pair (s ∷ path) b l) a)),
         )
 
     same : (t : Tree) (o : Option Tree) → Goes n (under s.seg (q ∷ qs)) (pair path b l) o → o ≡ Some t → t ≡ node_within n (under s.seg (filled (q ∷ qs)) ++ pair path b l ∷ [])
@@ -158,7 +158,7 @@ adds_below n s path b l (q ∷ qs) m p ih = by (list_any is_below (map event (q 
         let o = add path b l (node_within n (under s.seg (filled (q ∷ qs)))) in
         let goes : Goes n (under s.seg (q ∷ qs)) (pair path b l) o = subst (λ (rs : List Pair). Goes n (under s.seg (q ∷ qs)) (pair path b l) (add path b l (node_within n rs))) (sym (under_filled s.seg (q ∷ qs) m)) goes in
         subst (λ (x : Option Tree). Goes (suc n) (q ∷ qs) (pair (s ∷ path) b l) x)
-        (sym (ap (add_below s (add path b l)) (node_table n (q ∷ qs) a) ∙ ap (option_map mapping) (update_pairs n (filled (q ∷ qs)) s path b l (add path b l) o refl (λ t d. same t o goes d))))
+        (sym (ap (add_below s (add path b l)) (node_mapping n (q ∷ qs) a) ∙ ap (option_map mapping) (update_pairs n (filled (q ∷ qs)) s path b l (add path b l) o refl (λ t d. same t o goes d))))
         (made o refl goes a)
     by false a = subst (λ (x : Option Tree). Goes (suc n) (q ∷ qs) (pair (s ∷ path) b l) x) (sym (ap (add_below s (add path b l)) (node_flat (suc n) (q ∷ qs) a) ∙ below_flat s (add path b l) (event q) (map event qs) a))
         (λ w. let v = sym (w []) ∙ root_history (q ∷ qs) (pair (s ∷ path) b l) ∙ none_begun (map event qs) (event q) [] a in cc)

@@ -12,7 +12,7 @@ use Rattle.qs_spec.specs.Tree.{leaves_in, leaf_items, flat, heads, put_head, put
 use Rattle.qs_spec.specs.Segment.{compare_segments, is_same_segment}
 use Rattle.qs_spec.specs.History.Event.{plain, push, below}
 use Rattle.qs_spec.specs.Holds.{leaf_count, items_leaf_count, entries_leaf_count, nesting, items_nesting, entries_nesting}
-use Rattle.qs_spec.proofs.Order.{exact_seg, seg_total, put_lt, put_eq, put_gt}
+use Rattle.qs_spec.proofs.Order.{exact_segment, segments_total, put_lt, put_eq, put_gt}
 use Rattle.qs_spec.proofs.TreeOf.{none_under, longest_under}
 
 -- each key is below those after it
@@ -31,7 +31,7 @@ all_put P x (y ∷ ks) p h = by (all_put P x ks p h.1) (compare_segments x y) re
 
 pub all_above : (x y : Segment) (ks : List Segment) → compare_segments x y ≡ Less → AllByRecursion (λ z. compare_segments y z ≡ Less) ks → AllByRecursion (λ z. compare_segments x z ≡ Less) ks
 all_above x y [] e h = tt
-all_above x y (z ∷ ks) e h = (seg_total.trans x y z e h.0, all_above x y ks e h.1)
+all_above x y (z ∷ ks) e h = (segments_total.trans x y z e h.0, all_above x y ks e h.1)
 
 ascends_put : (x : Segment) (ks : List Segment) → Ascends ks → Ascends (put x ks)
 ascends_put x [] h = (tt, tt)
@@ -40,7 +40,7 @@ ascends_put x (y ∷ ks) h = by (ascends_put x ks h.1) (compare_segments x y) re
     by : Ascends (put x ks) → (o : Ordering) → compare_segments x y ≡ o → Ascends (put x (y ∷ ks))
     by more Less e = subst Ascends (sym (put_lt x y ks e)) ((e, all_above x y ks e h.0), h)
     by more Equal e = subst Ascends (sym (put_eq x y ks e)) h
-    by more Greater e = subst Ascends (sym (put_gt x y ks e)) (all_put (λ z. compare_segments y z ≡ Less) x ks (seg_total.antisymm y x ∙ ap ordering_reverse e) h.0, more)
+    by more Greater e = subst Ascends (sym (put_gt x y ks e)) (all_put (λ z. compare_segments y z ≡ Less) x ks (segments_total.antisymm y x ∙ ap ordering_reverse e) h.0, more)
 
 pub ascends_heads : (ps : List Pair) → Ascends (heads ps)
 ascends_heads [] = tt
@@ -61,10 +61,10 @@ total f (k ∷ ks) = f k + total f ks
 -- one more under x: each key counts the same but x, which counts one more
 module _ (x : Segment) (f g : Segment → ℕ) (one : (k : Segment) → f k ≡ one_if (is_same_segment k x) + g k) where
   other : (y : Segment) → compare_segments x y ≡ Less → f y ≡ g y
-  other y e = one y ∙ ap (λ o. one_if (is_eq o) + g y) (seg_total.antisymm y x ∙ ap ordering_reverse e) ∙ omega arith
+  other y e = one y ∙ ap (λ o. one_if (is_eq o) + g y) (segments_total.antisymm y x ∙ ap ordering_reverse e) ∙ omega arith
 
   lower : (y : Segment) → compare_segments x y ≡ Greater → f y ≡ g y
-  lower y e = one y ∙ ap (λ o. one_if (is_eq o) + g y) (seg_total.antisymm y x ∙ ap ordering_reverse e) ∙ omega arith
+  lower y e = one y ∙ ap (λ o. one_if (is_eq o) + g y) (segments_total.antisymm y x ∙ ap ordering_reverse e) ∙ omega arith
 
   others : (ks : List Segment) → AllByRecursion (λ y. compare_segments x y ≡ Less) ks → total f ks ≡ total g ks
   others [] h = refl
@@ -83,7 +83,7 @@ module _ (x : Segment) (f g : Segment → ℕ) (one : (k : Segment) → f k ≡ 
       turn Greater e = cc
 
       tied : (x : Segment) → compare_segments x x ≡ Equal
-      tied x = turn (compare_segments x x) (seg_total.antisymm x x)
+      tied x = turn (compare_segments x x) (segments_total.antisymm x x)
 
   one_more : (ks : List Segment) → Ascends ks → (list_any (is_same_segment x) ks ≡ false → g x ≡ 0) → total f (put x ks) ≡ suc (total g ks)
   one_more [] h none = omega (arith, itself, none refl)
@@ -94,7 +94,7 @@ module _ (x : Segment) (f g : Segment → ℕ) (one : (k : Segment) → f k ≡ 
           let above : AllByRecursion (λ z. compare_segments x z ≡ Less) (y ∷ ks) = (e, all_above x y ks e h.0) in
           ap (total f) (put_lt x y ks e) ∙ omega (arith, itself, others (y ∷ ks) above, none (not_among (y ∷ ks) above))
       by more Equal e =
-          let same : x ≡ y = exact_seg x y e in
+          let same : x ≡ y = exact_segment x y e in
           let above : AllByRecursion (λ z. compare_segments x z ≡ Less) ks = subst (λ w. AllByRecursion (λ z. compare_segments w z ≡ Less) ks) (sym same) h.0 in
           ap (total f) (put_eq x y ks e) ∙ omega (arith, itself, others ks above, ap f same, ap g same)
       by more Greater e =

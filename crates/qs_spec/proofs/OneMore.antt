@@ -8,7 +8,7 @@ use Rattle.qs_spec.specs.Grammar.{Pair}
 use Rattle.qs_spec.specs.History.{event, events, permitted, under, under_one}
 use Rattle.qs_spec.specs.Tree.{heads, put_head, put, filled, filled_path, head_mark, head_mark_or}
 use Rattle.qs_spec.specs.Segment.{is_same_segment}
-use Rattle.qs_spec.proofs.Order.{put_comm}
+use Rattle.qs_spec.proofs.Order.{put_twice}
 use Rattle.qs_spec.proofs.TreeOf.{any_put}
 use Rattle.qs_spec.proofs.Booleans.{or_both}
 
@@ -17,8 +17,7 @@ pair path b l = record { path = path; push = b; leaf = l }
 
 -- no segment is the empty text
 abbrev pub NoEmpty : List Step → Type 0
-NoEmpty [] = Unit {0}
-NoEmpty (s ∷ path) = (is_same_segment (Str []) s.seg ≡ false) × NoEmpty path
+NoEmpty path = AllByRecursion (λ s. is_same_segment (Str []) s.seg ≡ false) path
 
 abbrev pub NoneEmpty : List Pair → Type 0
 NoneEmpty ps = AllByRecursion (λ p. NoEmpty p.path) ps
@@ -53,7 +52,7 @@ heads_push (q ∷ ps) s path b l = ap (put_head q.path) (heads_push ps s path b 
   where
     by : (p : List Step) → put_head p (put s.seg (heads ps)) ≡ put s.seg (put_head p (heads ps))
     by [] = refl
-    by (t ∷ p) = put_comm t.seg s.seg (heads ps)
+    by (t ∷ p) = put_twice t.seg s.seg (heads ps)
 
 pub or-false : (b : Bool) → (b || false) ≡ b
 or-false true = refl

@@ -32,18 +32,18 @@ alike (Str a) (Int m) z e = cc
 alike (Str a) (Str b) (Int n) e = refl
 alike (Str a) (Str b) (Str c) e = nat_list_cmp_total.congr a b c e
 
-pub seg_total : IsTotalOrder compare_segments
-seg_total = record { antisymm = turned; trans = through; congr = alike }
+pub segments_total : IsTotalOrder compare_segments
+segments_total = record { antisymm = turned; trans = through; congr = alike }
 
-pub exact_seg : (x y : Segment) → compare_segments x y ≡ Equal → x ≡ y
-exact_seg (Int m) (Int n) e = ap Int (exact_unsigned m n e)
-exact_seg (Int m) (Str b) e = cc
-exact_seg (Str a) (Int n) e = cc
-exact_seg (Str a) (Str b) e = ap Str (exact_bytes a b e)
+pub exact_segment : (x y : Segment) → compare_segments x y ≡ Equal → x ≡ y
+exact_segment (Int m) (Int n) e = ap Int (exact_unsigned m n e)
+exact_segment (Int m) (Str b) e = cc
+exact_segment (Str a) (Int n) e = cc
+exact_segment (Str a) (Str b) e = ap Str (exact_bytes a b e)
 
 -- two segments that are both k are one
-pub is_seg_both : (k a b : Segment) → is_same_segment k a ≡ true → is_same_segment k b ≡ true → is_same_segment a b ≡ true
-is_seg_both k a b e f = sym ((eq_by_cmp_equiv seg_total).congr k a b e) ∙ f
+pub same_as_both : (k a b : Segment) → is_same_segment k a ≡ true → is_same_segment k b ≡ true → is_same_segment a b ≡ true
+same_as_both k a b e f = sym ((eq_by_cmp_equiv segments_total).congr k a b e) ∙ f
 
 pub put_lt : (k x : Segment) (xs : List Segment) → compare_segments k x ≡ Less → put k (x ∷ xs) ≡ k ∷ x ∷ xs
 put_lt k x xs e = ap (λ o. put_by o k x xs (put k xs)) e
@@ -74,15 +74,15 @@ put_less a b (x ∷ xs) e = by_b (put_less a b xs e) (compare_segments b x) refl
     by_b rest Equal g = ap (put a) (put_eq b x xs g) ∙ put_lt a x xs (less g) ∙ sym (ap (put b) (put_lt a x xs (less g)) ∙ behind ∙ ap (λ l. a ∷ l) (put_eq b x xs g))
       where
         less : compare_segments b x ≡ Equal → compare_segments a x ≡ Less
-        less g = sym (alike_right seg_total b x a g) ∙ e
+        less g = sym (alike_right segments_total b x a g) ∙ e
     by_b rest Greater g = by_a rest g (compare_segments a x) refl
 
-pub put_comm : (a b : Segment) (ks : List Segment) → put a (put b ks) ≡ put b (put a ks)
-put_comm a b ks = by (compare_segments a b) refl
+pub put_twice : (a b : Segment) (ks : List Segment) → put a (put b ks) ≡ put b (put a ks)
+put_twice a b ks = by (compare_segments a b) refl
   where
     by : (o : Ordering) → compare_segments a b ≡ o → put a (put b ks) ≡ put b (put a ks)
     by Less e = put_less a b ks e
-    by Equal e = let same : a ≡ b = exact_seg a b e in cc
+    by Equal e = let same : a ≡ b = exact_segment a b e in cc
     by Greater e = sym (put_less b a ks (turned b a ∙ ap ordering_reverse e))
 
 -- a segment below or above another is another
@@ -93,7 +93,7 @@ pub not_below : (x k : Segment) → compare_segments x k ≡ Greater → is_same
 not_below x k e = ap is_eq (turned k x ∙ ap ordering_reverse e)
 
 pub is_itself : (x : Segment) → is_same_segment x x ≡ true
-is_itself x = (eq_by_cmp_equiv seg_total).refl x
+is_itself x = (eq_by_cmp_equiv segments_total).refl x
 
-pub is_seg_turn : (x y : Segment) → is_same_segment x y ≡ is_same_segment y x
-is_seg_turn x y = (eq_by_cmp_equiv seg_total).symm x y
+pub same_turned : (x y : Segment) → is_same_segment x y ≡ is_same_segment y x
+same_turned x y = (eq_by_cmp_equiv segments_total).symm x y

@@ -6,7 +6,7 @@ use Rattle.qs_spec.specs.Segment.{Step}
 use Rattle.qs_spec.specs.Leaf.{Leaf}
 use Rattle.qs_spec.specs.Token.Kind.{Amp, Equals, Open, Close, Other}
 use Rattle.qs_spec.specs.Grammar.{Pair, plain, pushed, is_amp, is_open, is_close, ends_last, ends_root, IsRun, root, longer, IsValue, IsBrackets, IsPair, IsEnd, ArePairs}
-use Rattle.qs_spec.proofs.ReadPairs.{Rest, cut_at, cut, value_at, read_value, with_leaf, after_close_at, after_close, after_run, last_key, in_last, in_segment, read_brackets, named, after_root_at, after_root, read_pair, read_pairs_at, read_pairs}
+use Rattle.qs_spec.specs.toward.Reading.{Rest, cut_at, cut, value_at, read_value, with_leaf, after_close_at, after_close, after_run, last_key, in_last, in_segment, read_brackets, named, after_root_at, after_root, read_pair, read_pairs_at, read_pairs}
 use Rattle.qs_spec.proofs.Booleans.{and_both, not_of}
 
 -- what ends a run stands first, or nothing does
@@ -38,10 +38,10 @@ cut_run ends (t ∷ run) rest r s =
 
 -- what was read is a front with this property, and then an end
 pub record Reads {A : Type 0} (Is : List Token → A → Type 0) (ts : List Token) (a : A) (rest : List Token) : Type 0 where
-  front : List Token
-  is : Is front a
-  end : IsEnd rest
-  whole : ts ≡ front ++ rest
+  pub front : List Token
+  pub is : Is front a
+  pub end : IsEnd rest
+  pub whole : ts ≡ front ++ rest
 
 end_of : (ts : List Token) → Stops is_amp ts → IsEnd ts
 end_of [] s = tt
@@ -55,7 +55,7 @@ end_of (t ∷ ts) s = amp_of t.kind s
     amp_of Other e = cc
 
 -- what a reader found, if anything, is so
-abbrev Found : {A : Type 0} → (List Token → A → Type 0) → List Token → Rest A → Type 0
+abbrev pub Found : {A : Type 0} → (List Token → A → Type 0) → List Token → Rest A → Type 0
 Found Is ts None = Unit {0}
 Found Is ts (Some r) = Reads Is ts r.0 r.1
 
@@ -163,7 +163,7 @@ pair_at depth key (u ∷ rest) r s = by u.kind refl
     by Close e = tt
     by Other e = tt
 
-pair_reads : (depth : ℕ) (ts : List Token) → Found (IsPair depth) ts (read_pair depth ts)
+pub pair_reads : (depth : ℕ) (ts : List Token) → Found (IsPair depth) ts (read_pair depth ts)
 pair_reads depth ts =
     let c = is_cut (ends_root depth) ts in
     subst (λ l. Found (IsPair depth) l (read_pair depth ts)) (sym c.whole) (pair_at depth (cut (ends_root depth) ts).0 (cut (ends_root depth) ts).1 c.run c.stops)

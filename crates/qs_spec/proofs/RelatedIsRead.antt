@@ -8,7 +8,7 @@ use Rattle.qs_spec.specs.Leaf.{Leaf}
 use Rattle.qs_spec.specs.Token.Kind.{Amp, Equals, Open, Close, Other}
 use Rattle.qs_spec.specs.Leaf.Leaf.{NoValue}
 use Rattle.qs_spec.specs.Grammar.{Pair, plain, pushed, is_amp, is_open, is_close, ends_last, ends_root, IsRun, root, longer, IsValue, IsBrackets, IsPair, IsEnd, ArePairs}
-use Rattle.qs_spec.proofs.ReadPairs.{valued, value_at, read_value, with_leaf, Deeper, after_close_at, after_close, after_run, last_key, in_last, in_segment, read_brackets, after_root_at, after_root, read_pair, read_pairs_at, read_pairs, pairs_of}
+use Rattle.qs_spec.specs.toward.Reading.{valued, value_at, read_value, with_leaf, Deeper, after_close_at, after_close, after_run, last_key, in_last, in_segment, read_brackets, after_root_at, after_root, read_pair, read_pairs_at, read_pairs, pairs_of}
 use Rattle.qs_spec.proofs.ReadIsRelated.{Stops, cut_run, Finds, pairs_read}
 use Rattle.qs_spec.proofs.Booleans.{and_both, not_of}
 
@@ -95,7 +95,7 @@ pair_found {depth} rest (IsPair.brackets {pair} t key more r o d b) h =
     open_of Other e = cc
 
 -- a pair is some tokens, of which the first is no `&`
-abbrev IsBegun : List Token → Type 0
+abbrev pub IsBegun : List Token → Type 0
 IsBegun ts = (t : Token) × (more : List Token) × (ts ≡ t ∷ more) × (is_amp t.kind ≡ false)
 
 no_amp : (depth : ℕ) (k : Kind) → ends_root depth k ≡ false → is_amp k ≡ false
@@ -110,7 +110,7 @@ run_begun : (depth : ℕ) (key : List Token) (t : Token) (more : List Token) →
 run_begun depth [] t more r e = (t, more, refl, e)
 run_begun depth (u ∷ key) t more r e = (u, key ++ t ∷ more, refl, no_amp depth u.kind (not_of (ends_root depth u.kind) (and_both _ _ r).0))
 
-pair_begun : {depth : ℕ} {ts : List Token} {p : Pair} → IsPair depth ts p → IsBegun ts
+pub pair_begun : {depth : ℕ} {ts : List Token} {p : Pair} → IsPair depth ts p → IsBegun ts
 pair_begun {depth} (IsPair.name {t} {key} r) = (t, key, refl, no_amp depth t.kind (not_of (ends_root depth t.kind) (and_both _ _ r).0))
 pair_begun {depth} (IsPair.value t key value r (IsValue.some e q)) = run_begun depth key t value r (ap is_amp e)
 pair_begun {depth} (IsPair.brackets t key more r o d b) = run_begun depth key t more r (open_amp t.kind o)

@@ -9,8 +9,8 @@ use Rattle.qs_spec.specs.Grammar.{Pair}
 use Rattle.qs_spec.specs.History.{events, under, under_one, permitted}
 use Rattle.qs_spec.specs.Tree.{heads, put_head, put, node, longest, Tree, IsTree}
 use Rattle.qs_spec.specs.Segment.{compare_segments, is_same_segment}
-use Rattle.qs_spec.proofs.Order.{exact_seg, put_lt, put_eq, put_gt}
-use Rattle.qs_spec.proofs.ReadPairs.{pairs_of}
+use Rattle.qs_spec.proofs.Order.{exact_segment, put_lt, put_eq, put_gt}
+use Rattle.qs_spec.specs.toward.Reading.{pairs_of}
 use Rattle.qs_spec.proofs.RelatedIsRead.{are_pairs, found_pairs}
 use Rattle.qs_spec.proofs.Booleans.{and_both, or_both}
 
@@ -19,8 +19,8 @@ same_of Less e = cc
 same_of Equal e = refl
 same_of Greater e = cc
 
-pub seg_same : (k l : Segment) → is_same_segment k l ≡ true → k ≡ l
-seg_same k l e = exact_seg k l (same_of (compare_segments k l) e)
+pub same_segment : (k l : Segment) → is_same_segment k l ≡ true → k ≡ l
+same_segment k l e = exact_segment k l (same_of (compare_segments k l) e)
 
 -- how deep the histories are looked at
 abbrev pub all_permitted : ℕ → List Pair → Bool
@@ -44,7 +44,7 @@ all_at f k [] h e = cc
 all_at f k (x ∷ ks) h e = by (all_at f k ks) (and_both (f x) (list_all f ks) h) (is_same_segment k x) refl
   where
     by : (list_all f ks ≡ true → list_any (is_same_segment k) ks ≡ true → f k ≡ true) → (f x ≡ true) × (list_all f ks ≡ true) → (b : Bool) → is_same_segment k x ≡ b → f k ≡ true
-    by rest h true d = ap f (seg_same k x d) ∙ h.0
+    by rest h true d = ap f (same_segment k x d) ∙ h.0
     by rest h false d = rest h.1 (sym (ap (λ b. b || list_any (is_same_segment k) ks) d) ∙ e)
 
 -- a key that is put in is there, and so are the others
@@ -63,7 +63,7 @@ any_put k x (y ∷ ks) = by (any_put k x ks) (compare_segments x y) refl
 
     by : list_any (is_same_segment k) (put x ks) ≡ (is_same_segment k x || list_any (is_same_segment k) ks) → (o : Ordering) → compare_segments x y ≡ o → list_any (is_same_segment k) (put x (y ∷ ks)) ≡ (is_same_segment k x || (is_same_segment k y || list_any (is_same_segment k) ks))
     by h Less e = ap (list_any (is_same_segment k)) (put_lt x y ks e)
-    by h Equal e = ap (list_any (is_same_segment k)) (put_eq x y ks e) ∙ twice (is_same_segment k y) _ ∙ ap (λ z. is_same_segment k z || (is_same_segment k y || list_any (is_same_segment k) ks)) (sym (exact_seg x y e))
+    by h Equal e = ap (list_any (is_same_segment k)) (put_eq x y ks e) ∙ twice (is_same_segment k y) _ ∙ ap (λ z. is_same_segment k z || (is_same_segment k y || list_any (is_same_segment k) ks)) (sym (exact_segment x y e))
     by h Greater e = ap (list_any (is_same_segment k)) (put_gt x y ks e) ∙ ap (λ b. is_same_segment k y || b) h ∙ swap (is_same_segment k y) (is_same_segment k x) _
 
 -- no pair is under what is no key

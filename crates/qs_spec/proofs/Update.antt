@@ -10,7 +10,7 @@ use Rattle.qs_spec.specs.Segment.{compare_segments, is_same_segment}
 use Rattle.qs_spec.specs.Tree.Tree.{uninitialized}
 use Rattle.qs_spec.specs.Tree.Entries.{entry, no_entries}
 use Rattle.qs_spec.specs.toward.InPlace.{update_by, update}
-use Rattle.qs_spec.proofs.Order.{exact_seg, put_lt, put_eq, put_gt, not_above, not_below, is_itself}
+use Rattle.qs_spec.proofs.Order.{exact_segment, put_lt, put_eq, put_gt, not_above, not_below, is_itself}
 use Rattle.qs_spec.proofs.TreeOf.{none_under}
 use Rattle.qs_spec.proofs.Leaves.{Ascends, ascends_heads, all_above}
 use Rattle.qs_spec.proofs.OneMore.{pair, under_push, heads_push, mark_push, mark_there, mark_new}
@@ -55,7 +55,7 @@ module _ (s : Step) (g : Tree → Option Tree) (m n : Segment → Bool) (f h : S
           ∙ ap (entry s.seg (n s.seg) (h s.seg)) (entries_agree s.seg m n f h others (k ∷ ks) above)
           ∙ ap (entries_of n h) (sym (put_lt s.seg k ks e)))
       by more Equal e =
-          let one : s.seg ≡ k = exact_seg s.seg k e in
+          let one : s.seg ≡ k = exact_segment s.seg k e in
           let above : AllByRecursion (λ z. compare_segments s.seg z ≡ Less) ks = subst (λ w. AllByRecursion (λ z. compare_segments w z ≡ Less) ks) (sym one) a.0 in
           let keep : n s.seg ≡ m s.seg = kept (ap (λ b. b || list_any (is_same_segment s.seg) ks) (ap is_eq e)) in
           ap (λ d. update_by d s g k (m k) (f k) (entries_of m f ks) (update s g (entries_of m f ks))) e

@@ -12,6 +12,8 @@ pub mod Data
 pub mod Shape
 pub mod Scalar
 pub mod Read
+pub mod Relation
 pub mod Entry
 pub mod Written
+pub mod Worked
 pub mod toward

@@ -1,1 +1,4 @@
 pub mod InPlace
+pub mod Reading
+pub mod Entries
+pub mod Keys

@@ -1,8 +1,40 @@
 //! What querystrings mean, and the laws that hold of the meaning alone. No code runs here.
 #![tactic(auto)]
 
+mod entries;
 mod escapes;
+mod inputs;
+mod keys;
+mod orders;
+mod reading;
+mod relation;
+mod scalars;
+mod shapes;
+mod texts;
 mod trees;
 
-pub use escapes::escapes_round_trip;
-pub use trees::{in_place, one_reading};
+pub use entries::written_entries_are_read;
+pub use escapes::{
+    broken_escapes_stay, decoded_texts, encoded_texts, escapes_round_trip, kept_bytes,
+};
+pub use inputs::{
+    brackets_in_form_mode, deep_keys, indices_and_texts, marks_of_keys_and_texts,
+    nearly_empty_inputs, repeated_keys, values_beside_maps,
+};
+pub use keys::{
+    ascending_keys, digits_and_numbers, found_by_lookup, written_keys_are_read,
+    written_values_are_read,
+};
+pub use orders::{orders_by_place, reordered_inputs, reordered_pairs};
+pub use reading::pairs_are_read;
+pub use relation::{one_data, reads_is_the_relation};
+pub use scalars::written_scalars_are_read;
+pub use shapes::{
+    anything, fields_by_name, flags, items_by_place, kinds_of_variants, last_of_several,
+    least_key_names_the_variant, maps, numbers_in_range, options, small_shapes,
+};
+pub use texts::{
+    array_formats, depth_limit, keys_of_maps, optional_values, parts_without_fields, scalar_values,
+    variants,
+};
+pub use trees::{in_place, nothing_lost, one_reading, sound_trees};

@@ -1,10 +1,11 @@
 // Laws of pairs and trees.
 
-ghost use Rattle.std.specs.Prelude.{◌≡◌, ◌↔◌, ℕ, Bool, List, ◌∷◌, Some};
+ghost use Rattle.std.specs.Prelude.{◌≡◌, ◌≤◌, ◌↔◌, ℕ, ◌+◌, Bool, List, ◌∷◌, length, Some};
 ghost use Rattle.qs_spec.specs.Token.{Token, tokens};
 ghost use Rattle.qs_spec.specs.Grammar.{Pair, ArePairs};
 ghost use Rattle.qs_spec.specs.Tree.{Tree, IsTree};
 ghost use Rattle.qs_spec.specs.Tree.Tree.{uninitialized};
+ghost use Rattle.qs_spec.specs.Holds.{IsSound, leaf_count, nesting};
 ghost use Rattle.qs_spec.specs.toward.InPlace.{add_all};
 
 /// Tokens are at most one list of pairs, and an input has at most one tree.
@@ -17,4 +18,16 @@ pub fn one_reading()
 pub fn in_place()
     ensures { (form : Bool) (depth b : ℕ) (bytes : List ℕ) (ps : List Pair) (t : Tree) → ArePairs depth (tokens form (b ∷ bytes)) ps
         → ((add_all ps uninitialized ≡ Some t) ↔ IsTree form depth (b ∷ bytes) t) }
+{}
+
+/// Sequences aren't empty and hold leaves alone, maps aren't empty, and under the empty text stands a leaf or a sequence.
+pub fn sound_trees()
+    ensures { (form : Bool) (depth : ℕ) (bytes : List ℕ) (t : Tree) → IsTree form depth bytes t → IsSound t }
+{}
+
+/// A tree has as many leaves as its input has pairs, and no more maps within one another than the depth and two.
+pub fn nothing_lost()
+    ensures leaves { (form : Bool) (depth b : ℕ) (bytes : List ℕ) (ps : List Pair) (t : Tree) → ArePairs depth (tokens form (b ∷ bytes)) ps
+        → IsTree form depth (b ∷ bytes) t → leaf_count t ≡ length ps }
+    ensures nesting { (form : Bool) (depth : ℕ) (bytes : List ℕ) (t : Tree) → IsTree form depth bytes t → nesting t ≤ depth + 2 }
 {}

@@ -1,5 +1,5 @@
 -- The order of keys, and what a map finds, seen as segments and trees.
-use Rattle.std.proofs.Common.{◌≡◌, ℕ, zero, suc, slice_get, length, List, [], ◌∷◌, Ordering, is_eq, Option, Some, None, option_map, Bor, refl, ap, ◌∙◌, sym, inl, inr, rules}
+use Rattle.std.proofs.Common.{◌≡◌, ℕ, zero, suc, slice_get, length, List, [], ◌∷◌, Ordering, is_eq, Option, Some, None, option_map, Bor, refl, ap, ◌∙◌, sym, inl, inr, rules, map, Bool, true, false}
 use Rattle.std.proofs.lemmas.Bool.{cases_Bool}
 use Rattle.std.specs.declared.borrow.CowSlice.TheVariants.{Borrowed, Owned}
 use Rattle.std.specs.Map.{lookup, remove_entry}
@@ -12,7 +12,6 @@ use Rattle.qs_tree.specs.declared.value.ParsedValue.{ParsedValue, the_lemmas}
 use Rattle.qs_tree.specs.declared.map.ParsedMap.{ParsedMap}
 use Rattle.qs_tree.specs.Keys.{key_cmp}
 use Rattle.qs_tree.specs.Views.{segment_of_key, step_of_key, tree_of, entries_from, entries_of_map, map_pairs, pairs_of, find, take_out}
-use Rattle.std.proofs.Common.{map}
 
 abbrev pub Held : Type 0
 Held = List (Key × ParsedValue)
@@ -87,3 +86,8 @@ slice_get-pairs_view (e ∷ xs) (suc k) = slice_get-pairs_view xs k
 
 pub pair_at : (r : Option Shown) (es : Held) (i : ℕ) → option_map deref r ≡ slice_get es i → option_map shown_seen r ≡ slice_get (pairs_view es) i
 pair_at r es i h = seen_twice r ∙ ap (option_map pair_seen) h ∙ sym (slice_get-pairs_view es i)
+
+-- the key of this place is the first
+abbrev pub is_first : ℕ → Bool
+is_first zero = true
+is_first (suc n) = false

@@ -1,8 +1,17 @@
 pub mod LaneLemmas
 pub mod FirstPlace
+pub mod Runs
 pub mod Places
 pub mod Keys
+pub mod Values
 pub mod EncodedSets
 pub mod EncodedFronts
 pub mod DecodedFronts
+pub mod Indexes
+pub mod Views
+pub mod Turns
+pub mod BehindKeys
+pub mod Items
+pub mod Equality
+pub mod Growing
 pub mod Ordered

@@ -57,13 +57,13 @@ module _ {K X : Type 0} {cmp : K → K → Ordering} (total : IsTotalOrder cmp) 
   }
 
 module _ {K X : Type 0} (cmp : K → K → Ordering) (k : K) where
-  hit_tail : (e : K × X) (es : List (K × X)) (i : ℕ) → IsHit cmp k (e ∷ es) (suc i) → IsHit cmp k es i
+  pub hit_tail : (e : K × X) (es : List (K × X)) (i : ℕ) → IsHit cmp k (e ∷ es) (suc i) → IsHit cmp k es i
   hit_tail e es i h = record { in_range = omega (arith, h.in_range); same = h.same; before = λ j lt. h.before (suc j) (omega arith) }
 
-  gap_tail : (e : K × X) (es : List (K × X)) (i : ℕ) → IsGap cmp k (e ∷ es) (suc i) → IsGap cmp k es i
+  pub gap_tail : (e : K × X) (es : List (K × X)) (i : ℕ) → IsGap cmp k (e ∷ es) (suc i) → IsGap cmp k es i
   gap_tail e es i h = record { in_range = omega (arith, h.in_range); before = λ j lt. h.before (suc j) (omega arith); after = λ j le lt. h.after (suc j) (omega arith) (omega arith) }
 
-  gap_first : (e : K × X) (es : List (K × X)) → IsGap cmp k (e ∷ es) 0 → IsGap cmp k es 0
+  pub gap_first : (e : K × X) (es : List (K × X)) → IsGap cmp k (e ∷ es) 0 → IsGap cmp k es 0
   gap_first e es h = record { in_range = omega arith; before = λ j lt. absurd (omega arith); after = λ j le lt. h.after (suc j) (omega arith) (omega arith) }
 
   pub hit_lookup : (es : List (K × X)) (i : ℕ) → IsHit cmp k es i → lookup (is_at (cmp k)) es ≡ option_map (λ e. e.1) (slice_get es i)

@@ -68,6 +68,13 @@ OnlyOutOfMemory (Ok x) = ⊤
 OnlyOutOfMemory (Err OutOfMemory) = ⊤
 OnlyOutOfMemory _ = ⊥
 
+-- an error, if the call answered one, is that the querystring is refused or that a growth was
+abbrev pub OnlyParseOrOutOfMemory : {T : Type 0} → Result T Error → Type 0
+OnlyParseOrOutOfMemory (Ok x) = ⊤
+OnlyParseOrOutOfMemory (Err (Parse message position)) = ⊤
+OnlyParseOrOutOfMemory (Err OutOfMemory) = ⊤
+OnlyParseOrOutOfMemory _ = ⊥
+
 -- the error is `Custom` with this text, or that the text found no memory
 abbrev pub IsCustomSaying : Error → Option (List ℕ) → Type 0
 IsCustomSaying (Custom message) text = IfSome text (λ bytes. string_bytes message ≡ bytes)

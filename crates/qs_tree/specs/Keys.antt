@@ -1,12 +1,17 @@
--- The order and the equality of keys, as the code has them.
+-- The order of keys, and the equality of keys, values and maps, as the code has them.
 use Rattle.std.specs.Prelude.{Bool}
 use Rattle.std.specs.declared.cmp.Ordering.{Ordering}
 use Rattle.qs_tree.specs.declared.key.Key.{Key}
-use Rattle.qs_tree.specs.contracts.key.KeyOrd.TheImpl as order
-use Rattle.qs_tree.specs.contracts.key.KeyPartialEq.TheImpl as equality
+use Rattle.qs_tree.specs.declared.value.ParsedValue.{ParsedValue}
+use Rattle.qs_tree.specs.contracts.key.KeyOrd.TheImpl as key_order
+use Rattle.qs_tree.specs.contracts.key.KeyPartialEq.TheImpl as key_equality
+use Rattle.qs_tree.specs.contracts.value.ParsedValuePartialEq.TheImpl as value_equality
 
 abbrev pub key_cmp : Key → Key → Ordering
-key_cmp = order.ghosts.cmp
+key_cmp = key_order.ghosts.cmp
 
 abbrev pub key_eq : Key → Key → Bool
-key_eq = equality.ghosts.eq
+key_eq = key_equality.ghosts.eq
+
+abbrev pub value_eq : ParsedValue → ParsedValue → Bool
+value_eq = value_equality.ghosts.eq

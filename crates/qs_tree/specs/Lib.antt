@@ -1,9 +1,16 @@
 pub mod Settings
 pub mod Error
 pub mod Search
+pub mod Cursor
 pub mod Places
 pub mod formers
 pub mod Views
 pub mod Ordered
 pub mod Keys
 pub mod Escapes
+pub mod Pairs
+pub mod Raw
+pub mod Reading
+pub mod Conflict
+pub mod Adding
+pub mod Parsing

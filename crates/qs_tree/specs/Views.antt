@@ -58,6 +58,9 @@ tree_of = fold-ParsedValue Tree Entries tree_step map_step
 abbrev pub entries_of_map : ParsedMap → Entries
 entries_of_map = fold-ParsedMap Tree Entries tree_step map_step
 
+abbrev pub items_of : List ParsedValue → Items
+items_of vs = items_from (map tree_of vs)
+
 -- entries as a list of keys and trees
 abbrev pub pairs_of : Entries → List (Step × Tree)
 pairs_of no_entries = []

@@ -26,8 +26,8 @@ enum Piece<'a> {
 /// too where only the second is none; what stays isn't looked at again, so `%%41` stands for itself.
 ///
 /// Bytes without `+` and `%` are borrowed and no memory is taken. All others are copied, into memory that
-/// is taken at once; where that is refused the answer is `OutOfMemory`, the only error. The cost is one
-/// pass over the bytes, and stretches without `+` and `%` are copied whole.
+/// is taken at once; where that is refused the answer is `OutOfMemory`, the only error. It goes over the
+/// bytes once, and over those before the first `+` or `%` twice; stretches between are copied whole.
 ///
 /// ```
 /// decode(alloc, b"a%5Bb%5D=1")?; // `a[b]=1`

@@ -47,13 +47,13 @@ impl Error {
         ensures { IsCustomSaying result (Some (codes "cannot deserialize " ++ (object.now
             ++ codes " at the top level.Try deserializing into a struct."))) }
     {
-        let message = format!(in alloc;
-            "cannot deserialize {object} at the top level.Try deserializing into a struct."
-        );
-        match message {
-            Ok(message) => Error::Custom(message),
-            Err(_) => Error::OutOfMemory,
-        }
+        Error::custom(
+            alloc,
+            format_args!(
+                "cannot deserialize {object} at the top level.Try deserializing into a struct."
+            ),
+            &(),
+        )
     }
 
     /// The error of a querystring that is refused with this message at this position.

@@ -1,11 +1,14 @@
 //! Keys of maps.
-ghost use Rattle.std.specs.Prelude.{◌≡◌, false};
+ghost use Rattle.std.specs.Prelude.{◌≡◌, false, Some};
 ghost use Rattle.qs_spec.specs.Segment.Segment.{Int, Str};
 ghost use Rattle.qs_tree.specs.Keys.{key_cmp};
-ghost use Rattle.qs_tree.specs.Views.{step_of_key};
+ghost use Rattle.std.specs.Fmt.{WritesOnOk};
+ghost use Rattle.std.specs.Str.Lossy.{utf8_lossy};
+ghost use Rattle.qs_tree.specs.Views.{segment_of_key, step_of_key, shown};
 
 use std::borrow::CowSlice;
 use std::cmp::Ordering;
+use std::fmt;
 
 /// A key of a map: a number, or a text, which may be borrowed from the input.
 ///
@@ -55,4 +58,33 @@ impl<'a> From<u32> for Key<'a> {
     fn from(number: u32) -> Key<'a> {
         Key::Int(number)
     }
+}
+
+/// A number in decimal; a text between double quotes, with U+FFFD for what is no UTF-8, as `String::from_utf8_lossy` has it.
+impl fmt::Display for Key<'_> {
+    ghost output = { λ key. Some (shown (segment_of_key key)) };
+
+    fn fmt<W: fmt::Write>(&self, f: &mut fmt::Formatter<W>) -> fmt::Result {
+        match self {
+            Key::Int(index) => write!(f, "{index}"),
+            Key::String(text) => {
+                f.write_str("\"")?;
+                write_lossy(text.as_slice(), f)?;
+                f.write_str("\"")
+            }
+        }
+    }
+}
+
+// Bytes as text, with U+FFFD for each run of bytes that is none.
+fn write_lossy<W: fmt::Write>(bytes: &[u8], f: &mut fmt::Formatter<W>) -> fmt::Result
+    ensures { WritesOnOk W.write_str_gives f.old result (utf8_lossy bytes.now) f.new }
+{
+    for chunk in bytes.utf8_chunks() {
+        f.write_str(chunk.valid())?;
+        if !chunk.invalid().is_empty() {
+            f.write_str("\u{FFFD}")?;
+        }
+    }
+    Ok(())
 }

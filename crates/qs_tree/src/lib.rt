@@ -1,14 +1,26 @@
 //! Querystrings as trees: configuration, errors, escapes, scanner, tree.
 #![tactic(auto)]
 
+mod add;
 mod config;
+mod conflict;
+mod cursor;
 mod decoding;
 mod encoding;
 mod entries;
 mod error;
 mod key;
 mod map;
+mod pair;
+mod parsing;
+mod raw;
+mod reading;
+mod refusal;
 mod search;
+mod steps;
+mod tree_laws;
+#[cfg(test)]
+mod tree_tests;
 mod value;
 
 pub use crate::config::{ArrayFormat, Config, DuplicateKeyBehavior};
@@ -17,5 +29,8 @@ pub use crate::encoding::encode;
 pub use crate::error::{Error, Result};
 pub use crate::key::Key;
 pub use crate::map::ParsedMap;
+pub use crate::parsing::{parse, parse_with};
 pub use crate::search::{find_ampersand, find_encoded, find_escape};
+pub use crate::steps::Steps;
+pub use crate::tree_laws::{equality_of_keys, equality_of_values, order_of_keys};
 pub use crate::value::ParsedValue;

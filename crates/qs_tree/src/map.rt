@@ -2,6 +2,7 @@
 ghost use Rattle.std.specs.Prelude.{◌≡◌, [], length, ◌∷◌, ◌<◌, ◌≤◌, option_map, slice_get, MatchOption, IfOk, IfErr, IsTrue, ◌↔◌};
 ghost use Rattle.std.specs.List.Sorted.{IsStrictlySortedBy};
 ghost use Rattle.std.specs.Map.{keys_of};
+ghost use Rattle.qs_spec.specs.Tree.Entries.{no_entries};
 ghost use Rattle.qs_tree.specs.Keys.{key_cmp};
 ghost use Rattle.qs_tree.specs.Ordered.{AreOrdered};
 ghost use Rattle.qs_tree.specs.Places.{IsHit, IsGap, binary_digits};
@@ -14,17 +15,23 @@ use std::alloc::Global;
 use std::cmp::Ordering;
 
 /// The keys of a map with their values, in the order of the keys, each key once.
+///
+/// Keys are looked up by halves. A key may be borrowed from anywhere:
+///
+/// ```text
+/// map.get(&Key::from("name"))
+/// ```
 #[cycle(tree)]
 #[derive(PartialEq, Debug, Drop)]
 pub struct ParsedMap<'qs> {
-    map: Entries<Key<'qs>, ParsedValue<'qs>>,
+    pub(crate) map: Entries<Key<'qs>, ParsedValue<'qs>>,
 }
 
 impl<'qs> ParsedMap<'qs> {
     /// A map without entries. Nothing is allocated.
     #[must_use]
     pub fn new(alloc: Global) -> Self
-        ensures { map_pairs result ≡ [] }
+        ensures { entries_of_map result ≡ no_entries }
     {
         ParsedMap {
             map: Entries::new(alloc),
@@ -47,7 +54,7 @@ impl<'qs> ParsedMap<'qs> {
         self.len() == 0
     }
 
-    /// The value at a key, of any lifetime. Compares at most as many keys as the length has binary digits.
+    /// The value at a key, if there is one. Compares at most as many keys as the length has binary digits, and takes no memory.
     #[must_use]
     pub fn get<'k>(&self, key: &Key<'k>) -> Option<&ParsedValue<'qs>>
         ensures value { option_map (λ v. tree_of v.now) result ≡ find (segment_of_key key.now) (entries_of_map self.now) }
@@ -60,7 +67,7 @@ impl<'qs> ParsedMap<'qs> {
         }
     }
 
-    /// The entry at a place, in the order of the keys.
+    /// The entry at a place in the order of the keys, if there are so many.
     #[must_use]
     pub fn at(&self, at: usize) -> Option<(&Key<'qs>, &ParsedValue<'qs>)>
         ensures { option_map (λ p. (step_of_key p.0.now, tree_of p.1.now)) result ≡ slice_get (map_pairs self.now) at }
@@ -70,7 +77,7 @@ impl<'qs> ParsedMap<'qs> {
 
     /// Takes the entry at a key out, and answers its value. Where the key is missing nothing is changed.
     ///
-    /// Compares at most as many keys as the length has binary digits, and moves the entries behind.
+    /// Compares at most as many keys as the length has binary digits, and moves the entries behind. Takes no memory.
     pub fn remove<'k>(&mut self, key: &Key<'k>) -> Option<ParsedValue<'qs>>
         ensures value { option_map tree_of result ≡ find (segment_of_key key.now) (entries_of_map self.old) }
         ensures rest { entries_of_map self.new ≡ take_out (segment_of_key key.now) (entries_of_map self.old) }
@@ -81,7 +88,7 @@ impl<'qs> ParsedMap<'qs> {
         }
     }
 
-    /// Takes the entry with the first key out. An empty map stays empty. Moves the other entries.
+    /// Takes the entry with the first key out. An empty map stays empty. Moves the other entries, and takes no memory.
     pub fn pop_first(&mut self) -> Option<(Key<'qs>, ParsedValue<'qs>)>
         ensures { MatchOption result ((map_pairs self.old ≡ []) × (map_pairs self.new ≡ [])) (λ p. map_pairs self.old ≡ (step_of_key p.0, tree_of p.1) ∷ map_pairs self.new) }
     {

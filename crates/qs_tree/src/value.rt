@@ -2,14 +2,22 @@
 use crate::map::ParsedMap;
 use std::borrow::CowSlice;
 
-/// A node of the tree that a querystring stands for.
+/// A node of the tree that a querystring stands for. It may borrow its texts and keys from the input.
+///
+/// Two nodes are equal where they hold the same, whoever owns the bytes.
 #[cycle(tree)]
 #[derive(PartialEq, Debug, Drop)]
 pub enum ParsedValue<'qs> {
+    /// What stands behind each key, as `a[b]=1` makes under `a`.
     Map(ParsedMap<'qs>),
+    /// Several leaves at one path, as `a=1&a=2` and `a[]=1` make under `a`. Keys that are numbers, as in `a[0]=1`, make a map.
     Sequence(Vec<ParsedValue<'qs>>),
+    /// The bytes behind `=`, unescaped; there is at least one.
     String(CowSlice<'qs, u8>),
+    /// Nothing behind `=`, as in `a=`.
     Null,
+    /// No `=`, as in `a`.
     NoValue,
+    /// No pair at all.
     Uninitialized,
 }

@@ -1,5 +1,5 @@
--- A plain function that reads the pairs of some tokens.
-use Rattle.std.proofs.Common.{ℕ, zero, suc, Bool, true, false, List, [], ◌∷◌, ◌++◌, length, Option, Some, None, option_map}
+-- The grammar as a function: it reads the pairs of some tokens from the left, one after the other, and answers what it read and what is left.
+use Rattle.std.specs.Prelude.{ℕ, zero, suc, Bool, true, false, List, [], ◌∷◌, ◌++◌, length, Option, Some, None, option_map}
 use Rattle.qs_spec.specs.Token.{Kind, Token, raw_of}
 use Rattle.qs_spec.specs.Segment.{Step}
 use Rattle.qs_spec.specs.Leaf.{Leaf, value_leaf}
@@ -90,6 +90,7 @@ after_root depth key (t ∷ rest) = after_root_at t.kind depth key t rest
 abbrev pub read_pair : ℕ → List Token → Rest Pair
 read_pair depth ts = after_root depth (cut (ends_root depth) ts).0 (cut (ends_root depth) ts).1
 
+-- one pair, and then the others
 abbrev pub read_pairs_at : Bool → Option (List Pair) → Rest Pair → (List Token → Option (List Pair)) → Option (List Pair)
 read_pairs_at true skipped pair more = skipped
 read_pairs_at false skipped None more = None
@@ -104,3 +105,8 @@ read_pairs depth (suc n) (t ∷ ts) = read_pairs_at (is_amp t.kind) (read_pairs 
 
 abbrev pub pairs_of : ℕ → List Token → Option (List Pair)
 pairs_of depth ts = read_pairs depth (length ts) ts
+
+-- a pair that was read, and the pairs of what is left
+abbrev pub and_pairs : ℕ → Rest Pair → Option (List Pair)
+and_pairs depth None = None
+and_pairs depth (Some r) = option_map (λ ps. r.0 ∷ ps) (pairs_of depth r.1)

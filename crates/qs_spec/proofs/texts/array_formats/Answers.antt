@@ -1,0 +1,15 @@
+use Rattle.std.proofs.Common.{refl}
+use Rattle.qs_spec.proofs.OnLiterals.{on_literals}
+use Rattle.qs_spec.proofs.texts.array_formats.Goals as goal
+
+pub returns-clause-indexed : goal.returns-clause-indexed
+unfolding on_literals
+returns-clause-indexed c = record { text_is = refl; refusal_is = refl }
+
+pub returns-clause-empty_indexed : goal.returns-clause-empty_indexed
+unfolding on_literals
+returns-clause-empty_indexed c = record { text_is = refl; refusal_is = refl }
+
+pub returns-clause-unindexed : goal.returns-clause-unindexed
+unfolding on_literals
+returns-clause-unindexed c = record { text_is = refl; refusal_is = refl }

@@ -1,0 +1,49 @@
+-- Short words for the worked examples: trees, shapes and data, and what is read of an input and written of data.
+use Rattle.std.specs.Prelude.{◌≡◌, ℕ, false, List, [], ◌∷◌, Option}
+use Rattle.qs_spec.specs.Config.{Config}
+use Rattle.qs_spec.specs.Segment.{Segment}
+use Rattle.qs_spec.specs.Leaf.{Leaf}
+use Rattle.qs_spec.specs.Tree.{Tree, Items, Entries, IsTree}
+use Rattle.qs_spec.specs.Shape.{Shape, no_fields, one_field}
+use Rattle.qs_spec.specs.Data.{Data, members_of}
+use Rattle.qs_spec.specs.Read.{read_by}
+use Rattle.qs_spec.specs.Entry.{Refusal, entries}
+use Rattle.qs_spec.specs.Written.{written}
+
+-- a leaf without `+` and `%`
+abbrev pub text : List ℕ → Tree
+text bytes = Tree.leaf (Leaf.Text bytes false)
+
+-- a sequence of such leaves
+abbrev pub text_items : List (List ℕ) → Items
+text_items [] = Items.no_items
+text_items (t ∷ ts) = Items.item (text t) (text_items ts)
+
+abbrev pub texts : List (List ℕ) → Tree
+texts ts = Tree.sequence (text_items ts)
+
+-- an entry under a text without `+` and `%`
+abbrev pub at_text : List ℕ → Tree → Entries → Entries
+at_text key t es = Entries.entry (Segment.Str key) false t es
+
+-- a map of one such entry
+abbrev pub only : List ℕ → Tree → Tree
+only key t = Tree.mapping (at_text key t Entries.no_entries)
+
+-- a struct of one field, which must be there
+abbrev pub field : List ℕ → Shape → Shape
+field name s = Shape.struct (one_field name s false no_fields)
+
+abbrev pub one_member : List ℕ → Data → Data
+one_member name d = Data.struct (members_of ((name, d) ∷ []))
+
+-- the input has a tree, and this is what the shape reads from it
+pub record IsRead (config : Config) (shape : Shape) (input : List ℕ) (answer : Option Data) : Type 0 where
+  pub tree : Tree
+  pub is_tree : IsTree config.form config.max_depth input tree
+  pub reads : read_by config shape tree ≡ answer
+
+-- the text of the entries up to the first refusal, and that refusal if there is one
+pub record IsWritten (config : Config) (d : Data) (text : List ℕ) (refusal : Option Refusal) : Type 0 where
+  pub text_is : written config.form false (entries config d).entries ≡ text
+  pub refusal_is : (entries config d).refusal ≡ refusal

@@ -1,0 +1,48 @@
+-- Entries that can be read back as they were written, and the pairs as which they are read.
+use Rattle.std.specs.Prelude.{ℕ, ◌+◌, ◌<◌, ◌≤◌, Bool, ◌&&◌, ◌||◌, ◌==◌, IsFalse, List, [], ◌∷◌, length, map, Option, Some, None, ⊤}
+use Rattle.std.specs.List.{AllByRecursion}
+use Rattle.qs_spec.specs.Escape.{encoded}
+use Rattle.qs_spec.specs.Segment.{Step, step_of}
+use Rattle.qs_spec.specs.Leaf.{Leaf, value_leaf}
+use Rattle.qs_spec.specs.Leaf.Leaf.{NoValue}
+use Rattle.qs_spec.specs.Grammar.{Pair, plain}
+use Rattle.qs_spec.specs.Entry.{Path, Entry}
+
+abbrev pub leaf_of : Bool → Option (List ℕ) → Leaf
+leaf_of form None = NoValue
+leaf_of form (Some bytes) = value_leaf (encoded form bytes)
+
+abbrev pub steps : Bool → Path → List Step
+steps form path = map (λ s. step_of (encoded form s)) path
+
+-- the pair as which an entry is read
+abbrev pub pair_of : Bool → Entry → Pair
+pair_of form e = plain (steps form e.path) (leaf_of form e.value)
+
+abbrev pub is_bracket : ℕ → Bool
+is_bracket b = b == 91 || b == 93
+
+-- a segment that is some bytes, and in form mode holds no bracket
+abbrev pub IsSegment : Bool → List ℕ → Type 0
+IsSegment form [] = ⊥
+IsSegment form (b ∷ s) = AllByRecursion (λ b. (b < 256) × IsFalse (form && is_bracket b)) (b ∷ s)
+
+-- a value, if there is one, is bytes; an entry without a path has one
+abbrev pub IsValueOf : Path → Option (List ℕ) → Type 0
+IsValueOf [] None = ⊥
+IsValueOf [] (Some bytes) = AllByRecursion (λ b. b < 256) bytes
+IsValueOf (s ∷ path) None = ⊤
+IsValueOf (s ∷ path) (Some bytes) = AllByRecursion (λ b. b < 256) bytes
+
+-- an entry whose text is read as its pair
+pub record IsWritable (form : Bool) (depth : ℕ) (e : Entry) : Type 0 where
+  pub segments : AllByRecursion (IsSegment form) e.path
+  pub short : length e.path ≤ depth + 1
+  pub value : IsValueOf e.path e.value
+
+abbrev pub HasSegments : Path → Type 0
+HasSegments [] = ⊥
+HasSegments (s ∷ path) = ⊤
+
+abbrev pub HasPath : Entry → Type 0
+HasPath e = HasSegments e.path

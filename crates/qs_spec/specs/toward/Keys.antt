@@ -1,0 +1,61 @@
+-- Keys as they are written and read back, and as they are looked up.
+use Rattle.std.specs.Prelude.{◌≡◌, ℕ, ◌≤◌, Bool, false, ◌&&◌, ◌==◌, not, List, [], ◌∷◌, Option, Some, None, if◌then◌else◌, ⊤}
+use Rattle.std.specs.declared.cmp.Ordering.TheVariants.{Less}
+use Rattle.qs_spec.specs.Segment.{Segment, number, is_index, compare_segments, is_same_segment}
+use Rattle.qs_spec.specs.Segment.Segment.{Int, Str}
+use Rattle.qs_spec.specs.Tree.{Tree, Entries}
+use Rattle.qs_spec.specs.Tree.Entries.{entry, no_entries}
+
+-- the segment as which bytes are read that were written: their number, or themselves
+abbrev pub written_segment : List ℕ → Segment
+written_segment s = if is_index s then Int (number s) else Str s
+
+-- a zero, and bytes behind it
+abbrev pub has_leading_zero : List ℕ → Bool
+has_leading_zero [] = false
+has_leading_zero (b ∷ []) = false
+has_leading_zero (b ∷ c ∷ s) = b == 48
+
+-- the number that is printed so, if one of 32 bits is
+abbrev pub printed_index : List ℕ → Option ℕ
+printed_index s = if is_index s && not (has_leading_zero s) then Some (number s) else None
+
+-- the value at a key
+abbrev pub lookup : Segment → Entries → Option Tree
+lookup k no_entries = None
+lookup k (entry j mark t es) = if is_same_segment k j then Some t else lookup k es
+
+-- the value at an index, if there is one
+abbrev pub lookup_index : Option ℕ → Entries → Option Tree
+lookup_index None es = None
+lookup_index (Some n) es = lookup (Int n) es
+
+abbrev pub list_of : Option Tree → List Tree
+list_of None = []
+list_of (Some t) = t ∷ []
+
+-- an index has 32 bits
+abbrev pub IsInRange : Segment → Type 0
+IsInRange (Int n) = n ≤ 4294967295
+IsInRange (Str bytes) = ⊤
+
+abbrev pub AreAbove : Segment → Entries → Type 0
+AreAbove k no_entries = ⊤
+AreAbove k (entry j mark t es) = (compare_segments k j ≡ Less) × AreAbove k es
+
+-- each key is in range, and below those after it
+abbrev pub AreAscending : Entries → Type 0
+AreAscending no_entries = ⊤
+AreAscending (entry k mark t es) = IsInRange k × AreAbove k es × AreAscending es
+
+-- so it is in every map of a tree
+abbrev mutual
+  pub IsAscending : Tree → Type 0
+  IsAscending (Tree.leaf l) = ⊤
+  IsAscending (Tree.sequence xs) = ⊤
+  IsAscending (Tree.mapping es) = AreAscending es × HoldAscending es
+  IsAscending Tree.uninitialized = ⊤
+
+  pub HoldAscending : Entries → Type 0
+  HoldAscending no_entries = ⊤
+  HoldAscending (entry k mark t es) = IsAscending t × HoldAscending es

@@ -1,0 +1,19 @@
+// Laws of reading.
+
+ghost use Rattle.std.specs.Prelude.{◌≡◌, ◌↔◌, Bool, true, Some, None};
+ghost use Rattle.qs_spec.specs.Tree.{Tree};
+ghost use Rattle.qs_spec.specs.Data.{Data};
+ghost use Rattle.qs_spec.specs.Shape.{Shape, is_distinct};
+ghost use Rattle.qs_spec.specs.Read.{reads};
+ghost use Rattle.qs_spec.specs.Relation.{Reads};
+
+/// For a distinct shape the relation holds exactly where the function answers that data.
+pub fn reads_is_the_relation()
+    ensures where_some { (strict : Bool) (shape : Shape) (node : Tree) (d : Data) → is_distinct shape ≡ true → (Reads strict shape node d ↔ (reads strict shape node ≡ Some d)) }
+    ensures where_none { (strict : Bool) (shape : Shape) (node : Tree) → is_distinct shape ≡ true → (((d : Data) → Reads strict shape node d → ⊥) ↔ (reads strict shape node ≡ None)) }
+{}
+
+/// For a distinct shape at most one data is related to a node.
+pub fn one_data()
+    ensures { (strict : Bool) (shape : Shape) (node : Tree) (d e : Data) → is_distinct shape ≡ true → Reads strict shape node d → Reads strict shape node e → d ≡ e }
+{}

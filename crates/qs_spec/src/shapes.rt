@@ -1,0 +1,134 @@
+// Worked shapes: what they read from inputs.
+
+ghost use Rattle.std.specs.Prelude.{true, false, codes, [], ◌∷◌, Some, None, pos, neg_ℤ};
+ghost use Rattle.qs_spec.specs.Config.{default, refuse};
+ghost use Rattle.qs_spec.specs.Shape.{Shape, no_fields, one_field, no_shapes, one_shape, no_variants, one_variant, unit_kind, newtype_kind, tuple_kind, struct_kind, KeyShape};
+ghost use Rattle.qs_spec.specs.Data.{Data, values_of, pairs_of, members_of};
+ghost use Rattle.qs_spec.specs.Worked.{field, one_member, IsRead};
+
+/// A flag is true where its key stands alone or before `=`; twice it is none.
+pub fn flags()
+    ensures key_alone { IsRead default (field (codes "flag") Shape.boolean) (codes "flag") (Some (one_member (codes "flag") (Data.boolean true))) }
+    ensures nothing_behind { IsRead default (field (codes "flag") Shape.boolean) (codes "flag=") (Some (one_member (codes "flag") (Data.boolean true))) }
+    ensures text { IsRead default (field (codes "flag") Shape.boolean) (codes "flag=false") (Some (one_member (codes "flag") (Data.boolean false))) }
+    ensures twice { IsRead default (field (codes "flag") Shape.boolean) (codes "flag&flag") None }
+    ensures twice_where_refused { IsRead (record default { duplicates = refuse }) (field (codes "flag") Shape.boolean) (codes "flag&flag") None }
+{}
+
+/// An option is none where its key stands alone or is missing, and some of the empty text where nothing stands behind `=`.
+pub fn options()
+    ensures key_alone { IsRead default (field (codes "a") (Shape.option Shape.text)) (codes "a") (Some (one_member (codes "a") Data.none)) }
+    ensures nothing_behind { IsRead default (field (codes "a") (Shape.option Shape.text)) (codes "a=") (Some (one_member (codes "a") (Data.some (Data.text [])))) }
+    ensures missing { IsRead default (field (codes "a") (Shape.option Shape.text)) [] (Some (one_member (codes "a") Data.none)) }
+    ensures number { IsRead default (field (codes "a") (Shape.option (Shape.unsigned 8))) (codes "a=") None }
+    ensures some_of_nothing { IsRead default (field (codes "a") (Shape.option Shape.any)) (codes "a=") (Some (one_member (codes "a") (Data.some Data.unit))) }
+    ensures some_of_a_sequence { IsRead default (field (codes "a") (Shape.option Shape.text)) (codes "a&a=x") (Some (one_member (codes "a") (Data.some (Data.text (codes "x"))))) }
+{}
+
+/// A field is found by the text of its key: twice is refused, other keys are ignored where they are texts, and an optional field is left out.
+pub fn fields_by_name()
+    ensures index { IsRead default (field (codes "1") Shape.text) (codes "1=a") (Some (one_member (codes "1") (Data.text (codes "a")))) }
+    ensures index_and_text { IsRead default (field (codes "1") Shape.text) (codes "1=a&%31=b") None }
+    ensures other_key { IsRead default (field (codes "a") Shape.text) (codes "b=%FF&a=x") (Some (one_member (codes "a") (Data.text (codes "x")))) }
+    ensures other_key_is_no_text { IsRead default (field (codes "a") Shape.text) (codes "%FF=b&a=x") None }
+    ensures left_out { IsRead default (Shape.struct (one_field (codes "a") Shape.text true no_fields)) (codes "b=x") (Some (Data.struct (members_of []))) }
+    ensures missing { IsRead default (field (codes "a") Shape.text) (codes "b=x") None }
+    ensures by_place { IsRead default (field (codes "p") (Shape.struct (one_field (codes "x") (Shape.unsigned 8) false (one_field (codes "y") (Shape.unsigned 8) false no_fields)))) (codes "p=1&p=2")
+        (Some (one_member (codes "p") (Data.struct (members_of ((codes "x", Data.unsigned 1) ∷ (codes "y", Data.unsigned 2) ∷ []))))) }
+    ensures left_out_beyond_the_end { IsRead default (field (codes "p") (Shape.struct (one_field (codes "x") (Shape.unsigned 8) false (one_field (codes "y") (Shape.unsigned 8) true no_fields)))) (codes "p[]=1")
+        (Some (one_member (codes "p") (Data.struct (members_of ((codes "x", Data.unsigned 1) ∷ []))))) }
+    ensures option_beyond_the_end { IsRead default (field (codes "p") (Shape.struct (one_field (codes "x") (Shape.unsigned 8) false (one_field (codes "y") (Shape.option Shape.text) false no_fields)))) (codes "p[]=1") None }
+    ensures fields_of_a_text { IsRead default (field (codes "p") (Shape.struct (one_field (codes "x") Shape.text true no_fields))) (codes "p=x") None }
+    ensures fields_of_nothing { IsRead default (field (codes "p") (Shape.struct (one_field (codes "x") Shape.text true no_fields))) (codes "p=") (Some (one_member (codes "p") (Data.struct (members_of [])))) }
+{}
+
+/// A scalar is the last of several values, or they are refused.
+pub fn last_of_several()
+    ensures last { IsRead default (field (codes "f") Shape.text) (codes "f=a&f=b") (Some (one_member (codes "f") (Data.text (codes "b")))) }
+    ensures refused { IsRead (record default { duplicates = refuse }) (field (codes "f") Shape.text) (codes "f=a&f=b") None }
+    ensures no_text { IsRead default (field (codes "f") Shape.text) (codes "f=%FF") None }
+    ensures bytes { IsRead default (field (codes "f") Shape.bytes) (codes "f=%FF") (Some (one_member (codes "f") (Data.bytes (255 ∷ [])))) }
+    ensures last_is_nothing { IsRead default (field (codes "f") Shape.text) (codes "f=a&f") (Some (one_member (codes "f") (Data.text []))) }
+    ensures nothing { IsRead default (field (codes "f") Shape.bytes) (codes "f=") (Some (one_member (codes "f") (Data.bytes []))) }
+    ensures one_where_refused { IsRead (record default { duplicates = refuse }) (field (codes "f") Shape.text) (codes "f[]=a") (Some (one_member (codes "f") (Data.text (codes "a")))) }
+{}
+
+/// Items have the places 0, 1, 2 and so on, as far as they are read.
+pub fn items_by_place()
+    ensures gap { IsRead default (field (codes "v") (Shape.sequence (Shape.unsigned 8))) (codes "v[0]=1&v[2]=2") None }
+    ensures behind_the_first { IsRead default (field (codes "v") (Shape.tuple (one_shape (Shape.unsigned 8) no_shapes))) (codes "v[0]=1&v[2]=2") (Some (one_member (codes "v") (Data.tuple (values_of (Data.unsigned 1 ∷ []))))) }
+    ensures any_order { IsRead default (field (codes "v") (Shape.sequence (Shape.unsigned 8))) (codes "v[1]=2&v[0]=1") (Some (one_member (codes "v") (Data.sequence (values_of (Data.unsigned 1 ∷ Data.unsigned 2 ∷ []))))) }
+    ensures nothing { IsRead default (field (codes "v") (Shape.sequence (Shape.unsigned 8))) (codes "v=") (Some (one_member (codes "v") (Data.sequence (values_of [])))) }
+    ensures a_text { IsRead default (field (codes "v") (Shape.sequence (Shape.unsigned 8))) (codes "v=7") (Some (one_member (codes "v") (Data.sequence (values_of (Data.unsigned 7 ∷ []))))) }
+{}
+
+/// The least key of a map names the variant, whatever stands first in the input.
+pub fn least_key_names_the_variant()
+    ensures { IsRead default (field (codes "e") (Shape.enumeration (one_variant (codes "A") (newtype_kind Shape.text) (one_variant (codes "B") (newtype_kind (Shape.unsigned 8)) no_variants)))) (codes "e[B]=1&e[A]=x")
+        (Some (one_member (codes "e") (Data.newtype_variant (codes "A") (Data.text (codes "x"))))) }
+{}
+
+/// Numbers lie in the range of their bits.
+pub fn numbers_in_range()
+    ensures greatest { IsRead default (field (codes "x") (Shape.unsigned 64)) (codes "x=18446744073709551615") (Some (one_member (codes "x") (Data.unsigned 18446744073709551615))) }
+    ensures too_great { IsRead default (field (codes "x") (Shape.unsigned 64)) (codes "x=18446744073709551616") None }
+    ensures plus { IsRead default (field (codes "x") (Shape.unsigned 8)) (codes "x=%2B5") (Some (one_member (codes "x") (Data.unsigned 5))) }
+    ensures minus { IsRead default (field (codes "x") (Shape.unsigned 8)) (codes "x=-0") None }
+    ensures least { IsRead default (field (codes "x") (Shape.signed 8)) (codes "x=-128") (Some (one_member (codes "x") (Data.signed (neg_ℤ (pos 128))))) }
+    ensures too_small { IsRead default (field (codes "x") (Shape.signed 8)) (codes "x=-129") None }
+    ensures minus_zero { IsRead default (field (codes "x") (Shape.signed 8)) (codes "x=-0") (Some (one_member (codes "x") (Data.signed (pos 0)))) }
+    ensures signed_plus { IsRead default (field (codes "x") (Shape.signed 8)) (codes "x=%2B127") (Some (one_member (codes "x") (Data.signed (pos 127)))) }
+    ensures too_great_for_a_sign { IsRead default (field (codes "x") (Shape.signed 8)) (codes "x=128") None }
+    ensures leading_zeros { IsRead default (field (codes "x") (Shape.unsigned 8)) (codes "x=007") (Some (one_member (codes "x") (Data.unsigned 7))) }
+    ensures no_digits { IsRead default (field (codes "x") (Shape.unsigned 8)) (codes "x=%2B") None }
+    ensures nothing { IsRead default (field (codes "x") (Shape.unsigned 8)) (codes "x=") None }
+{}
+
+/// A map's keys are read by their texts, in the order of the keys; a text is the one pair of the empty key, and no value is no pair.
+pub fn maps()
+    ensures entries { IsRead default (field (codes "m") (Shape.mapping (KeyShape.unsigned 8) Shape.text)) (codes "m[10]=x&m[9]=y")
+        (Some (one_member (codes "m") (Data.mapping (pairs_of ((Data.unsigned 9, Data.text (codes "y")) ∷ (Data.unsigned 10, Data.text (codes "x")) ∷ []))))) }
+    ensures a_text { IsRead default (field (codes "m") (Shape.mapping KeyShape.text Shape.text)) (codes "m=x") (Some (one_member (codes "m") (Data.mapping (pairs_of ((Data.text [], Data.text (codes "x")) ∷ []))))) }
+    ensures no_value { IsRead default (field (codes "m") (Shape.mapping KeyShape.text Shape.text)) (codes "m") (Some (one_member (codes "m") (Data.mapping (pairs_of [])))) }
+    ensures several { IsRead default (field (codes "m") (Shape.mapping KeyShape.text Shape.text)) (codes "m=x&m=y") None }
+    ensures another_key { IsRead default (field (codes "m") (Shape.mapping (KeyShape.unsigned 8) Shape.text)) (codes "m[x]=y") None }
+    ensures listed_key { IsRead default (field (codes "m") (Shape.mapping (KeyShape.variants (codes "a" ∷ codes "b" ∷ [])) Shape.text)) (codes "m[b]=y")
+        (Some (one_member (codes "m") (Data.mapping (pairs_of ((Data.unit_variant (codes "b"), Data.text (codes "y")) ∷ []))))) }
+    ensures key_is_no_text { IsRead default (field (codes "m") (Shape.mapping KeyShape.text Shape.text)) (codes "m[%FF]=y") None }
+{}
+
+/// Anything is a list where all keys are indices, and else a map of texts.
+pub fn anything()
+    ensures index { IsRead default Shape.any (codes "0=a") (Some (Data.sequence (values_of (Data.text (codes "a") ∷ [])))) }
+    ensures gap { IsRead default Shape.any (codes "01=x") None }
+    ensures no_values { IsRead default Shape.any (codes "a&b=") (Some (Data.mapping (pairs_of ((Data.text (codes "a"), Data.unit) ∷ (Data.text (codes "b"), Data.text []) ∷ [])))) }
+    ensures index_and_text { IsRead default Shape.any (codes "a=y&0=x") (Some (Data.mapping (pairs_of ((Data.text (codes "0"), Data.text (codes "x")) ∷ (Data.text (codes "a"), Data.text (codes "y")) ∷ [])))) }
+    ensures several { IsRead default Shape.any (codes "=1&=2") (Some (Data.sequence (values_of (Data.text (codes "1") ∷ Data.text (codes "2") ∷ [])))) }
+    ensures empty { IsRead default Shape.any [] (Some Data.unit) }
+    ensures ampersand { IsRead default Shape.any (codes "&") None }
+    ensures no_text { IsRead default Shape.any (codes "=%FF") None }
+{}
+
+/// A unit is a key without a value, a character is a text of just one, and what is ignored may be anything.
+pub fn small_shapes()
+    ensures unit { IsRead default (field (codes "u") Shape.unit) (codes "u=") (Some (one_member (codes "u") Data.unit)) }
+    ensures unit_of_a_text { IsRead default (field (codes "u") Shape.unit) (codes "u=x") None }
+    ensures character { IsRead default (field (codes "c") Shape.character) (codes "c=%C3%A9") (Some (one_member (codes "c") (Data.character 233))) }
+    ensures two_characters { IsRead default (field (codes "c") Shape.character) (codes "c=ab") None }
+    ensures ignored { IsRead default (field (codes "i") Shape.ignored) (codes "i[x]=%FF") (Some (one_member (codes "i") Data.unit)) }
+    ensures newtype { IsRead default (field (codes "n") (Shape.newtype (Shape.unsigned 8))) (codes "n=7") (Some (one_member (codes "n") (Data.newtype (Data.unsigned 7)))) }
+{}
+
+/// A text names a unit variant; a key names any variant, and what it holds is read by its kind.
+pub fn kinds_of_variants()
+    ensures unit_by_text { IsRead default (field (codes "e") (Shape.enumeration (one_variant (codes "a") unit_kind no_variants))) (codes "e=a") (Some (one_member (codes "e") (Data.unit_variant (codes "a")))) }
+    ensures newtype_by_text { IsRead default (field (codes "e") (Shape.enumeration (one_variant (codes "b") (newtype_kind Shape.text) no_variants))) (codes "e=b") None }
+    ensures unknown { IsRead default (field (codes "e") (Shape.enumeration (one_variant (codes "a") unit_kind no_variants))) (codes "e=z") None }
+    ensures unit_by_key { IsRead default (field (codes "e") (Shape.enumeration (one_variant (codes "a") unit_kind no_variants))) (codes "e[a][x]=y") (Some (one_member (codes "e") (Data.unit_variant (codes "a")))) }
+    ensures tuple { IsRead default (field (codes "e") (Shape.enumeration (one_variant (codes "d") (tuple_kind (one_shape (Shape.unsigned 8) no_shapes)) no_variants))) (codes "e[d]=1&e[d]=2")
+        (Some (one_member (codes "e") (Data.tuple_variant (codes "d") (values_of (Data.unsigned 1 ∷ []))))) }
+    ensures struct_of_a_text { IsRead default (field (codes "e") (Shape.enumeration (one_variant (codes "c") (struct_kind (one_field (codes "x") (Shape.unsigned 8) true no_fields)) no_variants))) (codes "e[c]=%FF")
+        (Some (one_member (codes "e") (Data.struct_variant (codes "c") (members_of [])))) }
+    ensures struct_field_of_a_text { IsRead default (field (codes "e") (Shape.enumeration (one_variant (codes "c") (struct_kind (one_field [] Shape.text false no_fields)) no_variants))) (codes "e[c]=v")
+        (Some (one_member (codes "e") (Data.struct_variant (codes "c") (members_of (([], Data.text (codes "v")) ∷ []))))) }
+{}

@@ -1,0 +1,19 @@
+use Rattle.std.proofs.Common.{◌≡◌, ◌≤◌, ◌++◌, length}
+use Rattle.qs_spec.specs.toward.Reading.{read_brackets}
+use Rattle.qs_tree.specs.Cursor.{left, spent}
+use Rattle.qs_tree.specs.Pairs.{path_of}
+use Rattle.qs_tree.specs.Reading.{IsBehind}
+use Rattle.qs_tree.proofs.reading.read_brackets.Given as goal
+
+-- what is found behind the last bracket is what is found behind the first
+abbrev pub invariant-loop-room : goal.invariant-loop-room
+invariant-loop-room l = record {
+  found : read_brackets l.fn.max_depth (path_of l.fn.path.items) l.fn.bracket.raw.now (left l.fn.cursor) ≡ read_brackets l.room (path_of l.path.items) l.bracket.raw.now (left l.cursor);
+  behind : IsBehind l.bracket l.cursor;
+  form : l.cursor.form ≡ l.fn.cursor.form;
+  shorter : length l.cursor.rest.now ≤ length l.fn.cursor.rest.now;
+  spent : spent l.cursor ≡ spent l.fn.cursor;
+  }
+
+abbrev pub decreases-loop-room : goal.decreases-loop-room
+decreases-loop-room l = l.room

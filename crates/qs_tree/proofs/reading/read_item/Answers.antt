@@ -1,0 +1,34 @@
+use Rattle.std.proofs.Common.{sym, ap, ◌∙◌, subst, Ok}
+use Rattle.qs_spec.specs.Token.{raw_of}
+use Rattle.qs_spec.specs.Grammar.{ends_root}
+use Rattle.qs_spec.specs.toward.Reading.{cut, and_pairs}
+use Rattle.qs_tree.specs.Cursor.{ends_of, left, behind}
+use Rattle.qs_tree.specs.Reading.{is_nothing, behind_root, ReadsItem}
+use Rattle.qs_tree.proofs.BehindKeys.{has_bytes}
+use Rattle.qs_tree.proofs.Items.{end_pairs, ampersand_pairs, pair_pairs, pair_item}
+use Rattle.qs_tree.proofs.reading.read_item.Goals as goal
+use Rattle.qs_tree.proofs.reading.read_item.Goals.{in-None, in-Some}
+
+pub returns-then-is_nothing-clause-item : goal.returns-then-is_nothing-clause-item
+returns-then-is_nothing-clause-item c =
+    let old = c.args.cursor.now in
+    let depth = c.args.max_depth in
+    let token = ap (λ ends. (cut ends (left old)).1) (sym c.root_end.ensures) ∙ c.run.ensures.token in
+    let run = ap (λ ends. raw_of (cut ends (left old)).0) (sym c.root_end.ensures) ∙ sym c.run.ensures.run in
+    let nothing = ap (λ raw. is_nothing raw c.run.result.1) run ∙ sym c.is_nothing.ensures ∙ c.if-is_nothing.true in
+    elim c.match-stop.branch [
+      | in-None w ↦ subst (λ i. ReadsItem depth (left old) (Ok i) c.run.new.self) (sym w.result-is) (end_pairs depth (left old) c.run.result.1 (left c.run.new.self) (has_bytes old.form old.rest.now) token nothing w.in-None.is)
+      | in-Some w ↦ subst (λ i. ReadsItem depth (left old) (Ok i) c.run.new.self) (sym w.result-is) (ampersand_pairs depth (left old) c.run.result.1 w.in-Some.field-0 (left c.run.new.self) (has_bytes old.form old.rest.now) token nothing w.in-Some.is)
+    ]
+
+pub returns-clause-item : goal.returns-clause-item
+returns-clause-item c =
+    let old = c.args.cursor.now in
+    let depth = c.args.max_depth in
+    let found = behind_root depth c.run.result.0.now (behind c.run.result.1 (left c.run.new.self)) in
+    let token = ap (λ ends. (cut ends (left old)).1) (sym c.root_end.ensures) ∙ c.run.ensures.token in
+    let run = ap (λ ends. raw_of (cut ends (left old)).0) (sym c.root_end.ensures) ∙ sym c.run.ensures.run in
+    let some = ap (λ raw. is_nothing raw c.run.result.1) run ∙ sym c.is_nothing.ensures ∙ c.if-is_nothing.false in
+    pair_item depth (left old) found c.read_behind_root.result c.map.result c.read_behind_root.new.cursor
+    (pair_pairs depth (left old) c.run.result.1 (left c.run.new.self) (has_bytes old.form old.rest.now) token some ∙ ap (λ raw. and_pairs depth (behind_root depth raw (behind c.run.result.1 (left c.run.new.self)))) run)
+    c.read_behind_root.ensures.pair c.map.ensures.cases

@@ -1,0 +1,100 @@
+-- What the calls that read a pair answer.
+use Rattle.std.specs.Prelude.{◌≡◌, ◌≢◌, ℕ, List, [], ◌∷◌, ◌++◌, Option, Some, None, Result, Ok, Err, option_map, IsTrue, Bool, ◌&&◌, ◌==◌, length}
+use Rattle.qs_spec.specs.Token.{Kind, Token}
+use Rattle.qs_spec.specs.Token.Kind.{Amp, Equals, Open, Close, Other}
+use Rattle.qs_spec.specs.Segment.{Step, step_of}
+use Rattle.qs_spec.specs.Leaf.{Leaf}
+use Rattle.qs_spec.specs.Grammar.{Pair, is_amp, plain, pushed, longer, ends_last, ends_root}
+use Rattle.qs_spec.specs.toward.Reading.{Rest, with_leaf, read_value, after_close, read_brackets, pairs_of}
+use Rattle.qs_tree.specs.declared.cursor.Token as token
+use Rattle.qs_tree.specs.declared.cursor.Cursor as cursor
+use Rattle.qs_tree.specs.declared.error.Error as error
+use Rattle.qs_tree.specs.declared.pair.Leaf as code
+use Rattle.qs_tree.specs.declared.pair.Pair as code_pair
+use Rattle.qs_tree.specs.declared.reading.Item as item
+use Rattle.qs_tree.specs.declared.reading.Fault as fault
+use Rattle.qs_tree.specs.Pairs.{leaf_of, pair_of}
+use Rattle.qs_tree.specs.Cursor.{kind_of_token, left, IsPast}
+
+-- the end, `&` or `=`
+abbrev pub IsClosing : Option token.Token → Type 0
+IsClosing None = Unit {0}
+IsClosing (Some t) = IsTrue (ends_last (kind_of_token t.kind))
+
+-- the same, or an opening bracket
+abbrev pub IsRootStop : Option token.Token → Type 0
+IsRootStop None = Unit {0}
+IsRootStop (Some t) = IsTrue (ends_root 1 (kind_of_token t.kind))
+
+-- the cursor stands behind a token
+abbrev pub IsBehind : token.Token → cursor.Cursor → Type 0
+IsBehind t c = t.place.rest.now ≡ t.raw.now ++ c.rest.now
+
+-- the same, or at the end, which it met
+abbrev pub StandsBehind : Option token.Token → cursor.Cursor → Type 0
+StandsBehind None c = c.rest.now ≡ []
+StandsBehind (Some t) c = IsBehind t c
+
+-- what was found is this leaf, and the cursor is past what it stands in; or memory ran out
+abbrev pub ReadsLeaf : Rest Leaf → Result code.Leaf error.Error → cursor.Cursor → Type 0
+ReadsLeaf found (Ok l) new = (rest : List Token) × (found ≡ Some (leaf_of l, rest)) × IsPast rest new
+ReadsLeaf found (Err e) new = e ≡ error.TheVariants.OutOfMemory
+
+-- nothing was found, or memory ran out
+abbrev pub IsFault : {A : Type 0} → Option A → fault.Fault → Type 0
+IsFault found (fault.TheVariants.Unread u) = found ≡ None
+IsFault found (fault.TheVariants.Other e) = e ≡ error.TheVariants.OutOfMemory
+
+-- what was found is this pair, and the cursor is past it
+abbrev pub ReadsPair : Rest Pair → Result code_pair.Pair fault.Fault → cursor.Cursor → Type 0
+ReadsPair found (Ok p) new = (rest : List Token) × (found ≡ Some (pair_of p, rest)) × IsPast rest new
+ReadsPair found (Err f) new = IsFault found f
+
+-- the pairs of some tokens are none, or those of what is left now, or one pair and those; or they are no pairs
+abbrev pub ReadsItem : ℕ → List Token → Result item.Item fault.Fault → cursor.Cursor → Type 0
+ReadsItem depth ts (Ok item.TheVariants.End) new = pairs_of depth ts ≡ Some []
+ReadsItem depth ts (Ok item.TheVariants.Ampersand) new = pairs_of depth ts ≡ pairs_of depth (left new)
+ReadsItem depth ts (Ok (item.TheVariants.Pair p)) new = pairs_of depth ts ≡ option_map (λ ps. pair_of p ∷ ps) (pairs_of depth (left new))
+ReadsItem depth ts (Err f) new = IsFault (pairs_of depth ts) f
+
+-- the end was met
+abbrev pub IsEnd : Result item.Item fault.Fault → Type 0
+IsEnd (Ok item.TheVariants.End) = Unit {0}
+IsEnd (Ok item.TheVariants.Ampersand) = ⊥
+IsEnd (Ok (item.TheVariants.Pair p)) = ⊥
+IsEnd (Err e) = ⊥
+
+-- something was read
+abbrev pub IsMore : Result item.Item fault.Fault → Type 0
+IsMore (Ok item.TheVariants.End) = ⊥
+IsMore (Ok item.TheVariants.Ampersand) = Unit {0}
+IsMore (Ok (item.TheVariants.Pair p)) = Unit {0}
+IsMore (Err e) = ⊥
+
+-- an empty root key before `&` or the end
+abbrev pub is_nothing : List ℕ → Option token.Token → Bool
+is_nothing raw None = length raw == 0
+is_nothing raw (Some t) = length raw == 0 && is_amp (kind_of_token t.kind)
+
+-- the path of a root key with these raw bytes
+abbrev pub root_path : List ℕ → List Step
+root_path [] = []
+root_path (b ∷ raw) = step_of (b ∷ raw) ∷ []
+
+-- what is found behind a root key with these raw bytes
+abbrev pub behind_root_at : Kind → ℕ → List Step → Token → List Token → Rest Pair
+behind_root_at Open depth path t rest = read_brackets depth path t.raw rest
+behind_root_at Amp depth path t rest = with_leaf (plain path) (read_value (t ∷ rest))
+behind_root_at Equals depth path t rest = with_leaf (plain path) (read_value (t ∷ rest))
+behind_root_at Close depth path t rest = None
+behind_root_at Other depth path t rest = None
+
+abbrev pub behind_root : ℕ → List ℕ → List Token → Rest Pair
+behind_root depth raw [] = with_leaf (plain (root_path raw)) (read_value [])
+behind_root depth raw (t ∷ rest) = behind_root_at t.kind depth (root_path raw) t rest
+
+-- what is found behind a bracket below the limit, by the bytes before a closing bracket and by what stands from there on
+abbrev pub in_bracket : ℕ → List Step → List ℕ → List Token → Rest Pair
+in_bracket room path raw [] = None
+in_bracket room path [] (t ∷ rest) = with_leaf (pushed path) (read_value rest)
+in_bracket room path (b ∷ raw) (t ∷ rest) = after_close (read_brackets room) (longer path (b ∷ raw)) rest

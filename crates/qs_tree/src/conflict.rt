@@ -1,0 +1,104 @@
+//! Conflicts of a pair with a tree.
+ghost use Rattle.std.specs.Prelude.{◌≡◌, ◌+◌, ◌<◌, ◌^◌, length, Some, None, option_map, MatchResult};
+ghost use Rattle.qs_tree.specs.declared.conflict.Refusal.TheVariants.{OutOfMemory};
+ghost use Rattle.qs_tree.specs.Views.{segment_of_key, tree_of};
+ghost use Rattle.qs_tree.specs.Pairs.{path_of};
+ghost use Rattle.qs_tree.specs.Conflict as spec;
+ghost use Rattle.qs_tree.specs.Adding.{IsBelow, clash_view, conflict_view};
+
+use crate::key::Key;
+use crate::value::ParsedValue;
+use std::alloc::{AllocError, AllocFailed};
+
+/// Why a pair could not be added.
+#[derive(Debug, Drop)]
+pub(crate) enum Refusal {
+    Conflict(Conflict),
+    OutOfMemory,
+}
+
+/// Where a pair met a node that it can't be added to.
+#[derive(Debug, Drop)]
+pub(crate) struct Conflict {
+    /// How many keys of the path lead to the node.
+    pub level: usize,
+    pub clash: Clash,
+}
+
+/// What a node and a pair were in conflict about.
+#[derive(Debug, Drop)]
+pub(crate) enum Clash {
+    /// A push at a leaf.
+    PushOnLeaf,
+    /// A push at a map, or a plain leaf where the map at its path has another map under the empty text. The keys of the map
+    /// as they are shown, with `, ` between them.
+    LeafOnMap(String),
+    /// A path that goes on below a sequence.
+    BelowSequence,
+    /// A path that goes on below a text.
+    BelowText,
+    /// A path that goes on below a leaf that is no text.
+    BelowUnit,
+}
+
+impl From<AllocError> for Refusal {
+    ghost from_gives = { λ _ refusal. refusal ≡ OutOfMemory };
+
+    fn from(_: AllocError) -> Refusal {
+        Refusal::OutOfMemory
+    }
+}
+
+impl<T: Drop> From<AllocFailed<T>> for Refusal {
+    ghost from_gives = { λ _ refusal. refusal ≡ OutOfMemory };
+
+    fn from(_: AllocFailed<T>) -> Refusal {
+        Refusal::OutOfMemory
+    }
+}
+
+/// The first conflict that a pair meets on its way below a tree along some keys, whatever it would add at their end. Takes no
+/// memory.
+pub(crate) fn conflict_below<'t, 'qs, 'k>(
+    tree: &'t ParsedValue<'qs>,
+    path: &[Key<'k>],
+) -> Option<Conflict>
+    ensures { option_map conflict_view result ≡ spec.conflict_below (path_of path.now) (tree_of tree.now) }
+{
+    conflict_from(tree, path, 0)
+}
+
+// The same from a node at a level.
+fn conflict_from<'t, 'qs, 'k>(
+    node: &'t ParsedValue<'qs>,
+    path: &[Key<'k>],
+    level: usize,
+) -> Option<Conflict>
+    requires { level + length path.now < 2 ^ 64 }
+    ensures { option_map conflict_view result ≡ spec.conflict_along level (path_of path.now) (λ t. None) (tree_of node.now) }
+{
+    let (key, rest) = path.split_first()?;
+    match node_below(node, key) {
+        Ok(Some(child)) => conflict_from(child, rest, level + 1),
+        Ok(None) => None,
+        Err(clash) => Some(Conflict { level, clash }),
+    }
+}
+
+// The node at a key below a node, if there is one, or why there can't be.
+fn node_below<'t, 'qs, 'k>(
+    node: &'t ParsedValue<'qs>,
+    key: &Key<'k>,
+) -> Result<Option<&'t ParsedValue<'qs>>, Clash>
+    ensures { let before = tree_of node.now in MatchResult result
+        (λ child. IsBelow (option_map (λ v. tree_of v.now) child) (segment_of_key key.now) before)
+        (λ clash. spec.clash_below before ≡ Some (clash_view clash)) }
+{
+    match node {
+        ParsedValue::Map(map) => Ok(map.get(key)),
+        ParsedValue::Uninitialized => Ok(None),
+        ParsedValue::Sequence(_) => Err(Clash::BelowSequence),
+        ParsedValue::String(_) => Err(Clash::BelowText),
+        ParsedValue::Null | ParsedValue::NoValue => Err(Clash::BelowUnit),
+    }
+}

@@ -1,0 +1,253 @@
+//! The input, taken token by token.
+
+ghost use Rattle.std.specs.Prelude.{◌≡◌, ℕ, ◌+◌, ◌++◌, ◌<◌, ◌≤◌, ◌-◌, [], length, IfSome, IfNone, true};
+ghost use Rattle.qs_spec.specs.Token.{raw_of};
+ghost use Rattle.qs_spec.specs.Grammar.{is_amp, is_equals, is_open, is_close};
+ghost use Rattle.qs_spec.specs.toward.Reading.{cut};
+ghost use Rattle.qs_tree.specs.Cursor.{kind_of_token, token_of, BeginsWith, ends_of, left, spent, looks, raw_behind, behind, IsPast, GoesOn, taken, IsLeft};
+
+use crate::search::find_ampersand;
+use crate::steps::Steps;
+
+/// What a token is for the grammar.
+#[derive(Clone, Copy)]
+pub(crate) enum Kind {
+    Ampersand,
+    Equals,
+    Open,
+    Close,
+    Other(u8),
+}
+
+impl Kind {
+    pub fn is_ampersand(self) -> bool
+        ensures { result ≡ is_amp (kind_of_token self) }
+    {
+        matches!(self, Kind::Ampersand)
+    }
+
+    pub fn is_equals(self) -> bool
+        ensures { result ≡ is_equals (kind_of_token self) }
+    {
+        matches!(self, Kind::Equals)
+    }
+
+    pub fn is_open(self) -> bool
+        ensures { result ≡ is_open (kind_of_token self) }
+    {
+        matches!(self, Kind::Open)
+    }
+
+    pub fn is_close(self) -> bool
+        ensures { result ≡ is_close (kind_of_token self) }
+    {
+        matches!(self, Kind::Close)
+    }
+}
+
+/// A byte, or in form mode an escaped bracket.
+#[derive(Clone, Copy)]
+pub(crate) struct Token<'qs> {
+    pub kind: Kind,
+    pub raw: &'qs [u8],
+    /// The place of its first byte.
+    pub place: Place<'qs>,
+}
+
+/// A place in the input, to which a cursor came.
+#[derive(Clone, Copy)]
+pub(crate) struct Place<'qs> {
+    rest: &'qs [u8],
+}
+
+/// What a run of tokens ends at.
+#[derive(Clone, Copy)]
+pub(crate) enum Until {
+    /// `&` or `=`.
+    Separator,
+    /// `&`, `=` or an opening bracket.
+    SeparatorOrOpen,
+    /// A closing bracket.
+    Close,
+}
+
+impl Until {
+    fn is_at(self, kind: Kind) -> bool
+        ensures { result ≡ ends_of self (kind_of_token kind) }
+    {
+        match (self, kind) {
+            (Until::Close, Kind::Close) => true,
+            (Until::Separator | Until::SeparatorOrOpen, Kind::Ampersand | Kind::Equals) => true,
+            (Until::SeparatorOrOpen, Kind::Open) => true,
+            _ => false,
+        }
+    }
+}
+
+/// The kind of the first token, and how many bytes it has.
+fn first_token(bytes: &[u8], form: bool) -> (Kind, usize)
+    requires { 0 < length bytes.now }
+    ensures token { BeginsWith form bytes.now result.0 result.1 }
+    ensures some { 0 < result.1 }
+    ensures within { result.1 ≤ length bytes.now }
+{
+    if form && bytes.len() >= 3 && bytes[0] == b'%' && bytes[1] == b'5' {
+        if bytes[2] == b'B' {
+            return (Kind::Open, 3);
+        }
+        if bytes[2] == b'D' {
+            return (Kind::Close, 3);
+        }
+    }
+    match bytes[0] {
+        b'&' => (Kind::Ampersand, 1),
+        b'=' => (Kind::Equals, 1),
+        b'[' => (Kind::Open, 1),
+        b']' => (Kind::Close, 1),
+        byte => (Kind::Other(byte), 1),
+    }
+}
+
+impl<'qs> Place<'qs> {
+    /// A cursor that begins at this place again, with steps of its own.
+    pub fn again(self, form: bool) -> Cursor<'qs>
+        ensures { result.rest.now ≡ self.entry.rest.now }
+    {
+        Cursor::new(self.rest, form, Steps::new())
+    }
+}
+
+/// What is left of an input. The input is seen only through the calls below, and each counts: a byte that is taken is a step,
+/// and so is a look that meets the end.
+#[derive(Drop)]
+pub(crate) struct Cursor<'qs> {
+    rest: &'qs [u8],
+    ended: bool,
+    form: bool,
+    steps: Steps,
+}
+
+impl<'qs> Cursor<'qs> {
+    /// The whole input, before it is looked at, with the steps that were taken before.
+    pub fn new(input: &'qs [u8], form: bool, steps: Steps) -> Self
+        ensures rest { result.rest.now ≡ input.now }
+        ensures form { result.form ≡ form }
+        ensures steps { result.steps ≡ steps }
+    {
+        Cursor {
+            rest: input,
+            ended: false,
+            form,
+            steps,
+        }
+    }
+
+    /// The steps that were taken.
+    pub fn into_steps(self) -> Steps
+        ensures { result ≡ self.entry.steps }
+    {
+        self.steps
+    }
+
+    /// The place before what is left.
+    pub fn place(&self) -> Place<'qs>
+        ensures { result.rest.now ≡ self.now.rest.now }
+    {
+        Place { rest: self.rest }
+    }
+
+    /// How many bytes of an input were read up to here, and one more where its end was.
+    pub fn position(&self, input: &[u8]) -> usize
+        requires { length self.now.rest.now ≤ length input.now }
+        ensures { result ≤ length input.now + 1 }
+    {
+        input.len() - self.rest.len() + usize::from(self.ended)
+    }
+
+    /// The bytes that were taken since a place.
+    pub fn since(&self, place: Place<'qs>) -> &'qs [u8]
+        requires { length self.now.rest.now ≤ length place.rest.now }
+        ensures { result.now ≡ taken place.entry.rest.now self.now.rest.now }
+    {
+        let len = place.rest.len() - self.rest.len();
+        &place.rest[..len]
+    }
+
+    /// Takes the next token, or meets the end.
+    pub fn next(&mut self) -> Option<Token<'qs>>
+        ensures token { left self.old ≡ behind result (left self.new) }
+        ensures bytes { self.old.rest.now ≡ raw_behind result self.new.rest.now }
+        ensures place { IfSome result (λ t. t.place.rest.now ≡ self.old.rest.now) }
+        ensures end { IfNone result (self.new.rest.now ≡ []) }
+        ensures shorter { IfSome result (λ _. length self.new.rest.now < length self.old.rest.now) }
+        ensures form { self.new.form ≡ self.old.form }
+        ensures cost { spent self.new ≡ spent self.old + looks result }
+    {
+        if self.rest.is_empty() {
+            self.ended = true;
+            self.steps.add(1);
+            return None;
+        }
+        let place = self.place();
+        let (kind, len) = first_token(self.rest, self.form);
+        let (raw, rest) = self.rest.split_at(len);
+        self.rest = rest;
+        self.steps.add(len);
+        Some(Token { kind, raw, place })
+    }
+
+    /// Takes the tokens up to the first one that ends a run, and that one too, or up to the end: the bytes before it, and it.
+    pub fn run(&mut self, until: Until) -> (&'qs [u8], Option<Token<'qs>>)
+        ensures run { result.0.now ≡ raw_of (cut (ends_of until) (left self.old)).0 }
+        ensures token { (cut (ends_of until) (left self.old)).1 ≡ behind result.1 (left self.new) }
+        ensures kind { IfSome result.1 (λ t. ends_of until (kind_of_token t.kind) ≡ true) }
+        ensures place { IfSome result.1 (λ t. t.place.rest.now ≡ t.raw.now ++ self.new.rest.now) }
+        ensures end { IfNone result.1 (self.new.rest.now ≡ []) }
+        ensures shorter { IfSome result.1 (λ _. length self.new.rest.now < length self.old.rest.now) }
+        ensures cost { spent self.new ≡ spent self.old + looks result.1 }
+        ensures moves { GoesOn 0 self.old self.new }
+    {
+        self.run_from(self.place(), until)
+    }
+
+    /// The same, but the answer's bytes begin at an earlier place.
+    pub fn run_from(
+        &mut self,
+        place: Place<'qs>,
+        until: Until,
+    ) -> (&'qs [u8], Option<Token<'qs>>)
+        requires { IsLeft place.rest.now self.old.rest.now }
+        ensures run { result.0.now ≡ taken place.entry.rest.now self.old.rest.now ++ raw_of (cut (ends_of until) (left self.old)).0 }
+        ensures token { (cut (ends_of until) (left self.old)).1 ≡ behind result.1 (left self.new) }
+        ensures kind { IfSome result.1 (λ t. ends_of until (kind_of_token t.kind) ≡ true) }
+        ensures place { IfSome result.1 (λ t. t.place.rest.now ≡ t.raw.now ++ self.new.rest.now) }
+        ensures end { IfNone result.1 (self.new.rest.now ≡ []) }
+        ensures shorter { IfSome result.1 (λ _. length self.new.rest.now < length self.old.rest.now) }
+        ensures cost { spent self.new ≡ spent self.old + looks result.1 }
+        ensures moves { GoesOn 0 self.old self.new }
+    {
+        loop {
+            let before = self.since(place);
+            let Some(token) = self.next() else {
+                return (before, None);
+            };
+            if until.is_at(token.kind) {
+                return (before, Some(token));
+            }
+        }
+    }
+
+    /// Takes a value: the bytes up to the next `&` or the end, and that `&` or the end too.
+    pub fn value(&mut self) -> &'qs [u8]
+        ensures value { result.now ≡ raw_of (cut is_amp (left self.old)).0 }
+        ensures past { IsPast (cut is_amp (left self.old)).1 self.new }
+        ensures moves { GoesOn 0 self.old self.new }
+    {
+        let end = find_ampersand(self.rest).unwrap_or(self.rest.len());
+        let (value, rest) = self.rest.split_at(end);
+        self.rest = rest;
+        self.steps.add(end);
+        let _ = self.next();
+        value
+    }
+}

@@ -1,0 +1,294 @@
+//! One pair, read from what is left of an input.
+
+ghost use Rattle.std.specs.Prelude.{◌≡◌, ◌++◌, ◌<◌, [], length, IfOk};
+ghost use Rattle.qs_spec.specs.Grammar.{plain, pushed, ends_root};
+ghost use Rattle.qs_spec.specs.toward.Reading.{with_leaf, read_value, read_brackets};
+ghost use Rattle.qs_tree.specs.declared.reading.Fault.TheVariants.{Other};
+ghost use Rattle.qs_tree.specs.Error.{OnlyOutOfMemory};
+ghost use Rattle.qs_tree.specs.Pairs.{path_of};
+ghost use Rattle.qs_tree.specs.Cursor.{ends_of, left, looks, behind, GoesOn};
+ghost use Rattle.qs_tree.specs.Reading.{IsRootStop, IsClosing, IsBehind, StandsBehind, IsEnd, IsMore, ReadsItem, ReadsLeaf, ReadsPair, is_nothing, root_path, behind_root};
+
+use crate::cursor::{Cursor, Kind, Token, Until};
+use crate::error::{Error, Result};
+use crate::key::Key;
+use crate::pair::{Leaf, Manner, Pair};
+use crate::raw::{read_key, read_leaf};
+use std::alloc::{AllocFailed, Global};
+
+/// What was read.
+pub(crate) enum Item<'qs> {
+    /// Nothing: the end was met.
+    End,
+    /// An `&` with nothing before it.
+    Ampersand,
+    Pair(Pair<'qs>),
+}
+
+/// Why nothing was read.
+pub(crate) enum Fault<'qs> {
+    Unread(Unread<'qs>),
+    /// Memory ran out.
+    Other(Error),
+}
+
+/// A pair that can't be read to its end.
+pub(crate) struct Unread<'qs> {
+    /// The keys up to the place where it can't go on.
+    pub path: Vec<Key<'qs>>,
+    pub reason: Reason,
+}
+
+/// What stands where a pair can't go on so.
+#[derive(Clone, Copy)]
+pub(crate) enum Reason {
+    /// The end directly behind an opening bracket.
+    EndBehindOpen,
+    /// The end inside a segment.
+    EndInSegment,
+    /// This character behind a closed segment.
+    BehindSegment(char),
+    /// An opening bracket behind `[]`.
+    OpenBehindPush,
+    /// Another token behind `[]`.
+    BehindPush,
+}
+
+impl<'qs> From<Error> for Fault<'qs> {
+    ghost use Rattle.std.specs.Prelude.{◌≡◌};
+    ghost use Rattle.qs_tree.specs.declared.reading.Fault.TheVariants.{Other};
+
+    ghost from_gives = { λ error fault. fault ≡ Other error };
+
+    fn from(error: Error) -> Fault<'qs> {
+        Fault::Other(error)
+    }
+}
+
+impl<'qs, T: Drop> From<AllocFailed<T>> for Fault<'qs> {
+    ghost use Rattle.std.specs.Prelude.{◌≡◌};
+    ghost use Rattle.qs_tree.specs.declared.reading.Fault.TheVariants.{Other};
+    ghost use Rattle.qs_tree.specs.declared.error.Error.TheVariants.{OutOfMemory};
+
+    ghost from_gives = { λ _ fault. fault ≡ Other OutOfMemory };
+
+    fn from(_: AllocFailed<T>) -> Fault<'qs> {
+        Fault::Other(Error::OutOfMemory)
+    }
+}
+
+/// Reads up to the next `&` or the end: a pair, or nothing.
+pub(crate) fn read_item<'qs>(
+    alloc: Global,
+    cursor: &mut Cursor<'qs>,
+    max_depth: usize,
+) -> Result<Item<'qs>, Fault<'qs>>
+    ensures item { ReadsItem max_depth (left cursor.old) result cursor.new }
+    ensures end { IsEnd result → cursor.new.rest.now ≡ [] }
+    ensures shorter { IsMore result → length cursor.new.rest.now < length cursor.old.rest.now }
+    ensures moves { GoesOn 0 cursor.old cursor.new }
+{
+    let (key, stop) = cursor.run(root_end(max_depth));
+    if is_nothing(key, stop) {
+        return Ok(match stop {
+            None => Item::End,
+            Some(_) => Item::Ampersand,
+        });
+    }
+    read_behind_root(alloc, cursor, max_depth, key, stop).map(Item::Pair)
+}
+
+/// An empty root key before `&` or the end is no pair.
+fn is_nothing(key: &[u8], stop: Option<Token<'_>>) -> bool
+    ensures { result ≡ is_nothing key.now stop.entry }
+{
+    match stop {
+        None => key.is_empty(),
+        Some(token) => key.is_empty() && token.kind.is_ampersand(),
+    }
+}
+
+/// What ends a root key: a bracket only where there may be brackets.
+pub(crate) fn root_end(max_depth: usize) -> Until
+    ensures { ends_of result ≡ ends_root max_depth }
+{
+    if max_depth == 0 {
+        Until::Separator
+    } else {
+        Until::SeparatorOrOpen
+    }
+}
+
+/// Reads a pair behind its root key and the token behind that.
+fn read_behind_root<'qs>(
+    alloc: Global,
+    cursor: &mut Cursor<'qs>,
+    max_depth: usize,
+    key: &'qs [u8],
+    stop: Option<Token<'qs>>,
+) -> Result<Pair<'qs>, Fault<'qs>>
+    requires root { IsRootStop stop }
+    requires behind { StandsBehind stop cursor.old }
+    ensures pair { ReadsPair (behind_root max_depth key.now (behind stop.entry (left cursor.old))) result cursor.new }
+    ensures moves { GoesOn (looks stop.entry) cursor.old cursor.new }
+{
+    let path = read_root(alloc, key)?;
+    match stop {
+        Some(token) if token.kind.is_open() => {
+            read_brackets(alloc, cursor, max_depth, path, token)
+        }
+        _ => read_plain(alloc, cursor, path, stop),
+    }
+}
+
+/// The path of a root key.
+fn read_root<'qs>(alloc: Global, key: &'qs [u8]) -> Result<Vec<Key<'qs>>>
+    ensures path { IfOk result (λ path. path_of path.items ≡ root_path key.now) }
+    ensures errors { OnlyOutOfMemory result }
+{
+    let mut path = Vec::new(alloc);
+    if !key.is_empty() {
+        path.push(read_key(alloc, key)?)?;
+    }
+    Ok(path)
+}
+
+/// Reads what follows a key: nothing, or, behind `=`, a value.
+fn read_value<'qs>(
+    alloc: Global,
+    cursor: &mut Cursor<'qs>,
+    stop: Option<Token<'qs>>,
+) -> Result<Leaf<'qs>>
+    requires closing { IsClosing stop }
+    requires behind { StandsBehind stop cursor.old }
+    ensures leaf { ReadsLeaf (read_value (behind stop.entry (left cursor.old))) result cursor.new }
+    ensures moves { GoesOn (looks stop.entry) cursor.old cursor.new }
+{
+    match stop {
+        Some(token) if token.kind.is_equals() => read_leaf(alloc, cursor.value()),
+        _ => Ok(Leaf::NoValue),
+    }
+}
+
+/// Reads a plain pair behind its path and the token behind that.
+fn read_plain<'qs>(
+    alloc: Global,
+    cursor: &mut Cursor<'qs>,
+    path: Vec<Key<'qs>>,
+    stop: Option<Token<'qs>>,
+) -> Result<Pair<'qs>, Fault<'qs>>
+    requires closing { IsClosing stop }
+    requires behind { StandsBehind stop cursor.old }
+    ensures pair { ReadsPair (with_leaf (plain (path_of path.entry.items)) (read_value (behind stop.entry (left cursor.old)))) result cursor.new }
+    ensures moves { GoesOn (looks stop.entry) cursor.old cursor.new }
+{
+    let leaf = read_value(alloc, cursor, stop)?;
+    Ok(Pair {
+        path,
+        manner: Manner::Plain,
+        leaf,
+    })
+}
+
+/// Reads a push behind its `[]`.
+fn read_push<'qs>(
+    alloc: Global,
+    cursor: &mut Cursor<'qs>,
+    path: Vec<Key<'qs>>,
+) -> Result<Pair<'qs>, Fault<'qs>>
+    ensures pair { ReadsPair (with_leaf (pushed (path_of path.entry.items)) (read_value (left cursor.old))) result cursor.new }
+    ensures moves { GoesOn 0 cursor.old cursor.new }
+{
+    let next = cursor.next();
+    let reason = match next {
+        Some(Token { kind: Kind::Open, .. }) => Reason::OpenBehindPush,
+        Some(Token { kind: Kind::Close | Kind::Other(_), .. }) => Reason::BehindPush,
+        _ => {
+            let leaf = read_value(alloc, cursor, next)?;
+            return Ok(Pair {
+                path,
+                manner: Manner::Push,
+                leaf,
+            });
+        }
+    };
+    Err(Fault::Unread(Unread { path, reason }))
+}
+
+/// Reads what follows an opening bracket behind a path, with room for so many segments.
+fn read_brackets<'qs>(
+    alloc: Global,
+    cursor: &mut Cursor<'qs>,
+    max_depth: usize,
+    mut path: Vec<Key<'qs>>,
+    mut bracket: Token<'qs>,
+) -> Result<Pair<'qs>, Fault<'qs>>
+    requires { IsBehind bracket cursor.old }
+    ensures pair { ReadsPair (read_brackets max_depth (path_of path.entry.items) bracket.entry.raw.now (left cursor.old)) result cursor.new }
+    ensures moves { GoesOn 0 cursor.old cursor.new }
+{
+    let mut room = max_depth;
+    while room > 0 {
+        let (segment, stop) = cursor.run(Until::Close);
+        let Some(_) = stop else {
+            return Err(Fault::Unread(unended(alloc, path, segment)?));
+        };
+        if segment.is_empty() {
+            return read_push(alloc, cursor, path);
+        }
+        path.push(read_key(alloc, segment)?)?;
+        let next = cursor.next();
+        let Some(token) = next else {
+            return read_plain(alloc, cursor, path, next);
+        };
+        let character = match token.kind {
+            Kind::Open => {
+                bracket = token;
+                room -= 1;
+                continue;
+            }
+            Kind::Ampersand | Kind::Equals => return read_plain(alloc, cursor, path, next),
+            Kind::Close => ']',
+            Kind::Other(byte) => char::from(byte),
+        };
+        let reason = Reason::BehindSegment(character);
+        return Err(Fault::Unread(Unread { path, reason }));
+    }
+    read_last_key(alloc, cursor, path, bracket)
+}
+
+/// A pair that ends in a bracket below the limit.
+fn unended<'qs>(alloc: Global, mut path: Vec<Key<'qs>>, segment: &'qs [u8]) -> Result<Unread<'qs>>
+    ensures { OnlyOutOfMemory result }
+{
+    if segment.is_empty() {
+        let reason = Reason::EndBehindOpen;
+        return Ok(Unread { path, reason });
+    }
+    path.push(read_key(alloc, segment)?)?;
+    let reason = Reason::EndInSegment;
+    Ok(Unread { path, reason })
+}
+
+/// Reads what follows an opening bracket at the limit: a push, or one last key that begins with the bracket.
+fn read_last_key<'qs>(
+    alloc: Global,
+    cursor: &mut Cursor<'qs>,
+    mut path: Vec<Key<'qs>>,
+    bracket: Token<'qs>,
+) -> Result<Pair<'qs>, Fault<'qs>>
+    requires { IsBehind bracket cursor.old }
+    ensures pair { ReadsPair (read_brackets 0 (path_of path.entry.items) bracket.entry.raw.now (left cursor.old)) result cursor.new }
+    ensures moves { GoesOn 0 cursor.old cursor.new }
+{
+    let Some(first) = cursor.next() else {
+        let reason = Reason::EndBehindOpen;
+        return Err(Fault::Unread(Unread { path, reason }));
+    };
+    if first.kind.is_close() {
+        return read_push(alloc, cursor, path);
+    }
+    let (key, stop) = cursor.run_from(bracket.place, Until::Separator);
+    path.push(read_key(alloc, key)?)?;
+    read_plain(alloc, cursor, path, stop)
+}

@@ -36,6 +36,7 @@ pub fn run<R: Read, W: Write>(alloc: Global, args: &[String], reader: &mut R, wr
         × Appends (W.contents writer.old) (W.contents writer.new) line) }
     ensures usage { task_of (map string_bytes args.now) ≡ None → result ≢ 3 →
         (result ≡ 2) × Appends (W.contents writer.old) (W.contents writer.new) usage_line }
+    ensures unread { task_of (map string_bytes args.now) ≡ None → reader.new ≡ reader.old }
     ensures stopped { IfSome (R.remaining reader.old) (λ input. result ≡ 3 →
         (line : List ℕ) × (n : ℕ) × IsBegun (map string_bytes args.now) input line
         × Appends (W.contents writer.old) (W.contents writer.new) (take n line)) }

@@ -25,12 +25,12 @@ pub found_bad : (name : List ℕ) (es : Entries) (t : Tree) (ts : List Tree) →
 found_bad name no_entries t ts h n = absurd cc
 found_bad name (entry k m u es) t ts h n = elim (cases_Bool (bytes_eq (segment_text k) name)) [
   | inl is ↦
-    let here : u ∷ found name es ≡ t ∷ ts = sym (rw is) ∙ h in
-    let same : u ≡ t = cc in
-    and_left (is_utf8 (segment_text k) && is_text u) (entries_are_text es) (and_right (is_utf8 (segment_text k)) (is_text u) (ap is_text same ∙ n))
+      let here : u ∷ found name es ≡ t ∷ ts = sym (rw is) ∙ h in
+      let same : u ≡ t = cc in
+      and_left (is_utf8 (segment_text k) && is_text u) (entries_are_text es) (and_right (is_utf8 (segment_text k)) (is_text u) (ap is_text same ∙ n))
   | inr not ↦
-    let rest : found name es ≡ t ∷ ts = sym (rw not) ∙ h in
-    and_right (is_utf8 (segment_text k) && is_text u) (entries_are_text es) (found_bad name es t ts rest n)
+      let rest : found name es ≡ t ∷ ts = sym (rw not) ∙ h in
+      and_right (is_utf8 (segment_text k) && is_text u) (entries_are_text es) (found_bad name es t ts rest n)
 ]
 
 pub field_none : (o p : Bool) (r : Reader) (ts : List Tree) (t : Tree) → ts ≡ t ∷ [] → r t ≡ None → read_field o p r ts ≡ None

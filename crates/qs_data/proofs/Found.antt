@@ -72,9 +72,9 @@ found_text name (entry (Int j) m t es) o f h = elim (cases_Bool (bytes_eq (decim
 ]
 found_text name (entry (Str b) m t es) o f h = elim (cases_Bool (bytes_eq b name)) [
   | inl is ↦
-    let before : IsBefore (Str name) es = subst (λ x. IsBefore (Str x) es) (bytes_eq_true b name is) o.0 in
-    let rest : found name es ≡ [] = found_text name es o.1 f.1 h ∙ ap list (absent (Str name) es before) in
-    rw (same_text b name, is) (ap (λ ts. t ∷ ts) rest)
+      let before : IsBefore (Str name) es = subst (λ x. IsBefore (Str x) es) (bytes_eq_true b name is) o.0 in
+      let rest : found name es ≡ [] = found_text name es o.1 f.1 h ∙ ap list (absent (Str name) es before) in
+      rw (same_text b name, is) (ap (λ ts. t ∷ ts) rest)
   | inr not ↦ rw (same_text b name, not) (found_text name es o.1 f.1 h)
 ]
 
@@ -83,19 +83,19 @@ pub found_number : (name : List ℕ) (n : ℕ) (es : Entries) → AreOrdered es 
 found_number name n no_entries o f lt is = refl
 found_number name n (entry (Int j) m t es) o f lt is = elim (cases_Bool (bytes_eq (decimal j) name)) [
   | inl here ↦
-    let same : n ≡ j = decimal_injective n j (omega arith) (omega (arith, f.0)) (is ∙ sym (bytes_eq_true (decimal j) name here)) in
-    let before : IsBefore (Int n) es = subst (λ x. IsBefore (Int x) es) (sym same) o.0 in
-    let rest : found name es ≡ list (find (Str name) es) = found_number name n es o.1 f.1 lt is ∙ ap (λ r. list r ++ list (find (Str name) es)) (absent (Int n) es before) in
-    rw (number_same n j same, here) (ap (λ ts. t ∷ ts) rest)
+      let same : n ≡ j = decimal_injective n j (omega arith) (omega (arith, f.0)) (is ∙ sym (bytes_eq_true (decimal j) name here)) in
+      let before : IsBefore (Int n) es = subst (λ x. IsBefore (Int x) es) (sym same) o.0 in
+      let rest : found name es ≡ list (find (Str name) es) = found_number name n es o.1 f.1 lt is ∙ ap (λ r. list r ++ list (find (Str name) es)) (absent (Int n) es before) in
+      rw (number_same n j same, here) (ap (λ ts. t ∷ ts) rest)
   | inr not ↦
-    let other : n ≡ j → ⊥ = λ e. false≢true (sym not ∙ bytes_eq_same (decimal j) name (ap decimal (sym e) ∙ is)) in
-    rw (number_other n j other, not) (found_number name n es o.1 f.1 lt is)
+      let other : n ≡ j → ⊥ = λ e. false≢true (sym not ∙ bytes_eq_same (decimal j) name (ap decimal (sym e) ∙ is)) in
+      rw (number_other n j other, not) (found_number name n es o.1 f.1 lt is)
 ]
 found_number name n (entry (Str b) m t es) o f lt is = elim (cases_Bool (bytes_eq b name)) [
   | inl here ↦
-    let before : IsBefore (Str name) es = subst (λ x. IsBefore (Str x) es) (bytes_eq_true b name here) o.0 in
-    let rest : found name es ≡ [] = found_number name n es o.1 f.1 lt is ∙ ap (λ r. list r ++ list (find (Str name) es)) (no_number b n es o.0) ∙ ap list (absent (Str name) es before) in
-    rw (same_text b name, here, no_number b n es o.0) (ap (λ ts. t ∷ ts) rest)
+      let before : IsBefore (Str name) es = subst (λ x. IsBefore (Str x) es) (bytes_eq_true b name here) o.0 in
+      let rest : found name es ≡ [] = found_number name n es o.1 f.1 lt is ∙ ap (λ r. list r ++ list (find (Str name) es)) (no_number b n es o.0) ∙ ap list (absent (Str name) es before) in
+      rw (same_text b name, here, no_number b n es o.0) (ap (λ ts. t ∷ ts) rest)
   | inr not ↦ rw (same_text b name, not) (found_number name n es o.1 f.1 lt is)
 ]
 

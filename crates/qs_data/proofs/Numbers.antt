@@ -211,15 +211,15 @@ signed_text bits bs h = elim (cases_Bool (is_numeral (without_leading_sign bs)))
 pub signed_err : (bits : ℕ) (bs : List ℕ) → ¬ (IsNumeral 10 (without_leading_sign bs) × FitsSigned w64 (signed_digits_value 10 bs)) → 2 ^ (bits - 1) ≤ 2 ^ 63 → signed_number bits bs ≡ None
 signed_err bits bs h le = elim (cases_Bool (is_numeral (without_leading_sign bs))) [
   | inl is ↦
-    let held = numeral_holds (without_leading_sign bs) is in
-    elim (cases_Bool (starts_with_minus bs)) [
-      | inl minus ↦
-        let large : size_of bs ≤ 2 ^ 63 → ⊥ = λ small. h (held, rw (minus_value bs minus) (negative_fits (size_of bs) small)) in
-        minus_is bits bs minus ∙ ap (option_map (λ n. neg_ℤ (pos n))) (numeral_past (2 ^ (bits - 1)) (without_leading_sign bs) held (omega arith))
-      | inr plain ↦
-        let large : size_of bs < 2 ^ 63 → ⊥ = λ small. h (held, rw (plain_value bs plain) (positive_fits (size_of bs) small)) in
-        plain_is bits bs plain ∙ ap (option_map pos) (numeral_past (2 ^ (bits - 1) - 1) (without_leading_sign bs) held (omega arith))
-    ]
+      let held = numeral_holds (without_leading_sign bs) is in
+      elim (cases_Bool (starts_with_minus bs)) [
+        | inl minus ↦
+            let large : size_of bs ≤ 2 ^ 63 → ⊥ = λ small. h (held, rw (minus_value bs minus) (negative_fits (size_of bs) small)) in
+            minus_is bits bs minus ∙ ap (option_map (λ n. neg_ℤ (pos n))) (numeral_past (2 ^ (bits - 1)) (without_leading_sign bs) held (omega arith))
+        | inr plain ↦
+            let large : size_of bs < 2 ^ 63 → ⊥ = λ small. h (held, rw (plain_value bs plain) (positive_fits (size_of bs) small)) in
+            plain_is bits bs plain ∙ ap (option_map pos) (numeral_past (2 ^ (bits - 1) - 1) (without_leading_sign bs) held (omega arith))
+      ]
   | inr not ↦ signed_is bits bs ∙ rw not (same_either (starts_with_minus bs) None)
 ]
 

@@ -77,7 +77,10 @@ fn copy_pairs(alloc: Global, pairs: &Vec<(Data, Data)>) -> Result<Vec<(Data, Dat
 }
 
 #[cycle(copy)]
-fn copy_members(alloc: Global, members: &Vec<(String, Data)>) -> Result<Vec<(String, Data)>, AllocError>
+fn copy_members(
+    alloc: Global,
+    members: &Vec<(String, Data)>,
+) -> Result<Vec<(String, Data)>, AllocError>
     ensures { IfOk result
         (λ copies. map (named data_of) copies.items ≡ map (named data_of) members.now.items) }
 {

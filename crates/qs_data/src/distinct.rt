@@ -22,7 +22,8 @@ impl Shape {
             Shape::Tuple(parts) => are_distinct(parts),
             Shape::Map(key, part) => is_distinct_key(key) && part.is_distinct(),
             Shape::Struct(fields) => field_names_differ(fields) && are_distinct_fields(fields),
-            Shape::Enum(variants) => variant_names_differ(variants) && are_distinct_variants(variants),
+            Shape::Enum(variants) => variant_names_differ(variants)
+                && are_distinct_variants(variants),
             _ => true,
         }
     }

@@ -16,7 +16,9 @@ ghost use Rattle.qs_data.specs.Gives.{Gives, IsFrugal, takes_no_memory};
 use crate::data::Data;
 use crate::read::fault::Fault;
 use crate::read::fields::read_struct;
-use crate::read::scalar::{read_bool, read_bytes, read_char, read_signed, read_text, read_unit, read_unsigned};
+use crate::read::scalar::{
+    read_bool, read_bytes, read_char, read_signed, read_text, read_unit, read_unsigned,
+};
 use crate::read::width::Width;
 use crate::shape::Shape;
 use qs_tree::{Error, ParsedValue, Result};
@@ -25,7 +27,12 @@ use std::alloc::Global;
 /// Reads a value by a shape. Several values for one are refused under `strict`.
 #[cycle(read)]
 #[tactic(auto, using(crate::proofs::Levels::levels), unfolding(qs_spec::specs::Read::reads))]
-pub(crate) fn read(alloc: Global, strict: bool, shape: &Shape, value: &ParsedValue<'_>) -> Result<Data>
+pub(crate) fn read(
+    alloc: Global,
+    strict: bool,
+    shape: &Shape,
+    value: &ParsedValue<'_>,
+) -> Result<Data>
     ensures gives { Gives data_of (is_text (tree_of value.now)) result (reads strict (shape_of shape.now) (tree_of value.now)) }
     ensures frugal { IsTrue (takes_no_memory (shape_of shape.now)) → IsFrugal result (reads strict (shape_of shape.now) (tree_of value.now)) }
 {

@@ -16,13 +16,25 @@ fn strict() -> Config {
 }
 
 /// What the shape reads from the input.
-fn read(rt: &impl Abort, alloc: Global, config: Config, shape: &Shape, input: &str) -> Result<Data> {
+fn read(
+    rt: &impl Abort,
+    alloc: Global,
+    config: Config,
+    shape: &Shape,
+    input: &str,
+) -> Result<Data> {
     assert!(rt; shape.is_distinct());
     Deserializer::with_config(alloc, config, input.as_bytes())?.read(alloc, shape)
 }
 
 /// What the error says that the shape answers to the input.
-fn said(rt: &impl Abort, alloc: Global, config: Config, shape: &Shape, input: &str) -> std::result::Result<String, AllocError> {
+fn said(
+    rt: &impl Abort,
+    alloc: Global,
+    config: Config,
+    shape: &Shape,
+    input: &str,
+) -> std::result::Result<String, AllocError> {
     match read(rt, alloc, config, shape, input) {
         Ok(_) => String::from_str(alloc, "nothing"),
         Err(error) => format!(in alloc; "{error}"),
@@ -34,10 +46,19 @@ fn a_flag(rt: HostRuntime) -> std::result::Result<(), Fail> {
     let shape = field(rt.alloc(), "flag", Shape::Bool)?;
     let on = one(rt.alloc(), "flag", Data::Bool(true))?;
     for input in ["flag", "flag=", "flag=true", "flag=false&flag=true"] {
-        assert_eq!(rt; read(&rt, rt.alloc(), last(), &shape, input)?, on, "{input}");
+        assert_eq!(rt;
+            read(&rt, rt.alloc(), last(), &shape, input)?,
+            on,
+            "{input}"
+        );
     }
     for config in [last(), strict()] {
-        assert!(rt; matches!(read(&rt, rt.alloc(), config, &shape, "flag&flag"), Err(Error::Custom(_))));
+        assert!(rt;
+            matches!(
+                read(&rt, rt.alloc(), config, &shape, "flag&flag"),
+                Err(Error::Custom(_))
+            )
+        );
     }
     Ok(())
 }
@@ -47,7 +68,11 @@ fn a_text_that_may_be_absent(rt: HostRuntime) -> std::result::Result<(), Fail> {
     let shape = field(rt.alloc(), "a", option(rt.alloc(), Shape::Text)?)?;
     let none = one(rt.alloc(), "a", Data::None)?;
     for input in ["", "a", "b=1"] {
-        assert_eq!(rt; read(&rt, rt.alloc(), last(), &shape, input)?, none, "{input}");
+        assert_eq!(rt;
+            read(&rt, rt.alloc(), last(), &shape, input)?,
+            none,
+            "{input}"
+        );
     }
     let held = Box::new(rt.alloc(), text(rt.alloc(), "")?)?;
     let empty = one(rt.alloc(), "a", Data::Some(held))?;
@@ -69,10 +94,16 @@ fn a_number_that_may_be_absent(rt: HostRuntime) -> std::result::Result<(), Fail>
 fn a_text_given_twice(rt: HostRuntime) -> std::result::Result<(), Fail> {
     let shape = field(rt.alloc(), "field", Shape::Text)?;
     let b = one(rt.alloc(), "field", text(rt.alloc(), "b")?)?;
-    assert_eq!(rt; read(&rt, rt.alloc(), last(), &shape, "field=a&field=b")?, b);
+    assert_eq!(rt;
+        read(&rt, rt.alloc(), last(), &shape, "field=a&field=b")?,
+        b
+    );
     assert_eq!(rt; read(&rt, rt.alloc(), strict(), &shape, "field=b")?, b);
     let message = said(&rt, rt.alloc(), strict(), &shape, "field=a&field=b")?;
-    assert_eq!(rt; message.as_str(), "multiple values provided for non-sequence field");
+    assert_eq!(rt;
+        message.as_str(),
+        "multiple values provided for non-sequence field"
+    );
     Ok(())
 }
 

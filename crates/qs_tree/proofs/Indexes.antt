@@ -31,7 +31,7 @@ from n (b ∷ raw) h = by (is_between 48 57 b) (nat_le (digit n b) 4294967295) r
     by : (x y : Bool) → nat_le (digit n b) 4294967295 ≡ y
         → (digit n b ≤ 4294967295 → index_from (digit n b) raw ≡ cond (list_all (is_between 48 57) raw && nat_le (fold digit (digit n b) raw) 4294967295) (Some (fold digit (digit n b) raw)) None)
         → cond (x && y) (index_from (digit n b) raw) None
-            ≡ cond ((x && list_all (is_between 48 57) raw) && nat_le (fold digit (digit n b) raw) 4294967295) (Some (fold digit (digit n b) raw)) None
+        ≡ cond ((x && list_all (is_between 48 57) raw) && nat_le (fold digit (digit n b) raw) 4294967295) (Some (fold digit (digit n b) raw)) None
     by false y e h = refl
     by true true e h = h (leb-true (digit n b) 4294967295 e)
     by true false e h = sym (ap (λ z. cond z (Some (fold digit (digit n b) raw)) None) (none (list_all (is_between 48 57) raw)))

@@ -49,7 +49,7 @@ module _ (depth : ℕ) (form : Bool) where
       → Begins b more key stop after
   begins b more key stop rest after run token whole h e =
       let c : cut (ends_root depth) (tokens form (b ∷ more)) ≡ ([], byte_token b ∷ tokens form more) =
-          ap (cut (ends_root depth)) (alone form b more h) ∙ ap (λ x. cut_at x (byte_token b) (tokens form more) (cut (ends_root depth) (tokens form more))) (ends_at depth (kind_of b) e) in
+      ap (cut (ends_root depth)) (alone form b more h) ∙ ap (λ x. cut_at x (byte_token b) (tokens form more) (cut (ends_root depth) (tokens form more))) (ends_at depth (kind_of b) e) in
       let none : key ≡ [] = run ∙ ap (λ (c : List Token × List Token). raw_of c.0) c in
       by stop none (sym (ap (λ (c : List Token × List Token). c.1) c) ∙ token) (whole ∙ ap (λ k. k ++ raw_behind stop after) none)
     where

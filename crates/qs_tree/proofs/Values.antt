@@ -82,8 +82,8 @@ bracket_before form b c e rest x i h =
     let last = and_both (b == 37 && c == 53) (e == 66 || e == 68) i in
     let two = and_both (b == 37) (c == 53) last.0 in
     let end : value_end (b ∷ c ∷ e ∷ rest) ≡ suc (suc (suc (value_end rest))) =
-        other_byte b (c ∷ e ∷ rest) (is_other b 37 two.0 refl)
-        ∙ ap suc (other_byte c (e ∷ rest) (is_other c 53 two.1 refl) ∙ ap suc (other_byte e rest (is_either e last.1))) in
+    other_byte b (c ∷ e ∷ rest) (is_other b 37 two.0 refl)
+    ∙ ap suc (other_byte c (e ∷ rest) (is_other c 53 two.1 refl) ∙ ap suc (other_byte e rest (is_either e last.1))) in
     let token : Token = record { kind = cond x Open Close; raw = b ∷ c ∷ e ∷ [] } in
     let goes = bracket_kind x in
     record {
@@ -158,9 +158,10 @@ no_bytes (b ∷ front) back e = cc
 pub plain_value : (bytes value rest : List ℕ) (found : Option code.Token) (new : List ℕ) → is_plain bytes ≡ true → value ≡ take (value_end bytes) bytes → rest ≡ drop (value_end bytes) bytes
     → rest ≡ raw_behind found new → IfNone found (new ≡ []) → (is_marked value ≡ false) × (new ≡ [])
 plain_value bytes value rest found new e front back behind_it end =
-    let whole = plain_end bytes e in
-    (ap is_marked (front ∙ ap (λ n. take n bytes) whole ∙ take-length bytes) ∙ plain_marked bytes e,
-    by found (sym (back ∙ ap (λ n. drop n bytes) whole ∙ drop_all (length bytes) bytes (le_refl (length bytes))) ∙ behind_it) end)
+    let whole = plain_end bytes e in (
+      ap is_marked (front ∙ ap (λ n. take n bytes) whole ∙ take-length bytes) ∙ plain_marked bytes e,
+      by found (sym (back ∙ ap (λ n. drop n bytes) whole ∙ drop_all (length bytes) bytes (le_refl (length bytes))) ∙ behind_it) end,
+    )
   where
     by : (found : Option code.Token) → [] ≡ raw_behind found new → IfNone found (new ≡ []) → new ≡ []
     by None e end = end

@@ -214,11 +214,7 @@ impl<'qs> Cursor<'qs> {
     }
 
     /// The same, but the answer's bytes begin at an earlier place.
-    pub fn run_from(
-        &mut self,
-        place: Place<'qs>,
-        until: Until,
-    ) -> (&'qs [u8], Option<Token<'qs>>)
+    pub fn run_from(&mut self, place: Place<'qs>, until: Until) -> (&'qs [u8], Option<Token<'qs>>)
         requires { IsLeft place.rest.now self.old.rest.now }
         ensures run { result.0.now ≡ taken place.entry.rest.now self.old.rest.now ++ raw_of (cut (ends_of until) (left self.old)).0 }
         ensures token { (cut (ends_of until) (left self.old)).1 ≡ behind result.1 (left self.new) }

@@ -56,7 +56,13 @@ pub fn parse_with<'qs>(
     }
     let taken = mem::replace(steps, Steps::new());
     let mut cursor = Cursor::new(input, config.get_form(), taken);
-    let tree = scan(alloc, &mut cursor, input, config.get_max_depth(), config.get_form());
+    let tree = scan(
+        alloc,
+        &mut cursor,
+        input,
+        config.get_max_depth(),
+        config.get_form(),
+    );
     *steps = cursor.into_steps();
     tree
 }

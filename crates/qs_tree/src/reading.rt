@@ -207,8 +207,18 @@ fn read_push<'qs>(
 {
     let next = cursor.next();
     let reason = match next {
-        Some(Token { kind: Kind::Open, .. }) => Reason::OpenBehindPush,
-        Some(Token { kind: Kind::Close | Kind::Other(_), .. }) => Reason::BehindPush,
+        Some(
+            Token {
+                kind: Kind::Open,
+                ..
+            },
+        ) => Reason::OpenBehindPush,
+        Some(
+            Token {
+                kind: Kind::Close | Kind::Other(_),
+                ..
+            },
+        ) => Reason::BehindPush,
         _ => {
             let leaf = read_value(alloc, cursor, next)?;
             return Ok(Pair {

@@ -54,9 +54,11 @@ pub(crate) fn conflict_error(alloc: Global, conflict: Conflict, site: Site<'_>) 
     let text = match conflict.clash {
         Clash::LeafOnMap(keys) => return leaf_on_map(alloc, spot, keys),
         Clash::PushOnLeaf => "invalid input: the same key is used for both a value and a sequence",
-        Clash::BelowSequence => "invalid input: the same key is used for both a sequence and a nested map",
+        Clash::BelowSequence =>
+            "invalid input: the same key is used for both a sequence and a nested map",
         Clash::BelowText => "invalid input: the same key is used for both a value and a nested map",
-        Clash::BelowUnit => "invalid input: the same key is used for both a unit value and a nested map",
+        Clash::BelowUnit =>
+            "invalid input: the same key is used for both a unit value and a nested map",
     };
     Error::parse_err(alloc, text, spot.position)
 }

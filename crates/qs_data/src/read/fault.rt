@@ -99,11 +99,19 @@ impl Fault<'_> {
 impl fmt::Display for Fault<'_> {
     fn fmt<W: fmt::Write>(&self, f: &mut fmt::Formatter<W>) -> fmt::Result {
         match self {
-            Fault::Uninitialized => f.write_str("internal error: attempted to deserialize unitialised value"),
-            Fault::MissingIndex { due, met } => write!(f, "missing index, expected: {due} got {met}"),
+            Fault::Uninitialized => f.write_str(
+                "internal error: attempted to deserialize unitialised value",
+            ),
+            Fault::MissingIndex { due, met } => write!(
+                f,
+                "missing index, expected: {due} got {met}"
+            ),
             Fault::TooManyElements => f.write_str("cannot deserialize more than u32::MAX elements"),
             Fault::SeveralValues => f.write_str("multiple values provided for non-sequence field"),
-            Fault::InvalidType { found, expected } => write!(f, "invalid type: {found}, expected {expected}"),
+            Fault::InvalidType { found, expected } => write!(
+                f,
+                "invalid type: {found}, expected {expected}"
+            ),
             Fault::MissingField(name) => write!(f, "missing field `{name}`"),
             Fault::DuplicateField(name) => write!(f, "duplicate field `{name}`"),
             Fault::UnknownVariant(name) => write!(f, "unknown variant `{name}`"),

@@ -22,12 +22,22 @@ use std::alloc::Global;
 /// The fields of a node: by their names among keys, and by their places among items.
 #[cycle(read)]
 #[tactic(auto, unfolding(qs_spec::specs::Read::struct_members))]
-pub(crate) fn read_struct(alloc: Global, strict: bool, fields: &Vec<Field>, value: &ParsedValue<'_>) -> Result<Vec<(String, Data)>>
+pub(crate) fn read_struct(
+    alloc: Global,
+    strict: bool,
+    fields: &Vec<Field>,
+    value: &ParsedValue<'_>,
+) -> Result<Vec<(String, Data)>>
     ensures { Gives (λ v. map (named data_of) v.items) (is_text (tree_of value.now)) result
         (struct_members (reads_names strict (fields_in fields.now.items)) (reads_places strict (fields_in fields.now.items)) (tree_of value.now)) }
 {
     match value {
-        ParsedValue::NoValue | ParsedValue::Null => read_entries(alloc, strict, fields, Entries::Empty),
+        ParsedValue::NoValue | ParsedValue::Null => read_entries(
+            alloc,
+            strict,
+            fields,
+            Entries::Empty,
+        ),
         ParsedValue::Map(map) => read_entries(alloc, strict, fields, Entries::Map(map)),
         ParsedValue::Sequence(items) => read_places(alloc, strict, fields, items),
         ParsedValue::String(text) => {
@@ -40,10 +50,15 @@ pub(crate) fn read_struct(alloc: Global, strict: bool, fields: &Vec<Field>, valu
 
 /// The fields by their names, and then a test of all keys.
 #[cycle(read)]
-pub(crate) fn read_entries(alloc: Global, strict: bool, fields: &Vec<Field>, entries: Entries<'_, '_>) -> Result<Vec<(String, Data)>>
+pub(crate) fn read_entries(
+    alloc: Global,
+    strict: bool,
+    fields: &Vec<Field>,
+    entries: Entries<'_, '_>,
+) -> Result<Vec<(String, Data)>>
     ensures { Gives (λ v. map (named data_of) v.items) (entries_are_text (entries_of entries.entry)) result
         (option_and_then (λ ms. cond (keys_are_text (entries_of entries.entry)) (Some ms) None)
-            (reads_names strict (fields_in fields.now.items) (entries_of entries.entry))) }
+        (reads_names strict (fields_in fields.now.items) (entries_of entries.entry))) }
 {
     let tested = test_keys(entries);
     let members = read_names(alloc, strict, fields, entries)?;
@@ -54,7 +69,12 @@ pub(crate) fn read_entries(alloc: Global, strict: bool, fields: &Vec<Field>, ent
 // The fields by their names, in their order.
 #[cycle(read)]
 #[tactic(auto, unfolding(qs_spec::specs::Read::reads))]
-fn read_names(alloc: Global, strict: bool, fields: &Vec<Field>, entries: Entries<'_, '_>) -> Result<Vec<(String, Data)>>
+fn read_names(
+    alloc: Global,
+    strict: bool,
+    fields: &Vec<Field>,
+    entries: Entries<'_, '_>,
+) -> Result<Vec<(String, Data)>>
     requires { NumbersFit (entries_of entries) }
     ensures { Gives (λ v. map (named data_of) v.items) (entries_are_text (entries_of entries.entry)) result
         (reads_names strict (fields_in fields.now.items) (entries_of entries.entry)) }
@@ -72,11 +92,16 @@ fn read_names(alloc: Global, strict: bool, fields: &Vec<Field>, entries: Entries
 
 // A field by its name, if it isn't left out.
 #[cycle(read)]
-fn read_field(alloc: Global, strict: bool, field: &Field, entries: Entries<'_, '_>) -> Result<Option<Data>>
+fn read_field(
+    alloc: Global,
+    strict: bool,
+    field: &Field,
+    entries: Entries<'_, '_>,
+) -> Result<Option<Data>>
     requires { NumbersFit (entries_of entries) }
     ensures { let f = field_of field.now in
         Gives (option_map data_of) (entries_are_text (entries_of entries.entry)) result
-            (read_field f.2 (is_option_shape f.1) (reads strict f.1) (found f.0 (entries_of entries.entry))) }
+        (read_field f.2 (is_option_shape f.1) (reads strict f.1) (found f.0 (entries_of entries.entry))) }
 {
     match find(entries, &field.name) {
         Found::Missing => {
@@ -105,7 +130,12 @@ fn is_option(shape: &Shape) -> bool
 // The fields by their places.
 #[cycle(read)]
 #[tactic(auto, unfolding(qs_spec::specs::Read::reads))]
-fn read_places(alloc: Global, strict: bool, fields: &Vec<Field>, items: &[ParsedValue<'_>]) -> Result<Vec<(String, Data)>>
+fn read_places(
+    alloc: Global,
+    strict: bool,
+    fields: &Vec<Field>,
+    items: &[ParsedValue<'_>],
+) -> Result<Vec<(String, Data)>>
     ensures { Gives (λ v. map (named data_of) v.items) (items_are_text (items_from (map tree_of items.now))) result
         (reads_places strict (fields_in fields.now.items) (items_from (map tree_of items.now))) }
 {
@@ -122,10 +152,16 @@ fn read_places(alloc: Global, strict: bool, fields: &Vec<Field>, items: &[Parsed
 
 // A field by its place, if it isn't left out.
 #[cycle(read)]
-fn read_place(alloc: Global, strict: bool, field: &Field, items: &[ParsedValue<'_>], place: usize) -> Result<Option<Data>>
+fn read_place(
+    alloc: Global,
+    strict: bool,
+    field: &Field,
+    items: &[ParsedValue<'_>],
+    place: usize,
+) -> Result<Option<Data>>
     ensures { let f = field_of field.now in
         Gives (option_map data_of) (items_are_text (items_from (map tree_of items.now))) result
-            (read_place f.2 (reads strict f.1) (items_from (map tree_of (drop place items.now)))) }
+        (read_place f.2 (reads strict f.1) (items_from (map tree_of (drop place items.now)))) }
 {
     match items.get(place) {
         Some(item) => Ok(Some(read(alloc, strict, &field.shape, item)?)),

@@ -66,7 +66,10 @@ fn find_in_map<'t, 'qs>(map: &'t ParsedMap<'qs>, name: &str) -> Found<'t, 'qs>
 }
 
 // The only one of two values.
-fn either<'t, 'qs>(a: Option<&'t ParsedValue<'qs>>, b: Option<&'t ParsedValue<'qs>>) -> Found<'t, 'qs>
+fn either<'t, 'qs>(
+    a: Option<&'t ParsedValue<'qs>>,
+    b: Option<&'t ParsedValue<'qs>>,
+) -> Found<'t, 'qs>
     ensures { Finds result (value_in a.entry ++ value_in b.entry) }
 {
     match (a, b) {

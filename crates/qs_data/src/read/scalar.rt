@@ -48,7 +48,12 @@ pub(crate) fn read_bool(alloc: Global, strict: bool, value: &ParsedValue<'_>) ->
 }
 
 /// An unsigned number: the last text.
-pub(crate) fn read_unsigned(alloc: Global, strict: bool, width: Width, value: &ParsedValue<'_>) -> Result<Data>
+pub(crate) fn read_unsigned(
+    alloc: Global,
+    strict: bool,
+    width: Width,
+    value: &ParsedValue<'_>,
+) -> Result<Data>
     ensures gives { Gives data_of (is_text (tree_of value.now)) result
         (read_scalar strict None (unsigned_data (bits_of width)) (tree_of value.now)) }
     ensures frugal { IsFrugal result (read_scalar strict None (unsigned_data (bits_of width)) (tree_of value.now)) }
@@ -61,7 +66,12 @@ pub(crate) fn read_unsigned(alloc: Global, strict: bool, width: Width, value: &P
 }
 
 /// A signed number: the last text.
-pub(crate) fn read_signed(alloc: Global, strict: bool, width: Width, value: &ParsedValue<'_>) -> Result<Data>
+pub(crate) fn read_signed(
+    alloc: Global,
+    strict: bool,
+    width: Width,
+    value: &ParsedValue<'_>,
+) -> Result<Data>
     ensures gives { Gives data_of (is_text (tree_of value.now)) result
         (read_scalar strict None (signed_data (bits_of width)) (tree_of value.now)) }
     ensures frugal { IsFrugal result (read_scalar strict None (signed_data (bits_of width)) (tree_of value.now)) }
@@ -119,7 +129,9 @@ fn scalar_text<'t>(
         ParsedValue::NoValue | ParsedValue::Null => Ok(None),
         ParsedValue::String(text) => Ok(Some(text.as_slice())),
         ParsedValue::Sequence(items) => Ok(Some(last_text(alloc, strict, items, expected)?)),
-        ParsedValue::Map(_) | ParsedValue::Uninitialized => Err(Fault::mismatch(alloc, value, expected)),
+        ParsedValue::Map(_) | ParsedValue::Uninitialized => Err(Fault::mismatch(
+            alloc, value, expected,
+        )),
     }
 }
 

@@ -26,7 +26,7 @@ fields::read_field-returns-in_err-read-in-One t c =
     let r = reads c.args.strict (shape_of (out-Field d).shape) in
     let one : found f.0 es ≡ n ∷ [] = ap (λ name. found name es) (field_name d ∙ sym c.deref.ensures) ∙ c.in-One.ensures in
     let given = gives_exit (option_map data_of) (is_text n) (entries_are_text es) c.from_residual.result c.in_err-read-in-One.field-0.0 (r n) (read_field f.2 (is_option_shape f.1) r (found f.0 es))
-        c.from_residual.ensures.1 c.in_err-read-in-One.ensures.gives (field_none f.2 (is_option_shape f.1) r (found f.0 es) n one) (found_bad f.0 es n [] one) in
+    c.from_residual.ensures.1 c.in_err-read-in-One.ensures.gives (field_none f.2 (is_option_shape f.1) r (found f.0 es) n one) (found_bad f.0 es n [] one) in
     subst (λ s. Gives (option_map data_of) (entries_are_text es) c.from_residual.result (read_field f.2 (is_option_shape f.1) (reads c.args.strict s) (found f.0 es))) (sym (field_shape d)) given
 
 pub fields::read_names-loop-field-preserved : goal.fields::read_names-loop-field-preserved
@@ -59,7 +59,7 @@ fields::read_place-returns-in_err-read-in-Some t c =
     let r = reads c.args.strict (shape_of (out-Field d).shape) in
     let here = item_at ts i n look.3.0 look.1 in
     let given = gives_exit (option_map data_of) (is_text (tree_of n)) (items_are_text (items_from (map tree_of ts))) c.from_residual.result c.in_err-read-in-Some.field-0.0 (r (tree_of n)) (read_place f.2 r xs)
-        c.from_residual.ensures.1 c.in_err-read-in-Some.ensures.gives (λ e. place_some f.2 r xs _ (tree_of n) here ∙ ap (option_map Some) e) (item_bad ts i n look.3.0 look.1) in
+    c.from_residual.ensures.1 c.in_err-read-in-Some.ensures.gives (λ e. place_some f.2 r xs _ (tree_of n) here ∙ ap (option_map Some) e) (item_bad ts i n look.3.0 look.1) in
     subst (λ s. Gives (option_map data_of) (items_are_text (items_from (map tree_of ts))) c.from_residual.result (read_place f.2 (reads c.args.strict s) xs)) (sym (field_shape d)) given
 
 pub fields::read_place-returns-in_ok-read-in-Some : goal.fields::read_place-returns-in_ok-read-in-Some

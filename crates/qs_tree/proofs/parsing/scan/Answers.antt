@@ -64,4 +64,4 @@ loop-item-init c = record {
   least = omega arith;
   small = λ small. small_start _ _ small refl;
   most = omega arith;
-  }
+}

@@ -14,7 +14,7 @@ invariant-loop-item l = record {
   least : spent l.fn.cursor ≤ spent l.cursor;
   small : TakesNoMemory l.fn.cursor.rest.now → StaysSmall l.cursor.rest.now l.tree;
   most : spent l.cursor ≤ spent l.fn.cursor + slack l.cursor.rest.now;
-  }
+}
 
 abbrev pub decreases-loop-item : goal.decreases-loop-item
 decreases-loop-item l = length l.cursor.rest.now

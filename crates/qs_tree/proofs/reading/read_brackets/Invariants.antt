@@ -13,7 +13,7 @@ invariant-loop-room l = record {
   form : l.cursor.form ≡ l.fn.cursor.form;
   shorter : length l.cursor.rest.now ≤ length l.fn.cursor.rest.now;
   spent : spent l.cursor ≡ spent l.fn.cursor;
-  }
+}
 
 abbrev pub decreases-loop-room : goal.decreases-loop-room
 decreases-loop-room l = l.room

@@ -25,6 +25,6 @@ returns-clause-pair c =
     let key_is = c.run_from.ensures.run ∙ ap (λ l. l ++ raw_of (cut ends_last (left c.next.new.self)).0) (taken_behind bracket.place.rest.now (bracket.raw.now ++ first.raw.now) c.next.new.self.rest.now whole) in
     pair_as _ _ c.read_plain.result c.read_plain.new.cursor
     (ap (read_brackets 0 (path_of keys) bracket.raw.now) c.in-Some.ensures.token
-        ∙ last_found (path_of keys) bracket.raw.now key (token_of first) (left c.next.new.self) stop (sym c.is_close.ensures ∙ c.if-is_close.false) key_is c.run_from.ensures.token
-        ∙ ap (λ p. with_leaf (plain p) (read_value stop)) (sym (path_more keys c.push.new.self.items c.in_ok-read_key.field-0 key c.in_ok-push.ensures.items c.in_ok-read_key.ensures.key)))
+    ∙ last_found (path_of keys) bracket.raw.now key (token_of first) (left c.next.new.self) stop (sym c.is_close.ensures ∙ c.if-is_close.false) key_is c.run_from.ensures.token
+    ∙ ap (λ p. with_leaf (plain p) (read_value stop)) (sym (path_more keys c.push.new.self.items c.in_ok-read_key.field-0 key c.in_ok-push.ensures.items c.in_ok-read_key.ensures.key)))
     c.read_plain.ensures.pair

@@ -12,7 +12,7 @@ invariant-loop-token l = record {
   run : taken l.place.rest.now l.fn.self.rest.now ++ raw_of (cut (ends_of l.until) (left l.fn.self)).0 ≡ taken l.place.rest.now l.self.rest.now ++ raw_of (cut (ends_of l.until) (left l.self)).0;
   token : (cut (ends_of l.until) (left l.fn.self)).1 ≡ (cut (ends_of l.until) (left l.self)).1;
   spent : spent l.self ≡ spent l.fn.self;
-  }
+}
 
 abbrev pub decreases-loop-token : goal.decreases-loop-token
 decreases-loop-token l = length l.self.rest.now

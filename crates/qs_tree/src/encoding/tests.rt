@@ -22,9 +22,9 @@ fn writes_both_modes(rt: HostRuntime) -> Result<(), Fail> {
             b"hello%2C%20world%21".as_slice(),
         ),
         (
-            b"a-b.c_d*E9".as_slice(),
-            b"a-b.c_d*E9".as_slice(),
-            b"a-b.c_d*E9".as_slice(),
+            b"a-b.c_d*Z9".as_slice(),
+            b"a-b.c_d*Z9".as_slice(),
+            b"a-b.c_d*Z9".as_slice(),
         ),
         (
             b"a[b]=c&d".as_slice(),

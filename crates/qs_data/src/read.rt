@@ -56,6 +56,7 @@ pub(crate) fn read(
             let held = read(alloc, strict, part, value)?;
             Ok(Data::Newtype(Box::new(alloc, held)?))
         }
+        // the other shapes never come here: the deserializer refuses them before anything is read
         _ => Err(Error::OutOfMemory),
     }
 }

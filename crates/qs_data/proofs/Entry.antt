@@ -1,5 +1,5 @@
 -- One entry: how it is spelled, and what its puts leave.
-use Rattle.std.proofs.Common.{◌≡◌, ℕ, ◌<◌, ◌≤◌, ◌+◌, Bool, true, false, not, eqb, cond, List, [], ◌∷◌, ◌++◌, length, take, drop, get_or, map, refl, sym, ap, ◌∙◌, subst, Option, Some, None, Result, Ok, Err, append_assoc, append-nil, arith}
+use Rattle.std.proofs.Common.{◌≡◌, ℕ, ◌<◌, ◌+◌, Bool, true, not, eqb, cond, List, [], ◌∷◌, ◌++◌, length, take, drop, get_or, refl, sym, ap, ◌∙◌, subst, Option, Some, Err, append_assoc, append-nil, arith}
 use Rattle.std.proofs.lemmas.Bool.{ne_eqb}
 use Rattle.std.proofs.lemmas.List.{drop_more}
 use Rattle.std.proofs.lemmas.List.Elements.{All-take}
@@ -9,7 +9,7 @@ use Rattle.std.specs.List.{All}
 use Rattle.std.specs.Io.KnownBytes.{Appends}
 use Rattle.qs_spec.specs.Config.{Config}
 use Rattle.qs_spec.specs.Escape.{encoded}
-use Rattle.qs_spec.specs.Entry.{Path, Entry, Output, one}
+use Rattle.qs_spec.specs.Entry.{Path, Output}
 use Rattle.qs_spec.specs.Written.{written, started_after, entry_text, path_text, brackets_text, value_text, has_key, open_bytes, close_bytes}
 use Rattle.qs_tree.specs.declared.error.Error.{Error}
 use Rattle.qs_tree.specs.declared.error.Error.TheVariants.{Custom, MaxSerializationDepthExceeded, Parse, Unsupported, FromUtf8, Io, ParseInt, Utf8, OutOfMemory, Failed}

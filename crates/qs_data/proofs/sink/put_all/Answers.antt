@@ -1,4 +1,4 @@
-use Rattle.std.proofs.Common.{◌≡◌, ◌∙◌, ap, sym, false, ◌||◌, eqb, ◌&&◌, ltb, length, arith, rules}
+use Rattle.std.proofs.Common.{◌∙◌, ap, ◌||◌, ◌&&◌, ltb, length}
 use Rattle.std.proofs.lemmas.Bool.{ne_eqb}
 use Rattle.std.proofs.lemmas.List.{take_rest}
 use Rattle.std.proofs.Math.Bool.{or-false}

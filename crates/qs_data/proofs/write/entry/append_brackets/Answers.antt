@@ -1,9 +1,8 @@
-use Rattle.std.proofs.Common.{◌≡◌, ◌++◌, ◌∙◌, ap, sym, subst, drop, ◌+◌}
+use Rattle.std.proofs.Common.{◌++◌, ◌∙◌, ap, sym, subst, drop, ◌+◌}
 use Rattle.std.specs.List.{All}
 use Rattle.std.proofs.lemmas.List.Elements.{All-append}
-use Rattle.qs_spec.specs.Escape.{encoded}
-use Rattle.qs_spec.specs.Written.{brackets_text, open_bytes, close_bytes}
-use Rattle.qs_data.specs.Scalars.{scalar_text, path_of}
+use Rattle.qs_spec.specs.Written.{brackets_text}
+use Rattle.qs_data.specs.Scalars.{path_of}
 use Rattle.qs_data.specs.Writes.{IsVisible}
 use Rattle.qs_data.proofs.Visible.{open_visible, close_visible}
 use Rattle.qs_data.proofs.Entry.{brackets_more, brackets_turn}

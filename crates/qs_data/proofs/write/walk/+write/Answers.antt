@@ -1,4 +1,4 @@
-use Rattle.std.proofs.Common.{◌≡◌, ap, ◌∙◌, sym, subst, arith, length, map, ◌<◌, ◌+◌, ℕ, List, refl, drop, vec_len, ⊎_elim}
+use Rattle.std.proofs.Common.{◌∙◌, sym, subst, arith, length, map, ◌<◌, ◌+◌, ℕ, List, refl, drop, vec_len, ⊎_elim}
 use Rattle.std.proofs.lemmas.Bool.{eqb-false}
 use Rattle.std.specs.declared.string.String.{String}
 use Rattle.std.specs.declared.alloc.Global.{Global}
@@ -12,7 +12,7 @@ use Rattle.qs_data.specs.Views.{data_of, named, pair_of}
 use Rattle.qs_data.specs.Scalars.{scalar_text, path_of}
 use Rattle.qs_data.specs.Writes.{Stops, Writes, text_in}
 use Rattle.qs_data.proofs.Wrote.{Wrote, continue_step, continue_stop, continue_end, writes_exit, adds_nothing}
-use Rattle.qs_data.proofs.Walk.{elements_here, elements_end, pairs_here, pairs_with_key, pairs_without_key, pairs_end, members_here, members_end, seq_elements, tup_elements, map_pairs}
+use Rattle.qs_data.proofs.Walk.{elements_here, elements_end, pairs_with_key, pairs_without_key, pairs_end, members_here, members_end, seq_elements, tup_elements, map_pairs}
 use Rattle.qs_data.proofs.write.walk.+write.Goals as goal
 
 pub write_data-returns-else-is_empty-clause-writes : goal.write_data-returns-else-is_empty-clause-writes

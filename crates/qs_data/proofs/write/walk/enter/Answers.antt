@@ -1,4 +1,4 @@
-use Rattle.std.proofs.Common.{◌≡◌, ◌∙◌, ap, sym, length, ◌<◌, ◌≤◌, ◌++◌, ◌∷◌, [], arith, rules, map, List}
+use Rattle.std.proofs.Common.{◌∙◌, ap, sym, length, ◌<◌, ◌≤◌, ◌∷◌, [], arith}
 use Rattle.std.proofs.lemmas.List.{length-map, map-append}
 use Rattle.qs_data.specs.Scalars.{scalar_text, path_of}
 use Rattle.qs_data.proofs.Walk.{deeper_goes, stops_too_deep, memory_exit}

@@ -1,8 +1,6 @@
 #!/usr/bin/env bash
-# The answered cases of scripts/answered/program.tsv whose command the program knows, on the built program.
+# The answered cases of scripts/answered/program.tsv, on the built program.
 source "$(dirname "${BASH_SOURCE[0]}")/support/counting.sh"
-
-commands='flat'
 
 # bytes HEX: the bytes that the hexadecimal digits write, none for `-`.
 bytes() {
@@ -17,11 +15,8 @@ number=0
 while IFS=$'\t' read -r arguments input wanted output; do
     number=$((number + 1))
     read -ra words <<<"$arguments"
-    [[ " $commands " == *" ${words[0]} "* ]] || continue
     bytes "$input" >"$room/input"
     bytes "$output" >"$room/wanted"
-    # the hint behind the fault of a key with a bracket isn't there yet
-    grep -q '^Invalid field contains an encoded bracket' "$room/wanted" && continue
     "$program" "${words[@]}" <"$room/input" >"$room/output" 2>/dev/null
     status=$?
     if [ "$status" -ne "$wanted" ]; then

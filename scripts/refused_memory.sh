@@ -52,6 +52,12 @@ refuse_each 'age=24&occupation=%53tudent&name=Alice+B.&note=n&active&x=1&x=2' 0 
 refuse_each "name=$long&age=1&occupation=b" 0 "name=$long&age=1&occupation=b&note" flat
 refuse_each 'name=a' 1 'error: missing field `age`' flat
 refuse_each '=1&name=a' 1 "error: parsing failed with error: 'invalid input: the same key is used for both a value and a nested map' at position: 10" flat
+address='address[city]=Carrot+City&address[street]=Special-Street*+No.+11&address[postcode]=12345'
+refuse_each "user_ids=7&user_ids=8&phone=12345&name=A%63me&$address&id=42" 0 \
+    "id=42&name=Acme&phone=12345&$address&user_ids[]=7&user_ids[]=8" params --format empty
+refuse_each 'id=1&name=a&phone=2&address=c&address=s&address=p&user_ids=7' 1 'error: Maximum serialization depth `0` exceeded' params --depth 0
+refuse_each 'a[b]=1&a[c][]=2&d&a[c][]=%20&%5B=%5B' 0 "{'%5B':'%5B','a':{'b':'1','c':['2','%20']},'d':()}" any
+refuse_each 'a[0]=x&a[2]=y' 1 'error: missing index, expected: 1 got 2' any
 refuse_each '' 2 'usage: qs_tool flat|params|any [--form] [--depth N] [--format indexed|empty|unindexed] [--duplicates last|error]' round
 
 report

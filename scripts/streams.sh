@@ -4,6 +4,7 @@ source "$(dirname "${BASH_SOURCE[0]}")/support/counting.sh"
 
 person='name=a&age=1&occupation=b'
 line=$person$'&note\n'
+order='id=1&name=a&phone=2&address[city]=c&address[street]=s&address[postcode]=p&user_ids[0]=7'
 
 # ended WHAT STATUS: the last run ended with STATUS.
 ended() {
@@ -14,18 +15,30 @@ ended() {
     fi
 }
 
-printf '%s' "$person" | "$program" flat >&-
-status=${PIPESTATUS[1]}
-ended 'closed standard output' 3
+# run_on INPUT COMMAND: runs the command on the input, with the standard output that it is given.
+run_on() {
+    printf '%s' "$1" | "$program" "$2"
+    status=${PIPESTATUS[1]}
+}
+
+run_on "$person" flat >&-
+ended 'flat, closed standard output' 3
+run_on "$order" params >&-
+ended 'params, closed standard output' 3
+run_on "$order" any >&-
+ended 'any, closed standard output' 3
 
 "$program" round >&- </dev/null
 status=$?
 ended 'closed standard output and wrong arguments' 3
 
 if [ -w /dev/full ]; then
-    printf '%s' "$person" | "$program" flat >/dev/full
-    status=${PIPESTATUS[1]}
-    ended 'a full device' 3
+    run_on "$person" flat >/dev/full
+    ended 'flat, a full device' 3
+    run_on "$order" params >/dev/full
+    ended 'params, a full device' 3
+    run_on "$order" any >/dev/full
+    ended 'any, a full device' 3
 
     "$program" </dev/null >/dev/full
     status=$?
@@ -47,13 +60,22 @@ expect 'a folder as standard input' 3 ''
 status=$?
 ended 'closed standard input and no command' 2
 
-# a pipe that hands over a byte at a time
-for ((i = 0; i < ${#person}; i++)); do
-    printf '%s' "${person:i:1}"
-    sleep 0.002
-done | "$program" flat >"$room/output"
+# in_pieces INPUT: hands over a byte at a time
+in_pieces() {
+    local i
+    for ((i = 0; i < ${#1}; i++)); do
+        printf '%s' "${1:i:1}"
+        sleep 0.002
+    done
+}
+
+in_pieces "$person" | "$program" flat >"$room/output"
 status=${PIPESTATUS[1]}
-expect 'an input that comes in pieces' 0 "$line"
+expect 'flat, an input that comes in pieces' 0 "$line"
+
+in_pieces "$order" | "$program" params >"$room/output"
+status=${PIPESTATUS[1]}
+expect 'params, an input that comes in pieces' 0 "$order"$'\n'
 
 # more than one read, at and beside the length of one
 for length in 8191 8192 8193 100000; do

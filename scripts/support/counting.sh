@@ -1,13 +1,15 @@
-# Counts what passes and what fails on the built program. A script sources this first and ends with `report`.
+# Counts what passes and what fails on a built program, qs_tool where the script names no other `crate`. A script sources this first
+# and ends with `report`.
 set -u
 root=$(cd "$(dirname "${BASH_SOURCE[0]}")/../.." && pwd) || exit 1
-program=${1:-$root/crates/qs_tool/out/qs_tool}
+crate=${crate:-qs_tool}
+program=${1:-$root/crates/$crate/out/$crate}
 subject=$(basename "$0" .sh)
 passed=0
 failed=0
 
 if [ ! -x "$program" ]; then
-    echo "  there is no program $program: run ./qs_tool once"
+    echo "  there is no program $program: run 'rt run' in crates/$crate once"
     echo "$subject: 0 passed, 1 failed"
     exit 1
 fi

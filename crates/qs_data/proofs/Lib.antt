@@ -4,6 +4,7 @@ pub mod Wrote
 pub mod Visible
 pub mod Entry
 pub mod Walk
+pub mod Weights
 pub mod Refusals
 pub mod Numbers
 pub mod Scalars
@@ -11,3 +12,10 @@ pub mod Found
 pub mod Entries
 pub mod Steps
 pub mod Fields
+pub mod Variants
+pub mod Items
+pub mod Pairs
+pub mod Tuples
+pub mod Sizes
+pub mod Nesting
+pub mod Anything

@@ -1,11 +1,16 @@
 -- An error of a part as the error of the whole.
-use Rattle.std.proofs.Common.{◌≡◌, ℕ, List, Bool, true, false, ◌&&◌, Option, Some, None, refl, ap, ◌∙◌, sym, Result, Ok, Err, subst}
+use Rattle.std.proofs.Common.{◌≡◌, ℕ, List, Bool, true, false, ◌&&◌, Option, None, refl, ◌∙◌, sym, Result, Ok, Err, subst, inl, inr}
+use Rattle.std.specs.Prelude.{◌==◌}
+use Rattle.std.specs.List.{list_any}
 use Rattle.std.specs.Result.{IsErrAnd}
+use Rattle.std.proofs.lemmas.Bool.{cases_Bool, MatchBool-at_true, MatchBool-at_false}
 use Rattle.std.specs.Str.{IsUtf8, is_utf8}
 use Rattle.std.proofs.lemmas.Str.{is_utf8-from_IsUtf8, IsUtf8-from_is_utf8}
 use Rattle.qs_tree.specs.declared.error.Error.{Error}
 use Rattle.qs_tree.specs.declared.error.Error.TheVariants.{Custom, MaxSerializationDepthExceeded, Parse, Unsupported, FromUtf8, Io, ParseInt, Utf8, OutOfMemory, Failed}
+use Rattle.qs_tree.specs.Error.{IsCustomSaying}
 use Rattle.qs_data.specs.Gives.{Gives, Refuses, IsFault, Spares, IsFrugal}
+use Rattle.qs_data.specs.Hint.{IsToldOfKey, IsHinted, hinted_text}
 
 -- what is refused of a part is refused of the whole
 pub refused : {Y Z : Type 0} (t u : Bool) (e : Error) (r : Option Y) (s : Option Z) → Refuses t e r → (r ≡ None → s ≡ None) → (t ≡ false → u ≡ false) → Refuses u e s
@@ -83,6 +88,38 @@ fault t (ParseInt c) r h n = absurd h
 fault t (Utf8 c) r h n = absurd h
 fault t OutOfMemory r h n = tt
 fault t Failed r h n = absurd h
+
+-- an error that says something of a tree is a fault
+says : (e : Error) (text : Option (List ℕ)) → IsCustomSaying e text → IsFault e
+says (Custom m) text h = tt
+says (MaxSerializationDepthExceeded d) text h = h
+says (Parse m p) text h = h
+says Unsupported text h = h
+says (FromUtf8 c) text h = h
+says (Io c) text h = h
+says (ParseInt c) text h = h
+says (Utf8 c) text h = h
+says OutOfMemory text h = tt
+says Failed text h = h
+
+with_hint : {Y : Type 0} (t : Bool) (e told : Error) (r : Option Y) → IsHinted e told → Refuses t e r → Refuses t told r
+with_hint t (Custom m) told r h f = fault t told r (says told (hinted_text (Custom m)) h) f
+with_hint t (MaxSerializationDepthExceeded d) told r h f = absurd f
+with_hint t (Parse m p) told r h f = absurd f
+with_hint t Unsupported told r h f = absurd f
+with_hint t (FromUtf8 c) told r h f = absurd f
+with_hint t (Io c) told r h f = absurd f
+with_hint t (ParseInt c) told r h f = absurd f
+with_hint t (Utf8 c) told r h f = fault t told r (says told (hinted_text (Utf8 c)) h) f.0
+with_hint t OutOfMemory told r h f = subst (λ x. Refuses t x r) (sym h) tt
+with_hint t Failed told r h f = absurd f
+
+-- a key's error is told where the key is refused
+pub told_of_key : {Y : Type 0} (t : Bool) (key : List ℕ) (e told : Error) (r : Option Y) → IsToldOfKey key e told → Refuses t e r → Refuses t told r
+told_of_key t key e told r h f = elim (cases_Bool (list_any (λ b. b == 91) key)) [
+  | inl is ↦ with_hint t e told r (MatchBool-at_true (IsHinted e told) (told ≡ e) is h) f
+  | inr not ↦ subst (λ x. Refuses t x r) (sym (MatchBool-at_false (IsHinted e told) (told ≡ e) not h)) f
+]
 
 -- tests joined
 pub and_left : (a b : Bool) → a ≡ false → (a && b) ≡ false

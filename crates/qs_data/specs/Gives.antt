@@ -23,6 +23,14 @@ abbrev pub Gives : {X Y : Type 0} → (X → Y) → Bool → Result X Error → 
 Gives view all_text (Ok x) r = r ≡ Some (view x)
 Gives view all_text (Err e) r = Refuses all_text e r
 
+-- no other error than a fault, a text that isn't UTF-8, and want of memory
+abbrev pub OnlyCustomUtf8OrOutOfMemory : {X : Type 0} → Result X Error → Type 0
+OnlyCustomUtf8OrOutOfMemory (Ok x) = ⊤
+OnlyCustomUtf8OrOutOfMemory (Err (Custom message)) = ⊤
+OnlyCustomUtf8OrOutOfMemory (Err (Utf8 cause)) = ⊤
+OnlyCustomUtf8OrOutOfMemory (Err OutOfMemory) = ⊤
+OnlyCustomUtf8OrOutOfMemory _ = ⊥
+
 -- the error says that memory ran out only where there is nothing to answer
 abbrev pub Spares : {Y : Type 0} → Error → Option Y → Type 0
 Spares OutOfMemory r = r ≡ None

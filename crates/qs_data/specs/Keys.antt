@@ -1,5 +1,5 @@
 -- What is found under a name.
-use Rattle.std.specs.Prelude.{◌≡◌, ℕ, zero, suc, ◌<◌, ◌^◌, ⊤, Bool, true, cond, List, [], ◌∷◌, Option, Some, None, decimal}
+use Rattle.std.specs.Prelude.{◌≡◌, ℕ, zero, suc, ◌<◌, ◌^◌, ⊤, Bool, true, false, Result, Ok, Err, List, [], ◌∷◌, Option, Some, None, decimal}
 use Rattle.std.specs.Borrow.{Bor}
 use Rattle.qs_tree.specs.declared.value.ParsedValue.{ParsedValue}
 use Rattle.qs_spec.specs.Segment.{Segment}
@@ -45,9 +45,10 @@ abbrev pub TellsNumber : Option ℕ → List ℕ → Type 0
 TellsNumber None name = (n : ℕ) → n < 2 ^ 32 → decimal n ≡ name → ⊥
 TellsNumber (Some n) name = (n < 2 ^ 32) × (decimal n ≡ name)
 
--- a test as an answer
-abbrev pub passed : Bool → Option Bool
-passed b = cond b (Some true) None
+-- the answer to a test
+abbrev pub Tells : {X E : Type 0} → Result X E → Bool → Type 0
+Tells (Ok x) test = test ≡ true
+Tells (Err e) test = test ≡ false
 
 -- the entries from a place on
 abbrev pub entries_after : ℕ → t.Entries → t.Entries

@@ -1,6 +1,6 @@
 //! The deserializer: a querystring that was parsed, and is to be read by a shape.
 
-ghost use Rattle.std.specs.Prelude.{◌≡◌, ◌+◌, ◌≤◌, false, true, length, IfOk, IfErr, IsOk, IsErr};
+ghost use Rattle.std.specs.Prelude.{◌≡◌, ◌+◌, ◌≤◌, true, length, IfOk, IsOk};
 ghost use Rattle.qs_spec.specs.Config.{default};
 ghost use Rattle.qs_spec.specs.Shape.{is_distinct};
 ghost use Rattle.qs_spec.specs.Tree.{IsTree, IsRefused};
@@ -8,15 +8,13 @@ ghost use Rattle.qs_tree.specs.Error.{IsParse, IfParse, OnlyParseOrOutOfMemory};
 ghost use Rattle.qs_tree.specs.Small.{TakesNoMemory};
 ghost use Rattle.qs_data.specs.Views.{data_of, shape_of};
 ghost use Rattle.qs_data.specs.Text.{is_text};
-ghost use Rattle.qs_data.specs.Gives.{Gives, IsFrugal, IsFault, takes_no_memory};
-ghost use Rattle.qs_data.specs.Supported.{is_supported};
+ghost use Rattle.qs_data.specs.Gives.{Gives, IsFrugal, OnlyCustomUtf8OrOutOfMemory, takes_no_memory};
 ghost use Rattle.qs_data.specs.Parsed.{parsed_of, reading};
 
 use crate::data::Data;
 use crate::read::read;
 use crate::shape::Shape;
-use crate::supported::is_supported;
-use qs_tree::{Config, DuplicateKeyBehavior, Error, ParsedValue, Result, parse};
+use qs_tree::{Config, DuplicateKeyBehavior, ParsedValue, Result, parse};
 use std::alloc::Global;
 
 /// A querystring that was parsed, to be read by a [`Shape`].
@@ -66,19 +64,16 @@ impl<'qs> Deserializer<'qs> {
     /// [`Custom`](Error::Custom) with the first fault that was met, or [`Utf8`](Error::Utf8) where a text that is read isn't
     /// UTF-8. Fields are read in the shape's order, then the other keys are looked at.
     ///
-    /// So far the shape may hold scalars, options, structs and types of their own; any other is refused with
-    /// `unsupported shape` before anything is read. Memory is taken for what the data keep and for a fault's message; data
-    /// of a scalar without bytes take none.
+    /// The items of a list are read in their order, and the pairs of a map in the order of its keys, of each the key first. The
+    /// fault of a key that holds `[` is told with a hint at form encoding.
+    ///
+    /// Memory is taken for what the data keep and for a fault's message; data of a scalar without bytes take none.
     pub fn read(self, alloc: Global, shape: &Shape) -> Result<Data>
         requires { is_distinct (shape_of shape.now) ≡ true }
-        ensures exact { is_supported (shape_of shape.now) ≡ true → Gives data_of (is_text (parsed_of self.entry).tree) result (reading (parsed_of self.entry) (shape_of shape.now)) }
+        ensures exact { Gives data_of (is_text (parsed_of self.entry).tree) result (reading (parsed_of self.entry) (shape_of shape.now)) }
         ensures no_memory { takes_no_memory (shape_of shape.now) ≡ true → IsFrugal result (reading (parsed_of self.entry) (shape_of shape.now)) }
-        ensures unsupported { is_supported (shape_of shape.now) ≡ false → IfErr result IsFault }
-        ensures nothing { is_supported (shape_of shape.now) ≡ false → IsErr result }
+        ensures errors { OnlyCustomUtf8OrOutOfMemory result }
     {
-        if !is_supported(shape) {
-            return Err(Error::custom(alloc, "unsupported shape", &()));
-        }
         let strict = self.config.get_duplicates() == DuplicateKeyBehavior::Error;
         read(alloc, strict, shape, &self.tree)
     }

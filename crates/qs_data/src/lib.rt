@@ -4,12 +4,12 @@
 mod copy;
 mod data;
 mod deserializer;
+mod discard;
 mod distinct;
 mod read;
 mod serializer;
 mod shape;
 mod sink;
-mod supported;
 mod write;
 
 pub use data::Data;

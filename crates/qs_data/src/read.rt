@@ -1,27 +1,38 @@
 //! Reading a tree by a shape.
 
+mod any;
 mod fault;
 mod fields;
+mod items;
+mod key;
 mod keys;
+mod lists;
+mod maps;
+mod nested;
 mod scalar;
+mod variants;
 mod width;
 
-ghost use Rattle.std.specs.Prelude.{IsTrue};
-ghost use Rattle.qs_spec.specs.Read.{reads, read_option};
+ghost use Rattle.std.specs.Prelude.{IsTrue, true};
+ghost use Rattle.qs_spec.specs.Read.{reads, read_ignored, read_option};
 ghost use Rattle.qs_tree.specs.Views.{tree_of};
 ghost use Rattle.qs_data.specs.Views.{data_of, shape_of};
 ghost use Rattle.qs_data.specs.Text.{is_text};
 ghost use Rattle.qs_data.specs.Gives.{Gives, IsFrugal, takes_no_memory};
 
 use crate::data::Data;
-use crate::read::fault::Fault;
+use crate::read::any::read_any;
+use crate::read::fault::{Expected, Fault};
 use crate::read::fields::read_struct;
+use crate::read::lists::{read_list, read_tuple};
+use crate::read::maps::read_map;
 use crate::read::scalar::{
     read_bool, read_bytes, read_char, read_signed, read_text, read_unit, read_unsigned,
 };
+use crate::read::variants::read_enum;
 use crate::read::width::Width;
 use crate::shape::Shape;
-use qs_tree::{Error, ParsedValue, Result};
+use qs_tree::{ParsedValue, Result};
 use std::alloc::Global;
 
 /// Reads a value by a shape. Several values for one are refused under `strict`.
@@ -51,13 +62,22 @@ pub(crate) fn read(
         Shape::Text => read_text(alloc, strict, value),
         Shape::Bytes => read_bytes(alloc, strict, value),
         Shape::Option(part) => read_option(alloc, strict, part, value),
+        Shape::Seq(part) => Ok(Data::Seq(read_list(alloc, strict, part, value)?)),
+        Shape::Tuple(parts) => {
+            let expected = Expected::Tuple(parts.len());
+            Ok(Data::Tuple(read_tuple(alloc, strict, parts, value, expected)?))
+        }
+        Shape::Map(key_shape, part) => Ok(Data::Map(read_map(
+            alloc, strict, key_shape, part, value,
+        )?)),
         Shape::Struct(fields) => Ok(Data::Struct(read_struct(alloc, strict, fields, value)?)),
         Shape::Newtype(part) => {
             let held = read(alloc, strict, part, value)?;
             Ok(Data::Newtype(Box::new(alloc, held)?))
         }
-        // the other shapes never come here: the deserializer refuses them before anything is read
-        _ => Err(Error::OutOfMemory),
+        Shape::Enum(variants) => read_enum(alloc, strict, variants, value),
+        Shape::Any => read_any(alloc, value),
+        Shape::Ignored => read_ignored(alloc, value),
     }
 }
 
@@ -77,5 +97,15 @@ fn read_option(alloc: Global, strict: bool, part: &Shape, value: &ParsedValue<'_
             let held = read(alloc, strict, part, value)?;
             Ok(Data::Some(Box::new(alloc, held)?))
         }
+    }
+}
+
+// Whatever is there is passed over.
+fn read_ignored(alloc: Global, value: &ParsedValue<'_>) -> Result<Data>
+    ensures { Gives data_of true result (read_ignored (tree_of value.now)) }
+{
+    match value {
+        ParsedValue::Uninitialized => Err(Fault::Uninitialized.error(alloc)),
+        _ => Ok(Data::Unit),
     }
 }

@@ -142,6 +142,3 @@ impl<S: Sink> Serializer<S> {
         result
     }
 }
-
-#[cfg(test)]
-mod tests;

@@ -1,32 +1,186 @@
-//! Small data and shapes.
+//! Small shapes and data.
 
-use serde_qs::{Data, Field, Shape};
-use std::alloc::{AllocError, Global};
+use serde_qs::{Data, Field, KeyShape, Shape, Variant, VariantKind};
+use std::alloc::Global;
+use std::process::Abort;
 
-/// A text.
-pub fn text(alloc: Global, text: &str) -> Result<Data, AllocError> {
-    Ok(Data::Text(String::from_str(alloc, text)?))
+/// Makes shapes and data. It ends the test where there is no memory for them.
+#[derive(Drop)]
+pub struct Build<'r, R: Abort> {
+    pub rt: &'r R,
+    pub alloc: Global,
 }
 
-/// A struct of one member.
-pub fn one(alloc: Global, name: &str, value: Data) -> Result<Data, AllocError> {
-    let mut members = Vec::new(alloc);
-    members.push((String::from_str(alloc, name)?, value))?;
-    Ok(Data::Struct(members))
-}
+impl<'r, R: Abort> Build<'r, R> {
+    fn boxed<T: Drop>(&self, value: T) -> Box<T> {
+        Box::new(self.alloc, value).expect(self.rt, "memory")
+    }
 
-/// The shape of a struct of one field, which is not optional.
-pub fn field(alloc: Global, name: &str, shape: Shape) -> Result<Shape, AllocError> {
-    let mut fields = Vec::new(alloc);
-    fields.push(Field {
-        name: String::from_str(alloc, name)?,
-        shape,
-        optional: false,
-    })?;
-    Ok(Shape::Struct(fields))
-}
+    fn vec<T: Drop, const N: usize>(&self, values: [T; N]) -> Vec<T> {
+        Vec::from_array(self.alloc, values).expect(self.rt, "memory")
+    }
 
-/// The shape of a value that may be absent.
-pub fn option(alloc: Global, shape: Shape) -> Result<Shape, AllocError> {
-    Ok(Shape::Option(Box::new(alloc, shape)?))
+    fn name(&self, name: &str) -> String {
+        String::from_str(self.alloc, name).expect(self.rt, "memory")
+    }
+
+    /// A member of a struct.
+    pub fn member(&self, name: &str, value: Data) -> (String, Data) {
+        (self.name(name), value)
+    }
+
+    /// The shape of a value that may be absent.
+    pub fn option(&self, part: Shape) -> Shape {
+        Shape::Option(self.boxed(part))
+    }
+
+    /// The shape of a list.
+    pub fn seq(&self, part: Shape) -> Shape {
+        Shape::Seq(self.boxed(part))
+    }
+
+    /// The shape of a list of just these.
+    pub fn tuple<const N: usize>(&self, parts: [Shape; N]) -> Shape {
+        Shape::Tuple(self.vec(parts))
+    }
+
+    /// The shape of keys with values.
+    pub fn map(&self, key: KeyShape, part: Shape) -> Shape {
+        Shape::Map(key, self.boxed(part))
+    }
+
+    /// The shape of a type round a value.
+    pub fn newtype(&self, part: Shape) -> Shape {
+        Shape::Newtype(self.boxed(part))
+    }
+
+    /// A field that has to be there.
+    pub fn required(&self, name: &str, shape: Shape) -> Field {
+        let name = self.name(name);
+        Field {
+            name,
+            shape,
+            optional: false,
+        }
+    }
+
+    /// A field that may be left out.
+    pub fn optional(&self, name: &str, shape: Shape) -> Field {
+        let name = self.name(name);
+        Field {
+            name,
+            shape,
+            optional: true,
+        }
+    }
+
+    /// The shape of a struct with these fields.
+    pub fn fields<const N: usize>(&self, fields: [Field; N]) -> Shape {
+        Shape::Struct(self.vec(fields))
+    }
+
+    /// The shape of a struct with this one field, which has to be there.
+    pub fn field(&self, name: &str, shape: Shape) -> Shape {
+        self.fields([self.required(name, shape)])
+    }
+
+    /// The shape of one of these variants.
+    pub fn variants<const N: usize>(&self, variants: [Variant; N]) -> Shape {
+        Shape::Enum(self.vec(variants))
+    }
+
+    /// A variant of this kind.
+    pub fn variant(&self, name: &str, kind: VariantKind) -> Variant {
+        let name = self.name(name);
+        Variant { name, kind }
+    }
+
+    /// A variant that holds a value.
+    pub fn newtype_variant(&self, name: &str, part: Shape) -> Variant {
+        self.variant(name, VariantKind::Newtype(self.boxed(part)))
+    }
+
+    /// A variant that holds a list of just these.
+    pub fn tuple_variant<const N: usize>(&self, name: &str, parts: [Shape; N]) -> Variant {
+        self.variant(name, VariantKind::Tuple(self.vec(parts)))
+    }
+
+    /// A variant that holds these fields.
+    pub fn struct_variant<const N: usize>(&self, name: &str, fields: [Field; N]) -> Variant {
+        self.variant(name, VariantKind::Struct(self.vec(fields)))
+    }
+
+    /// A key that is one of these names.
+    pub fn names(&self, names: &[&str]) -> KeyShape {
+        let mut owned = Vec::new(self.alloc);
+        for name in names {
+            owned.push(self.name(name)).expect(self.rt, "memory");
+        }
+        KeyShape::Variants(owned)
+    }
+
+    /// A text.
+    pub fn text(&self, text: &str) -> Data {
+        Data::Text(self.name(text))
+    }
+
+    /// Bytes.
+    pub fn bytes(&self, bytes: &[u8]) -> Data {
+        Data::Bytes(Vec::from_slice(self.alloc, bytes).expect(self.rt, "memory"))
+    }
+
+    /// A value that might have been absent.
+    pub fn some(&self, value: Data) -> Data {
+        Data::Some(self.boxed(value))
+    }
+
+    /// A list.
+    pub fn list<const N: usize>(&self, items: [Data; N]) -> Data {
+        Data::Seq(self.vec(items))
+    }
+
+    /// A list that has its length from its type.
+    pub fn items<const N: usize>(&self, items: [Data; N]) -> Data {
+        Data::Tuple(self.vec(items))
+    }
+
+    /// Keys with their values.
+    pub fn pairs<const N: usize>(&self, pairs: [(Data, Data); N]) -> Data {
+        Data::Map(self.vec(pairs))
+    }
+
+    /// A struct of these members.
+    pub fn record<const N: usize>(&self, members: [(String, Data); N]) -> Data {
+        Data::Struct(self.vec(members))
+    }
+
+    /// A struct of this one member.
+    pub fn one(&self, name: &str, value: Data) -> Data {
+        self.record([self.member(name, value)])
+    }
+
+    /// A value in a type of its own.
+    pub fn wrapped(&self, value: Data) -> Data {
+        Data::Newtype(self.boxed(value))
+    }
+
+    /// A variant that holds nothing.
+    pub fn bare(&self, name: &str) -> Data {
+        Data::UnitVariant(self.name(name))
+    }
+
+    /// A variant that holds a value.
+    pub fn holding(&self, name: &str, value: Data) -> Data {
+        Data::NewtypeVariant(self.name(name), self.boxed(value))
+    }
+
+    /// A variant that holds a list.
+    pub fn holding_items<const N: usize>(&self, name: &str, items: [Data; N]) -> Data {
+        Data::TupleVariant(self.name(name), self.vec(items))
+    }
+
+    /// A variant that holds members.
+    pub fn holding_record<const N: usize>(&self, name: &str, members: [(String, Data); N]) -> Data {
+        Data::StructVariant(self.name(name), self.vec(members))
+    }
 }

@@ -8,4 +8,10 @@ mod escapes;
 #[cfg(test)]
 mod reading;
 #[cfg(test)]
+mod rows;
+#[cfg(test)]
+mod searches;
+#[cfg(test)]
+mod trees;
+#[cfg(test)]
 mod writing;

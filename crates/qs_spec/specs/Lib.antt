@@ -8,6 +8,8 @@ pub mod History
 pub mod Tree
 pub mod Holds
 pub mod Order
+pub mod Input
+pub mod Marks
 pub mod Data
 pub mod Shape
 pub mod Scalar

@@ -1,4 +1,6 @@
+pub mod Distinct
 pub mod Lines
 pub mod Numbers
+pub mod Pieces
 pub mod Refusals
 pub mod Taken

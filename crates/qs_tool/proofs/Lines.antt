@@ -2,10 +2,9 @@
 use Rattle.std.proofs.Common.{◌≡◌, ℕ, List, [], ◌++◌, take, Option, None, Some, refl, sym, subst, inl, inr, append-nil}
 use Rattle.std.specs.Option.{IfSome}
 use Rattle.std.specs.Io.KnownBytes.{Appends}
-use Rattle.qs_spec.specs.Config.{Config}
-use Rattle.qs_tool.specs.Arguments.{Word}
-use Rattle.qs_tool.specs.Flat.{flat_shape}
-use Rattle.qs_tool.specs.Line.{IsAnswer, IsBegun, IsLine, IsLineOf, memory_line, task_of, usage_line, without_newline}
+use Rattle.qs_tool.specs.Arguments.{Word, asked}
+use Rattle.qs_tool.specs.declared.arguments.Request.{Request}
+use Rattle.qs_tool.specs.Line.{IsAnswer, IsBegun, IsLine, IsLineOf, memory_line, usage_line, without_newline}
 
 -- what follows of each value follows of the one that is there
 pub over : {A : Type 0} (a : Option A) (P Q : A → Type 0) → ((x : A) → P x → Q x) → IfSome a P → IfSome a Q
@@ -20,9 +19,9 @@ pub Appends-nil : (a : Option (List ℕ)) → Appends a a []
 Appends-nil None = tt
 Appends-nil (Some xs) = sym (append-nil xs)
 
-pub right_line : (words : List Word) (config : Config) (input line : List ℕ) (status : ℕ) → Some (config, flat_shape) ≡ task_of words
-    → IsAnswer config flat_shape (without_newline input) line status → IsLine words input line status
-right_line words config input line status e p = subst (λ t. IsLineOf t input line status) e p
+pub right_line : (words : List Word) (request : Request) (input line : List ℕ) (status : ℕ) → Some request ≡ asked words
+    → IsAnswer request (without_newline input) line status → IsLine words input line status
+right_line words request input line status e p = subst (λ asked. IsLineOf asked input line status) e p
 
-pub usage_is_right : (words : List Word) (input : List ℕ) → None ≡ task_of words → IsLine words input usage_line 2
-usage_is_right words input e = subst (λ t. IsLineOf t input usage_line 2) e (refl, refl)
+pub usage_is_right : (words : List Word) (input : List ℕ) → None ≡ asked words → IsLine words input usage_line 2
+usage_is_right words input e = subst (λ asked. IsLineOf asked input usage_line 2) e (refl, refl)

@@ -4,7 +4,7 @@ use Rattle.qs_spec.specs.Data.{Data}
 use Rattle.qs_spec.specs.Entry.{Refusal, too_deep, bad_key}
 use Rattle.qs_tree.specs.declared.error.Error.{Error}
 use Rattle.qs_tree.specs.declared.error.Error.TheVariants.{Custom, MaxSerializationDepthExceeded, Parse, Unsupported, FromUtf8, Io, ParseInt, Utf8, OutOfMemory, Failed}
-use Rattle.qs_tree.specs.Error.{IsFailed, IsTooDeep, IsUnsupported}
+use Rattle.qs_tree.specs.Error.{IsFailed, IsTooDeep, IsUnsupported, OnlyOutOfMemory}
 use Rattle.qs_data.specs.Writes.{IsWriteError}
 use Rattle.qs_data.specs.Gives.{Refuses}
 use Rattle.qs_tool.specs.Fault.{is_memory, IfFault}
@@ -41,3 +41,17 @@ reading_told Failed all_text r told other = absurd told
 pub fault_is : {T : Type 0} (r : Result T Error) {P Q : Type 0} → (P → Q) → IfFault r P → IfFault r Q
 fault_is (Ok x) f h = tt
 fault_is (Err e) f h = λ other. f (h other)
+
+-- an error that is only that memory was refused tells of no fault
+pub no_fault : {T : Type 0} (r : Result T Error) (P : Type 0) → OnlyOutOfMemory r → IfFault r P
+no_fault (Ok x) P only = tt
+no_fault (Err (Custom message)) P only = absurd only
+no_fault (Err (MaxSerializationDepthExceeded n)) P only = absurd only
+no_fault (Err (Parse message position)) P only = absurd only
+no_fault (Err Unsupported) P only = absurd only
+no_fault (Err (FromUtf8 cause)) P only = absurd only
+no_fault (Err (Io cause)) P only = absurd only
+no_fault (Err (ParseInt cause)) P only = absurd only
+no_fault (Err (Utf8 cause)) P only = absurd only
+no_fault (Err OutOfMemory) P only = λ other. cc
+no_fault (Err Failed) P only = absurd only

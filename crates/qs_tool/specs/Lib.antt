@@ -1,4 +1,6 @@
 pub mod Arguments
 pub mod Fault
-pub mod Flat
 pub mod Line
+pub mod Pieces
+pub mod Shapes
+pub mod Shown

@@ -1,18 +1,13 @@
 //! The answer to an input: a line and a status.
 
-ghost use Rattle.std.specs.Prelude.{◌≡◌, true, IfOk, IfSome};
-ghost use Rattle.qs_spec.specs.Shape.{is_distinct};
-ghost use Rattle.qs_data.specs.Views.{shape_of};
-ghost use Rattle.qs_data.specs.Supported.{is_supported};
+ghost use Rattle.std.specs.Prelude.{◌≡◌, IfOk, IfSome};
 ghost use Rattle.qs_tool.specs.Fault.{is_memory};
-ghost use Rattle.qs_tool.specs.Flat.{flat_shape};
-ghost use Rattle.qs_tool.specs.Line.{IsAnswer, IsErrorLine, without_newline};
+ghost use Rattle.qs_tool.specs.Line.{IsAnswer, IsErrorLine, TellsError, without_newline};
 
 use crate::arguments::Request;
-use crate::flat;
-use crate::rewriting::rewritten;
+use crate::printing::printed;
 use crate::streams::{Stop, read_input};
-use serde_qs::{Config, Error, Shape};
+use serde_qs::Error;
 use std::alloc::{AllocError, Global};
 use std::io::Read;
 
@@ -26,30 +21,17 @@ pub struct Answer {
 /// The answer to the reader's input.
 pub fn respond<R: Read>(alloc: Global, request: Request, reader: &mut R) -> Result<Answer, Stop>
     ensures { IfOk result (λ answer. IfSome (R.remaining reader.old)
-        (λ input. IsAnswer request.config flat_shape (without_newline input) answer.line.items answer.status)) }
+        (λ input. IsAnswer request (without_newline input) answer.line.items answer.status)) }
 {
     let input = read_input(alloc, reader)?;
-    let shape = flat::shape(alloc)?;
-    Ok(answer_to(
-        alloc,
-        request.config,
-        &shape,
-        before_newline(input.as_slice()),
-    )?)
+    Ok(answer_to(alloc, request, before_newline(input.as_slice()))?)
 }
 
-/// The answer to an input that this shape reads.
-fn answer_to(
-    alloc: Global,
-    config: Config,
-    shape: &Shape,
-    input: &[u8],
-) -> Result<Answer, AllocError>
-    requires distinct { is_distinct (shape_of shape.now) ≡ true }
-    requires supported { is_supported (shape_of shape.now) ≡ true }
-    ensures { IfOk result (λ answer. IsAnswer config (shape_of shape.now) input.now answer.line.items answer.status) }
+/// The answer to this input.
+fn answer_to(alloc: Global, request: Request, input: &[u8]) -> Result<Answer, AllocError>
+    ensures { IfOk result (λ answer. IsAnswer request input.now answer.line.items answer.status) }
 {
-    match rewritten(alloc, config, shape, input) {
+    match printed(alloc, request, input) {
         Ok(mut line) => {
             line.push(b'\n')?;
             Ok(Answer { line, status: 0 })
@@ -73,7 +55,8 @@ fn is_memory(error: &Error) -> bool
 
 /// The line that says why.
 fn error_line(alloc: Global, error: &Error) -> Result<Vec<u8>, AllocError>
-    ensures { IfOk result (λ line. IsErrorLine line.items) }
+    ensures line { IfOk result (λ line. IsErrorLine line.items) }
+    ensures text { IfOk result (λ line. TellsError error.now line.items) }
 {
     let text = format!(in alloc; "{error}")?;
     let mut line = Vec::from_slice(alloc, b"error: ")?;

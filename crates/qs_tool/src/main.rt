@@ -1,11 +1,12 @@
-//! Reads a querystring from standard input and writes it again: `qs_tool flat|params|any` with options.
+//! Reads a querystring from standard input, and writes it again or shows it: `qs_tool flat|params|any` with options.
 #![tactic(auto)]
 
 mod answer;
 mod arguments;
-mod flat;
+mod printing;
 mod program;
-mod rewriting;
+mod shapes;
+mod showing;
 mod streams;
 #[cfg(test)]
 mod tests;

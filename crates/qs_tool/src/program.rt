@@ -1,12 +1,12 @@
 //! The program over any reader and writer.
 
-ghost use Rattle.std.specs.Prelude.{◌≡◌, ◌≢◌, ℕ, ◌≤◌, List, None, length, take, map, option_map, string_bytes, IfSome};
+ghost use Rattle.std.specs.Prelude.{◌≡◌, ◌≢◌, ℕ, ◌≤◌, List, None, length, take, map, string_bytes, IfSome};
 ghost use Rattle.std.specs.Io.KnownBytes.{Appends};
-ghost use Rattle.qs_tool.specs.Flat.{flat_shape};
-ghost use Rattle.qs_tool.specs.Line.{IsLine, IsBegun, usage_line, task_of};
+ghost use Rattle.qs_tool.specs.Arguments.{asked};
+ghost use Rattle.qs_tool.specs.Line.{IsLine, IsBegun, usage_line};
 
 use crate::answer::respond;
-use crate::arguments::{Command, Request};
+use crate::arguments::Request;
 use crate::streams::{Stop, write_all};
 use std::alloc::Global;
 use std::io::{Read, Write};
@@ -22,7 +22,7 @@ const NO_MEMORY: &str = "error: out of memory\n";
 ///
 /// | status | line |
 /// |---|---|
-/// | 0 | what was read, written again |
+/// | 0 | what was read, written again, or shown by the command `any` |
 /// | 1 | `error: ` and why the input was refused |
 /// | 2 | how the program is called; nothing was read |
 /// | 3 | memory was refused, with a line that says so where it can be written, or a read or a write failed |
@@ -34,31 +34,20 @@ pub fn run<R: Read, W: Write>(alloc: Global, args: &[String], reader: &mut R, wr
     ensures line { IfSome (R.remaining reader.old) (λ input. result ≢ 3 →
         (line : List ℕ) × IsLine (map string_bytes args.now) input line result
         × Appends (W.contents writer.old) (W.contents writer.new) line) }
-    ensures usage { task_of (map string_bytes args.now) ≡ None → result ≢ 3 →
+    ensures usage { asked (map string_bytes args.now) ≡ None → result ≢ 3 →
         (result ≡ 2) × Appends (W.contents writer.old) (W.contents writer.new) usage_line }
-    ensures unread { task_of (map string_bytes args.now) ≡ None → reader.new ≡ reader.old }
+    ensures unread { asked (map string_bytes args.now) ≡ None → reader.new ≡ reader.old }
     ensures stopped { IfSome (R.remaining reader.old) (λ input. result ≡ 3 →
         (line : List ℕ) × (n : ℕ) × IsBegun (map string_bytes args.now) input line
         × Appends (W.contents writer.old) (W.contents writer.new) (take n line)) }
 {
-    let Some(request) = understood(args) else {
+    let Some(request) = Request::parse(args) else {
         return finish(writer, USAGE.as_bytes(), 2);
     };
     match respond(alloc, request, reader) {
         Ok(answer) => finish(writer, answer.line.as_slice(), answer.status),
         Err(Stop::OutOfMemory) => finish(writer, NO_MEMORY.as_bytes(), 3),
         Err(Stop::Stream) => 3,
-    }
-}
-
-/// What the arguments ask for, where its command is there.
-fn understood(args: &[String]) -> Option<Request>
-    ensures { option_map (λ request. (request.config, flat_shape)) result ≡ task_of (map string_bytes args.now) }
-{
-    let request = Request::parse(args)?;
-    match request.command {
-        Command::Flat => Some(request),
-        Command::Params | Command::Any => None,
     }
 }
 

@@ -1,10 +1,15 @@
 //! Runs over memory, and over readers and writers that fail.
 
-mod rows;
+mod any;
+mod arguments;
+mod flat;
+mod params;
 mod streams;
 
 use crate::program::run;
 use std::alloc::{AllocError, Global};
+use std::process::Abort;
+use std::test::Fail;
 
 /// The words of a line, with a space between.
 fn words(alloc: Global, line: &str) -> Result<Vec<String>, AllocError> {
@@ -15,11 +20,17 @@ fn words(alloc: Global, line: &str) -> Result<Vec<String>, AllocError> {
     Ok(words)
 }
 
-/// What a run over memory wrote, and its status.
-fn ran(alloc: Global, arguments: &str, input: &str) -> Result<(Vec<u8>, u8), AllocError> {
-    let words = words(alloc, arguments)?;
-    let mut reader = input.as_bytes();
-    let mut writer = Vec::new(alloc);
-    let status = run(alloc, words.as_slice(), &mut reader, &mut writer);
-    Ok((writer, status))
+/// Runs over memory write these lines and end with this status. A row is the arguments, the input and the line, with ` | ` between.
+fn expect(rt: &impl Abort, alloc: Global, status: u8, rows: &[&str]) -> Result<(), Fail> {
+    for row in rows {
+        let mut parts = row.split(" | ");
+        let words = words(alloc, parts.next().unwrap_or(""))?;
+        let mut reader = parts.next().unwrap_or("").as_bytes();
+        let mut writer = Vec::new(alloc);
+        let ended = run(alloc, words.as_slice(), &mut reader, &mut writer);
+        let line = format!(in alloc; "{}\n", parts.next().unwrap_or(""))?;
+        assert_eq!(rt; writer.as_slice(), line.as_bytes(), "{row}");
+        assert_eq!(rt; ended, status, "{row}");
+    }
+    Ok(())
 }

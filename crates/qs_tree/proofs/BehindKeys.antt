@@ -1,14 +1,13 @@
 -- What stands behind a key, by the raw bytes of runs.
-use Rattle.std.proofs.Common.{◌≡◌, ◌≢◌, ℕ, zero, suc, ◌-◌, ◌+◌, Bool, true, false, cond, not, ◌&&◌, List, [], ◌∷◌, ◌++◌, length, take, drop, refl, sym, ap, ap₂, ◌∙◌, subst, arith, Option, Some, None, Result, option_map, map, append_assoc, length-append, ◌==◌, ◌<◌, ◌⊎◌, ⊎_elim, eqb-true}
+use Rattle.std.proofs.Common.{◌≡◌, ℕ, suc, ◌-◌, Bool, true, false, cond, ◌&&◌, List, [], ◌∷◌, ◌++◌, length, take, drop, refl, sym, ap, ap₂, ◌∙◌, subst, arith, Option, Some, None, Result, length-append, ◌==◌, ◌<◌, ◌⊎◌, ⊎_elim, eqb-true}
 use Rattle.std.proofs.Math.Seq.{take-append_seam}
 use Rattle.std.proofs.lemmas.List.{drop_at, map-append}
 use Rattle.qs_spec.specs.Token.{Kind, Token, tokens, byte_token, is_escaped_bracket, raw_of}
 use Rattle.qs_spec.specs.Token.Kind.{Amp, Equals, Open, Close, Other}
 use Rattle.qs_spec.specs.Segment.{Step, step_of}
-use Rattle.qs_spec.specs.Leaf.{Leaf, NoValue}
-use Rattle.qs_spec.specs.Grammar.{Pair, plain, pushed, longer, root, is_amp, is_equals, is_close, ends_last, ends_root}
-use Rattle.qs_spec.specs.toward.Reading.{Rest, cut, cut_at, with_leaf, read_value, value_at, after_close, after_close_at, after_run, in_segment, in_last, read_brackets, read_pair, after_root, after_root_at, named, pairs_of, and_pairs}
-use Rattle.qs_spec.proofs.ReadOn.{after_ampersand, after_pair}
+use Rattle.qs_spec.specs.Leaf.{NoValue}
+use Rattle.qs_spec.specs.Grammar.{Pair, plain, pushed, longer, is_equals, is_close, ends_last}
+use Rattle.qs_spec.specs.toward.Reading.{Rest, cut, cut_at, with_leaf, read_value, value_at, after_close, after_close_at, after_run, in_segment, in_last, read_brackets}
 use Rattle.qs_tree.specs.declared.key.Key.{Key}
 use Rattle.qs_tree.specs.declared.cursor.Kind as kind
 use Rattle.qs_tree.specs.declared.cursor.Token as code
@@ -18,7 +17,7 @@ use Rattle.qs_tree.specs.declared.reading.Fault as fault
 use Rattle.qs_tree.specs.Views.{step_of_key}
 use Rattle.qs_tree.specs.Pairs.{path_of}
 use Rattle.qs_tree.specs.Cursor.{kind_of_token, token_of, behind, left, taken, IsLeft, IsPast}
-use Rattle.qs_tree.specs.Reading.{IsClosing, StandsBehind, ReadsPair, in_bracket, root_path, behind_root, behind_root_at}
+use Rattle.qs_tree.specs.Reading.{IsClosing, StandsBehind, ReadsPair, in_bracket}
 
 -- what is left behind some bytes
 pub left_behind : (start front rest : List ℕ) → start ≡ front ++ rest → IsLeft start rest
@@ -77,7 +76,7 @@ abbrev NoValueAt : Option code.Token → cursor.Cursor → Type 0
 NoValueAt stop c = (x : List Token) × (read_value (behind stop (left c)) ≡ Some (NoValue, x)) × IsPast x c
 
 pub no_value_end : (stop : Option code.Token) (c : cursor.Cursor) → stop ≡ None → StandsBehind stop c → NoValueAt stop c
-no_value_end None c e h = ([], refl, h)
+no_value_end None c e h = ([], refl, h.0)
 no_value_end (Some t) c e h = cc
 
 pub no_value_token : (stop : Option code.Token) (t : code.Token) (c : cursor.Cursor) → stop ≡ Some t → IsClosing stop → is_equals (kind_of_token t.kind) ≡ false → NoValueAt stop c

@@ -1,6 +1,6 @@
 -- What the pairs of an input make of a tree, item by item.
-use Rattle.std.proofs.Common.{◌≡◌, ◌↔◌, ℕ, ◌+◌, ◌≤◌, ◌<◌, ◌==◌, Bool, true, false, IfOk, List, [], ◌∷◌, length, refl, sym, ap, ◌∙◌, subst, arith, Option, Some, None, option_map, option_and_then, Result, Ok, Err}
-use Rattle.std.proofs.lemmas.Option.{none-some, same_Some}
+use Rattle.std.proofs.Common.{◌≡◌, ℕ, ◌==◌, Bool, false, IfOk, List, [], ◌∷◌, length, refl, sym, ap, ◌∙◌, subst, Option, Some, None, option_map, option_and_then, Result, Ok, Err}
+use Rattle.std.proofs.lemmas.Option.{none-some}
 use Rattle.qs_spec.specs.Token.{Token, tokens}
 use Rattle.qs_spec.specs.Grammar.{Pair}
 use Rattle.qs_spec.specs.Tree.{Tree, IsTree, IsRefused}
@@ -14,8 +14,7 @@ use Rattle.qs_tree.specs.declared.error.Error.TheVariants.{Custom, MaxSerializat
 use Rattle.qs_tree.specs.declared.value.ParsedValue.{ParsedValue}
 use Rattle.qs_tree.specs.Views.{tree_of}
 use Rattle.qs_tree.specs.Error.{IsParse}
-use Rattle.qs_tree.specs.Cursor.{slack}
-use Rattle.qs_tree.specs.Parsing.{grown, IsAnswer}
+use Rattle.qs_tree.specs.Parsing.{grown, Answers}
 
 module _ (depth : ℕ) (ts : List Token) (t : Tree) where
   pub grown_same : (us : List Token) → pairs_of depth ts ≡ pairs_of depth us → grown depth ts t ≡ grown depth us t
@@ -45,10 +44,10 @@ module _ (form : Bool) (depth b : ℕ) (bytes : List ℕ) where
 
 -- an answer about the tokens of an input is one about the input
 module _ (form : Bool) (depth : ℕ) (bytes : List ℕ) (some : (length bytes == 0) ≡ false) (limit : ℕ) (ts : List Token) (d : limit ≡ depth) (e : ts ≡ tokens form bytes) (bound : ℕ) where
-  about : (r : Result ParsedValue Error) → IsAnswer (grown limit ts uninitialized) bound r → IsAnswer (grown depth (tokens form bytes) uninitialized) bound r
-  about r h = subst (λ n. IsAnswer (grown n (tokens form bytes) uninitialized) bound r) d (subst (λ l. IsAnswer (grown limit l uninitialized) bound r) e h)
+  about : (r : Result ParsedValue Error) → Answers tree_of (grown limit ts uninitialized) bound r → Answers tree_of (grown depth (tokens form bytes) uninitialized) bound r
+  about r h = subst (λ n. Answers tree_of (grown n (tokens form bytes) uninitialized) bound r) d (subst (λ l. Answers tree_of (grown limit l uninitialized) bound r) e h)
 
-  pub answer_tree : (r : Result ParsedValue Error) → IsAnswer (grown limit ts uninitialized) bound r → IfOk r (λ v. IsTree form depth bytes (tree_of v))
+  pub answer_tree : (r : Result ParsedValue Error) → Answers tree_of (grown limit ts uninitialized) bound r → IfOk r (λ v. IsTree form depth bytes (tree_of v))
   answer_tree (Ok v) h = by bytes some (about (Ok v) h)
     where
       by : (bytes : List ℕ) → (length bytes == 0) ≡ false → grown depth (tokens form bytes) uninitialized ≡ Some (tree_of v) → IsTree form depth bytes (tree_of v)
@@ -56,7 +55,7 @@ module _ (form : Bool) (depth : ℕ) (bytes : List ℕ) (some : (length bytes ==
       by (b ∷ bytes) n a = grown_tree form depth b bytes (tree_of v) a
   answer_tree (Err f) h = tt
 
-  pub answer_refused : (r : Result ParsedValue Error) → IsAnswer (grown limit ts uninitialized) bound r → IsParse r → IsRefused form depth bytes
+  pub answer_refused : (r : Result ParsedValue Error) → Answers tree_of (grown limit ts uninitialized) bound r → IsParse r → IsRefused form depth bytes
   answer_refused (Ok v) h p = absurd p
   answer_refused (Err (Parse message at)) h p = by bytes some (about (Err (Parse message at)) h).0
     where
@@ -72,12 +71,3 @@ module _ (form : Bool) (depth : ℕ) (bytes : List ℕ) (some : (length bytes ==
   answer_refused (Err (ParseInt cause)) h p = absurd p
   answer_refused (Err (Utf8 cause)) h p = absurd p
   answer_refused (Err Failed) h p = absurd p
-
--- a look at the end is one step, and comes only there
-pub no_slack : (l m : List ℕ) → length m < length l → slack l ≡ 0
-no_slack [] m h = absurd (omega arith)
-no_slack (b ∷ l) m h = refl
-
-pub one_slack : (l : List ℕ) → slack l ≤ 1
-one_slack [] = omega arith
-one_slack (b ∷ l) = omega arith

@@ -1,12 +1,12 @@
 -- One item of what is left, and the pairs behind it.
-use Rattle.std.proofs.Common.{◌≡◌, ◌≢◌, ℕ, zero, suc, ◌+◌, Bool, true, false, cond, not, ◌&&◌, ◌||◌, ◌==◌, List, [], ◌∷◌, ◌++◌, length, refl, sym, ap, ap₂, ◌∙◌, subst, arith, Option, Some, None, Result, Ok, Err, option_map, eqb-true, length-append}
+use Rattle.std.proofs.Common.{◌≡◌, ℕ, zero, suc, Bool, true, false, ◌&&◌, ◌==◌, List, [], ◌∷◌, ◌++◌, length, refl, sym, ap, ◌∙◌, subst, arith, Option, Some, None, Result, Ok, Err, option_map, eqb-true, length-append}
 use Rattle.std.specs.Result.{MatchResult, IsOkAnd}
 use Rattle.qs_spec.specs.Token.{Kind, Token, tokens, raw_of}
 use Rattle.qs_spec.specs.Token.Kind.{Amp, Equals, Open, Close, Other}
-use Rattle.qs_spec.specs.Segment.{Step, step_of}
+use Rattle.qs_spec.specs.Segment.{step_of}
 use Rattle.qs_spec.specs.Leaf.{NoValue}
-use Rattle.qs_spec.specs.Grammar.{Pair, plain, root, is_amp, is_open, ends_last, ends_root}
-use Rattle.qs_spec.specs.toward.Reading.{Rest, cut, cut_at, with_leaf, read_value, value_at, read_brackets, read_pair, after_root, after_root_at, named, pairs_of, and_pairs}
+use Rattle.qs_spec.specs.Grammar.{Pair, plain, root, is_amp, ends_root}
+use Rattle.qs_spec.specs.toward.Reading.{Rest, cut, cut_at, with_leaf, value_at, read_brackets, after_root, after_root_at, named, pairs_of, and_pairs}
 use Rattle.qs_spec.proofs.ReadOn.{after_ampersand, after_pair}
 use Rattle.qs_tree.specs.declared.cursor.Token as code
 use Rattle.qs_tree.specs.declared.cursor.Cursor as cursor
@@ -16,7 +16,7 @@ use Rattle.qs_tree.specs.declared.reading.Fault as fault
 use Rattle.qs_tree.specs.Pairs.{pair_of}
 use Rattle.qs_tree.specs.Cursor.{kind_of_token, token_of, behind, left, IsPast}
 use Rattle.qs_tree.specs.Reading.{is_nothing, IsFault, ReadsPair, ReadsItem, root_path, behind_root, behind_root_at}
-use Rattle.qs_tree.proofs.BehindKeys.{HasBytes, has_bytes}
+use Rattle.qs_tree.proofs.BehindKeys.{HasBytes}
 
 -- a token's bytes are some
 not_empty : (t : Token) (more : List ℕ) → HasBytes (t ∷ []) → (length (t.raw ++ more) == 0) ≡ true → ⊥

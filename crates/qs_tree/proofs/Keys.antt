@@ -1,5 +1,5 @@
 -- The order of keys, and what a map finds, seen as segments and trees.
-use Rattle.std.proofs.Common.{◌≡◌, ℕ, zero, suc, slice_get, length, List, [], ◌∷◌, Ordering, is_eq, Option, Some, None, option_map, Bor, refl, ap, ◌∙◌, sym, inl, inr, rules, map, Bool, true, false}
+use Rattle.std.proofs.Common.{◌≡◌, ℕ, zero, suc, slice_get, length, List, [], ◌∷◌, Option, Some, None, option_map, Bor, refl, ap, ◌∙◌, sym, inl, inr, rules, map, Bool, true, false}
 use Rattle.std.proofs.lemmas.Bool.{cases_Bool}
 use Rattle.std.specs.declared.borrow.CowSlice.TheVariants.{Borrowed, Owned}
 use Rattle.std.specs.Map.{lookup, remove_entry}
@@ -16,8 +16,12 @@ use Rattle.qs_tree.specs.Views.{segment_of_key, step_of_key, tree_of, entries_fr
 abbrev pub Held : Type 0
 Held = List (Key × ParsedValue)
 
+-- entries of keys and nodes that are seen as trees
+abbrev pub seen_view : {X : Type 0} → (X → Tree) → List (Key × X) → Entries
+seen_view seen es = entries_from (map (λ p. (p.0, seen p.1)) es)
+
 abbrev pub entries_view : Held → Entries
-entries_view es = entries_from (map (λ p. (p.0, tree_of p.1)) es)
+entries_view es = seen_view tree_of es
 
 pub key_cmp-segments : (a b : Key) → key_cmp a b ≡ compare_segments (segment_of_key a) (segment_of_key b)
 key_cmp-segments (key.Int m) (key.Int n) = refl
@@ -33,13 +37,16 @@ key_cmp-segments (key.String (Owned a)) (key.String (Owned b)) = refl
 pub entries_of_map-map : (m : ParsedMap) → entries_of_map m ≡ entries_view m.map
 entries_of_map-map m = search (rules, the_lemmas)
 
-pub view-lookup : (k : Key) (es : Held) → option_map tree_of (lookup (is_at (key_cmp k)) es) ≡ find (segment_of_key k) (entries_view es)
-view-lookup k [] = refl
-view-lookup k (e ∷ es) =
+pub seen-lookup : {X : Type 0} (seen : X → Tree) (k : Key) (es : List (Key × X)) → option_map seen (lookup (is_at (key_cmp k)) es) ≡ find (segment_of_key k) (seen_view seen es)
+seen-lookup seen k [] = refl
+seen-lookup seen k (e ∷ es) =
     rw (key_cmp-segments k e.0) (elim (cases_Bool (is_same_segment (segment_of_key k) (segment_of_key e.0))) [
       | inl same ↦ rw same
-      | inr other ↦ rw (other, view-lookup k es)
+      | inr other ↦ rw (other, seen-lookup seen k es)
     ])
+
+pub view-lookup : (k : Key) (es : Held) → option_map tree_of (lookup (is_at (key_cmp k)) es) ≡ find (segment_of_key k) (entries_view es)
+view-lookup k es = seen-lookup tree_of k es
 
 pub view-remove_entry : (k : Key) (es : Held) → entries_view (remove_entry (is_at (key_cmp k)) es) ≡ take_out (segment_of_key k) (entries_view es)
 view-remove_entry k [] = refl

@@ -10,9 +10,17 @@ pub mod DecodedFronts
 pub mod Indexes
 pub mod Views
 pub mod Turns
+pub mod Descending
 pub mod BehindKeys
 pub mod Items
 pub mod Equality
+pub mod Rests
 pub mod Growing
 pub mod SmallItems
 pub mod Ordered
+pub mod Drafting
+pub mod Levels
+pub mod DraftNodes
+pub mod Owned
+pub mod Parsed
+pub mod NodeCounts

@@ -1,5 +1,5 @@
 -- What a search by halves finds among entries in order, and what an edit at its place does.
-use Rattle.std.proofs.Common.{◌≡◌, ℕ, zero, suc, ◌+◌, ◌<◌, ◌≤◌, ◌/◌, List, [], ◌∷◌, ◌++◌, length, get_or, take, drop, slice_get, slice_set, cond, Option, Some, None, option_map, Ordering, Less, Equal, Greater, refl, sym, ap, subst, ◌∙◌, inl, inr, ◌⊎◌, add-one, arith}
+use Rattle.std.proofs.Common.{◌≡◌, ℕ, zero, suc, ◌+◌, ◌<◌, ◌≤◌, ◌/◌, List, [], ◌∷◌, ◌++◌, length, get_or, slice_get, slice_set, None, option_map, Ordering, Less, Equal, Greater, refl, sym, ap, subst, ◌∙◌, inl, inr, ◌⊎◌, arith}
 use Rattle.std.proofs.lemmas.Int.Digits.{length-digits_of_step}
 use Rattle.std.specs.Cmp.{IsTotalOrder}
 use Rattle.std.specs.List.{insert, remove, AllByRecursion}
@@ -9,7 +9,6 @@ use Rattle.std.specs.BTreeMap.{is_at, insert_entry}
 use Rattle.std.specs.Ordering.{ordering_reverse}
 use Rattle.std.proofs.lemmas.Map.Keys.{Less-from_sorted}
 use Rattle.std.proofs.lemmas.Map.Entries.{length-keys_of}
-use Rattle.std.proofs.lemmas.Map.{keys-set_value}
 use Rattle.qs_tree.specs.Places.{against, IsHit, IsGap, put_value, binary_digits}
 
 below_or_at : (j m : ℕ) → j < m + 1 → (j < m) ⊎ (j ≡ m)
@@ -97,6 +96,22 @@ module _ {K X : Type 0} (cmp : K → K → Ordering) (k : K) where
   gap_insert (e ∷ es) zero v h = rw (h.after 0 (omega arith) (omega arith))
   gap_insert (e ∷ es) (suc i) v h = rw (h.before 0 (omega arith)) (ap (λ l. e ∷ l) (gap_insert es i v (gap_tail e es i h)))
 
+  pub hit_insert : (es : List (K × X)) (i : ℕ) (v : X) → IsHit cmp k es i → insert_entry cmp es k v ≡ put_value es i v
+  hit_insert [] i v h = absurd (omega (arith, h.in_range))
+  hit_insert (e ∷ es) zero v h = rw h.same
+  hit_insert (e ∷ es) (suc i) v h = rw (h.before 0 (omega arith)) (ap (λ l. e ∷ l) (hit_insert es i v (hit_tail e es i h)))
+
+-- a place says nothing of the values
+module _ {K X Y : Type 0} (cmp : K → K → Ordering) (k : K) (es : List (K × X)) (fs : List (K × Y)) (i : ℕ) (keys : keys_of es ≡ keys_of fs) where
+  lengths : length es ≡ length fs
+  lengths = sym (length-keys_of es) ∙ ap length keys ∙ length-keys_of fs
+
+  pub hit_keys : IsHit cmp k es i → IsHit cmp k fs i
+  hit_keys h = record { in_range = rw (← lengths) h.in_range; same = rw (← keys) h.same; before = λ j lt. rw (← keys) (h.before j lt) }
+
+  pub gap_keys : IsGap cmp k es i → IsGap cmp k fs i
+  gap_keys h = record { in_range = rw (← lengths) h.in_range; before = λ j lt. rw (← keys) (h.before j lt); after = λ j le lt. rw (← keys) (h.after j le (rw lengths lt)) }
+
 pub keys-put_value : {K X : Type 0} (es : List (K × X)) (i : ℕ) (w : X) → keys_of (put_value es i w) ≡ keys_of es
 keys-put_value [] i w = refl
 keys-put_value (e ∷ es) zero w = refl
@@ -135,6 +150,14 @@ module _ {K : Type 0} (cmp : K → K → Ordering) where
   unfolding IsStrictlySortedBy
   sorted_cons k ks a s = (a, s)
 
+  all_upto : (P : K → Type 0) (ks : List K) (k : K) (ls : List K) → AllByRecursion P (ks ++ k ∷ ls) → AllByRecursion P (ks ++ k ∷ [])
+  all_upto P [] k ls a = (a.0, tt)
+  all_upto P (x ∷ ks) k ls a = (a.0, all_upto P ks k ls a.1)
+
+  pub sorted_upto : (ks : List K) (k : K) (ls : List K) → IsStrictlySortedBy cmp (ks ++ k ∷ ls) → IsStrictlySortedBy cmp (ks ++ k ∷ [])
+  sorted_upto [] k ls s = sorted_cons k [] tt sorted_none
+  sorted_upto (x ∷ ks) k ls s = sorted_cons x (ks ++ k ∷ []) (all_upto (λ y. cmp x y ≡ Less) ks k ls (sorted_head x (ks ++ k ∷ ls) s)) (sorted_upto ks k ls (sorted_tail x (ks ++ k ∷ ls) s))
+
   module _ {X : Type 0} where
     all_after : (k : K) (es : List (K × X)) → IsGap cmp k es 0 → AllByRecursion (λ y. cmp k y ≡ Less) (keys_of es)
     all_after k [] h = tt
@@ -167,6 +190,14 @@ module _ {K : Type 0} (cmp : K → K → Ordering) where
     sorted_remove (e ∷ es) zero s = sorted_tail e.0 (keys_of es) s
     sorted_remove (e ∷ es) (suc i) s = sorted_cons e.0 (keys_of (remove es i)) (all_remove (λ y. cmp e.0 y ≡ Less) es i (sorted_head e.0 (keys_of es) s)) (sorted_remove es i (sorted_tail e.0 (keys_of es) s))
 
+    all_front : (P : K → Type 0) (es fs : List (K × X)) → AllByRecursion P (keys_of (es ++ fs)) → AllByRecursion P (keys_of es)
+    all_front P [] fs a = tt
+    all_front P (e ∷ es) fs a = (a.0, all_front P es fs a.1)
+
+    pub sorted_front : (es fs : List (K × X)) → IsStrictlySortedBy cmp (keys_of (es ++ fs)) → IsStrictlySortedBy cmp (keys_of es)
+    sorted_front [] fs s = sorted_none
+    sorted_front (e ∷ es) fs s = sorted_cons e.0 (keys_of es) (all_front (λ y. cmp e.0 y ≡ Less) es fs (sorted_head e.0 (keys_of (es ++ fs)) s)) (sorted_front es fs (sorted_tail e.0 (keys_of (es ++ fs)) s))
+
 -- a search by halves
 digits_grow : (fuel m n : ℕ) → n ≤ fuel → m ≤ n → binary_digits m ≤ binary_digits n
 digits_grow zero m n small le = let z : n ≡ m = omega arith in rw z (omega arith)
@@ -177,3 +208,7 @@ digits_grow (suc fuel) (suc m) n small le =
 -- half as many have a digit less
 pub halved : (s t : ℕ) → 0 < s → t ≤ s / 2 → binary_digits t + 1 ≤ binary_digits s
 halved s t some half = omega (arith, length-digits_of_step 2 s (omega arith) some, digits_grow (s / 2) t (s / 2) (omega arith) half)
+
+pub keys-append : {K X : Type 0} (es fs : List (K × X)) → keys_of (es ++ fs) ≡ keys_of es ++ keys_of fs
+keys-append [] fs = refl
+keys-append (e ∷ es) fs = ap (λ l. e.0 ∷ l) (keys-append es fs)

@@ -1,10 +1,9 @@
 -- Items of inputs for which no memory is taken.
-use Rattle.std.proofs.Common.{◌≡◌, ℕ, zero, suc, Bool, true, false, cond, not, ◌&&◌, ◌||◌, ◌==◌, List, [], ◌∷◌, ◌++◌, length, refl, sym, ap, ap₂, ◌∙◌, subst, Option, Some, None, Result, Ok, Err, eqb-true, ◌<◌, arith, ◌⊎◌, inl, inr}
-use Rattle.std.specs.List.{list_all}
+use Rattle.std.proofs.Common.{◌≡◌, ℕ, zero, suc, Bool, true, false, cond, ◌&&◌, ◌||◌, ◌==◌, List, [], ◌∷◌, ◌++◌, length, refl, sym, ap, ap₂, ◌∙◌, subst, Option, Some, None, Result, Ok, Err, eqb-true, ◌<◌, arith, inl, inr}
 use Rattle.std.specs.Result.{MatchResult, IsOkAnd}
 use Rattle.std.proofs.lemmas.List.Folds.{list_all-append}
-use Rattle.qs_spec.specs.Token.{Kind, Token, tokens, byte_token, kind_of, is_escaped_bracket, raw_of}
-use Rattle.qs_spec.specs.Token.Kind.{Amp, Equals, Open, Close, Other}
+use Rattle.qs_spec.specs.Token.{Kind, Token, tokens, byte_token, kind_of, raw_of}
+use Rattle.qs_spec.specs.Token.Kind.{Amp, Equals, Open, Close}
 use Rattle.qs_spec.specs.Grammar.{is_amp, is_equals, is_open, ends_root}
 use Rattle.qs_spec.specs.toward.Reading.{cut, cut_at}
 use Rattle.qs_spec.proofs.Booleans.{and_both}
@@ -13,8 +12,10 @@ use Rattle.qs_tree.specs.declared.cursor.Cursor as cursor
 use Rattle.qs_tree.specs.declared.pair.Pair as code_pair
 use Rattle.qs_tree.specs.declared.reading.Item as item
 use Rattle.qs_tree.specs.declared.reading.Fault as fault
-use Rattle.qs_tree.specs.declared.value.ParsedValue.{ParsedValue}
-use Rattle.qs_tree.specs.declared.value.ParsedValue.TheVariants.{Uninitialized}
+use Rattle.qs_tree.specs.declared.draft.Draft.{Draft}
+use Rattle.qs_tree.specs.declared.draft.Draft.TheVariants.{Fresh}
+use Rattle.qs_tree.specs.Draft.{IsNoMap, IsFlat}
+use Rattle.qs_tree.proofs.Views.{draft_tree-Fresh}
 use Rattle.qs_tree.specs.Search.{is_ampersand}
 use Rattle.qs_tree.specs.Cursor.{kind_of_token, token_of, raw_behind, behind}
 use Rattle.qs_tree.specs.Reading.{is_nothing}
@@ -121,20 +122,27 @@ small_pair (Ok p) (Err f) new h m = absurd m
 small_pair (Err f) o new h m = absurd h
 
 -- one item more of what is left of such an input
-pub small_start : (rest : List ℕ) (tree : ParsedValue) → TakesNoMemory rest → tree ≡ Uninitialized → StaysSmall rest tree
+pub small_start : (rest : List ℕ) (tree : Draft) → TakesNoMemory rest → tree ≡ Fresh → StaysSmall rest tree
 small_start rest tree small fresh = inr (small, fresh)
 
-small_read : (rest : List ℕ) (tree : ParsedValue) → StaysSmall rest tree → TakesNoMemory rest
-small_read rest tree (inl none) = subst TakesNoMemory (sym none) refl
+pub small_end : (rest : List ℕ) (tree : Draft) → rest ≡ [] → IsFlat tree → StaysSmall rest tree
+small_end rest tree none flat = inl (none, flat)
+
+small_read : (rest : List ℕ) (tree : Draft) → StaysSmall rest tree → TakesNoMemory rest
+small_read rest tree (inl h) = subst TakesNoMemory (sym h.0) refl
 small_read rest tree (inr h) = h.0
 
-pub small_goes : (rest : List ℕ) (tree : ParsedValue) (o : Result item.Item fault.Fault) (new : cursor.Cursor) → StaysSmall rest tree → (TakesNoMemory rest → ReadsSmall o new) → ReadsSmall o new
+pub small_flat : (rest : List ℕ) (tree : Draft) → StaysSmall rest tree → IsFlat tree
+small_flat rest tree (inl h) = h.1
+small_flat rest tree (inr h) = subst IsFlat (sym h.1) (subst IsNoMap (sym draft_tree-Fresh) tt)
+
+pub small_goes : (rest : List ℕ) (tree : Draft) (o : Result item.Item fault.Fault) (new : cursor.Cursor) → StaysSmall rest tree → (TakesNoMemory rest → ReadsSmall o new) → ReadsSmall o new
 small_goes rest tree o new h f = f (small_read rest tree h)
 
-pub small_ampersand : (old new : List ℕ) (tree : ParsedValue) → length new < length old → StaysSmall old tree → is_ampersands new ≡ true → StaysSmall new tree
-small_ampersand old new tree shorter (inl none) amp = absurd (omega (arith, ap length none))
+pub small_ampersand : (old new : List ℕ) (tree : Draft) → length new < length old → StaysSmall old tree → is_ampersands new ≡ true → StaysSmall new tree
+small_ampersand old new tree shorter (inl h) amp = absurd (omega (arith, ap length h.0))
 small_ampersand old new tree shorter (inr h) amp = inr (ap (λ x. x || is_plain_value new) amp, h.1)
 
-pub small_fresh : (old new : List ℕ) (tree : ParsedValue) → length new < length old → StaysSmall old tree → tree ≡ Uninitialized
-small_fresh old new tree shorter (inl none) = absurd (omega (arith, ap length none))
+pub small_fresh : (old new : List ℕ) (tree : Draft) → length new < length old → StaysSmall old tree → tree ≡ Fresh
+small_fresh old new tree shorter (inl h) = absurd (omega (arith, ap length h.0))
 small_fresh old new tree shorter (inr h) = h.1

@@ -1,30 +1,19 @@
 -- What a step of adding a pair leaves.
-use Rattle.std.proofs.Common.{◌≡◌, ℕ, zero, suc, ◌+◌, List, [], ◌∷◌, Option, Some, None, option_map, Result, Ok, Err, slice_get, refl, sym, ap, subst, ◌∙◌, arith}
+use Rattle.std.proofs.Common.{◌≡◌, Option, Some, None, option_map, option_and_then, Result, Ok, Err, Ordering, Less, Equal, Greater, refl, sym, ap, subst, ◌∙◌}
 use Rattle.std.proofs.lemmas.Option.{same_Some}
 use Rattle.std.specs.Result.{IsErrAnd}
-use Rattle.std.specs.declared.alloc.Global.{Global}
-use Rattle.std.specs.declared.vec.IntoIter.{IntoIter}
-use Rattle.std.specs.Vec.Iter.{into_iter_items}
-use Rattle.std.specs.List.{insert}
-use Rattle.std.specs.BTreeMap.{insert_entry}
-use Rattle.qs_spec.specs.Segment.{Segment, Step}
+use Rattle.qs_spec.specs.Segment.{Segment, Step, compare_segments}
 use Rattle.qs_spec.specs.Tree.{Tree, Entries}
 use Rattle.qs_spec.specs.Tree.Tree.{leaf, sequence, mapping, uninitialized}
 use Rattle.qs_spec.specs.Tree.Entries.{no_entries, entry}
-use Rattle.qs_spec.specs.toward.InPlace.{update, add_below}
-use Rattle.qs_tree.specs.declared.key.Key.{Key}
-use Rattle.qs_tree.specs.declared.value.ParsedValue.{ParsedValue}
-use Rattle.qs_tree.specs.declared.map.ParsedMap.{ParsedMap}
-use Rattle.qs_tree.specs.declared.add.Rest.{Rest}
+use Rattle.qs_spec.specs.toward.InPlace.{update, update_by, add_below}
+use Rattle.qs_spec.proofs.Order.{segments_total}
 use Rattle.qs_tree.specs.declared.conflict.Refusal.{Refusal}
 use Rattle.qs_tree.specs.declared.conflict.Refusal.TheVariants as refusal
-use Rattle.qs_tree.specs.Keys.{key_cmp}
-use Rattle.qs_tree.specs.Views.{segment_of_key, step_of_key, tree_of, entries_of_map}
+use Rattle.qs_tree.specs.Views.{find}
+use Rattle.qs_tree.specs.Ordered.{IsBefore, AreOrdered}
 use Rattle.qs_tree.specs.Conflict.{Conflict, child, node_below, clash_below}
-use Rattle.qs_tree.specs.Adding.{Gives, IsRefusal, added, conflict_ahead, entries_below}
-use Rattle.qs_tree.specs.Places.{IsHit, IsGap, put_value}
-use Rattle.qs_tree.proofs.Places.{hit_tail, gap_tail, gap_first, gap_insert, put_value-again}
-use Rattle.qs_tree.proofs.Keys.{Held, entries_view, entries_of_map-map, key_cmp-segments}
+use Rattle.qs_tree.specs.Adding.{Gives, IsRefusal, entries_below}
 
 pub gives_err : {A B : Type 0} (view : A → B) (expected : Option B) (conflict : Option Conflict) (r : Result A Refusal) (e : Refusal) (Q : Refusal → Type 0)
     → IsErrAnd r Q → ((y : Refusal) → Q y → y ≡ e) → IsRefusal expected conflict e → Gives view expected conflict r
@@ -36,65 +25,39 @@ pub refused_too : {B C : Type 0} (expected : Option B) (expected' : Option C) (c
 refused_too expected expected' conflict conflict' (refusal.Conflict c) none same h = (none h.0, sym same ∙ h.1)
 refused_too expected expected' conflict conflict' refusal.OutOfMemory none same h = tt
 
--- an edit at a key, among entries where a search for it ended
-module _ (k : Key) (f : Tree → Option Tree) where
-  at_hit : (es : Held) (i : ℕ) (x w : ParsedValue) → IsHit key_cmp k es i → option_map (λ e. e.1) (slice_get es i) ≡ Some x
-      → f (tree_of x) ≡ Some (tree_of w) → update (step_of_key k) f (entries_view es) ≡ Some (entries_view (put_value es i w))
-  at_hit [] i x w h old step = absurd (omega (arith, h.in_range))
-  at_hit (e ∷ es) zero x w h old step = rw (← key_cmp-segments k e.0, h.same, same_Some e.1 x old, step)
-  at_hit (e ∷ es) (suc i) x w h old step = rw (← key_cmp-segments k e.0, h.before 0 (omega arith), at_hit es i x w (hit_tail key_cmp k e es i h) old step)
+-- what is done at a segment is done to the node that is there, which is put back
+module _ (s : Step) (f : Tree → Option Tree) where
+  abbrev put_back : Entries → Tree → Option Entries
+  put_back es u = update s (λ _. Some u) es
 
-  refused_at_hit : (es : Held) (i : ℕ) (x : ParsedValue) → IsHit key_cmp k es i → option_map (λ e. e.1) (slice_get es i) ≡ Some x
-      → f (tree_of x) ≡ None → update (step_of_key k) f (entries_view es) ≡ None
-  refused_at_hit [] i x h old step = absurd (omega (arith, h.in_range))
-  refused_at_hit (e ∷ es) zero x h old step = rw (← key_cmp-segments k e.0, h.same, same_Some e.1 x old, step)
-  refused_at_hit (e ∷ es) (suc i) x h old step = rw (← key_cmp-segments k e.0, h.before 0 (omega arith), refused_at_hit es i x (hit_tail key_cmp k e es i h) old step)
+  missing : (k : Segment) (es : Entries) → compare_segments s.seg k ≡ Less → IsBefore k es → find s.seg es ≡ None
+  missing k no_entries less h = refl
+  missing k (entry l m t es) less h = rw (segments_total.trans s.seg k l less h.0) (missing k es less h.1)
 
-  at_gap : (es : Held) (i : ℕ) (w : ParsedValue) → IsGap key_cmp k es i
-      → f uninitialized ≡ Some (tree_of w) → update (step_of_key k) f (entries_view es) ≡ Some (entries_view (insert es i (k, w)))
-  at_gap [] zero w h step = rw step
-  at_gap [] (suc i) w h step = absurd (omega (arith, h.in_range))
-  at_gap (e ∷ es) zero w h step = rw (← key_cmp-segments k e.0, h.after 0 (omega arith) (omega arith), step)
-  at_gap (e ∷ es) (suc i) w h step = rw (← key_cmp-segments k e.0, h.before 0 (omega arith), at_gap es i w (gap_tail key_cmp k e es i h) step)
+  through : {A B C : Type 0} (g : B → C) (h : A → Option B) (o : Option A) → option_map g (option_and_then h o) ≡ option_and_then (λ a. option_map g (h a)) o
+  through g h None = refl
+  through g h (Some a) = refl
 
-  refused_at_gap : (es : Held) (i : ℕ) → IsGap key_cmp k es i → f uninitialized ≡ None → update (step_of_key k) f (entries_view es) ≡ None
-  refused_at_gap [] i h step = rw step
-  refused_at_gap (e ∷ es) zero h step = rw (← key_cmp-segments k e.0, h.after 0 (omega arith) (omega arith), step)
-  refused_at_gap (e ∷ es) (suc i) h step = rw (← key_cmp-segments k e.0, h.before 0 (omega arith), refused_at_gap es i (gap_tail key_cmp k e es i h) step)
+  at_once : {A B : Type 0} (g : A → B) (o : Option A) → option_map g o ≡ option_and_then (λ a. Some (g a)) o
+  at_once g None = refl
+  at_once g (Some a) = refl
 
-pub child_at_hit : (k : Key) (es : Held) (i : ℕ) (x : ParsedValue) → IsHit key_cmp k es i → option_map (λ e. e.1) (slice_get es i) ≡ Some x
-    → child (segment_of_key k) (entries_view es) ≡ tree_of x
-child_at_hit k [] i x h old = absurd (omega (arith, h.in_range))
-child_at_hit k (e ∷ es) zero x h old = rw (← key_cmp-segments k e.0, h.same, same_Some e.1 x old)
-child_at_hit k (e ∷ es) (suc i) x h old = rw (← key_cmp-segments k e.0, h.before 0 (omega arith)) (child_at_hit k es i x (hit_tail key_cmp k e es i h) old)
+  pub updated : (es : Entries) → AreOrdered es → update s f es ≡ option_and_then (put_back es) (f (child s.seg es))
+  updated no_entries h = at_once (λ u. entry s.seg s.mark u no_entries) (f uninitialized)
+  updated (entry k m t es) h = by (updated es h.1) (compare_segments s.seg k) refl
+    where
+      by : update s f es ≡ option_and_then (put_back es) (f (child s.seg es)) → (o : Ordering) → compare_segments s.seg k ≡ o
+          → update_by o s f k m t es (update s f es) ≡ option_and_then (λ u. update_by o s (λ _. Some u) k m t es (put_back es u)) (f (child s.seg (entry k m t es)))
+      by more Less d = rw (d, missing k es d h.0) (at_once (λ u. entry s.seg s.mark u (entry k m t es)) (f uninitialized))
+      by more Equal d = rw d (at_once (λ u. entry k m u es) (f t))
+      by more Greater d = rw (d, more) (through (entry k m t) (put_back es) (f (child s.seg es)))
 
-pub child_at_gap : (k : Key) (es : Held) (i : ℕ) → IsGap key_cmp k es i → child (segment_of_key k) (entries_view es) ≡ uninitialized
-child_at_gap k [] i h = refl
-child_at_gap k (e ∷ es) zero h = rw (← key_cmp-segments k e.0, h.after 0 (omega arith) (omega arith)) (child_at_gap k es 0 (gap_first key_cmp k e es h))
-child_at_gap k (e ∷ es) (suc i) h = rw (← key_cmp-segments k e.0, h.before 0 (omega arith)) (child_at_gap k es i (gap_tail key_cmp k e es i h))
+  module _ (es : Entries) (ordered : AreOrdered es) (x : Tree) (there : x ≡ child s.seg es) where
+    pub put_there : (kept new : Entries) (u : Tree) → f x ≡ Some u → ((u : Tree) → update s (λ _. Some u) kept ≡ update s (λ _. Some u) es) → update s (λ _. Some u) kept ≡ Some new → update s f es ≡ Some new
+    put_there kept new u step same put = updated es ordered ∙ ap (λ t. option_and_then (put_back es) (f t)) (sym there) ∙ ap (option_and_then (put_back es)) step ∙ sym (same u) ∙ put
 
-module _ (k : Key) (f : Tree → Option Tree) (m : ParsedMap) (at : ℕ) where
-  module _ (hit : IsHit key_cmp k m.map at) (x : ParsedValue) (old : option_map (λ e. e.1) (slice_get m.map at) ≡ Some x) where
-    pub written : (n : ParsedMap) (u w : ParsedValue) → f (tree_of x) ≡ Some (tree_of w) → n.map ≡ put_value (put_value m.map at u) at w
-        → update (step_of_key k) f (entries_of_map m) ≡ Some (entries_of_map n)
-    written n u w step new = rw (entries_of_map-map m, entries_of_map-map n, new, put_value-again m.map at u w) (at_hit k f m.map at x w hit old step)
-
-    pub refused : f (tree_of x) ≡ None → update (step_of_key k) f (entries_of_map m) ≡ None
-    refused step = rw entries_of_map-map (refused_at_hit k f m.map at x hit old step)
-
-    pub child_found : child (segment_of_key k) (entries_of_map m) ≡ tree_of x
-    child_found = rw entries_of_map-map (child_at_hit k m.map at x hit old)
-
-  module _ (gap : IsGap key_cmp k m.map at) where
-    pub inserted : (n : ParsedMap) (w : ParsedValue) → f uninitialized ≡ Some (tree_of w) → n.map ≡ insert_entry key_cmp m.map k w
-        → update (step_of_key k) f (entries_of_map m) ≡ Some (entries_of_map n)
-    inserted n w step new = rw (entries_of_map-map m, entries_of_map-map n, new, gap_insert key_cmp k m.map at w gap) (at_gap k f m.map at w gap step)
-
-    pub not_inserted : f uninitialized ≡ None → update (step_of_key k) f (entries_of_map m) ≡ None
-    not_inserted step = rw entries_of_map-map (refused_at_gap k f m.map at gap step)
-
-    pub child_missing : child (segment_of_key k) (entries_of_map m) ≡ uninitialized
-    child_missing = rw entries_of_map-map (child_at_gap k m.map at gap)
+    pub refused_there : f x ≡ None → update s f es ≡ None
+    refused_there step = updated es ordered ∙ ap (λ t. option_and_then (put_back es) (f t)) (sym there) ∙ ap (option_and_then (put_back es)) step
 
 -- one level down from a node that is a map or becomes one
 fresh_below : (s : Step) (o : Option Tree) → option_map (λ u. mapping (entry s.seg s.mark u no_entries)) o ≡ option_map mapping (option_map (λ u. entry s.seg s.mark u no_entries) o)
@@ -118,14 +81,3 @@ child_below s (leaf l) es is = cc
 child_below s (sequence xs) es is = cc
 child_below s (mapping ms) es is = rw (same_Some ms es is)
 child_below s uninitialized es is = rw (← same_Some no_entries es is)
-
--- the rest of a pair, one level down
-abbrev pub further : Rest → IntoIter Key Global → Rest
-further r path = record { path = path; level = r.level + 1; manner = r.manner; leaf = r.leaf }
-
-module _ (r : Rest) (k : Key) (path : IntoIter Key Global) (items : into_iter_items r.path ≡ k ∷ into_iter_items path) (t : Tree) (es : Entries) (is : entries_below t ≡ Some es) where
-  pub added_further : added r t ≡ option_map mapping (update (step_of_key k) (added (further r path)) es)
-  added_further = rw items (one_below (step_of_key k) (added (further r path)) t es is)
-
-  pub conflict_further : conflict_ahead (further r path) (child (segment_of_key k) es) ≡ conflict_ahead r t
-  conflict_further = rw (items, none_clash t es is, child_below (segment_of_key k) t es is) refl

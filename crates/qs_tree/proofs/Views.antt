@@ -1,11 +1,16 @@
 -- A value of the code, level by level, beside the tree that it is.
-use Rattle.std.proofs.Common.{◌≡◌, ℕ, List, [], ◌∷◌, ◌++◌, Vec, Global, refl, ap, rules}
-use Rattle.qs_spec.specs.Tree.{Tree, Items}
+use Rattle.std.proofs.Common.{◌≡◌, List, [], ◌∷◌, ◌++◌, Vec, Global, refl, ap, rules}
 use Rattle.qs_spec.specs.Tree.Tree.{sequence, mapping, uninitialized}
 use Rattle.qs_spec.specs.Tree.Items.{item}
 use Rattle.qs_spec.specs.toward.InPlace.{push_item}
-use Rattle.qs_tree.specs.declared.value.ParsedValue.{ParsedValue, Map, Sequence, String, Null, NoValue, Uninitialized, the_lemmas}
+use Rattle.qs_tree.specs.declared.value.ParsedValue.{ParsedValue, Map, Sequence, Uninitialized, the_lemmas}
 use Rattle.qs_tree.specs.declared.map.ParsedMap.{ParsedMap}
+use Rattle.qs_tree.specs.declared.pair.Leaf.{Leaf}
+use Rattle.qs_tree.specs.declared.draft.Draft.{Fresh, the_lemmas as draft_lemmas}
+use Rattle.qs_tree.specs.declared.draft.Draft.TheVariants as draft
+use Rattle.qs_tree.specs.declared.draft.DraftMap.{DraftMap}
+use Rattle.qs_tree.specs.Pairs.{leaf_tree}
+use Rattle.qs_tree.specs.Draft.{draft_tree, draft_entries}
 use Rattle.qs_tree.specs.Views.{tree_of, entries_of_map, items_of}
 
 pub tree_of-Uninitialized : tree_of Uninitialized ≡ uninitialized
@@ -21,4 +26,16 @@ pub items_of-push : (vs : List ParsedValue) (v : ParsedValue) → items_of (vs +
 items_of-push [] v = refl
 items_of-push (x ∷ vs) v = ap (item (tree_of x)) (items_of-push vs v)
 
-pub ruleset views = (tree_of-Uninitialized, tree_of-Sequence, tree_of-Map, items_of-push)
+pub draft_tree-Fresh : draft_tree Fresh ≡ uninitialized
+draft_tree-Fresh = search (rules, draft_lemmas)
+
+pub draft_tree-Leaf : (l : Leaf) → draft_tree (draft.Leaf l) ≡ leaf_tree l
+draft_tree-Leaf l = search (rules, draft_lemmas)
+
+pub draft_tree-Sequence : (v : Vec ParsedValue Global) → draft_tree (draft.Sequence v) ≡ sequence (items_of v.items)
+draft_tree-Sequence v = search (rules, draft_lemmas)
+
+pub draft_tree-Map : (m : DraftMap) → draft_tree (draft.Map m) ≡ mapping (draft_entries m)
+draft_tree-Map m = search (rules, draft_lemmas)
+
+pub ruleset views = (tree_of-Uninitialized, tree_of-Sequence, tree_of-Map, items_of-push, draft_tree-Fresh, draft_tree-Leaf, draft_tree-Sequence, draft_tree-Map)

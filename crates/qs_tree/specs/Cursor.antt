@@ -1,5 +1,5 @@
 -- What the calls of a cursor take.
-use Rattle.std.specs.Prelude.{◌≡◌, ℕ, ◌+◌, ◌-◌, ◌≤◌, List, [], ◌∷◌, ◌++◌, take, drop, length, Bool, Option, Some, None}
+use Rattle.std.specs.Prelude.{◌≡◌, ℕ, ◌+◌, ◌-◌, ◌≤◌, List, [], ◌∷◌, ◌++◌, take, drop, length, Bool, true, false, Option, Some, None}
 use Rattle.qs_spec.specs.Token.{Kind, Token, tokens}
 use Rattle.qs_spec.specs.Grammar.{is_close, ends_last, ends_root}
 use Rattle.qs_tree.specs.declared.cursor.Kind as kind
@@ -64,15 +64,27 @@ abbrev pub IsPast : List Token → cursor.Cursor → Type 0
 IsPast [] c = c.rest.now ≡ []
 IsPast (t ∷ ts) c = (t.kind ≡ Kind.Amp) × (ts ≡ left c)
 
--- with nothing left the end may have been looked at
-abbrev pub slack : List ℕ → ℕ
-slack [] = 1
-slack (b ∷ rest) = 0
+-- whether the end was met, after a look
+abbrev pub met : Option token.Token → Bool → Bool
+met None before = true
+met (Some t) before = before
 
--- A cursor moved on: each byte that it took is a step, and so is a look that met the end, of which there is at most one, with
--- those before.
-pub record GoesOn (looked : ℕ) (old new : cursor.Cursor) : Type 0 where
+-- where the end was met, nothing is left
+abbrev pub KnowsEnd : cursor.Cursor → Type 0
+KnowsEnd c = c.ended ≡ true → c.rest.now ≡ []
+
+-- a look that is still to meet the end
+abbrev pub to_come : Bool → ℕ
+to_come true = 0
+to_come false = 1
+
+-- the steps of the whole input: those that were taken, and those to come, for the bytes that are left and for the look at the end
+abbrev pub in_all : cursor.Cursor → ℕ
+in_all c = spent c + to_come c.ended
+
+-- A cursor moved on: each byte that it took is a step, and so is the one look that met the end.
+pub record GoesOn (old new : cursor.Cursor) : Type 0 where
   pub form : new.form ≡ old.form
   pub shorter : length new.rest.now ≤ length old.rest.now
-  pub least : spent old ≤ spent new
-  pub most : spent new + looked ≤ spent old + slack new.rest.now
+  pub steps : in_all new ≡ in_all old
+  pub end : KnowsEnd new

@@ -8,6 +8,7 @@ pub mod Views
 pub mod Ordered
 pub mod Keys
 pub mod Escapes
+pub mod Owned
 pub mod Pairs
 pub mod Raw
 pub mod Reading
@@ -15,3 +16,10 @@ pub mod Conflict
 pub mod Adding
 pub mod Parsing
 pub mod Small
+pub mod Draft
+pub mod Descent
+pub mod Settling
+pub mod NodeCount
+pub mod Equality
+pub mod EqualityLaws
+pub mod Comparing

@@ -1,5 +1,5 @@
 -- What the calls that read a pair answer.
-use Rattle.std.specs.Prelude.{◌≡◌, ◌≢◌, ℕ, List, [], ◌∷◌, ◌++◌, Option, Some, None, Result, Ok, Err, option_map, IsTrue, Bool, ◌&&◌, ◌==◌, length}
+use Rattle.std.specs.Prelude.{◌≡◌, ℕ, List, [], ◌∷◌, ◌++◌, Option, Some, None, Result, Ok, Err, option_map, IsTrue, Bool, true, false, ◌&&◌, ◌==◌, length}
 use Rattle.qs_spec.specs.Token.{Kind, Token}
 use Rattle.qs_spec.specs.Token.Kind.{Amp, Equals, Open, Close, Other}
 use Rattle.qs_spec.specs.Segment.{Step, step_of}
@@ -13,6 +13,7 @@ use Rattle.qs_tree.specs.declared.pair.Leaf as code
 use Rattle.qs_tree.specs.declared.pair.Pair as code_pair
 use Rattle.qs_tree.specs.declared.reading.Item as item
 use Rattle.qs_tree.specs.declared.reading.Fault as fault
+use Rattle.qs_tree.specs.declared.reading.Reason as reason
 use Rattle.qs_tree.specs.Pairs.{leaf_of, pair_of}
 use Rattle.qs_tree.specs.Cursor.{kind_of_token, left, IsPast}
 
@@ -26,13 +27,13 @@ abbrev pub IsRootStop : Option token.Token → Type 0
 IsRootStop None = Unit {0}
 IsRootStop (Some t) = IsTrue (ends_root 1 (kind_of_token t.kind))
 
--- the cursor stands behind a token
+-- the cursor stands behind a token, and hasn't met the end
 abbrev pub IsBehind : token.Token → cursor.Cursor → Type 0
-IsBehind t c = t.place.rest.now ≡ t.raw.now ++ c.rest.now
+IsBehind t c = (t.place.rest.now ≡ t.raw.now ++ c.rest.now) × (c.ended ≡ false)
 
 -- the same, or at the end, which it met
 abbrev pub StandsBehind : Option token.Token → cursor.Cursor → Type 0
-StandsBehind None c = c.rest.now ≡ []
+StandsBehind None c = (c.rest.now ≡ []) × (c.ended ≡ true)
 StandsBehind (Some t) c = IsBehind t c
 
 -- what was found is this leaf, and the cursor is past what it stands in; or memory ran out
@@ -80,6 +81,11 @@ is_nothing raw (Some t) = length raw == 0 && is_amp (kind_of_token t.kind)
 abbrev pub root_path : List ℕ → List Step
 root_path [] = []
 root_path (b ∷ raw) = step_of (b ∷ raw) ∷ []
+
+-- why a pair can't go on that ends in a bracket, behind these raw bytes
+abbrev pub end_reason : List ℕ → reason.Reason
+end_reason [] = reason.TheVariants.EndBehindOpen
+end_reason (b ∷ raw) = reason.TheVariants.EndInSegment
 
 -- what is found behind a root key with these raw bytes
 abbrev pub behind_root_at : Kind → ℕ → List Step → Token → List Token → Rest Pair

@@ -7,8 +7,9 @@ use Rattle.qs_tree.specs.declared.cursor.Cursor as cursor
 use Rattle.qs_tree.specs.declared.pair.Pair as pair
 use Rattle.qs_tree.specs.declared.reading.Item as item
 use Rattle.qs_tree.specs.declared.reading.Fault as fault
-use Rattle.qs_tree.specs.declared.value.ParsedValue.{ParsedValue}
-use Rattle.qs_tree.specs.declared.value.ParsedValue.TheVariants.{Uninitialized}
+use Rattle.qs_tree.specs.declared.draft.Draft.{Draft}
+use Rattle.qs_tree.specs.declared.draft.Draft.TheVariants.{Fresh}
+use Rattle.qs_tree.specs.Draft.{IsFlat}
 use Rattle.qs_tree.specs.Search.{is_ampersand}
 use Rattle.qs_tree.specs.Cursor.{kind_of_token}
 use Rattle.qs_tree.specs.Pairs.{IsBare}
@@ -47,6 +48,6 @@ ReadsSmall (Ok item.TheVariants.Ampersand) new = IsTrue (is_ampersands new.rest.
 ReadsSmall (Ok (item.TheVariants.Pair p)) new = IsBare p × (new.rest.now ≡ [])
 ReadsSmall (Err f) new = ⊥
 
--- nothing is left; or the tree is still fresh, and what is left is such an input
-abbrev pub StaysSmall : List ℕ → ParsedValue → Type 0
-StaysSmall rest tree = (rest ≡ []) ⊎ (TakesNoMemory rest × (tree ≡ Uninitialized))
+-- nothing is left, and the tree is no map; or it is still fresh, and what is left is such an input
+abbrev pub StaysSmall : List ℕ → Draft → Type 0
+StaysSmall rest tree = ((rest ≡ []) × IsFlat tree) ⊎ (TakesNoMemory rest × (tree ≡ Fresh))

@@ -1,36 +1,27 @@
 //! Adding a pair to a tree.
-ghost use Rattle.std.specs.Prelude.{◌≡◌, [], true, false, IfOk, IsOk, Some, None};
-ghost use Rattle.std.specs.String.{string_bytes};
+ghost use Rattle.std.specs.Prelude.{◌≡◌, ◌+◌, ◌<◌, ◌^◌, [], ◌∷◌, ◌++◌, length, true, false, IsOkAnd, Some, None};
 ghost use Rattle.qs_spec.specs.Segment.Segment.{Str};
 ghost use Rattle.qs_spec.specs.Tree.{Tree, empty_step};
 ghost use Rattle.qs_spec.specs.Tree.Tree.{sequence};
 ghost use Rattle.qs_spec.specs.toward.InPlace as in_place;
 ghost use Rattle.qs_spec.specs.toward.InPlace.{add, add_flat, push_item, update};
 ghost use Rattle.qs_tree.specs.declared.pair.Manner.TheVariants.{Plain};
-ghost use Rattle.qs_tree.specs.declared.value.ParsedValue.TheVariants.{Uninitialized};
-ghost use Rattle.qs_tree.specs.Views.{segment_of_key, step_of_key, tree_of, items_of, entries_of_map};
-ghost use Rattle.qs_tree.specs.Pairs.{IsBare, leaf_of, leaf_tree, is_push, pair_of};
-ghost use Rattle.qs_tree.specs.Conflict.{child, clash_below, clash_flat, clash_here, conflict_at, conflict_of, keys_text, leaf_on_map};
-ghost use Rattle.qs_tree.specs.Adding.{Gives, IsRefusal, IsShort, added, conflict_ahead, entries_below};
+ghost use Rattle.qs_tree.specs.declared.draft.Draft.TheVariants.{Fresh};
+ghost use Rattle.qs_tree.specs.Draft.{draft_tree, draft_entries, entries_seen, IsFlat};
+ghost use Rattle.qs_tree.specs.Views.{segment_of_key, step_of_key, items_of};
+ghost use Rattle.qs_tree.specs.Pairs.{IsBare, leaf_of, leaf_tree, is_push, pair_of, path_of};
+ghost use Rattle.qs_tree.specs.Conflict.{child, clash_flat, clash_here, conflict_along, conflict_at, conflict_of, keys_text, leaf_on_map};
+ghost use Rattle.qs_tree.specs.Adding.{Gives, IsRefusal};
 
 use crate::conflict::{Clash, Conflict, Refusal};
+use crate::descent::{Way, descend, map_of, open, rebuild};
+use crate::draft::{Draft, DraftMap};
 use crate::key::Key;
-use crate::map::{ParsedMap, search};
 use crate::pair::{Leaf, Manner, Pair};
 use crate::value::ParsedValue;
-use std::alloc::{AllocError, Global};
-use std::fmt::Write;
-use std::vec::IntoIter;
-
-/// What is left of a pair on the way to the end of its path.
-struct Rest<'qs> {
-    /// The keys below the node that was reached.
-    path: IntoIter<Key<'qs>>,
-    /// How many keys lead to that node.
-    level: usize,
-    manner: Manner,
-    leaf: Leaf<'qs>,
-}
+use std::alloc::Global;
+use std::collections::BTreeMap;
+use std::mem;
 
 /// Adds a pair to a tree: its leaf goes to the end of its path, as its manner says.
 ///
@@ -38,90 +29,100 @@ struct Rest<'qs> {
 /// a fresh tree takes no memory.
 pub(crate) fn add_pair<'qs>(
     alloc: Global,
-    tree: ParsedValue<'qs>,
+    tree: Draft<'qs>,
     pair: Pair<'qs>,
-) -> Result<ParsedValue<'qs>, Refusal>
-    ensures added { let p = pair_of pair.entry in let before = tree_of tree.entry in
-        Gives tree_of (add p.path p.push p.leaf before) (conflict_of p.path p.push before) result }
-    ensures fresh { IsBare pair.entry → tree.entry ≡ Uninitialized → IsOk result }
+) -> Result<Draft<'qs>, Refusal>
+    ensures added { let p = pair_of pair.entry in let before = draft_tree tree.entry in
+        Gives draft_tree (add p.path p.push p.leaf before) (conflict_of p.path p.push before) result }
+    ensures fresh { IsBare pair.entry → tree.entry ≡ Fresh → IsOkAnd result IsFlat }
 {
-    let Pair { path, manner, leaf } = pair;
-    if path.is_empty() {
-        return add_here(alloc, tree, manner, leaf, 0);
-    }
-    let rest = Rest {
-        path: path.into_iter(),
-        level: 0,
+    let Pair {
+        mut path,
         manner,
         leaf,
+    } = pair;
+    let Some(last) = path.pop() else {
+        return add_here(alloc, tree, manner, leaf, 0);
     };
-    add_along(alloc, tree, rest)
+    if path.len() > 1 {
+        return add_along(alloc, tree, path, last, manner, leaf);
+    }
+    match path.pop() {
+        Some(first) => add_below(alloc, tree, first, last, manner, leaf),
+        None => add_at(alloc, tree, last, manner, leaf, 0),
+    }
 }
 
-// The node with the leaf at the end of the path.
-#[cycle(descend)]
+// The tree with the leaf at the end of several keys and a last one.
 fn add_along<'qs>(
     alloc: Global,
-    node: ParsedValue<'qs>,
-    rest: Rest<'qs>,
-) -> Result<ParsedValue<'qs>, Refusal>
-    requires { IsShort rest }
-    ensures { let before = tree_of node.entry in Gives tree_of (added rest.entry before) (conflict_ahead rest.entry before) result }
+    tree: Draft<'qs>,
+    keys: Vec<Key<'qs>>,
+    last: Key<'qs>,
+    manner: Manner,
+    leaf: Leaf<'qs>,
+) -> Result<Draft<'qs>, Refusal>
+    requires { length keys.items + 1 < 2 ^ 64 }
+    ensures { let push = is_push manner in let path = path_of (keys.entry.items ++ last.entry ∷ []) in let before = draft_tree tree.entry in
+        Gives draft_tree (add path push (leaf_of leaf.entry) before) (conflict_of path push before) result }
 {
-    let Rest {
-        mut path,
-        level,
-        manner,
-        leaf,
-    } = rest;
-    let Some(key) = path.next() else {
-        return add_here(alloc, node, manner, leaf, level);
-    };
-    let mut map = map_of(alloc, node, level)?;
-    let below = Rest {
-        path,
-        level: level + 1,
-        manner,
-        leaf,
-    };
-    map.add_below(alloc, key, below)?;
-    Ok(ParsedValue::Map(map))
+    let level = keys.len();
+    let Way { maps, node } = descend(alloc, tree, keys)?;
+    let node = add_at(alloc, node, last, manner, leaf, level)?;
+    rebuild(alloc, maps, node)
 }
 
-// The map that a node is, or that a fresh node becomes, to go below it.
-fn map_of<'qs>(
+// The same for two keys, which takes no vector of maps.
+fn add_below<'qs>(
     alloc: Global,
-    node: ParsedValue<'qs>,
-    level: usize,
-) -> Result<ParsedMap<'qs>, Refusal>
-    ensures { let before = tree_of node.entry in Gives entries_of_map (entries_below before) (conflict_at level (clash_below before)) result }
+    tree: Draft<'qs>,
+    first: Key<'qs>,
+    last: Key<'qs>,
+    manner: Manner,
+    leaf: Leaf<'qs>,
+) -> Result<Draft<'qs>, Refusal>
+    ensures { let push = is_push manner in let path = path_of (first.entry ∷ last.entry ∷ []) in let before = draft_tree tree.entry in
+        Gives draft_tree (add path push (leaf_of leaf.entry) before) (conflict_of path push before) result }
 {
-    let clash = match node {
-        ParsedValue::Map(map) => return Ok(map),
-        ParsedValue::Uninitialized => return Ok(ParsedMap::new(alloc)),
-        ParsedValue::Sequence(_) => Clash::BelowSequence,
-        ParsedValue::String(_) => Clash::BelowText,
-        ParsedValue::Null | ParsedValue::NoValue => Clash::BelowUnit,
-    };
-    Err(Refusal::Conflict(Conflict { level, clash }))
+    let (map, node) = open(alloc, tree, first, 0)?;
+    let node = add_at(alloc, node, last, manner, leaf, 1)?;
+    map.closed(alloc, node)
+}
+
+// The node with the leaf at a key below it.
+fn add_at<'qs>(
+    alloc: Global,
+    node: Draft<'qs>,
+    key: Key<'qs>,
+    manner: Manner,
+    leaf: Leaf<'qs>,
+    level: usize,
+) -> Result<Draft<'qs>, Refusal>
+    requires { level + 1 < 2 ^ 64 }
+    ensures { let push = is_push manner in let path = step_of_key key.entry ∷ [] in let before = draft_tree node.entry in
+        Gives draft_tree (add path push (leaf_of leaf.entry) before) (conflict_along level path (clash_here push) before) result }
+{
+    let mut map = map_of(alloc, node, level)?;
+    map.add_below(alloc, key, manner, leaf, level + 1)?;
+    Ok(Draft::Map(map))
 }
 
 // The node with the leaf at this very place.
 fn add_here<'qs>(
     alloc: Global,
-    node: ParsedValue<'qs>,
+    node: Draft<'qs>,
     manner: Manner,
     leaf: Leaf<'qs>,
     level: usize,
-) -> Result<ParsedValue<'qs>, Refusal>
-    ensures added { let before = tree_of node.entry in
-        Gives tree_of (in_place.add_here (is_push manner) (leaf_of leaf.entry) before) (conflict_at level (clash_here (is_push manner) before)) result }
-    ensures fresh { manner ≡ Plain → node.entry ≡ Uninitialized → IsOk result }
+) -> Result<Draft<'qs>, Refusal>
+    ensures added { let before = draft_tree node.entry in
+        Gives draft_tree (in_place.add_here (is_push manner) (leaf_of leaf.entry) before) (conflict_at level (clash_here (is_push manner) before)) result }
+    ensures fresh { manner ≡ Plain → node.entry ≡ Fresh → IsOkAnd result IsFlat }
 {
     match (manner, node) {
-        (Manner::Plain, ParsedValue::Map(mut map)) => {
+        (Manner::Plain, Draft::Map(mut map)) => {
             map.add_at_empty(alloc, leaf, level)?;
-            Ok(ParsedValue::Map(map))
+            Ok(Draft::Map(map))
         }
         (Manner::Plain, node) => add_plain(alloc, node, leaf, level),
         (Manner::Push, node) => add_pushed(alloc, node, leaf, level),
@@ -132,19 +133,19 @@ fn add_here<'qs>(
 #[tactic(auto, using(crate::proofs::Views::views))]
 fn add_plain<'qs>(
     alloc: Global,
-    node: ParsedValue<'qs>,
+    node: Draft<'qs>,
     leaf: Leaf<'qs>,
     level: usize,
-) -> Result<ParsedValue<'qs>, Refusal>
-    ensures added { let before = tree_of node.entry in
-        Gives tree_of (add_flat false (leaf_of leaf.entry) before) (conflict_at level (clash_flat false before)) result }
-    ensures fresh { node.entry ≡ Uninitialized → IsOk result }
+) -> Result<Draft<'qs>, Refusal>
+    ensures added { let before = draft_tree node.entry in
+        Gives draft_tree (add_flat false (leaf_of leaf.entry) before) (conflict_at level (clash_flat false before)) result }
+    ensures fresh { node.entry ≡ Fresh → IsOkAnd result IsFlat }
 {
     match node {
-        ParsedValue::Uninitialized => Ok(leaf.into_value()),
-        ParsedValue::Sequence(items) => appended(items, leaf),
-        ParsedValue::Map(map) => Err(map.conflict(alloc, level)),
-        old => appended(vec![in alloc; old]?, leaf),
+        Draft::Fresh => Ok(Draft::Leaf(leaf)),
+        Draft::Leaf(old) => appended(vec![in alloc; old.into_value()]?, leaf),
+        Draft::Sequence(items) => appended(items, leaf),
+        Draft::Map(map) => Err(map.conflict(alloc, level)),
     }
 }
 
@@ -152,18 +153,18 @@ fn add_plain<'qs>(
 #[tactic(auto, using(crate::proofs::Views::views))]
 fn add_pushed<'qs>(
     alloc: Global,
-    node: ParsedValue<'qs>,
+    node: Draft<'qs>,
     leaf: Leaf<'qs>,
     level: usize,
-) -> Result<ParsedValue<'qs>, Refusal>
-    ensures { let before = tree_of node.entry in
-        Gives tree_of (add_flat true (leaf_of leaf.entry) before) (conflict_at level (clash_flat true before)) result }
+) -> Result<Draft<'qs>, Refusal>
+    ensures { let before = draft_tree node.entry in
+        Gives draft_tree (add_flat true (leaf_of leaf.entry) before) (conflict_at level (clash_flat true before)) result }
 {
     match node {
-        ParsedValue::Uninitialized => appended(Vec::new(alloc), leaf),
-        ParsedValue::Sequence(items) => appended(items, leaf),
-        ParsedValue::Map(map) => Err(map.conflict(alloc, level)),
-        _ => Err(Refusal::Conflict(Conflict {
+        Draft::Fresh => appended(Vec::new(alloc), leaf),
+        Draft::Sequence(items) => appended(items, leaf),
+        Draft::Map(map) => Err(map.conflict(alloc, level)),
+        Draft::Leaf(_) => Err(Refusal::Conflict(Conflict {
             level,
             clash: Clash::PushOnLeaf,
         })),
@@ -172,64 +173,52 @@ fn add_pushed<'qs>(
 
 // The sequence of some items and a leaf.
 #[tactic(auto, using(crate::proofs::Views::views))]
-fn appended<'qs>(
-    mut items: Vec<ParsedValue<'qs>>,
-    leaf: Leaf<'qs>,
-) -> Result<ParsedValue<'qs>, Refusal>
-    ensures { Gives tree_of (Some (sequence (push_item (items_of items.entry.items) (leaf_tree leaf.entry)))) None result }
+fn appended<'qs>(mut items: Vec<ParsedValue<'qs>>, leaf: Leaf<'qs>) -> Result<Draft<'qs>, Refusal>
+    ensures { Gives draft_tree (Some (sequence (push_item (items_of items.entry.items) (leaf_tree leaf.entry)))) None result }
 {
     items.push(leaf.into_value())?;
-    Ok(ParsedValue::Sequence(items))
+    Ok(Draft::Sequence(items))
 }
 
-impl<'qs> ParsedMap<'qs> {
-    // With the rest of a pair below a key.
-    #[cycle(descend)]
-    fn add_below(&mut self, alloc: Global, key: Key<'qs>, rest: Rest<'qs>) -> Result<(), Refusal>
-        requires { IsShort rest }
-        ensures { let before = entries_of_map self.old in
-            Gives (λ _. entries_of_map self.new) (update (step_of_key key.entry) (added rest.entry) before)
-            (conflict_ahead rest.entry (child (segment_of_key key.entry) before)) result }
+impl<'qs> DraftMap<'qs> {
+    // With a leaf at a key.
+    fn add_below(
+        &mut self,
+        alloc: Global,
+        key: Key<'qs>,
+        manner: Manner,
+        leaf: Leaf<'qs>,
+        level: usize,
+    ) -> Result<(), Refusal>
+        ensures { let push = is_push manner in let before = draft_entries self.old in
+            Gives (λ _. draft_entries self.new) (update (step_of_key key.entry) (add [] push (leaf_of leaf.entry)) before)
+            (conflict_at level (clash_here push (child (segment_of_key key.entry) before))) result }
     {
-        match search(self.map.as_slice(), &key).place {
-            Ok(at) => {
-                let old = self.map.replace(at, ParsedValue::Uninitialized);
-                let new = add_along(alloc, old, rest)?;
-                self.map.replace(at, new);
-                Ok(())
-            }
-            Err(at) => {
-                let new = add_along(alloc, ParsedValue::Uninitialized, rest)?;
-                self.map.insert_at(at, key, new)?;
-                Ok(())
-            }
+        if let DraftMap::Tree(map) = self {
+            return add_in_tree(alloc, map, key, manner, leaf, level);
         }
+        let old = self.take(&key);
+        let new = add_here(alloc, old.node, manner, leaf, level)?;
+        self.put(alloc, old.place, key, new)?;
+        Ok(())
     }
 
     // With a plain leaf at the empty text.
     fn add_at_empty(&mut self, alloc: Global, leaf: Leaf<'qs>, level: usize) -> Result<(), Refusal>
-        ensures { let before = entries_of_map self.old in
-            Gives (λ _. entries_of_map self.new) (update empty_step (add_flat false (leaf_of leaf.entry)) before)
+        ensures { let before = draft_entries self.old in
+            Gives (λ _. draft_entries self.new) (update empty_step (add_flat false (leaf_of leaf.entry)) before)
             (conflict_at level (clash_flat false (child (Str []) before))) result }
     {
         let key = Key::from("");
-        match search(self.map.as_slice(), &key).place {
-            Ok(at) => {
-                let old = self.map.replace(at, ParsedValue::Uninitialized);
-                let new = add_plain(alloc, old, leaf, level)?;
-                self.map.replace(at, new);
-                Ok(())
-            }
-            Err(at) => {
-                self.map.insert_at(at, key, leaf.into_value())?;
-                Ok(())
-            }
-        }
+        let old = self.take(&key);
+        let new = add_plain(alloc, old.node, leaf, level)?;
+        self.put(alloc, old.place, key, new)?;
+        Ok(())
     }
 
     // The conflict of a leaf with this map.
-    fn conflict(&self, alloc: Global, level: usize) -> Refusal
-        ensures { IsRefusal {B = Tree} None (conflict_at level (Some (leaf_on_map (keys_text true (entries_of_map self.now))))) result }
+    fn conflict(self, alloc: Global, level: usize) -> Refusal
+        ensures { IsRefusal {B = Tree} None (conflict_at level (Some (leaf_on_map (keys_text true (draft_entries self.entry))))) result }
     {
         match self.shown_keys(alloc) {
             Ok(keys) => Refusal::Conflict(Conflict {
@@ -239,18 +228,24 @@ impl<'qs> ParsedMap<'qs> {
             Err(_) => Refusal::OutOfMemory,
         }
     }
+}
 
-    // The keys as they are shown, with `, ` between them.
-    fn shown_keys(&self, alloc: Global) -> Result<String, AllocError>
-        ensures { IfOk result (λ text. string_bytes text ≡ keys_text true (entries_of_map self.now)) }
-    {
-        let mut text = String::new(alloc);
-        for (place, entry) in self.map.as_slice().iter().enumerate() {
-            if place > 0 {
-                text.push_str(", ")?;
-            }
-            write!(text, "{}", entry.0)?;
-        }
-        Ok(text)
-    }
+// Adds a leaf at a key of a search tree, in which the key is looked up once.
+fn add_in_tree<'qs>(
+    alloc: Global,
+    map: &mut BTreeMap<Key<'qs>, Draft<'qs>>,
+    key: Key<'qs>,
+    manner: Manner,
+    leaf: Leaf<'qs>,
+    level: usize,
+) -> Result<(), Refusal>
+    ensures { let push = is_push manner in let before = entries_seen map.old.entries in
+        Gives (λ _. entries_seen map.new.entries) (update (step_of_key key.entry) (add [] push (leaf_of leaf.entry)) before)
+        (conflict_at level (clash_here push (child (segment_of_key key.entry) before))) result }
+{
+    let node = map.entry(key)?.or_insert(Draft::Fresh);
+    let old = mem::replace(node, Draft::Fresh);
+    let new = add_here(alloc, old, manner, leaf, level)?;
+    mem::replace(node, new);
+    Ok(())
 }

@@ -1,13 +1,15 @@
 //! Conflicts of a pair with a tree.
 ghost use Rattle.std.specs.Prelude.{◌≡◌, ◌+◌, ◌<◌, ◌^◌, length, Some, None, option_map, MatchResult};
 ghost use Rattle.qs_tree.specs.declared.conflict.Refusal.TheVariants.{OutOfMemory};
-ghost use Rattle.qs_tree.specs.Views.{segment_of_key, tree_of};
+ghost use Rattle.qs_tree.specs.Views.{segment_of_key};
+ghost use Rattle.qs_tree.specs.Draft.{draft_tree};
 ghost use Rattle.qs_tree.specs.Pairs.{path_of};
 ghost use Rattle.qs_tree.specs.Conflict as spec;
 ghost use Rattle.qs_tree.specs.Adding.{IsBelow, clash_view, conflict_view};
 
+use crate::draft::Draft;
 use crate::key::Key;
-use crate::value::ParsedValue;
+use crate::pair::Leaf;
 use std::alloc::{AllocError, AllocFailed};
 
 /// Why a pair could not be added.
@@ -59,46 +61,36 @@ impl<T: Drop> From<AllocFailed<T>> for Refusal {
 
 /// The first conflict that a pair meets on its way below a tree along some keys, whatever it would add at their end. Takes no
 /// memory.
-pub(crate) fn conflict_below<'t, 'qs, 'k>(
-    tree: &'t ParsedValue<'qs>,
-    path: &[Key<'k>],
-) -> Option<Conflict>
-    ensures { option_map conflict_view result ≡ spec.conflict_below (path_of path.now) (tree_of tree.now) }
+pub(crate) fn conflict_below<'t, 'qs>(tree: &'t Draft<'qs>, path: &[Key<'qs>]) -> Option<Conflict>
+    ensures { option_map conflict_view result ≡ spec.conflict_below (path_of path.now) (draft_tree tree.now) }
 {
-    conflict_from(tree, path, 0)
-}
-
-// The same from a node at a level.
-fn conflict_from<'t, 'qs, 'k>(
-    node: &'t ParsedValue<'qs>,
-    path: &[Key<'k>],
-    level: usize,
-) -> Option<Conflict>
-    requires { level + length path.now < 2 ^ 64 }
-    ensures { option_map conflict_view result ≡ spec.conflict_along level (path_of path.now) (λ t. None) (tree_of node.now) }
-{
-    let (key, rest) = path.split_first()?;
-    match node_below(node, key) {
-        Ok(Some(child)) => conflict_from(child, rest, level + 1),
-        Ok(None) => None,
-        Err(clash) => Some(Conflict { level, clash }),
+    let mut node = Some(tree);
+    for (level, key) in path.iter().enumerate() {
+        let Some(here) = node else {
+            return None;
+        };
+        match node_below(here, key) {
+            Ok(child) => node = child,
+            Err(clash) => return Some(Conflict { level, clash }),
+        }
     }
+    None
 }
 
 // The node at a key below a node, if there is one, or why there can't be.
-fn node_below<'t, 'qs, 'k>(
-    node: &'t ParsedValue<'qs>,
-    key: &Key<'k>,
-) -> Result<Option<&'t ParsedValue<'qs>>, Clash>
-    ensures { let before = tree_of node.now in MatchResult result
-        (λ child. IsBelow (option_map (λ v. tree_of v.now) child) (segment_of_key key.now) before)
+fn node_below<'t, 'qs>(
+    node: &'t Draft<'qs>,
+    key: &Key<'qs>,
+) -> Result<Option<&'t Draft<'qs>>, Clash>
+    ensures { let before = draft_tree node.now in MatchResult result
+        (λ child. IsBelow (option_map (λ v. draft_tree v.now) child) (segment_of_key key.now) before)
         (λ clash. spec.clash_below before ≡ Some (clash_view clash)) }
 {
     match node {
-        ParsedValue::Map(map) => Ok(map.get(key)),
-        ParsedValue::Uninitialized => Ok(None),
-        ParsedValue::Sequence(_) => Err(Clash::BelowSequence),
-        ParsedValue::String(_) => Err(Clash::BelowText),
-        ParsedValue::Null | ParsedValue::NoValue => Err(Clash::BelowUnit),
+        Draft::Map(map) => Ok(map.get(key)),
+        Draft::Fresh => Ok(None),
+        Draft::Sequence(_) => Err(Clash::BelowSequence),
+        Draft::Leaf(Leaf::Text(_)) => Err(Clash::BelowText),
+        Draft::Leaf(Leaf::Null | Leaf::NoValue) => Err(Clash::BelowUnit),
     }
 }

@@ -6,7 +6,7 @@ ghost use Rattle.qs_spec.specs.Token.{raw_of};
 ghost use Rattle.qs_tree.specs.Small.{is_plain};
 ghost use Rattle.qs_spec.specs.Grammar.{is_amp, is_equals, is_open, is_close};
 ghost use Rattle.qs_spec.specs.toward.Reading.{cut};
-ghost use Rattle.qs_tree.specs.Cursor.{kind_of_token, token_of, BeginsWith, ends_of, left, spent, looks, raw_behind, behind, IsPast, GoesOn, taken, IsLeft};
+ghost use Rattle.qs_tree.specs.Cursor.{kind_of_token, token_of, BeginsWith, ends_of, left, spent, looks, met, raw_behind, behind, IsPast, GoesOn, taken, to_come, IsLeft};
 
 use crate::search::find_ampersand;
 use crate::steps::Steps;
@@ -113,7 +113,10 @@ fn first_token(bytes: &[u8], form: bool) -> (Kind, usize)
 impl<'qs> Place<'qs> {
     /// A cursor that begins at this place again, with steps of its own.
     pub fn again(self, form: bool) -> Cursor<'qs>
-        ensures { result.rest.now ≡ self.entry.rest.now }
+        ensures rest { result.rest.now ≡ self.entry.rest.now }
+        ensures form { result.form ≡ form }
+        ensures steps { result.steps ≡ 0 }
+        ensures fresh { result.ended ≡ false }
     {
         Cursor::new(self.rest, form, Steps::new())
     }
@@ -135,6 +138,7 @@ impl<'qs> Cursor<'qs> {
         ensures rest { result.rest.now ≡ input.now }
         ensures form { result.form ≡ form }
         ensures steps { result.steps ≡ steps }
+        ensures fresh { result.ended ≡ false }
     {
         Cursor {
             rest: input,
@@ -151,6 +155,13 @@ impl<'qs> Cursor<'qs> {
         self.steps
     }
 
+    /// Whether the end was met. This is no look at the input.
+    pub fn has_ended(&self) -> bool
+        ensures { result ≡ self.now.ended }
+    {
+        self.ended
+    }
+
     /// The place before what is left.
     pub fn place(&self) -> Place<'qs>
         ensures { result.rest.now ≡ self.now.rest.now }
@@ -161,7 +172,8 @@ impl<'qs> Cursor<'qs> {
     /// How many bytes of an input were read up to here, and one more where its end was.
     pub fn position(&self, input: &[u8]) -> usize
         requires { length self.now.rest.now ≤ length input.now }
-        ensures { result ≤ length input.now + 1 }
+        ensures bound { result ≤ length input.now + 1 }
+        ensures exact { result + (length self.now.rest.now + to_come self.now.ended) ≡ length input.now + 1 }
     {
         input.len() - self.rest.len() + usize::from(self.ended)
     }
@@ -184,6 +196,7 @@ impl<'qs> Cursor<'qs> {
         ensures shorter { IfSome result (λ _. length self.new.rest.now < length self.old.rest.now) }
         ensures form { self.new.form ≡ self.old.form }
         ensures cost { spent self.new ≡ spent self.old + looks result }
+        ensures met { self.new.ended ≡ met result self.old.ended }
     {
         if self.rest.is_empty() {
             self.ended = true;
@@ -208,7 +221,9 @@ impl<'qs> Cursor<'qs> {
         ensures end { IfNone result.1 (self.new.rest.now ≡ []) }
         ensures shorter { IfSome result.1 (λ _. length self.new.rest.now < length self.old.rest.now) }
         ensures cost { spent self.new ≡ spent self.old + looks result.1 }
-        ensures moves { GoesOn 0 self.old self.new }
+        ensures met { self.new.ended ≡ met result.1 self.old.ended }
+        ensures fewer { length self.new.rest.now ≤ length self.old.rest.now }
+        ensures form { self.new.form ≡ self.old.form }
     {
         self.run_from(self.place(), until)
     }
@@ -224,7 +239,9 @@ impl<'qs> Cursor<'qs> {
         ensures end { IfNone result.1 (self.new.rest.now ≡ []) }
         ensures shorter { IfSome result.1 (λ _. length self.new.rest.now < length self.old.rest.now) }
         ensures cost { spent self.new ≡ spent self.old + looks result.1 }
-        ensures moves { GoesOn 0 self.old self.new }
+        ensures met { self.new.ended ≡ met result.1 self.old.ended }
+        ensures fewer { length self.new.rest.now ≤ length self.old.rest.now }
+        ensures form { self.new.form ≡ self.old.form }
     {
         loop {
             let before = self.since(place);
@@ -242,7 +259,8 @@ impl<'qs> Cursor<'qs> {
         ensures value { result.now ≡ raw_of (cut is_amp (left self.old)).0 }
         ensures past { IsPast (cut is_amp (left self.old)).1 self.new }
         ensures plain { IsTrue (is_plain self.old.rest.now) → (is_marked result.now ≡ false) × (self.new.rest.now ≡ []) }
-        ensures moves { GoesOn 0 self.old self.new }
+        ensures fewer { length self.new.rest.now ≤ length self.old.rest.now }
+        ensures moves { self.old.ended ≡ false → GoesOn self.old self.new }
     {
         let end = find_ampersand(self.rest).unwrap_or(self.rest.len());
         let (value, rest) = self.rest.split_at(end);

@@ -1,6 +1,7 @@
 //! A vector of entries in the order of their keys, each key once.
-ghost use Rattle.std.specs.Prelude.{◌≡◌, ◌<◌, [], length, ◌∷◌, OnOk, OnErr, Some, option_map, slice_get};
+ghost use Rattle.std.specs.Prelude.{◌≡◌, ◌<◌, [], length, ◌∷◌, ◌++◌, IfOk, IfNone, OnOk, OnErr, Some, option_map, slice_get};
 ghost use Rattle.std.specs.List.{remove};
+ghost use Rattle.std.specs.Option.{option_to_list};
 ghost use Rattle.std.specs.List.Sorted.{IsStrictlySortedBy};
 ghost use Rattle.std.specs.Map.{keys_of};
 ghost use Rattle.std.specs.BTreeMap.{insert_entry};
@@ -41,11 +42,24 @@ impl<K: Ord, V> Entries<K, V> {
         }
     }
 
+    /// No entries, with room for so many.
+    pub fn with_capacity(alloc: Global, capacity: usize) -> Result<Self, AllocError>
+        ensures { IfOk result (λ entries. entries ≡ []) }
+    {
+        let items = Vec::with_capacity(alloc, capacity)?;
+        Ok(Entries { items })
+    }
+
     /// How many entries there are.
     pub fn len(&self) -> usize
         ensures { result ≡ length self.now }
     {
         self.items.len()
+    }
+
+    /// Where the memory for the entries comes from.
+    pub fn allocator(&self) -> Global {
+        *self.items.allocator()
     }
 
     /// The entries, in the order of their keys.
@@ -54,6 +68,15 @@ impl<K: Ord, V> Entries<K, V> {
         ensures sorted { IsStrictlySortedBy K.cmp (keys_of self.now) }
     {
         &self.items
+    }
+
+    /// The entries as they lie.
+    pub fn into_items(self) -> Vec<(K, V)>
+        ensures all { result.items ≡ self }
+        ensures sorted { IsStrictlySortedBy K.cmp (keys_of self) }
+    {
+        let Entries { items } = self;
+        items
     }
 
     /// The entry at a place.
@@ -65,9 +88,7 @@ impl<K: Ord, V> Entries<K, V> {
             None => None,
         }
     }
-}
 
-impl<K: Ord + Drop, V: Drop> Entries<K, V> {
     /// Puts a value in the place of the one that is there, and answers that one.
     pub fn replace(&mut self, at: usize, value: V) -> V
         requires { at < length self.old }
@@ -77,6 +98,23 @@ impl<K: Ord + Drop, V: Drop> Entries<K, V> {
         mem::replace(&mut self.items[at].1, value)
     }
 
+    /// Takes the entry with the last key out, if there is one.
+    pub fn pop(&mut self) -> Option<(K, V)>
+        ensures all { self.old ≡ self.new ++ option_to_list result }
+        ensures none { IfNone result (self.new ≡ []) }
+    {
+        self.items.pop()
+    }
+
+    /// Frees the memory of no entries.
+    pub fn destroy_empty(self)
+        requires { self ≡ [] }
+    {
+        self.into_items().destroy_empty();
+    }
+}
+
+impl<K: Ord + Drop, V: Drop> Entries<K, V> {
     /// Puts an entry at the place where its key is missing. On an error nothing is changed.
     pub fn insert_at(&mut self, at: usize, key: K, value: V) -> Result<(), AllocError>
         requires { IsGap K.cmp key self.old at }
@@ -86,6 +124,15 @@ impl<K: Ord + Drop, V: Drop> Entries<K, V> {
         Ok(self.items.insert(at, (key, value))?)
     }
 
+    /// Puts an entry behind the others, where its key belongs. On an error nothing is changed.
+    pub fn push(&mut self, key: K, value: V) -> Result<(), AllocError>
+        requires { IsStrictlySortedBy K.cmp (keys_of self.old ++ key ∷ []) }
+        ensures ok { OnOk result (self.new ≡ self.old ++ (key, value) ∷ []) }
+        ensures err { OnErr result (self.new ≡ self.old) }
+    {
+        Ok(self.items.push((key, value))?)
+    }
+
     /// Takes the entry at a place out.
     pub fn remove_at(&mut self, at: usize) -> (K, V)
         requires { at < length self.old }
@@ -93,19 +140,5 @@ impl<K: Ord + Drop, V: Drop> Entries<K, V> {
         ensures rest { self.new ≡ remove self.old at }
     {
         self.items.remove(at)
-    }
-}
-
-impl<K: Ord, V: PartialEq> PartialEq for Entries<K, V> {
-    ghost use Rattle.std.specs.Prelude.{◌&&◌};
-    ghost use Rattle.std.specs.Cmp.{on_per, and_per};
-    ghost use Rattle.std.specs.Cmp.Lexicographic.{pointwise, lists_per};
-
-    ghost eq = { pointwise (λ p q. K.eq p.0 q.0 && V.eq p.1 q.1) };
-
-    ghost laws = { lists_per (and_per (on_per (λ p. p.0) K.PartialEq.laws) (on_per (λ p. p.1) V.laws)) };
-
-    fn eq(&self, other: &Entries<K, V>) -> bool {
-        self.items == other.items
     }
 }

@@ -2,10 +2,15 @@
 #![tactic(auto)]
 
 mod add;
+mod comparing;
 mod config;
 mod conflict;
 mod cursor;
 mod decoding;
+mod descent;
+mod draft;
+mod draft_drop;
+mod dropping;
 mod encoding;
 mod entries;
 mod error;
@@ -17,6 +22,7 @@ mod raw;
 mod reading;
 mod refusal;
 mod search;
+mod settling;
 mod steps;
 mod tree_laws;
 #[cfg(test)]

@@ -1,15 +1,23 @@
 //! Maps of a tree.
-ghost use Rattle.std.specs.Prelude.{◌≡◌, [], length, ◌∷◌, ◌<◌, ◌≤◌, option_map, slice_get, MatchOption, IfOk, IfErr, IsTrue, ◌↔◌};
+ghost use Rattle.std.specs.Prelude.{◌≡◌, ◌+◌, [], length, ◌∷◌, ◌<◌, ◌≤◌, option_map, slice_get, MatchOption, IfOk, IfErr, IsTrue, ◌↔◌};
 ghost use Rattle.std.specs.List.Sorted.{IsStrictlySortedBy};
-ghost use Rattle.std.specs.Map.{keys_of};
+ghost use Rattle.std.specs.Map.{keys_of, lookup};
+ghost use Rattle.std.specs.BTreeMap.{is_at};
+ghost use Rattle.std.specs.Cmp.{on_per};
 ghost use Rattle.qs_spec.specs.Tree.Entries.{no_entries};
+ghost use Rattle.qs_tree.specs.Equality.{entries_same};
+ghost use Rattle.qs_tree.specs.EqualityLaws.{entries_per};
 ghost use Rattle.qs_tree.specs.Keys.{key_cmp};
 ghost use Rattle.qs_tree.specs.Ordered.{AreOrdered};
 ghost use Rattle.qs_tree.specs.Places.{IsHit, IsGap, binary_digits};
-ghost use Rattle.qs_tree.specs.Views.{segment_of_key, step_of_key, tree_of, entries_of_map, map_pairs, find, take_out};
+ghost use Rattle.qs_tree.specs.Views as view;
+ghost use Rattle.qs_tree.specs.Views.{segment_of_key, step_of_key, tree_of, entries_of_map, map_pairs, take_out};
 
+use crate::comparing::{Rest, equal_rests};
+use crate::dropping::drop_tree;
 use crate::entries::Entries;
 use crate::key::Key;
+use crate::steps::Steps;
 use crate::value::ParsedValue;
 use std::alloc::Global;
 use std::cmp::Ordering;
@@ -22,7 +30,7 @@ use std::cmp::Ordering;
 /// map.get(&Key::from("name"))
 /// ```
 #[cycle(tree)]
-#[derive(PartialEq, Debug, Drop)]
+#[derive(Debug)]
 pub struct ParsedMap<'qs> {
     pub(crate) map: Entries<Key<'qs>, ParsedValue<'qs>>,
 }
@@ -54,17 +62,25 @@ impl<'qs> ParsedMap<'qs> {
         self.len() == 0
     }
 
-    /// The value at a key, if there is one. Compares at most as many keys as the length has binary digits, and takes no memory.
+    /// The value at a key, if there is one. Takes no memory, and compares as few keys as [`get_with`](ParsedMap::get_with).
     #[must_use]
     pub fn get<'k>(&self, key: &Key<'k>) -> Option<&ParsedValue<'qs>>
-        ensures value { option_map (λ v. tree_of v.now) result ≡ find (segment_of_key key.now) (entries_of_map self.now) }
+        ensures value { option_map (λ v. tree_of v.now) result ≡ view.find (segment_of_key key.now) (entries_of_map self.now) }
         ensures ordered { AreOrdered (entries_of_map self.now) }
     {
-        let entries = self.map.as_slice();
-        match search(entries, key).place {
-            Ok(at) => Some(&entries[at].1),
-            Err(_) => None,
-        }
+        self.get_with(key, &mut Steps::new())
+    }
+
+    /// The same, and adds the comparisons of keys to `steps`: at most as many as the length has binary digits, and at least one
+    /// where there are entries.
+    #[must_use]
+    pub fn get_with<'k>(&self, key: &Key<'k>, steps: &mut Steps) -> Option<&ParsedValue<'qs>>
+        ensures value { option_map (λ v. tree_of v.now) result ≡ view.find (segment_of_key key.now) (entries_of_map self.now) }
+        ensures ordered { AreOrdered (entries_of_map self.now) }
+        ensures most { steps.new ≤ steps.old + binary_digits (length (map_pairs self.now)) }
+        ensures least { 0 < length (map_pairs self.now) → steps.old < steps.new }
+    {
+        find(self.map.as_slice(), key, steps)
     }
 
     /// The entry at a place in the order of the keys, if there are so many.
@@ -79,10 +95,10 @@ impl<'qs> ParsedMap<'qs> {
     ///
     /// Compares at most as many keys as the length has binary digits, and moves the entries behind. Takes no memory.
     pub fn remove<'k>(&mut self, key: &Key<'k>) -> Option<ParsedValue<'qs>>
-        ensures value { option_map tree_of result ≡ find (segment_of_key key.now) (entries_of_map self.old) }
+        ensures value { option_map tree_of result ≡ view.find (segment_of_key key.now) (entries_of_map self.old) }
         ensures rest { entries_of_map self.new ≡ take_out (segment_of_key key.now) (entries_of_map self.old) }
     {
-        match search(self.map.as_slice(), key).place {
+        match search(self.map.as_slice(), key, &mut Steps::new()) {
             Ok(at) => Some(self.map.remove_at(at).1),
             Err(_) => None,
         }
@@ -98,6 +114,14 @@ impl<'qs> ParsedMap<'qs> {
         Some(self.map.remove_at(0))
     }
 
+    /// The entries.
+    pub(crate) fn into_entries(self) -> Entries<Key<'qs>, ParsedValue<'qs>>
+        ensures { result ≡ self.entry.map }
+    {
+        let ParsedMap { map } = self;
+        map
+    }
+
     // The same before keys and values are seen as segments and trees.
     fn entry_at(&self, at: usize) -> Option<(&Key<'qs>, &ParsedValue<'qs>)>
         ensures { option_map (λ p. (p.0.now, p.1.now)) result ≡ slice_get self.now.map at }
@@ -106,42 +130,72 @@ impl<'qs> ParsedMap<'qs> {
     }
 }
 
-/// Where a search ended.
-#[derive(Clone, Copy)]
-pub(crate) struct Sought {
-    /// Where the key is, or where it would go.
-    pub place: Result<usize, usize>,
-    /// How many keys it was compared with.
-    pub comparisons: usize,
+/// Takes no more stack for a deep map than for a flat one, as long as there is memory for what waits to be compared.
+impl<'qs> PartialEq for ParsedMap<'qs> {
+    ghost eq = { λ a b. entries_same (entries_of_map a) (entries_of_map b) };
+
+    ghost laws = { on_per entries_of_map entries_per };
+
+    fn eq(&self, other: &ParsedMap<'qs>) -> bool {
+        let rest = Rest::Entries(self.map.as_slice(), other.map.as_slice());
+        equal_rests(self.map.allocator(), rest)
+    }
 }
 
-/// Where a key is among entries in the order of their keys, by halves.
-pub(crate) fn search<'k, 'qs>(entries: &[(Key<'qs>, ParsedValue<'qs>)], key: &Key<'k>) -> Sought
+/// Takes no memory, and no more stack for a deep tree than for a flat one.
+impl<'qs> Drop for ParsedMap<'qs> {
+    fn drop(self) {
+        drop_tree(ParsedValue::Map(self));
+    }
+}
+
+/// The value at a key among entries in the order of their keys, if there is one.
+pub(crate) fn find<'e, 'k, 'qs, V>(
+    entries: &'e [(Key<'qs>, V)],
+    key: &Key<'k>,
+    steps: &mut Steps,
+) -> Option<&'e V>
     requires { IsStrictlySortedBy key_cmp (keys_of entries.now) }
-    ensures found { IfOk result.place (IsHit key_cmp key.now entries.now) }
-    ensures absent { IfErr result.place (IsGap key_cmp key.now entries.now) }
-    ensures few { result.comparisons ≤ binary_digits (length entries.now) }
-    ensures some { 0 < length entries.now → 0 < result.comparisons }
+    ensures value { option_map (λ v. v.now) result ≡ lookup (is_at (key_cmp key.now)) entries.now }
+    ensures most { steps.new ≤ steps.old + binary_digits (length entries.now) }
+    ensures least { 0 < length entries.now → steps.old < steps.new }
+{
+    match search(entries, key, steps) {
+        Ok(at) => Some(&entries[at].1),
+        Err(_) => None,
+    }
+}
+
+/// Where a key is among entries in the order of their keys, or else where it would go, by halves.
+pub(crate) fn search<'k, 'qs, V>(
+    entries: &[(Key<'qs>, V)],
+    key: &Key<'k>,
+    steps: &mut Steps,
+) -> Result<usize, usize>
+    requires { IsStrictlySortedBy key_cmp (keys_of entries.now) }
+    ensures found { IfOk result (IsHit key_cmp key.now entries.now) }
+    ensures absent { IfErr result (IsGap key_cmp key.now entries.now) }
+    ensures most { steps.new ≤ steps.old + binary_digits (length entries.now) }
+    ensures least { 0 < length entries.now → steps.old < steps.new }
 {
     let mut low = 0;
     let mut high = entries.len();
-    let mut comparisons = 0;
     while low < high {
         let middle = low + (high - low) / 2;
-        comparisons += 1;
-        match key.compare(&entries[middle].0) {
+        match compared(key, &entries[middle].0, steps) {
             Ordering::Less => high = middle,
-            Ordering::Equal => {
-                return Sought {
-                    place: Ok(middle),
-                    comparisons,
-                };
-            }
+            Ordering::Equal => return Ok(middle),
             Ordering::Greater => low = middle + 1,
         }
     }
-    Sought {
-        place: Err(low),
-        comparisons,
-    }
+    Err(low)
+}
+
+/// How a key stands to another one, which is a step. A search compares keys by this call alone.
+fn compared<'k, 'qs>(key: &Key<'k>, other: &Key<'qs>, steps: &mut Steps) -> Ordering
+    ensures order { result ≡ key_cmp key.now other.now }
+    ensures cost { steps.new ≡ steps.old + 1 }
+{
+    steps.add(1);
+    key.compare(other)
 }

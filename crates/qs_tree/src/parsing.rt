@@ -1,21 +1,28 @@
 //! The tree of a querystring.
 
-ghost use Rattle.std.specs.Prelude.{◌≡◌, ◌≤◌, ◌+◌, [], length, IfOk, IsOk};
-ghost use Rattle.qs_spec.specs.Tree.{IsTree, IsRefused};
+ghost use Rattle.std.specs.Prelude.{◌≡◌, ◌≢◌, ◌≤◌, ◌+◌, ◌⊎◌, ℕ, List, [], length, IfOk, IsOk, IsOkAnd};
+ghost use Rattle.qs_spec.specs.Tree.{Tree, IsTree, IsRefused};
 ghost use Rattle.qs_spec.specs.Tree.Tree.{uninitialized};
+ghost use Rattle.qs_spec.specs.Holds.{IsSound, leaf_count, nesting};
+ghost use Rattle.qs_spec.specs.Order.{AreAlike};
+ghost use Rattle.qs_spec.specs.Input.{HasPairs, IsReordered};
+ghost use Rattle.qs_spec.specs.Marks.{marks};
 ghost use Rattle.qs_spec.specs.toward.InPlace as in_place;
-ghost use Rattle.qs_tree.specs.Error.{IsParse, IfParse, OnlyParseOrOutOfMemory};
+ghost use Rattle.qs_tree.specs.Error.{IsParse, IfParse, IsOutOfMemory, OnlyOutOfMemory, OnlyParseOrOutOfMemory};
+ghost use Rattle.qs_tree.specs.Owned.{owns};
 ghost use Rattle.qs_tree.specs.Views.{tree_of};
 ghost use Rattle.qs_tree.specs.Pairs.{IsBare, pair_of};
-ghost use Rattle.qs_tree.specs.Cursor.{left, GoesOn, spent, slack};
-ghost use Rattle.qs_tree.specs.declared.value.ParsedValue.TheVariants.{Uninitialized};
-ghost use Rattle.qs_tree.specs.Parsing.{grown, IsAnswer};
+ghost use Rattle.qs_tree.specs.Cursor.{left, GoesOn, KnowsEnd, in_all};
+ghost use Rattle.qs_tree.specs.declared.draft.Draft.TheVariants.{Fresh};
+ghost use Rattle.qs_tree.specs.Draft.{draft_tree, IsFlat};
+ghost use Rattle.qs_tree.specs.Parsing.{grown, Answers, HoldsOf};
 ghost use Rattle.qs_tree.specs.Small.{TakesNoMemory};
 
 use crate::add::add_pair;
 use crate::config::Config;
 use crate::conflict::Refusal;
 use crate::cursor::Cursor;
+use crate::draft::Draft;
 use crate::error::{Error, Result};
 use crate::pair::Pair;
 use crate::reading::{Fault, Item, read_item};
@@ -26,17 +33,43 @@ use std::alloc::Global;
 use std::mem;
 
 /// The tree that a querystring stands for.
+///
+/// Pairs, with `&` between them, are read from left to right and added to one tree: `a[b]=1` puts `1` under `a` and `b`, `a[]=1`
+/// pushes it onto a sequence, and a key that comes again makes a sequence of its values. The empty input is `NoValue`, and
+/// one of `&` alone `Uninitialized`.
+///
+/// The first fault is answered: [`Error::Parse`] for a pair that can't be read to its end, or that is in conflict with those
+/// before it, as `a=1&a[b]=2` is; [`Error::OutOfMemory`] where a growth is refused. Nothing is left of the tree then.
+///
+/// Texts and keys without `+` and `%` are borrowed. Memory is taken for the others, for each path, map and sequence, and for an
+/// error's text; none for the empty input, for `&` alone, and for `=` with a value that holds no `&`, `+` or `%`. Each byte is
+/// read once, and each key is looked up in the map that it stands in, in comparisons that grow as the logarithm of its length.
+///
+/// ```
+/// let tree = parse(alloc, b"a[b]=1&a[c]=x%20y", Config::new())?; // a map with a map under `a`
+/// ```
 pub fn parse(alloc: Global, input: &[u8], config: Config) -> Result<ParsedValue<'_>>
     ensures tree { IfOk result (λ value. IsTree config.form config.max_depth input.now (tree_of value)) }
     ensures refused { IsParse result → IsRefused config.form config.max_depth input.now }
+    ensures accepted { (t : Tree) → IsTree config.form config.max_depth input.now t → OnlyOutOfMemory result }
+    ensures rejected { IsRefused config.form config.max_depth input.now → IsParse result ⊎ IsOutOfMemory result }
     ensures position { IfParse result (λ position. position ≤ length input.now + 1) }
     ensures errors { OnlyParseOrOutOfMemory result }
     ensures no_memory { TakesNoMemory input.now → IsOk result }
+    ensures borrowed { (t : Tree) → IsTree config.form config.max_depth input.now t → IfOk result (λ value. owns value ≡ marks t) }
+    ensures leaves { input.now ≢ [] → IfOk result (λ value. HasPairs config.form config.max_depth input.now (leaf_count (tree_of value))) }
+    ensures nesting { IfOk result (λ value. nesting (tree_of value) ≤ config.max_depth + 2) }
+    ensures sound { IfOk result (λ value. IsSound (tree_of value)) }
+    ensures alike { (other : List ℕ) → IsReordered config.form config.max_depth input.now other → AreAlike config.form config.max_depth input.now other }
+    ensures reordered { (other : List ℕ) → IsReordered config.form config.max_depth input.now other → HoldsOf config.form config.max_depth other result }
 {
     parse_with(alloc, &mut Steps::new(), input, config)
 }
 
-/// The same, and counts the steps.
+/// The same, and adds the steps to `steps`, after an error too: each byte that is read is one, and so is the look that meets the
+/// end, of which there is one. So an input that is accepted, the empty one too, takes its length and one.
+///
+/// Where a conflict is told, the pair that has it is read once more, for its position. That isn't counted.
 pub fn parse_with<'qs>(
     alloc: Global,
     steps: &mut Steps,
@@ -45,13 +78,22 @@ pub fn parse_with<'qs>(
 ) -> Result<ParsedValue<'qs>>
     ensures tree { IfOk result (λ value. IsTree config.form config.max_depth input.now (tree_of value)) }
     ensures refused { IsParse result → IsRefused config.form config.max_depth input.now }
+    ensures accepted { (t : Tree) → IsTree config.form config.max_depth input.now t → OnlyOutOfMemory result }
+    ensures rejected { IsRefused config.form config.max_depth input.now → IsParse result ⊎ IsOutOfMemory result }
     ensures position { IfParse result (λ position. position ≤ length input.now + 1) }
     ensures errors { OnlyParseOrOutOfMemory result }
     ensures no_memory { TakesNoMemory input.now → IsOk result }
-    ensures most { steps.new ≤ steps.old + length input.now + 2 }
-    ensures least { IfOk result (λ _. steps.old + length input.now ≤ steps.new) }
+    ensures borrowed { (t : Tree) → IsTree config.form config.max_depth input.now t → IfOk result (λ value. owns value ≡ marks t) }
+    ensures leaves { input.now ≢ [] → IfOk result (λ value. HasPairs config.form config.max_depth input.now (leaf_count (tree_of value))) }
+    ensures nesting { IfOk result (λ value. nesting (tree_of value) ≤ config.max_depth + 2) }
+    ensures sound { IfOk result (λ value. IsSound (tree_of value)) }
+    ensures alike { (other : List ℕ) → IsReordered config.form config.max_depth input.now other → AreAlike config.form config.max_depth input.now other }
+    ensures reordered { (other : List ℕ) → IsReordered config.form config.max_depth input.now other → HoldsOf config.form config.max_depth other result }
+    ensures most { steps.new ≤ steps.old + length input.now + 1 }
+    ensures exact { IfOk result (λ _. steps.new ≡ steps.old + length input.now + 1) }
 {
     if input.is_empty() {
+        steps.add(1);
         return Ok(ParsedValue::NoValue);
     }
     let taken = mem::replace(steps, Steps::new());
@@ -75,14 +117,14 @@ fn scan<'qs>(
     max_depth: usize,
     form: bool,
 ) -> Result<ParsedValue<'qs>>
-    requires { length cursor.old.rest.now ≤ length input.now }
-    ensures answer { IsAnswer (grown max_depth (left cursor.old) uninitialized) (length input.entry.now + 1) result }
-    ensures most { spent cursor.new ≤ spent cursor.old + 2 }
-    ensures least { spent cursor.old ≤ spent cursor.new }
-    ensures end { IfOk result (λ _. cursor.new.rest.now ≡ []) }
+    requires within { length cursor.old.rest.now ≤ length input.now }
+    requires end { KnowsEnd cursor.old }
+    ensures answer { Answers tree_of (grown max_depth (left cursor.old) uninitialized) (length input.entry.now + 1) result }
+    ensures steps { in_all cursor.new ≡ in_all cursor.old }
+    ensures end { IfOk result (λ _. in_all cursor.new ≡ cursor.new.steps) }
     ensures no_memory { TakesNoMemory cursor.old.rest.now → IsOk result }
 {
-    let mut tree = ParsedValue::Uninitialized;
+    let mut tree = Draft::Fresh;
     loop {
         let site = Site {
             input,
@@ -99,7 +141,7 @@ fn scan<'qs>(
             Err(Fault::Other(error)) => return Err(error),
         };
         match item {
-            Item::End => return Ok(tree),
+            Item::End => return Ok(tree.settled(alloc)?),
             Item::Ampersand => {}
             Item::Pair(pair) => tree = added(alloc, tree, pair, site)?,
         }
@@ -109,14 +151,14 @@ fn scan<'qs>(
 /// The tree with one pair more.
 fn added<'qs>(
     alloc: Global,
-    tree: ParsedValue<'qs>,
+    tree: Draft<'qs>,
     pair: Pair<'qs>,
     site: Site<'qs>,
-) -> Result<ParsedValue<'qs>>
+) -> Result<Draft<'qs>>
     requires { length site.start.rest.now ≤ length site.input.now }
     ensures answer { let p = pair_of pair.entry in
-        IsAnswer (in_place.add p.path p.push p.leaf (tree_of tree.entry)) (length site.entry.input.now + 1) result }
-    ensures fresh { IsBare pair.entry → tree.entry ≡ Uninitialized → IsOk result }
+        Answers draft_tree (in_place.add p.path p.push p.leaf (draft_tree tree.entry)) (length site.entry.input.now + 1) result }
+    ensures fresh { IsBare pair.entry → tree.entry ≡ Fresh → IsOkAnd result IsFlat }
 {
     match add_pair(alloc, tree, pair) {
         Ok(tree) => Ok(tree),
@@ -124,3 +166,6 @@ fn added<'qs>(
         Err(Refusal::OutOfMemory) => Err(Error::OutOfMemory),
     }
 }
+
+#[cfg(test)]
+mod tests;

@@ -1,13 +1,13 @@
 //! One pair, read from what is left of an input.
 
-ghost use Rattle.std.specs.Prelude.{◌≡◌, ◌++◌, ◌<◌, [], length, IfOk, IsOk, IsOkAnd, IsTrue};
+ghost use Rattle.std.specs.Prelude.{◌≡◌, ◌++◌, ◌<◌, [], length, IfOk, IsOk, IsOkAnd, IsTrue, true, false};
 ghost use Rattle.qs_spec.specs.Grammar.{plain, pushed, ends_root};
 ghost use Rattle.qs_spec.specs.toward.Reading.{with_leaf, read_value, read_brackets};
 ghost use Rattle.qs_tree.specs.declared.reading.Fault.TheVariants.{Other};
 ghost use Rattle.qs_tree.specs.Error.{OnlyOutOfMemory};
 ghost use Rattle.qs_tree.specs.Pairs.{path_of};
-ghost use Rattle.qs_tree.specs.Cursor.{ends_of, left, looks, behind, GoesOn};
-ghost use Rattle.qs_tree.specs.Reading.{IsRootStop, IsClosing, IsBehind, StandsBehind, IsEnd, IsMore, ReadsItem, ReadsLeaf, ReadsPair, is_nothing, root_path, behind_root};
+ghost use Rattle.qs_tree.specs.Cursor.{ends_of, left, behind, GoesOn, KnowsEnd};
+ghost use Rattle.qs_tree.specs.Reading.{IsRootStop, IsClosing, IsBehind, StandsBehind, IsEnd, IsMore, end_reason, ReadsItem, ReadsLeaf, ReadsPair, is_nothing, root_path, behind_root};
 ghost use Rattle.qs_tree.specs.Small.{is_plain, TakesNoMemory, IsEqualsStop, ReadsBare, ReadsSmall};
 
 use crate::cursor::{Cursor, Kind, Token, Until};
@@ -78,18 +78,22 @@ impl<'qs, T: Drop> From<AllocFailed<T>> for Fault<'qs> {
     }
 }
 
-/// Reads up to the next `&` or the end: a pair, or nothing.
+/// Reads up to the next `&` or the end: a pair, or nothing. The end is looked at once: behind it nothing is read.
 pub(crate) fn read_item<'qs>(
     alloc: Global,
     cursor: &mut Cursor<'qs>,
     max_depth: usize,
 ) -> Result<Item<'qs>, Fault<'qs>>
+    requires { KnowsEnd cursor.old }
     ensures item { ReadsItem max_depth (left cursor.old) result cursor.new }
-    ensures end { IsEnd result → cursor.new.rest.now ≡ [] }
+    ensures end { IsEnd result → cursor.new.ended ≡ true }
     ensures shorter { IsMore result → length cursor.new.rest.now < length cursor.old.rest.now }
-    ensures moves { GoesOn 0 cursor.old cursor.new }
+    ensures moves { GoesOn cursor.old cursor.new }
     ensures small { TakesNoMemory cursor.old.rest.now → ReadsSmall result cursor.new }
 {
+    if cursor.has_ended() {
+        return Ok(Item::End);
+    }
     let (key, stop) = cursor.run(root_end(max_depth));
     if is_nothing(key, stop) {
         return Ok(match stop {
@@ -132,7 +136,7 @@ fn read_behind_root<'qs>(
     requires root { IsRootStop stop }
     requires behind { StandsBehind stop cursor.old }
     ensures pair { ReadsPair (behind_root max_depth key.now (behind stop.entry (left cursor.old))) result cursor.new }
-    ensures moves { GoesOn (looks stop.entry) cursor.old cursor.new }
+    ensures moves { GoesOn cursor.old cursor.new }
     ensures bare { key.now ≡ [] → IsEqualsStop stop.entry → IsTrue (is_plain cursor.old.rest.now) → ReadsBare result cursor.new }
 {
     let path = read_root(alloc, key)?;
@@ -166,7 +170,7 @@ fn read_value<'qs>(
     requires closing { IsClosing stop }
     requires behind { StandsBehind stop cursor.old }
     ensures leaf { ReadsLeaf (read_value (behind stop.entry (left cursor.old))) result cursor.new }
-    ensures moves { GoesOn (looks stop.entry) cursor.old cursor.new }
+    ensures moves { GoesOn cursor.old cursor.new }
     ensures plain { IsEqualsStop stop.entry → IsTrue (is_plain cursor.old.rest.now) → IsOk result × (cursor.new.rest.now ≡ []) }
 {
     match stop {
@@ -185,7 +189,7 @@ fn read_plain<'qs>(
     requires closing { IsClosing stop }
     requires behind { StandsBehind stop cursor.old }
     ensures pair { ReadsPair (with_leaf (plain (path_of path.entry.items)) (read_value (behind stop.entry (left cursor.old)))) result cursor.new }
-    ensures moves { GoesOn (looks stop.entry) cursor.old cursor.new }
+    ensures moves { GoesOn cursor.old cursor.new }
     ensures bare { path.entry.items ≡ [] → IsEqualsStop stop.entry → IsTrue (is_plain cursor.old.rest.now) → ReadsBare result cursor.new }
 {
     let leaf = read_value(alloc, cursor, stop)?;
@@ -202,8 +206,9 @@ fn read_push<'qs>(
     cursor: &mut Cursor<'qs>,
     path: Vec<Key<'qs>>,
 ) -> Result<Pair<'qs>, Fault<'qs>>
+    requires { cursor.old.ended ≡ false }
     ensures pair { ReadsPair (with_leaf (pushed (path_of path.entry.items)) (read_value (left cursor.old))) result cursor.new }
-    ensures moves { GoesOn 0 cursor.old cursor.new }
+    ensures moves { GoesOn cursor.old cursor.new }
 {
     let next = cursor.next();
     let reason = match next {
@@ -241,7 +246,7 @@ fn read_brackets<'qs>(
 ) -> Result<Pair<'qs>, Fault<'qs>>
     requires { IsBehind bracket cursor.old }
     ensures pair { ReadsPair (read_brackets max_depth (path_of path.entry.items) bracket.entry.raw.now (left cursor.old)) result cursor.new }
-    ensures moves { GoesOn 0 cursor.old cursor.new }
+    ensures moves { GoesOn cursor.old cursor.new }
 {
     let mut room = max_depth;
     while room > 0 {
@@ -275,7 +280,9 @@ fn read_brackets<'qs>(
 
 /// A pair that ends in a bracket below the limit.
 fn unended<'qs>(alloc: Global, mut path: Vec<Key<'qs>>, segment: &'qs [u8]) -> Result<Unread<'qs>>
-    ensures { OnlyOutOfMemory result }
+    ensures path { IfOk result (λ unread. path_of unread.path.items ≡ path_of path.entry.items ++ root_path segment.now) }
+    ensures reason { IfOk result (λ unread. unread.reason ≡ end_reason segment.now) }
+    ensures errors { OnlyOutOfMemory result }
 {
     if segment.is_empty() {
         let reason = Reason::EndBehindOpen;
@@ -295,7 +302,7 @@ fn read_last_key<'qs>(
 ) -> Result<Pair<'qs>, Fault<'qs>>
     requires { IsBehind bracket cursor.old }
     ensures pair { ReadsPair (read_brackets 0 (path_of path.entry.items) bracket.entry.raw.now (left cursor.old)) result cursor.new }
-    ensures moves { GoesOn 0 cursor.old cursor.new }
+    ensures moves { GoesOn cursor.old cursor.new }
 {
     let Some(first) = cursor.next() else {
         let reason = Reason::EndBehindOpen;

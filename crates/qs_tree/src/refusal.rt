@@ -1,16 +1,24 @@
 //! What is told of a querystring that is refused.
 
-ghost use Rattle.std.specs.Prelude.{◌≤◌, ◌+◌, ◌<◌, length};
-ghost use Rattle.qs_tree.specs.Parsing.{IsTold};
+ghost use Rattle.std.specs.Prelude.{◌≤◌, length, None};
+ghost use Rattle.qs_spec.specs.Grammar.{is_amp};
+ghost use Rattle.qs_spec.specs.toward.Reading.{cut};
+ghost use Rattle.qs_tree.specs.Adding.{MeetsBefore, MeetsPush};
+ghost use Rattle.qs_tree.specs.Cursor.{left, IsPast};
+ghost use Rattle.qs_tree.specs.Draft.{draft_tree};
+ghost use Rattle.qs_tree.specs.Error.{IsParseSaying};
+ghost use Rattle.qs_tree.specs.Pairs.{path_of};
+ghost use Rattle.qs_tree.specs.Parsing.{IsPositionOf, IsTold};
+ghost use Rattle.qs_tree.specs.Small.{IsEqualsStop};
 
 use crate::add::add_pair;
 use crate::conflict::{Clash, Conflict, Refusal, conflict_below};
 use crate::cursor::{Cursor, Place, Token, Until};
+use crate::draft::Draft;
 use crate::error::Error;
 use crate::key::Key;
 use crate::pair::{Leaf, Manner, Pair};
 use crate::reading::{Reason, Unread, root_end};
-use crate::value::ParsedValue;
 use std::alloc::Global;
 use std::{fmt, str};
 
@@ -28,14 +36,14 @@ pub(crate) struct Site<'qs> {
 /// is told first.
 pub(crate) fn unread_error<'qs>(
     alloc: Global,
-    tree: ParsedValue<'qs>,
+    tree: Draft<'qs>,
     unread: Unread<'qs>,
     position: usize,
     site: Site<'qs>,
 ) -> Error
     requires within { length site.start.rest.now ≤ length site.input.now }
-    requires position { position ≤ length site.input.now + 1 }
-    ensures { IsTold result (length site.entry.input.now + 1) }
+    requires position { IsPositionOf site position }
+    ensures { IsTold site.entry result }
 {
     let Unread { path, reason } = unread;
     match conflict_before(alloc, tree, path, reason) {
@@ -48,7 +56,7 @@ pub(crate) fn unread_error<'qs>(
 /// The error of a pair that is in conflict with the tree.
 pub(crate) fn conflict_error(alloc: Global, conflict: Conflict, site: Site<'_>) -> Error
     requires { length site.start.rest.now ≤ length site.input.now }
-    ensures { IsTold result (length site.entry.input.now + 1) }
+    ensures { IsTold site.entry result }
 {
     let spot = find_spot(site, conflict.level);
     let text = match conflict.clash {
@@ -65,7 +73,7 @@ pub(crate) fn conflict_error(alloc: Global, conflict: Conflict, site: Site<'_>) 
 
 /// The error of a leaf that is pushed onto a map with these keys.
 fn leaf_on_map(alloc: Global, spot: Spot<'_>, keys: String) -> Error
-    ensures { IsTold result spot.entry.position }
+    ensures { IsParseSaying result None spot.entry.position }
 {
     let key = str::from_utf8(spot.key).unwrap_or("<invalid key>");
     let text = format!(in alloc;
@@ -80,22 +88,29 @@ fn leaf_on_map(alloc: Global, spot: Spot<'_>, keys: String) -> Error
 /// A conflict that a pair meets before it can't go on.
 fn conflict_before<'qs>(
     alloc: Global,
-    tree: ParsedValue<'qs>,
+    tree: Draft<'qs>,
     path: Vec<Key<'qs>>,
     reason: Reason,
-) -> Result<(), Refusal> {
+) -> Result<(), Refusal>
+    ensures { MeetsBefore reason (path_of path.entry.items) (draft_tree tree.entry) result }
+{
     match reason {
-        Reason::OpenBehindPush | Reason::BehindPush => {
-            let manner = Manner::Push;
-            let leaf = Leaf::NoValue;
-            add_pair(alloc, tree, Pair { path, manner, leaf })?;
-            Ok(())
-        }
+        Reason::OpenBehindPush | Reason::BehindPush => push_conflict(alloc, tree, path),
         _ => match conflict_below(&tree, &path) {
             Some(conflict) => Err(Refusal::Conflict(conflict)),
             None => Ok(()),
         },
     }
+}
+
+/// A conflict that a push meets.
+fn push_conflict<'qs>(alloc: Global, tree: Draft<'qs>, path: Vec<Key<'qs>>) -> Result<(), Refusal>
+    ensures { MeetsPush (path_of path.entry.items) (draft_tree tree.entry) result }
+{
+    let manner = Manner::Push;
+    let leaf = Leaf::NoValue;
+    add_pair(alloc, tree, Pair { path, manner, leaf })?;
+    Ok(())
 }
 
 /// Where a conflict is told.
@@ -109,7 +124,7 @@ struct Spot<'qs> {
 /// Where a conflict with a node is met, by how many keys lead to the node.
 fn find_spot<'qs>(site: Site<'qs>, level: usize) -> Spot<'qs>
     requires { length site.start.rest.now ≤ length site.input.now }
-    ensures { result.position ≤ length site.entry.input.now + 1 }
+    ensures { IsPositionOf site.entry result.position }
 {
     let mut cursor = site.start.again(site.form);
     let (mut key, stop) = cursor.run(root_end(site.max_depth));
@@ -132,9 +147,10 @@ fn find_spot<'qs>(site: Site<'qs>, level: usize) -> Spot<'qs>
     Spot { position, key }
 }
 
-/// Takes what follows a root key without brackets.
+/// Takes what follows a root key without brackets: nothing, or, behind `=`, a value.
 fn read_rest<'qs>(cursor: &mut Cursor<'qs>, stop: Option<Token<'qs>>)
-    ensures { length cursor.new.rest.now ≤ length cursor.old.rest.now }
+    ensures value { IsEqualsStop stop.entry → IsPast (cut is_amp (left cursor.old)).1 cursor.new }
+    ensures fewer { length cursor.new.rest.now ≤ length cursor.old.rest.now }
 {
     if let Some(token) = stop {
         if token.kind.is_equals() {

@@ -1,6 +1,8 @@
 //! Each call of keys, maps and pairs once, on values that no clause names.
 use crate::add::add_pair;
 use crate::conflict::{Clash, Conflict, Refusal, conflict_below};
+use crate::draft::Draft;
+use crate::entries::Entries;
 use crate::key::Key;
 use crate::map::ParsedMap;
 use crate::pair::{Leaf, Manner, Pair};
@@ -26,8 +28,8 @@ fn pair(path: Vec<Key<'static>>, manner: Manner, leaf: &'static [u8]) -> Pair<'s
 }
 
 // a[b]=1, a=2, c[]=3 and c[]=4
-fn small_tree(alloc: Global) -> Result<ParsedValue<'static>, Refusal> {
-    let tree = ParsedValue::Uninitialized;
+fn small_tree(alloc: Global) -> Result<Draft<'static>, Refusal> {
+    let tree = Draft::Fresh;
     let path = vec![in alloc; Key::from("a"), Key::from("b")]?;
     let tree = add_pair(alloc, tree, pair(path, Manner::Plain, b"1"))?;
     let path = vec![in alloc; Key::from("a")]?;
@@ -67,7 +69,10 @@ fn keys_are_ordered(rt: HostRuntime) -> Result<(), Fail> {
 #[test]
 fn a_map_is_looked_up_and_taken_apart(rt: HostRuntime) -> Result<(), Fail> {
     let alloc = rt.alloc();
-    let Ok(ParsedValue::Map(mut root)) = small_tree(alloc) else {
+    let Ok(tree) = small_tree(alloc) else {
+        return Err(Fail::from("no tree"));
+    };
+    let ParsedValue::Map(mut root) = tree.settled(alloc)? else {
         return Err(Fail::from("no map"));
     };
     assert_eq!(rt; root.len(), 2);
@@ -123,4 +128,71 @@ fn conflicts_say_where_and_why(rt: HostRuntime) -> Result<(), Fail> {
     };
     assert_eq!(rt; keys.as_str(), "\"\", \"b\"");
     Ok(())
+}
+
+// Maps in one another, with a leaf behind each inner map, and a value at the bottom.
+fn nested_maps(
+    alloc: Global,
+    levels: usize,
+    bottom: ParsedValue<'static>,
+) -> Result<ParsedMap<'static>, AllocError> {
+    let mut entries = Entries::new(alloc);
+    entries.insert_at(0, Key::from("b"), bottom)?;
+    let mut map = ParsedMap { map: entries };
+    for _ in 0..levels {
+        let mut entries = Entries::new(alloc);
+        entries.insert_at(0, Key::from("b"), ParsedValue::Map(map))?;
+        entries.insert_at(1, Key::from("c"), text(b"1"))?;
+        map = ParsedMap { map: entries };
+    }
+    Ok(map)
+}
+
+#[test]
+fn deep_maps_are_dropped(rt: HostRuntime) -> Result<(), Fail> {
+    let map = nested_maps(rt.alloc(), 100_000, ParsedValue::Null)?;
+    assert_eq!(rt; map.len(), 2);
+    drop(map);
+    Ok(())
+}
+
+#[test]
+fn deep_maps_are_compared(rt: HostRuntime) -> Result<(), Fail> {
+    let alloc = rt.alloc();
+    let mut map = nested_maps(alloc, 200_000, ParsedValue::Null)?;
+    let mut same = nested_maps(alloc, 200_000, ParsedValue::Null)?;
+    let other = nested_maps(alloc, 200_000, ParsedValue::NoValue)?;
+    assert!(rt; map == same);
+    assert!(rt; map != other);
+    assert!(rt; same.remove(&Key::from("c")).is_some());
+    assert!(rt; map != same);
+    assert!(rt; map.remove(&Key::from("c")).is_some());
+    assert!(rt; map == same);
+    Ok(())
+}
+
+#[test]
+fn deep_sequences_are_compared(rt: HostRuntime) -> Result<(), Fail> {
+    let alloc = rt.alloc();
+    let map = nested_items(alloc, 200_000, ParsedValue::Null)?;
+    let same = nested_items(alloc, 200_000, ParsedValue::Null)?;
+    let other = nested_items(alloc, 200_000, ParsedValue::NoValue)?;
+    assert!(rt; map == same);
+    assert!(rt; map != other);
+    Ok(())
+}
+
+// A map of sequences in one another, with a leaf behind each inner one. Only a map is dropped by a loop.
+fn nested_items(
+    alloc: Global,
+    levels: usize,
+    bottom: ParsedValue<'static>,
+) -> Result<ParsedMap<'static>, AllocError> {
+    let mut value = bottom;
+    for _ in 0..levels {
+        value = ParsedValue::Sequence(vec![in alloc; value, text(b"1")]?);
+    }
+    let mut entries = Entries::new(alloc);
+    entries.insert_at(0, Key::from("b"), value)?;
+    Ok(ParsedMap { map: entries })
 }

@@ -1,4 +1,10 @@
 //! Values of a querystring, as a tree.
+ghost use Rattle.std.specs.Cmp.{on_per};
+ghost use Rattle.qs_tree.specs.Equality.{tree_same};
+ghost use Rattle.qs_tree.specs.EqualityLaws.{trees_per};
+ghost use Rattle.qs_tree.specs.Views.{tree_of};
+
+use crate::comparing::equal_nodes;
 use crate::map::ParsedMap;
 use std::borrow::CowSlice;
 
@@ -6,7 +12,7 @@ use std::borrow::CowSlice;
 ///
 /// Two nodes are equal where they hold the same, whoever owns the bytes.
 #[cycle(tree)]
-#[derive(PartialEq, Debug, Drop)]
+#[derive(Debug, Drop)]
 pub enum ParsedValue<'qs> {
     /// What stands behind each key, as `a[b]=1` makes under `a`.
     Map(ParsedMap<'qs>),
@@ -20,4 +26,15 @@ pub enum ParsedValue<'qs> {
     NoValue,
     /// No pair at all.
     Uninitialized,
+}
+
+/// Takes no more stack for a deep tree than for a flat one, as long as there is memory for what waits to be compared.
+impl<'qs> PartialEq for ParsedValue<'qs> {
+    ghost eq = { λ a b. tree_same (tree_of a) (tree_of b) };
+
+    ghost laws = { on_per tree_of trees_per };
+
+    fn eq(&self, other: &ParsedValue<'qs>) -> bool {
+        equal_nodes(self, other)
+    }
 }

@@ -7,10 +7,13 @@
 //! data model.
 //!
 //! ```
-//! use serde_qs::{Config, Data, Deserializer, Serializer, Shape};
+//! use serde_qs::{Config, Deserializer, Error, Serializer, Shape};
 //!
 //! // a struct of a text `name` and a small number `age`
 //! let shape = Shape::Struct(fields);
+//! if !shape.is_distinct() {
+//!     return Err(Error::custom(alloc, "two fields have one name", &shape));
+//! }
 //! let deserializer = Deserializer::with_config(alloc, Config::new(), b"age=24&name=Alice")?;
 //! let person = deserializer.read(alloc, &shape)?;
 //!

@@ -1,6 +1,7 @@
 //! What a tree can lack of a shape, and what is said of it.
 
 ghost use Rattle.qs_data.specs.Gives.{IsFault};
+ghost use Rattle.qs_data.specs.Hint.{IsToldOfKey};
 
 use crate::read::width::Width;
 use qs_tree::{Error, ParsedValue};
@@ -93,6 +94,41 @@ impl Fault<'_> {
     {
         let found = Kind::Text;
         Fault::InvalidType { found, expected }.error(alloc)
+    }
+}
+
+/// The error of a key that can't be read, from why it can't: a hint stands behind it where the key holds a bracket.
+pub(crate) fn of_key(alloc: Global, key: &[u8], error: Error) -> Error
+    ensures { IsToldOfKey key.now error result }
+{
+    if !key.contains(&b'[') {
+        return error;
+    }
+    match error {
+        Error::OutOfMemory => Error::OutOfMemory,
+        error => Error::custom(alloc, Hinted { error }, &()),
+    }
+}
+
+/// An error, and a hint behind it.
+#[derive(Drop)]
+struct Hinted {
+    error: Error,
+}
+
+impl fmt::Display for Hinted {
+    ghost use Rattle.qs_data.specs.Hint.{hinted_text};
+
+    ghost output = { λ h. hinted_text h.error };
+
+    fn fmt<W: fmt::Write>(&self, f: &mut fmt::Formatter<W>) -> fmt::Result {
+        let error = &self.error;
+        write!(
+            f,
+            "{error}\n\
+            Invalid field contains an encoded bracket -- consider using form encoding mode\n\
+            \u{20} https://docs.rs/serde_qs/latest/serde_qs/#query-string-vs-form-encoding"
+        )
     }
 }
 

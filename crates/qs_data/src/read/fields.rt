@@ -62,8 +62,10 @@ pub(crate) fn read_entries(
 {
     let tested = test_keys(entries);
     let members = read_names(alloc, strict, fields, entries)?;
-    tested?;
-    Ok(members)
+    match tested {
+        Ok(()) => Ok(members),
+        Err(key) => Err(key.error(alloc)),
+    }
 }
 
 // The fields by their names, in their order.

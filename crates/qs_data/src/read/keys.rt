@@ -1,17 +1,20 @@
 //! The keys of a map.
 
-ghost use Rattle.std.specs.Prelude.{◌++◌, true};
+ghost use Rattle.std.specs.Prelude.{◌++◌};
 ghost use Rattle.std.specs.Str.{is_utf8};
 ghost use Rattle.qs_spec.specs.Segment.{segment_text};
 ghost use Rattle.qs_spec.specs.Read.{found, keys_are_text};
 ghost use Rattle.qs_tree.specs.Views.{entries_of_map, segment_of_key};
-ghost use Rattle.qs_data.specs.Gives.{Gives};
-ghost use Rattle.qs_data.specs.Keys.{Finds, NumbersFit, TellsNumber, KeyFits, entries_of, value_in, passed};
-ghost use Rattle.qs_data.specs.Text.{entries_are_text};
+ghost use Rattle.qs_tree.specs.declared.error.Error.TheVariants.{Utf8};
+ghost use Rattle.qs_data.specs.Hint.{IsToldOfKey};
+ghost use Rattle.qs_data.specs.Keys.{Finds, NumbersFit, TellsNumber, KeyFits, Tells, entries_of, value_in};
 
-use crate::read::scalar::as_text;
+use crate::read::fault::of_key;
 use itoa::Buffer;
-use qs_tree::{Key, ParsedMap, ParsedValue, Result};
+use qs_tree::{Error, Key, ParsedMap, ParsedValue, Result};
+use std::alloc::Global;
+use std::str;
+use std::str::Utf8Error;
 
 /// Keys with their values.
 #[derive(Clone, Copy)]
@@ -96,10 +99,25 @@ fn number_of(name: &str) -> Option<u32>
     }
 }
 
-/// Whether all keys are texts: the first fault, of all that there are.
-pub(crate) fn test_keys(entries: Entries<'_, '_>) -> Result<()>
-    ensures text { Gives (λ _. true) (entries_are_text (entries_of entries.entry)) result
-        (passed (keys_are_text (entries_of entries.entry))) }
+/// A key that isn't a text.
+#[derive(Clone, Copy)]
+pub(crate) struct BrokenKey<'t> {
+    text: &'t [u8],
+    cause: Utf8Error,
+}
+
+impl BrokenKey<'_> {
+    /// The error that tells it.
+    pub(crate) fn error(self, alloc: Global) -> Error
+        ensures { IsToldOfKey self.entry.text.now (Utf8 self.entry.cause) result }
+    {
+        of_key(alloc, self.text, Error::Utf8(self.cause))
+    }
+}
+
+/// Whether all keys are texts, or the first that isn't.
+pub(crate) fn test_keys<'t>(entries: Entries<'t, '_>) -> Result<(), BrokenKey<'t>>
+    ensures text { Tells result (keys_are_text (entries_of entries.entry)) }
     ensures fit { NumbersFit (entries_of entries.entry) }
 {
     match entries {
@@ -110,9 +128,8 @@ pub(crate) fn test_keys(entries: Entries<'_, '_>) -> Result<()>
 }
 
 // The same of a map. All keys are looked at, so their numbers are known to have 32 bits whatever comes of the test.
-fn test_map(map: &ParsedMap<'_>) -> Result<()>
-    ensures text { Gives (λ _. true) (entries_are_text (entries_of_map map.now)) result
-        (passed (keys_are_text (entries_of_map map.now))) }
+fn test_map<'t>(map: &'t ParsedMap<'_>) -> Result<(), BrokenKey<'t>>
+    ensures text { Tells result (keys_are_text (entries_of_map map.now)) }
     ensures fit { NumbersFit (entries_of_map map.now) }
 {
     let mut tested = Ok(());
@@ -126,9 +143,9 @@ fn test_map(map: &ParsedMap<'_>) -> Result<()>
 }
 
 // Whether a key is a text.
-fn test_key(key: &Key<'_>) -> Result<()>
-    ensures text { Gives (λ _. true) (is_utf8 (segment_text (segment_of_key key.now))) result
-        (passed (is_utf8 (segment_text (segment_of_key key.now)))) }
+#[tactic(auto, using(crate::proofs::Refusals::utf8_tests))]
+fn test_key<'t>(key: &'t Key<'_>) -> Result<(), BrokenKey<'t>>
+    ensures text { Tells result (is_utf8 (segment_text (segment_of_key key.now))) }
     ensures fit { KeyFits (segment_of_key key.now) }
 {
     match key {
@@ -137,8 +154,11 @@ fn test_key(key: &Key<'_>) -> Result<()>
             Ok(())
         }
         Key::String(text) => {
-            as_text(text.as_slice())?;
-            Ok(())
+            let text = text.as_slice();
+            match str::from_utf8(text) {
+                Ok(_) => Ok(()),
+                Err(cause) => Err(BrokenKey { text, cause }),
+            }
         }
     }
 }

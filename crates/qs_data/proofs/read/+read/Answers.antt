@@ -1,21 +1,48 @@
-use Rattle.std.proofs.Common.{◌≡◌, ◌+◌, ◌<◌, ◌++◌, ◌∷◌, [], ap, sym, subst, ◌∙◌, map, drop, true, false, Some, None, Option, option_map, string_bytes, rules, arith}
+use Rattle.std.proofs.Common.{◌≡◌, ◌+◌, ◌<◌, ◌++◌, ◌∷◌, [], ap, sym, subst, ◌∙◌, length, slice_get, map, drop, true, false, Some, None, Option, option_map, string_bytes, rules, arith}
 use Rattle.std.proofs.lemmas.Grind.{common_steps}
+use Rattle.std.specs.Str.{is_utf8}
+use Rattle.qs_spec.specs.Segment.{segment_text, Step}
+use Rattle.qs_spec.specs.Tree.Tree.{mapping}
+use Rattle.qs_spec.specs.Tree.Entries.{entry}
 use Rattle.qs_spec.specs.Data as d
-use Rattle.qs_spec.specs.Shape.{is_option as is_option_shape, Shape}
+use Rattle.qs_spec.specs.Shape.{is_option as is_option_shape, Shape, struct_kind}
 use Rattle.qs_spec.specs.Tree.Items.{no_items}
-use Rattle.qs_spec.specs.Read.{reads, reads_names, reads_places, read_option, read_field, read_place, found}
-use Rattle.qs_tree.specs.Views.{tree_of, items_from}
+use Rattle.qs_spec.specs.Read.{reads, reads_names, reads_places, reads_variant, reads_kind, read_enum, read_option, read_field, read_place, found, struct_members, as_map, under_empty, keys_are_text, items, read_each, read_list, read_pairs, reads_tuple}
+use Rattle.qs_tree.specs.Views.{tree_of, items_from, entries_of_map, step_of_key}
 use Rattle.qs_data.specs.declared.shape.Shape as shape
 use Rattle.qs_data.specs.declared.shape.Field.{out-Field}
-use Rattle.qs_data.specs.Views.{data_of, named, shape_of, field_of, fields_in}
+use Rattle.qs_data.specs.declared.shape.VariantKind as kind
+use Rattle.qs_data.specs.declared.shape.Variant.{out-Variant}
+use Rattle.qs_data.specs.Views.{data_of, named, shape_of, field_of, fields_in, kind_of, variant_of, variants_in, key_shape_of, pair_of, shapes_in}
 use Rattle.qs_data.specs.Text.{is_text, items_are_text, entries_are_text}
 use Rattle.qs_data.specs.Gives.{Gives}
-use Rattle.qs_data.specs.Keys.{entries_of}
-use Rattle.qs_data.proofs.Levels.{data_of_struct}
-use Rattle.qs_data.proofs.Refusals.{gives_exit, gives_as, fault}
+use Rattle.qs_data.specs.Keys.{entries_of, entries_after}
+use Rattle.qs_data.specs.Variants.{variant_named}
+use Rattle.qs_data.proofs.Levels.{data_of_struct, data_of_struct_variant}
+use Rattle.qs_data.proofs.Entries.{after_some, keys_bad, untested}
+use Rattle.qs_data.proofs.Variants.{variant_name, variant_kind, named_is, enum_none, enum_some, least_key_bad, least_value_bad, text_as_map, under_bad}
+use Rattle.qs_data.proofs.Refusals.{gives_exit, gives_as, fault, told_of_key}
+use Rattle.qs_tree.specs.declared.error.Error.TheVariants.{Utf8}
+use Rattle.qs_spec.specs.Scalar.{key_data}
+use Rattle.qs_spec.specs.Tree.{Tree}
+use Rattle.std.proofs.lemmas.Bool.{false≢true}
+use Rattle.std.specs.Option.{option_and_then}
+use Rattle.qs_data.specs.Items.{items_in, first_item, are_text}
+use Rattle.qs_data.proofs.Items.{items_bad, due_bad, each_more, each_unread, each_end, each_all}
+use Rattle.qs_data.proofs.Tuples.{parts_more, parts_unread}
+use Rattle.qs_data.proofs.Numbers.{empty_text}
+use Rattle.qs_data.proofs.Pairs.{key_bad, value_bad, pairs_more, pairs_no_key, pairs_no_value, pairs_end, pairs_all, lone_no_key}
 use Rattle.qs_data.proofs.Steps.{before, before-front}
-use Rattle.qs_data.proofs.Fields.{found_bad, field_none, field_name, field_shape, field_optional, names_more, names_none, item_at, no_item_at, item_bad, place_some, places_more, places_none}
+use Rattle.qs_data.proofs.Fields.{found_bad, field_none, field_name, field_shape, field_optional, names_more, item_at, no_item_at, item_bad, place_some, places_more}
 use Rattle.qs_data.proofs.read.+read.Goals as goal
+use Rattle.qs_data.proofs.read.+read.Goals.{maps::read_pairs-else-loop-i-test, maps::read_pairs-then-loop-i-test+in_default, lists::read_each-else-loop-i-test, lists::read_each-then-loop-i-test+in_ok-item+in_default}
+
+pub fields::read_entries-returns-in-Err : goal.fields::read_entries-returns-in-Err
+fields::read_entries-returns-in-Err t c =
+    let es = entries_of c.args.entries in
+    let bad : keys_are_text es ≡ false = c.in-Err.ensures.text in
+    let none = untested (keys_are_text es) (reads_names c.args.strict (fields_in c.args.fields.now.items) es) bad in
+    told_of_key (entries_are_text es) c.in-Err.key.text.now (Utf8 c.in-Err.key.cause) c.error.result _ c.error.ensures (none, keys_bad es bad)
 
 pub fields::read_field-returns-in_err-read-in-One : goal.fields::read_field-returns-in_err-read-in-One
 fields::read_field-returns-in_err-read-in-One t c =
@@ -135,3 +162,195 @@ read-returns-in_ok-read_struct-in-Struct-clause-gives t c =
     let k = c.in_ok-read_struct-in-Struct in
     let shaped : shape_of c.args.shape.now ≡ Shape.struct (fields_in c.in-Struct.fields.items) = ap shape_of c.in-Struct.is ∙ search (rules, shape.the_lemmas) in
     ap (λ x. reads c.args.strict x n) shaped ∙ ap (λ r. option_map (λ ms. d.struct (d.members_of ms)) r) k.ensures ∙ ap Some (sym (data_of_struct k.field-0))
+
+pub variants::read_least-returns-in_err-place : goal.variants::read_least-returns-in_err-place
+variants::read_least-returns-in_err-place t c =
+    let ds = c.deref.result.now in
+    let es = entries_of_map c.args.map.now in
+    let key = step_of_key c.in-Some.key.now in
+    let n = tree_of c.in-Some.value.now in
+    let least : es ≡ entry key.seg key.mark n (entries_after 1 es) = after_some 0 es (key, n) (sym c.in-Some.ensures) in
+    let name = segment_text key.seg in
+    let exit = gives_exit data_of (is_utf8 name) (entries_are_text es) c.from_residual.result c.in_err-place.field-0.0 (option_map Some (variant_named name (variants_in ds)))
+    (read_enum (variants_in ds) (reads_variant c.args.strict (variants_in ds)) (mapping es)) c.from_residual.ensures.1 c.in_err-place.ensures.named
+    (enum_none c.args.strict (variants_in ds) es (entries_after 1 es) key.seg key.mark n least) (least_key_bad c.args.strict (variants_in ds) es (entries_after 1 es) key.seg key.mark n least) in
+    subst (λ ys. Gives data_of (entries_are_text es) c.from_residual.result (read_enum (variants_in ys) (reads_variant c.args.strict (variants_in ys)) (mapping es))) c.deref.ensures.value exit
+
+pub variants::read_least-returns : goal.variants::read_least-returns
+variants::read_least-returns t c =
+    let ds = c.args.variants.now.items in
+    let vs = variants_in ds in
+    let es = entries_of_map c.args.map.now in
+    let key = step_of_key c.in-Some.key.now in
+    let n = tree_of c.in-Some.value.now in
+    let least : es ≡ entry key.seg key.mark n (entries_after 1 es) = after_some 0 es (key, n) (sym c.in-Some.ensures) in
+    let name = segment_text key.seg in
+    let i = c.in_ok-place.place in
+    let v = c.index.result.now in
+    let found = subst (λ ys. option_map Some (variant_named name (variants_in ys)) ≡ Some (option_map variant_of (slice_get ys i))) c.deref.ensures.value c.in_ok-place.ensures.named in
+    let inside = subst (λ ys. i < length ys) c.deref.ensures.value c.in_ok-place.ensures.place in
+    let named = named_is name ds i v found inside c.index.ensures in
+    gives_as data_of (is_text n) (entries_are_text es) c.read_variant.result (reads_kind c.args.strict (variant_of v).1 (variant_of v).0 n) (read_enum vs (reads_variant c.args.strict vs) (mapping es))
+    c.read_variant.ensures (sym (enum_some c.args.strict vs es (entries_after 1 es) key.seg key.mark n least v named)) (least_value_bad c.args.strict vs es (entries_after 1 es) key.seg key.mark n least)
+
+pub variants::read_variant-returns-in_ok-members-in-Struct : goal.variants::read_variant-returns-in_ok-members-in-Struct
+unfolding reads
+variants::read_variant-returns-in_ok-members-in-Struct t c =
+    let v = c.args.variant.now in
+    let n = tree_of c.args.value.now in
+    let k = c.in_ok-members-in-Struct in
+    let fs = fields_in c.in-Struct.fields.items in
+    let name = c.in_ok-name.name in
+    let copied : string_bytes name ≡ string_bytes (out-Variant v).name = c.in_ok-name.ensures.cases in
+    let named : (variant_of v).0 ≡ string_bytes name = variant_name v ∙ sym copied in
+    let held : (variant_of v).1 ≡ struct_kind fs = variant_kind v ∙ ap kind_of c.in-Struct.is ∙ search (rules, kind.the_lemmas) in
+    ap (λ x. reads_kind c.args.strict x (variant_of v).0 n) held ∙ ap (λ x. reads_kind c.args.strict (struct_kind fs) x n) named
+    ∙ ap (option_map (λ ms. d.struct_variant (string_bytes name) (d.members_of ms))) k.ensures ∙ ap Some (sym (data_of_struct_variant name k.members))
+
+pub variants::read_variant_fields-returns-in-String : goal.variants::read_variant_fields-returns-in-String
+unfolding struct_members
+variants::read_variant_fields-returns-in-String t c =
+    let fs = fields_in c.args.fields.now.items in
+    let n = tree_of c.args.value.now in
+    let names = reads_names c.args.strict fs in
+    let places = reads_places c.args.strict fs in
+    let seen : as_map n ≡ mapping (under_empty n) = ap (λ x. as_map (tree_of x)) c.in-String.is ∙ text_as_map c.in-String.field-0 ∙ ap (λ x. mapping (under_empty (tree_of x))) (sym c.in-String.is) in
+    gives_as (λ x. map (named data_of) x.items) (entries_are_text (under_empty n)) (is_text n) c.read_entries.result _ (struct_members names places (as_map n))
+    c.read_entries.ensures (ap (struct_members names places) (sym seen)) (under_bad n)
+
+pub lists::read_list-returns : goal.lists::read_list-returns
+unfolding read_list
+lists::read_list-returns t c =
+    let n = tree_of c.args.value.now in
+    let xs = items_in c.in_ok-items.items in
+    let r = reads c.args.strict (shape_of c.args.part.now) in
+    let h : items n ≡ Some xs = c.in_ok-items.ensures in
+    gives_as (λ v. map data_of v.items) (are_text xs) (is_text n) c.read_each.result (read_each r xs) (read_list r n)
+    c.read_each.ensures (sym (ap (option_and_then (read_each r)) h)) (items_bad n xs h)
+
+pub lists::read_each-returns-in_err-read : goal.lists::read_each-returns-in_err-read
+lists::read_each-returns-in_err-read t c =
+    let l = c.loop-i in
+    let xs = items_in c.args.items in
+    let n = tree_of c.in-Some.item.now in
+    let r = reads c.args.strict (shape_of c.args.part.now) in
+    let h : first_item (drop l.i xs) ≡ Some (Some n) = c.in_ok-item.ensures ∙ ap (λ o. Some (option_map (λ v. tree_of v.now) o)) c.in-Some.is in
+    gives_exit (λ v. map data_of v.items) (is_text n) (are_text xs) c.from_residual-in_err-read.result c.in_err-read.field-0.0 (r n) (read_each r xs)
+    c.from_residual-in_err-read.ensures.1 c.in_err-read.ensures.gives (λ e. l.invariant ∙ each_unread r xs l.i (map data_of l.values.items) n h e) (due_bad l.i xs n h)
+
+pub lists::read_each-loop-i-preserved : goal.lists::read_each-loop-i-preserved
+lists::read_each-loop-i-preserved t c =
+    let l = c.loop-i in
+    let xs = items_in c.args.items in
+    let n = tree_of c.in-Some.item.now in
+    let r = reads c.args.strict (shape_of c.args.part.now) in
+    let ws = map data_of l.values.items in
+    let d = data_of c.in_ok-read.field-0 in
+    let h : first_item (drop l.i xs) ≡ Some (Some n) = c.in_ok-item.ensures ∙ ap (λ o. Some (option_map (λ v. tree_of v.now) o)) c.in-Some.is in
+    let pushed : map data_of c.push.new.self.items ≡ ws ++ d ∷ [] = grind (arith, common_steps) in
+    l.invariant ∙ each_more r xs l.i ws n d h c.in_ok-read.ensures.gives ∙ ap (λ ys. before ys (read_each r (drop (l.i + 1) xs))) (sym pushed)
+
+pub lists::read_each-returns : goal.lists::read_each-returns
+lists::read_each-returns t c =
+    let l = c.loop-i in
+    let xs = items_in c.args.items in
+    let r = reads c.args.strict (shape_of c.args.part.now) in
+    let ws = map data_of l.values.items in
+    elim c.loop-i-test.branch [
+      | lists::read_each-else-loop-i-test w ↦ l.invariant ∙ each_all r xs l.i ws (omega (arith, c.len-i-end.ensures, w.loop-i-test.false))
+      | lists::read_each-then-loop-i-test+in_ok-item+in_default w ↦
+          let h : first_item (drop l.i xs) ≡ Some None = w.in_ok-item.ensures ∙ ap (λ o. Some (option_map (λ v. tree_of v.now) o)) w.in_default.is in
+          l.invariant ∙ each_end r xs l.i ws h
+    ]
+
+pub lists::read_tuple-returns : goal.lists::read_tuple-returns
+lists::read_tuple-returns t c =
+    let n = tree_of c.args.value.now in
+    let xs = items_in c.in_ok-items.items in
+    let r = reads_tuple c.args.strict (shapes_in c.args.parts.now.items) in
+    let h : items n ≡ Some xs = c.in_ok-items.ensures in
+    gives_as (λ v. map data_of v.items) (are_text xs) (is_text n) c.read_parts.result (r xs) (option_and_then r (items n))
+    c.read_parts.ensures (sym (ap (option_and_then r) h)) (items_bad n xs h)
+
+pub lists::read_parts-returns-in_err-read : goal.lists::read_parts-returns-in_err-read
+lists::read_parts-returns-in_err-read t c =
+    let l = c.loop-i in
+    let s = c.part-item.result in
+    let ss = c.deref-part-items.result.now in
+    let xs = items_in c.args.items in
+    let n = tree_of c.in-Some.item.now in
+    let h : first_item (drop l.i xs) ≡ Some (Some n) = c.in_ok-item.ensures ∙ ap (λ o. Some (option_map (λ v. tree_of v.now) o)) c.in-Some.is in
+    gives_exit (λ v. map data_of v.items) (is_text n) (are_text xs) c.from_residual-in_err-read.result c.in_err-read.field-0.0
+    (reads c.args.strict (shape_of s) n) (reads_tuple c.args.strict (shapes_in c.args.parts.now.items) xs)
+    c.from_residual-in_err-read.ensures.1 c.in_err-read.ensures.gives
+    (λ e. l.invariant ∙ parts_unread c.args.strict ss l.i s xs (map data_of l.values.items) (omega arith) c.part-item.is n h e) (due_bad l.i xs n h)
+
+pub lists::read_parts-loop-i-preserved : goal.lists::read_parts-loop-i-preserved
+lists::read_parts-loop-i-preserved t c =
+    let l = c.loop-i in
+    let s = c.part-item.result in
+    let ss = c.deref-part-items.result.now in
+    let xs = items_in c.args.items in
+    let n = tree_of c.in-Some.item.now in
+    let ws = map data_of l.values.items in
+    let d = data_of c.in_ok-read.field-0 in
+    let h : first_item (drop l.i xs) ≡ Some (Some n) = c.in_ok-item.ensures ∙ ap (λ o. Some (option_map (λ v. tree_of v.now) o)) c.in-Some.is in
+    let pushed : map data_of c.push.new.self.items ≡ ws ++ d ∷ [] = grind (arith, common_steps) in
+    l.invariant ∙ parts_more c.args.strict ss l.i s xs ws (omega arith) c.part-item.is n d h c.in_ok-read.ensures.gives
+    ∙ ap (λ ys. before ys (reads_tuple c.args.strict (shapes_in (drop (l.i + 1) ss)) (drop (l.i + 1) xs))) (sym pushed)
+
+pub maps::read_pairs-returns-in_err-key : goal.maps::read_pairs-returns-in_err-key
+maps::read_pairs-returns-in_err-key t c =
+    let l = c.loop-i in
+    let es = entries_of_map c.args.entries.now in
+    let k = key_shape_of c.args.key_shape.now in
+    let r = reads c.args.strict (shape_of c.args.part.now) in
+    let x : Step × Tree = (step_of_key c.in-Some.key.now, tree_of c.in-Some.value.now) in
+    let here = sym c.in-Some.ensures in
+    gives_exit (λ v. map pair_of v.items) (is_utf8 (segment_text x.0.seg)) (entries_are_text es) c.from_residual-in_err-key.result c.in_err-key.field-0.0 (key_data k (segment_text x.0.seg)) (read_pairs k r es)
+    c.from_residual-in_err-key.ensures.1 c.in_err-key.ensures (λ e. l.invariant ∙ pairs_no_key k r es l.i (map pair_of l.pairs.items) x here e) (key_bad l.i es x here)
+
+pub maps::read_pairs-returns-in_err-value : goal.maps::read_pairs-returns-in_err-value
+maps::read_pairs-returns-in_err-value t c =
+    let l = c.loop-i in
+    let es = entries_of_map c.args.entries.now in
+    let k = key_shape_of c.args.key_shape.now in
+    let r = reads c.args.strict (shape_of c.args.part.now) in
+    let x : Step × Tree = (step_of_key c.in-Some.key.now, tree_of c.in-Some.value.now) in
+    let here = sym c.in-Some.ensures in
+    gives_exit (λ v. map pair_of v.items) (is_text x.1) (entries_are_text es) c.from_residual-in_err-value.result c.in_err-value.field-0.0 (r x.1) (read_pairs k r es)
+    c.from_residual-in_err-value.ensures.1 c.in_err-value.ensures.gives (λ e. l.invariant ∙ pairs_no_value k r es l.i (map pair_of l.pairs.items) x here e) (value_bad l.i es x here)
+
+pub maps::read_pairs-loop-i-preserved : goal.maps::read_pairs-loop-i-preserved
+maps::read_pairs-loop-i-preserved t c =
+    let l = c.loop-i in
+    let es = entries_of_map c.args.entries.now in
+    let k = key_shape_of c.args.key_shape.now in
+    let r = reads c.args.strict (shape_of c.args.part.now) in
+    let x : Step × Tree = (step_of_key c.in-Some.key.now, tree_of c.in-Some.value.now) in
+    let ws = map pair_of l.pairs.items in
+    let a = data_of c.in_ok-key.key in
+    let d = data_of c.in_ok-value.value in
+    let pushed : map pair_of c.push.new.self.items ≡ ws ++ (a, d) ∷ [] = grind (arith, common_steps) in
+    l.invariant ∙ pairs_more k r es l.i ws x (sym c.in-Some.ensures) a d c.in_ok-key.ensures c.in_ok-value.ensures.gives
+    ∙ ap (λ ys. before ys (read_pairs k r (entries_after (l.i + 1) es))) (sym pushed)
+
+pub maps::read_pairs-returns : goal.maps::read_pairs-returns
+maps::read_pairs-returns t c =
+    let l = c.loop-i in
+    let es = entries_of_map c.args.entries.now in
+    let k = key_shape_of c.args.key_shape.now in
+    let r = reads c.args.strict (shape_of c.args.part.now) in
+    let ws = map pair_of l.pairs.items in
+    elim c.loop-i-test.branch [
+      | maps::read_pairs-else-loop-i-test w ↦ l.invariant ∙ pairs_all k r es l.i ws (omega (arith, c.len-i-end.ensures, w.loop-i-test.false))
+      | maps::read_pairs-then-loop-i-test+in_default w ↦ l.invariant ∙ pairs_end k r es l.i ws (sym w.in_default.ensures)
+    ]
+
+pub maps::read_under_empty-returns-in_err-key : goal.maps::read_under_empty-returns-in_err-key
+maps::read_under_empty-returns-in_err-key t c =
+    let n = tree_of c.args.value.now in
+    let k = key_shape_of c.args.key_shape.now in
+    let r = reads c.args.strict (shape_of c.args.part.now) in
+    gives_exit (λ v. map pair_of v.items) (is_utf8 []) (is_text n) c.from_residual.result c.in_err-key.field-0.0 (key_data k []) (read_pairs k r (under_empty n))
+    c.from_residual.ensures.1 c.in_err-key.ensures (lone_no_key k r n) (λ f. absurd (false≢true (sym f ∙ empty_text)))

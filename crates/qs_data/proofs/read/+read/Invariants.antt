@@ -1,8 +1,9 @@
 use Rattle.std.proofs.Common.{◌≡◌, map, drop}
-use Rattle.qs_spec.specs.Read.{reads_names, reads_places}
-use Rattle.qs_tree.specs.Views.{tree_of, items_from}
-use Rattle.qs_data.specs.Views.{data_of, named, fields_in}
-use Rattle.qs_data.specs.Keys.{entries_of}
+use Rattle.qs_spec.specs.Read.{reads, read_each, read_pairs, reads_names, reads_places, reads_tuple}
+use Rattle.qs_tree.specs.Views.{tree_of, items_from, entries_of_map}
+use Rattle.qs_data.specs.Views.{data_of, named, fields_in, key_shape_of, pair_of, shape_of, shapes_in}
+use Rattle.qs_data.specs.Items.{items_in}
+use Rattle.qs_data.specs.Keys.{entries_of, entries_after}
 use Rattle.qs_data.proofs.Steps.{before}
 use Rattle.qs_data.proofs.read.+read.Given as goal
 
@@ -15,3 +16,20 @@ abbrev pub invariant-fields::read_places-loop-i : goal.invariant-fields::read_pl
 invariant-fields::read_places-loop-i l =
     reads_places l.strict (fields_in l.fields.items) (items_from (map tree_of l.items))
     ≡ before (map (named data_of) l.members.items) (reads_places l.strict (fields_in (drop l.i l.field-items)) (items_from (map tree_of (drop l.i l.items))))
+
+abbrev pub invariant-lists::read_each-loop-i : goal.invariant-lists::read_each-loop-i
+invariant-lists::read_each-loop-i l =
+    let r = reads l.strict (shape_of l.part) in
+    read_each r (items_in l.items) ≡ before (map data_of l.values.items) (read_each r (drop l.i (items_in l.items)))
+
+abbrev pub invariant-lists::read_parts-loop-i : goal.invariant-lists::read_parts-loop-i
+invariant-lists::read_parts-loop-i l =
+    reads_tuple l.strict (shapes_in l.parts.items) (items_in l.items)
+    ≡ before (map data_of l.values.items) (reads_tuple l.strict (shapes_in (drop l.i l.part-items)) (drop l.i (items_in l.items)))
+
+abbrev pub invariant-maps::read_pairs-loop-i : goal.invariant-maps::read_pairs-loop-i
+invariant-maps::read_pairs-loop-i l =
+    let k = key_shape_of l.key_shape in
+    let r = reads l.strict (shape_of l.part) in
+    let es = entries_of_map l.entries in
+    read_pairs k r es ≡ before (map pair_of l.pairs.items) (read_pairs k r (entries_after l.i es))

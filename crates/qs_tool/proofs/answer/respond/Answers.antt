@@ -1,9 +1,6 @@
 use Rattle.std.proofs.Common.{◌≡◌, ◌∙◌, List, ℕ, Option, None, Some, ap, subst}
 use Rattle.std.specs.Option.{IfSome}
-use Rattle.qs_tool.specs.Flat.{flat_shape}
 use Rattle.qs_tool.specs.Line.{IsAnswer, without_newline}
-use Rattle.qs_data.specs.Views.{shape_of}
-use Rattle.qs_spec.specs.Shape.{Shape}
 use Rattle.qs_tool.proofs.answer.respond.Goals as goal
 
 -- what holds of the bytes that were read holds of the input, where it is known
@@ -14,10 +11,8 @@ lifted (Some input) items P e p = subst P e p
 pub returns : goal.returns
 returns g c =
     let answer = c.in_ok-answer_to.field-0 in
-    let config = c.args.request.config in
-    let items = c.in_ok-input.input.items in
+    let input = c.in_ok-input.input.items in
     let text = c.before_newline.ensures ∙ ap without_newline c.as_slice.ensures.value in
-    let P : List ℕ → Type 0 = λ input. IsAnswer config flat_shape (without_newline input) answer.line.items answer.status in
-    let Q : Shape → Type 0 = λ s. IsAnswer config s c.before_newline.result.now answer.line.items answer.status in
-    let R : List ℕ → Type 0 = λ t. IsAnswer config flat_shape t answer.line.items answer.status in
-    lifted (g.R.Read.remaining c.args.reader.now) items P c.in_ok-input.ensures (subst R text (subst Q c.in_ok-shape.ensures c.in_ok-answer_to.ensures))
+    let P : List ℕ → Type 0 = λ input. IsAnswer c.args.request (without_newline input) answer.line.items answer.status in
+    let R : List ℕ → Type 0 = λ t. IsAnswer c.args.request t answer.line.items answer.status in
+    lifted (g.R.Read.remaining c.args.reader.now) input P c.in_ok-input.ensures (subst R text c.in_ok-answer_to.ensures)

@@ -1,6 +1,6 @@
 use Rattle.std.proofs.Common.{ℕ, List, ◌≡◌, sym, subst, ap, ◌∙◌, take, inl, inr, refl, map, string_bytes}
 use Rattle.std.specs.Io.KnownBytes.{Appends}
-use Rattle.qs_tool.specs.Line.{IsLine, IsBegun, usage_line, memory_line, task_of}
+use Rattle.qs_tool.specs.Line.{IsLine, IsBegun, usage_line, memory_line}
 use Rattle.qs_tool.proofs.Lines.{over, each, right_line, usage_is_right, Appends-nil}
 use Rattle.qs_tool.proofs.program.run.Goals as goal
 

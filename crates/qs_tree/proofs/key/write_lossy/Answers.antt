@@ -1,5 +1,5 @@
-use Rattle.std.proofs.Common.{◌≡◌, ◌<◌, ℕ, [], ◌++◌, length, sym, ap, ◌∙◌, append_assoc, append-nil, rules}
-use Rattle.std.specs.Str.Lossy.{utf8_lossy, replacement_bytes}
+use Rattle.std.proofs.Common.{◌≡◌, ◌<◌, ◌++◌, length, sym, ap, ◌∙◌, append_assoc, append-nil, rules}
+use Rattle.std.specs.Str.Lossy.{replacement_bytes}
 use Rattle.std.specs.Str.Chunks.{utf8_chunks_rest}
 use Rattle.std.proofs.Output.{has_written_append, has_written_of_eq}
 use Rattle.std.proofs.lemmas.Str.{utf8_lossy_chunk, utf8_lossy_last_chunk, utf8_lossy_empty}

@@ -1,4 +1,3 @@
-use Rattle.std.proofs.Common.{sym, ◌∙◌}
 use Rattle.qs_tree.proofs.Indexes.{number_key, text_key}
 use Rattle.qs_tree.proofs.raw.read_key.Goals as goal
 

@@ -1,10 +1,9 @@
-use Rattle.std.proofs.Common.{◌≡◌, ◌-◌, Bool, true, false, sym, ap, ◌∙◌, arith, refl}
-use Rattle.qs_spec.specs.Token.Kind.{Amp, Equals, Open, Close, Other}
+use Rattle.std.proofs.Common.{◌-◌, sym, ap, ◌∙◌, arith, refl}
 use Rattle.qs_spec.specs.Grammar.{plain}
 use Rattle.qs_spec.specs.toward.Reading.{with_leaf, read_value, read_brackets, after_close}
-use Rattle.qs_tree.specs.Cursor.{kind_of_token, looks, left, token_of, behind}
+use Rattle.qs_tree.specs.Cursor.{kind_of_token, looks, met, left, behind}
 use Rattle.qs_tree.specs.Pairs.{path_of}
-use Rattle.qs_tree.proofs.BehindKeys.{path_more, pair_as, below_end, below_push, segment_found, behind_closing, behind_open, behind_close, behind_other, closes}
+use Rattle.qs_tree.proofs.BehindKeys.{pair_as, below_end, below_push, segment_found, behind_closing, behind_open, behind_close, behind_other, closes}
 use Rattle.qs_tree.proofs.reading.read_brackets.Goals as goal
 use Rattle.qs_tree.proofs.reading.read_brackets.Goals.{in-Close, in-Other}
 
@@ -61,8 +60,8 @@ loop-room-preserved c =
           c.in_ok-push.ensures.items c.in_ok-read_key.ensures.key
           ∙ ap (after_close (read_brackets (room - 1)) (path_of c.push.new.self.items)) c.in-Some-next.ensures.token
           ∙ behind_open (room - 1) (path_of c.push.new.self.items) token (left c.next-next.new.self) (ap kind_of_token c.in-Open.is);
-      behind = c.in-Some-next.ensures.place ∙ c.in-Some-next.ensures.bytes;
-      form = c.in-Some-next.ensures.form ∙ c.run.ensures.moves.form ∙ c.loop-room.invariant.form;
+      behind = (c.in-Some-next.ensures.place ∙ c.in-Some-next.ensures.bytes, c.in-Some-next.ensures.met ∙ c.run.ensures.met ∙ ap (λ o. met o c.loop-room.cursor.ended) c.in-Some.is ∙ c.loop-room.invariant.behind.1);
+      form = c.in-Some-next.ensures.form ∙ c.run.ensures.form ∙ c.loop-room.invariant.form;
       shorter = omega (arith, c.in-Some-next.ensures.shorter);
       spent = omega (arith, c.in-Some-next.ensures.cost, ap looks c.in-Some.is);
     }

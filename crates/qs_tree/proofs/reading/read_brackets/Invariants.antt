@@ -1,4 +1,4 @@
-use Rattle.std.proofs.Common.{◌≡◌, ◌≤◌, ◌++◌, length}
+use Rattle.std.proofs.Common.{◌≡◌, ◌≤◌, length}
 use Rattle.qs_spec.specs.toward.Reading.{read_brackets}
 use Rattle.qs_tree.specs.Cursor.{left, spent}
 use Rattle.qs_tree.specs.Pairs.{path_of}

@@ -1,8 +1,7 @@
 use Rattle.std.proofs.Common.{sym, ap, ◌∙◌, subst, Ok}
 use Rattle.qs_spec.specs.Token.{raw_of}
-use Rattle.qs_spec.specs.Grammar.{ends_root}
 use Rattle.qs_spec.specs.toward.Reading.{cut, and_pairs}
-use Rattle.qs_tree.specs.Cursor.{ends_of, left, behind}
+use Rattle.qs_tree.specs.Cursor.{left, behind}
 use Rattle.qs_tree.specs.Reading.{is_nothing, behind_root, ReadsItem}
 use Rattle.qs_tree.proofs.BehindKeys.{has_bytes}
 use Rattle.qs_tree.proofs.Items.{end_pairs, ampersand_pairs, pair_pairs, pair_item}

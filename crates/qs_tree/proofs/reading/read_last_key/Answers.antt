@@ -1,4 +1,4 @@
-use Rattle.std.proofs.Common.{◌++◌, sym, ap, ◌∙◌, subst, append_assoc}
+use Rattle.std.proofs.Common.{◌++◌, sym, ap, ◌∙◌, append_assoc}
 use Rattle.qs_spec.specs.Token.{raw_of}
 use Rattle.qs_spec.specs.Grammar.{plain, ends_last}
 use Rattle.qs_spec.specs.toward.Reading.{cut, with_leaf, read_value, read_brackets}
@@ -12,14 +12,14 @@ pub run_from-requires : goal.run_from-requires
 run_from-requires c =
     let bracket = c.args.bracket in
     left_behind bracket.place.rest.now (bracket.raw.now ++ c.in-Some.first.raw.now) c.next.new.self.rest.now
-    (c.requires ∙ ap (λ l. bracket.raw.now ++ l) c.in-Some.ensures.bytes ∙ sym (append_assoc bracket.raw.now c.in-Some.first.raw.now c.next.new.self.rest.now))
+    (c.requires.0 ∙ ap (λ l. bracket.raw.now ++ l) c.in-Some.ensures.bytes ∙ sym (append_assoc bracket.raw.now c.in-Some.first.raw.now c.next.new.self.rest.now))
 
 pub returns-clause-pair : goal.returns-clause-pair
 returns-clause-pair c =
     let bracket = c.args.bracket in
     let first = c.in-Some.first in
     let keys = c.args.path.items in
-    let whole = c.requires ∙ ap (λ l. bracket.raw.now ++ l) c.in-Some.ensures.bytes ∙ sym (append_assoc bracket.raw.now first.raw.now c.next.new.self.rest.now) in
+    let whole = c.requires.0 ∙ ap (λ l. bracket.raw.now ++ l) c.in-Some.ensures.bytes ∙ sym (append_assoc bracket.raw.now first.raw.now c.next.new.self.rest.now) in
     let key = c.run_from.result.0.now in
     let stop = behind c.run_from.result.1 (left c.run_from.new.self) in
     let key_is = c.run_from.ensures.run ∙ ap (λ l. l ++ raw_of (cut ends_last (left c.next.new.self)).0) (taken_behind bracket.place.rest.now (bracket.raw.now ++ first.raw.now) c.next.new.self.rest.now whole) in

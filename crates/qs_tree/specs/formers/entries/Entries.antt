@@ -1,7 +1,5 @@
 -- `Entries` as a type that may hold the type that holds it, by its values.
-use Rattle.std.specs.Prelude.{ℕ, List, [], ◌∷◌, map, ◌&&◌}
-use Rattle.std.specs.Cmp.Lexicographic.{pointwise}
-use Rattle.std.specs.Cmp.Derive.Mapped.{pointwise-map}
+use Rattle.std.specs.Prelude.{List, [], ◌∷◌, map}
 use mathlib.Core.Path.{◌≡◌, refl, sym, ap, subst}
 use mathlib.Core.Former.{Former, this, const, pair, list, via, children}
 use base.Stored.{code_map, coded×, gcons}
@@ -69,9 +67,3 @@ module _ (K : RattleType) (G : ord.Ghosts K.Denot) (G' : eq.Ghosts K.Denot) (G''
 
   pub the_codes_placed : Recodes R S h → Recodes (C.the_row K R G G' G'') (C.the_row K S G G' G'') ((the_former this K.Denot).map R.Denot S.Denot h)
   the_codes_placed e d = sym (code_map (coded× K.coded R.coded).code (coded× K.coded S.coded).code (on_value h) (λ x i. gcons (K.coded.code x.0) (sym (e x.1) i)) d)
-
-module _ (K X Y : Type 0) (h : X → Y) (G : ord.Ghosts K) (G' : eq.Ghosts K) (G'' : partial.Ghosts K) where
-  pub the_eq_natural : (V : eq.Ghosts Y) (m n : List (K × X))
-      → pointwise (λ p q. G'.eq p.0 q.0 && V.eq p.1 q.1) (map (on_value h) m) (map (on_value h) n)
-      ≡ pointwise (λ p q. G'.eq p.0 q.0 && V.eq (h p.1) (h q.1)) m n
-  the_eq_natural V m n = pointwise-map (on_value h) (λ p q. G'.eq p.0 q.0 && V.eq p.1 q.1) m n

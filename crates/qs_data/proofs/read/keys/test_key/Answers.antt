@@ -1,12 +1,11 @@
-use Rattle.std.proofs.Common.{◌≡◌, ◌<◌, ◌^◌, ap, ◌∙◌, arith}
+use Rattle.std.proofs.Common.{◌<◌, ◌^◌, ap, ◌∙◌, arith}
 use Rattle.std.specs.Str.{is_utf8}
 use Rattle.qs_spec.specs.Segment.{segment_text}
 use Rattle.qs_tree.specs.Views.{segment_of_key}
-use Rattle.qs_data.specs.Keys.{passed}
 use Rattle.qs_data.proofs.Numbers.{decimal_text}
 use Rattle.qs_data.proofs.read.keys.test_key.Goals as goal
 
 pub returns-in-Int-clause-text : goal.returns-in-Int-clause-text
 returns-in-Int-clause-text c =
     let lt : c.in-Int.number < 2 ^ 32 = omega arith in
-    ap (λ k. passed (is_utf8 (segment_text (segment_of_key k)))) c.in-Int.is ∙ ap passed (decimal_text c.in-Int.number lt)
+    ap (λ k. is_utf8 (segment_text (segment_of_key k))) c.in-Int.is ∙ decimal_text c.in-Int.number lt

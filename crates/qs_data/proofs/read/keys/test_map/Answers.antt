@@ -1,6 +1,4 @@
-use Rattle.std.proofs.Common.{◌≡◌, ◌+◌, Some, ap, sym, subst, ◌∙◌, arith}
-use Rattle.std.specs.Result.{result_and}
-use Rattle.qs_spec.specs.Tree.{Entries}
+use Rattle.std.proofs.Common.{◌≡◌, ◌+◌, sym, subst, arith}
 use Rattle.qs_spec.specs.Tree.Entries.{entry}
 use Rattle.qs_tree.specs.Views.{entries_of_map, step_of_key, tree_of}
 use Rattle.qs_data.specs.Keys.{entries_after}

@@ -16,6 +16,7 @@ loop-token-preserved c =
     let before = c.loop-token.invariant in
     record {
       form = c.in-Some.ensures.form ∙ before.form;
+      ended = c.in-Some.ensures.met ∙ before.ended;
       rest = left_more start old.rest.now token.raw.now new.rest.now before.rest c.in-Some.ensures.bytes;
       run = before.run ∙ ap (λ ts. taken start old.rest.now ++ raw_of (cut ends ts).0) c.in-Some.ensures.token
           ∙ run_more ends (token_of token) (left new) (taken start old.rest.now) other

@@ -8,6 +8,7 @@ use Rattle.qs_tree.proofs.cursor.Cursor.run_from.Given as goal
 abbrev pub invariant-loop-token : goal.invariant-loop-token
 invariant-loop-token l = record {
   form : l.self.form ≡ l.fn.self.form;
+  ended : l.self.ended ≡ l.fn.self.ended;
   rest : IsLeft l.place.rest.now l.self.rest.now;
   run : taken l.place.rest.now l.fn.self.rest.now ++ raw_of (cut (ends_of l.until) (left l.fn.self)).0 ≡ taken l.place.rest.now l.self.rest.now ++ raw_of (cut (ends_of l.until) (left l.self)).0;
   token : (cut (ends_of l.until) (left l.fn.self)).1 ≡ (cut (ends_of l.until) (left l.self)).1;

@@ -1,7 +1,7 @@
 use Rattle.std.proofs.Common.{take, drop, sym, ap, ◌∙◌}
 use Rattle.qs_spec.specs.Token.{tokens}
 use Rattle.qs_tree.specs.Cursor.{left}
-use Rattle.qs_tree.proofs.Values.{value_end, value_cut, end_of, value_past, plain_value}
+use Rattle.qs_tree.proofs.Values.{value_cut, end_of, value_past, plain_value}
 use Rattle.qs_tree.proofs.cursor.Cursor.value.Goals as goal
 
 pub returns-clause-value : goal.returns-clause-value

@@ -1,4 +1,4 @@
-use Rattle.std.proofs.Common.{◌∙◌, ap, Some, sym}
+use Rattle.std.proofs.Common.{ap, Some, sym}
 use Rattle.std.proofs.lemmas.Option.{slice_get-get_or}
 use Rattle.qs_tree.proofs.Places.{sorted_remove}
 use Rattle.qs_tree.proofs.entries.Entries.remove_at.Goals as goal

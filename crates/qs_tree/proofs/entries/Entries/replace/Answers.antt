@@ -1,5 +1,4 @@
-use Rattle.std.proofs.Common.{◌≡◌, ℕ, ◌<◌, length, Some, option_map, slice_get, List, ◌∙◌, sym, subst, ap, get_or}
-use Rattle.std.specs.List.Sorted.{IsStrictlySortedBy}
+use Rattle.std.proofs.Common.{Some, sym, ap}
 use Rattle.std.proofs.lemmas.Option.{slice_get-get_or}
 use Rattle.qs_tree.proofs.Places.{put_value-set, keys-put_value}
 use Rattle.qs_tree.proofs.entries.Entries.replace.Goals as goal

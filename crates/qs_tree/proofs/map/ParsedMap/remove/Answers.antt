@@ -1,4 +1,4 @@
-use Rattle.std.proofs.Common.{◌∙◌, sym}
+use Rattle.std.proofs.Common.{◌∙◌}
 use Rattle.qs_tree.specs.Keys.{key_cmp}
 use Rattle.qs_tree.proofs.Places.{hit_lookup, gap_lookup, hit_remove, gap_remove}
 use Rattle.qs_tree.proofs.Keys.{view-lookup, view-remove_entry, entries_of_map-map}

@@ -1,0 +1,90 @@
+//! The calls of the static library `qs_bench`, as safe Rust.
+
+/// How many keys a tree has, at its root and behind its first key.
+#[repr(C)]
+#[derive(Clone, Copy, Debug, Default, PartialEq, Eq)]
+pub struct Keys {
+    pub root: usize,
+    pub first: usize,
+}
+
+// A slice of the library's crosses as a pointer and then a length; an allocator takes no bytes and isn't passed.
+#[rustfmt::skip]
+unsafe extern "C" {
+    fn qs_bench_parse(input: *const u8, input_len: usize, keys: *mut Keys) -> bool;
+    fn qs_bench_decode(bytes: *const u8, bytes_len: usize, out: *mut u8, out_len: usize, len: *mut usize) -> bool;
+    fn qs_bench_encode(form: bool, bytes: *const u8, bytes_len: usize, out: *mut u8, out_len: usize, len: *mut usize) -> bool;
+    fn qs_bench_write_record(times: usize, out: *mut u8, out_len: usize, len: *mut usize) -> bool;
+    fn qs_bench_write_fields(times: usize, keys: usize, count: usize, out: *mut u8, out_len: usize, len: *mut usize) -> bool;
+    fn qs_bench_write_numbers(times: usize, count: usize, out: *mut u8, out_len: usize, len: *mut usize) -> bool;
+    fn qs_bench_write_bytes(times: usize, bytes: *const u8, bytes_len: usize, out: *mut u8, out_len: usize, len: *mut usize) -> bool;
+}
+
+/// Parses the input: how many keys its tree has, or nothing where it is refused.
+pub fn parse(input: &[u8]) -> Option<Keys> {
+    let mut keys = Keys::default();
+    // SAFETY: the pointers and the length are those of borrows that last for the call.
+    let is_parsed = unsafe { qs_bench_parse(input.as_ptr(), input.len(), &mut keys) };
+    is_parsed.then_some(keys)
+}
+
+/// What the bytes stand for goes to the front of `out` where it fits: its length, or nothing where memory ran out.
+pub fn decode(bytes: &[u8], out: &mut [u8]) -> Option<usize> {
+    handed_out(out, |text, room, len| {
+        // SAFETY: the pointers and the lengths are those of borrows that last for the call.
+        unsafe { qs_bench_decode(bytes.as_ptr(), bytes.len(), text, room, len) }
+    })
+}
+
+/// What query mode writes for the bytes, as above.
+pub fn encode(bytes: &[u8], out: &mut [u8]) -> Option<usize> {
+    handed_out(out, |text, room, len| {
+        // SAFETY: the pointers and the lengths are those of borrows that last for the call.
+        unsafe { qs_bench_encode(false, bytes.as_ptr(), bytes.len(), text, room, len) }
+    })
+}
+
+/// Data to be written.
+pub enum Sample {
+    /// A record of ten entries.
+    Record,
+    /// A struct of so many fields, below so many keys.
+    Fields { keys: usize, count: usize },
+    /// A field with the numbers below a count.
+    Numbers { count: usize },
+    /// A field with bytes.
+    Bytes(Vec<u8>),
+}
+
+impl Sample {
+    /// Makes the data, writes them so many times, once at least, and puts the last text to the front of `out` where it fits: its
+    /// length, or nothing where they can't be written.
+    pub fn write(&self, times: usize, out: &mut [u8]) -> Option<usize> {
+        handed_out(out, |text, room, len| {
+            // SAFETY: the pointers and the lengths are those of borrows that last for the call.
+            unsafe {
+                match self {
+                    Sample::Record => qs_bench_write_record(times, text, room, len),
+                    Sample::Fields { keys, count } => {
+                        qs_bench_write_fields(times, *keys, *count, text, room, len)
+                    }
+                    Sample::Numbers { count } => {
+                        qs_bench_write_numbers(times, *count, text, room, len)
+                    }
+                    Sample::Bytes(bytes) => {
+                        qs_bench_write_bytes(times, bytes.as_ptr(), bytes.len(), text, room, len)
+                    }
+                }
+            }
+        })
+    }
+}
+
+/// Makes a call with the place of `out`, its length and a place for the text's length: that length, where the call went well.
+fn handed_out(
+    out: &mut [u8],
+    call: impl FnOnce(*mut u8, usize, &mut usize) -> bool,
+) -> Option<usize> {
+    let mut len = 0;
+    call(out.as_mut_ptr(), out.len(), &mut len).then_some(len)
+}

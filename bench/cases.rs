@@ -1,0 +1,251 @@
+//! What is measured.
+
+use crate::calls::{self, Keys, Sample};
+use crate::inputs::{self, Generator, Order};
+use crate::timing::grouped;
+use std::hint::black_box;
+
+/// A call, and what has to come of it.
+enum Call {
+    /// Parses the case's bytes: the tree has these keys.
+    Parse(Keys),
+    /// Decodes them: to these.
+    Decode(Vec<u8>),
+    /// Encodes them: to these.
+    Encode(Vec<u8>),
+    /// Writes the sample: as the case's bytes.
+    Write(Sample),
+}
+
+pub struct Case {
+    pub name: String,
+    /// What is read, or written.
+    pub bytes: Vec<u8>,
+    /// It is the case before with ten times as many pairs.
+    pub grows: bool,
+    call: Call,
+}
+
+impl Case {
+    fn new(name: impl Into<String>, bytes: impl Into<Vec<u8>>, call: Call) -> Self {
+        Case {
+            name: name.into(),
+            bytes: bytes.into(),
+            grows: false,
+            call,
+        }
+    }
+
+    /// Makes the call once: whether the right thing came of it.
+    pub fn is_right(&self) -> bool {
+        let mut out = Vec::new();
+        match &self.call {
+            Call::Parse(keys) => calls::parse(&self.bytes).as_ref() == Some(keys),
+            Call::Decode(wanted) => {
+                out.resize(wanted.len(), 0);
+                calls::decode(&self.bytes, &mut out) == Some(wanted.len()) && out == *wanted
+            }
+            Call::Encode(wanted) => {
+                out.resize(wanted.len(), 0);
+                calls::encode(&self.bytes, &mut out) == Some(wanted.len()) && out == *wanted
+            }
+            Call::Write(sample) => {
+                out.resize(self.bytes.len(), 0);
+                sample.write(1, &mut out) == Some(out.len()) && out == self.bytes
+            }
+        }
+    }
+
+    /// Makes the call so many times. Where it writes, it first makes the data, and writes them once more.
+    pub fn repeat(&self, times: usize) {
+        if let Call::Write(sample) = &self.call {
+            black_box(sample.write(times + 1, &mut []));
+            return;
+        }
+        for _ in 0..times {
+            let bytes = black_box(&self.bytes);
+            match self.call {
+                Call::Parse(_) => drop(black_box(calls::parse(bytes))),
+                Call::Decode(_) => drop(black_box(calls::decode(bytes, &mut []))),
+                Call::Encode(_) => drop(black_box(calls::encode(bytes, &mut []))),
+                Call::Write(_) => {}
+            }
+        }
+    }
+}
+
+/// All cases, or those with few pairs and short texts.
+pub fn all(small: bool) -> Vec<Case> {
+    let pairs: &[usize] = if small {
+        &[10, 100]
+    } else {
+        &[10, 100, 1_000, 10_000, 100_000]
+    };
+    let large: &[usize] = if small { &[] } else { &[30_000, 300_000] };
+    let len = if small { 1 << 12 } else { 1 << 20 };
+    let mut cases = Vec::new();
+    for order in Order::ALL {
+        cases.extend(series(pairs, |count| flat(count, order)));
+        cases.extend(series(large, |count| flat(count, order)));
+    }
+    for order in Order::ALL {
+        cases.extend(series(&pairs[pairs.len() / 2..], |count| map(count, order)));
+        cases.extend(series(large, |count| map(count, order)));
+    }
+    let many = if small { 100 } else { 1_000 };
+    cases.extend([elements(many), deep(1), deep(many)]);
+    cases.extend(texts(len));
+    let written = &pairs[..pairs.len().min(4)];
+    cases.push(Case::new(
+        "write a record of ten entries",
+        RECORD,
+        Call::Write(Sample::Record),
+    ));
+    cases.extend(series(written, |count| fields(0, count)));
+    cases.extend([fields(5, 1), fields(5, many), numbers(many)]);
+    cases
+}
+
+/// So many of a kind.
+fn counted(count: usize, kind: &str) -> String {
+    let ending = if count == 1 { "" } else { "s" };
+    format!("{} {kind}{ending}", grouped(count))
+}
+
+/// Cases that grow.
+fn series(counts: &[usize], case: impl Fn(usize) -> Case) -> Vec<Case> {
+    let mut cases: Vec<Case> = counts.iter().map(|&count| case(count)).collect();
+    for case in cases.iter_mut().skip(1) {
+        case.grows = true;
+    }
+    cases
+}
+
+fn flat(count: usize, order: Order) -> Case {
+    let name = format!("parse {}, {}", counted(count, "pair"), order.name());
+    let keys = Keys {
+        root: count,
+        first: 0,
+    };
+    Case::new(
+        name,
+        inputs::pairs(count, order, "key", ""),
+        Call::Parse(keys),
+    )
+}
+
+fn map(count: usize, order: Order) -> Case {
+    let name = format!(
+        "parse one map of {} entries, {}",
+        grouped(count),
+        order.name()
+    );
+    let keys = Keys {
+        root: 1,
+        first: count,
+    };
+    Case::new(
+        name,
+        inputs::pairs(count, order, "a[key", "]"),
+        Call::Parse(keys),
+    )
+}
+
+fn elements(count: usize) -> Case {
+    let name = format!("parse {} elements by number", grouped(count));
+    let keys = Keys {
+        root: 1,
+        first: count,
+    };
+    Case::new(name, inputs::elements(count), Call::Parse(keys))
+}
+
+fn deep(count: usize) -> Case {
+    let name = format!("parse {}, six keys deep", counted(count, "pair"));
+    let keys = Keys { root: 1, first: 1 };
+    let input = inputs::pairs(count, Order::InOrder, "a[b][c][d][e][", "]");
+    Case::new(name, input, Call::Parse(keys))
+}
+
+/// Long texts of letters, of the escapes of letters, and of a byte that is always escaped.
+fn texts(len: usize) -> Vec<Case> {
+    let letters = Generator::new().letters(len);
+    let escapes = inputs::escapes(len);
+    let escaped = Generator::new().letters(len / 3);
+    let twice = escapes.replace('%', "%25");
+    let ampersands = "&".repeat(len);
+    let value = Keys { root: 1, first: 0 };
+    let written = |bytes: &[u8]| Call::Write(Sample::Bytes(bytes.to_vec()));
+    vec![
+        Case::new(
+            "parse one value of letters",
+            format!("a={letters}"),
+            Call::Parse(value),
+        ),
+        Case::new(
+            "parse one value of escapes",
+            format!("a={escapes}"),
+            Call::Parse(value),
+        ),
+        Case::new(
+            "decode letters",
+            letters.clone(),
+            Call::Decode(letters.clone().into()),
+        ),
+        Case::new(
+            "decode escapes",
+            escapes.clone(),
+            Call::Decode(escaped.into()),
+        ),
+        Case::new(
+            "encode letters",
+            letters.clone(),
+            Call::Encode(letters.clone().into()),
+        ),
+        Case::new("encode escapes", escapes, Call::Encode(twice.into())),
+        Case::new(
+            "encode `&`",
+            ampersands.clone(),
+            Call::Encode("%26".repeat(len).into()),
+        ),
+        Case::new(
+            "write one value of letters",
+            format!("a={letters}"),
+            written(letters.as_bytes()),
+        ),
+        Case::new(
+            "write one value of `&`",
+            format!("a={}", "%26".repeat(len / 3)),
+            written(&ampersands.as_bytes()[..len / 3]),
+        ),
+    ]
+}
+
+const RECORD: &str = "id=42&name=Acme&phone=12345&address[city]=Carrot+City&address[street]=Special-Street*+No.+11\
+    &address[postcode]=12345&user_ids[0]=1&user_ids[1]=2&user_ids[2]=3&user_ids[3]=4";
+
+fn fields(keys: usize, count: usize) -> Case {
+    let (place, before, after) = match keys {
+        0 => ("", String::new(), ""),
+        _ => (
+            ", six keys deep",
+            format!("a{}[", "[a]".repeat(keys - 1)),
+            "]",
+        ),
+    };
+    let name = format!("write {}{place}", counted(count, "field"));
+    let text = inputs::fields(&before, after, count);
+    Case::new(name, text, Call::Write(Sample::Fields { keys, count }))
+}
+
+fn numbers(count: usize) -> Case {
+    let name = format!("write {} numbers in a list", grouped(count));
+    let entries: Vec<String> = (0..count)
+        .map(|number| format!("a[{number}]={number}"))
+        .collect();
+    Case::new(
+        name,
+        entries.join("&"),
+        Call::Write(Sample::Numbers { count }),
+    )
+}

@@ -1,0 +1,48 @@
+//! Escapes.
+
+ghost use Rattle.std.specs.Prelude.{◌≡◌, IsTrue, IsFalse};
+ghost use Rattle.qs_spec.specs.Escape.{decoded, encoded};
+ghost use Rattle.qs_bench.specs.Texts.{IsHandedOut};
+
+use crate::text::hand_out;
+use qs_tree::{decode, encode};
+use std::alloc::Global;
+
+/// Decodes the bytes. Answers whether memory was there: the text's length is then in `len`, and the text at the front
+/// of `out`, where it fits there. Else nothing is changed.
+#[unsafe(no_mangle)]
+pub extern "C" fn qs_bench_decode(
+    alloc: Global,
+    bytes: &[u8],
+    out: &mut [u8],
+    len: &mut usize,
+) -> bool
+    ensures decoded { IsTrue result → IsHandedOut (decoded bytes.now) out.old out.new len.new }
+    ensures refused { IsFalse result → (out.new ≡ out.old) × (len.new ≡ len.old) }
+{
+    let Ok(text) = decode(alloc, bytes) else {
+        return false;
+    };
+    hand_out(text.as_slice(), out, len);
+    true
+}
+
+/// Encodes the bytes for form mode (`form`), or query mode. Answers as decoding does.
+#[unsafe(no_mangle)]
+pub extern "C" fn qs_bench_encode(
+    alloc: Global,
+    form: bool,
+    bytes: &[u8],
+    out: &mut [u8],
+    len: &mut usize,
+) -> bool
+    ensures encoded { IsTrue result → IsHandedOut (encoded form bytes.now) out.old out.new len.new }
+    ensures refused { IsFalse result → (out.new ≡ out.old) × (len.new ≡ len.old) }
+{
+    let mut text = Vec::new(alloc);
+    let Ok(()) = encode(bytes, form, &mut text) else {
+        return false;
+    };
+    hand_out(&text, out, len);
+    true
+}

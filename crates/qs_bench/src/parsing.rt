@@ -1,0 +1,60 @@
+//! Parsing.
+
+ghost use Rattle.std.specs.Prelude.{◌≡◌, IsTrue, IsFalse};
+ghost use Rattle.qs_spec.specs.Config.{default};
+ghost use Rattle.qs_spec.specs.Tree.{Tree, IsTree};
+ghost use Rattle.qs_tree.specs.Views.{tree_of};
+ghost use Rattle.qs_bench.specs.Keys.{root_keys, first_keys};
+
+use qs_tree::{Config, ParsedValue, parse};
+use std::alloc::Global;
+
+/// How many keys a tree has.
+#[repr(C)]
+#[derive(Drop)]
+pub struct Keys {
+    /// At its root.
+    pub root: usize,
+    /// Behind its first key.
+    pub first: usize,
+}
+
+/// Parses the input, counts keys, and drops the tree. Answers whether there was one; else nothing is changed.
+#[unsafe(no_mangle)]
+pub extern "C" fn qs_bench_parse(alloc: Global, input: &[u8], keys: &mut Keys) -> bool
+    ensures counted { IsTrue result → (tree : Tree) × IsTree default.form default.max_depth input.now tree
+        × (keys.new.root ≡ root_keys tree) × (keys.new.first ≡ first_keys tree) }
+    ensures refused { IsFalse result → keys.new ≡ keys.old }
+{
+    let Ok(tree) = parse(alloc, input, Config::new()) else {
+        return false;
+    };
+    *keys = count(&tree);
+    true
+}
+
+fn count(tree: &ParsedValue<'_>) -> Keys
+    ensures root { result.root ≡ root_keys (tree_of tree.now) }
+    ensures first { result.first ≡ first_keys (tree_of tree.now) }
+{
+    match tree {
+        ParsedValue::Map(map) => Keys {
+            root: map.len(),
+            first: match map.at(0) {
+                Some((_, value)) => len(value),
+                None => 0,
+            },
+        },
+        _ => Keys { root: 0, first: 0 },
+    }
+}
+
+/// How many keys a tree has at its root.
+fn len(tree: &ParsedValue<'_>) -> usize
+    ensures { result ≡ root_keys (tree_of tree.now) }
+{
+    match tree {
+        ParsedValue::Map(map) => map.len(),
+        _ => 0,
+    }
+}

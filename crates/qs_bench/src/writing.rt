@@ -1,0 +1,125 @@
+//! Writing.
+
+ghost use Rattle.std.specs.Prelude.{◌≡◌, None, IsTrue, IsFalse, IfOk, IsErr, false};
+ghost use Rattle.qs_spec.specs.Config.{default};
+ghost use Rattle.qs_spec.specs.Data.Data.{bytes};
+ghost use Rattle.qs_spec.specs.Entry.{entries};
+ghost use Rattle.qs_data.specs.Views.{data_of};
+ghost use Rattle.qs_bench.specs.Samples as sample;
+ghost use Rattle.qs_bench.specs.Texts.{text_of, IsWritten};
+
+use crate::samples;
+use crate::text::hand_out;
+use qs_data::{Config, Data, Result, Serializer};
+use std::alloc::{AllocError, Global};
+
+/// Makes a record of ten entries, and writes it so many times, each time to fresh memory. Answers whether all went
+/// well: the text's length is then in `len`, and the text at the front of `out`, where it fits there. Else nothing is
+/// changed.
+#[unsafe(no_mangle)]
+pub extern "C" fn qs_bench_write_record(
+    alloc: Global,
+    times: usize,
+    out: &mut [u8],
+    len: &mut usize,
+) -> bool
+    ensures written { IsTrue result → IsWritten sample.record_of_ten out.old out.new len.new }
+    ensures refused { IsFalse result → (out.new ≡ out.old) × (len.new ≡ len.old) }
+{
+    write(alloc, times, samples::record(alloc), out, len)
+}
+
+/// The same for a struct of so many fields, whose names and texts tell their numbers, below so many keys.
+#[unsafe(no_mangle)]
+pub extern "C" fn qs_bench_write_fields(
+    alloc: Global,
+    times: usize,
+    keys: usize,
+    count: usize,
+    out: &mut [u8],
+    len: &mut usize,
+) -> bool
+    ensures written { IsTrue result → IsWritten (sample.below keys (sample.fields count)) out.old out.new len.new }
+    ensures refused { IsFalse result → (out.new ≡ out.old) × (len.new ≡ len.old) }
+{
+    write(
+        alloc,
+        times,
+        samples::fields_below(alloc, keys, count),
+        out,
+        len,
+    )
+}
+
+/// The same for a field with the list of the numbers below a count.
+#[unsafe(no_mangle)]
+pub extern "C" fn qs_bench_write_numbers(
+    alloc: Global,
+    times: usize,
+    count: usize,
+    out: &mut [u8],
+    len: &mut usize,
+) -> bool
+    ensures written { IsTrue result → IsWritten (sample.only (sample.numbers count)) out.old out.new len.new }
+    ensures refused { IsFalse result → (out.new ≡ out.old) × (len.new ≡ len.old) }
+{
+    write(alloc, times, samples::numbers(alloc, count), out, len)
+}
+
+/// The same for a field with these bytes.
+#[unsafe(no_mangle)]
+pub extern "C" fn qs_bench_write_bytes(
+    alloc: Global,
+    times: usize,
+    content: &[u8],
+    out: &mut [u8],
+    len: &mut usize,
+) -> bool
+    ensures written { IsTrue result → IsWritten (sample.only (bytes content.now)) out.old out.new len.new }
+    ensures refused { IsFalse result → (out.new ≡ out.old) × (len.new ≡ len.old) }
+{
+    write(alloc, times, samples::held(alloc, content), out, len)
+}
+
+/// Writes the data so many times, and hands the last text out.
+fn write(
+    alloc: Global,
+    times: usize,
+    datum: Result<Data, AllocError>,
+    out: &mut [u8],
+    len: &mut usize,
+) -> bool
+    ensures written { IfOk datum (λ datum. IsTrue result → IsWritten (data_of datum) out.old out.new len.new) }
+    ensures unmade { IsErr datum → IsFalse result }
+    ensures refused { IsFalse result → (out.new ≡ out.old) × (len.new ≡ len.old) }
+{
+    let Ok(datum) = datum else {
+        return false;
+    };
+    let Ok(text) = last_text(alloc, times, &datum) else {
+        return false;
+    };
+    hand_out(&text, out, len);
+    true
+}
+
+/// The text of the last of so many writes.
+fn last_text(alloc: Global, times: usize, datum: &Data) -> Result<Vec<u8>>
+    ensures whole { IfOk result (λ text. (entries default (data_of datum.now)).refusal ≡ None) }
+    ensures text { IfOk result (λ text. text.items ≡ text_of (data_of datum.now)) }
+{
+    for _ in 1..times {
+        text_of(alloc, datum)?;
+    }
+    text_of(alloc, datum)
+}
+
+/// The text that the data are written as.
+fn text_of(alloc: Global, datum: &Data) -> Result<Vec<u8>>
+    ensures whole { IfOk result (λ text. (entries default (data_of datum.now)).refusal ≡ None) }
+    ensures text { IfOk result (λ text. text.items ≡ text_of (data_of datum.now)) }
+{
+    let mut serializer = Serializer::new(Vec::new(alloc), Config::new());
+    serializer.serialize(alloc, datum)?;
+    Ok(serializer.into_sink().into_writer())
+}

@@ -1,0 +1,25 @@
+use Rattle.std.proofs.Common.{◌≡◌, ◌∙◌, sym, Some, None, true, option_map, drop}
+use Rattle.qs_spec.specs.Segment.{Step}
+use Rattle.qs_spec.specs.Tree.{Tree}
+use Rattle.qs_spec.specs.Read.{is_place, placed}
+use Rattle.qs_tree.specs.Views.{tree_of, entries_of_map, step_of_key}
+use Rattle.qs_data.specs.Items.{first_item, passed}
+use Rattle.qs_data.proofs.Items.{first_none, first_refused, first_given}
+use Rattle.qs_data.proofs.Refusals.{gives_exit}
+use Rattle.qs_data.proofs.read.items.value_at.Goals as goal
+
+pub returns-in_default : goal.returns-in_default
+returns-in_default c = first_none c.args.place (entries_of_map c.args.map.now) (sym c.in_default.ensures)
+
+pub returns-in_err-test_place : goal.returns-in_err-test_place
+returns-in_err-test_place c =
+    let es = entries_of_map c.args.map.now in
+    let i = c.args.place in
+    let x : Step × Tree = (step_of_key c.in-Some.key.now, tree_of c.in-Some.value.now) in
+    gives_exit (option_map (λ v. tree_of v.now)) true true c.from_residual.result c.in_err-test_place.field-0.0 (passed (is_place i x.0.seg)) (first_item (drop i (placed 0 es)))
+    c.from_residual.ensures.1 c.in_err-test_place.ensures (first_refused i es x (sym c.in-Some.ensures)) (λ n. n)
+
+pub returns : goal.returns
+returns c =
+    let x : Step × Tree = (step_of_key c.in-Some.key.now, tree_of c.in-Some.value.now) in
+    first_given c.args.place (entries_of_map c.args.map.now) x (sym c.in-Some.ensures) c.in_ok-test_place.ensures

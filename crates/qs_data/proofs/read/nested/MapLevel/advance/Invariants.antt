@@ -1,0 +1,22 @@
+use Rattle.std.proofs.Common.{◌≡◌, ◌≤◌, false, map}
+use Rattle.qs_spec.specs.Read.{any_data, read_pairs}
+use Rattle.qs_spec.specs.Shape.{KeyShape}
+use Rattle.qs_tree.specs.Views.{entries_of_map}
+use Rattle.qs_data.specs.declared.read.nested.Level.TheVariants as level
+use Rattle.qs_data.specs.Keys.{entries_after}
+use Rattle.qs_data.specs.Nesting.{level_data, level_is_text, level_size, map_with}
+use Rattle.qs_data.specs.Sizes.{entries_size}
+use Rattle.qs_data.specs.Text.{entries_are_text}
+use Rattle.qs_data.specs.Views.{pair_of}
+use Rattle.qs_data.proofs.read.nested.MapLevel.advance.Given as goal
+
+abbrev pub invariant-loop-place : goal.invariant-loop-place
+invariant-loop-place l =
+    let old = level.Map l.initial.self in
+    let left = entries_after l.place (entries_of_map l.self.entries.now) in
+    record {
+      value : level_data old ≡ map_with (map pair_of l.self.pairs.items) (read_pairs KeyShape.text any_data left);
+      text : entries_are_text left ≡ false → level_is_text old ≡ false;
+      size : entries_size left ≤ level_size old;
+      same : l.self.entries.now ≡ l.initial.self.entries.now;
+    }

@@ -1,0 +1,128 @@
+//! The items of a node.
+
+ghost use Rattle.std.specs.Prelude.{◌≡◌, length, drop, option_map, true};
+ghost use Rattle.qs_spec.specs.Read.{items, are_ints, is_place};
+ghost use Rattle.qs_tree.specs.Views.{tree_of, entries_of_map, segment_of_key};
+ghost use Rattle.qs_data.specs.Gives.{Gives};
+ghost use Rattle.qs_data.specs.Items.{items_in, first_item, passed};
+ghost use Rattle.qs_spec.specs.Read.{placed};
+
+use crate::read::fault::{Expected, Fault, Kind};
+use qs_tree::{Key, ParsedMap, ParsedValue, Result};
+use std::alloc::Global;
+
+/// The items of a node.
+#[derive(Clone, Copy)]
+pub(crate) enum Items<'t, 'qs> {
+    /// None.
+    Empty,
+    /// A text alone.
+    One(&'t ParsedValue<'qs>),
+    /// Those of a sequence.
+    Sequence(&'t [ParsedValue<'qs>]),
+    /// The values of a map whose keys are numbers.
+    Places(&'t ParsedMap<'qs>),
+}
+
+/// The items of a node, if it has a list of them.
+pub(crate) fn items_of<'t, 'qs>(
+    alloc: Global,
+    value: &'t ParsedValue<'qs>,
+    expected: Expected,
+) -> Result<Items<'t, 'qs>>
+    ensures { Gives items_in true result (items (tree_of value.now)) }
+{
+    match value {
+        ParsedValue::NoValue | ParsedValue::Null => Ok(Items::Empty),
+        ParsedValue::String(_) => Ok(Items::One(value)),
+        ParsedValue::Sequence(values) => Ok(Items::Sequence(values)),
+        ParsedValue::Map(map) => {
+            if are_numbers(map) {
+                Ok(Items::Places(map))
+            } else {
+                Err(Fault::mismatch(alloc, value, expected))
+            }
+        }
+        ParsedValue::Uninitialized => Err(Fault::mismatch(alloc, value, expected)),
+    }
+}
+
+/// Whether all keys of a map are numbers.
+pub(crate) fn are_numbers(map: &ParsedMap<'_>) -> bool
+    ensures { result ≡ are_ints (entries_of_map map.now) }
+{
+    for i in 0..map.len() {
+        let Some((key, _)) = map.at(i) else {
+            break;
+        };
+        if let Key::String(_) = key {
+            return false;
+        }
+    }
+    true
+}
+
+impl<'t, 'qs> Items<'t, 'qs> {
+    /// How many items there are.
+    pub(crate) fn len(self) -> usize
+        ensures { result ≡ length (items_in self.entry) }
+    {
+        match self {
+            Items::Empty => 0,
+            Items::One(_) => 1,
+            Items::Sequence(values) => values.len(),
+            Items::Places(map) => map.len(),
+        }
+    }
+
+    /// The item at a place, if there are so many; refused where a map has another key there.
+    pub(crate) fn at(self, alloc: Global, place: usize) -> Result<Option<&'t ParsedValue<'qs>>>
+        ensures { Gives (option_map (λ v. tree_of v.now)) true result (first_item (drop place (items_in self.entry))) }
+    {
+        match self {
+            Items::Empty => Ok(None),
+            Items::One(value) => {
+                if place == 0 {
+                    Ok(Some(value))
+                } else {
+                    Ok(None)
+                }
+            }
+            Items::Sequence(values) => Ok(values.get(place)),
+            Items::Places(map) => value_at(alloc, map, place),
+        }
+    }
+}
+
+// The value at a place of a map, whose key must be that place.
+fn value_at<'t, 'qs>(
+    alloc: Global,
+    map: &'t ParsedMap<'qs>,
+    place: usize,
+) -> Result<Option<&'t ParsedValue<'qs>>>
+    ensures { Gives (option_map (λ v. tree_of v.now)) true result (first_item (drop place (placed 0 (entries_of_map map.now)))) }
+{
+    let Some((key, value)) = map.at(place) else {
+        return Ok(None);
+    };
+    test_place(alloc, key, place)?;
+    Ok(Some(value))
+}
+
+// Whether a key is the place that is due, of which there are 4,294,967,295 at most.
+fn test_place(alloc: Global, key: &Key<'_>, due: usize) -> Result<()>
+    ensures { Gives (λ _. true) true result (passed (is_place due (segment_of_key key.now))) }
+{
+    let Key::Int(met) = *key else {
+        let found = Kind::Map;
+        let expected = Expected::Sequence;
+        return Err(Fault::InvalidType { found, expected }.error(alloc));
+    };
+    if met as usize != due {
+        return Err(Fault::MissingIndex { due, met }.error(alloc));
+    }
+    if met == u32::MAX {
+        return Err(Fault::TooManyElements.error(alloc));
+    }
+    Ok(())
+}

@@ -1,0 +1,70 @@
+//! What the key of a map stands for.
+
+ghost use Rattle.std.specs.Prelude.{map, string_bytes};
+ghost use Rattle.std.specs.Str.{is_utf8};
+ghost use Rattle.qs_spec.specs.Segment.{segment_text};
+ghost use Rattle.qs_spec.specs.Scalar.{key_data, name_data};
+ghost use Rattle.qs_tree.specs.Views.{segment_of_key};
+ghost use Rattle.qs_data.specs.Views.{data_of, key_shape_of};
+ghost use Rattle.qs_data.specs.Gives.{Gives};
+
+use crate::data::Data;
+use crate::read::fault::{Fault, of_key};
+use crate::read::scalar::{as_text, bool_data, char_data, signed_data, text_data, unsigned_data};
+use crate::read::width::Width;
+use crate::shape::KeyShape;
+use itoa::Buffer;
+use qs_tree::{Key, Result};
+use std::alloc::Global;
+
+/// Reads a key by its text; that of a number is its digits. The fault of a key that holds a bracket is told with a hint.
+pub(crate) fn read_key(alloc: Global, shape: &KeyShape, key: &Key<'_>) -> Result<Data>
+    ensures { Gives data_of (is_utf8 (segment_text (segment_of_key key.now))) result
+        (key_data (key_shape_of shape.now) (segment_text (segment_of_key key.now))) }
+{
+    match key {
+        Key::Int(number) => {
+            let mut buffer = Buffer::new();
+            key_data(alloc, shape, buffer.format(*number).as_bytes())
+        }
+        Key::String(text) => {
+            let bytes = text.as_slice();
+            match key_data(alloc, shape, bytes) {
+                Ok(data) => Ok(data),
+                Err(error) => Err(of_key(alloc, bytes, error)),
+            }
+        }
+    }
+}
+
+/// What the text of a key stands for.
+pub(crate) fn key_data(alloc: Global, shape: &KeyShape, bytes: &[u8]) -> Result<Data>
+    ensures { Gives data_of (is_utf8 bytes.now) result (key_data (key_shape_of shape.now) bytes.now) }
+{
+    match shape {
+        KeyShape::Bool => bool_data(alloc, bytes),
+        KeyShape::U8 => unsigned_data(alloc, Width::Bits8, bytes),
+        KeyShape::U16 => unsigned_data(alloc, Width::Bits16, bytes),
+        KeyShape::U32 => unsigned_data(alloc, Width::Bits32, bytes),
+        KeyShape::U64 => unsigned_data(alloc, Width::Bits64, bytes),
+        KeyShape::I8 => signed_data(alloc, Width::Bits8, bytes),
+        KeyShape::I16 => signed_data(alloc, Width::Bits16, bytes),
+        KeyShape::I32 => signed_data(alloc, Width::Bits32, bytes),
+        KeyShape::I64 => signed_data(alloc, Width::Bits64, bytes),
+        KeyShape::Char => char_data(alloc, bytes),
+        KeyShape::Text => text_data(alloc, bytes),
+        KeyShape::Variants(names) => name_data(alloc, names, bytes),
+    }
+}
+
+// One of some names.
+fn name_data(alloc: Global, names: &Vec<String>, bytes: &[u8]) -> Result<Data>
+    ensures { Gives data_of (is_utf8 bytes.now) result (name_data (map string_bytes names.now.items) bytes.now) }
+{
+    for name in names {
+        if bytes == name.as_bytes() {
+            return Ok(Data::UnitVariant(name.clone()?));
+        }
+    }
+    Err(Fault::UnknownVariant(as_text(bytes)?).error(alloc))
+}

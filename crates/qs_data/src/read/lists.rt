@@ -1,0 +1,92 @@
+//! Reading lists and tuples.
+
+ghost use Rattle.std.specs.Prelude.{map, option_and_then, option_map};
+ghost use Rattle.qs_spec.specs.Read.{items, read_each, read_list, reads, reads_tuple};
+ghost use Rattle.qs_tree.specs.Views.{tree_of};
+ghost use Rattle.qs_data.specs.Views.{data_of, shape_of, shapes_in};
+ghost use Rattle.qs_data.specs.Text.{is_text};
+ghost use Rattle.qs_data.specs.Items.{items_in, are_text};
+ghost use Rattle.qs_data.specs.Gives.{Gives};
+
+use crate::data::Data;
+use crate::read::fault::{Expected, Fault};
+use crate::read::items::{Items, items_of};
+use crate::read::read;
+use crate::shape::Shape;
+use qs_tree::{ParsedValue, Result};
+use std::alloc::Global;
+
+/// A list: the items of a node, all by one shape.
+#[cycle(read)]
+#[tactic(auto, unfolding(qs_spec::specs::Read::read_list))]
+pub(crate) fn read_list(
+    alloc: Global,
+    strict: bool,
+    part: &Shape,
+    value: &ParsedValue<'_>,
+) -> Result<Vec<Data>>
+    ensures { Gives (λ v. map data_of v.items) (is_text (tree_of value.now)) result
+        (read_list (reads strict (shape_of part.now)) (tree_of value.now)) }
+{
+    let items = items_of(alloc, value, Expected::Sequence)?;
+    read_each(alloc, strict, part, items)
+}
+
+/// Each item, by one shape.
+#[cycle(read)]
+pub(crate) fn read_each(
+    alloc: Global,
+    strict: bool,
+    part: &Shape,
+    items: Items<'_, '_>,
+) -> Result<Vec<Data>>
+    ensures { Gives (λ v. map data_of v.items) (are_text (items_in items.entry)) result
+        (read_each (reads strict (shape_of part.now)) (items_in items.entry)) }
+{
+    let mut values = Vec::with_capacity(alloc, items.len())?;
+    for i in 0..items.len() {
+        let Some(item) = items.at(alloc, i)? else {
+            break;
+        };
+        values.push(read(alloc, strict, part, item)?)?;
+    }
+    Ok(values)
+}
+
+/// A tuple: the first items of a node, each by its own shape.
+#[cycle(read)]
+pub(crate) fn read_tuple(
+    alloc: Global,
+    strict: bool,
+    parts: &Vec<Shape>,
+    value: &ParsedValue<'_>,
+    expected: Expected,
+) -> Result<Vec<Data>>
+    ensures { Gives (λ v. map data_of v.items) (is_text (tree_of value.now)) result
+        (option_and_then (reads_tuple strict (shapes_in parts.now.items)) (items (tree_of value.now))) }
+{
+    let items = items_of(alloc, value, expected)?;
+    read_parts(alloc, strict, parts, items)
+}
+
+// The first items, each by its own shape.
+#[cycle(read)]
+#[tactic(auto, unfolding(qs_spec::specs::Read::reads))]
+fn read_parts(
+    alloc: Global,
+    strict: bool,
+    parts: &Vec<Shape>,
+    items: Items<'_, '_>,
+) -> Result<Vec<Data>>
+    ensures { Gives (λ v. map data_of v.items) (are_text (items_in items.entry)) result
+        (reads_tuple strict (shapes_in parts.now.items) (items_in items.entry)) }
+{
+    let mut values = Vec::with_capacity(alloc, parts.len())?;
+    for (i, part) in parts.iter().enumerate() {
+        let Some(item) = items.at(alloc, i)? else {
+            return Err(Fault::InvalidLength(i).error(alloc));
+        };
+        values.push(read(alloc, strict, part, item)?)?;
+    }
+    Ok(values)
+}

@@ -1,0 +1,84 @@
+//! Reading maps.
+
+ghost use Rattle.std.specs.Prelude.{map};
+ghost use Rattle.qs_spec.specs.Read.{read_map, read_pairs, reads, under_empty};
+ghost use Rattle.qs_tree.specs.Views.{tree_of, entries_of_map};
+ghost use Rattle.qs_data.specs.Views.{key_shape_of, pair_of, shape_of};
+ghost use Rattle.qs_data.specs.Text.{is_text, entries_are_text};
+ghost use Rattle.qs_data.specs.Gives.{Gives};
+
+use crate::data::Data;
+use crate::read::fault::{Expected, Fault};
+use crate::read::key::{key_data, read_key};
+use crate::read::read;
+use crate::shape::{KeyShape, Shape};
+use qs_tree::{ParsedMap, ParsedValue, Result};
+use std::alloc::Global;
+
+/// The pairs of a node: those of a map, and a text under the empty key.
+#[cycle(read)]
+#[tactic(auto, unfolding(qs_spec::specs::Read::read_map))]
+pub(crate) fn read_map(
+    alloc: Global,
+    strict: bool,
+    key_shape: &KeyShape,
+    part: &Shape,
+    value: &ParsedValue<'_>,
+) -> Result<Vec<(Data, Data)>>
+    ensures { Gives (λ v. map pair_of v.items) (is_text (tree_of value.now)) result
+        (read_map (key_shape_of key_shape.now) (reads strict (shape_of part.now)) (tree_of value.now)) }
+{
+    match value {
+        ParsedValue::NoValue | ParsedValue::Null => Ok(Vec::new(alloc)),
+        ParsedValue::String(_) => read_under_empty(alloc, strict, key_shape, part, value),
+        ParsedValue::Map(entries) => read_pairs(alloc, strict, key_shape, part, entries),
+        ParsedValue::Sequence(_) | ParsedValue::Uninitialized => Err(Fault::mismatch(
+            alloc,
+            value,
+            Expected::Map,
+        )),
+    }
+}
+
+/// The pairs of a map, in the order of its keys: of each the key first, and then the value.
+#[cycle(read)]
+pub(crate) fn read_pairs(
+    alloc: Global,
+    strict: bool,
+    key_shape: &KeyShape,
+    part: &Shape,
+    entries: &ParsedMap<'_>,
+) -> Result<Vec<(Data, Data)>>
+    ensures { Gives (λ v. map pair_of v.items) (entries_are_text (entries_of_map entries.now)) result
+        (read_pairs (key_shape_of key_shape.now) (reads strict (shape_of part.now)) (entries_of_map entries.now)) }
+{
+    let mut pairs = Vec::with_capacity(alloc, entries.len())?;
+    for i in 0..entries.len() {
+        let Some((key, value)) = entries.at(i) else {
+            break;
+        };
+        let key = read_key(alloc, key_shape, key)?;
+        let value = read(alloc, strict, part, value)?;
+        pairs.push((key, value))?;
+    }
+    Ok(pairs)
+}
+
+// A value under the empty key.
+#[cycle(read)]
+fn read_under_empty(
+    alloc: Global,
+    strict: bool,
+    key_shape: &KeyShape,
+    part: &Shape,
+    value: &ParsedValue<'_>,
+) -> Result<Vec<(Data, Data)>>
+    ensures { Gives (λ v. map pair_of v.items) (is_text (tree_of value.now)) result
+        (read_pairs (key_shape_of key_shape.now) (reads strict (shape_of part.now)) (under_empty (tree_of value.now))) }
+{
+    let key = key_data(alloc, key_shape, &[])?;
+    let value = read(alloc, strict, part, value)?;
+    let mut pairs = Vec::new(alloc);
+    pairs.push((key, value))?;
+    Ok(pairs)
+}

@@ -1,0 +1,258 @@
+//! Lists and maps that are being read, one within the other.
+
+ghost use Rattle.std.specs.Prelude.{◌≡◌, OnOk, IfErr, option_map};
+ghost use Rattle.qs_spec.specs.Data.{values_of, pairs_of};
+ghost use Rattle.qs_spec.specs.Data.Data.{sequence, mapping};
+ghost use Rattle.qs_spec.specs.Shape.KeyShape.{text};
+ghost use Rattle.qs_spec.specs.Read.{any_data, read_each, read_pairs};
+ghost use Rattle.qs_tree.specs.Views.{tree_of, entries_of_map};
+ghost use Rattle.qs_tree.specs.declared.error.Error.TheVariants.{OutOfMemory};
+ghost use Rattle.qs_data.specs.Views.{data_of};
+ghost use Rattle.qs_data.specs.Items.{items_in, are_text};
+ghost use Rattle.qs_data.specs.Text.{entries_are_text};
+ghost use Rattle.qs_data.specs.Sizes.{list_size, entries_size};
+ghost use Rattle.qs_data.specs.Nesting.{Visits, Advances, Adds, done_of, level_data, level_is_text, level_size};
+ghost use Rattle.qs_data.specs.declared.read.nested.Level.TheVariants as level;
+
+use crate::data::Data;
+use crate::read::fault::Fault;
+use crate::read::items::{Items, are_numbers};
+use crate::read::key::read_key;
+use crate::read::scalar::text_data;
+use crate::shape::KeyShape;
+use qs_tree::{ParsedMap, ParsedValue, Result};
+use std::alloc::Global;
+use std::mem;
+
+/// A node that is visited.
+#[derive(Drop)]
+pub(crate) enum Node<'t, 'qs> {
+    /// A leaf, which is read at once.
+    Leaf(Data),
+    /// A list or a map, of which nothing is read yet.
+    Inner(Level<'t, 'qs>),
+}
+
+/// A list or a map of which a first part is read.
+#[derive(Drop)]
+pub(crate) enum Level<'t, 'qs> {
+    List(ListLevel<'t, 'qs>),
+    Map(MapLevel<'t, 'qs>),
+}
+
+/// A list of which the first items are read.
+pub(crate) struct ListLevel<'t, 'qs> {
+    items: Items<'t, 'qs>,
+    /// The place of the first item that wasn't visited.
+    next: usize,
+    values: Vec<Data>,
+}
+
+/// A map of which the first entries are read.
+pub(crate) struct MapLevel<'t, 'qs> {
+    entries: &'t ParsedMap<'qs>,
+    /// The place of the first entry that wasn't visited.
+    next: usize,
+    /// The key of the list or map that is being read.
+    key: Data,
+    pairs: Vec<(Data, Data)>,
+}
+
+/// Reads a leaf, or begins a list or a map. A text is copied, which takes memory, as the message of a fault does; nothing else does.
+#[tactic(auto, unfolding(qs_spec::specs::Read::any_data))]
+pub(crate) fn visit<'t, 'qs>(alloc: Global, value: &'t ParsedValue<'qs>) -> Result<Node<'t, 'qs>>
+    ensures { Visits result (tree_of value.now) }
+{
+    match value {
+        ParsedValue::Uninitialized => Err(Fault::Uninitialized.error(alloc)),
+        ParsedValue::NoValue => Ok(Node::Leaf(Data::Unit)),
+        ParsedValue::Null => Ok(Node::Leaf(Data::Text(String::new(alloc)))),
+        ParsedValue::String(text) => Ok(Node::Leaf(text_data(alloc, text.as_slice())?)),
+        ParsedValue::Sequence(values) => {
+            Ok(Node::Inner(Level::list(alloc, Items::Sequence(values))))
+        }
+        ParsedValue::Map(map) => {
+            let is_list = are_numbers(map);
+            if is_list {
+                Ok(Node::Inner(Level::list(alloc, Items::Places(map))))
+            } else {
+                Ok(Node::Inner(Level::map(alloc, map)))
+            }
+        }
+    }
+}
+
+impl<'t, 'qs> Level<'t, 'qs> {
+    // A list of which nothing is read yet.
+    fn list(alloc: Global, items: Items<'t, 'qs>) -> Self
+        ensures value { level_data result ≡ option_map (λ ds. sequence (values_of ds)) (read_each any_data (items_in items.entry)) }
+        ensures text { level_is_text result ≡ are_text (items_in items.entry) }
+        ensures size { level_size result ≡ list_size (items_in items.entry) }
+    {
+        Level::List(ListLevel {
+            items,
+            next: 0,
+            values: Vec::new(alloc),
+        })
+    }
+
+    // A map of which nothing is read yet.
+    fn map(alloc: Global, entries: &'t ParsedMap<'qs>) -> Self
+        ensures value { level_data result ≡ option_map (λ ps. mapping (pairs_of ps)) (read_pairs text any_data (entries_of_map entries.now)) }
+        ensures text { level_is_text result ≡ entries_are_text (entries_of_map entries.now) }
+        ensures size { level_size result ≡ entries_size (entries_of_map entries.now) }
+    {
+        Level::Map(MapLevel {
+            entries,
+            next: 0,
+            key: Data::Unit,
+            pairs: Vec::new(alloc),
+        })
+    }
+
+    /// Reads leaves up to the next list or map, and answers that; nothing where the level ends.
+    pub fn advance(&mut self, alloc: Global) -> Result<Option<Level<'t, 'qs>>>
+        ensures { Advances result self.old self.new }
+    {
+        match self {
+            Level::List(list) => list.advance(alloc),
+            Level::Map(map) => map.advance(alloc),
+        }
+    }
+
+    /// Adds what the list or map that came last was read as.
+    pub fn add(&mut self, value: Data) -> Result<()>
+        ensures ok { OnOk result (Adds (data_of value) self.old self.new) }
+        ensures err { IfErr result (λ e. e ≡ OutOfMemory) }
+    {
+        match self {
+            Level::List(list) => list.add(value),
+            Level::Map(map) => map.add(value),
+        }
+    }
+
+    /// What was read, where nothing is left.
+    pub fn done(self) -> Data
+        ensures { data_of result ≡ done_of self.entry }
+    {
+        match self {
+            Level::List(list) => Data::Seq(list.into_values()),
+            Level::Map(map) => Data::Map(map.into_pairs()),
+        }
+    }
+}
+
+impl Drop for ListLevel<'_, '_> {
+    // What is dropped behind a fault may be nested deep.
+    fn drop(self) {
+        for value in self.into_values() {
+            value.discard();
+        }
+    }
+}
+
+impl Drop for MapLevel<'_, '_> {
+    fn drop(self) {
+        for (_key, value) in self.into_pairs() {
+            value.discard();
+        }
+    }
+}
+
+impl<'t, 'qs> ListLevel<'t, 'qs> {
+    // What was read.
+    fn into_values(self) -> Vec<Data>
+        ensures { result ≡ self.entry.values }
+    {
+        let ListLevel {
+            items: _items,
+            next: _next,
+            values,
+        } = self;
+        values
+    }
+
+    // Reads leaves up to the next list or map.
+    fn advance(&mut self, alloc: Global) -> Result<Option<Level<'t, 'qs>>>
+        ensures { Advances result (level.List self.old) (level.List self.new) }
+    {
+        for place in self.next..self.items.len() {
+            let Some(item) = self.items.at(alloc, place)? else {
+                break;
+            };
+            match visit(alloc, item)? {
+                Node::Leaf(data) => self.values.push(data)?,
+                Node::Inner(level) => {
+                    self.next = place + 1;
+                    return Ok(Some(level));
+                }
+            }
+        }
+        Ok(None)
+    }
+
+    // Adds one more value.
+    fn add(&mut self, value: Data) -> Result<()>
+        ensures ok { OnOk result (Adds (data_of value) (level.List self.old) (level.List self.new)) }
+        ensures err { IfErr result (λ e. e ≡ OutOfMemory) }
+    {
+        self.values.push(value)?;
+        Ok(())
+    }
+}
+
+impl<'t, 'qs> MapLevel<'t, 'qs> {
+    // What was read.
+    fn into_pairs(self) -> Vec<(Data, Data)>
+        ensures { result ≡ self.entry.pairs }
+    {
+        let MapLevel {
+            entries: _entries,
+            next: _next,
+            key: _key,
+            pairs,
+        } = self;
+        pairs
+    }
+
+    // Reads leaves up to the next list or map, their keys as texts.
+    fn advance(&mut self, alloc: Global) -> Result<Option<Level<'t, 'qs>>>
+        ensures { Advances result (level.Map self.old) (level.Map self.new) }
+    {
+        for place in self.next..self.entries.len() {
+            let Some((key, value)) = self.entries.at(place) else {
+                break;
+            };
+            let key = read_key(alloc, &KeyShape::Text, key)?;
+            match visit(alloc, value)? {
+                Node::Leaf(data) => self.pairs.push((key, data))?,
+                Node::Inner(level) => {
+                    self.wait(place + 1, key);
+                    return Ok(Some(level));
+                }
+            }
+        }
+        Ok(None)
+    }
+
+    // Keeps the key of a list or map until that is read, and the place behind it.
+    fn wait(&mut self, next: usize, key: Data)
+        ensures entries { self.new.entries ≡ self.old.entries }
+        ensures next { self.new.next ≡ next }
+        ensures key { self.new.key ≡ key }
+        ensures pairs { self.new.pairs ≡ self.old.pairs }
+    {
+        self.next = next;
+        self.key = key;
+    }
+
+    // Adds the value of the key that waits.
+    fn add(&mut self, value: Data) -> Result<()>
+        ensures ok { OnOk result (Adds (data_of value) (level.Map self.old) (level.Map self.new)) }
+        ensures err { IfErr result (λ e. e ≡ OutOfMemory) }
+    {
+        let key = mem::replace(&mut self.key, Data::Unit);
+        self.pairs.push((key, value))?;
+        Ok(())
+    }
+}

@@ -1,0 +1,159 @@
+//! Reading an enum.
+
+ghost use Rattle.std.specs.Prelude.{◌<◌, Some, IfOk, length, map, option_map, slice_get};
+ghost use Rattle.std.specs.Str.{is_utf8};
+ghost use Rattle.qs_spec.specs.Segment.{segment_text};
+ghost use Rattle.qs_spec.specs.Tree.Tree.{mapping};
+ghost use Rattle.qs_spec.specs.Read.{read_enum, reads_names, reads_places, reads_variant, reads_kind, struct_members, as_map, unit_variant_data};
+ghost use Rattle.qs_tree.specs.Views.{tree_of, entries_of_map, segment_of_key};
+ghost use Rattle.qs_data.specs.Views.{data_of, fields_in, named, variant_of, variants_in};
+ghost use Rattle.qs_data.specs.Text.{is_text, entries_are_text};
+ghost use Rattle.qs_data.specs.Gives.{Gives};
+ghost use Rattle.qs_data.specs.Variants.{variant_named};
+
+use crate::data::Data;
+use crate::read::fault::{Expected, Fault, Kind};
+use crate::read::fields::{read_entries, read_struct};
+use crate::read::keys::Entries;
+use crate::read::lists::read_tuple;
+use crate::read::read;
+use crate::read::scalar::as_text;
+use crate::shape::{Field, Variant, VariantKind};
+use itoa::Buffer;
+use qs_tree::{Key, ParsedMap, ParsedValue, Result};
+use std::alloc::Global;
+
+/// One of the variants: the one that the least key of a map names, or the unit variant that a text names.
+#[cycle(read)]
+#[tactic(auto, unfolding(qs_spec::specs::Read::read_enum))]
+pub(crate) fn read_enum(
+    alloc: Global,
+    strict: bool,
+    variants: &Vec<Variant>,
+    value: &ParsedValue<'_>,
+) -> Result<Data>
+    ensures { let vs = variants_in variants.now.items in
+        Gives data_of (is_text (tree_of value.now)) result (read_enum vs (reads_variant strict vs) (tree_of value.now)) }
+{
+    match value {
+        ParsedValue::String(text) => read_name(alloc, variants, text.as_slice()),
+        ParsedValue::Map(map) => read_least(alloc, strict, variants, map),
+        _ => Err(Fault::mismatch(alloc, value, Expected::Enum)),
+    }
+}
+
+// The unit variant of a name.
+fn read_name(alloc: Global, variants: &[Variant], name: &[u8]) -> Result<Data>
+    ensures { Gives data_of (is_utf8 name.now) result (unit_variant_data (variants_in variants.now) name.now) }
+{
+    let place = place_of(alloc, variants, name)?;
+    let variant = &variants[place];
+    let expected = match &variant.kind {
+        VariantKind::Unit => return Ok(Data::UnitVariant(variant.name.clone()?)),
+        VariantKind::Newtype(_) => Expected::NewtypeVariant,
+        VariantKind::Tuple(_) => Expected::TupleVariant,
+        VariantKind::Struct(_) => Expected::StructVariant,
+    };
+    let found = Kind::UnitVariant;
+    Err(Fault::InvalidType { found, expected }.error(alloc))
+}
+
+// The variant that the least key of a map names, of the value there. The other keys are passed over.
+#[cycle(read)]
+#[tactic(auto, unfolding(qs_spec::specs::Read::read_enum))]
+fn read_least(
+    alloc: Global,
+    strict: bool,
+    variants: &Vec<Variant>,
+    map: &ParsedMap<'_>,
+) -> Result<Data>
+    ensures { let vs = variants_in variants.now.items in let es = entries_of_map map.now in
+        Gives data_of (entries_are_text es) result (read_enum vs (reads_variant strict vs) (mapping es)) }
+{
+    let Some((key, value)) = map.at(0) else {
+        let found = Kind::Map;
+        let expected = Expected::Enum;
+        return Err(Fault::InvalidType { found, expected }.error(alloc));
+    };
+    let place = place_of_key(alloc, variants, key)?;
+    read_variant(alloc, strict, &variants[place], value)
+}
+
+// The place of the variant that a key names.
+fn place_of_key(alloc: Global, variants: &[Variant], key: &Key<'_>) -> Result<usize>
+    ensures place { IfOk result (λ i. i < length variants.now) }
+    ensures named { let name = segment_text (segment_of_key key.now) in
+        Gives (λ i. option_map variant_of (slice_get variants.now i)) (is_utf8 name) result
+        (option_map Some (variant_named name (variants_in variants.now))) }
+{
+    match key {
+        Key::Int(number) => {
+            let mut buffer = Buffer::new();
+            place_of(alloc, variants, buffer.format(*number).as_bytes())
+        }
+        Key::String(text) => place_of(alloc, variants, text.as_slice()),
+    }
+}
+
+// The place of the variant of a name.
+fn place_of(alloc: Global, variants: &[Variant], name: &[u8]) -> Result<usize>
+    ensures place { IfOk result (λ i. i < length variants.now) }
+    ensures named { Gives (λ i. option_map variant_of (slice_get variants.now i)) (is_utf8 name.now) result
+        (option_map Some (variant_named name.now (variants_in variants.now))) }
+{
+    for (i, variant) in variants.iter().enumerate() {
+        if variant.name.as_bytes() == name {
+            return Ok(i);
+        }
+    }
+    Err(Fault::UnknownVariant(as_text(name)?).error(alloc))
+}
+
+// What a variant holds, of the value under its name.
+#[cycle(read)]
+#[tactic(auto, using(crate::proofs::Levels::levels), unfolding(qs_spec::specs::Read::reads))]
+fn read_variant(
+    alloc: Global,
+    strict: bool,
+    variant: &Variant,
+    value: &ParsedValue<'_>,
+) -> Result<Data>
+    ensures { let v = variant_of variant.now in
+        Gives data_of (is_text (tree_of value.now)) result (reads_kind strict v.1 v.0 (tree_of value.now)) }
+{
+    let name = variant.name.clone()?;
+    match &variant.kind {
+        VariantKind::Unit => Ok(Data::UnitVariant(name)),
+        VariantKind::Newtype(part) => {
+            let held = read(alloc, strict, part, value)?;
+            Ok(Data::NewtypeVariant(name, Box::new(alloc, held)?))
+        }
+        VariantKind::Tuple(parts) => {
+            let items = read_tuple(alloc, strict, parts, value, Expected::TupleVariant)?;
+            Ok(Data::TupleVariant(name, items))
+        }
+        VariantKind::Struct(fields) => {
+            let members = read_variant_fields(alloc, strict, fields, value)?;
+            Ok(Data::StructVariant(name, members))
+        }
+    }
+}
+
+// The fields of a struct variant: those of a struct, where a text counts as a map with that text under the empty key.
+#[cycle(read)]
+#[tactic(auto, unfolding(qs_spec::specs::Read::struct_members))]
+fn read_variant_fields(
+    alloc: Global,
+    strict: bool,
+    fields: &Vec<Field>,
+    value: &ParsedValue<'_>,
+) -> Result<Vec<(String, Data)>>
+    ensures { let fs = fields_in fields.now.items in
+        Gives (λ v. map (named data_of) v.items) (is_text (tree_of value.now)) result
+        (struct_members (reads_names strict fs) (reads_places strict fs) (as_map (tree_of value.now))) }
+{
+    match value {
+        ParsedValue::String(_) => read_entries(alloc, strict, fields, Entries::Leaf(value)),
+        _ => read_struct(alloc, strict, fields, value),
+    }
+}

@@ -1,0 +1,134 @@
+//! Trees written as one line, for tests and for answered cases.
+//!
+//! A map is `{key:value,..}`, a sequence `[value,..]`, and keys that are numbers stand bare. Other values are `NoValue`, `Null` and
+//! `Uninit`. Behind a text or a key, `*` says that its bytes are its own, and not borrowed from the input.
+#![tactic(auto)]
+
+use qs_tree::{Key, ParsedMap, ParsedValue};
+use std::alloc::{AllocError, Global};
+use std::borrow::CowSlice;
+
+/// How the bytes of texts and keys are written.
+#[derive(Clone, Copy)]
+pub enum Texts {
+    /// Between single quotes: printable ASCII as it is, and any other byte as `\x` and two digits.
+    Quoted,
+    /// Between double quotes, in hexadecimal.
+    Hexadecimal,
+}
+
+/// What is still to be written.
+#[derive(Clone, Copy)]
+enum Piece<'t, 'qs> {
+    Sign(&'static str),
+    Key(&'t Key<'qs>),
+    Value(&'t ParsedValue<'qs>),
+}
+
+/// The tree as one line.
+///
+/// Its time and memory grow with the tree. No tree is too deep.
+pub fn line(alloc: Global, tree: &ParsedValue<'_>, texts: Texts) -> Result<String, AllocError> {
+    let mut line = String::new(alloc);
+    let mut rest = vec![in alloc; Piece::Value(tree)]?;
+    for _ in 0..u64::MAX {
+        match rest.pop() {
+            None => break,
+            Some(Piece::Sign(sign)) => line.push_str(sign)?,
+            Some(Piece::Key(Key::Int(index))) => line.push_str(&format!(in alloc; "{index}")?)?,
+            Some(Piece::Key(Key::String(text))) => push_text(&mut line, text, texts)?,
+            Some(Piece::Value(ParsedValue::String(text))) => push_text(&mut line, text, texts)?,
+            Some(Piece::Value(ParsedValue::Null)) => line.push_str("Null")?,
+            Some(Piece::Value(ParsedValue::NoValue)) => line.push_str("NoValue")?,
+            Some(Piece::Value(ParsedValue::Uninitialized)) => line.push_str("Uninit")?,
+            Some(Piece::Value(ParsedValue::Sequence(items))) => {
+                line.push('[')?;
+                stack_items(&mut rest, items)?;
+            }
+            Some(Piece::Value(ParsedValue::Map(map))) => {
+                line.push('{')?;
+                stack_entries(&mut rest, map)?;
+            }
+        }
+    }
+    Ok(line)
+}
+
+/// What a sequence is written as, the last piece first.
+fn stack_items<'t, 'qs>(
+    rest: &mut Vec<Piece<'t, 'qs>>,
+    items: &'t Vec<ParsedValue<'qs>>,
+) -> Result<(), AllocError> {
+    rest.push(Piece::Sign("]"))?;
+    for (place, item) in items.iter().enumerate().rev() {
+        rest.push(Piece::Value(item))?;
+        if place > 0 {
+            rest.push(Piece::Sign(","))?;
+        }
+    }
+    Ok(())
+}
+
+/// What a map is written as, the last piece first.
+fn stack_entries<'t, 'qs>(
+    rest: &mut Vec<Piece<'t, 'qs>>,
+    map: &'t ParsedMap<'qs>,
+) -> Result<(), AllocError> {
+    rest.push(Piece::Sign("}"))?;
+    for place in (0..map.len()).rev() {
+        let Some((key, value)) = map.at(place) else {
+            continue;
+        };
+        rest.push(Piece::Value(value))?;
+        rest.push(Piece::Sign(":"))?;
+        rest.push(Piece::Key(key))?;
+        if place > 0 {
+            rest.push(Piece::Sign(","))?;
+        }
+    }
+    Ok(())
+}
+
+/// Writes a text behind the line.
+fn push_text(line: &mut String, text: &CowSlice<'_, u8>, texts: Texts) -> Result<(), AllocError> {
+    match texts {
+        Texts::Quoted => push_quoted(line, text.as_slice())?,
+        Texts::Hexadecimal => push_hexadecimal(line, text.as_slice())?,
+    }
+    match text {
+        CowSlice::Borrowed(_) => Ok(()),
+        CowSlice::Owned(_) => line.push('*'),
+    }
+}
+
+fn push_quoted(line: &mut String, bytes: &[u8]) -> Result<(), AllocError> {
+    line.push('\'')?;
+    for byte in bytes {
+        match byte {
+            b' '..=b'~' => line.push(char::from(*byte))?,
+            _ => {
+                line.push_str("\\x")?;
+                push_byte(line, *byte)?;
+            }
+        }
+    }
+    line.push('\'')
+}
+
+fn push_hexadecimal(line: &mut String, bytes: &[u8]) -> Result<(), AllocError> {
+    line.push('"')?;
+    for byte in bytes {
+        push_byte(line, *byte)?;
+    }
+    line.push('"')
+}
+
+/// Two hexadecimal digits.
+fn push_byte(line: &mut String, byte: u8) -> Result<(), AllocError> {
+    line.push(digit(byte / 16))?;
+    line.push(digit(byte % 16))
+}
+
+fn digit(value: u8) -> char {
+    char::from_digit(u32::from(value), 16).unwrap_or('?')
+}

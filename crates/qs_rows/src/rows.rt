@@ -1,0 +1,118 @@
+//! A row: an input, a shape, and what is read or said.
+
+use crate::build::Build;
+use serde_qs::{Config, Data, Deserializer, DuplicateKeyBehavior, Error, Result, Shape};
+use std::alloc::Global;
+use std::process::Abort;
+
+/// What is said behind the fault of a key that holds a bracket.
+const HINT: &str =
+    "\nInvalid field contains an encoded bracket -- consider using form encoding mode\n  https://docs.rs/serde_qs/latest/serde_qs/#query-string-vs-form-encoding";
+
+/// Tries rows under a configuration.
+#[derive(Drop)]
+pub struct Rows<'r, R: Abort> {
+    pub build: Build<'r, R>,
+    config: Config,
+}
+
+impl<'r, R: Abort> Rows<'r, R> {
+    /// Rows under the default configuration.
+    pub fn new(rt: &'r R, alloc: Global) -> Self {
+        Rows {
+            build: Build { rt, alloc },
+            config: Config::new(),
+        }
+    }
+
+    fn with(&self, config: Config) -> Self {
+        let rt = self.build.rt;
+        let alloc = self.build.alloc;
+        Rows {
+            build: Build { rt, alloc },
+            config,
+        }
+    }
+
+    /// The same under another depth limit.
+    pub fn deep(&self, max_depth: usize) -> Self {
+        let config = self.config.max_depth(max_depth);
+        self.with(config)
+    }
+
+    /// The same in form mode.
+    pub fn form(&self) -> Self {
+        let config = self.config.use_form_encoding(true);
+        self.with(config)
+    }
+
+    /// The same where several values for one are refused.
+    pub fn strict(&self) -> Self {
+        let config = self
+            .config
+            .duplicate_key_behavior(DuplicateKeyBehavior::Error);
+        self.with(config)
+    }
+
+    fn read(&self, input: &str, shape: &Shape) -> Result<Data> {
+        let rt = self.build.rt;
+        let alloc = self.build.alloc;
+        assert!(rt; shape.is_distinct(), "{input}");
+        Deserializer::with_config(alloc, self.config, input.as_bytes())?.read(alloc, shape)
+    }
+
+    /// The shape reads this from the input, and it can be copied.
+    pub fn reads(&self, input: &str, shape: &Shape, wanted: Data) {
+        let rt = self.build.rt;
+        let alloc = self.build.alloc;
+        match self.read(input, shape) {
+            Ok(data) => {
+                assert_eq!(rt; data, wanted, "{input}");
+                let copy = data.try_clone(alloc).expect(rt, "memory");
+                assert_eq!(rt; copy, wanted, "{input}");
+            }
+            Err(error) => panic!(rt; "{input}: {error}"),
+        }
+    }
+
+    /// The shape reads nothing from the input, and this is said.
+    pub fn says(&self, input: &str, shape: &Shape, wanted: &str) {
+        let rt = self.build.rt;
+        let alloc = self.build.alloc;
+        match self.read(input, shape) {
+            Ok(data) => panic!(rt; "{input}: {data:?}"),
+            Err(error) => {
+                let said = format!(in alloc; "{error}").expect(rt, "memory");
+                assert_eq!(rt; said.as_str(), wanted, "{input}");
+            }
+        }
+    }
+
+    /// The same, and then the hint.
+    pub fn hints(&self, input: &str, shape: &Shape, wanted: &str) {
+        let rt = self.build.rt;
+        let alloc = self.build.alloc;
+        let wanted = format!(in alloc; "{wanted}{HINT}").expect(rt, "memory");
+        self.says(input, shape, &wanted);
+    }
+
+    /// A text or a key that is read isn't UTF-8.
+    pub fn breaks(&self, input: &str, shape: &Shape) {
+        let rt = self.build.rt;
+        match self.read(input, shape) {
+            Err(Error::Utf8(_)) => {}
+            Err(error) => panic!(rt; "{input}: {error}"),
+            Ok(data) => panic!(rt; "{input}: {data:?}"),
+        }
+    }
+
+    /// A key that holds a bracket isn't UTF-8, and the hint is given.
+    pub fn breaks_and_hints(&self, input: &str, shape: &Shape) {
+        let rt = self.build.rt;
+        match self.read(input, shape) {
+            Err(Error::Custom(said)) => assert!(rt; said.ends_with(HINT), "{input}: {said}"),
+            Err(error) => panic!(rt; "{input}: {error}"),
+            Ok(data) => panic!(rt; "{input}: {data:?}"),
+        }
+    }
+}

@@ -1,0 +1,101 @@
+//! Searches held against a plain loop, at every length up to 100 and every place.
+
+use qs_tree::{encode, find_ampersand, find_encoded, find_escape};
+use std::test::Fail;
+
+/// What is searched for.
+#[derive(Clone, Copy, Debug)]
+enum Class {
+    Escape,
+    Ampersand,
+    Encoded { form: bool },
+}
+
+const CLASSES: [Class; 4] = [
+    Class::Escape,
+    Class::Ampersand,
+    Class::Encoded { form: false },
+    Class::Encoded { form: true },
+];
+
+impl Class {
+    /// The search's answer.
+    fn find(self, bytes: &[u8]) -> Option<usize> {
+        match self {
+            Class::Escape => find_escape(bytes),
+            Class::Ampersand => find_ampersand(bytes),
+            Class::Encoded { form } => find_encoded(bytes, form),
+        }
+    }
+
+    /// The plain loop's answer.
+    fn find_plainly(self, bytes: &[u8]) -> Option<usize> {
+        for (place, byte) in bytes.iter().enumerate() {
+            if self.has(*byte) {
+                return Some(place);
+            }
+        }
+        None
+    }
+
+    fn has(self, byte: u8) -> bool {
+        match self {
+            Class::Escape => byte == b'+' || byte == b'%',
+            Class::Ampersand => byte == b'&',
+            Class::Encoded { form: false } => match byte {
+                b' ' | b'"' | b'#' | b'<' | b'>' | b'%' | b'+' | b'[' | b']' | b'=' | b'&' => true,
+                _ => byte < 0x20 || byte > 0x7e,
+            },
+            Class::Encoded { form: true } => match byte {
+                b'a'..=b'z' | b'A'..=b'Z' | b'0'..=b'9' | b'*' | b'-' | b'.' | b'_' => false,
+                _ => true,
+            },
+        }
+    }
+}
+
+#[test]
+fn each_place(rt: HostRuntime) -> Result<(), Fail> {
+    let mut bytes = Vec::new(rt.alloc());
+    for len in 0..=100usize {
+        for class in CLASSES {
+            assert_eq!(rt; class.find(&bytes), None, "{class:?} in {len}");
+        }
+        for place in 0..bytes.len() {
+            for byte in [b'+', b'%', b'&', b'[', b' '] {
+                bytes[place] = byte;
+                for class in CLASSES {
+                    let wanted = class.find_plainly(&bytes);
+                    assert_eq!(rt; class.find(&bytes), wanted, "{class:?} in {len}");
+                }
+            }
+            bytes[place] = b'a';
+        }
+        bytes.push(b'a')?;
+    }
+    Ok(())
+}
+
+#[test]
+fn each_byte(rt: HostRuntime) {
+    let mut bytes = [b'a'; 40];
+    for byte in 0..=u8::MAX {
+        bytes[20] = byte;
+        for class in CLASSES {
+            let wanted = if class.has(byte) { Some(20) } else { None };
+            assert_eq!(rt; class.find(&bytes), wanted, "{class:?} of {byte}");
+        }
+    }
+}
+
+#[test]
+fn letters_stand_for_themselves(rt: HostRuntime) -> Result<(), Fail> {
+    let letters = [b'a'; 64];
+    for form in [false, true] {
+        let mut out = Vec::from_slice(rt.alloc(), b"x=")?;
+        encode(&letters, form, &mut out)?;
+        assert_eq!(rt; out.len(), 66);
+        assert_eq!(rt; &out[2..], letters.as_slice());
+    }
+    Ok(())
+}

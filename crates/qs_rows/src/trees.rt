@@ -1,0 +1,98 @@
+//! Trees of small inputs, and why other inputs have none.
+
+mod conflicts;
+mod counts;
+mod form_mode;
+mod keys;
+mod nesting;
+mod orders;
+mod pushes;
+mod refusals;
+mod values;
+
+use qs_notation::{Texts, line};
+use qs_tree::{Config, Error, ParsedValue, parse};
+use std::alloc::{AllocError, Global};
+use std::process::Abort;
+use std::test::Fail;
+
+// the texts of refusals that several tests name
+const VALUE_AND_MAP: &str = "invalid input: the same key is used for both a value and a nested map";
+
+const UNIT_AND_MAP: &str =
+    "invalid input: the same key is used for both a unit value and a nested map";
+
+const SEQUENCE_AND_MAP: &str =
+    "invalid input: the same key is used for both a sequence and a nested map";
+
+const VALUE_AND_SEQUENCE: &str =
+    "invalid input: the same key is used for both a value and a sequence";
+
+const ENDED: &str = "query string ended before expected";
+
+const ENDED_IN_KEY: &str = "unexpected end of input while parsing nested key";
+
+const MAP_IN_SEQUENCE: &str = "unsupported: unable to parse nested maps of unindexed sequences ";
+
+const MIXED_SEQUENCE: &str =
+    "unsupported: cannot mix unindexed sequences `abc[]=...` with indexed sequences `abc[0]=...`";
+
+/// Query mode with this limit of depth.
+fn query(max_depth: usize) -> Config {
+    Config::new().max_depth(max_depth)
+}
+
+/// Form mode with this limit of depth.
+fn form(max_depth: usize) -> Config {
+    query(max_depth).use_form_encoding(true)
+}
+
+/// The tree of an input as a line, or its refusal.
+fn tree(alloc: Global, config: Config, input: &[u8]) -> Result<String, Error> {
+    let tree = parse(alloc, input, config)?;
+    Ok(line(alloc, &tree, Texts::Quoted)?)
+}
+
+/// Each input has its tree.
+fn accept(
+    rt: &impl Abort,
+    alloc: Global,
+    config: Config,
+    rows: &[(&str, &str)],
+) -> Result<(), Fail> {
+    for (input, wanted) in rows {
+        let found = tree(alloc, config, input.as_bytes())?;
+        assert_eq!(rt; found.as_str(), *wanted, "{input}");
+    }
+    Ok(())
+}
+
+/// Each input is refused at its position with its text.
+fn refuse(
+    rt: &impl Abort,
+    alloc: Global,
+    config: Config,
+    rows: &[(&str, usize, &str)],
+) -> Result<(), Fail> {
+    for (input, position, text) in rows {
+        refuse_bytes(rt, alloc, config, input.as_bytes(), *position, text)?;
+    }
+    Ok(())
+}
+
+/// The input is refused at the position with the text.
+fn refuse_bytes(
+    rt: &impl Abort,
+    alloc: Global,
+    config: Config,
+    input: &[u8],
+    position: usize,
+    text: &str,
+) -> Result<(), Fail> {
+    let Err(Error::Parse(said, at)) = parse(alloc, input, config) else {
+        return Err(Fail::from("no refusal"));
+    };
+    assert_eq!(rt; said.as_str(), text, "{input:?}");
+    assert_eq!(rt; at, position, "{input:?}");
+    Ok(())
+}

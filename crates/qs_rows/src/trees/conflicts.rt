@@ -1,0 +1,175 @@
+//! Pairs that can't stand beside the earlier ones.
+
+use super::{
+    AllocError, Config, Error, Fail, Global, SEQUENCE_AND_MAP, UNIT_AND_MAP, VALUE_AND_MAP,
+    VALUE_AND_SEQUENCE, query, refuse, refuse_bytes,
+};
+use qs_tree::parse;
+
+#[test]
+fn below_a_leaf(rt: HostRuntime) -> Result<(), Fail> {
+    let rows = [
+        ("a=2&a[b]=1", 7, VALUE_AND_MAP),
+        ("a=1&a[b]=1", 7, VALUE_AND_MAP),
+        ("a=&a[b]=1", 6, UNIT_AND_MAP),
+        ("a&a[b]=1", 5, UNIT_AND_MAP),
+        ("a[]=1&a[b]=2", 9, SEQUENCE_AND_MAP),
+        // the conflict comes before the end of the segment
+        ("a=1&a[b", 7, VALUE_AND_MAP),
+    ];
+    refuse(&rt, rt.alloc(), Config::new(), &rows)
+}
+
+#[test]
+fn below_the_root(rt: HostRuntime) -> Result<(), Fail> {
+    let rows = [
+        // behind the end of the value
+        ("=1&a=2", 7, VALUE_AND_MAP),
+        ("=1&a=2&b", 7, VALUE_AND_MAP),
+        ("=&a=2", 6, UNIT_AND_MAP),
+        ("[]=1&a=2", 9, SEQUENCE_AND_MAP),
+        // behind the end of the key
+        ("=1&a", 5, VALUE_AND_MAP),
+        ("=1&a&b", 5, VALUE_AND_MAP),
+        // behind the bracket
+        ("=1&a[b]=2", 5, VALUE_AND_MAP),
+        // behind the first byte in the bracket
+        ("=1&[b]=2", 5, VALUE_AND_MAP),
+    ];
+    refuse(&rt, rt.alloc(), Config::new(), &rows)
+}
+
+#[test]
+fn a_push_at_a_leaf(rt: HostRuntime) -> Result<(), Fail> {
+    let rows = [
+        ("a=1&a[]=2", 7, VALUE_AND_SEQUENCE),
+        ("abc&abc[]=1", 9, VALUE_AND_SEQUENCE),
+        ("=1&[]=2", 5, VALUE_AND_SEQUENCE),
+    ];
+    refuse(&rt, rt.alloc(), Config::new(), &rows)
+}
+
+#[test]
+fn a_push_at_a_map(rt: HostRuntime) -> Result<(), Fail> {
+    let rows = [
+        (
+            "a[b]=1&a[]=1",
+            10,
+            "invalid input: the key `a` appears in the input as both a sequence and a map (with keys \"b\")",
+        ),
+        (
+            "vec[[]=1&vec[]=2",
+            14,
+            "invalid input: the key `vec` appears in the input as both a sequence and a map (with keys \"[\")",
+        ),
+        (
+            "vec[foo][1][[]=1&vec[foo][1][]=2",
+            30,
+            "invalid input: the key `vec[foo][1]` appears in the input as both a sequence and a map (with keys \"[\")",
+        ),
+        // the key at the root is empty, and the map's keys are in their order
+        (
+            "b=1&7=2&a&[]=3",
+            12,
+            "invalid input: the key `` appears in the input as both a sequence and a map (with keys 7, \"a\", \"b\")",
+        ),
+    ];
+    refuse(&rt, rt.alloc(), Config::new(), &rows)
+}
+
+/// The key is shown whole at the depth limit too, and not at all where it is no UTF-8.
+#[test]
+fn a_push_at_a_map_with_another_key(rt: HostRuntime) -> Result<(), Fail> {
+    let rows = [(
+        "a[b][c=1&a[b][]=2",
+        15,
+        "invalid input: the key `a[b]` appears in the input as both a sequence and a map (with keys \"[c\")",
+    )];
+    refuse(&rt, rt.alloc(), query(1), &rows)?;
+    refuse_bytes(
+        &rt,
+        rt.alloc(),
+        Config::new(),
+        b"\xff[b]=1&\xff[]=2",
+        10,
+        "invalid input: the key `<invalid key>` appears in the input as both a sequence and a map (with keys \"b\")",
+    )
+}
+
+/// What a pair does at the key `a`.
+#[derive(Clone, Copy, PartialEq, Eq)]
+enum Act {
+    Plain,
+    Push,
+    Below,
+}
+
+impl Act {
+    fn text(self) -> &'static str {
+        match self {
+            Act::Plain => "a=1",
+            Act::Push => "a[]=1",
+            Act::Below => "a[b]=1",
+        }
+    }
+}
+
+const ACTS: [Act; 3] = [Act::Plain, Act::Push, Act::Below];
+
+/// Whether the pairs with these acts have a tree.
+fn have_tree(alloc: Global, acts: &[Act]) -> Result<bool, AllocError> {
+    let mut input = String::new(alloc);
+    for act in acts {
+        input.push_str(act.text())?;
+        input.push('&')?;
+    }
+    match parse(alloc, input.as_bytes(), Config::new()) {
+        Ok(_) => Ok(true),
+        Err(Error::Parse(..)) => Ok(false),
+        Err(_) => Err(AllocError),
+    }
+}
+
+#[test]
+fn two_pairs(rt: HostRuntime) -> Result<(), Fail> {
+    let accepted = [
+        [Act::Plain, Act::Plain],
+        [Act::Push, Act::Plain],
+        [Act::Push, Act::Push],
+        [Act::Below, Act::Below],
+        [Act::Below, Act::Plain],
+    ];
+    for first in ACTS {
+        for second in ACTS {
+            let acts = [first, second];
+            let wanted = accepted.iter().any(|other| *other == acts);
+            assert_eq!(rt; have_tree(rt.alloc(), &acts)?, wanted);
+        }
+    }
+    Ok(())
+}
+
+// Ten have a tree: six without below that don't begin with plain and push, and four that begin with below and hold no push.
+#[test]
+fn three_pairs(rt: HostRuntime) -> Result<(), Fail> {
+    let mut accepted = 0u32;
+    for first in ACTS {
+        for second in ACTS {
+            for third in ACTS {
+                let acts = [first, second, third];
+                let wanted = if first == Act::Below {
+                    acts.iter().all(|act| *act != Act::Push)
+                } else {
+                    acts.iter().all(|act| *act != Act::Below)
+                        && (first != Act::Plain || second != Act::Push)
+                };
+                assert_eq!(rt; have_tree(rt.alloc(), &acts)?, wanted);
+                if wanted {
+                    accepted = accepted.saturating_add(1);
+                }
+            }
+        }
+    }
+    assert_eq!(rt; accepted, 10);
+    Ok(())
+}

@@ -1,0 +1,56 @@
+//! Keys that are numbers, escaped keys, and how a key is kept.
+
+use super::{Config, Fail, accept, tree};
+
+#[test]
+fn numbers_and_texts(rt: HostRuntime) -> Result<(), Fail> {
+    let rows = [
+        ("abc[1]=1&abc[0]=0", "{'abc':{0:'0',1:'1'}}"),
+        ("0=a", "{0:'a'}"),
+        ("01=x", "{1:'x'}"),
+        // an escaped digit makes a text
+        ("1=a&%31=b", "{1:'a','1'*:'b'}"),
+        // the greatest number that a key may be, and one more
+        (
+            "a[4294967296]=p&a[4294967295]=q",
+            "{'a':{4294967295:'q','4294967296':'p'}}",
+        ),
+        ("b=1&10=2&a=3&9=4", "{9:'4',10:'2','a':'3','b':'1'}"),
+    ];
+    accept(&rt, rt.alloc(), Config::new(), &rows)
+}
+
+#[test]
+fn brackets_in_keys(rt: HostRuntime) -> Result<(), Fail> {
+    let rows = [
+        ("a]=1", "{'a]':'1'}"),
+        ("a[b&c]=1", "{'a':{'b&c':'1'}}"),
+        ("abc%5Bdef%5D=ghi", "{'abc[def]'*:'ghi'}"),
+        ("[a]=1&[b]=2", "{'a':'1','b':'2'}"),
+    ];
+    accept(&rt, rt.alloc(), Config::new(), &rows)
+}
+
+// A map keeps the key of the pair that brought it.
+#[test]
+fn the_first_spelling_is_kept(rt: HostRuntime) -> Result<(), Fail> {
+    let rows = [
+        ("a=1&%61=2", "{'a':['1','2']}"),
+        ("%61=1&a=2", "{'a'*:['1','2']}"),
+        ("a[b]=1&%61[c]=2", "{'a':{'b':'1','c':'2'}}"),
+        ("%61[b]=1&a[c]=2", "{'a'*:{'b':'1','c':'2'}}"),
+    ];
+    accept(&rt, rt.alloc(), Config::new(), &rows)
+}
+
+#[test]
+fn a_number_with_a_thousand_zeros(rt: HostRuntime) -> Result<(), Fail> {
+    let mut input = String::from_str(rt.alloc(), "a[")?;
+    for _ in 0..1000 {
+        input.push('0')?;
+    }
+    input.push_str("1]=x")?;
+    let found = tree(rt.alloc(), Config::new(), input.as_bytes())?;
+    assert_eq!(rt; found.as_str(), "{'a':{1:'x'}}");
+    Ok(())
+}

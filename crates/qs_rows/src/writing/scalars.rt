@@ -1,0 +1,81 @@
+//! Values that are one text, and values that have none.
+
+use super::{form, query, writes};
+use crate::build::Build;
+use serde_qs::Data;
+
+#[test]
+fn texts(rt: HostRuntime) {
+    let build = Build {
+        rt: &rt,
+        alloc: rt.alloc(),
+    };
+    let b = &build;
+    let rows = [
+        ("100% a+b", "a=100%25+a%2Bb", "a=100%25%20a%2Bb"),
+        ("\u{e9}", "a=%C3%A9", "a=%C3%A9"),
+        ("%41", "a=%2541", "a=%2541"),
+        ("1 2 3", "a=1+2+3", "a=1%202%203"),
+        ("1,2,3", "a=1,2,3", "a=1%2C2%2C3"),
+        ("", "a=", "a="),
+        (
+            "2014-11-28T21:45:59.324310806+09:00",
+            "a=2014-11-28T21:45:59.324310806%2B09:00",
+            "a=2014-11-28T21%3A45%3A59.324310806%2B09%3A00",
+        ),
+    ];
+    for (value, in_query, in_form) in rows {
+        let datum = b.one("a", b.text(value));
+        writes(b, query(), &datum, in_query);
+        writes(b, form(), &datum, in_form);
+    }
+}
+
+#[test]
+fn bytes(rt: HostRuntime) {
+    let build = Build {
+        rt: &rt,
+        alloc: rt.alloc(),
+    };
+    let b = &build;
+    let datum = b.one("bytes", b.bytes(b"hello, world!"));
+    writes(b, query(), &datum, "bytes=hello,+world!");
+    writes(b, form(), &datum, "bytes=hello%2C%20world%21");
+}
+
+#[test]
+fn other_scalars(rt: HostRuntime) {
+    let build = Build {
+        rt: &rt,
+        alloc: rt.alloc(),
+    };
+    let b = &build;
+    let rows = [
+        (Data::Unit, "a="),
+        (Data::None, "a"),
+        (Data::Bool(true), "a=true"),
+        (Data::Bool(false), "a=false"),
+        (Data::Unsigned(u64::MAX), "a=18446744073709551615"),
+        (Data::Signed(i64::MIN), "a=-9223372036854775808"),
+        (Data::Signed(-129), "a=-129"),
+        (Data::Char('\u{e9}'), "a=%C3%A9"),
+        (b.some(Data::None), "a"),
+        (b.wrapped(Data::Unsigned(1)), "a=1"),
+    ];
+    for (value, wanted) in rows {
+        writes(b, query(), &b.one("a", value), wanted);
+    }
+}
+
+// Nothing is above these, so there is no key.
+#[test]
+fn at_the_top(rt: HostRuntime) {
+    let build = Build {
+        rt: &rt,
+        alloc: rt.alloc(),
+    };
+    let b = &build;
+    writes(b, query(), &Data::Unit, "=");
+    writes(b, query(), &Data::None, "");
+    writes(b, query(), &b.text("foo"), "=foo");
+}

@@ -1,0 +1,132 @@
+//! Writers that take little, and writers that stop.
+
+use super::query;
+use crate::build::Build;
+use serde_qs::{ByWrite, Data, Error, Serializer, Sink};
+use std::io;
+use std::io::Write;
+use std::process::Abort;
+
+const WHOLE: &[u8; 10] = b"a=1&b[0]=2";
+
+/// How a write ends that finds no room.
+#[derive(Clone, Copy, Debug)]
+enum Stop {
+    Fails,
+    IsInterrupted,
+    TakesNothing,
+}
+
+/// Takes up to `step` bytes a write while there is room, and then stops.
+#[derive(Drop)]
+struct Narrow {
+    held: Vec<u8>,
+    step: usize,
+    room: usize,
+    stop: Stop,
+}
+
+impl Write for Narrow {
+    fn write(&mut self, buf: &[u8]) -> io::Result<usize> {
+        let count = buf.len().min(self.step).min(self.room);
+        if count == 0 && !buf.is_empty() {
+            match self.stop {
+                Stop::Fails => return Err(io::Error::from(io::ErrorKind::BrokenPipe)),
+                Stop::IsInterrupted => return Err(io::Error::from(io::ErrorKind::Interrupted)),
+                Stop::TakesNothing => return Ok(0),
+            }
+        }
+        self.held.extend_from_slice(&buf[..count])?;
+        self.room -= count;
+        Ok(count)
+    }
+
+    fn flush(&mut self) -> io::Result<()> {
+        Ok(())
+    }
+}
+
+/// A struct of a number and a list of one number.
+fn number_and_list<R: Abort>(b: &Build<'_, R>) -> Data {
+    b.record([
+        b.member("a", Data::Unsigned(1)),
+        b.member("b", b.list([Data::Unsigned(2)])),
+    ])
+}
+
+// The bytes that were taken stand, no write is repeated, and the serializer has failed for good.
+#[test]
+fn stops_in_mid_stream(rt: HostRuntime) {
+    let build = Build {
+        rt: &rt,
+        alloc: rt.alloc(),
+    };
+    let b = &build;
+    let datum = number_and_list(b);
+    for stop in [Stop::Fails, Stop::IsInterrupted, Stop::TakesNothing] {
+        for step in [1, 3, 5, 10] {
+            for room in 0..WHOLE.len() {
+                let held = Vec::new(b.alloc);
+                let mut writer = Narrow {
+                    held,
+                    step,
+                    room,
+                    stop,
+                };
+                let mut serializer = Serializer::new(&mut writer, query());
+                let result = serializer.serialize(b.alloc, &datum);
+                assert!(rt;
+                    matches!(result, Err(Error::Io(_))),
+                    "{stop:?} {step} {room}"
+                );
+                let result = serializer.serialize(b.alloc, &datum);
+                assert!(rt;
+                    matches!(result, Err(Error::Failed)),
+                    "{stop:?} {step} {room}"
+                );
+                assert!(rt; serializer.into_sink().has_failed());
+                assert_eq!(rt; writer.held.as_slice(), &WHOLE[..room], "{stop:?} {step}");
+            }
+        }
+    }
+}
+
+#[test]
+fn takes_all_in_small_steps(rt: HostRuntime) {
+    let build = Build {
+        rt: &rt,
+        alloc: rt.alloc(),
+    };
+    let b = &build;
+    let datum = number_and_list(b);
+    for step in [1, 3, 5, 10] {
+        let held = Vec::new(b.alloc);
+        let room = WHOLE.len();
+        let mut writer = Narrow {
+            held,
+            step,
+            room,
+            stop: Stop::Fails,
+        };
+        let mut serializer = Serializer::new(&mut writer, query());
+        assert!(rt; serializer.serialize(b.alloc, &datum).is_ok());
+        assert!(rt; !serializer.into_sink().has_failed());
+        assert_eq!(rt; writer.held.as_slice(), WHOLE.as_slice(), "{step}");
+    }
+}
+
+#[test]
+fn a_second_value_continues(rt: HostRuntime) {
+    let build = Build {
+        rt: &rt,
+        alloc: rt.alloc(),
+    };
+    let b = &build;
+    let mut serializer = Serializer::over(ByWrite::new(Vec::new(b.alloc)), query());
+    for (name, number) in [("a", 1), ("b", 2)] {
+        let datum = b.one(name, Data::Unsigned(number));
+        assert!(rt; serializer.serialize(b.alloc, &datum).is_ok());
+    }
+    let written = serializer.into_sink().into_writer();
+    assert_eq!(rt; written.as_slice(), b"a=1&b=2".as_slice());
+}

@@ -1,0 +1,18 @@
+-- Whole inputs: how many pairs they have, and which are orders of one another.
+use Rattle.std.specs.Prelude.{◌≡◌, ◌≢◌, ℕ, Bool, List, [], length}
+use Rattle.qs_spec.specs.Token.{tokens}
+use Rattle.qs_spec.specs.Grammar.{Pair, ArePairs}
+use Rattle.qs_spec.specs.Order.{AreReordered}
+
+-- the input has so many pairs
+abbrev pub HasPairs : Bool → ℕ → List ℕ → ℕ → Type 0
+HasPairs form depth bytes n = (pairs : List Pair) × ArePairs depth (tokens form bytes) pairs × (length pairs ≡ n)
+
+-- the first input has pairs, and those of the second are the same but for their marks, in an order that keeps every two that meet
+pub record IsReordered (form : Bool) (depth : ℕ) (first second : List ℕ) : Type 0 where
+  pub pairs : List Pair
+  pub others : List Pair
+  pub some : pairs ≢ []
+  pub of_first : ArePairs depth (tokens form first) pairs
+  pub of_second : ArePairs depth (tokens form second) others
+  pub order : AreReordered pairs others

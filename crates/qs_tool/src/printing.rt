@@ -1,0 +1,58 @@
+//! What a command prints of the input that it reads.
+
+ghost use Rattle.std.specs.Prelude.{◌≡◌, Some, None, IfOk};
+ghost use Rattle.qs_tree.specs.Error.{OnlyOutOfMemory};
+ghost use Rattle.qs_data.specs.Views.{data_of};
+ghost use Rattle.qs_tool.specs.Fault.{IfFault};
+ghost use Rattle.qs_tool.specs.Line.{IsFaulty, IsPrinted, printed, rewritten};
+ghost use Rattle.qs_tool.specs.Shown.{shown};
+
+use crate::arguments::{Command, Request};
+use crate::shapes::shape_for;
+use crate::showing::show;
+use serde_qs::{Config, Data, Deserializer, Result, Serializer};
+use std::alloc::Global;
+
+/// What is printed of the input, or why it is refused.
+pub fn printed(alloc: Global, request: Request, input: &[u8]) -> Result<Vec<u8>>
+    ensures text { IfOk result (λ text. IsPrinted request input.now text.items) }
+    ensures fault { IfFault result (IsFaulty request input.now) }
+{
+    let shape = shape_for(alloc, request.command)?;
+    let deserializer = Deserializer::with_config(alloc, request.config, input)?;
+    let value = deserializer.read(alloc, &shape)?;
+    let text = text_of(alloc, request, &value);
+    value.discard();
+    text
+}
+
+/// The text of the data: `any` shows them, the other commands write them as a querystring.
+fn text_of(alloc: Global, request: Request, value: &Data) -> Result<Vec<u8>>
+    ensures text { IfOk result (λ text. printed request.command request.config (data_of value.now) ≡ Some text.items) }
+    ensures fault { IfFault result (printed request.command request.config (data_of value.now) ≡ None) }
+{
+    match request.command {
+        Command::Flat | Command::Params => rewritten(alloc, request.config, value),
+        Command::Any => shown(alloc, value),
+    }
+}
+
+/// The querystring that the data are written as.
+fn rewritten(alloc: Global, config: Config, value: &Data) -> Result<Vec<u8>>
+    ensures text { IfOk result (λ text. rewritten config (data_of value.now) ≡ Some text.items) }
+    ensures fault { IfFault result (rewritten config (data_of value.now) ≡ None) }
+{
+    let mut serializer = Serializer::new(Vec::new(alloc), config);
+    serializer.serialize(alloc, value)?;
+    Ok(serializer.into_sink().into_writer())
+}
+
+/// The data as they are shown.
+fn shown(alloc: Global, value: &Data) -> Result<Vec<u8>>
+    ensures text { IfOk result (λ text. text.items ≡ shown (data_of value.now)) }
+    ensures errors { OnlyOutOfMemory result }
+{
+    let mut text = Vec::new(alloc);
+    show(alloc, &mut text, value)?;
+    Ok(text)
+}

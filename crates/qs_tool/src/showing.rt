@@ -1,0 +1,160 @@
+//! Data as the command `any` shows them.
+//!
+//! What is still to be written stands on a pile on the heap, so data may be nested as deep as they like.
+
+ghost use Rattle.std.specs.Prelude.{◌≡◌, ◌<◌, ◌++◌, length, OnOk};
+ghost use Rattle.qs_tree.specs.Error.{OnlyOutOfMemory};
+ghost use Rattle.qs_data.specs.Views.{data_of, values_in, pairs_in};
+ghost use Rattle.qs_tool.specs.Shown.{shown, quoted, in_brackets, in_braces, shown_values, shown_pairs};
+ghost use Rattle.qs_tool.specs.Pieces.{Begins, piece_text, items_left, pairs_left};
+
+use qs_tree::encode;
+use serde_qs::{Data, Result};
+use std::alloc::Global;
+
+/// A piece of the line that is still to be written.
+#[derive(Clone, Copy)]
+enum Piece<'d> {
+    /// The data.
+    Datum(&'d Data),
+    /// The items that are left of a list, each behind a comma, and the bracket that closes it.
+    Items(&'d [Data]),
+    /// The value of a pair, behind a colon.
+    Value(&'d Data),
+    /// The pairs that are left of a map, each behind a comma, and the brace that closes it.
+    Pairs(&'d [(Data, Data)]),
+}
+
+/// Appends the data: `()`, `'text'`, `[x,y]` or `{'k':x,'l':y}`, and `?` for what the shape that reads whatever is there never reads.
+/// A list or a map takes room on the heap for each level that is open.
+pub fn show(alloc: Global, line: &mut Vec<u8>, datum: &Data) -> Result<()>
+    ensures ok { OnOk result (line.new.items ≡ line.old.items ++ shown (data_of datum.now)) }
+    ensures errors { OnlyOutOfMemory result }
+{
+    let mut pile = Vec::new(alloc);
+    begin(line, &mut pile, datum)?;
+    while let Some(piece) = pile.pop() {
+        proceed(line, &mut pile, piece)?;
+    }
+    Ok(())
+}
+
+/// Appends what the piece begins with, and puts on the pile what is left of it.
+fn proceed<'d>(line: &mut Vec<u8>, pile: &mut Vec<Piece<'d>>, piece: Piece<'d>) -> Result<()>
+    ensures ok { OnOk result (Begins (piece_text piece.entry) line.old.items pile.old.items line.new.items pile.new.items) }
+    ensures errors { OnlyOutOfMemory result }
+{
+    match piece {
+        Piece::Datum(datum) => begin(line, pile, datum),
+        Piece::Items(items) => next_item(line, pile, items),
+        Piece::Value(value) => {
+            line.push(b':')?;
+            begin(line, pile, value)
+        }
+        Piece::Pairs(pairs) => next_pair(line, pile, pairs),
+    }
+}
+
+/// Appends what the data begin with, and puts on the pile what is left of them.
+#[tactic(auto, using(qs_data::proofs::Levels::levels, crate::proofs::Pieces::begins_whole))]
+fn begin<'d>(line: &mut Vec<u8>, pile: &mut Vec<Piece<'d>>, datum: &'d Data) -> Result<()>
+    ensures ok { OnOk result (Begins (shown (data_of datum.now)) line.old.items pile.old.items line.new.items pile.new.items) }
+    ensures errors { OnlyOutOfMemory result }
+{
+    match datum {
+        Data::Unit => Ok(line.extend_from_slice(b"()")?),
+        Data::Text(text) => show_text(line, text.as_str()),
+        Data::Seq(items) => begin_list(line, pile, items),
+        Data::Map(pairs) => begin_map(line, pile, pairs),
+        Data::None | Data::Some(_) | Data::Bool(_) | Data::Unsigned(_) | Data::Signed(_) => {
+            Ok(line.push(b'?')?)
+        }
+        Data::Char(_) | Data::Bytes(_) | Data::Tuple(_) | Data::Struct(_) | Data::Newtype(_) => {
+            Ok(line.push(b'?')?)
+        }
+        Data::UnitVariant(_)
+        | Data::NewtypeVariant(_, _)
+        | Data::TupleVariant(_, _)
+        | Data::StructVariant(_, _) => Ok(line.push(b'?')?),
+    }
+}
+
+/// Appends the text between quotes, escaped as form mode does.
+fn show_text(line: &mut Vec<u8>, text: &str) -> Result<()>
+    ensures ok { OnOk result (line.new.items ≡ line.old.items ++ quoted text.now) }
+    ensures errors { OnlyOutOfMemory result }
+{
+    line.push(b'\'')?;
+    encode(text.as_bytes(), true, line)?;
+    Ok(line.push(b'\'')?)
+}
+
+/// Appends the bracket that opens a list, and puts its items on the pile.
+fn begin_list<'d>(line: &mut Vec<u8>, pile: &mut Vec<Piece<'d>>, items: &'d [Data]) -> Result<()>
+    ensures ok { OnOk result (Begins (in_brackets (shown_values (values_in items.now))) line.old.items pile.old.items line.new.items pile.new.items) }
+    ensures errors { OnlyOutOfMemory result }
+{
+    line.push(b'[')?;
+    match items.split_first() {
+        None => Ok(line.push(b']')?),
+        Some((first, rest)) => {
+            pile.push(Piece::Items(rest))?;
+            Ok(pile.push(Piece::Datum(first))?)
+        }
+    }
+}
+
+/// Appends a comma and what the next item of a list begins with, or the bracket that closes the list.
+fn next_item<'d>(line: &mut Vec<u8>, pile: &mut Vec<Piece<'d>>, items: &'d [Data]) -> Result<()>
+    ensures ok { OnOk result (Begins (items_left (shown_values (values_in items.now))) line.old.items pile.old.items line.new.items pile.new.items) }
+    ensures errors { OnlyOutOfMemory result }
+{
+    match items.split_first() {
+        None => Ok(line.push(b']')?),
+        Some((item, rest)) => {
+            line.push(b',')?;
+            pile.push(Piece::Items(rest))?;
+            begin(line, pile, item)
+        }
+    }
+}
+
+/// Appends the brace that opens a map, and puts its pairs on the pile.
+fn begin_map<'d>(
+    line: &mut Vec<u8>,
+    pile: &mut Vec<Piece<'d>>,
+    pairs: &'d [(Data, Data)],
+) -> Result<()>
+    ensures ok { OnOk result (Begins (in_braces (shown_pairs (pairs_in pairs.now))) line.old.items pile.old.items line.new.items pile.new.items) }
+    ensures errors { OnlyOutOfMemory result }
+{
+    line.push(b'{')?;
+    match pairs.split_first() {
+        None => Ok(line.push(b'}')?),
+        Some((pair, rest)) => {
+            pile.push(Piece::Pairs(rest))?;
+            pile.push(Piece::Value(&pair.1))?;
+            Ok(pile.push(Piece::Datum(&pair.0))?)
+        }
+    }
+}
+
+/// Appends a comma and what the next pair of a map begins with, or the brace that closes the map.
+fn next_pair<'d>(
+    line: &mut Vec<u8>,
+    pile: &mut Vec<Piece<'d>>,
+    pairs: &'d [(Data, Data)],
+) -> Result<()>
+    ensures ok { OnOk result (Begins (pairs_left (shown_pairs (pairs_in pairs.now))) line.old.items pile.old.items line.new.items pile.new.items) }
+    ensures errors { OnlyOutOfMemory result }
+{
+    match pairs.split_first() {
+        None => Ok(line.push(b'}')?),
+        Some((pair, rest)) => {
+            line.push(b',')?;
+            pile.push(Piece::Pairs(rest))?;
+            pile.push(Piece::Value(&pair.1))?;
+            begin(line, pile, &pair.0)
+        }
+    }
+}

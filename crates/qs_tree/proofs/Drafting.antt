@@ -1,0 +1,129 @@
+-- What a map in the making holds after a step.
+use Rattle.std.proofs.Common.{◌≡◌, ℕ, List, [], ◌∷◌, ◌++◌, length, slice_get, Some, None, option_map, Ordering, Less, Equal, Greater, refl, sym, ap, ◌∙◌, arith, rules, Global}
+use Rattle.std.specs.List.{AllByRecursion}
+use Rattle.std.specs.List.Sorted.{IsStrictlySortedBy}
+use Rattle.std.specs.Map.{keys_of, set_value}
+use Rattle.std.specs.Ordering.{ordering_reverse}
+use Rattle.std.specs.BTreeMap.{is_at, insert_entry}
+use Rattle.std.specs.declared.collections.BTreeMap.{BTreeMap}
+use Rattle.qs_spec.specs.Tree.{Tree}
+use Rattle.qs_spec.specs.toward.InPlace.{update}
+use Rattle.qs_tree.specs.declared.key.Key.{Key}
+use Rattle.qs_tree.specs.declared.draft.Draft.{Draft, Fresh, the_lemmas}
+use Rattle.qs_tree.specs.declared.draft.DraftMap.TheVariants as form
+use Rattle.qs_tree.specs.contracts.key.KeyOrd.TheImpl.Laws.{total-law}
+use Rattle.qs_tree.specs.Keys.{key_cmp}
+use Rattle.qs_tree.specs.Places.{IsHit, IsGap, put_value}
+use Rattle.qs_tree.specs.Views.{segment_of_key, step_of_key, find}
+use Rattle.qs_tree.specs.Draft.{draft_tree, draft_entries, entries_seen, bare, vector_keys, Takes}
+use Rattle.qs_tree.proofs.Keys.{seen_view, seen-lookup, key_cmp-segments}
+use Rattle.qs_tree.proofs.Ordered.{ordered_seen}
+use Rattle.qs_tree.proofs.Places.{hit_lookup, gap_lookup, hit_set, hit_keys, gap_keys, keys-put_value}
+use Rattle.qs_tree.proofs.Views.{draft_tree-Fresh}
+
+abbrev Drafts : Type 0
+Drafts = List (Key × Draft)
+
+pub draft_entries-Vector : (es : Drafts) → draft_entries (form.Vector es) ≡ entries_seen es
+draft_entries-Vector es = search (rules, the_lemmas)
+
+pub draft_entries-Tree : (m : BTreeMap Key Draft Global) → draft_entries (form.Tree m) ≡ entries_seen m.entries
+draft_entries-Tree m = search (rules, the_lemmas)
+
+pub vector_keys-Vector : (es : Drafts) → vector_keys (form.Vector es) ≡ Some (bare es)
+vector_keys-Vector es = search (rules, the_lemmas)
+
+pub vector_keys-Tree : (m : BTreeMap Key Draft Global) → vector_keys (form.Tree m) ≡ None
+vector_keys-Tree m = search (rules, the_lemmas)
+
+pub ruleset forms = (draft_entries-Vector, draft_entries-Tree, vector_keys-Vector, vector_keys-Tree)
+
+pub keys-bare : (es : Drafts) → keys_of (bare es) ≡ keys_of es
+keys-bare [] = refl
+keys-bare (e ∷ es) = ap (λ l. e.0 ∷ l) (keys-bare es)
+
+module _ {X : Type 0} (seen : X → Tree) (k : Key) where
+  pub inserted : (es : List (Key × X)) (v : X) → update (step_of_key k) (λ _. Some (seen v)) (seen_view seen es) ≡ Some (seen_view seen (insert_entry key_cmp es k v))
+  inserted [] v = refl
+  inserted (e ∷ es) v = by (inserted es v) (key_cmp k e.0) refl
+    where
+      by : update (step_of_key k) (λ _. Some (seen v)) (seen_view seen es) ≡ Some (seen_view seen (insert_entry key_cmp es k v)) → (o : Ordering) → key_cmp k e.0 ≡ o
+          → update (step_of_key k) (λ _. Some (seen v)) (seen_view seen (e ∷ es)) ≡ Some (seen_view seen (insert_entry key_cmp (e ∷ es) k v))
+      by more Less d = rw (← key_cmp-segments k e.0, d)
+      by more Equal d = rw (← key_cmp-segments k e.0, d)
+      by more Greater d = rw (← key_cmp-segments k e.0, d, more)
+
+  -- no key is this one
+  all_above : (l : Key) (ks : List Key) → key_cmp k l ≡ Less → AllByRecursion (λ y. key_cmp l y ≡ Less) ks → AllByRecursion (λ y. key_cmp k y ≡ Less) ks
+  all_above l [] less h = tt
+  all_above l (y ∷ ks) less h = (total-law.trans k l y less h.0, all_above l ks less h.1)
+
+  none_set : (es : List (Key × X)) (w : X) → AllByRecursion (λ y. key_cmp k y ≡ Less) (keys_of es) → set_value (is_at (key_cmp k)) es w ≡ es
+  none_set [] w h = refl
+  none_set (e ∷ es) w h = rw h.0 (ap (λ l. e ∷ l) (none_set es w h.1))
+
+  -- the value at the key doesn't matter where another is put there
+  pub put_again : (es : List (Key × X)) (w : X) (u : Tree) → IsStrictlySortedBy key_cmp (keys_of es)
+      → update (step_of_key k) (λ _. Some u) (seen_view seen (set_value (is_at (key_cmp k)) es w)) ≡ update (step_of_key k) (λ _. Some u) (seen_view seen es)
+  unfolding IsStrictlySortedBy
+  put_again [] w u h = refl
+  put_again (e ∷ es) w u h = by (put_again es w u h.1) (key_cmp k e.0) refl
+    where
+      by : update (step_of_key k) (λ _. Some u) (seen_view seen (set_value (is_at (key_cmp k)) es w)) ≡ update (step_of_key k) (λ _. Some u) (seen_view seen es) → (o : Ordering) → key_cmp k e.0 ≡ o
+          → update (step_of_key k) (λ _. Some u) (seen_view seen (set_value (is_at (key_cmp k)) (e ∷ es) w)) ≡ update (step_of_key k) (λ _. Some u) (seen_view seen (e ∷ es))
+      by more Less d = rw (d, none_set es w (all_above e.0 (keys_of es) d h.0))
+      by more Equal d = rw (d, ← key_cmp-segments k e.0, d)
+      by more Greater d = rw (d, ← key_cmp-segments k e.0, d, more)
+
+-- the node at a key is taken out of a vector
+module _ (k : Key) (es : Drafts) (i : ℕ) where
+  pub taken_hit : IsHit key_cmp k es i → IsStrictlySortedBy key_cmp (keys_of es) → (x w : Draft) → option_map (λ e. e.1) (slice_get es i) ≡ Some x
+      → Takes k (entries_seen es) (draft_tree x) (entries_seen (put_value es i w))
+  taken_hit hit sorted x w is =
+      let found : Some (draft_tree x) ≡ find (segment_of_key k) (entries_seen es) = ap (option_map draft_tree) (sym is ∙ sym (hit_lookup key_cmp k es i hit)) ∙ seen-lookup draft_tree k es in
+      record {
+        node = rw (← found);
+        rest = λ u. rw (← hit_set key_cmp k es i w hit) (put_again draft_tree k es w u sorted);
+        ordered = ordered_seen draft_tree es sorted;
+      }
+
+  pub taken_gap : IsGap key_cmp k es i → IsStrictlySortedBy key_cmp (keys_of es) → Takes k (entries_seen es) (draft_tree Fresh) (entries_seen es)
+  taken_gap gap sorted =
+      let missing : None ≡ find (segment_of_key k) (entries_seen es) = ap (option_map draft_tree) (sym (gap_lookup key_cmp k es i gap)) ∙ seen-lookup draft_tree k es in
+      record { node = rw (draft_tree-Fresh, ← missing); rest = λ u. refl; ordered = ordered_seen draft_tree es sorted }
+
+  pub hit_kept : IsHit key_cmp k es i → (w : Draft) → IsHit key_cmp k (bare (put_value es i w)) i
+  hit_kept hit w = hit_keys key_cmp k es (bare (put_value es i w)) i (sym (keys-put_value es i w) ∙ sym (keys-bare (put_value es i w))) hit
+
+  pub gap_kept : IsGap key_cmp k es i → IsGap key_cmp k (bare es) i
+  gap_kept gap = gap_keys key_cmp k es (bare es) i (sym (keys-bare es)) gap
+
+  pub hit_back : IsHit key_cmp k (bare es) i → IsHit key_cmp k es i
+  hit_back hit = hit_keys key_cmp k (bare es) es i (keys-bare es) hit
+
+  pub gap_back : IsGap key_cmp k (bare es) i → IsGap key_cmp k es i
+  gap_back gap = gap_keys key_cmp k (bare es) es i (keys-bare es) gap
+
+-- a key above all of some entries goes to their end
+module _ (k : Key) (ks : List Key) where
+  less_last : (l : Key) (js : List Key) → AllByRecursion (λ y. key_cmp l y ≡ Less) (js ++ k ∷ ks) → key_cmp l k ≡ Less
+  less_last l [] h = h.0
+  less_last l (j ∷ js) h = less_last l js h.1
+
+  above : (l : Key) (js : List Key) → AllByRecursion (λ y. key_cmp l y ≡ Less) (js ++ k ∷ ks) → key_cmp k l ≡ Greater
+  above l js h = total-law.antisymm k l ∙ ap ordering_reverse (less_last l js h)
+
+  pub keys_at_end : {X : Type 0} (es : List (Key × X)) (v : X) → IsStrictlySortedBy key_cmp (keys_of es ++ k ∷ ks) → keys_of (insert_entry key_cmp es k v) ++ ks ≡ keys_of es ++ k ∷ ks
+  unfolding IsStrictlySortedBy
+  keys_at_end [] v h = refl
+  keys_at_end (e ∷ es) v h = rw (above e.0 (keys_of es) h.0) (ap (λ l. e.0 ∷ l) (keys_at_end es v h.1))
+
+  pub pushed : {X : Type 0} (es rest : List (Key × X)) (v : X) → IsStrictlySortedBy key_cmp (keys_of es ++ k ∷ ks) → insert_entry key_cmp es k v ++ rest ≡ es ++ (k, v) ∷ rest
+  unfolding IsStrictlySortedBy
+  pushed [] rest v h = refl
+  pushed (e ∷ es) rest v h = rw (above e.0 (keys_of es) h.0) (ap (λ l. e ∷ l) (pushed es rest v h.1))
+
+-- no entries are left
+pub nothing : {X : Type 0} (xs : List X) (n : ℕ) → n ≡ length xs → n ≡ 0 → xs ≡ []
+nothing [] n same none = refl
+nothing (x ∷ xs) n same none = absurd (omega (arith, same, none))

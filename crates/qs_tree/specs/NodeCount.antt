@@ -1,0 +1,26 @@
+-- How much there is to drop.
+use Rattle.std.specs.Prelude.{ℕ, ◌+◌, ◌<◌, ◌≤◌}
+use Rattle.qs_spec.specs.Tree.{Tree, Items, Entries}
+use Rattle.qs_spec.specs.Tree.Tree.{leaf, sequence, mapping, uninitialized}
+use Rattle.qs_spec.specs.Tree.Items.{no_items, item}
+use Rattle.qs_spec.specs.Tree.Entries.{no_entries, entry}
+
+-- how many nodes a tree has, where a map and a sequence count twice
+abbrev mutual
+  pub node_count : Tree → ℕ
+  node_count (leaf l) = 1
+  node_count (sequence xs) = 2 + items_node_count xs
+  node_count (mapping es) = 2 + entries_node_count es
+  node_count uninitialized = 1
+
+  pub items_node_count : Items → ℕ
+  items_node_count no_items = 0
+  items_node_count (item t xs) = node_count t + items_node_count xs
+
+  pub entries_node_count : Entries → ℕ
+  entries_node_count no_entries = 0
+  entries_node_count (entry k mark t es) = node_count t + entries_node_count es
+
+-- fewer are left than there were, and not by more than one node with nothing in it
+abbrev pub DropsOne : ℕ → ℕ → Type 0
+DropsOne before after = (after < before) × (before ≤ after + 2)

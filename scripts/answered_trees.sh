@@ -2,9 +2,6 @@
 # The answered cases of scripts/answered/trees.tsv on the built program qs_answers: trees with their marks, and refusals with position
 # and text. The steps of a case have to be what `parse_with` is proved to take on an input that it accepts: its length and one.
 crate=qs_answers
-if [ $# -eq 0 ]; then
-    (cd "$(dirname "${BASH_SOURCE[0]}")/../crates/$crate" && rt run) >/dev/null 2>&1 </dev/null
-fi
 source "$(dirname "${BASH_SOURCE[0]}")/support/counting.sh"
 table=${2:-$root/scripts/answered/trees.tsv}
 

@@ -56,10 +56,11 @@ pub(crate) struct Token<'qs> {
     pub place: Place<'qs>,
 }
 
-/// A place in the input, to which a cursor came.
+/// A place in the input, to which a cursor came, and its mode.
 #[derive(Clone, Copy)]
 pub(crate) struct Place<'qs> {
     rest: &'qs [u8],
+    form: bool,
 }
 
 /// What a run of tokens ends at.
@@ -112,13 +113,13 @@ fn first_token(bytes: &[u8], form: bool) -> (Kind, usize)
 
 impl<'qs> Place<'qs> {
     /// A cursor that begins at this place again, with steps of its own.
-    pub fn again(self, form: bool) -> Cursor<'qs>
+    pub fn again(self) -> Cursor<'qs>
         ensures rest { result.rest.now ≡ self.entry.rest.now }
-        ensures form { result.form ≡ form }
+        ensures form { result.form ≡ self.entry.form }
         ensures steps { result.steps ≡ 0 }
         ensures fresh { result.ended ≡ false }
     {
-        Cursor::new(self.rest, form, Steps::new())
+        Cursor::new(self.rest, self.form, Steps::new())
     }
 }
 
@@ -164,9 +165,13 @@ impl<'qs> Cursor<'qs> {
 
     /// The place before what is left.
     pub fn place(&self) -> Place<'qs>
-        ensures { result.rest.now ≡ self.now.rest.now }
+        ensures rest { result.rest.now ≡ self.now.rest.now }
+        ensures form { result.form ≡ self.now.form }
     {
-        Place { rest: self.rest }
+        Place {
+            rest: self.rest,
+            form: self.form,
+        }
     }
 
     /// How many bytes of an input were read up to here, and one more where its end was.

@@ -98,13 +98,7 @@ pub fn parse_with<'qs>(
     }
     let taken = mem::replace(steps, Steps::new());
     let mut cursor = Cursor::new(input, config.get_form(), taken);
-    let tree = scan(
-        alloc,
-        &mut cursor,
-        input,
-        config.get_max_depth(),
-        config.get_form(),
-    );
+    let tree = scan(alloc, &mut cursor, input, config.get_max_depth());
     *steps = cursor.into_steps();
     tree
 }
@@ -115,7 +109,6 @@ fn scan<'qs>(
     cursor: &mut Cursor<'qs>,
     input: &'qs [u8],
     max_depth: usize,
-    form: bool,
 ) -> Result<ParsedValue<'qs>>
     requires within { length cursor.old.rest.now ≤ length input.now }
     requires end { KnowsEnd cursor.old }
@@ -129,7 +122,6 @@ fn scan<'qs>(
         let site = Site {
             input,
             start: cursor.place(),
-            form,
             max_depth,
         };
         let item = match read_item(alloc, cursor, max_depth) {

@@ -28,7 +28,6 @@ pub(crate) struct Site<'qs> {
     pub input: &'qs [u8],
     /// Where the pair begins.
     pub start: Place<'qs>,
-    pub form: bool,
     pub max_depth: usize,
 }
 
@@ -126,7 +125,7 @@ fn find_spot<'qs>(site: Site<'qs>, level: usize) -> Spot<'qs>
     requires { length site.start.rest.now ≤ length site.input.now }
     ensures { IsPositionOf site.entry result.position }
 {
-    let mut cursor = site.start.again(site.form);
+    let mut cursor = site.start.again();
     let (mut key, stop) = cursor.run(root_end(site.max_depth));
     let mut brackets = level;
     if !key.is_empty() {

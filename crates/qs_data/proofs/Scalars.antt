@@ -1,5 +1,5 @@
 -- What is read as a boolean, a number or a character of a text, and of the text behind a scalar.
-use Rattle.std.proofs.Common.{◌≡◌, ℕ, suc, ◌+◌, ◌-◌, ◌<◌, ◌≤◌, ◌⊎◌, inl, inr, Bool, true, false, ◌&&◌, cond, List, [], ◌∷◌, ◌++◌, append-nil, length, get_or, slice_get, map, codes, Option, Some, None, Result, refl, sym, ap, ◌∙◌, subst, arith, rules}
+use Rattle.std.proofs.Common.{◌≡◌, ℕ, suc, ◌-◌, ◌≤◌, ◌⊎◌, inl, inr, Bool, true, false, ◌&&◌, cond, List, [], ◌∷◌, ◌++◌, append-nil, length, slice_get, map, codes, Option, Some, None, Result, refl, sym, ap, ◌∙◌, arith, rules}
 use Rattle.std.specs.Option.{option_map, option_and_then}
 use Rattle.std.specs.Str.{is_utf8, bytes_eq, chars, all_scalars, encode_utf8_all}
 use Rattle.std.specs.Char.{IsScalar, encode_utf8}

@@ -1,5 +1,5 @@
 -- The items of a node, place by place.
-use Rattle.std.specs.Prelude.{ℕ, Bool, true, false, cond, ◌&&◌, List, [], ◌∷◌, map, Option, Some, None}
+use Rattle.std.specs.Prelude.{Bool, true, cond, ◌&&◌, List, [], ◌∷◌, map, Option, Some, None}
 use Rattle.qs_spec.specs.Tree.{Tree}
 use Rattle.qs_spec.specs.Read.{each_item, placed}
 use Rattle.qs_tree.specs.Views.{tree_of, items_from, entries_of_map}

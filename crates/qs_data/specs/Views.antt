@@ -1,5 +1,5 @@
 -- What data and shapes of a program stand for.
-use Rattle.std.specs.Prelude.{ℕ, Bool, List, map, string_bytes}
+use Rattle.std.specs.Prelude.{ℕ, List, map, string_bytes}
 use Rattle.std.specs.declared.string.String.{String}
 use Rattle.std.specs.declared.alloc.Global.{Global}
 use Rattle.qs_spec.specs.Data as d

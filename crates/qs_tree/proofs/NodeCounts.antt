@@ -1,8 +1,6 @@
 -- How many nodes a value has, when a child is changed or taken out.
 use Rattle.std.proofs.Common.{◌≡◌, ℕ, zero, suc, ◌+◌, ◌<◌, ◌≤◌, List, [], ◌∷◌, ◌++◌, length, get_or, slice_get, slice_set, Some, option_map, Vec, Global, ap, ◌∙◌, arith}
 use Rattle.std.proofs.lemmas.Option.{none-some, same_Some}
-use Rattle.qs_spec.specs.Tree.{Tree}
-use Rattle.qs_spec.specs.Tree.Tree.{leaf, sequence, mapping, uninitialized}
 use Rattle.qs_tree.specs.declared.key.Key.{Key}
 use Rattle.qs_tree.specs.declared.value.ParsedValue.{ParsedValue, Map, Sequence}
 use Rattle.qs_tree.specs.declared.map.ParsedMap.{ParsedMap}

@@ -1,4 +1,4 @@
-use Rattle.std.proofs.Common.{◌≡◌, ◌+◌, ◌<◌, ◌++◌, ◌∷◌, [], ap, sym, subst, ◌∙◌, length, slice_get, map, drop, true, false, Some, None, Option, option_map, string_bytes, rules, arith}
+use Rattle.std.proofs.Common.{◌≡◌, ◌+◌, ◌<◌, ◌++◌, ◌∷◌, [], ap, sym, subst, ◌∙◌, length, slice_get, map, drop, true, false, Some, None, option_map, string_bytes, rules, arith}
 use Rattle.std.proofs.lemmas.Grind.{common_steps}
 use Rattle.std.specs.Str.{is_utf8}
 use Rattle.qs_spec.specs.Segment.{segment_text, Step}

@@ -1,4 +1,4 @@
-use Rattle.std.proofs.Common.{◌≡◌, ◌∙◌, sym, Some, None, true, option_map, drop}
+use Rattle.std.proofs.Common.{sym, true, option_map, drop}
 use Rattle.qs_spec.specs.Segment.{Step}
 use Rattle.qs_spec.specs.Tree.{Tree}
 use Rattle.qs_spec.specs.Read.{is_place, placed}

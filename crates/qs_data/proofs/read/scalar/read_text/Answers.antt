@@ -1,4 +1,4 @@
-use Rattle.std.proofs.Common.{◌≡◌, ◌∙◌, ap, true, [], Some, None, option_map}
+use Rattle.std.proofs.Common.{◌≡◌, ◌∙◌, ap, [], Some, option_map}
 use Rattle.qs_spec.specs.Data as d
 use Rattle.qs_spec.specs.Scalar.{text_data}
 use Rattle.qs_tree.specs.Views.{tree_of}

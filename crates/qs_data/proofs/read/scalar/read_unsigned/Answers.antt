@@ -1,4 +1,4 @@
-use Rattle.std.proofs.Common.{◌≡◌, ◌∙◌, ap, true, [], Some, None, option_map}
+use Rattle.std.proofs.Common.{◌≡◌, ◌∙◌, ap, Some, None, option_map}
 use Rattle.qs_spec.specs.Scalar.{unsigned_data}
 use Rattle.qs_data.specs.Widths.{bits_of}
 use Rattle.qs_tree.specs.Views.{tree_of}

@@ -1,4 +1,4 @@
-use Rattle.std.proofs.Common.{◌≡◌, ◌-◌, ◌^◌, ◌⊎◌, inl, inr, Some, ap, pos, neg_ℤ, ◌≤ℤ◌, ◌<ℤ◌, to_z, of_z, w64, sym, subst, ◌∙◌, arith, rules}
+use Rattle.std.proofs.Common.{◌≡◌, ◌-◌, ◌^◌, ◌⊎◌, inl, inr, Some, ap, pos, neg_ℤ, ◌≤ℤ◌, ◌<ℤ◌, to_z, of_z, w64, sym, subst, ◌∙◌, arith}
 use Rattle.std.specs.Int.RustNames.{FitsSigned}
 use Rattle.std.proofs.lemmas.Int.{ints, to_z-of_z}
 use Rattle.qs_data.specs.Widths.{bits_of}

@@ -1,4 +1,4 @@
-use Rattle.std.proofs.Common.{◌≤◌, ◌<◌, ◌-◌, ◌^◌, sym, subst, arith}
+use Rattle.std.proofs.Common.{◌≤◌, ◌<◌, ◌-◌, ◌^◌, sym, subst}
 use Rattle.qs_data.specs.Widths.{bits_of}
 use Rattle.qs_data.proofs.Numbers.{unsigned_ok, unsigned_past, unsigned_err, width_fits}
 use Rattle.qs_data.proofs.read.scalar.unsigned.Goals as goal

@@ -1,8 +1,8 @@
-use Rattle.std.proofs.Common.{◌≡◌, Bool, false, cond, Some, None, ap, sym, ◌∙◌, rules, string_bytes}
+use Rattle.std.proofs.Common.{◌≡◌, false, cond, Some, None, ap, sym, ◌∙◌, rules, string_bytes}
 use Rattle.std.specs.Option.{option_map}
 use Rattle.std.specs.Str.{is_utf8}
 use Rattle.qs_spec.specs.Data as d
-use Rattle.qs_spec.specs.Shape.{VariantKind, unit_kind}
+use Rattle.qs_spec.specs.Shape.{unit_kind}
 use Rattle.qs_spec.specs.Read.{unit_variant_data, is_unit_kind}
 use Rattle.qs_data.specs.declared.data.Data as data_type
 use Rattle.qs_data.specs.declared.shape.VariantKind as kind

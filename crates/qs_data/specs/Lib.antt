@@ -15,3 +15,4 @@ pub mod Parsed
 pub mod Items
 pub mod Sizes
 pub mod Nesting
+pub mod Equality

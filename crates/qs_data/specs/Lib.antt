@@ -16,3 +16,4 @@ pub mod Items
 pub mod Sizes
 pub mod Nesting
 pub mod Equality
+pub mod EqualityLaws

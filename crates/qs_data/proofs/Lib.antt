@@ -19,3 +19,4 @@ pub mod Tuples
 pub mod Sizes
 pub mod Nesting
 pub mod Anything
+pub mod Rests

@@ -17,3 +17,4 @@ pub mod Sizes
 pub mod Nesting
 pub mod Equality
 pub mod EqualityLaws
+pub mod Comparing

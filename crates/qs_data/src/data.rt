@@ -1,9 +1,15 @@
 //! Data: what is read by a shape, and what is written.
+ghost use Rattle.std.specs.Cmp.{on_per, on_equiv};
+ghost use Rattle.qs_data.specs.Equality.{data_same};
+ghost use Rattle.qs_data.specs.EqualityLaws.{data_per, data_equivalence};
+ghost use Rattle.qs_data.specs.Views.{data_of};
+
+use crate::comparing::equal_data;
 
 /// A value as a querystring carries it.
 ///
 /// Two data are equal where they hold the same, whatever room they have to grow.
-#[derive(Debug, PartialEq, Eq, Drop)]
+#[derive(Debug, Drop)]
 pub enum Data {
     /// No value.
     Unit,
@@ -41,4 +47,20 @@ pub enum Data {
     TupleVariant(String, Vec<Data>),
     /// A variant that holds fields.
     StructVariant(String, Vec<(String, Data)>),
+}
+
+/// Takes no more stack for deep data than for flat ones, as long as there is memory for what waits to be compared. What finds no
+/// memory is compared by calls.
+impl PartialEq for Data {
+    ghost eq = { λ a b. data_same (data_of a) (data_of b) };
+
+    ghost laws = { on_per data_of data_per };
+
+    fn eq(&self, other: &Data) -> bool {
+        equal_data(self, other)
+    }
+}
+
+impl Eq for Data {
+    ghost laws = { on_equiv data_of data_equivalence };
 }

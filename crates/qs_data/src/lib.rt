@@ -1,6 +1,7 @@
 //! Reading data by a shape, and writing data.
 #![tactic(auto)]
 
+mod comparing;
 mod copy;
 mod data;
 mod deserializer;

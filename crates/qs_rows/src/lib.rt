@@ -4,6 +4,8 @@
 #[cfg(test)]
 mod build;
 #[cfg(test)]
+mod deep;
+#[cfg(test)]
 mod escapes;
 #[cfg(test)]
 mod reading;

@@ -1,0 +1,93 @@
+//! Data of 200,000 levels are compared, and discarded afterwards.
+
+use crate::build::Build;
+use serde_qs::Data;
+use std::process::Abort;
+
+const LEVELS: usize = 200_000;
+
+// Each kind of data that holds others, in turn. A leaf stands before or behind what goes on.
+fn deeper<R: Abort>(b: &Build<'_, R>, level: usize, inner: Data) -> Data {
+    match level % 10 {
+        0 => b.some(inner),
+        1 => b.list([inner, Data::Unit]),
+        2 => b.items([Data::Unit, inner]),
+        3 => b.pairs([(inner, Data::Unit), (Data::None, Data::Unit)]),
+        4 => b.pairs([(Data::None, inner), (Data::Unit, Data::Unit)]),
+        5 => b.record([b.member("a", inner), b.member("b", Data::Unit)]),
+        6 => b.wrapped(inner),
+        7 => b.holding("a", inner),
+        8 => b.holding_items("a", [inner, Data::Unit]),
+        _ => b.holding_record("a", [b.member("a", Data::Unit), b.member("b", inner)]),
+    }
+}
+
+fn deep<R: Abort>(b: &Build<'_, R>, bottom: Data) -> Data {
+    let mut datum = bottom;
+    for level in 0..LEVELS {
+        datum = deeper(b, level, datum);
+    }
+    datum
+}
+
+fn deep_option<R: Abort>(b: &Build<'_, R>, bottom: Data) -> Data {
+    let mut datum = bottom;
+    for _ in 0..LEVELS {
+        datum = b.some(datum);
+    }
+    datum
+}
+
+fn deep_list<R: Abort>(b: &Build<'_, R>, bottom: Data) -> Data {
+    let mut datum = bottom;
+    for _ in 0..LEVELS {
+        datum = b.list([datum, Data::Unit]);
+    }
+    datum
+}
+
+// The first two are the same, and the third is another.
+fn compared<R: Abort>(rt: &R, datum: Data, same: Data, other: Data) {
+    assert!(rt; datum == same);
+    assert!(rt; datum != other);
+    assert!(rt; other != same);
+    datum.discard();
+    same.discard();
+    other.discard();
+}
+
+#[test]
+fn deep_data_of_each_kind(rt: HostRuntime) {
+    let b = Build {
+        rt: &rt,
+        alloc: rt.alloc(),
+    };
+    let datum = deep(&b, b.text("a"));
+    let same = deep(&b, b.text("a"));
+    let other = deep(&b, b.text("b"));
+    compared(&rt, datum, same, other);
+}
+
+#[test]
+fn deep_options(rt: HostRuntime) {
+    let b = Build {
+        rt: &rt,
+        alloc: rt.alloc(),
+    };
+    let datum = deep_option(&b, Data::Unit);
+    let same = deep_option(&b, Data::Unit);
+    let other = deep_option(&b, Data::None);
+    compared(&rt, datum, same, other);
+}
+
+#[test]
+fn deep_lists(rt: HostRuntime) {
+    let b = Build {
+        rt: &rt,
+        alloc: rt.alloc(),
+    };
+    let datum = deep_list(&b, Data::Bool(true));
+    let same = deep_list(&b, Data::Bool(true));
+    let other = deep_list(&b, Data::Bool(false));
+    compared(&rt, datum, same, other);
+}

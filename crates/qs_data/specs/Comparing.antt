@@ -1,5 +1,5 @@
 -- What is left of two data that are compared, level by level.
-use Rattle.std.specs.Prelude.{◌≡◌, ℕ, suc, ◌+◌, ◌*◌, ◌<◌, Bool, true, false, ◌&&◌, ◌==◌, length, Option, Some, None, ⊤}
+use Rattle.std.specs.Prelude.{◌≡◌, ℕ, ◌+◌, ◌*◌, ◌<◌, Bool, true, false, ◌&&◌, ◌==◌, length, Option, Some, None, ⊤}
 use Rattle.std.specs.List.{sum_by}
 use Rattle.qs_data.specs.declared.comparing.Rest.{Rest}
 use Rattle.qs_data.specs.declared.comparing.Rest.TheVariants.{Items, Pairs, Values, Members}

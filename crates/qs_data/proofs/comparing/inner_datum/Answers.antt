@@ -1,4 +1,4 @@
-use Rattle.std.proofs.Common.{◌∷◌, [], ap, sym, ◌∙◌}
+use Rattle.std.proofs.Common.{◌∷◌, [], ap, ◌∙◌}
 use Rattle.qs_data.proofs.Rests.{same-one}
 use Rattle.qs_data.proofs.comparing.inner_datum.Goals as goal
 

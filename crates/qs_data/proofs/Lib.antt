@@ -19,4 +19,3 @@ pub mod Tuples
 pub mod Sizes
 pub mod Nesting
 pub mod Anything
-pub mod Rests

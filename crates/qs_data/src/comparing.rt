@@ -1,23 +1,22 @@
-//! How data are compared: by a loop, so that no depth is too much for the stack.
-//!
-//! The loop goes down into the first data that have others in them, and what stands behind those waits on the heap.
+//! What two data are to each other, and what is left of them to compare.
 
-ghost use Rattle.std.specs.Prelude.{◌≡◌, ◌+◌, ◌*◌, ◌<◌, ◌≤◌, ◌&&◌, true, IsTrue, string_bytes};
-ghost use Rattle.std.specs.List.{list_all, sum_by};
+ghost use Rattle.std.specs.Prelude.{◌≡◌, ◌+◌, ◌*◌, ◌<◌, ◌≤◌, ◌&&◌, string_bytes};
+ghost use Rattle.std.specs.List.{sum_by};
 ghost use Rattle.std.specs.Str.{bytes_eq};
+ghost use Rattle.qs_tree.specs.Comparing.{met_same, met_size, IsNext};
 ghost use Rattle.qs_data.specs.Equality.{data_same, values_same, pairs_same, members_same};
 ghost use Rattle.qs_data.specs.Weight.{weight, pair_weight, member_weight};
-ghost use Rattle.qs_data.specs.Comparing.{is_done, rest_same, rest_size, met_same, met_size, IsNext};
-ghost use Rattle.qs_data.specs.declared.comparing.Rest.TheVariants.{Items, Pairs, Members};
+ghost use Rattle.qs_data.specs.Comparing.{is_done, rest_same, data_left};
+ghost use Rattle.qs_data.specs.declared.comparing.DataLeft.TheVariants.{Items, Pairs, Members};
 ghost use Rattle.qs_data.specs.Views.{data_of, values_in, pairs_in, members_in};
 
 use crate::data::Data;
-use std::alloc::Global;
+use qs_tree::comparing::{Met, Rest};
 use std::slice::from_ref;
 
 /// What is left to compare: parts of one datum beside those of another.
 #[derive(Clone, Copy)]
-enum Rest<'d> {
+pub(crate) enum DataLeft<'d> {
     Items(&'d [Data], &'d [Data]),
     Pairs(&'d [(Data, Data)], &'d [(Data, Data)]),
     /// The values of two pairs whose keys are compared, and the pairs behind.
@@ -25,148 +24,82 @@ enum Rest<'d> {
     Members(&'d [(String, Data)], &'d [(String, Data)]),
 }
 
-/// What two data are to each other.
-#[derive(Clone, Copy)]
-enum Met<'d> {
-    /// They differ.
-    Different,
-    /// They are the same.
-    Same,
-    /// They are the same where this is, which came from that allocator.
-    Inner(Global, Rest<'d>),
-}
+impl<'d> Rest for DataLeft<'d> {
+    ghost same = { rest_same };
 
-/// Whether two data hold the same.
-///
-/// Takes memory for what waits to be compared, level by level, and none where a level ends with the datum that has others in it.
-/// What finds no memory is compared by calls.
-pub(crate) fn equal_data<'d>(left: &'d Data, right: &'d Data) -> bool
-    ensures { result ≡ data_same (data_of left.now) (data_of right.now) }
-{
-    match meet(left, right) {
-        Met::Different => false,
-        Met::Same => true,
-        Met::Inner(alloc, rest) => equal_rests(alloc, rest),
-    }
-}
+    ghost size = { data_left };
 
-/// Whether all that is left is the same. Takes memory as [`equal_data`] does.
-#[cycle(comparing)]
-fn equal_rests<'d>(alloc: Global, whole: Rest<'d>) -> bool
-    ensures { result ≡ rest_same whole.entry }
-{
-    let mut rest = whole;
-    let mut waiting = Vec::new(alloc);
-    loop {
-        let Some((met, behind)) = rest.next() else {
-            let Some(outer) = waiting.pop() else {
-                return true;
-            };
-            rest = outer;
-            continue;
-        };
-        match met {
-            Met::Different => return false,
-            Met::Same => rest = behind,
-            Met::Inner(_alloc, inner) => {
-                if !later(&mut waiting, behind) {
-                    return false;
-                }
-                rest = inner;
-            }
-        }
-    }
-}
+    ghost done = { is_done };
 
-/// Puts what is left with what waits. Where there is no memory, compares it now, and answers whether it is the same.
-#[cycle(comparing)]
-fn later<'d>(waiting: &mut Vec<Rest<'d>>, rest: Rest<'d>) -> bool
-    ensures same { result && list_all rest_same waiting.new.items ≡ rest_same rest.entry && list_all rest_same waiting.old.items }
-    ensures size { sum_by rest_size waiting.new.items ≤ sum_by rest_size waiting.old.items + rest_size rest.entry }
-{
-    if rest.is_empty() {
-        return true;
-    }
-    match waiting.push(rest) {
-        Ok(()) => true,
-        Err(_) => equal_rests(*waiting.allocator(), rest),
-    }
-}
-
-impl<'d> Rest<'d> {
-    /// Nothing is left.
-    fn is_empty(self) -> bool
-        ensures same { IsTrue result → rest_same self.entry ≡ true }
-        ensures exact { result ≡ is_done self.entry }
-    {
+    fn is_empty(self) -> bool {
         match self {
-            Rest::Items(left, right) => left.is_empty() && right.is_empty(),
-            Rest::Pairs(left, right) => left.is_empty() && right.is_empty(),
-            Rest::Values(_, _, _, _) => false,
-            Rest::Members(left, right) => left.is_empty() && right.is_empty(),
+            DataLeft::Items(left, right) => left.is_empty() && right.is_empty(),
+            DataLeft::Pairs(left, right) => left.is_empty() && right.is_empty(),
+            DataLeft::Values(_, _, _, _) => false,
+            DataLeft::Members(left, right) => left.is_empty() && right.is_empty(),
         }
     }
 
-    /// What the first two data are to each other, and what is left behind them. Nothing where nothing is left.
-    fn next(self) -> Option<(Met<'d>, Rest<'d>)>
-        ensures { IsNext self.entry result }
-    {
+    fn next(self) -> Option<(Met<DataLeft<'d>>, DataLeft<'d>)> {
         match self {
-            Rest::Items(left, right) => next_item(left, right),
-            Rest::Pairs(left, right) => next_pair(left, right),
-            Rest::Values(left, right, pairs, others) => {
-                Some((meet(left, right), Rest::Pairs(pairs, others)))
+            DataLeft::Items(left, right) => next_item(left, right),
+            DataLeft::Pairs(left, right) => next_pair(left, right),
+            DataLeft::Values(left, right, pairs, others) => {
+                Some((meet(left, right), DataLeft::Pairs(pairs, others)))
             }
-            Rest::Members(left, right) => next_member(left, right),
+            DataLeft::Members(left, right) => next_member(left, right),
         }
     }
 }
 
-fn next_item<'d>(left: &'d [Data], right: &'d [Data]) -> Option<(Met<'d>, Rest<'d>)>
-    ensures { IsNext (Items left.entry right.entry) result }
+fn next_item<'d>(left: &'d [Data], right: &'d [Data]) -> Option<(Met<DataLeft<'d>>, DataLeft<'d>)>
+    ensures { IsNext rest_same data_left (Items left.entry right.entry) result }
 {
     match (left.split_first(), right.split_first()) {
         (None, None) => None,
         (Some((item, left)), Some((other, right))) => {
-            Some((meet(item, other), Rest::Items(left, right)))
+            Some((meet(item, other), DataLeft::Items(left, right)))
         }
-        _ => Some((Met::Different, Rest::Items(left, right))),
+        _ => Some((Met::Different, DataLeft::Items(left, right))),
     }
 }
 
 // Keys are compared first, and their values are left.
-fn next_pair<'d>(left: &'d [(Data, Data)], right: &'d [(Data, Data)]) -> Option<(Met<'d>, Rest<'d>)>
-    ensures { IsNext (Pairs left.entry right.entry) result }
+fn next_pair<'d>(
+    left: &'d [(Data, Data)],
+    right: &'d [(Data, Data)],
+) -> Option<(Met<DataLeft<'d>>, DataLeft<'d>)>
+    ensures { IsNext rest_same data_left (Pairs left.entry right.entry) result }
 {
     match (left.split_first(), right.split_first()) {
         (None, None) => None,
         (Some((pair, left)), Some((other, right))) => {
-            let behind = Rest::Values(&pair.1, &other.1, left, right);
+            let behind = DataLeft::Values(&pair.1, &other.1, left, right);
             Some((meet(&pair.0, &other.0), behind))
         }
-        _ => Some((Met::Different, Rest::Pairs(left, right))),
+        _ => Some((Met::Different, DataLeft::Pairs(left, right))),
     }
 }
 
 fn next_member<'d>(
     left: &'d [(String, Data)],
     right: &'d [(String, Data)],
-) -> Option<(Met<'d>, Rest<'d>)>
-    ensures { IsNext (Members left.entry right.entry) result }
+) -> Option<(Met<DataLeft<'d>>, DataLeft<'d>)>
+    ensures { IsNext rest_same data_left (Members left.entry right.entry) result }
 {
     match (left.split_first(), right.split_first()) {
         (None, None) => None,
         (Some((member, left)), Some((other, right))) => {
-            Some((meet_members(member, other), Rest::Members(left, right)))
+            Some((meet_members(member, other), DataLeft::Members(left, right)))
         }
-        _ => Some((Met::Different, Rest::Members(left, right))),
+        _ => Some((Met::Different, DataLeft::Members(left, right))),
     }
 }
 
 // Members with different names differ, whatever their data are.
-fn meet_members<'d>(member: &'d (String, Data), other: &'d (String, Data)) -> Met<'d>
-    ensures same { met_same result ≡ (bytes_eq (string_bytes member.now.0) (string_bytes other.now.0) && data_same (data_of member.now.1) (data_of other.now.1)) }
-    ensures size { met_size result < 2 * weight member.now.1 }
+fn meet_members<'d>(member: &'d (String, Data), other: &'d (String, Data)) -> Met<DataLeft<'d>>
+    ensures same { met_same rest_same result ≡ (bytes_eq (string_bytes member.now.0) (string_bytes other.now.0) && data_same (data_of member.now.1) (data_of other.now.1)) }
+    ensures size { met_size data_left result < 2 * weight member.now.1 }
 {
     if member.0 == other.0 {
         meet(&member.1, &other.1)
@@ -175,11 +108,11 @@ fn meet_members<'d>(member: &'d (String, Data), other: &'d (String, Data)) -> Me
     }
 }
 
-// Data with no data in them are compared at once.
+/// What two data are to each other. Those with no data in them are compared at once.
 #[tactic(auto, using(crate::proofs::Levels::levels, crate::proofs::Weights::weights))]
-fn meet<'d>(left: &'d Data, right: &'d Data) -> Met<'d>
-    ensures same { met_same result ≡ data_same (data_of left.now) (data_of right.now) }
-    ensures size { met_size result < 2 * weight left.now }
+pub(crate) fn meet<'d>(left: &'d Data, right: &'d Data) -> Met<DataLeft<'d>>
+    ensures same { met_same rest_same result ≡ data_same (data_of left.now) (data_of right.now) }
+    ensures size { met_size data_left result < 2 * weight left.now }
 {
     match (left, right) {
         (Data::Unit, Data::Unit) => Met::Same,
@@ -211,48 +144,51 @@ fn meet<'d>(left: &'d Data, right: &'d Data) -> Met<'d>
 }
 
 // Variants with different names differ, whatever they hold.
-fn under_name<'d>(name: &String, other: &String, met: Met<'d>) -> Met<'d>
-    ensures same { met_same result ≡ (bytes_eq (string_bytes name.now) (string_bytes other.now) && met_same met.entry) }
-    ensures size { met_size result ≤ met_size met.entry }
+fn under_name<'d>(name: &String, other: &String, met: Met<DataLeft<'d>>) -> Met<DataLeft<'d>>
+    ensures same { met_same rest_same result ≡ (bytes_eq (string_bytes name.now) (string_bytes other.now) && met_same rest_same met.entry) }
+    ensures size { met_size data_left result ≤ met_size data_left met.entry }
 {
     if name == other { met } else { Met::Different }
 }
 
-fn at_once<'d>(same: bool) -> Met<'d>
-    ensures same { met_same result ≡ same }
-    ensures size { met_size result ≡ 0 }
+fn at_once<'d>(same: bool) -> Met<DataLeft<'d>>
+    ensures same { met_same rest_same result ≡ same }
+    ensures size { met_size data_left result ≡ 0 }
 {
     if same { Met::Same } else { Met::Different }
 }
 
 // Data that hold these.
-fn inner_datum<'d>(left: &'d Box<Data>, right: &'d Box<Data>) -> Met<'d>
-    ensures same { met_same result ≡ data_same (data_of left.now.value) (data_of right.now.value) }
-    ensures size { met_size result ≡ 2 * weight left.now.value + 1 }
+fn inner_datum<'d>(left: &'d Box<Data>, right: &'d Box<Data>) -> Met<DataLeft<'d>>
+    ensures same { met_same rest_same result ≡ data_same (data_of left.now.value) (data_of right.now.value) }
+    ensures size { met_size data_left result ≡ 2 * weight left.now.value + 1 }
 {
     Met::Inner(
         *Box::allocator(left),
-        Rest::Items(from_ref(&**left), from_ref(&**right)),
+        DataLeft::Items(from_ref(&**left), from_ref(&**right)),
     )
 }
 
-fn inner_items<'d>(left: &'d Vec<Data>, right: &'d Vec<Data>) -> Met<'d>
-    ensures same { met_same result ≡ values_same (values_in left.now.items) (values_in right.now.items) }
-    ensures size { met_size result ≡ 2 * sum_by weight left.now.items + 1 }
+fn inner_items<'d>(left: &'d Vec<Data>, right: &'d Vec<Data>) -> Met<DataLeft<'d>>
+    ensures same { met_same rest_same result ≡ values_same (values_in left.now.items) (values_in right.now.items) }
+    ensures size { met_size data_left result ≡ 2 * sum_by weight left.now.items + 1 }
 {
-    Met::Inner(*left.allocator(), Rest::Items(left, right))
+    Met::Inner(*left.allocator(), DataLeft::Items(left, right))
 }
 
-fn inner_pairs<'d>(left: &'d Vec<(Data, Data)>, right: &'d Vec<(Data, Data)>) -> Met<'d>
-    ensures same { met_same result ≡ pairs_same (pairs_in left.now.items) (pairs_in right.now.items) }
-    ensures size { met_size result ≡ 2 * sum_by pair_weight left.now.items + 1 }
+fn inner_pairs<'d>(left: &'d Vec<(Data, Data)>, right: &'d Vec<(Data, Data)>) -> Met<DataLeft<'d>>
+    ensures same { met_same rest_same result ≡ pairs_same (pairs_in left.now.items) (pairs_in right.now.items) }
+    ensures size { met_size data_left result ≡ 2 * sum_by pair_weight left.now.items + 1 }
 {
-    Met::Inner(*left.allocator(), Rest::Pairs(left, right))
+    Met::Inner(*left.allocator(), DataLeft::Pairs(left, right))
 }
 
-fn inner_members<'d>(left: &'d Vec<(String, Data)>, right: &'d Vec<(String, Data)>) -> Met<'d>
-    ensures same { met_same result ≡ members_same (members_in left.now.items) (members_in right.now.items) }
-    ensures size { met_size result ≡ 2 * sum_by member_weight left.now.items + 1 }
+fn inner_members<'d>(
+    left: &'d Vec<(String, Data)>,
+    right: &'d Vec<(String, Data)>,
+) -> Met<DataLeft<'d>>
+    ensures same { met_same rest_same result ≡ members_same (members_in left.now.items) (members_in right.now.items) }
+    ensures size { met_size data_left result ≡ 2 * sum_by member_weight left.now.items + 1 }
 {
-    Met::Inner(*left.allocator(), Rest::Members(left, right))
+    Met::Inner(*left.allocator(), DataLeft::Members(left, right))
 }

@@ -4,7 +4,7 @@ ghost use Rattle.qs_data.specs.Equality.{data_same};
 ghost use Rattle.qs_data.specs.EqualityLaws.{data_per, data_equivalence};
 ghost use Rattle.qs_data.specs.Views.{data_of};
 
-use crate::comparing::equal_data;
+use crate::comparing::meet;
 
 /// A value as a querystring carries it.
 ///
@@ -57,7 +57,7 @@ impl PartialEq for Data {
     ghost laws = { on_per data_of data_per };
 
     fn eq(&self, other: &Data) -> bool {
-        equal_data(self, other)
+        meet(self, other).is_same()
     }
 }
 

@@ -15,6 +15,7 @@ pub mod BehindKeys
 pub mod Items
 pub mod Equality
 pub mod Rests
+pub mod MetNodes
 pub mod Growing
 pub mod SmallItems
 pub mod Ordered

@@ -23,3 +23,4 @@ pub mod NodeCount
 pub mod Equality
 pub mod EqualityLaws
 pub mod Comparing
+pub mod Meeting

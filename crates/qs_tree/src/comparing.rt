@@ -1,54 +1,69 @@
-//! How trees are compared: by a loop, so that no depth is too much for the stack.
+//! How nested values are compared: by a loop, so that no depth is too much for the stack.
 //!
-//! The loop goes down into the first nodes that have others in them, and what stands behind those waits on the heap.
-ghost use Rattle.std.specs.Prelude.{◌≡◌, ◌+◌, ◌<◌, ◌≤◌, ◌&&◌, true, IsTrue};
-ghost use Rattle.std.specs.List.{list_all, sum_by};
-ghost use Rattle.qs_spec.specs.Segment.{is_same_segment};
-ghost use Rattle.qs_tree.specs.Equality.{tree_same};
-ghost use Rattle.qs_tree.specs.NodeCount.{node_count};
-ghost use Rattle.qs_tree.specs.Comparing.{is_done, rest_same, rest_size, met_same, met_size, IsNext};
-ghost use Rattle.qs_tree.specs.declared.comparing.Rest.TheVariants.{Entries, Items};
-ghost use Rattle.qs_tree.specs.Views.{segment_of_key, tree_of};
+//! The loop goes down into the first parts that have others in them, and what stands behind those waits on the heap. It compares trees, and
+//! is public for crates that compare nested values of their own: such a crate has a type for what is left of two values, makes it a
+//! [`Rest`], and asks [`Met::is_same`].
 
-use crate::key::Key;
-use crate::value::ParsedValue;
+ghost use Rattle.std.specs.Prelude.{◌≡◌, ℕ, ◌+◌, ◌≤◌, ◌&&◌, Bool, true, IsTrue};
+ghost use Rattle.std.specs.List.{list_all, sum_by};
+ghost use Rattle.qs_tree.specs.Comparing.{met_same, rest_size, IsNext};
+
 use std::alloc::Global;
 
-/// What is left to compare: entries or items of one tree beside those of another.
-#[derive(Clone, Copy)]
-pub(crate) enum Rest<'t, 'qs> {
-    Entries(&'t [(Key<'qs>, ParsedValue<'qs>)], &'t [(Key<'qs>, ParsedValue<'qs>)]),
-    Items(&'t [ParsedValue<'qs>], &'t [ParsedValue<'qs>]),
+/// What is left to compare of two values, part by part.
+pub trait Rest: Copy {
+    // All that is left is the same.
+    ghost same: { Self → Bool };
+
+    // How much is left of the first value. It gets less with each part, and by one more where the part has others in it.
+    ghost size: { Self → ℕ };
+
+    // Nothing is left.
+    ghost done: { Self → Bool };
+
+    /// Whether nothing is left.
+    fn is_empty(self) -> bool
+        ensures same { IsTrue result → same self ≡ true }
+        ensures exact { result ≡ done self };
+
+    /// What the first two parts are to each other, and what is left behind them. Nothing where nothing is left.
+    ///
+    /// Parts that have others in them aren't looked into: those are what [`Met::Inner`] leaves to compare.
+    fn next(self) -> Option<(Met<Self>, Self)>
+        ensures { IsNext same size self result };
 }
 
-/// What two nodes are to each other.
-enum Met<'t, 'qs> {
+/// What two values, or parts of them, are to each other.
+#[derive(Clone, Copy)]
+pub enum Met<R> {
     /// They differ.
     Different,
     /// They are the same.
     Same,
     /// They are the same where this is, which came from that allocator.
-    Inner(Global, Rest<'t, 'qs>),
+    Inner(Global, R),
 }
 
-/// Whether two nodes are the same but for who owns the bytes.
-///
-/// Takes memory for what waits to be compared, level by level, and none where a level ends with the node that has others in it. What
-/// finds no memory is compared by calls.
-pub(crate) fn equal_nodes<'t, 'qs>(left: &'t ParsedValue<'qs>, right: &'t ParsedValue<'qs>) -> bool
-    ensures { result ≡ tree_same (tree_of left.now) (tree_of right.now) }
-{
-    match meet(left, right) {
-        Met::Different => false,
-        Met::Same => true,
-        Met::Inner(alloc, rest) => equal_rests(alloc, rest),
+impl<R: Rest> Met<R> {
+    /// Whether the two are the same.
+    ///
+    /// Takes memory for what waits to be compared, level by level, and none where a level ends with the part that has others in it. What
+    /// finds no memory is compared by calls.
+    pub fn is_same(self) -> bool
+        ensures { result ≡ met_same R.same self }
+    {
+        match self {
+            Met::Different => false,
+            Met::Same => true,
+            Met::Inner(alloc, rest) => equal_rests(alloc, rest),
+        }
     }
 }
 
-/// Whether all that is left is the same. Takes memory as [`equal_nodes`] does.
+/// Whether all that is left is the same. Takes memory as [`Met::is_same`] does.
 #[cycle(comparing)]
-pub(crate) fn equal_rests<'t, 'qs>(alloc: Global, whole: Rest<'t, 'qs>) -> bool
-    ensures { result ≡ rest_same whole.entry }
+pub fn equal_rests<R: Rest>(alloc: Global, whole: R) -> bool
+    ensures { result ≡ R.same whole }
 {
     let mut rest = whole;
     let mut waiting = Vec::new(alloc);
@@ -75,9 +90,9 @@ pub(crate) fn equal_rests<'t, 'qs>(alloc: Global, whole: Rest<'t, 'qs>) -> bool
 
 /// Puts what is left with what waits. Where there is no memory, compares it now, and answers whether it is the same.
 #[cycle(comparing)]
-fn later<'t, 'qs>(waiting: &mut Vec<Rest<'t, 'qs>>, rest: Rest<'t, 'qs>) -> bool
-    ensures same { result && list_all rest_same waiting.new.items ≡ rest_same rest.entry && list_all rest_same waiting.old.items }
-    ensures size { sum_by rest_size waiting.new.items ≤ sum_by rest_size waiting.old.items + rest_size rest.entry }
+fn later<R: Rest>(waiting: &mut Vec<R>, rest: R) -> bool
+    ensures same { result && list_all R.same waiting.new.items ≡ R.same rest && list_all R.same waiting.old.items }
+    ensures size { sum_by (rest_size R.size) waiting.new.items ≤ sum_by (rest_size R.size) waiting.old.items + rest_size R.size rest }
 {
     if rest.is_empty() {
         return true;
@@ -85,94 +100,5 @@ fn later<'t, 'qs>(waiting: &mut Vec<Rest<'t, 'qs>>, rest: Rest<'t, 'qs>) -> bool
     match waiting.push(rest) {
         Ok(()) => true,
         Err(_) => equal_rests(*waiting.allocator(), rest),
-    }
-}
-
-impl<'t, 'qs> Rest<'t, 'qs> {
-    /// Nothing is left.
-    fn is_empty(self) -> bool
-        ensures same { IsTrue result → rest_same self.entry ≡ true }
-        ensures exact { result ≡ is_done self.entry }
-    {
-        match self {
-            Rest::Entries(left, right) => left.is_empty() && right.is_empty(),
-            Rest::Items(left, right) => left.is_empty() && right.is_empty(),
-        }
-    }
-
-    /// What the first two nodes are to each other, and what is left behind them. Nothing where nothing is left.
-    fn next(self) -> Option<(Met<'t, 'qs>, Rest<'t, 'qs>)>
-        ensures { IsNext self.entry result }
-    {
-        match self {
-            Rest::Entries(left, right) => next_entry(left, right),
-            Rest::Items(left, right) => next_item(left, right),
-        }
-    }
-}
-
-fn next_entry<'t, 'qs>(
-    left: &'t [(Key<'qs>, ParsedValue<'qs>)],
-    right: &'t [(Key<'qs>, ParsedValue<'qs>)],
-) -> Option<(Met<'t, 'qs>, Rest<'t, 'qs>)>
-    ensures { IsNext (Entries left.entry right.entry) result }
-{
-    match (left.split_first(), right.split_first()) {
-        (None, None) => None,
-        (Some((entry, left)), Some((other, right))) => {
-            Some((meet_entries(entry, other), Rest::Entries(left, right)))
-        }
-        _ => Some((Met::Different, Rest::Entries(left, right))),
-    }
-}
-
-fn next_item<'t, 'qs>(
-    left: &'t [ParsedValue<'qs>],
-    right: &'t [ParsedValue<'qs>],
-) -> Option<(Met<'t, 'qs>, Rest<'t, 'qs>)>
-    ensures { IsNext (Items left.entry right.entry) result }
-{
-    match (left.split_first(), right.split_first()) {
-        (None, None) => None,
-        (Some((item, left)), Some((other, right))) => {
-            Some((meet(item, other), Rest::Items(left, right)))
-        }
-        _ => Some((Met::Different, Rest::Items(left, right))),
-    }
-}
-
-// Entries with different keys differ, whatever their nodes are.
-fn meet_entries<'t, 'qs>(
-    entry: &'t (Key<'qs>, ParsedValue<'qs>),
-    other: &'t (Key<'qs>, ParsedValue<'qs>),
-) -> Met<'t, 'qs>
-    ensures same { met_same result ≡ (is_same_segment (segment_of_key entry.now.0) (segment_of_key other.now.0) && tree_same (tree_of entry.now.1) (tree_of other.now.1)) }
-    ensures size { met_size result < node_count (tree_of entry.now.1) }
-{
-    if entry.0 == other.0 {
-        meet(&entry.1, &other.1)
-    } else {
-        Met::Different
-    }
-}
-
-// Leaves are compared at once.
-fn meet<'t, 'qs>(left: &'t ParsedValue<'qs>, right: &'t ParsedValue<'qs>) -> Met<'t, 'qs>
-    ensures same { met_same result ≡ tree_same (tree_of left.now) (tree_of right.now) }
-    ensures size { met_size result < node_count (tree_of left.now) }
-{
-    match (left, right) {
-        (ParsedValue::Map(left), ParsedValue::Map(right)) => {
-            let rest = Rest::Entries(left.map.as_slice(), right.map.as_slice());
-            Met::Inner(left.map.allocator(), rest)
-        }
-        (ParsedValue::Sequence(left), ParsedValue::Sequence(right)) => {
-            Met::Inner(*left.allocator(), Rest::Items(left, right))
-        }
-        (ParsedValue::String(left), ParsedValue::String(right)) if left == right => Met::Same,
-        (ParsedValue::Null, ParsedValue::Null) => Met::Same,
-        (ParsedValue::NoValue, ParsedValue::NoValue) => Met::Same,
-        (ParsedValue::Uninitialized, ParsedValue::Uninitialized) => Met::Same,
-        _ => Met::Different,
     }
 }

@@ -2,7 +2,7 @@
 #![tactic(auto)]
 
 mod add;
-mod comparing;
+pub mod comparing;
 mod config;
 mod conflict;
 mod cursor;
@@ -16,6 +16,7 @@ mod entries;
 mod error;
 mod key;
 mod map;
+mod meeting;
 mod pair;
 mod parsing;
 mod raw;

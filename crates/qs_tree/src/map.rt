@@ -13,10 +13,11 @@ ghost use Rattle.qs_tree.specs.Places.{IsHit, IsGap, binary_digits};
 ghost use Rattle.qs_tree.specs.Views as view;
 ghost use Rattle.qs_tree.specs.Views.{segment_of_key, step_of_key, tree_of, entries_of_map, map_pairs, take_out};
 
-use crate::comparing::{Rest, equal_rests};
+use crate::comparing::equal_rests;
 use crate::dropping::drop_tree;
 use crate::entries::Entries;
 use crate::key::Key;
+use crate::meeting::NodesLeft;
 use crate::steps::Steps;
 use crate::value::ParsedValue;
 use std::alloc::Global;
@@ -137,7 +138,7 @@ impl<'qs> PartialEq for ParsedMap<'qs> {
     ghost laws = { on_per entries_of_map entries_per };
 
     fn eq(&self, other: &ParsedMap<'qs>) -> bool {
-        let rest = Rest::Entries(self.map.as_slice(), other.map.as_slice());
+        let rest = NodesLeft::Entries(self.map.as_slice(), other.map.as_slice());
         equal_rests(self.map.allocator(), rest)
     }
 }

@@ -4,8 +4,8 @@ ghost use Rattle.qs_tree.specs.Equality.{tree_same};
 ghost use Rattle.qs_tree.specs.EqualityLaws.{trees_per};
 ghost use Rattle.qs_tree.specs.Views.{tree_of};
 
-use crate::comparing::equal_nodes;
 use crate::map::ParsedMap;
+use crate::meeting::meet;
 use std::borrow::CowSlice;
 
 /// A node of the tree that a querystring stands for. It may borrow its texts and keys from the input.
@@ -35,6 +35,6 @@ impl<'qs> PartialEq for ParsedValue<'qs> {
     ghost laws = { on_per tree_of trees_per };
 
     fn eq(&self, other: &ParsedValue<'qs>) -> bool {
-        equal_nodes(self, other)
+        meet(self, other).is_same()
     }
 }

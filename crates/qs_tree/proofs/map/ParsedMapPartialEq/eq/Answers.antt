@@ -1,6 +1,6 @@
 use Rattle.std.proofs.Common.{ap₂, ◌∙◌}
 use Rattle.qs_tree.specs.Equality.{entries_same}
-use Rattle.qs_tree.proofs.Rests.{entries_in}
+use Rattle.qs_tree.proofs.MetNodes.{entries_in}
 use Rattle.qs_tree.proofs.map.ParsedMapPartialEq.eq.Goals as goal
 
 pub returns : goal.returns

@@ -1,7 +1,7 @@
 use Rattle.std.proofs.Common.{ap₂, sym}
 use Rattle.qs_tree.specs.Equality.{tree_same}
-use Rattle.qs_tree.proofs.Rests.{node_with}
-use Rattle.qs_tree.proofs.comparing.meet.Goals as goal
+use Rattle.qs_tree.proofs.MetNodes.{node_with}
+use Rattle.qs_tree.proofs.meeting.meet.Goals as goal
 
 pub returns-in-Map-Map-clause-same : goal.returns-in-Map-Map-clause-same
 returns-in-Map-Map-clause-same c =

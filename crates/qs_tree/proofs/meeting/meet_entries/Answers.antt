@@ -3,7 +3,7 @@ use Rattle.qs_spec.specs.Segment.{is_same_segment}
 use Rattle.qs_tree.specs.Equality.{tree_same}
 use Rattle.qs_tree.specs.Views.{segment_of_key, tree_of}
 use Rattle.qs_tree.proofs.Equality.{key_eq-segments}
-use Rattle.qs_tree.proofs.comparing.meet_entries.Goals as goal
+use Rattle.qs_tree.proofs.meeting.meet_entries.Goals as goal
 
 pub returns-then-eq-clause-same : goal.returns-then-eq-clause-same
 returns-then-eq-clause-same c =

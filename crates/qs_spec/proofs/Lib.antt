@@ -15,6 +15,7 @@ pub mod Empty
 pub mod Scan
 pub mod Sound
 pub mod Reorder
+pub mod Unmarked
 pub mod Places
 pub mod Marks
 pub mod Alike

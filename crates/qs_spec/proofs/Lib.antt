@@ -16,6 +16,7 @@ pub mod Scan
 pub mod Sound
 pub mod Reorder
 pub mod Unmarked
+pub mod Ties
 pub mod Places
 pub mod Marks
 pub mod Alike

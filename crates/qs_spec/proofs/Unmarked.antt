@@ -103,7 +103,7 @@ placed_both : {X Z : Type 0} (c : X → Z) (f g : Z → Option Z) (h k : X → O
     → (x : X) → option_and_then g (option_map c (h x)) ≡ option_and_then f (option_map c (k x))
 placed_both c f g h k d e m x = placed c g k e (h x) ∙ ap (option_map c) (m x) ∙ sym (placed c f h d (k x))
 
--- entries before, at and behind a segment
+-- an update before, at and behind the first entry
 at_less : (s : Step) (f : Tree → Option Tree) (k : Segment) (m : Bool) (t : Tree) (es : Entries) → compare_segments s.seg k ≡ Less → update s f (entry k m t es) ≡ option_map (λ u. entry s.seg s.mark u (entry k m t es)) (f uninitialized)
 at_less s f k m t es e = ap (λ o. update_by o s f k m t es (update s f es)) e
 
@@ -113,7 +113,7 @@ at_equal s f k m t es e = ap (λ o. update_by o s f k m t es (update s f es)) e
 at_greater : (s : Step) (f : Tree → Option Tree) (k : Segment) (m : Bool) (t : Tree) (es : Entries) → compare_segments s.seg k ≡ Greater → update s f (entry k m t es) ≡ option_map (entry k m t) (update s f es)
 at_greater s f k m t es e = ap (λ o. update_by o s f k m t es (update s f es)) e
 
--- f then g is g then f, by what each comes to first
+-- two changes commute, by what each of them gives alone
 met : (f g : Entries → Option Entries) (es : Entries) (x y : Option Entries) → f es ≡ x → g es ≡ y → option_and_then g x ≡ option_and_then f y → option_and_then g (f es) ≡ option_and_then f (g es)
 met f g es x y d e h = ap (option_and_then g) d ∙ h ∙ sym (ap (option_and_then f) e)
 

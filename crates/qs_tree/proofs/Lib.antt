@@ -18,6 +18,8 @@ pub mod Rests
 pub mod MetNodes
 pub mod Growing
 pub mod SmallItems
+pub mod Spots
+pub mod SortedSpots
 pub mod Ordered
 pub mod Drafting
 pub mod Levels

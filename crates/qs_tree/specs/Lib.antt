@@ -15,6 +15,8 @@ pub mod Reading
 pub mod Conflict
 pub mod Adding
 pub mod Parsing
+pub mod Weight
+pub mod Sorting
 pub mod Small
 pub mod Draft
 pub mod Descent

@@ -163,6 +163,13 @@ impl<'qs> Cursor<'qs> {
         self.ended
     }
 
+    /// Whether the input is read in form mode.
+    pub fn is_form(&self) -> bool
+        ensures { result ≡ self.now.form }
+    {
+        self.form
+    }
+
     /// The place before what is left.
     pub fn place(&self) -> Place<'qs>
         ensures rest { result.rest.now ≡ self.now.rest.now }

@@ -22,13 +22,16 @@ mod parsing;
 mod raw;
 mod reading;
 mod refusal;
+mod sampling;
 mod search;
 mod settling;
+mod sorting;
 mod steps;
 mod tree_laws;
 #[cfg(test)]
 mod tree_tests;
 mod value;
+mod weight;
 
 pub use crate::config::{ArrayFormat, Config, DuplicateKeyBehavior};
 pub use crate::decoding::decode;

@@ -27,6 +27,8 @@ use crate::error::{Error, Result};
 use crate::pair::Pair;
 use crate::reading::{Fault, Item, read_item};
 use crate::refusal::{Site, conflict_error, unread_error};
+use crate::sampling::unordered_level;
+use crate::sorting::{list, sorted_tree};
 use crate::steps::Steps;
 use crate::value::ParsedValue;
 use std::alloc::Global;
@@ -103,8 +105,55 @@ pub fn parse_with<'qs>(
     tree
 }
 
-/// Adds the pairs of an input to a tree, one after the other.
+/// The tree of an input's pairs: they are sorted first where there are many and their keys come in no order, or else added one after
+/// the other.
 fn scan<'qs>(
+    alloc: Global,
+    cursor: &mut Cursor<'qs>,
+    input: &'qs [u8],
+    max_depth: usize,
+) -> Result<ParsedValue<'qs>>
+    requires whole { cursor.old.rest.now ≡ input.now }
+    requires end { KnowsEnd cursor.old }
+    ensures answer { Answers tree_of (grown max_depth (left cursor.old) uninitialized) (length input.entry.now + 1) result }
+    ensures steps { in_all cursor.new ≡ in_all cursor.old }
+    ensures end { IfOk result (λ _. in_all cursor.new ≡ cursor.new.steps) }
+    ensures no_memory { TakesNoMemory cursor.old.rest.now → IsOk result }
+{
+    match unordered_level(alloc, input, cursor.is_form(), max_depth) {
+        Some(level) => scan_sorted(alloc, cursor, input, max_depth, level),
+        None => scan_in_turn(alloc, cursor, input, max_depth),
+    }
+}
+
+/// Reads the pairs of an input and then adds them to a tree, in the order of their keys at a level. Where that can't be, they are added
+/// in the order of the input.
+///
+/// Each pair is read again when it is added, by a cursor of its own whose steps aren't counted.
+fn scan_sorted<'qs>(
+    alloc: Global,
+    cursor: &mut Cursor<'qs>,
+    input: &'qs [u8],
+    max_depth: usize,
+    level: usize,
+) -> Result<ParsedValue<'qs>>
+    requires within { length cursor.old.rest.now ≤ length input.now }
+    requires end { KnowsEnd cursor.old }
+    ensures answer { Answers tree_of (grown max_depth (left cursor.old) uninitialized) (length input.entry.now + 1) result }
+    ensures steps { in_all cursor.new ≡ in_all cursor.old }
+    ensures end { IfOk result (λ _. in_all cursor.new ≡ cursor.new.steps) }
+{
+    let start = cursor.place();
+    if let Some(spots) = list(alloc, cursor, max_depth, level)? {
+        if let Some(tree) = sorted_tree(alloc, spots, max_depth) {
+            return Ok(tree);
+        }
+    }
+    scan_in_turn(alloc, &mut start.again(), input, max_depth)
+}
+
+/// Adds the pairs of an input to a tree, one after the other.
+fn scan_in_turn<'qs>(
     alloc: Global,
     cursor: &mut Cursor<'qs>,
     input: &'qs [u8],

@@ -18,6 +18,7 @@ use crate::raw::{read_key, read_leaf};
 use std::alloc::{AllocFailed, Global};
 
 /// What was read.
+#[derive(Drop)]
 pub(crate) enum Item<'qs> {
     /// Nothing: the end was met.
     End,
@@ -27,6 +28,7 @@ pub(crate) enum Item<'qs> {
 }
 
 /// Why nothing was read.
+#[derive(Drop)]
 pub(crate) enum Fault<'qs> {
     Unread(Unread<'qs>),
     /// Memory ran out.
@@ -34,6 +36,7 @@ pub(crate) enum Fault<'qs> {
 }
 
 /// A pair that can't be read to its end.
+#[derive(Drop)]
 pub(crate) struct Unread<'qs> {
     /// The keys up to the place where it can't go on.
     pub path: Vec<Key<'qs>>,

@@ -4,7 +4,7 @@ use Rattle.qs_tree.specs.Draft.{draft_tree}
 use Rattle.qs_tree.specs.Cursor.{left, in_all, KnowsEnd}
 use Rattle.qs_tree.specs.Parsing.{grown}
 use Rattle.qs_tree.specs.Small.{TakesNoMemory, StaysSmall}
-use Rattle.qs_tree.proofs.parsing.scan.Given as goal
+use Rattle.qs_tree.proofs.parsing.scan_in_turn.Given as goal
 
 -- the pairs that are left make of the tree what all pairs make of none
 abbrev pub invariant-loop-item : goal.invariant-loop-item

@@ -8,7 +8,7 @@ use Rattle.qs_tree.specs.Parsing.{grown}
 use Rattle.qs_tree.specs.Small.{ReadsSmall}
 use Rattle.qs_tree.proofs.Views.{draft_tree-Fresh}
 use Rattle.qs_tree.proofs.SmallItems.{small_start, small_end, small_goes, small_ampersand, small_fresh}
-use Rattle.qs_tree.proofs.parsing.scan.Goals as goal
+use Rattle.qs_tree.proofs.parsing.scan_in_turn.Goals as goal
 
 pub returns-in-End-clause-end : goal.returns-in-End-clause-end
 returns-in-End-clause-end c =

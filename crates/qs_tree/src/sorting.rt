@@ -1,0 +1,128 @@
+//! Large inputs whose keys come in no order: where their pairs begin, and their tree, to which the pairs are added in the order of one key.
+ghost use Rattle.std.specs.Prelude.{◌≡◌, List, map, not, IfOk, IfSome, Some};
+ghost use Rattle.std.specs.List.{AllByRecursion, list_all};
+ghost use Rattle.qs_spec.specs.Grammar as grammar;
+ghost use Rattle.qs_spec.specs.Tree.Tree.{uninitialized};
+ghost use Rattle.qs_spec.specs.toward.Reading.{pairs_of};
+ghost use Rattle.qs_spec.specs.toward.InPlace.{add_all};
+ghost use Rattle.qs_tree.specs.Error.{OnlyOutOfMemory};
+ghost use Rattle.qs_tree.specs.Views.{key_mark, tree_of};
+ghost use Rattle.qs_tree.specs.Pairs.{path_of};
+ghost use Rattle.qs_tree.specs.Cursor.{left, in_all, KnowsEnd};
+ghost use Rattle.qs_tree.specs.Draft.{draft_tree};
+ghost use Rattle.qs_tree.specs.Sorting.{pair_at, AreSpots, IsWeighed, Lists, OneMore};
+
+use crate::add::add_pair;
+use crate::cursor::{Cursor, Place};
+use crate::draft::Draft;
+use crate::error::Result;
+use crate::key::Key;
+use crate::pair::Pair;
+use crate::reading::{Fault, Item, read_item};
+use crate::value::ParsedValue;
+use crate::weight::weight;
+use std::alloc::{AllocFailed, Global};
+
+/// Where a pair begins, and what it is sorted by.
+#[derive(Drop)]
+pub(crate) struct Spot<'qs> {
+    weight: u128,
+    place: Place<'qs>,
+}
+
+/// Reads the pairs of an input to their end, and answers where each begins and what its key at a level weighs. None where a pair can't
+/// be read, or has no such key, or has an owned key.
+pub(crate) fn list<'qs>(
+    alloc: Global,
+    cursor: &mut Cursor<'qs>,
+    max_depth: usize,
+    level: usize,
+) -> Result<Option<Vec<Spot<'qs>>>>
+    requires { KnowsEnd cursor.old }
+    ensures spots { IfOk result (Lists max_depth level (left cursor.old)) }
+    ensures errors { OnlyOutOfMemory result }
+    ensures steps { in_all cursor.new ≡ in_all cursor.old }
+    ensures end { (pairs : List grammar.Pair) → pairs_of max_depth (left cursor.old) ≡ Some pairs → IfOk result (λ _. in_all cursor.new ≡ cursor.new.steps) }
+{
+    let mut spots = Some(Vec::new(alloc));
+    loop {
+        let place = cursor.place();
+        match read_item(alloc, cursor, max_depth) {
+            Ok(Item::End) => return Ok(spots),
+            Ok(Item::Ampersand) => {}
+            Ok(Item::Pair(pair)) => spots = with_spot(spots, place, pair, level)?,
+            Err(Fault::Unread(_unread)) => return Ok(None),
+            Err(Fault::Other(error)) => return Err(error),
+        }
+    }
+}
+
+// The spots and one more, where this pair begins.
+fn with_spot<'qs>(
+    spots: Option<Vec<Spot<'qs>>>,
+    place: Place<'qs>,
+    pair: Pair<'qs>,
+    level: usize,
+) -> Result<Option<Vec<Spot<'qs>>>, AllocFailed<Spot<'qs>>>
+    ensures { IfOk result (OneMore level place.entry (path_of pair.entry.path.items) spots.entry) }
+{
+    let Some(mut spots) = spots else {
+        return Ok(None);
+    };
+    let Some(weight) = weight_at(pair.path.as_slice(), level) else {
+        return Ok(None);
+    };
+    spots.push(Spot { weight, place })?;
+    Ok(Some(spots))
+}
+
+// What the key at a level weighs, where all keys are borrowed.
+fn weight_at(path: &[Key<'_>], level: usize) -> Option<u128>
+    ensures { IfSome result (IsWeighed level (path_of path.now)) }
+{
+    if !are_borrowed(path) {
+        return None;
+    }
+    let key = path.get(level)?;
+    Some(weight(key))
+}
+
+// Whether no key is a text of its own.
+fn are_borrowed(path: &[Key<'_>]) -> bool
+    ensures { result ≡ list_all (λ key. not (key_mark key)) path.now }
+{
+    path.iter().all(|key| !key.is_owned())
+}
+
+/// The tree of the pairs that begin at some spots, to which they were added in the order of their weights. None where they are in
+/// conflict in that order, or memory ran out.
+pub(crate) fn sorted_tree<'qs>(
+    alloc: Global,
+    mut spots: Vec<Spot<'qs>>,
+    max_depth: usize,
+) -> Option<ParsedValue<'qs>>
+    requires { AreSpots max_depth spots.items }
+    ensures { IfSome result (λ value. add_all (map (pair_at max_depth) spots.entry.items) uninitialized ≡ Some (tree_of value)) }
+{
+    spots.sort_by_key(|spot| spot.weight).ok()?;
+    tree_in_turn(alloc, spots, max_depth)?.settled(alloc).ok()
+}
+
+// The tree of the pairs that begin at some spots, added one after the other.
+fn tree_in_turn<'qs>(alloc: Global, spots: Vec<Spot<'qs>>, max_depth: usize) -> Option<Draft<'qs>>
+    requires { AreSpots max_depth spots.items }
+    ensures { IfSome result (λ tree. add_all (map (pair_at max_depth) spots.entry.items) uninitialized ≡ Some (draft_tree tree)) }
+{
+    let mut tree = Draft::Fresh;
+    for spot in spots {
+        let mut cursor = spot.place.again();
+        let Ok(Item::Pair(pair)) = read_item(alloc, &mut cursor, max_depth) else {
+            return None;
+        };
+        match add_pair(alloc, tree, pair) {
+            Ok(more) => tree = more,
+            Err(_) => return None,
+        }
+    }
+    Some(tree)
+}

@@ -4,6 +4,7 @@ mod conflicts;
 mod counts;
 mod form_mode;
 mod keys;
+mod large;
 mod nesting;
 mod orders;
 mod pushes;

@@ -45,12 +45,12 @@ differ s t d = by (is_same_segment s t) refl
     by true e = absurd (never (sym (eq-eqb (weight_of s) (weight_of t) (ap weight_of (same_segment s t e))) ∙ d))
     by false e = e
 
-module _ (depth level : ℕ) where
-  pair_of_spot : (s : Spot) (spot : IsSpot depth level s) → pair_at depth s ≡ spot.pair
+module _ (form : Bool) (depth level : ℕ) where
+  pair_of_spot : (s : Spot) (spot : IsSpot form depth level s) → pair_at form depth s ≡ spot.pair
   pair_of_spot s spot = ap first spot.found
 
   -- pairs of different weights don't meet
-  apart : (a b : Spot) → IsSpot depth level a → IsSpot depth level b → (a.weight == b.weight) ≡ false → meet (pair_at depth a) (pair_at depth b) ≡ false
+  apart : (a b : Spot) → IsSpot form depth level a → IsSpot form depth level b → (a.weight == b.weight) ≡ false → meet (pair_at form depth a) (pair_at form depth b) ≡ false
   apart a b x y d =
       let p = x.weighed in
       let q = y.weighed in
@@ -59,20 +59,20 @@ module _ (depth level : ℕ) where
       ∙ ap₂ (λ m n. m || n) (no_front level x.pair.path y.pair.path p.step q.step p.there q.there other)
       (no_front level y.pair.path x.pair.path q.step p.step q.there p.there (same_turned q.step.seg p.step.seg ∙ other))
 
-  unmarked_spots : (spots : List Spot) → AllByRecursion (IsSpot depth level) spots → AreUnmarked (map (pair_at depth) spots)
+  unmarked_spots : (spots : List Spot) → AllByRecursion (IsSpot form depth level) spots → AreUnmarked (map (pair_at form depth) spots)
   unmarked_spots [] all = tt
   unmarked_spots (s ∷ spots) all = (subst IsUnmarked (sym (pair_of_spot s all.0)) all.0.weighed.unmarked, unmarked_spots spots all.1)
 
   -- what the pairs of sorted spots make, those of the spots make
-  pub sorted_same : (spots sorted : List Spot) (t : Tree) → AllByRecursion (IsSpot depth level) spots → AllByRecursion (IsSpot depth level) sorted
-      → IsStableByKey (λ s. s.weight) nat_cmp spots sorted → add_all (map (pair_at depth) sorted) uninitialized ≡ Some t → add_all (map (pair_at depth) spots) uninitialized ≡ Some t
+  pub sorted_same : (spots sorted : List Spot) (t : Tree) → AllByRecursion (IsSpot form depth level) spots → AllByRecursion (IsSpot form depth level) sorted
+      → IsStableByKey (λ s. s.weight) nat_cmp spots sorted → add_all (map (pair_at form depth) sorted) uninitialized ≡ Some t → add_all (map (pair_at form depth) spots) uninitialized ≡ Some t
   sorted_same spots sorted t all others stable added =
-      added_unmarked (map (pair_at depth) spots) (map (pair_at depth) sorted) t
-      (swaps_of_ties (pair_at depth) (λ s. s.weight) (IsSpot depth level) apart spots sorted all others stable) (unmarked_spots spots all) added
+      added_unmarked (map (pair_at form depth) spots) (map (pair_at form depth) sorted) t
+      (swaps_of_ties (pair_at form depth) (λ s. s.weight) (IsSpot form depth level) apart spots sorted all others stable) (unmarked_spots spots all) added
 
   -- a sort leaves spots what they are
-  pub sorted_spots : (spots sorted : List Spot) → IsPermutation spots sorted → AllByRecursion (IsSpot depth level) spots → AllByRecursion (IsSpot depth level) sorted
-  sorted_spots spots sorted p all = recursion_from_All (IsSpot depth level) sorted (All-permutation (IsSpot depth level) spots sorted p (All-from_recursion (IsSpot depth level) spots all))
+  pub sorted_spots : (spots sorted : List Spot) → IsPermutation spots sorted → AllByRecursion (IsSpot form depth level) spots → AllByRecursion (IsSpot form depth level) sorted
+  sorted_spots spots sorted p all = recursion_from_All (IsSpot form depth level) sorted (All-permutation (IsSpot form depth level) spots sorted p (All-from_recursion (IsSpot form depth level) spots all))
 
 -- the value that was laid out of a tree
 pub laid_out : {E : Type 0} (made : Option Tree) (tree : Tree) (r : Result ParsedValue E) (o : Option ParsedValue) → o ≡ result_ok r → IfOk r (λ v. tree_of v ≡ tree) → made ≡ Some tree

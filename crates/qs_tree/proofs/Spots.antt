@@ -12,7 +12,6 @@ use Rattle.qs_tree.specs.declared.key.Key.{Key}
 use Rattle.qs_tree.specs.Views.{key_mark, step_of_key}
 use Rattle.qs_tree.specs.Pairs.{path_of}
 use Rattle.qs_spec.specs.toward.Reading.{pairs_of}
-use Rattle.qs_tree.specs.declared.cursor.Place.{Place}
 use Rattle.qs_tree.specs.declared.sorting.Spot.{Spot}
 use Rattle.qs_tree.specs.Sorting.{first, pair_at, IsWeighed, IsSpot, Lists, ListsUpTo, OneMore}
 
@@ -21,59 +20,59 @@ all_more : {X : Type 0} (P : X → Type 0) (xs : List X) (x : X) → AllByRecurs
 all_more P [] x all p = (p, tt)
 all_more P (y ∷ xs) x all p = (all.0, all_more P xs x all.1 p)
 
-module _ (depth level : ℕ) (ts us : List Token) where
+module _ (form : Bool) (depth level : ℕ) (ts us : List Token) where
   -- where the rest is no pairs, the whole is none
   abbrev pub Fails : Type 0
   Fails = pairs_of depth us ≡ None → pairs_of depth ts ≡ None
 
-  pub all_listed : (spots : Option (Vec Spot Global)) → pairs_of depth us ≡ Some [] → ListsUpTo depth level ts us spots → Lists depth level ts spots
+  pub all_listed : (spots : Option (Vec Spot Global)) → pairs_of depth us ≡ Some [] → ListsUpTo form depth level ts us spots → Lists form depth level ts spots
   all_listed None end lists = tt
   all_listed (Some v) end lists =
       let (found, all) = lists [] end in
-      (found ∙ ap Some (append-nil (map (pair_at depth) v.items)), all)
+      (found ∙ ap Some (append-nil (map (pair_at form depth) v.items)), all)
 
-module _ (depth level : ℕ) (ts us ws : List Token) where
-  pub lists_same : (spots : Option (Vec Spot Global)) → pairs_of depth us ≡ pairs_of depth ws → ListsUpTo depth level ts us spots → ListsUpTo depth level ts ws spots
+module _ (form : Bool) (depth level : ℕ) (ts us ws : List Token) where
+  pub lists_same : (spots : Option (Vec Spot Global)) → pairs_of depth us ≡ pairs_of depth ws → ListsUpTo form depth level ts us spots → ListsUpTo form depth level ts ws spots
   lists_same None e lists = tt
   lists_same (Some v) e lists = λ ps found. lists ps (e ∙ found)
 
   module _ (p : Pair) (e : pairs_of depth us ≡ option_map (λ ps. p ∷ ps) (pairs_of depth ws)) where
-    pub fails_more : Fails depth level ts us → Fails depth level ts ws
+    pub fails_more : Fails form depth level ts us → Fails form depth level ts ws
     fails_more fails none = fails (e ∙ ap (option_map (λ ps. p ∷ ps)) none)
 
-    more : (place : Place) → us ≡ tokens place.form place.rest.now → (items new : List Spot) (s : Spot) → new ≡ items ++ s ∷ [] → s.place ≡ place → IsWeighed level p.path s.weight
-        → ((ps : List Pair) → pairs_of depth us ≡ Some ps → (pairs_of depth ts ≡ Some (map (pair_at depth) items ++ ps)) × AllByRecursion (IsSpot depth level) items)
-        → (ps : List Pair) → pairs_of depth ws ≡ Some ps → (pairs_of depth ts ≡ Some (map (pair_at depth) new ++ ps)) × AllByRecursion (IsSpot depth level) new
-    more place at items new s is place_is weighed lists ps found =
+    more : (rest : List ℕ) → us ≡ tokens form rest → (items new : List Spot) (s : Spot) → new ≡ items ++ s ∷ [] → s.rest.now ≡ rest → IsWeighed level p.path s.weight
+        → ((ps : List Pair) → pairs_of depth us ≡ Some ps → (pairs_of depth ts ≡ Some (map (pair_at form depth) items ++ ps)) × AllByRecursion (IsSpot form depth level) items)
+        → (ps : List Pair) → pairs_of depth ws ≡ Some ps → (pairs_of depth ts ≡ Some (map (pair_at form depth) new ++ ps)) × AllByRecursion (IsSpot form depth level) new
+    more rest at items new s is rest_is weighed lists ps found =
         let here : pairs_of depth us ≡ Some (p ∷ ps) = e ∙ ap (option_map (λ qs. p ∷ qs)) found in
-        let there : pairs_of depth (tokens s.place.form s.place.rest.now) ≡ Some (p ∷ ps) = ap (λ q. pairs_of depth (tokens q.form q.rest.now)) place_is ∙ ap (pairs_of depth) (sym at) ∙ here in
+        let there : pairs_of depth (tokens form s.rest.now) ≡ Some (p ∷ ps) = ap (λ q. pairs_of depth (tokens form q)) rest_is ∙ ap (pairs_of depth) (sym at) ∙ here in
         let (whole, all) = lists (p ∷ ps) here in
-        let shift : map (pair_at depth) items ++ p ∷ ps ≡ map (pair_at depth) (items ++ s ∷ []) ++ ps =
-        ap (λ q. map (pair_at depth) items ++ q ∷ ps) (sym (ap first there)) ∙ sym (append_assoc (map (pair_at depth) items) (pair_at depth s ∷ []) ps) ∙ ap (λ l. l ++ ps) (sym (map-append (pair_at depth) items (s ∷ []))) in (
-          whole ∙ ap Some (shift ∙ ap (λ l. map (pair_at depth) l ++ ps) (sym is)),
-          subst (AllByRecursion (IsSpot depth level)) (sym is) (all_more (IsSpot depth level) items s all (record { pair = p; others = ps; found = there; weighed = weighed })),
+        let shift : map (pair_at form depth) items ++ p ∷ ps ≡ map (pair_at form depth) (items ++ s ∷ []) ++ ps =
+        ap (λ q. map (pair_at form depth) items ++ q ∷ ps) (sym (ap first there)) ∙ sym (append_assoc (map (pair_at form depth) items) (pair_at form depth s ∷ []) ps) ∙ ap (λ l. l ++ ps) (sym (map-append (pair_at form depth) items (s ∷ []))) in (
+          whole ∙ ap Some (shift ∙ ap (λ l. map (pair_at form depth) l ++ ps) (sym is)),
+          subst (AllByRecursion (IsSpot form depth level)) (sym is) (all_more (IsSpot form depth level) items s all (record { pair = p; others = ps; found = there; weighed = weighed })),
         )
 
-    pub lists_more : (place : Place) → us ≡ tokens place.form place.rest.now → (before after : Option (Vec Spot Global)) → OneMore level place p.path before after
-        → ListsUpTo depth level ts us before → ListsUpTo depth level ts ws after
-    lists_more place at before None one lists = tt
-    lists_more place at None (Some v) one lists = absurd one
-    lists_more place at (Some w) (Some v) one lists = more place at w.items v.items one.0 one.1 one.2 one.3 lists
+    pub lists_more : (rest : List ℕ) → us ≡ tokens form rest → (before after : Option (Vec Spot Global)) → OneMore level rest p.path before after
+        → ListsUpTo form depth level ts us before → ListsUpTo form depth level ts ws after
+    lists_more rest at before None one lists = tt
+    lists_more rest at None (Some v) one lists = absurd one
+    lists_more rest at (Some w) (Some v) one lists = more rest at w.items v.items one.0 one.1 one.2 one.3 lists
 
-module _ (depth : ℕ) where
+module _ (form : Bool) (depth : ℕ) where
   -- what is read again at a spot is its pair
-  pub is_pair_at : (level : ℕ) (s : Spot) (p : Pair) (ws : List Token) → IsSpot depth level s
-      → pairs_of depth (tokens s.place.form s.place.rest.now) ≡ option_map (λ ps. p ∷ ps) (pairs_of depth ws) → pair_at depth s ≡ p
+  pub is_pair_at : (level : ℕ) (s : Spot) (p : Pair) (ws : List Token) → IsSpot form depth level s
+      → pairs_of depth (tokens form s.rest.now) ≡ option_map (λ ps. p ∷ ps) (pairs_of depth ws) → pair_at form depth s ≡ p
   is_pair_at level s p ws spot e = by (pairs_of depth ws) e
     where
-      by : (o : Option (List Pair)) → pairs_of depth (tokens s.place.form s.place.rest.now) ≡ option_map (λ ps. p ∷ ps) o → pair_at depth s ≡ p
+      by : (o : Option (List Pair)) → pairs_of depth (tokens form s.rest.now) ≡ option_map (λ ps. p ∷ ps) o → pair_at form depth s ≡ p
       by None e = absurd (none-some _ (sym e ∙ spot.found))
       by (Some qs) e = ap first e
 
-  pub added_at : (s : Spot) (spots : List Spot) (p : Pair) (t u : Tree) → pair_at depth s ≡ p → add p.path p.push p.leaf t ≡ Some u
-      → add_all (map (pair_at depth) (s ∷ spots)) t ≡ add_all (map (pair_at depth) spots) u
+  pub added_at : (s : Spot) (spots : List Spot) (p : Pair) (t u : Tree) → pair_at form depth s ≡ p → add p.path p.push p.leaf t ≡ Some u
+      → add_all (map (pair_at form depth) (s ∷ spots)) t ≡ add_all (map (pair_at form depth) spots) u
   added_at s spots p t u e a =
-      ap (λ q. option_and_then (add_all (map (pair_at depth) spots)) (add q.path q.push q.leaf t)) e ∙ ap (option_and_then (add_all (map (pair_at depth) spots))) a
+      ap (λ q. option_and_then (add_all (map (pair_at form depth) spots)) (add q.path q.push q.leaf t)) e ∙ ap (option_and_then (add_all (map (pair_at form depth) spots))) a
 
 -- borrowed keys have no mark
 pub borrowed_path : (keys : List Key) → list_all (λ key. not (key_mark key)) keys ≡ true → AllByRecursion (λ s. IsFalse s.mark) (path_of keys)

@@ -1,5 +1,5 @@
 -- Where the pairs of an input begin, and in which order they are added.
-use Rattle.std.specs.Prelude.{◌≡◌, ℕ, List, [], ◌∷◌, ◌++◌, map, slice_get, Option, Some, None, ⊤, IsFalse}
+use Rattle.std.specs.Prelude.{◌≡◌, ℕ, Bool, List, [], ◌∷◌, ◌++◌, map, slice_get, Option, Some, None, ⊤, IsFalse}
 use Rattle.std.specs.List.{AllByRecursion}
 use Rattle.std.specs.declared.vec.Vec.{Vec}
 use Rattle.std.specs.declared.alloc.Global.{Global}
@@ -8,7 +8,6 @@ use Rattle.qs_spec.specs.Segment.{Step}
 use Rattle.qs_spec.specs.Leaf.Leaf.{NoValue}
 use Rattle.qs_spec.specs.Grammar.{Pair, plain}
 use Rattle.qs_spec.specs.toward.Reading.{pairs_of}
-use Rattle.qs_tree.specs.declared.cursor.Place.{Place}
 use Rattle.qs_tree.specs.declared.sorting.Spot.{Spot}
 use Rattle.qs_tree.specs.Weight.{weight_of}
 
@@ -19,8 +18,8 @@ first (Some []) = plain [] NoValue
 first None = plain [] NoValue
 
 -- the pair that begins at a spot
-abbrev pub pair_at : ℕ → Spot → Pair
-pair_at depth s = first (pairs_of depth (tokens s.place.form s.place.rest.now))
+abbrev pub pair_at : Bool → ℕ → Spot → Pair
+pair_at form depth s = first (pairs_of depth (tokens form s.rest.now))
 
 -- The weight is that of the path's key at a level, and no key of the path is marked.
 pub record IsWeighed (level : ℕ) (path : List Step) (number : ℕ) : Type 0 where
@@ -30,29 +29,29 @@ pub record IsWeighed (level : ℕ) (path : List Step) (number : ℕ) : Type 0 wh
   pub unmarked : AllByRecursion (λ s. IsFalse s.mark) path
 
 -- A pair begins at the spot, and this is its weight.
-pub record IsSpot (depth level : ℕ) (s : Spot) : Type 0 where
+pub record IsSpot (form : Bool) (depth level : ℕ) (s : Spot) : Type 0 where
   pub pair : Pair
   pub others : List Pair
-  pub found : pairs_of depth (tokens s.place.form s.place.rest.now) ≡ Some (pair ∷ others)
+  pub found : pairs_of depth (tokens form s.rest.now) ≡ Some (pair ∷ others)
   pub weighed : IsWeighed level pair.path s.weight
 
 -- pairs begin at all spots, which are weighed at one level
-abbrev pub AreSpots : ℕ → List Spot → Type 0
-AreSpots depth spots = (level : ℕ) × AllByRecursion (IsSpot depth level) spots
+abbrev pub AreSpots : Bool → ℕ → List Spot → Type 0
+AreSpots form depth spots = (level : ℕ) × AllByRecursion (IsSpot form depth level) spots
 
 -- the pairs of some tokens begin at these spots, if there are spots
-abbrev pub Lists : ℕ → ℕ → List Token → Option (Vec Spot Global) → Type 0
-Lists depth level ts None = ⊤
-Lists depth level ts (Some v) = (pairs_of depth ts ≡ Some (map (pair_at depth) v.items)) × AllByRecursion (IsSpot depth level) v.items
+abbrev pub Lists : Bool → ℕ → ℕ → List Token → Option (Vec Spot Global) → Type 0
+Lists form depth level ts None = ⊤
+Lists form depth level ts (Some v) = (pairs_of depth ts ≡ Some (map (pair_at form depth) v.items)) × AllByRecursion (IsSpot form depth level) v.items
 
 -- the same, where other tokens are still to be read, if those are pairs
-abbrev pub ListsUpTo : ℕ → ℕ → List Token → List Token → Option (Vec Spot Global) → Type 0
-ListsUpTo depth level ts us None = ⊤
-ListsUpTo depth level ts us (Some v) = (ps : List Pair) → pairs_of depth us ≡ Some ps
-    → (pairs_of depth ts ≡ Some (map (pair_at depth) v.items ++ ps)) × AllByRecursion (IsSpot depth level) v.items
+abbrev pub ListsUpTo : Bool → ℕ → ℕ → List Token → List Token → Option (Vec Spot Global) → Type 0
+ListsUpTo form depth level ts us None = ⊤
+ListsUpTo form depth level ts us (Some v) = (ps : List Pair) → pairs_of depth us ≡ Some ps
+    → (pairs_of depth ts ≡ Some (map (pair_at form depth) v.items ++ ps)) × AllByRecursion (IsSpot form depth level) v.items
 
--- one spot more, of this place and the weight of this path; or none any more
-abbrev pub OneMore : ℕ → Place → List Step → Option (Vec Spot Global) → Option (Vec Spot Global) → Type 0
-OneMore level place path before None = ⊤
-OneMore level place path None (Some v) = ⊥
-OneMore level place path (Some before) (Some v) = (s : Spot) × (v.items ≡ before.items ++ s ∷ []) × (s.place ≡ place) × IsWeighed level path s.weight
+-- one spot more, where this is left, of the weight of this path; or none any more
+abbrev pub OneMore : ℕ → List ℕ → List Step → Option (Vec Spot Global) → Option (Vec Spot Global) → Type 0
+OneMore level rest path before None = ⊤
+OneMore level rest path None (Some v) = ⊥
+OneMore level rest path (Some before) (Some v) = (s : Spot) × (v.items ≡ before.items ++ s ∷ []) × (s.rest.now ≡ rest) × IsWeighed level path s.weight

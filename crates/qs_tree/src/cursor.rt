@@ -170,6 +170,13 @@ impl<'qs> Cursor<'qs> {
         self.form
     }
 
+    /// The bytes that are left. This is no look at them: who reads them takes a cursor of its own.
+    pub fn rest(&self) -> &'qs [u8]
+        ensures { result.now ≡ self.now.rest.now }
+    {
+        self.rest
+    }
+
     /// The place before what is left.
     pub fn place(&self) -> Place<'qs>
         ensures rest { result.rest.now ≡ self.now.rest.now }

@@ -46,6 +46,8 @@ use std::mem;
 /// Texts and keys without `+` and `%` are borrowed. Memory is taken for the others, for each path, map and sequence, and for an
 /// error's text; none for the empty input, for `&` alone, and for `=` with a value that holds no `&`, `+` or `%`. Each byte is
 /// read once, and each key is looked up in the map that it stands in, in comparisons that grow as the logarithm of its length.
+/// From 64 KiB on an input whose keys come in no order, as far as its first pairs tell, has its pairs sorted before they are added,
+/// for which they are read a second time.
 ///
 /// ```
 /// let tree = parse(alloc, b"a[b]=1&a[c]=x%20y", Config::new())?; // a map with a map under `a`
@@ -71,7 +73,9 @@ pub fn parse(alloc: Global, input: &[u8], config: Config) -> Result<ParsedValue<
 /// The same, and adds the steps to `steps`, after an error too: each byte that is read is one, and so is the look that meets the
 /// end, of which there is one. So an input that is accepted, the empty one too, takes its length and one.
 ///
-/// Where a conflict is told, the pair that has it is read once more, for its position. That isn't counted.
+/// Not counted are what is read again and what is looked at beforehand: the pair of a conflict that is told, for its position; the
+/// first 128 pairs of an input of 64 KiB or more; and, where those came in no order, each pair when it is added, and once more where
+/// sorted pairs can't be added.
 pub fn parse_with<'qs>(
     alloc: Global,
     steps: &mut Steps,
@@ -144,8 +148,9 @@ fn scan_sorted<'qs>(
     ensures end { IfOk result (λ _. in_all cursor.new ≡ cursor.new.steps) }
 {
     let start = cursor.place();
+    let form = cursor.is_form();
     if let Some(spots) = list(alloc, cursor, max_depth, level)? {
-        if let Some(tree) = sorted_tree(alloc, spots, max_depth) {
+        if let Some(tree) = sorted_tree(alloc, spots, form, max_depth) {
             return Ok(tree);
         }
     }

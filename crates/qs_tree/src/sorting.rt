@@ -13,12 +13,13 @@ ghost use Rattle.qs_tree.specs.Draft.{draft_tree};
 ghost use Rattle.qs_tree.specs.Sorting.{pair_at, AreSpots, IsWeighed, Lists, OneMore};
 
 use crate::add::add_pair;
-use crate::cursor::{Cursor, Place};
+use crate::cursor::Cursor;
 use crate::draft::Draft;
 use crate::error::Result;
 use crate::key::Key;
 use crate::pair::Pair;
 use crate::reading::{Fault, Item, read_item};
+use crate::steps::Steps;
 use crate::value::ParsedValue;
 use crate::weight::weight;
 use std::alloc::{AllocFailed, Global};
@@ -27,7 +28,8 @@ use std::alloc::{AllocFailed, Global};
 #[derive(Drop)]
 pub(crate) struct Spot<'qs> {
     weight: u128,
-    place: Place<'qs>,
+    /// What is left of the input there.
+    rest: &'qs [u8],
 }
 
 /// Reads the pairs of an input to their end, and answers where each begins and what its key at a level weighs. None where a pair can't
@@ -39,18 +41,18 @@ pub(crate) fn list<'qs>(
     level: usize,
 ) -> Result<Option<Vec<Spot<'qs>>>>
     requires { KnowsEnd cursor.old }
-    ensures spots { IfOk result (Lists max_depth level (left cursor.old)) }
+    ensures spots { IfOk result (Lists cursor.old.form max_depth level (left cursor.old)) }
     ensures errors { OnlyOutOfMemory result }
     ensures steps { in_all cursor.new ≡ in_all cursor.old }
     ensures end { (pairs : List grammar.Pair) → pairs_of max_depth (left cursor.old) ≡ Some pairs → IfOk result (λ _. in_all cursor.new ≡ cursor.new.steps) }
 {
     let mut spots = Some(Vec::new(alloc));
     loop {
-        let place = cursor.place();
+        let rest = cursor.rest();
         match read_item(alloc, cursor, max_depth) {
             Ok(Item::End) => return Ok(spots),
             Ok(Item::Ampersand) => {}
-            Ok(Item::Pair(pair)) => spots = with_spot(spots, place, pair, level)?,
+            Ok(Item::Pair(pair)) => spots = with_spot(spots, rest, pair, level)?,
             Err(Fault::Unread(_unread)) => return Ok(None),
             Err(Fault::Other(error)) => return Err(error),
         }
@@ -60,11 +62,11 @@ pub(crate) fn list<'qs>(
 // The spots and one more, where this pair begins.
 fn with_spot<'qs>(
     spots: Option<Vec<Spot<'qs>>>,
-    place: Place<'qs>,
+    rest: &'qs [u8],
     pair: Pair<'qs>,
     level: usize,
 ) -> Result<Option<Vec<Spot<'qs>>>, AllocFailed<Spot<'qs>>>
-    ensures { IfOk result (OneMore level place.entry (path_of pair.entry.path.items) spots.entry) }
+    ensures { IfOk result (OneMore level rest.now (path_of pair.entry.path.items) spots.entry) }
 {
     let Some(mut spots) = spots else {
         return Ok(None);
@@ -72,7 +74,7 @@ fn with_spot<'qs>(
     let Some(weight) = weight_at(pair.path.as_slice(), level) else {
         return Ok(None);
     };
-    spots.push(Spot { weight, place })?;
+    spots.push(Spot { weight, rest })?;
     Ok(Some(spots))
 }
 
@@ -99,23 +101,31 @@ fn are_borrowed(path: &[Key<'_>]) -> bool
 pub(crate) fn sorted_tree<'qs>(
     alloc: Global,
     mut spots: Vec<Spot<'qs>>,
+    form: bool,
     max_depth: usize,
 ) -> Option<ParsedValue<'qs>>
-    requires { AreSpots max_depth spots.items }
-    ensures { IfSome result (λ value. add_all (map (pair_at max_depth) spots.entry.items) uninitialized ≡ Some (tree_of value)) }
+    requires { AreSpots form max_depth spots.items }
+    ensures { IfSome result (λ value. add_all (map (pair_at form max_depth) spots.entry.items) uninitialized ≡ Some (tree_of value)) }
 {
     spots.sort_by_key(|spot| spot.weight).ok()?;
-    tree_in_turn(alloc, spots, max_depth)?.settled(alloc).ok()
+    tree_in_turn(alloc, spots, form, max_depth)?
+        .settled(alloc)
+        .ok()
 }
 
 // The tree of the pairs that begin at some spots, added one after the other.
-fn tree_in_turn<'qs>(alloc: Global, spots: Vec<Spot<'qs>>, max_depth: usize) -> Option<Draft<'qs>>
-    requires { AreSpots max_depth spots.items }
-    ensures { IfSome result (λ tree. add_all (map (pair_at max_depth) spots.entry.items) uninitialized ≡ Some (draft_tree tree)) }
+fn tree_in_turn<'qs>(
+    alloc: Global,
+    spots: Vec<Spot<'qs>>,
+    form: bool,
+    max_depth: usize,
+) -> Option<Draft<'qs>>
+    requires { AreSpots form max_depth spots.items }
+    ensures { IfSome result (λ tree. add_all (map (pair_at form max_depth) spots.entry.items) uninitialized ≡ Some (draft_tree tree)) }
 {
     let mut tree = Draft::Fresh;
     for spot in spots {
-        let mut cursor = spot.place.again();
+        let mut cursor = Cursor::new(spot.rest, form, Steps::new());
         let Ok(Item::Pair(pair)) = read_item(alloc, &mut cursor, max_depth) else {
             return None;
         };

@@ -1,15 +1,18 @@
-use Rattle.std.proofs.Common.{subst, ap₂, ◌∙◌, ◌+◌, length}
+use Rattle.std.proofs.Common.{sym, subst, ap₂, ◌∙◌, ◌+◌, length}
+use Rattle.std.specs.List.{AllByRecursion}
 use Rattle.qs_spec.specs.Token.{tokens}
 use Rattle.qs_spec.specs.Tree.Tree.{uninitialized}
 use Rattle.qs_tree.specs.Views.{tree_of}
 use Rattle.qs_tree.specs.Cursor.{left}
 use Rattle.qs_tree.specs.Parsing.{grown, Answers}
-use Rattle.qs_tree.specs.Sorting.{Lists}
+use Rattle.qs_tree.specs.Sorting.{IsSpot, Lists}
 use Rattle.qs_tree.proofs.Growing.{pairs_of_answer}
 use Rattle.qs_tree.proofs.parsing.scan_sorted.Goals as goal
 
 pub sorted_tree-requires : goal.sorted_tree-requires
-sorted_tree-requires c = (c.args.level, (subst (Lists c.args.max_depth c.args.level (left c.args.cursor.now)) c.in-Some.is c.in_ok-spots.ensures.spots).1)
+sorted_tree-requires c =
+    let spots = (subst (Lists c.args.cursor.now.form c.args.max_depth c.args.level (left c.args.cursor.now)) c.in-Some.is c.in_ok-spots.ensures.spots).1 in
+    (c.args.level, subst (λ form. AllByRecursion (IsSpot form c.args.max_depth c.args.level) c.in-Some.spots.items) (sym c.is_form-form.ensures) spots)
 
 pub returns-clause-answer : goal.returns-clause-answer
 returns-clause-answer c =

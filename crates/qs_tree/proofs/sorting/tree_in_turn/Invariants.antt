@@ -8,6 +8,6 @@ use Rattle.qs_tree.proofs.sorting.tree_in_turn.Given as goal
 -- the pairs that are left make of the tree what all make of none
 abbrev pub invariant-loop-spot : goal.invariant-loop-spot
 invariant-loop-spot l = record {
-  grows : add_all (map (pair_at l.max_depth) l.spot-iterator.rest.items) (draft_tree l.tree) ≡ add_all (map (pair_at l.max_depth) l.fn.spots.items) uninitialized;
-  spots : AreSpots l.max_depth l.spot-iterator.rest.items;
+  grows : add_all (map (pair_at l.form l.max_depth) l.spot-iterator.rest.items) (draft_tree l.tree) ≡ add_all (map (pair_at l.form l.max_depth) l.fn.spots.items) uninitialized;
+  spots : AreSpots l.form l.max_depth l.spot-iterator.rest.items;
 }

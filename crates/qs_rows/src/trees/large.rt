@@ -1,0 +1,133 @@
+//! Inputs of 8,192 keys in no order, whose pairs are sorted before they are added.
+
+use super::{
+    AllocError, Config, ENDED_IN_KEY, Fail, Global, SEQUENCE_AND_MAP, VALUE_AND_MAP, form,
+    refuse_bytes, tree,
+};
+use std::process::Abort;
+
+const KEYS: usize = 8_192;
+
+// Steps of this length, which is odd, come to each number below 8,192 once.
+const STEP: usize = 4_099;
+
+// The pairs `key0000=val0000`, `key4099=val4099` and so on, with these texts around each key, and `&` behind each value.
+fn shuffled(alloc: Global, before: &str, after: &str) -> Result<String, AllocError> {
+    let mut input = String::new(alloc);
+    for place in 0..KEYS {
+        let number = place * STEP % KEYS;
+        input.push_str(&format!(in alloc; "{before}key{number:04}{after}=val{number:04}&")?)?;
+    }
+    Ok(input)
+}
+
+// Their map as a line, with the entries that stand before and behind them.
+fn in_order(alloc: Global, before: &str, behind: &str) -> Result<String, AllocError> {
+    let mut line = String::from_str(alloc, "{")?;
+    line.push_str(before)?;
+    for number in 0..KEYS {
+        let comma = if number + 1 < KEYS { "," } else { "" };
+        line.push_str(&format!(in alloc; "'key{number:04}':'val{number:04}'{comma}")?)?;
+    }
+    line.push_str(behind)?;
+    line.push_str("}")?;
+    Ok(line)
+}
+
+// The pairs, with these behind them, have this tree.
+fn accept_behind(
+    rt: &impl Abort,
+    alloc: Global,
+    config: Config,
+    input: String,
+    more: &str,
+    wanted: &str,
+) -> Result<(), Fail> {
+    let mut input = input;
+    input.push_str(more)?;
+    let found = tree(alloc, config, input.as_bytes())?;
+    assert!(rt; found.as_str() == wanted, "{more}");
+    Ok(())
+}
+
+// The pairs, with these behind them, are refused at this position of what stands behind.
+fn refuse_behind(
+    rt: &impl Abort,
+    alloc: Global,
+    more: &str,
+    position: usize,
+    text: &str,
+) -> Result<(), Fail> {
+    let mut input = shuffled(alloc, "", "")?;
+    let len = input.len();
+    input.push_str(more)?;
+    refuse_bytes(
+        rt,
+        alloc,
+        Config::new(),
+        input.as_bytes(),
+        len + position,
+        text,
+    )
+}
+
+#[test]
+fn keys_at_the_root(rt: HostRuntime) -> Result<(), Fail> {
+    let alloc = rt.alloc();
+    let wanted = in_order(alloc, "", "")?;
+    let input = shuffled(alloc, "", "")?;
+    accept_behind(&rt, alloc, Config::new(), input, "", wanted.as_str())
+}
+
+#[test]
+fn keys_of_a_nested_map(rt: HostRuntime) -> Result<(), Fail> {
+    let alloc = rt.alloc();
+    let map = in_order(alloc, "", "")?;
+    let wanted = format!(in alloc; "{{'a':{map}}}")?;
+    let input = shuffled(alloc, "a[", "]")?;
+    accept_behind(&rt, alloc, Config::new(), input, "", wanted.as_str())?;
+    let input = shuffled(alloc, "a%5B", "%5D")?;
+    accept_behind(&rt, alloc, form(5), input, "", wanted.as_str())
+}
+
+// The pairs at one key keep their order.
+#[test]
+fn pairs_that_meet(rt: HostRuntime) -> Result<(), Fail> {
+    let alloc = rt.alloc();
+    let wanted = in_order(
+        alloc,
+        "'a':{'':'2','b':'1','d':'3'},'b':['2','1'],'c':['4','3'],",
+        ",'z':'0'",
+    )?;
+    let more = "z=0&a[b]=1&b=2&c[]=4&a[d]=3&b=1&a=2&c[]=3";
+    let input = shuffled(alloc, "", "")?;
+    accept_behind(&rt, alloc, Config::new(), input, more, wanted.as_str())
+}
+
+// An escaped key is the same key. Then nothing is sorted.
+#[test]
+fn an_escaped_key(rt: HostRuntime) -> Result<(), Fail> {
+    let alloc = rt.alloc();
+    let wanted = in_order(alloc, "'a':['1','2'],", "")?;
+    let input = shuffled(alloc, "", "")?;
+    accept_behind(
+        &rt,
+        alloc,
+        Config::new(),
+        input,
+        "a=1&%61=2",
+        wanted.as_str(),
+    )
+}
+
+// The first fault of the input is told, not the first of the sorted pairs.
+#[test]
+fn faults(rt: HostRuntime) -> Result<(), Fail> {
+    let alloc = rt.alloc();
+    refuse_behind(&rt, alloc, "a=1&a[b]=1", 7, VALUE_AND_MAP)?;
+    refuse_behind(&rt, alloc, "z=1&z[b]=1&a[]=1&a[b]=2", 7, VALUE_AND_MAP)?;
+    refuse_behind(&rt, alloc, "z[]=1&z[b]=2&a=1&a[b]=1", 9, SEQUENCE_AND_MAP)?;
+    refuse_behind(&rt, alloc, "a=1&a[b]=1&c[b", 7, VALUE_AND_MAP)?;
+    refuse_behind(&rt, alloc, "a[b", 4, ENDED_IN_KEY)?;
+    refuse_behind(&rt, alloc, "%61=1&a[b]=1", 9, VALUE_AND_MAP)
+}

@@ -136,3 +136,6 @@ fn tree_in_turn<'qs>(
     }
     Some(tree)
 }
+
+#[cfg(test)]
+mod tests;

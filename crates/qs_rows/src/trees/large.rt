@@ -26,7 +26,7 @@ fn in_order(alloc: Global, before: &str, behind: &str) -> Result<String, AllocEr
     let mut line = String::from_str(alloc, "{")?;
     line.push_str(before)?;
     for number in 0..KEYS {
-        let comma = if number + 1 < KEYS { "," } else { "" };
+        let comma = if number == KEYS - 1 { "" } else { "," };
         line.push_str(&format!(in alloc; "'key{number:04}':'val{number:04}'{comma}")?)?;
     }
     line.push_str(behind)?;
@@ -66,7 +66,7 @@ fn refuse_behind(
         alloc,
         Config::new(),
         input.as_bytes(),
-        len + position,
+        len.saturating_add(position),
         text,
     )
 }

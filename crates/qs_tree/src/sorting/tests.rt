@@ -1,0 +1,59 @@
+//! Which inputs are sorted.
+
+use super::{list, sorted_tree};
+use crate::cursor::Cursor;
+use crate::sampling::unordered_level;
+use crate::steps::Steps;
+use std::alloc::{AllocError, Global};
+use std::test::Fail;
+
+const KEYS: usize = 8_192;
+
+// Pairs, with the number of the key and what stands around it. Steps of an odd length come to each number below 8,192 once.
+fn pairs(alloc: Global, step: usize, before: &str, after: &str) -> Result<String, AllocError> {
+    let mut input = String::new(alloc);
+    for place in 0..KEYS {
+        let number = place.wrapping_mul(step) % KEYS;
+        input.push_str(&format!(in alloc; "{before}key{number:04}{after}=value&")?)?;
+    }
+    Ok(input)
+}
+
+#[test]
+fn inputs_that_are_sorted(rt: HostRuntime) -> Result<(), Fail> {
+    let alloc = rt.alloc();
+    let rows = [
+        ("", "", 0),
+        ("a[", "]", 1),
+        ("a[b][", "]", 2),
+        ("a[", "][b]", 1),
+    ];
+    for (before, after, level) in rows {
+        let input = pairs(alloc, 4_099, before, after)?;
+        assert_eq!(rt;
+            unordered_level(alloc, input.as_bytes(), false, 5),
+            Some(level),
+            "{before}"
+        );
+        let mut cursor = Cursor::new(input.as_bytes(), false, Steps::new());
+        let Ok(Some(spots)) = list(alloc, &mut cursor, 5, level) else {
+            return Err(Fail::from("not listed"));
+        };
+        assert_eq!(rt; spots.len(), KEYS);
+        assert!(rt; sorted_tree(alloc, spots, false, 5).is_some());
+    }
+    Ok(())
+}
+
+#[test]
+fn inputs_that_are_not(rt: HostRuntime) -> Result<(), Fail> {
+    let alloc = rt.alloc();
+    let in_order = pairs(alloc, 1, "", "")?;
+    assert_eq!(rt; unordered_level(alloc, in_order.as_bytes(), false, 5), None);
+    let shuffled = pairs(alloc, 4_099, "", "")?;
+    let small = &shuffled.as_bytes()[..60_000];
+    assert_eq!(rt; unordered_level(alloc, small, false, 5), None);
+    let mut cursor = Cursor::new(shuffled.as_bytes(), false, Steps::new());
+    assert!(rt; matches!(list(alloc, &mut cursor, 5, 1), Ok(None)));
+    Ok(())
+}

@@ -17,6 +17,7 @@ use Rattle.qs_spec.proofs.Order.{same_turned}
 use Rattle.qs_spec.proofs.TreeOf.{same_segment}
 use Rattle.qs_spec.proofs.Unmarked.{added_unmarked}
 use Rattle.qs_spec.proofs.Ties.{swaps_of_ties}
+use Rattle.qs_tree.specs.declared.sampling.Branch.{Branch}
 use Rattle.qs_tree.specs.declared.sorting.Spot.{Spot}
 use Rattle.qs_tree.specs.declared.value.ParsedValue.{ParsedValue}
 use Rattle.qs_tree.specs.Views.{tree_of}
@@ -35,44 +36,44 @@ no_front (suc level) (a ∷ p) (b ∷ q) s t e f d = never (is_same_segment a.se
     never false y e = refl
 
 -- segments of different weights differ
-differ : (s t : Segment) → (weight_of s == weight_of t) ≡ false → is_same_segment s t ≡ false
-differ s t d = by (is_same_segment s t) refl
+differ : (shared : ℕ) (s t : Segment) → (weight_of shared s == weight_of shared t) ≡ false → is_same_segment s t ≡ false
+differ shared s t d = by (is_same_segment s t) refl
   where
     never : true ≡ false → ⊥
     never e = cc
 
     by : (b : Bool) → is_same_segment s t ≡ b → is_same_segment s t ≡ false
-    by true e = absurd (never (sym (eq-eqb (weight_of s) (weight_of t) (ap weight_of (same_segment s t e))) ∙ d))
+    by true e = absurd (never (sym (eq-eqb (weight_of shared s) (weight_of shared t) (ap (weight_of shared) (same_segment s t e))) ∙ d))
     by false e = e
 
-module _ (form : Bool) (depth level : ℕ) where
-  pair_of_spot : (s : Spot) (spot : IsSpot form depth level s) → pair_at form depth s ≡ spot.pair
+module _ (form : Bool) (depth : ℕ) (branch : Branch) where
+  pair_of_spot : (s : Spot) (spot : IsSpot form depth branch s) → pair_at form depth s ≡ spot.pair
   pair_of_spot s spot = ap first spot.found
 
   -- pairs of different weights don't meet
-  apart : (a b : Spot) → IsSpot form depth level a → IsSpot form depth level b → (a.weight == b.weight) ≡ false → meet (pair_at form depth a) (pair_at form depth b) ≡ false
+  apart : (a b : Spot) → IsSpot form depth branch a → IsSpot form depth branch b → (a.weight == b.weight) ≡ false → meet (pair_at form depth a) (pair_at form depth b) ≡ false
   apart a b x y d =
       let p = x.weighed in
       let q = y.weighed in
-      let other : is_same_segment p.step.seg q.step.seg ≡ false = differ p.step.seg q.step.seg (sym (ap₂ (λ m n. m == n) p.weight q.weight) ∙ d) in
+      let other : is_same_segment p.step.seg q.step.seg ≡ false = differ branch.shared p.step.seg q.step.seg (sym (ap₂ (λ m n. m == n) p.weight q.weight) ∙ d) in
       ap₂ meet (pair_of_spot a x) (pair_of_spot b y)
-      ∙ ap₂ (λ m n. m || n) (no_front level x.pair.path y.pair.path p.step q.step p.there q.there other)
-      (no_front level y.pair.path x.pair.path q.step p.step q.there p.there (same_turned q.step.seg p.step.seg ∙ other))
+      ∙ ap₂ (λ m n. m || n) (no_front branch.level x.pair.path y.pair.path p.step q.step p.there q.there other)
+      (no_front branch.level y.pair.path x.pair.path q.step p.step q.there p.there (same_turned q.step.seg p.step.seg ∙ other))
 
-  unmarked_spots : (spots : List Spot) → AllByRecursion (IsSpot form depth level) spots → AreUnmarked (map (pair_at form depth) spots)
+  unmarked_spots : (spots : List Spot) → AllByRecursion (IsSpot form depth branch) spots → AreUnmarked (map (pair_at form depth) spots)
   unmarked_spots [] all = tt
   unmarked_spots (s ∷ spots) all = (subst IsUnmarked (sym (pair_of_spot s all.0)) all.0.weighed.unmarked, unmarked_spots spots all.1)
 
   -- what the pairs of sorted spots make, those of the spots make
-  pub sorted_same : (spots sorted : List Spot) (t : Tree) → AllByRecursion (IsSpot form depth level) spots → AllByRecursion (IsSpot form depth level) sorted
+  pub sorted_same : (spots sorted : List Spot) (t : Tree) → AllByRecursion (IsSpot form depth branch) spots → AllByRecursion (IsSpot form depth branch) sorted
       → IsStableByKey (λ s. s.weight) nat_cmp spots sorted → add_all (map (pair_at form depth) sorted) uninitialized ≡ Some t → add_all (map (pair_at form depth) spots) uninitialized ≡ Some t
   sorted_same spots sorted t all others stable added =
       added_unmarked (map (pair_at form depth) spots) (map (pair_at form depth) sorted) t
-      (swaps_of_ties (pair_at form depth) (λ s. s.weight) (IsSpot form depth level) apart spots sorted all others stable) (unmarked_spots spots all) added
+      (swaps_of_ties (pair_at form depth) (λ s. s.weight) (IsSpot form depth branch) apart spots sorted all others stable) (unmarked_spots spots all) added
 
   -- a sort leaves spots what they are
-  pub sorted_spots : (spots sorted : List Spot) → IsPermutation spots sorted → AllByRecursion (IsSpot form depth level) spots → AllByRecursion (IsSpot form depth level) sorted
-  sorted_spots spots sorted p all = recursion_from_All (IsSpot form depth level) sorted (All-permutation (IsSpot form depth level) spots sorted p (All-from_recursion (IsSpot form depth level) spots all))
+  pub sorted_spots : (spots sorted : List Spot) → IsPermutation spots sorted → AllByRecursion (IsSpot form depth branch) spots → AllByRecursion (IsSpot form depth branch) sorted
+  sorted_spots spots sorted p all = recursion_from_All (IsSpot form depth branch) sorted (All-permutation (IsSpot form depth branch) spots sorted p (All-from_recursion (IsSpot form depth branch) spots all))
 
 -- the value that was laid out of a tree
 pub laid_out : {E : Type 0} (made : Option Tree) (tree : Tree) (r : Result ParsedValue E) (o : Option ParsedValue) → o ≡ result_ok r → IfOk r (λ v. tree_of v ≡ tree) → made ≡ Some tree

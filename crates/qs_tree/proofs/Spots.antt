@@ -12,6 +12,7 @@ use Rattle.qs_tree.specs.declared.key.Key.{Key}
 use Rattle.qs_tree.specs.Views.{key_mark, step_of_key}
 use Rattle.qs_tree.specs.Pairs.{path_of}
 use Rattle.qs_spec.specs.toward.Reading.{pairs_of}
+use Rattle.qs_tree.specs.declared.sampling.Branch.{Branch}
 use Rattle.qs_tree.specs.declared.sorting.Spot.{Spot}
 use Rattle.qs_tree.specs.Sorting.{first, pair_at, IsWeighed, IsSpot, Lists, ListsUpTo, OneMore}
 
@@ -20,29 +21,29 @@ all_more : {X : Type 0} (P : X → Type 0) (xs : List X) (x : X) → AllByRecurs
 all_more P [] x all p = (p, tt)
 all_more P (y ∷ xs) x all p = (all.0, all_more P xs x all.1 p)
 
-module _ (form : Bool) (depth level : ℕ) (ts us : List Token) where
+module _ (form : Bool) (depth : ℕ) (branch : Branch) (ts us : List Token) where
   -- where the rest is no pairs, the whole is none
   abbrev pub Fails : Type 0
   Fails = pairs_of depth us ≡ None → pairs_of depth ts ≡ None
 
-  pub all_listed : (spots : Option (Vec Spot Global)) → pairs_of depth us ≡ Some [] → ListsUpTo form depth level ts us spots → Lists form depth level ts spots
+  pub all_listed : (spots : Option (Vec Spot Global)) → pairs_of depth us ≡ Some [] → ListsUpTo form depth branch ts us spots → Lists form depth branch ts spots
   all_listed None end lists = tt
   all_listed (Some v) end lists =
       let (found, all) = lists [] end in
       (found ∙ ap Some (append-nil (map (pair_at form depth) v.items)), all)
 
-module _ (form : Bool) (depth level : ℕ) (ts us ws : List Token) where
-  pub lists_same : (spots : Option (Vec Spot Global)) → pairs_of depth us ≡ pairs_of depth ws → ListsUpTo form depth level ts us spots → ListsUpTo form depth level ts ws spots
+module _ (form : Bool) (depth : ℕ) (branch : Branch) (ts us ws : List Token) where
+  pub lists_same : (spots : Option (Vec Spot Global)) → pairs_of depth us ≡ pairs_of depth ws → ListsUpTo form depth branch ts us spots → ListsUpTo form depth branch ts ws spots
   lists_same None e lists = tt
   lists_same (Some v) e lists = λ ps found. lists ps (e ∙ found)
 
   module _ (p : Pair) (e : pairs_of depth us ≡ option_map (λ ps. p ∷ ps) (pairs_of depth ws)) where
-    pub fails_more : Fails form depth level ts us → Fails form depth level ts ws
+    pub fails_more : Fails form depth branch ts us → Fails form depth branch ts ws
     fails_more fails none = fails (e ∙ ap (option_map (λ ps. p ∷ ps)) none)
 
-    more : (rest : List ℕ) → us ≡ tokens form rest → (items new : List Spot) (s : Spot) → new ≡ items ++ s ∷ [] → s.rest.now ≡ rest → IsWeighed level p.path s.weight
-        → ((ps : List Pair) → pairs_of depth us ≡ Some ps → (pairs_of depth ts ≡ Some (map (pair_at form depth) items ++ ps)) × AllByRecursion (IsSpot form depth level) items)
-        → (ps : List Pair) → pairs_of depth ws ≡ Some ps → (pairs_of depth ts ≡ Some (map (pair_at form depth) new ++ ps)) × AllByRecursion (IsSpot form depth level) new
+    more : (rest : List ℕ) → us ≡ tokens form rest → (items new : List Spot) (s : Spot) → new ≡ items ++ s ∷ [] → s.rest.now ≡ rest → IsWeighed branch p.path s.weight
+        → ((ps : List Pair) → pairs_of depth us ≡ Some ps → (pairs_of depth ts ≡ Some (map (pair_at form depth) items ++ ps)) × AllByRecursion (IsSpot form depth branch) items)
+        → (ps : List Pair) → pairs_of depth ws ≡ Some ps → (pairs_of depth ts ≡ Some (map (pair_at form depth) new ++ ps)) × AllByRecursion (IsSpot form depth branch) new
     more rest at items new s is rest_is weighed lists ps found =
         let here : pairs_of depth us ≡ Some (p ∷ ps) = e ∙ ap (option_map (λ qs. p ∷ qs)) found in
         let there : pairs_of depth (tokens form s.rest.now) ≡ Some (p ∷ ps) = ap (λ q. pairs_of depth (tokens form q)) rest_is ∙ ap (pairs_of depth) (sym at) ∙ here in
@@ -50,20 +51,20 @@ module _ (form : Bool) (depth level : ℕ) (ts us ws : List Token) where
         let shift : map (pair_at form depth) items ++ p ∷ ps ≡ map (pair_at form depth) (items ++ s ∷ []) ++ ps =
         ap (λ q. map (pair_at form depth) items ++ q ∷ ps) (sym (ap first there)) ∙ sym (append_assoc (map (pair_at form depth) items) (pair_at form depth s ∷ []) ps) ∙ ap (λ l. l ++ ps) (sym (map-append (pair_at form depth) items (s ∷ []))) in (
           whole ∙ ap Some (shift ∙ ap (λ l. map (pair_at form depth) l ++ ps) (sym is)),
-          subst (AllByRecursion (IsSpot form depth level)) (sym is) (all_more (IsSpot form depth level) items s all (record { pair = p; others = ps; found = there; weighed = weighed })),
+          subst (AllByRecursion (IsSpot form depth branch)) (sym is) (all_more (IsSpot form depth branch) items s all (record { pair = p; others = ps; found = there; weighed = weighed })),
         )
 
-    pub lists_more : (rest : List ℕ) → us ≡ tokens form rest → (before after : Option (Vec Spot Global)) → OneMore level rest p.path before after
-        → ListsUpTo form depth level ts us before → ListsUpTo form depth level ts ws after
+    pub lists_more : (rest : List ℕ) → us ≡ tokens form rest → (before after : Option (Vec Spot Global)) → OneMore branch rest p.path before after
+        → ListsUpTo form depth branch ts us before → ListsUpTo form depth branch ts ws after
     lists_more rest at before None one lists = tt
     lists_more rest at None (Some v) one lists = absurd one
     lists_more rest at (Some w) (Some v) one lists = more rest at w.items v.items one.0 one.1 one.2 one.3 lists
 
 module _ (form : Bool) (depth : ℕ) where
   -- what is read again at a spot is its pair
-  pub is_pair_at : (level : ℕ) (s : Spot) (p : Pair) (ws : List Token) → IsSpot form depth level s
+  pub is_pair_at : (branch : Branch) (s : Spot) (p : Pair) (ws : List Token) → IsSpot form depth branch s
       → pairs_of depth (tokens form s.rest.now) ≡ option_map (λ ps. p ∷ ps) (pairs_of depth ws) → pair_at form depth s ≡ p
-  is_pair_at level s p ws spot e = by (pairs_of depth ws) e
+  is_pair_at branch s p ws spot e = by (pairs_of depth ws) e
     where
       by : (o : Option (List Pair)) → pairs_of depth (tokens form s.rest.now) ≡ option_map (λ ps. p ∷ ps) o → pair_at form depth s ≡ p
       by None e = absurd (none-some _ (sym e ∙ spot.found))

@@ -8,6 +8,7 @@ use Rattle.qs_spec.specs.Segment.{Step}
 use Rattle.qs_spec.specs.Leaf.Leaf.{NoValue}
 use Rattle.qs_spec.specs.Grammar.{Pair, plain}
 use Rattle.qs_spec.specs.toward.Reading.{pairs_of}
+use Rattle.qs_tree.specs.declared.sampling.Branch.{Branch}
 use Rattle.qs_tree.specs.declared.sorting.Spot.{Spot}
 use Rattle.qs_tree.specs.Weight.{weight_of}
 
@@ -21,37 +22,37 @@ first None = plain [] NoValue
 abbrev pub pair_at : Bool → ℕ → Spot → Pair
 pair_at form depth s = first (pairs_of depth (tokens form s.rest.now))
 
--- The weight is that of the path's key at a level, and no key of the path is marked.
-pub record IsWeighed (level : ℕ) (path : List Step) (number : ℕ) : Type 0 where
+-- The weight is that of the path's key at a branch, and no key of the path is marked.
+pub record IsWeighed (branch : Branch) (path : List Step) (number : ℕ) : Type 0 where
   pub step : Step
-  pub there : slice_get path level ≡ Some step
-  pub weight : number ≡ weight_of step.seg
+  pub there : slice_get path branch.level ≡ Some step
+  pub weight : number ≡ weight_of branch.shared step.seg
   pub unmarked : AllByRecursion (λ s. IsFalse s.mark) path
 
 -- A pair begins at the spot, and this is its weight.
-pub record IsSpot (form : Bool) (depth level : ℕ) (s : Spot) : Type 0 where
+pub record IsSpot (form : Bool) (depth : ℕ) (branch : Branch) (s : Spot) : Type 0 where
   pub pair : Pair
   pub others : List Pair
   pub found : pairs_of depth (tokens form s.rest.now) ≡ Some (pair ∷ others)
-  pub weighed : IsWeighed level pair.path s.weight
+  pub weighed : IsWeighed branch pair.path s.weight
 
--- pairs begin at all spots, which are weighed at one level
+-- pairs begin at all spots, which are weighed at one branch
 abbrev pub AreSpots : Bool → ℕ → List Spot → Type 0
-AreSpots form depth spots = (level : ℕ) × AllByRecursion (IsSpot form depth level) spots
+AreSpots form depth spots = (branch : Branch) × AllByRecursion (IsSpot form depth branch) spots
 
 -- the pairs of some tokens begin at these spots, if there are spots
-abbrev pub Lists : Bool → ℕ → ℕ → List Token → Option (Vec Spot Global) → Type 0
-Lists form depth level ts None = ⊤
-Lists form depth level ts (Some v) = (pairs_of depth ts ≡ Some (map (pair_at form depth) v.items)) × AllByRecursion (IsSpot form depth level) v.items
+abbrev pub Lists : Bool → ℕ → Branch → List Token → Option (Vec Spot Global) → Type 0
+Lists form depth branch ts None = ⊤
+Lists form depth branch ts (Some v) = (pairs_of depth ts ≡ Some (map (pair_at form depth) v.items)) × AllByRecursion (IsSpot form depth branch) v.items
 
 -- the same, where other tokens are still to be read, if those are pairs
-abbrev pub ListsUpTo : Bool → ℕ → ℕ → List Token → List Token → Option (Vec Spot Global) → Type 0
-ListsUpTo form depth level ts us None = ⊤
-ListsUpTo form depth level ts us (Some v) = (ps : List Pair) → pairs_of depth us ≡ Some ps
-    → (pairs_of depth ts ≡ Some (map (pair_at form depth) v.items ++ ps)) × AllByRecursion (IsSpot form depth level) v.items
+abbrev pub ListsUpTo : Bool → ℕ → Branch → List Token → List Token → Option (Vec Spot Global) → Type 0
+ListsUpTo form depth branch ts us None = ⊤
+ListsUpTo form depth branch ts us (Some v) = (ps : List Pair) → pairs_of depth us ≡ Some ps
+    → (pairs_of depth ts ≡ Some (map (pair_at form depth) v.items ++ ps)) × AllByRecursion (IsSpot form depth branch) v.items
 
 -- one spot more, where this is left, of the weight of this path; or none any more
-abbrev pub OneMore : ℕ → List ℕ → List Step → Option (Vec Spot Global) → Option (Vec Spot Global) → Type 0
-OneMore level rest path before None = ⊤
-OneMore level rest path None (Some v) = ⊥
-OneMore level rest path (Some before) (Some v) = (s : Spot) × (v.items ≡ before.items ++ s ∷ []) × (s.rest.now ≡ rest) × IsWeighed level path s.weight
+abbrev pub OneMore : Branch → List ℕ → List Step → Option (Vec Spot Global) → Option (Vec Spot Global) → Type 0
+OneMore branch rest path before None = ⊤
+OneMore branch rest path None (Some v) = ⊥
+OneMore branch rest path (Some before) (Some v) = (s : Spot) × (v.items ≡ before.items ++ s ∷ []) × (s.rest.now ≡ rest) × IsWeighed branch path s.weight

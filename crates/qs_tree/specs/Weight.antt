@@ -1,10 +1,14 @@
 -- What pairs are sorted by.
-use Rattle.std.specs.Prelude.{ℕ, ◌-◌, take, length, replicate, ◌++◌}
+use Rattle.std.specs.Prelude.{ℕ, ◌-◌, List, take, drop, length, replicate, ◌++◌}
 use Rattle.std.specs.Int.{w128, from_be_bytes}
 use Rattle.qs_spec.specs.Segment.{Segment}
 use Rattle.qs_spec.specs.Segment.Segment.{Int, Str}
 
--- a number as it is; of a text the number that its first sixteen bytes are, the first byte highest, with zeros behind a shorter text
-abbrev pub weight_of : Segment → ℕ
-weight_of (Int n) = n
-weight_of (Str bytes) = from_be_bytes w128 (take 16 bytes ++ replicate (16 - length bytes) 0)
+-- the first sixteen bytes as a number, the first one highest, with zeros behind fewer
+abbrev pub front_of : List ℕ → ℕ
+front_of bytes = from_be_bytes w128 (take 16 bytes ++ replicate (16 - length bytes) 0)
+
+-- a number as it is; of a text its front behind so many bytes
+abbrev pub weight_of : ℕ → Segment → ℕ
+weight_of shared (Int n) = n
+weight_of shared (Str bytes) = front_of (drop shared bytes)

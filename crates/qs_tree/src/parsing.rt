@@ -27,7 +27,7 @@ use crate::error::{Error, Result};
 use crate::pair::Pair;
 use crate::reading::{Fault, Item, read_item};
 use crate::refusal::{Site, conflict_error, unread_error};
-use crate::sampling::unordered_level;
+use crate::sampling::{Branch, unordered_branch};
 use crate::sorting::{list, sorted_tree};
 use crate::steps::Steps;
 use crate::value::ParsedValue;
@@ -124,13 +124,13 @@ fn scan<'qs>(
     ensures end { IfOk result (λ _. in_all cursor.new ≡ cursor.new.steps) }
     ensures no_memory { TakesNoMemory cursor.old.rest.now → IsOk result }
 {
-    match unordered_level(alloc, input, cursor.is_form(), max_depth) {
-        Some(level) => scan_sorted(alloc, cursor, input, max_depth, level),
+    match unordered_branch(alloc, input, cursor.is_form(), max_depth) {
+        Some(branch) => scan_sorted(alloc, cursor, input, max_depth, branch),
         None => scan_in_turn(alloc, cursor, input, max_depth),
     }
 }
 
-/// Reads the pairs of an input and then adds them to a tree, in the order of their keys at a level. Where that can't be, they are added
+/// Reads the pairs of an input and then adds them to a tree, in the order of their keys at a branch. Where that can't be, they are added
 /// in the order of the input.
 ///
 /// Each pair is read again when it is added, by a cursor of its own whose steps aren't counted.
@@ -139,7 +139,7 @@ fn scan_sorted<'qs>(
     cursor: &mut Cursor<'qs>,
     input: &'qs [u8],
     max_depth: usize,
-    level: usize,
+    branch: Branch,
 ) -> Result<ParsedValue<'qs>>
     requires within { length cursor.old.rest.now ≤ length input.now }
     requires end { KnowsEnd cursor.old }
@@ -149,7 +149,7 @@ fn scan_sorted<'qs>(
 {
     let start = cursor.place();
     let form = cursor.is_form();
-    if let Some(spots) = list(alloc, cursor, max_depth, level)? {
+    if let Some(spots) = list(alloc, cursor, max_depth, branch)? {
         if let Some(tree) = sorted_tree(alloc, spots, form, max_depth) {
             return Ok(tree);
         }

@@ -5,9 +5,11 @@ ghost use Rattle.qs_tree.specs.Small.{TakesNoMemory};
 use crate::add::add_pair;
 use crate::cursor::Cursor;
 use crate::draft::{Draft, DraftMap};
+use crate::key::Key;
 use crate::reading::{Item, read_item};
 use crate::steps::Steps;
 use std::alloc::Global;
+use std::collections::BTreeMap;
 
 /// From so many bytes on an input is looked at.
 const LARGE: usize = 65536;
@@ -18,25 +20,34 @@ const SAMPLE: usize = 128;
 /// On so many levels, from the root on, a search tree is looked for. One that stands deeper isn't found.
 const LEVELS: usize = 16;
 
-/// At which level the paths of a large input branch, where their keys come in no order as far as its first pairs tell: how many
-/// maps of one key stand above the first with several, where that has become a search tree.
+/// Where the paths of an input branch.
+#[derive(Clone, Copy, Debug, PartialEq, Eq)]
+pub(crate) struct Branch {
+    /// The level of the keys that differ: how many maps of one key stand above theirs.
+    pub level: usize,
+    /// With how many same bytes those keys begin, where they are texts.
+    pub shared: usize,
+}
+
+/// Where the paths of a large input branch, if its keys come in no order there, as far as its first pairs tell: at the first map
+/// with several keys, where that has become a search tree.
 ///
 /// `None` for a small input, for one that begins with `&` or `=`, where the first pairs hold a fault or are not so many, and
 /// where the first map with several keys is still a vector, or stands too deep. The answer decides only the way in which the
 /// pairs are added, not the tree that they make.
-pub(crate) fn unordered_level(
+pub(crate) fn unordered_branch(
     alloc: Global,
     input: &[u8],
     form: bool,
     max_depth: usize,
-) -> Option<usize>
+) -> Option<Branch>
     ensures { TakesNoMemory input.now → result ≡ None }
 {
     if input.len() < LARGE || matches!(input[0], b'&' | b'=') {
         return None;
     }
     let tree = sample(alloc, input, form, max_depth)?;
-    search_tree_level(&tree)
+    branch_of(&tree)
 }
 
 // The tree of the first pairs, or `None` where not so many can be read and added. Its steps aren't counted.
@@ -58,12 +69,15 @@ fn sample<'qs>(
     Some(tree)
 }
 
-// How many maps of one key stand above the first that has become a search tree, if that has.
-fn search_tree_level(tree: &Draft<'_>) -> Option<usize> {
+// Where the first map with several keys stands, if it has become a search tree, and what its keys share.
+fn branch_of(tree: &Draft<'_>) -> Option<Branch> {
     let mut node = tree;
     for level in 0..LEVELS {
         match node {
-            Draft::Map(DraftMap::Tree(_)) => return Some(level),
+            Draft::Map(DraftMap::Tree(map)) => {
+                let shared = shared_bytes(map);
+                return Some(Branch { level, shared });
+            }
             Draft::Map(DraftMap::Vector(entries)) => match entries.as_slice() {
                 [(_, below)] => node = below,
                 _ => return None,
@@ -72,4 +86,21 @@ fn search_tree_level(tree: &Draft<'_>) -> Option<usize> {
         }
     }
     None
+}
+
+// With how many same bytes the first key and the last begin, and so all between them; none where one is a number.
+fn shared_bytes(map: &BTreeMap<Key<'_>, Draft<'_>>) -> usize {
+    let (Some((Key::String(first), _)), Some((Key::String(last), _))) = (
+        map.first_key_value(),
+        map.last_key_value(),
+    ) else {
+        return 0;
+    };
+    let (first, last) = (first.as_slice(), last.as_slice());
+    for (place, (byte, other)) in first.iter().zip(last).enumerate() {
+        if byte != other {
+            return place;
+        }
+    }
+    first.len().min(last.len())
 }

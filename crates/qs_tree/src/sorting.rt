@@ -19,6 +19,7 @@ use crate::error::Result;
 use crate::key::Key;
 use crate::pair::Pair;
 use crate::reading::{Fault, Item, read_item};
+use crate::sampling::Branch;
 use crate::steps::Steps;
 use crate::value::ParsedValue;
 use crate::weight::weight;
@@ -32,16 +33,16 @@ pub(crate) struct Spot<'qs> {
     rest: &'qs [u8],
 }
 
-/// Reads the pairs of an input to their end, and answers where each begins and what its key at a level weighs. None where a pair can't
+/// Reads the pairs of an input to their end, and answers where each begins and what its key at a branch weighs. None where a pair can't
 /// be read, or has no such key, or has an owned key.
 pub(crate) fn list<'qs>(
     alloc: Global,
     cursor: &mut Cursor<'qs>,
     max_depth: usize,
-    level: usize,
+    branch: Branch,
 ) -> Result<Option<Vec<Spot<'qs>>>>
     requires { KnowsEnd cursor.old }
-    ensures spots { IfOk result (Lists cursor.old.form max_depth level (left cursor.old)) }
+    ensures spots { IfOk result (Lists cursor.old.form max_depth branch (left cursor.old)) }
     ensures errors { OnlyOutOfMemory result }
     ensures steps { in_all cursor.new ≡ in_all cursor.old }
     ensures end { (pairs : List grammar.Pair) → pairs_of max_depth (left cursor.old) ≡ Some pairs → IfOk result (λ _. in_all cursor.new ≡ cursor.new.steps) }
@@ -52,7 +53,7 @@ pub(crate) fn list<'qs>(
         match read_item(alloc, cursor, max_depth) {
             Ok(Item::End) => return Ok(spots),
             Ok(Item::Ampersand) => {}
-            Ok(Item::Pair(pair)) => spots = with_spot(spots, rest, pair, level)?,
+            Ok(Item::Pair(pair)) => spots = with_spot(spots, rest, pair, branch)?,
             Err(Fault::Unread(_unread)) => return Ok(None),
             Err(Fault::Other(error)) => return Err(error),
         }
@@ -64,29 +65,29 @@ fn with_spot<'qs>(
     spots: Option<Vec<Spot<'qs>>>,
     rest: &'qs [u8],
     pair: Pair<'qs>,
-    level: usize,
+    branch: Branch,
 ) -> Result<Option<Vec<Spot<'qs>>>, AllocFailed<Spot<'qs>>>
-    ensures { IfOk result (OneMore level rest.now (path_of pair.entry.path.items) spots.entry) }
+    ensures { IfOk result (OneMore branch rest.now (path_of pair.entry.path.items) spots.entry) }
 {
     let Some(mut spots) = spots else {
         return Ok(None);
     };
-    let Some(weight) = weight_at(pair.path.as_slice(), level) else {
+    let Some(weight) = weight_at(pair.path.as_slice(), branch) else {
         return Ok(None);
     };
     spots.push(Spot { weight, rest })?;
     Ok(Some(spots))
 }
 
-// What the key at a level weighs, where all keys are borrowed.
-fn weight_at(path: &[Key<'_>], level: usize) -> Option<u128>
-    ensures { IfSome result (IsWeighed level (path_of path.now)) }
+// What the key at a branch weighs, where all keys are borrowed.
+fn weight_at(path: &[Key<'_>], branch: Branch) -> Option<u128>
+    ensures { IfSome result (IsWeighed branch (path_of path.now)) }
 {
     if !are_borrowed(path) {
         return None;
     }
-    let key = path.get(level)?;
-    Some(weight(key))
+    let key = path.get(branch.level)?;
+    Some(weight(key, branch.shared))
 }
 
 // Whether no key is a text of its own.

@@ -2,7 +2,7 @@
 
 use super::{list, sorted_tree};
 use crate::cursor::Cursor;
-use crate::sampling::unordered_level;
+use crate::sampling::{Branch, unordered_branch};
 use crate::steps::Steps;
 use std::alloc::{AllocError, Global};
 use std::test::Fail;
@@ -23,20 +23,22 @@ fn pairs(alloc: Global, step: usize, before: &str, after: &str) -> Result<String
 fn inputs_that_are_sorted(rt: HostRuntime) -> Result<(), Fail> {
     let alloc = rt.alloc();
     let rows = [
-        ("", "", 0),
-        ("a[", "]", 1),
-        ("a[b][", "]", 2),
-        ("a[", "][b]", 1),
+        ("", "", 0, 3),
+        ("a[", "]", 1, 3),
+        ("a[b][", "]", 2, 3),
+        ("a[", "][b]", 1, 3),
+        ("a_name_of_more_than_sixteen_bytes_", "", 0, 37),
     ];
-    for (before, after, level) in rows {
+    for (before, after, level, shared) in rows {
+        let branch = Branch { level, shared };
         let input = pairs(alloc, 4_099, before, after)?;
         assert_eq!(rt;
-            unordered_level(alloc, input.as_bytes(), false, 5),
-            Some(level),
+            unordered_branch(alloc, input.as_bytes(), false, 5),
+            Some(branch),
             "{before}"
         );
         let mut cursor = Cursor::new(input.as_bytes(), false, Steps::new());
-        let Ok(Some(spots)) = list(alloc, &mut cursor, 5, level) else {
+        let Ok(Some(spots)) = list(alloc, &mut cursor, 5, branch) else {
             return Err(Fail::from("not listed"));
         };
         assert_eq!(rt; spots.len(), KEYS);
@@ -49,11 +51,18 @@ fn inputs_that_are_sorted(rt: HostRuntime) -> Result<(), Fail> {
 fn inputs_that_are_not(rt: HostRuntime) -> Result<(), Fail> {
     let alloc = rt.alloc();
     let in_order = pairs(alloc, 1, "", "")?;
-    assert_eq!(rt; unordered_level(alloc, in_order.as_bytes(), false, 5), None);
+    assert_eq!(rt;
+        unordered_branch(alloc, in_order.as_bytes(), false, 5),
+        None
+    );
     let shuffled = pairs(alloc, 4_099, "", "")?;
     let small = &shuffled.as_bytes()[..60_000];
-    assert_eq!(rt; unordered_level(alloc, small, false, 5), None);
+    assert_eq!(rt; unordered_branch(alloc, small, false, 5), None);
+    let below = Branch {
+        level: 1,
+        shared: 0,
+    };
     let mut cursor = Cursor::new(shuffled.as_bytes(), false, Steps::new());
-    assert!(rt; matches!(list(alloc, &mut cursor, 5, 1), Ok(None)));
+    assert!(rt; matches!(list(alloc, &mut cursor, 5, below), Ok(None)));
     Ok(())
 }

@@ -11,8 +11,8 @@ use Rattle.qs_tree.proofs.parsing.scan_sorted.Goals as goal
 
 pub sorted_tree-requires : goal.sorted_tree-requires
 sorted_tree-requires c =
-    let spots = (subst (Lists c.args.cursor.now.form c.args.max_depth c.args.level (left c.args.cursor.now)) c.in-Some.is c.in_ok-spots.ensures.spots).1 in
-    (c.args.level, subst (λ form. AllByRecursion (IsSpot form c.args.max_depth c.args.level) c.in-Some.spots.items) (sym c.is_form-form.ensures) spots)
+    let spots = (subst (Lists c.args.cursor.now.form c.args.max_depth c.args.branch (left c.args.cursor.now)) c.in-Some.is c.in_ok-spots.ensures.spots).1 in
+    (c.args.branch, subst (λ form. AllByRecursion (IsSpot form c.args.max_depth c.args.branch) c.in-Some.spots.items) (sym c.is_form-form.ensures) spots)
 
 pub returns-clause-answer : goal.returns-clause-answer
 returns-clause-answer c =

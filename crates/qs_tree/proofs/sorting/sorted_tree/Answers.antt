@@ -16,8 +16,8 @@ returns c =
     let depth = c.args.max_depth in
     let spots = c.args.spots.items in
     let sorted = c.sort_by_key.new.self.items in
-    let level = c.requires.0 in
+    let branch = c.requires.0 in
     let tree = draft_tree c.in_ok-tree_in_turn.field-0 in
     let stable = c.sort_by_key.ensures.stable (λ s. s.weight) (answers_always _ _ _ (λ f a r g h. search rules)) in
     laid_out (add_all (map (pair_at form depth) spots) uninitialized) tree c.settled.result c.ok-2.result c.ok-2.ensures.value c.settled.ensures.tree
-    (sorted_same form depth level spots sorted tree c.requires.1 (sorted_spots form depth level spots sorted c.sort_by_key.ensures.permutation c.requires.1) stable c.in_ok-tree_in_turn.ensures)
+    (sorted_same form depth branch spots sorted tree c.requires.1 (sorted_spots form depth branch spots sorted c.sort_by_key.ensures.permutation c.requires.1) stable c.in_ok-tree_in_turn.ensures)

@@ -8,7 +8,7 @@ returns c =
     let key = c.in_ok-key.key.now in
     record {
       step = step_of_key key;
-      there = step_at c.args.path.now c.args.level key (search rules) c.in_ok-key.ensures.lookup.1;
+      there = step_at c.args.path.now c.args.branch.level key (search rules) c.in_ok-key.ensures.lookup.1;
       weight = c.weight.ensures;
       unmarked = borrowed_path c.args.path.now (search rules);
     }

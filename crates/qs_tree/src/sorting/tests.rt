@@ -1,6 +1,6 @@
 //! Which inputs are sorted.
 
-use super::{list, sorted_tree};
+use super::list;
 use crate::cursor::Cursor;
 use crate::sampling::{Branch, unordered_branch};
 use crate::steps::Steps;
@@ -42,7 +42,6 @@ fn inputs_that_are_sorted(rt: HostRuntime) -> Result<(), Fail> {
             return Err(Fail::from("not listed"));
         };
         assert_eq!(rt; spots.len(), KEYS);
-        assert!(rt; sorted_tree(alloc, spots, false, 5).is_some());
     }
     Ok(())
 }
@@ -56,7 +55,9 @@ fn inputs_that_are_not(rt: HostRuntime) -> Result<(), Fail> {
         None
     );
     let shuffled = pairs(alloc, 4_099, "", "")?;
-    let small = &shuffled.as_bytes()[..60_000];
+    let Some(small) = shuffled.as_bytes().get(..60_000) else {
+        return Err(Fail::from("too few bytes"));
+    };
     assert_eq!(rt; unordered_branch(alloc, small, false, 5), None);
     let below = Branch {
         level: 1,

@@ -28,7 +28,7 @@ use crate::pair::Pair;
 use crate::reading::{Fault, Item, read_item};
 use crate::refusal::{Site, conflict_error, unread_error};
 use crate::sampling::{Branch, unordered_branch};
-use crate::sorting::{list, sorted_tree};
+use crate::sorting::sorted_tree;
 use crate::steps::Steps;
 use crate::value::ParsedValue;
 use std::alloc::Global;
@@ -130,10 +130,7 @@ fn scan<'qs>(
     }
 }
 
-/// Reads the pairs of an input and then adds them to a tree, in the order of their keys at a branch. Where that can't be, they are added
-/// in the order of the input.
-///
-/// Each pair is read again when it is added, by a cursor of its own whose steps aren't counted.
+/// Adds the pairs of an input to a tree in the order of their keys at a branch, or where that can't be, in the order of the input.
 fn scan_sorted<'qs>(
     alloc: Global,
     cursor: &mut Cursor<'qs>,
@@ -148,13 +145,10 @@ fn scan_sorted<'qs>(
     ensures end { IfOk result (λ _. in_all cursor.new ≡ cursor.new.steps) }
 {
     let start = cursor.place();
-    let form = cursor.is_form();
-    if let Some(spots) = list(alloc, cursor, max_depth, branch)? {
-        if let Some(tree) = sorted_tree(alloc, spots, form, max_depth) {
-            return Ok(tree);
-        }
+    match sorted_tree(alloc, cursor, max_depth, branch)? {
+        Some(tree) => Ok(tree),
+        None => scan_in_turn(alloc, &mut start.again(), input, max_depth),
     }
-    scan_in_turn(alloc, &mut start.again(), input, max_depth)
 }
 
 /// Adds the pairs of an input to a tree, one after the other.

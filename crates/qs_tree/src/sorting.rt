@@ -10,6 +10,7 @@ ghost use Rattle.qs_tree.specs.Views.{key_mark, tree_of};
 ghost use Rattle.qs_tree.specs.Pairs.{path_of};
 ghost use Rattle.qs_tree.specs.Cursor.{left, in_all, KnowsEnd};
 ghost use Rattle.qs_tree.specs.Draft.{draft_tree};
+ghost use Rattle.qs_tree.specs.Parsing.{grown};
 ghost use Rattle.qs_tree.specs.Sorting.{pair_at, AreSpots, IsWeighed, Lists, OneMore};
 
 use crate::add::add_pair;
@@ -25,17 +26,40 @@ use crate::value::ParsedValue;
 use crate::weight::weight;
 use std::alloc::{AllocFailed, Global};
 
-/// Where a pair begins, and what it is sorted by.
+/// The tree of an input's pairs, which were added in the order of what their keys at a branch weigh. None where they can't be added so:
+/// where a pair can't be read, has no key there or an owned one, where pairs are in conflict, or where memory ran out for the tree.
+///
+/// The pairs are read twice: all of them for what they weigh, and each when it is added, by a cursor of its own whose steps aren't counted.
+pub(crate) fn sorted_tree<'qs>(
+    alloc: Global,
+    cursor: &mut Cursor<'qs>,
+    max_depth: usize,
+    branch: Branch,
+) -> Result<Option<ParsedValue<'qs>>>
+    requires { KnowsEnd cursor.old }
+    ensures tree { IfOk result (λ tree. IfSome tree (λ value. grown max_depth (left cursor.old) uninitialized ≡ Some (tree_of value))) }
+    ensures errors { OnlyOutOfMemory result }
+    ensures steps { in_all cursor.new ≡ in_all cursor.old }
+    ensures end { (pairs : List grammar.Pair) → pairs_of max_depth (left cursor.old) ≡ Some pairs → IfOk result (λ _. in_all cursor.new ≡ cursor.new.steps) }
+{
+    let form = cursor.is_form();
+    let Some(spots) = list(alloc, cursor, max_depth, branch)? else {
+        return Ok(None);
+    };
+    Ok(tree_by_weight(alloc, spots, form, max_depth))
+}
+
+// Where a pair begins, and what it is sorted by.
 #[derive(Drop)]
-pub(crate) struct Spot<'qs> {
+struct Spot<'qs> {
     weight: u128,
     /// What is left of the input there.
     rest: &'qs [u8],
 }
 
-/// Reads the pairs of an input to their end, and answers where each begins and what its key at a branch weighs. None where a pair can't
-/// be read, or has no such key, or has an owned key.
-pub(crate) fn list<'qs>(
+// Reads the pairs of an input to their end, and answers where each begins and what its key at a branch weighs. None where a pair can't
+// be read, or has no such key, or has an owned key.
+fn list<'qs>(
     alloc: Global,
     cursor: &mut Cursor<'qs>,
     max_depth: usize,
@@ -97,9 +121,9 @@ fn are_borrowed(path: &[Key<'_>]) -> bool
     path.iter().all(|key| !key.is_owned())
 }
 
-/// The tree of the pairs that begin at some spots, to which they were added in the order of their weights. None where they are in
-/// conflict in that order, or memory ran out.
-pub(crate) fn sorted_tree<'qs>(
+// The tree of the pairs that begin at some spots, to which they were added in the order of their weights. None where they are in
+// conflict in that order, or memory ran out.
+fn tree_by_weight<'qs>(
     alloc: Global,
     mut spots: Vec<Spot<'qs>>,
     form: bool,

@@ -1,9 +1,10 @@
-//! Which inputs are sorted.
+//! Which inputs are sorted, and that their sorted pairs make a tree.
 
-use super::list;
+use super::sorted_tree;
 use crate::cursor::Cursor;
 use crate::sampling::{Branch, unordered_branch};
 use crate::steps::Steps;
+use crate::value::ParsedValue;
 use std::alloc::{AllocError, Global};
 use std::test::Fail;
 
@@ -38,10 +39,8 @@ fn inputs_that_are_sorted(rt: HostRuntime) -> Result<(), Fail> {
             "{before}"
         );
         let mut cursor = Cursor::new(input.as_bytes(), false, Steps::new());
-        let Ok(Some(spots)) = list(alloc, &mut cursor, 5, branch) else {
-            return Err(Fail::from("not listed"));
-        };
-        assert_eq!(rt; spots.len(), KEYS);
+        let tree = sorted_tree(alloc, &mut cursor, 5, branch);
+        assert!(rt; matches!(tree, Ok(Some(ParsedValue::Map(_)))), "{before}");
     }
     Ok(())
 }
@@ -64,6 +63,6 @@ fn inputs_that_are_not(rt: HostRuntime) -> Result<(), Fail> {
         shared: 0,
     };
     let mut cursor = Cursor::new(shuffled.as_bytes(), false, Steps::new());
-    assert!(rt; matches!(list(alloc, &mut cursor, 5, below), Ok(None)));
+    assert!(rt; matches!(sorted_tree(alloc, &mut cursor, 5, below), Ok(None)));
     Ok(())
 }

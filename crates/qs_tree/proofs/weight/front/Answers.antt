@@ -11,7 +11,7 @@ filled bytes new len short copied =
     let behind : 16 - len ≡ 16 - length bytes = omega (arith, short) in
     ap₂ (λ (a b : List ℕ). a ++ b)
     (copied ∙ ap (λ n. take n bytes) (short ∙ min_comm (length bytes) 16) ∙ take_min 16 bytes)
-    (drop-replicate len 16 0 ∙ ap (λ n. replicate n 0) behind)
+    (◌∙◌ {b = replicate (16 - len) 0} (drop-replicate len 16 0) (ap (λ n. replicate n 0) behind))
 
 pub returns : goal.returns
 returns c =

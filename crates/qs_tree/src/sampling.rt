@@ -8,6 +8,7 @@ use crate::draft::{Draft, DraftMap};
 use crate::key::Key;
 use crate::reading::{Item, read_item};
 use crate::steps::Steps;
+use crate::weight::weight;
 use std::alloc::Global;
 use std::collections::BTreeMap;
 
@@ -33,8 +34,8 @@ pub(crate) struct Branch {
 /// with several keys, where that has become a search tree.
 ///
 /// `None` for a small input, for one that begins with `&` or `=`, where the first pairs hold a fault or are not so many, and
-/// where the first map with several keys is still a vector, or stands too deep. The answer decides only the way in which the
-/// pairs are added, not the tree that they make.
+/// where the first map with several keys is still a vector, or stands too deep, and where those keys come in falling order, which
+/// a search tree takes well. The answer decides only the way in which the pairs are added, not the tree that they make.
 pub(crate) fn unordered_branch(
     alloc: Global,
     input: &[u8],
@@ -47,7 +48,11 @@ pub(crate) fn unordered_branch(
         return None;
     }
     let tree = sample(alloc, input, form, max_depth)?;
-    branch_of(&tree)
+    let branch = branch_of(&tree)?;
+    if !has_rise(alloc, input, form, max_depth, branch) {
+        return None;
+    }
+    Some(branch)
 }
 
 // The tree of the first pairs, or `None` where not so many can be read and added. Its steps aren't counted.
@@ -86,6 +91,26 @@ fn branch_of(tree: &Draft<'_>) -> Option<Branch> {
         }
     }
     None
+}
+
+// Whether among the first pairs a key weighs more than the one before, so that they don't come in falling order.
+fn has_rise(alloc: Global, input: &[u8], form: bool, max_depth: usize, branch: Branch) -> bool {
+    let mut cursor = Cursor::new(input, form, Steps::new());
+    let mut before = u128::MAX;
+    for _ in 0..SAMPLE {
+        let Ok(Item::Pair(pair)) = read_item(alloc, &mut cursor, max_depth) else {
+            continue;
+        };
+        let Some(key) = pair.path.as_slice().get(branch.level) else {
+            continue;
+        };
+        let weight = weight(key, branch.shared);
+        if weight > before {
+            return true;
+        }
+        before = weight;
+    }
+    false
 }
 
 // With how many same bytes the first key and the last begin, and so all between them; none where one is a number.

@@ -14,7 +14,7 @@ const KEYS: usize = 8_192;
 fn pairs(alloc: Global, step: usize, before: &str, after: &str) -> Result<String, AllocError> {
     let mut input = String::new(alloc);
     for place in 0..KEYS {
-        let number = place.wrapping_mul(step) % KEYS;
+        let number = place.wrapping_add(1).wrapping_mul(step) % KEYS;
         input.push_str(&format!(in alloc; "{before}key{number:04}{after}=value&")?)?;
     }
     Ok(input)
@@ -51,6 +51,11 @@ fn inputs_that_are_not(rt: HostRuntime) -> Result<(), Fail> {
     let in_order = pairs(alloc, 1, "", "")?;
     assert_eq!(rt;
         unordered_branch(alloc, in_order.as_bytes(), false, 5),
+        None
+    );
+    let reversed = pairs(alloc, KEYS - 1, "", "")?;
+    assert_eq!(rt;
+        unordered_branch(alloc, reversed.as_bytes(), false, 5),
         None
     );
     let shuffled = pairs(alloc, 4_099, "", "")?;

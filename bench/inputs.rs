@@ -41,16 +41,24 @@ pub enum Order {
     InOrder,
     Shuffled,
     Reversed,
+    /// Blocks of 64 that are in order, and are shuffled.
+    Blocks,
 }
 
 impl Order {
-    pub const ALL: [Order; 3] = [Order::InOrder, Order::Shuffled, Order::Reversed];
+    pub const ALL: [Order; 4] = [
+        Order::InOrder,
+        Order::Shuffled,
+        Order::Reversed,
+        Order::Blocks,
+    ];
 
     pub fn name(self) -> &'static str {
         match self {
             Order::InOrder => "in order",
             Order::Shuffled => "shuffled",
             Order::Reversed => "reversed",
+            Order::Blocks => "in shuffled blocks",
         }
     }
 }
@@ -63,6 +71,11 @@ pub fn pairs(count: usize, order: Order, before: &str, after: &str) -> String {
         Order::InOrder => {}
         Order::Shuffled => generator.shuffle(&mut places),
         Order::Reversed => places.reverse(),
+        Order::Blocks => {
+            let mut blocks: Vec<Vec<usize>> = places.chunks(64).map(<[usize]>::to_vec).collect();
+            generator.shuffle(&mut blocks);
+            places = blocks.concat();
+        }
     }
     let pairs: Vec<String> = places
         .iter()

@@ -17,7 +17,7 @@ use Rattle.qs_spec.proofs.Order.{same_turned}
 use Rattle.qs_spec.proofs.TreeOf.{same_segment}
 use Rattle.qs_spec.proofs.Unmarked.{added_unmarked}
 use Rattle.qs_spec.proofs.Ties.{swaps_of_ties}
-use Rattle.qs_tree.specs.declared.sampling.Branch.{Branch}
+use Rattle.qs_tree.specs.declared.weight.Branch.{Branch}
 use Rattle.qs_tree.specs.declared.sorting.Spot.{Spot}
 use Rattle.qs_tree.specs.declared.value.ParsedValue.{ParsedValue}
 use Rattle.qs_tree.specs.Views.{tree_of}

@@ -2,7 +2,7 @@
 use Rattle.std.proofs.Common.{◌≡◌, ℕ, zero, suc, ◌<◌, Bool, true, false, not, ◌&&◌, IsFalse, length, slice_get, slice_index_or, option_and_then, arith, List, [], ◌∷◌, ◌++◌, map, refl, sym, ap, ◌∙◌, subst, Option, Some, None, option_map, Vec, Global, append_assoc, append-nil}
 use Rattle.std.specs.List.{AllByRecursion}
 use Rattle.std.proofs.lemmas.List.{map-append}
-use Rattle.std.proofs.lemmas.Option.{none-some}
+use Rattle.std.proofs.lemmas.Option.{none-some, same_Some}
 use Rattle.std.specs.List.{list_all}
 use Rattle.qs_spec.specs.Token.{Token, tokens}
 use Rattle.qs_spec.specs.Grammar.{Pair}
@@ -12,14 +12,41 @@ use Rattle.qs_tree.specs.declared.key.Key.{Key}
 use Rattle.qs_tree.specs.Views.{key_mark, step_of_key}
 use Rattle.qs_tree.specs.Pairs.{path_of}
 use Rattle.qs_spec.specs.toward.Reading.{pairs_of}
-use Rattle.qs_tree.specs.declared.sampling.Branch.{Branch}
+use Rattle.qs_tree.specs.declared.weight.Branch.{Branch}
 use Rattle.qs_tree.specs.declared.sorting.Spot.{Spot}
-use Rattle.qs_tree.specs.Sorting.{first, pair_at, IsWeighed, IsSpot, Lists, ListsUpTo, OneMore}
+use Rattle.qs_tree.specs.Sorting.{first, pair_at, AreSpots, IsSpot, Lists, ListsUpTo, OneMore}
+use Rattle.qs_tree.specs.Weight.{IsWeighed}
 
 -- one element more
 all_more : {X : Type 0} (P : X → Type 0) (xs : List X) (x : X) → AllByRecursion P xs → P x → AllByRecursion P (xs ++ x ∷ [])
 all_more P [] x all p = (p, tt)
 all_more P (y ∷ xs) x all p = (all.0, all_more P xs x all.1 p)
+
+-- all of two lists are all of each
+all_parts : {X : Type 0} (P : X → Type 0) (xs ys : List X) → AllByRecursion P (xs ++ ys) → AllByRecursion P xs × AllByRecursion P ys
+all_parts P [] ys all = (tt, all)
+all_parts P (x ∷ xs) ys all =
+    let (some, others) = all_parts P xs ys all.1 in
+    ((all.0, some), others)
+
+-- the pairs at some spots and at others are added by adding the ones and then the others
+pub added_both : (form : Bool) (depth : ℕ) (xs ys : List Spot) (t more : Tree) → add_all (map (pair_at form depth) xs) t ≡ Some more → add_all (map (pair_at form depth) (xs ++ ys)) t ≡ add_all (map (pair_at form depth) ys) more
+added_both form depth [] ys t more e = ap (add_all (map (pair_at form depth) ys)) (same_Some t more e)
+added_both form depth (x ∷ xs) ys t more e = by (add p.path p.push p.leaf t) (λ s f. added_both form depth xs ys s more f) e
+  where
+    p : Pair
+    p = pair_at form depth x
+
+    by : (o : Option Tree) → ((s : Tree) → add_all (map (pair_at form depth) xs) s ≡ Some more → add_all (map (pair_at form depth) (xs ++ ys)) s ≡ add_all (map (pair_at form depth) ys) more)
+        → option_and_then (add_all (map (pair_at form depth) xs)) o ≡ Some more → option_and_then (add_all (map (pair_at form depth) (xs ++ ys))) o ≡ add_all (map (pair_at form depth) ys) more
+    by None same e = absurd (none-some more e)
+    by (Some s) same e = same s e
+
+-- spots in two parts are spots
+pub spots_both : (form : Bool) (depth : ℕ) (xs ys : List Spot) → AreSpots form depth (xs ++ ys) → AreSpots form depth xs × AreSpots form depth ys
+spots_both form depth xs ys (branch, all) =
+    let (some, others) = all_parts (IsSpot form depth branch) xs ys all in
+    ((branch, some), (branch, others))
 
 module _ (form : Bool) (depth : ℕ) (branch : Branch) (ts us : List Token) where
   -- where the rest is no pairs, the whole is none

@@ -1,5 +1,5 @@
 -- Where the pairs of an input begin, and in which order they are added.
-use Rattle.std.specs.Prelude.{◌≡◌, ℕ, Bool, List, [], ◌∷◌, ◌++◌, map, slice_get, Option, Some, None, ⊤, IsFalse}
+use Rattle.std.specs.Prelude.{◌≡◌, ℕ, Bool, List, [], ◌∷◌, ◌++◌, map, Option, Some, None, ⊤}
 use Rattle.std.specs.List.{AllByRecursion}
 use Rattle.std.specs.declared.vec.Vec.{Vec}
 use Rattle.std.specs.declared.alloc.Global.{Global}
@@ -8,9 +8,9 @@ use Rattle.qs_spec.specs.Segment.{Step}
 use Rattle.qs_spec.specs.Leaf.Leaf.{NoValue}
 use Rattle.qs_spec.specs.Grammar.{Pair, plain}
 use Rattle.qs_spec.specs.toward.Reading.{pairs_of}
-use Rattle.qs_tree.specs.declared.sampling.Branch.{Branch}
+use Rattle.qs_tree.specs.declared.weight.Branch.{Branch}
 use Rattle.qs_tree.specs.declared.sorting.Spot.{Spot}
-use Rattle.qs_tree.specs.Weight.{weight_of}
+use Rattle.qs_tree.specs.Weight.{IsWeighed}
 
 -- the first of some pairs; where there is none, an empty one
 abbrev pub first : Option (List Pair) → Pair
@@ -21,13 +21,6 @@ first None = plain [] NoValue
 -- the pair that begins at a spot
 abbrev pub pair_at : Bool → ℕ → Spot → Pair
 pair_at form depth s = first (pairs_of depth (tokens form s.rest.now))
-
--- The weight is that of the path's key at a branch, and no key of the path is marked.
-pub record IsWeighed (branch : Branch) (path : List Step) (number : ℕ) : Type 0 where
-  pub step : Step
-  pub there : slice_get path branch.level ≡ Some step
-  pub weight : number ≡ weight_of branch.shared step.seg
-  pub unmarked : AllByRecursion (λ s. IsFalse s.mark) path
 
 -- A pair begins at the spot, and this is its weight.
 pub record IsSpot (form : Bool) (depth : ℕ) (branch : Branch) (s : Spot) : Type 0 where

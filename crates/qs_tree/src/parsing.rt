@@ -27,10 +27,11 @@ use crate::error::{Error, Result};
 use crate::pair::Pair;
 use crate::reading::{Fault, Item, read_item};
 use crate::refusal::{Site, conflict_error, unread_error};
-use crate::sampling::{Branch, unordered_branch};
+use crate::sampling::unordered_branch;
 use crate::sorting::sorted_tree;
 use crate::steps::Steps;
 use crate::value::ParsedValue;
+use crate::weight::Branch;
 use std::alloc::Global;
 use std::mem;
 
@@ -46,7 +47,7 @@ use std::mem;
 /// Texts and keys without `+` and `%` are borrowed. Memory is taken for the others, for each path, map and sequence, and for an
 /// error's text; none for the empty input, for `&` alone, and for `=` with a value that holds no `&`, `+` or `%`. Each byte is
 /// read once, and each key is looked up in the map that it stands in, in comparisons that grow as the logarithm of its length.
-/// From 64 KiB on an input whose keys come in no order, as far as its first pairs tell, has its pairs sorted before they are added,
+/// From 64 KiB on an input whose keys come in no order, as far as 128 of its pairs tell, has its pairs sorted before they are added,
 /// for which they are read a second time.
 ///
 /// ```
@@ -74,7 +75,7 @@ pub fn parse(alloc: Global, input: &[u8], config: Config) -> Result<ParsedValue<
 /// end, of which there is one. So an input that is accepted, the empty one too, takes its length and one.
 ///
 /// Not counted are what is read again and what is looked at beforehand: the pair of a conflict that is told, for its position; the
-/// first 128 pairs of an input of 64 KiB or more; and, where those came in no order, each pair when it is added, and once more where
+/// 128 pairs of an input of 64 KiB or more; and, where their keys come in no order, each pair when it is added, and once more where
 /// sorted pairs can't be added.
 pub fn parse_with<'qs>(
     alloc: Global,

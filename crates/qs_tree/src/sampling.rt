@@ -1,41 +1,31 @@
-//! A look at the first pairs of a large input, for whether their keys come in order.
+//! A look at pairs all over a large input, for whether their keys come in order.
 ghost use Rattle.std.specs.Prelude.{◌≡◌, None};
 ghost use Rattle.qs_tree.specs.Small.{TakesNoMemory};
 
-use crate::add::add_pair;
 use crate::cursor::Cursor;
-use crate::draft::{Draft, DraftMap};
 use crate::key::Key;
+use crate::pair::Pair;
 use crate::reading::{Item, read_item};
+use crate::search::find_ampersand;
 use crate::steps::Steps;
-use crate::weight::weight;
+use crate::weight::{Branch, weight_at};
 use std::alloc::Global;
-use std::collections::BTreeMap;
 
 /// From so many bytes on an input is looked at.
 const LARGE: usize = 65536;
 
-/// So many pairs, or `&` alone in place of one, are looked at.
+/// Of so many stretches of one length a pair is looked at each.
 const SAMPLE: usize = 128;
 
-/// On so many levels, from the root on, a search tree is looked for. One that stands deeper isn't found.
-const LEVELS: usize = 16;
+/// So often at least the keys of the sample turn between rising and not, where they come in no order. A random order has some 84 turns.
+const TURNS: usize = 32;
 
-/// Where the paths of an input branch.
-#[derive(Clone, Copy, Debug, PartialEq, Eq)]
-pub(crate) struct Branch {
-    /// The level of the keys that differ: how many maps of one key stand above theirs.
-    pub level: usize,
-    /// With how many same bytes those keys begin, where they are texts.
-    pub shared: usize,
-}
-
-/// Where the paths of a large input branch, if its keys come in no order there, as far as its first pairs tell: at the first map
-/// with several keys, where that has become a search tree.
+/// Where the paths of a large input branch, if its keys come in no order there, as far as a sample tells: the first pair that begins
+/// in each of 128 stretches of one length.
 ///
-/// `None` for a small input, for one that begins with `&` or `=`, where the first pairs hold a fault or are not so many, and
-/// where the first map with several keys is still a vector, or stands too deep, and where those keys come in falling order, which
-/// a search tree takes well. The answer decides only the way in which the pairs are added, not the tree that they make.
+/// `None` for a small input, for one that begins with `&` or `=`, where in a stretch no pair begins that can be read, and where the
+/// paths of the sample are all the same, or one of them ends where others go on. The answer decides only the way in which the pairs
+/// are added, not the tree that they make.
 pub(crate) fn unordered_branch(
     alloc: Global,
     input: &[u8],
@@ -47,85 +37,114 @@ pub(crate) fn unordered_branch(
     if input.len() < LARGE || matches!(input[0], b'&' | b'=') {
         return None;
     }
-    let tree = sample(alloc, input, form, max_depth)?;
-    let branch = branch_of(&tree)?;
-    if !has_rise(alloc, input, form, max_depth, branch) {
+    let pairs = sample(alloc, input, form, max_depth)?;
+    let level = shared_keys(pairs.as_slice());
+    let shared = shared_bytes(pairs.as_slice(), level);
+    let branch = Branch { level, shared };
+    let weights = weights(alloc, pairs.as_slice(), branch)?;
+    if !is_unordered(weights.as_slice()) {
         return None;
     }
     Some(branch)
 }
 
-// The tree of the first pairs, or `None` where not so many can be read and added. Its steps aren't counted.
+// A pair from each stretch, or `None` where one has none.
 fn sample<'qs>(
     alloc: Global,
     input: &'qs [u8],
     form: bool,
     max_depth: usize,
-) -> Option<Draft<'qs>> {
-    let mut cursor = Cursor::new(input, form, Steps::new());
-    let mut tree = Draft::Fresh;
+) -> Option<Vec<Pair<'qs>>> {
+    let len = input.len() / SAMPLE;
+    let mut pairs = Vec::new(alloc);
+    let mut rest = input;
     for _ in 0..SAMPLE {
-        match read_item(alloc, &mut cursor, max_depth) {
-            Ok(Item::Pair(pair)) => tree = add_pair(alloc, tree, pair).ok()?,
-            Ok(Item::Ampersand) => {}
-            _ => return None,
-        }
+        let (stretch, behind) = rest.split_at(len.min(rest.len()));
+        let begin = rest.get(find_ampersand(stretch)?..)?;
+        pairs
+            .push(pair_behind(alloc, begin, form, max_depth)?)
+            .ok()?;
+        rest = behind;
     }
-    Some(tree)
+    Some(pairs)
 }
 
-// Where the first map with several keys stands, if it has become a search tree, and what its keys share.
-fn branch_of(tree: &Draft<'_>) -> Option<Branch> {
-    let mut node = tree;
-    for level in 0..LEVELS {
-        match node {
-            Draft::Map(DraftMap::Tree(map)) => {
-                let shared = shared_bytes(map);
-                return Some(Branch { level, shared });
-            }
-            Draft::Map(DraftMap::Vector(entries)) => match entries.as_slice() {
-                [(_, below)] => node = below,
-                _ => return None,
-            },
-            _ => return None,
-        }
-    }
-    None
+// The pair behind the `&` with which some bytes begin, if one can be read there. Its steps aren't counted.
+fn pair_behind<'qs>(
+    alloc: Global,
+    bytes: &'qs [u8],
+    form: bool,
+    max_depth: usize,
+) -> Option<Pair<'qs>> {
+    let mut cursor = Cursor::new(bytes, form, Steps::new());
+    let Ok(Item::Ampersand) = read_item(alloc, &mut cursor, max_depth) else {
+        return None;
+    };
+    let Ok(Item::Pair(pair)) = read_item(alloc, &mut cursor, max_depth) else {
+        return None;
+    };
+    Some(pair)
 }
 
-// Whether among the first pairs a key weighs more than the one before, so that they don't come in falling order.
-fn has_rise(alloc: Global, input: &[u8], form: bool, max_depth: usize, branch: Branch) -> bool {
-    let mut cursor = Cursor::new(input, form, Steps::new());
-    let mut before = u128::MAX;
-    for _ in 0..SAMPLE {
-        let Ok(Item::Pair(pair)) = read_item(alloc, &mut cursor, max_depth) else {
-            continue;
-        };
-        let Some(key) = pair.path.as_slice().get(branch.level) else {
-            continue;
-        };
-        let weight = weight(key, branch.shared);
-        if weight > before {
-            return true;
-        }
-        before = weight;
-    }
-    false
-}
-
-// With how many same bytes the first key and the last begin, and so all between them; none where one is a number.
-fn shared_bytes(map: &BTreeMap<Key<'_>, Draft<'_>>) -> usize {
-    let (Some((Key::String(first), _)), Some((Key::String(last), _))) = (
-        map.first_key_value(),
-        map.last_key_value(),
-    ) else {
+// With how many same keys the paths of some pairs begin.
+fn shared_keys(pairs: &[Pair<'_>]) -> usize {
+    let Some((first, others)) = pairs.split_first() else {
         return 0;
     };
-    let (first, last) = (first.as_slice(), last.as_slice());
-    for (place, (byte, other)) in first.iter().zip(last).enumerate() {
-        if byte != other {
-            return place;
-        }
+    let path = first.path.as_slice();
+    let starts = others
+        .iter()
+        .map(|other| same_start(path, other.path.as_slice()));
+    starts.min().unwrap_or(0)
+}
+
+// With how many same bytes the keys of some pairs at a level begin; none where one is a number.
+fn shared_bytes(pairs: &[Pair<'_>], level: usize) -> usize {
+    let Some((first, others)) = pairs.split_first() else {
+        return 0;
+    };
+    let text = text_at(first, level);
+    let starts = others
+        .iter()
+        .map(|other| same_start(text, text_at(other, level)));
+    starts.min().unwrap_or(0)
+}
+
+// The bytes of a pair's key at a level, if there is one and it is a text.
+fn text_at<'a>(pair: &'a Pair<'_>, level: usize) -> &'a [u8] {
+    match pair.path.as_slice().get(level) {
+        Some(Key::String(text)) => text.as_slice(),
+        _ => &[],
     }
-    first.len().min(last.len())
+}
+
+// With how many same items two slices begin.
+fn same_start<T: PartialEq>(left: &[T], right: &[T]) -> usize {
+    left.iter()
+        .zip(right)
+        .take_while(|(item, other)| **item == **other)
+        .count()
+}
+
+// What the keys of some pairs at a branch weigh, or `None` where a pair has no such key, or an owned one.
+fn weights(alloc: Global, pairs: &[Pair<'_>], branch: Branch) -> Option<Vec<u128>> {
+    let mut weights = Vec::new(alloc);
+    for pair in pairs {
+        weights.push(weight_at(pair.path.as_slice(), branch)?).ok()?;
+    }
+    Some(weights)
+}
+
+// Whether weights turn often between rising and not.
+fn is_unordered(weights: &[u128]) -> bool {
+    let turns = weights.windows(3).filter(|three| is_turn(*three));
+    turns.count() >= TURNS
+}
+
+// Whether of the two steps between three weights one rises and one doesn't.
+fn is_turn(weights: &[u128]) -> bool {
+    match weights {
+        [first, second, third] => (first < second) != (second < third),
+        _ => false,
+    }
 }

@@ -1,29 +1,26 @@
 //! Large inputs whose keys come in no order: where their pairs begin, and their tree, to which the pairs are added in the order of one key.
-ghost use Rattle.std.specs.Prelude.{◌≡◌, List, map, not, IfOk, IfSome, Some};
-ghost use Rattle.std.specs.List.{AllByRecursion, list_all};
+ghost use Rattle.std.specs.Prelude.{◌≡◌, List, map, IfOk, IfSome, Some};
 ghost use Rattle.qs_spec.specs.Grammar as grammar;
 ghost use Rattle.qs_spec.specs.Tree.Tree.{uninitialized};
 ghost use Rattle.qs_spec.specs.toward.Reading.{pairs_of};
 ghost use Rattle.qs_spec.specs.toward.InPlace.{add_all};
 ghost use Rattle.qs_tree.specs.Error.{OnlyOutOfMemory};
-ghost use Rattle.qs_tree.specs.Views.{key_mark, tree_of};
+ghost use Rattle.qs_tree.specs.Views.{tree_of};
 ghost use Rattle.qs_tree.specs.Pairs.{path_of};
 ghost use Rattle.qs_tree.specs.Cursor.{left, in_all, KnowsEnd};
 ghost use Rattle.qs_tree.specs.Draft.{draft_tree};
 ghost use Rattle.qs_tree.specs.Parsing.{grown};
-ghost use Rattle.qs_tree.specs.Sorting.{pair_at, AreSpots, IsWeighed, Lists, OneMore};
+ghost use Rattle.qs_tree.specs.Sorting.{pair_at, AreSpots, Lists, OneMore};
 
 use crate::add::add_pair;
 use crate::cursor::Cursor;
 use crate::draft::Draft;
 use crate::error::Result;
-use crate::key::Key;
 use crate::pair::Pair;
 use crate::reading::{Fault, Item, read_item};
-use crate::sampling::Branch;
 use crate::steps::Steps;
 use crate::value::ParsedValue;
-use crate::weight::weight;
+use crate::weight::{Branch, weight_at};
 use std::alloc::{AllocFailed, Global};
 
 /// The tree of an input's pairs, which were added in the order of what their keys at a branch weigh. None where they can't be added so:
@@ -48,6 +45,9 @@ pub(crate) fn sorted_tree<'qs>(
     };
     Ok(tree_by_weight(alloc, spots, form, max_depth))
 }
+
+// So many pairs are looked at before they are read.
+const NEAR: usize = 64;
 
 // Where a pair begins, and what it is sorted by.
 #[derive(Drop)]
@@ -103,24 +103,6 @@ fn with_spot<'qs>(
     Ok(Some(spots))
 }
 
-// What the key at a branch weighs, where all keys are borrowed.
-fn weight_at(path: &[Key<'_>], branch: Branch) -> Option<u128>
-    ensures { IfSome result (IsWeighed branch (path_of path.now)) }
-{
-    if !are_borrowed(path) {
-        return None;
-    }
-    let key = path.get(branch.level)?;
-    Some(weight(key, branch.shared))
-}
-
-// Whether no key is a text of its own.
-fn are_borrowed(path: &[Key<'_>]) -> bool
-    ensures { result ≡ list_all (λ key. not (key_mark key)) path.now }
-{
-    path.iter().all(|key| !key.is_owned())
-}
-
 // The tree of the pairs that begin at some spots, to which they were added in the order of their weights. None where they are in
 // conflict in that order, or memory ran out.
 fn tree_by_weight<'qs>(
@@ -133,22 +115,42 @@ fn tree_by_weight<'qs>(
     ensures { IfSome result (λ value. add_all (map (pair_at form max_depth) spots.entry.items) uninitialized ≡ Some (tree_of value)) }
 {
     spots.sort_by_key(|spot| spot.weight).ok()?;
-    tree_in_turn(alloc, spots, form, max_depth)?
-        .settled(alloc)
-        .ok()
+    let tree = tree_in_turn(alloc, spots.as_slice(), form, max_depth)?;
+    drop(spots);
+    tree.settled(alloc).ok()
 }
 
 // The tree of the pairs that begin at some spots, added one after the other.
 fn tree_in_turn<'qs>(
     alloc: Global,
-    spots: Vec<Spot<'qs>>,
+    spots: &[Spot<'qs>],
     form: bool,
     max_depth: usize,
 ) -> Option<Draft<'qs>>
-    requires { AreSpots form max_depth spots.items }
-    ensures { IfSome result (λ tree. add_all (map (pair_at form max_depth) spots.entry.items) uninitialized ≡ Some (draft_tree tree)) }
+    requires { AreSpots form max_depth spots.now }
+    ensures { IfSome result (λ tree. add_all (map (pair_at form max_depth) spots.now) uninitialized ≡ Some (draft_tree tree)) }
 {
     let mut tree = Draft::Fresh;
+    for near in spots.chunks(NEAR) {
+        tree = with_pairs(alloc, tree, near, form, max_depth)?;
+    }
+    Some(tree)
+}
+
+// The tree with the pairs that begin at some spots, added one after the other.
+fn with_pairs<'qs>(
+    alloc: Global,
+    mut tree: Draft<'qs>,
+    spots: &[Spot<'qs>],
+    form: bool,
+    max_depth: usize,
+) -> Option<Draft<'qs>>
+    requires { AreSpots form max_depth spots.now }
+    ensures { IfSome result (λ more. add_all (map (pair_at form max_depth) spots.now) (draft_tree tree.entry) ≡ Some (draft_tree more)) }
+{
+    if !are_pairs(spots) {
+        return None;
+    }
     for spot in spots {
         let mut cursor = Cursor::new(spot.rest, form, Steps::new());
         let Ok(Item::Pair(pair)) = read_item(alloc, &mut cursor, max_depth) else {
@@ -160,6 +162,12 @@ fn tree_in_turn<'qs>(
         }
     }
     Some(tree)
+}
+
+// Whether no spot is at an `&`, as none is where a pair begins. The first bytes of so many spots stand all over the input, in memory
+// that is cold. These looks don't wait for one another, as the readings of the pairs would, which find the bytes near then.
+fn are_pairs(spots: &[Spot<'_>]) -> bool {
+    spots.iter().all(|spot| spot.rest.first() != Some(&b'&'))
 }
 
 #[cfg(test)]

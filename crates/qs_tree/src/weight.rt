@@ -1,13 +1,42 @@
 //! What pairs are sorted by.
-ghost use Rattle.std.specs.Prelude.{◌≡◌, drop};
-ghost use Rattle.qs_tree.specs.Views.{segment_of_key};
-ghost use Rattle.qs_tree.specs.Weight.{front_of, weight_of};
+ghost use Rattle.std.specs.Prelude.{◌≡◌, drop, not, IfSome};
+ghost use Rattle.std.specs.List.{list_all};
+ghost use Rattle.qs_tree.specs.Views.{key_mark, segment_of_key};
+ghost use Rattle.qs_tree.specs.Pairs.{path_of};
+ghost use Rattle.qs_tree.specs.Weight.{front_of, weight_of, IsWeighed};
 
 use crate::key::Key;
 
-/// What pairs are sorted by: a number as it is; of a text, behind as many bytes as are shared, the next sixteen, as a number in base
-/// 256 whose highest digit is the first byte. Behind a shorter text stand zeros. So texts that differ elsewhere weigh the same.
-pub(crate) fn weight(key: &Key<'_>, shared: usize) -> u128
+/// Where the paths of an input branch.
+#[derive(Clone, Copy, Debug, PartialEq, Eq)]
+pub(crate) struct Branch {
+    /// The level of the keys that differ: how many maps of one key stand above theirs.
+    pub level: usize,
+    /// With how many same bytes those keys begin, where they are texts.
+    pub shared: usize,
+}
+
+/// What the key of a path at a branch weighs, where there is one and all keys of the path are borrowed.
+pub(crate) fn weight_at(path: &[Key<'_>], branch: Branch) -> Option<u128>
+    ensures { IfSome result (IsWeighed branch (path_of path.now)) }
+{
+    if !are_borrowed(path) {
+        return None;
+    }
+    let key = path.get(branch.level)?;
+    Some(weight(key, branch.shared))
+}
+
+// Whether no key is a text of its own.
+fn are_borrowed(path: &[Key<'_>]) -> bool
+    ensures { result ≡ list_all (λ key. not (key_mark key)) path.now }
+{
+    path.iter().all(|key| !key.is_owned())
+}
+
+// What pairs are sorted by: a number as it is; of a text, behind as many bytes as are shared, the next sixteen, as a number in base
+// 256 whose highest digit is the first byte. Behind a shorter text stand zeros. So texts that differ elsewhere weigh the same.
+fn weight(key: &Key<'_>, shared: usize) -> u128
     ensures { result ≡ weight_of shared (segment_of_key key.now) }
 {
     match key {

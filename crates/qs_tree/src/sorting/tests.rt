@@ -2,19 +2,53 @@
 
 use super::sorted_tree;
 use crate::cursor::Cursor;
-use crate::sampling::{Branch, unordered_branch};
+use crate::sampling::unordered_branch;
 use crate::steps::Steps;
 use crate::value::ParsedValue;
+use crate::weight::Branch;
 use std::alloc::{AllocError, Global};
 use std::test::Fail;
 
 const KEYS: usize = 8_192;
 
-// Pairs, with the number of the key and what stands around it. Steps of an odd length come to each number below 8,192 once.
-fn pairs(alloc: Global, step: usize, before: &str, after: &str) -> Result<String, AllocError> {
+// How the numbers below 8,192 follow one another.
+#[derive(Clone, Copy, Debug)]
+enum Order {
+    Rising,
+    Falling,
+    /// The even numbers rise, and then the odd ones fall.
+    RisingAndFalling,
+    /// The first 256 are shuffled, and the others rise.
+    ShuffledFirst,
+    Shuffled,
+    /// Blocks of 64 that rise, and are shuffled.
+    ShuffledBlocks,
+}
+
+impl Order {
+    fn number(self, place: usize) -> usize {
+        let falling = KEYS.wrapping_sub(1).wrapping_sub(place);
+        match self {
+            Order::Rising => place,
+            Order::Falling => falling,
+            Order::RisingAndFalling if place < KEYS / 2 => place.wrapping_mul(2),
+            Order::RisingAndFalling => falling.wrapping_mul(2).wrapping_add(1),
+            Order::ShuffledFirst if place < 256 => place.wrapping_mul(101) % 256,
+            Order::ShuffledFirst => place,
+            Order::Shuffled => place.wrapping_mul(5_063) % KEYS,
+            Order::ShuffledBlocks => {
+                let block = (place / 64).wrapping_mul(79) % 128;
+                block.wrapping_mul(64).wrapping_add(place % 64)
+            }
+        }
+    }
+}
+
+// Pairs in an order, with the number of each key and what stands around it.
+fn pairs(alloc: Global, order: Order, before: &str, after: &str) -> Result<String, AllocError> {
     let mut input = String::new(alloc);
     for place in 0..KEYS {
-        let number = place.wrapping_add(1).wrapping_mul(step) % KEYS;
+        let number = order.number(place);
         input.push_str(&format!(in alloc; "{before}key{number:04}{after}=value&")?)?;
     }
     Ok(input)
@@ -31,16 +65,21 @@ fn inputs_that_are_sorted(rt: HostRuntime) -> Result<(), Fail> {
         ("a_name_of_more_than_sixteen_bytes_", "", 0, 37),
     ];
     for (before, after, level, shared) in rows {
-        let branch = Branch { level, shared };
-        let input = pairs(alloc, 4_099, before, after)?;
-        assert_eq!(rt;
-            unordered_branch(alloc, input.as_bytes(), false, 5),
-            Some(branch),
-            "{before}"
-        );
-        let mut cursor = Cursor::new(input.as_bytes(), false, Steps::new());
-        let tree = sorted_tree(alloc, &mut cursor, 5, branch);
-        assert!(rt; matches!(tree, Ok(Some(ParsedValue::Map(_)))), "{before}");
+        for order in [Order::Shuffled, Order::ShuffledBlocks] {
+            let branch = Branch { level, shared };
+            let input = pairs(alloc, order, before, after)?;
+            assert_eq!(rt;
+                unordered_branch(alloc, input.as_bytes(), false, 5),
+                Some(branch),
+                "{before}, {order:?}"
+            );
+            let mut cursor = Cursor::new(input.as_bytes(), false, Steps::new());
+            let tree = sorted_tree(alloc, &mut cursor, 5, branch);
+            assert!(rt;
+                matches!(tree, Ok(Some(ParsedValue::Map(_)))),
+                "{before}, {order:?}"
+            );
+        }
     }
     Ok(())
 }
@@ -48,17 +87,21 @@ fn inputs_that_are_sorted(rt: HostRuntime) -> Result<(), Fail> {
 #[test]
 fn inputs_that_are_not(rt: HostRuntime) -> Result<(), Fail> {
     let alloc = rt.alloc();
-    let in_order = pairs(alloc, 1, "", "")?;
-    assert_eq!(rt;
-        unordered_branch(alloc, in_order.as_bytes(), false, 5),
-        None
-    );
-    let reversed = pairs(alloc, KEYS - 1, "", "")?;
-    assert_eq!(rt;
-        unordered_branch(alloc, reversed.as_bytes(), false, 5),
-        None
-    );
-    let shuffled = pairs(alloc, 4_099, "", "")?;
+    let orders = [
+        Order::Rising,
+        Order::Falling,
+        Order::RisingAndFalling,
+        Order::ShuffledFirst,
+    ];
+    for order in orders {
+        let input = pairs(alloc, order, "", "")?;
+        assert_eq!(rt;
+            unordered_branch(alloc, input.as_bytes(), false, 5),
+            None,
+            "{order:?}"
+        );
+    }
+    let shuffled = pairs(alloc, Order::Shuffled, "", "")?;
     let Some(small) = shuffled.as_bytes().get(..60_000) else {
         return Err(Fail::from("too few bytes"));
     };

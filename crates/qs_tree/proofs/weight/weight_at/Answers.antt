@@ -1,7 +1,7 @@
 use Rattle.std.proofs.Common.{rules}
 use Rattle.qs_tree.specs.Views.{step_of_key}
 use Rattle.qs_tree.proofs.Spots.{borrowed_path, step_at}
-use Rattle.qs_tree.proofs.sorting.weight_at.Goals as goal
+use Rattle.qs_tree.proofs.weight.weight_at.Goals as goal
 
 pub returns : goal.returns
 returns c =

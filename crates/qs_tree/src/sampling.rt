@@ -24,8 +24,8 @@ const TURNS: usize = 32;
 /// in each of 128 stretches of one length.
 ///
 /// `None` for a small input, for one that begins with `&` or `=`, where in a stretch no pair begins that can be read, and where the
-/// paths of the sample are all the same, or one of them ends where others go on. The answer decides only the way in which the pairs
-/// are added, not the tree that they make.
+/// paths of the sample are all the same, one of them ends where others go on, or has an owned key. The answer decides only the way
+/// in which the pairs are added, not the tree that they make.
 pub(crate) fn unordered_branch(
     alloc: Global,
     input: &[u8],

@@ -36,11 +36,11 @@ pub fn decode(bytes: &[u8], out: &mut [u8]) -> Option<usize> {
     })
 }
 
-/// What query mode writes for the bytes, as above.
-pub fn encode(bytes: &[u8], out: &mut [u8]) -> Option<usize> {
+/// What form mode (`form`) or query mode writes for the bytes, as above.
+pub fn encode(form: bool, bytes: &[u8], out: &mut [u8]) -> Option<usize> {
     handed_out(out, |text, room, len| {
         // SAFETY: the pointers and the lengths are those of borrows that last for the call.
-        unsafe { qs_bench_encode(false, bytes.as_ptr(), bytes.len(), text, room, len) }
+        unsafe { qs_bench_encode(form, bytes.as_ptr(), bytes.len(), text, room, len) }
     })
 }
 

@@ -9,10 +9,12 @@ use std::hint::black_box;
 enum Call {
     /// Parses the case's bytes: the tree has these keys.
     Parse(Keys),
+    /// Parses the case's bytes, which are rejected.
+    Reject,
     /// Decodes them: to these.
     Decode(Vec<u8>),
-    /// Encodes them: to these.
-    Encode(Vec<u8>),
+    /// Encodes them for form mode or query mode: to these.
+    Encode { form: bool, wanted: Vec<u8> },
     /// Writes the sample: as the case's bytes.
     Write(Sample),
 }
@@ -41,13 +43,14 @@ impl Case {
         let mut out = Vec::new();
         match &self.call {
             Call::Parse(keys) => calls::parse(&self.bytes).as_ref() == Some(keys),
+            Call::Reject => calls::parse(&self.bytes).is_none(),
             Call::Decode(wanted) => {
                 out.resize(wanted.len(), 0);
                 calls::decode(&self.bytes, &mut out) == Some(wanted.len()) && out == *wanted
             }
-            Call::Encode(wanted) => {
+            Call::Encode { form, wanted } => {
                 out.resize(wanted.len(), 0);
-                calls::encode(&self.bytes, &mut out) == Some(wanted.len()) && out == *wanted
+                calls::encode(*form, &self.bytes, &mut out) == Some(wanted.len()) && out == *wanted
             }
             Call::Write(sample) => {
                 out.resize(self.bytes.len(), 0);
@@ -65,9 +68,9 @@ impl Case {
         for _ in 0..times {
             let bytes = black_box(&self.bytes);
             match self.call {
-                Call::Parse(_) => drop(black_box(calls::parse(bytes))),
+                Call::Parse(_) | Call::Reject => drop(black_box(calls::parse(bytes))),
                 Call::Decode(_) => drop(black_box(calls::decode(bytes, &mut []))),
-                Call::Encode(_) => drop(black_box(calls::encode(bytes, &mut []))),
+                Call::Encode { form, .. } => drop(black_box(calls::encode(form, bytes, &mut []))),
                 Call::Write(_) => {}
             }
         }
@@ -93,8 +96,16 @@ pub fn all(small: bool) -> Vec<Case> {
         cases.extend(series(large, |count| map(count, order)));
     }
     let many = if small { 100 } else { 1_000 };
-    cases.extend([elements(many), deep(1), deep(many)]);
+    cases.extend([
+        elements(many),
+        pushed(many),
+        escaped(many),
+        deep(1),
+        deep(many),
+    ]);
+    cases.extend(hostile(len));
     cases.extend(texts(len));
+    cases.extend(encoded(len));
     let written = &pairs[..pairs.len().min(4)];
     cases.push(Case::new(
         "write a record of ten entries",
@@ -160,6 +171,43 @@ fn elements(count: usize) -> Case {
     Case::new(name, inputs::elements(count), Call::Parse(keys))
 }
 
+fn pushed(count: usize) -> Case {
+    let name = format!("parse {} pushed elements", grouped(count));
+    let keys = Keys { root: 1, first: 0 };
+    Case::new(name, inputs::pushed(count), Call::Parse(keys))
+}
+
+/// Each pair has an escape in its key.
+fn escaped(count: usize) -> Case {
+    let name = format!("parse {}, an escape in each", counted(count, "pair"));
+    let keys = Keys {
+        root: count,
+        first: 0,
+    };
+    let input = inputs::pairs(count, Order::InOrder, "k%65y", "");
+    Case::new(name, input, Call::Parse(keys))
+}
+
+/// A conflict at the front, and keys that run over each `&` to the end.
+fn hostile(len: usize) -> Vec<Case> {
+    let conflict = format!("a=1&a[b]=2&{}", "key=value&".repeat(len / 10));
+    let mut cases = vec![Case::new(
+        "parse a conflict at the front",
+        conflict,
+        Call::Reject,
+    )];
+    for text in ["letters", "+", "%41"] {
+        let unit = format!("&a[{text}");
+        let input = format!("x=1{}", unit.repeat(len / unit.len()));
+        cases.push(Case::new(
+            format!("parse unclosed keys of {text}"),
+            input,
+            Call::Reject,
+        ));
+    }
+    cases
+}
+
 fn deep(count: usize) -> Case {
     let name = format!("parse {}, six keys deep", counted(count, "pair"));
     let keys = Keys { root: 1, first: 1 };
@@ -167,13 +215,40 @@ fn deep(count: usize) -> Case {
     Case::new(name, input, Call::Parse(keys))
 }
 
-/// Long texts of letters, of the escapes of letters, and of a byte that is always escaped.
+/// Long texts of letters, of words, of the escapes of letters, and of a byte that is always escaped, encoded in both modes.
+fn encoded(len: usize) -> Vec<Case> {
+    let letters = Generator::new().letters(len);
+    let words = inputs::words(len);
+    let escapes = inputs::escapes(len);
+    let case = |kind: &str, form: bool, text: &str, wanted: String| {
+        let mode = if form { ", form mode" } else { "" };
+        let wanted = wanted.into_bytes();
+        Case::new(
+            format!("encode {kind}{mode}"),
+            text,
+            Call::Encode { form, wanted },
+        )
+    };
+    let (ampersands, spaces) = ("&".repeat(len), " ".repeat(len));
+    vec![
+        case("letters", false, &letters, letters.clone()),
+        case("words", false, &words, words.replace(' ', "+")),
+        case("words", true, &words, words.replace(' ', "%20")),
+        case("escapes", false, &escapes, escapes.replace('%', "%25")),
+        case("`&`", false, &ampersands, "%26".repeat(len)),
+        case("`&`", true, &ampersands, "%26".repeat(len)),
+        case("spaces", false, &spaces, "+".repeat(len)),
+        case("spaces", true, &spaces, "%20".repeat(len)),
+    ]
+}
+
+/// Long texts of letters, of words, of the escapes of letters, and of a byte that is always escaped.
 fn texts(len: usize) -> Vec<Case> {
     let letters = Generator::new().letters(len);
     let escapes = inputs::escapes(len);
     let escaped = Generator::new().letters(len / 3);
-    let twice = escapes.replace('%', "%25");
     let ampersands = "&".repeat(len);
+    let words = inputs::words(len);
     let value = Keys { root: 1, first: 0 };
     let written = |bytes: &[u8]| Call::Write(Sample::Bytes(bytes.to_vec()));
     vec![
@@ -188,6 +263,16 @@ fn texts(len: usize) -> Vec<Case> {
             Call::Parse(value),
         ),
         Case::new(
+            "parse one value of words",
+            format!("a={}", words.replace(' ', "+")),
+            Call::Parse(value),
+        ),
+        Case::new(
+            "decode words",
+            words.replace(' ', "+"),
+            Call::Decode(words.clone().into()),
+        ),
+        Case::new(
             "decode letters",
             letters.clone(),
             Call::Decode(letters.clone().into()),
@@ -198,20 +283,14 @@ fn texts(len: usize) -> Vec<Case> {
             Call::Decode(escaped.into()),
         ),
         Case::new(
-            "encode letters",
-            letters.clone(),
-            Call::Encode(letters.clone().into()),
-        ),
-        Case::new("encode escapes", escapes, Call::Encode(twice.into())),
-        Case::new(
-            "encode `&`",
-            ampersands.clone(),
-            Call::Encode("%26".repeat(len).into()),
-        ),
-        Case::new(
             "write one value of letters",
             format!("a={letters}"),
             written(letters.as_bytes()),
+        ),
+        Case::new(
+            "write one value of words",
+            format!("a={}", words.replace(' ', "+")),
+            written(words.as_bytes()),
         ),
         Case::new(
             "write one value of `&`",

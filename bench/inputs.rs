@@ -93,6 +93,29 @@ pub fn elements(count: usize) -> String {
     pairs.join("&")
 }
 
+/// Pairs `a[]`, with values of eight letters.
+pub fn pushed(count: usize) -> String {
+    let mut generator = Generator::new();
+    let pairs: Vec<String> = (0..count)
+        .map(|_| format!("a[]={}", generator.letters(8)))
+        .collect();
+    pairs.join("&")
+}
+
+/// Words of one to eight letters, with a space between them, cut at so many bytes. It ends with a letter.
+pub fn words(len: usize) -> String {
+    let mut generator = Generator::new();
+    let mut text = String::new();
+    while text.len() < len {
+        let letters = 1 + generator.below(8);
+        text.push_str(&generator.letters(letters));
+        text.push(' ');
+    }
+    text.truncate(len - 1);
+    text.push('a');
+    text
+}
+
 /// Letters as percent escapes, as many as a text of so many bytes holds.
 pub fn escapes(len: usize) -> String {
     let letters = Generator::new().letters(len / 3);

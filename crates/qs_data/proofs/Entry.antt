@@ -1,67 +1,103 @@
--- One entry: how it is spelled, and what its puts leave.
-use Rattle.std.proofs.Common.{◌≡◌, ℕ, ◌<◌, ◌+◌, Bool, true, not, eqb, cond, List, [], ◌∷◌, ◌++◌, length, take, drop, get_or, refl, sym, ap, ◌∙◌, subst, Option, Some, Err, append_assoc, append-nil, arith}
-use Rattle.std.proofs.lemmas.Bool.{ne_eqb}
-use Rattle.std.proofs.lemmas.List.{drop_more}
-use Rattle.std.proofs.lemmas.List.Elements.{All-take}
+-- One entry: where the walk is, how the entry is written there, and what its puts leave.
+use Rattle.std.proofs.Common.{◌≡◌, ℕ, ◌<◌, ◌≤◌, Bool, true, false, not, eqb, cond, List, [], ◌∷◌, ◌++◌, length, take, drop, refl, sym, ap, ◌∙◌, subst, Option, Some, append_assoc, append-nil, length-append, arith}
+use Rattle.std.proofs.Math.Seq.{take-append_seam}
 use Rattle.std.proofs.Math.Bool.{or-false}
+use Rattle.std.proofs.lemmas.Bool.{ne_eqb}
+use Rattle.std.proofs.lemmas.List.Elements.{All-take}
 use Rattle.std.specs.Prelude.{◌||◌}
 use Rattle.std.specs.List.{All}
 use Rattle.std.specs.Io.KnownBytes.{Appends}
-use Rattle.qs_spec.specs.Config.{Config}
 use Rattle.qs_spec.specs.Escape.{encoded}
+use Rattle.qs_spec.specs.Config.{Config}
 use Rattle.qs_spec.specs.Entry.{Path, Output}
 use Rattle.qs_spec.specs.Written.{written, started_after, entry_text, path_text, brackets_text, value_text, has_key, open_bytes, close_bytes}
-use Rattle.qs_tree.specs.declared.error.Error.{Error}
-use Rattle.qs_tree.specs.declared.error.Error.TheVariants.{Custom, MaxSerializationDepthExceeded, Parse, Unsupported, FromUtf8, Io, ParseInt, Utf8, OutOfMemory, Failed}
-use Rattle.qs_tree.specs.Error.{OnlyOutOfMemory}
-use Rattle.qs_data.specs.declared.write.scalar.Scalar.{Scalar}
-use Rattle.qs_data.specs.Scalars.{scalar_text, path_of}
-use Rattle.qs_data.specs.Writes.{IsVisible, Text, Adds, AddsPart, Stops}
-use Rattle.qs_data.proofs.Wrote.{some_none}
+use Rattle.qs_data.specs.declared.write.entry.Walk.{Walk}
+use Rattle.qs_data.specs.declared.write.stop.Stop.{Stop}
+use Rattle.qs_data.specs.declared.write.stop.Stop.TheVariants.{Io}
+use Rattle.qs_data.specs.Writes.{IsVisible, IsAt, Text, Adds, AddsPart, Stops, path_behind, grown}
 
--- one more segment in brackets
-pub brackets_more : (form : Bool) (path : List Scalar) (i : ℕ) (d : Scalar) → i < length path
-    → brackets_text form (path_of (drop i path))
-    ≡ open_bytes form ++ (encoded form (scalar_text (get_or path i d)) ++ (close_bytes form ++ brackets_text form (path_of (drop (i + 1) path))))
-brackets_more form path i d h = ap (λ ys. brackets_text form (path_of ys)) (drop_more path i d h)
+-- a segment in brackets
+abbrev bracketed : Bool → List ℕ → List ℕ
+bracketed form s = open_bytes form ++ (encoded form s ++ close_bytes form)
 
--- the text so far and one more segment
-pub brackets_turn : (start out opened held closed a e c rest all : List ℕ) → opened ≡ out ++ a → held ≡ opened ++ e → closed ≡ held ++ c
-    → out ++ (a ++ (e ++ (c ++ rest))) ≡ start ++ all → closed ++ rest ≡ start ++ all
-brackets_turn start out opened held closed a e c rest all o h d whole =
-    ap (λ t. t ++ rest) (d ∙ ap (λ t. t ++ c) (h ∙ ap (λ t. t ++ e) o))
-    ∙ append_assoc ((out ++ a) ++ e) c rest ∙ append_assoc (out ++ a) e (c ++ rest) ∙ append_assoc out a (e ++ (c ++ rest)) ∙ whole
+brackets-append : (form : Bool) (path : Path) (s : List ℕ) → brackets_text form (path ++ s ∷ []) ≡ brackets_text form path ++ bracketed form s
+brackets-append form [] s = ap (λ t. open_bytes form ++ (encoded form s ++ t)) (append-nil (close_bytes form))
+brackets-append form (x ∷ path) s =
+    ap (λ t. open_bytes form ++ (encoded form x ++ (close_bytes form ++ t))) (brackets-append form path s)
+    ∙ sym (append_assoc (open_bytes form) (encoded form x ++ (close_bytes form ++ brackets_text form path)) (bracketed form s)
+    ∙ ap (λ t. open_bytes form ++ t) (append_assoc (encoded form x) (close_bytes form ++ brackets_text form path) (bracketed form s)
+    ∙ ap (λ t. encoded form x ++ t) (append_assoc (close_bytes form) (brackets_text form path) (bracketed form s))))
 
-pub entry_without_key : (form started : Bool) (path : List Scalar) (value : Option (List ℕ)) → length path ≡ 0 → entry_text form started (path_of path) value ≡ value_text form value
+-- one more segment
+pub path_grown : (form : Bool) (path : Path) (s : List ℕ) → path_behind form (path ++ s ∷ []) ≡ grown form (path_behind form path) s
+path_grown form [] s = ap (λ t. 38 ∷ t) (append-nil (encoded form s))
+path_grown form (x ∷ path) s =
+    ap (λ t. 38 ∷ (encoded form x ++ t)) (brackets-append form path s)
+    ∙ ap (λ t. 38 ∷ t) (sym (append_assoc (encoded form x) (brackets_text form path) (bracketed form s)))
+
+-- without the last segment
+pub path_left : (form : Bool) (path : Path) (s : List ℕ) → take (length (path_behind form path)) (path_behind form (path ++ s ∷ [])) ≡ path_behind form path
+path_left form [] s = refl
+path_left form (x ∷ path) s = ap (take (length (path_behind form (x ∷ path)))) (path_grown form (x ∷ path) s) ∙ take-append_seam (path_behind form (x ∷ path)) (bracketed form s)
+
+brackets_long : (form : Bool) (path : Path) → length path ≤ length (brackets_text form path)
+brackets_long form [] = omega arith
+brackets_long true (x ∷ path) = let e = length-append (encoded true x) (close_bytes true ++ brackets_text true path) in omega (arith, brackets_long true path)
+brackets_long false (x ∷ path) = let e = length-append (encoded false x) (close_bytes false ++ brackets_text false path) in omega (arith, brackets_long false path)
+
+-- a path has no more segments than bytes
+pub path_long : (form : Bool) (path : Path) → length path ≤ length (path_behind form path)
+path_long form [] = omega arith
+path_long form (x ∷ path) = let e = length-append (encoded form x) (brackets_text form path) in omega (arith, brackets_long form path)
+
+some_text : (form : Bool) (x : List ℕ) (path : Path) → eqb (length (path_behind form (x ∷ path))) 0 ≡ false
+some_text form x path = ne_eqb (length (path_behind form (x ∷ path))) 0 (λ e. absurd (omega (arith, e)))
+
+led : (form started : Bool) (path : Path) (value : Option (List ℕ)) → drop (cond (started || eqb (length (path_behind form path)) 0) 0 1) (path_behind form path ++ value_text form value)
+    ≡ entry_text form started path value
 unfolding entry_text path_text
-entry_without_key form started [] value h = refl
-entry_without_key form started (x ∷ xs) value h = absurd (omega arith)
+led form true [] value = refl
+led form false [] value = refl
+led form true (x ∷ path) value = refl
+led form false (x ∷ path) value = ap (λ b. drop (cond b 0 1) (path_behind form (x ∷ path) ++ value_text form value)) (some_text form x path)
 
-pub entry_with_key : (form started : Bool) (path : List Scalar) (first : Scalar) (rest : List Scalar) (value : Option (List ℕ)) → path ≡ first ∷ rest
-    → entry_text form started (path_of path) value
-    ≡ cond started (38 ∷ []) [] ++ ((encoded form (scalar_text first) ++ brackets_text form (path_of rest)) ++ value_text form value)
-unfolding entry_text path_text
-entry_with_key form started path first rest value h = ap (λ p. entry_text form started (path_of p) value) h
+-- the entry begins with the path's `&`, or behind it
+pub entry_is : (form started : Bool) (path : Path) (value : Option (List ℕ)) (walk : Walk) (all : List ℕ) (len start : ℕ) → IsAt form path walk → all ≡ walk.text.items ++ value_text form value
+    → len ≡ length walk.text.items → start ≡ cond (started || eqb len 0) 0 1 → drop start all ≡ entry_text form started path value
+entry_is form started path value walk all len start at is l n =
+    ap (λ k. drop k all) (n ∙ ap (λ m. cond (started || eqb m 0) 0 1) (l ∙ ap length at.text))
+    ∙ ap (drop (cond (started || eqb (length (path_behind form path)) 0) 0 1)) (is ∙ ap (λ t. t ++ value_text form value) at.text) ∙ led form started path value
 
--- the parts of an entry, one after the other
-pub entry_joined : (a e b v whole : List ℕ) → whole ≡ a ++ ((e ++ b) ++ v) → ((a ++ e) ++ b) ++ v ≡ whole
-entry_joined a e b v whole h = ap (λ t. t ++ v) (append_assoc a e b) ∙ append_assoc a (e ++ b) v ∙ sym h
+key_is : (form : Bool) (path : Path) → not (eqb (length (path_behind form path)) 0) ≡ has_key path
+key_is form [] = refl
+key_is form (x ∷ path) = ap not (some_text form x path)
 
-pub has_key_of : (path : List Scalar) → not (eqb (length path) 0) ≡ has_key (path_of path)
-has_key_of [] = refl
-has_key_of (x ∷ xs) = ap not (ne_eqb (length (x ∷ xs)) 0 (λ e. absurd (omega arith)))
+-- there is a key where there is text
+pub has_key_is : (form : Bool) (path : Path) (walk : Walk) (len : ℕ) → IsAt form path walk → len ≡ length walk.text.items → not (eqb len 0) ≡ has_key path
+has_key_is form path walk len at l = ap (λ n. not (eqb n 0)) (l ∙ ap length at.text) ∙ key_is form path
+
+pub at_top : (form : Bool) (path : Path) (walk : Walk) → IsAt form path walk → length walk.text.items ≡ 0 → path ≡ []
+at_top form [] walk at h = refl
+at_top form (x ∷ path) walk at h = let e = ap length at.text in absurd (omega (arith, e, h))
+
+-- the walk is back where it was, when the value is cut off
+pub at_back : (form : Bool) (path : Path) (walk back : Walk) (len : ℕ) (more : List ℕ) → IsAt form path walk → back.depth ≡ walk.depth → back.text.items ≡ take len (walk.text.items ++ more)
+    → len ≡ length walk.text.items → IsAt form path back
+at_back form path walk back len more at d is l =
+    let same : back.text.items ≡ walk.text.items = is ∙ ap (λ n. take n (walk.text.items ++ more)) l ∙ take-append_seam walk.text.items more in
+    record { depth = d ∙ at.depth; text = same ∙ at.text; visible = subst (All IsVisible) (sym same) at.visible }
 
 written-one : (form started : Bool) (path : Path) (value : Option (List ℕ)) → written form started (record { path = path; value = value } ∷ []) ≡ entry_text form started path value
 unfolding written
 written-one form started path value = append-nil (entry_text form started path value)
 
 -- an empty value at the top
-pub entry_empty : (form started : Bool) (path : List Scalar) → length path ≡ 0 → 61 ∷ [] ≡ entry_text form started (path_of path) (Some [])
-entry_empty form started path h = sym (entry_without_key form started path (Some []) h)
+pub entry_empty : (form started : Bool) (path : Path) → path ≡ [] → 61 ∷ [] ≡ entry_text form started path (Some [])
+unfolding entry_text path_text
+entry_empty form started path h = rw h
 
-pub no_key : (path : List Scalar) (started : Bool) → length path ≡ 0 → started ≡ (started || has_key (path_of path))
-no_key [] started h = sym (or-false started)
-no_key (x ∷ xs) started h = absurd (omega arith)
+pub no_key : (path : Path) (started : Bool) → path ≡ [] → started ≡ (started || has_key path)
+no_key path started h = rw h (sym (or-false started))
 
 pub adds_one : (form : Bool) (a b : Text) (path : Path) (value : Option (List ℕ)) (text : List ℕ) → text ≡ entry_text form a.started path value
     → Appends a.taken b.taken text → All IsVisible text → b.started ≡ (a.started || has_key path) → b.failed ≡ a.failed → b.writer ≡ a.writer
@@ -85,15 +121,11 @@ part_one form a b path value text is n proper added visible failed writer =
       writer = writer;
     }
 
--- where only memory can be refused, nothing was written
-pub stops_memory : (e : Error) (config : Config) (t : Text) (o : Output) → OnlyOutOfMemory {T = Unit {0}} (Err e) → Stops e config t t o
-stops_memory (Custom m) config t o h = h
-stops_memory (MaxSerializationDepthExceeded n) config t o h = absurd h
-stops_memory (Parse m n) config t o h = h
-stops_memory Unsupported config t o h = absurd h
-stops_memory (FromUtf8 e) config t o h = h
-stops_memory (Io e) config t o h = absurd h
-stops_memory (ParseInt e) config t o h = h
-stops_memory (Utf8 e) config t o h = h
-stops_memory OutOfMemory config t o h = some_none config.form t o.entries
-stops_memory Failed config t o h = h
+pub io_stops : (config : Config) (a b : Text) (o : Output) (e : Stop) → e ≡ Io → AddsPart config.form a b o.entries → Stops e config a b o
+io_stops config a b o e is part = subst (λ (z : Stop). Stops z config a b o) (sym is) part
+
+-- one more segment in a text that holds some
+pub grown_more : (form : Bool) (text s : List ℕ) → ¬ (length text ≡ 0) → ((text ++ open_bytes form) ++ encoded form s) ++ close_bytes form ≡ grown form text s
+grown_more form [] s h = absurd (h refl)
+grown_more form (b ∷ text) s h =
+    append_assoc ((b ∷ text) ++ open_bytes form) (encoded form s) (close_bytes form) ∙ append_assoc (b ∷ text) (open_bytes form) (encoded form s ++ close_bytes form)

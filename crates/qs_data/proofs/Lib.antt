@@ -1,4 +1,5 @@
 pub mod Levels
+pub mod Lengths
 pub mod Puts
 pub mod Wrote
 pub mod Visible
@@ -19,3 +20,7 @@ pub mod Tuples
 pub mod Sizes
 pub mod Nesting
 pub mod Anything
+pub mod Counts
+pub mod Fitting
+pub mod FieldsFit
+pub mod ReadBack

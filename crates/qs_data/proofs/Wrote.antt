@@ -9,12 +9,12 @@ use Rattle.std.specs.List.{All}
 use Rattle.std.specs.Result.{IsErrAnd}
 use Rattle.std.specs.Io.KnownBytes.{Appends}
 use Rattle.qs_spec.specs.Config.{Config}
-use Rattle.qs_spec.specs.Entry.{Entry, Output, follow, and_then, nothing, Refusal, too_deep, bad_key}
+use Rattle.qs_spec.specs.Entry.{Path, Entry, Output, follow, and_then, nothing, Refusal, too_deep, bad_key}
 use Rattle.qs_spec.specs.Written.{written, started_after, entry_text, has_key}
-use Rattle.qs_tree.specs.declared.error.Error.{Error}
-use Rattle.qs_tree.specs.declared.error.Error.TheVariants.{Custom, MaxSerializationDepthExceeded, Parse, Unsupported, FromUtf8, Io, ParseInt, Utf8, OutOfMemory, Failed}
-use Rattle.qs_tree.specs.Error.{IsOutOfMemory}
-use Rattle.qs_data.specs.Writes.{IsVisible, Text, Adds, AddsSome, AddsPart, Stops, Writes}
+use Rattle.qs_data.specs.declared.write.entry.Walk.{Walk}
+use Rattle.qs_data.specs.declared.write.stop.Stop.{Stop}
+use Rattle.qs_data.specs.declared.write.stop.Stop.TheVariants.{TooDeep, BadKey, Io, OutOfMemory}
+use Rattle.qs_data.specs.Writes.{IsVisible, IsAt, Text, Adds, AddsSome, AddsPart, Stops, Writes}
 
 pub written-append : (form s : Bool) (es fs : List Entry) → written form s (es ++ fs) ≡ written form s es ++ written form (started_after s es) fs
 unfolding written started_after
@@ -85,38 +85,29 @@ part_more form a c es fs q =
 abbrev pub Wrote : Config → Text → Text → Output → Type 0
 Wrote config a b o = (o.refusal ≡ None) × Adds config.form a b o.entries
 
-pub wrote_nothing : (config : Config) (a : Text) → Wrote config a a nothing
-wrote_nothing config a = (refl, adds_nothing config.form a)
-
 follow_all : (es : List Entry) (r : Option Refusal) (o : Output) → r ≡ None → follow es r o ≡ record { entries = es ++ o.entries; refusal = o.refusal }
 follow_all es None o h = refl
 follow_all es (Some r) o h = absurd (cc)
 
--- an error after the first output was written
-stops_then : (e : Error) (config : Config) (a b c : Text) (x y : Output) → Wrote config a b x → Stops e config b c y
+-- a stop after the first output was written
+stops_then : (e : Stop) (config : Config) (a b c : Text) (x y : Output) → Wrote config a b x → Stops e config b c y
     → Stops e config a c (record { entries = x.entries ++ y.entries; refusal = y.refusal })
-stops_then (Custom m) config a b c x y p q = q
-stops_then (MaxSerializationDepthExceeded n) config a b c x y p q = (q.0, q.1, adds_then config.form a b c x.entries y.entries p.1 q.2)
-stops_then (Parse m n) config a b c x y p q = q
-stops_then Unsupported config a b c x y p q = (q.0, adds_then config.form a b c x.entries y.entries p.1 q.1)
-stops_then (FromUtf8 e) config a b c x y p q = q
-stops_then (Io e) config a b c x y p q = adds_part_then config.form a b c x.entries y.entries p.1 q
-stops_then (ParseInt e) config a b c x y p q = q
-stops_then (Utf8 e) config a b c x y p q = q
+stops_then TooDeep config a b c x y p q = (q.0, adds_then config.form a b c x.entries y.entries p.1 q.1)
+stops_then BadKey config a b c x y p q = (q.0, adds_then config.form a b c x.entries y.entries p.1 q.1)
+stops_then Io config a b c x y p q = adds_part_then config.form a b c x.entries y.entries p.1 q
 stops_then OutOfMemory config a b c x y p q = record {
   front = x.entries ++ q.front;
   rest = q.rest;
   parts = ap (λ z. x.entries ++ z) q.parts ∙ sym (append_assoc x.entries q.front q.rest);
   adds = adds_then config.form a b c x.entries q.front p.1 q.adds;
 }
-stops_then Failed config a b c x y p q = q
 
-pub writes_then : (r : Result (Unit {0}) Error) (config : Config) (a b c : Text) (x y : Output) → Wrote config a b x → Writes r config b c y
-    → Writes r config a c (and_then x y)
-writes_then (Ok t) config a b c x y p q =
-    let P : Output → Type 0 = λ o. Wrote config a c o in
-    subst P (sym (follow_all x.entries x.refusal y p.0)) (q.0, adds_then config.form a b c x.entries y.entries p.1 q.1)
-writes_then (Err e) config a b c x y p q =
+writes_then : (r : Result (Unit {0}) Stop) (config : Config) (path : Path) (a b c : Text) (to : Walk) (x y : Output) → Wrote config a b x → Writes r config path b c to y
+    → Writes r config path a c to (and_then x y)
+writes_then (Ok t) config path a b c to x y p q =
+    let P : Output → Type 0 = λ o. Writes (Ok t) config path a c to o in
+    subst P (sym (follow_all x.entries x.refusal y p.0)) (q.0, adds_then config.form a b c x.entries y.entries p.1 q.1, q.2)
+writes_then (Err e) config path a b c to x y p q =
     let P : Output → Type 0 = λ o. Stops e config a c o in
     subst P (sym (follow_all x.entries x.refusal y p.0)) (stops_then e config a b c x y p q)
 
@@ -133,78 +124,65 @@ part_follow : (form : Bool) (a c : Text) (es : List Entry) (r : Option Refusal) 
 part_follow form a c es None o h = part_more form a c es o.entries h
 part_follow form a c es (Some s) o h = h
 
--- an error in the first output
-pub stops_early : (e : Error) (config : Config) (a b : Text) (x y : Output) → Stops e config a b x → Stops e config a b (and_then x y)
-stops_early (Custom m) config a b x y p = p
-stops_early (MaxSerializationDepthExceeded n) config a b x y p =
-    let P : Output → Type 0 = λ o. (n ≡ config.max_depth) × (o.refusal ≡ Some too_deep) × Adds config.form a b o.entries in
-    subst P (sym (follow_stop x.entries x.refusal y too_deep p.1)) (p.0, refl, p.2)
-stops_early (Parse m n) config a b x y p = p
-stops_early Unsupported config a b x y p =
-    let P : Output → Type 0 = λ o. (o.refusal ≡ Some bad_key) × Adds config.form a b o.entries in
-    subst P (sym (follow_stop x.entries x.refusal y bad_key p.0)) (refl, p.1)
-stops_early (FromUtf8 e) config a b x y p = p
-stops_early (Io e) config a b x y p = part_follow config.form a b x.entries x.refusal y p
-stops_early (ParseInt e) config a b x y p = p
-stops_early (Utf8 e) config a b x y p = p
+-- a stop in the first output
+stops_early : (e : Stop) (config : Config) (a b : Text) (x y : Output) → Stops e config a b x → Stops e config a b (and_then x y)
+stops_early TooDeep config a b x y p = subst (Stops TooDeep config a b) (sym (follow_stop x.entries x.refusal y too_deep p.0)) (refl, p.1)
+stops_early BadKey config a b x y p = subst (Stops BadKey config a b) (sym (follow_stop x.entries x.refusal y bad_key p.0)) (refl, p.1)
+stops_early Io config a b x y p = part_follow config.form a b x.entries x.refusal y p
 stops_early OutOfMemory config a b x y p = some_more config.form a b x.entries x.refusal y p
-stops_early Failed config a b x y p = p
 
 -- no memory at once
 pub some_none : (form : Bool) (t : Text) (es : List Entry) → AddsSome form t t es
 some_none form t es = record { front = []; rest = es; parts = refl; adds = adds_nothing form t }
 
--- The invariant of a loop: whatever is yet written of the rest makes the whole.
-abbrev pub Continues : Config → Text → Text → Output → Output → Type 0
-Continues config start now rest whole = (r : Result (Unit {0}) Error) (last : Text) → Writes r config now last rest → Writes r config start last whole
+-- The invariant of a loop: the walk is where it was, and whatever is yet written of the rest makes the whole.
+abbrev pub Continues : Config → Text → Text → Walk → Walk → (Path → Output) → (Path → Output) → Type 0
+Continues config start now from here rest whole =
+    (path : Path) → IsAt config.form path from → IsAt config.form path here
+    × ((r : Result (Unit {0}) Stop) (last : Text) (to : Walk) → Writes r config path now last to (rest path) → Writes r config path start last to (whole path))
 
-pub continue_step : (config : Config) (start now next : Text) (mine rest old whole : Output) → Continues config start now old whole → old ≡ and_then mine rest
-    → Wrote config now next mine → Continues config start next rest whole
-continue_step config start now next mine rest old whole go e w =
-    λ r last h. let P : Output → Type 0 = λ o. Writes r config now last o in go r last (subst P (sym e) (writes_then r config now next last mine rest w h))
+module _ (config : Config) (start now next : Text) (from here there : Walk) (mine rest old whole : Path → Output)
+    (go : Continues config start now from here old whole) where
+  pub continue_step : ((path : Path) → old path ≡ and_then (mine path) (rest path)) → ((path : Path) → IsAt config.form path here → Writes (Ok tt) config path now next there (mine path))
+      → Continues config start next from there rest whole
+  continue_step e w =
+      λ path at. let g = go path at in
+      let m = w path g.0 in (
+        m.2,
+        λ r last to h. let P : Output → Type 0 = λ o. Writes r config path now last to o in
+            g.1 r last to (subst P (sym (e path)) (writes_then r config path now next last to (mine path) (rest path) (m.0, m.1) h)),
+      )
 
-pub continue_stop : (e : Error) (config : Config) (start now next : Text) (mine rest old whole : Output) → Continues config start now old whole → old ≡ and_then mine rest
-    → Stops e config now next mine → Stops e config start next whole
-continue_stop e config start now next mine rest old whole go same w =
-    let P : Output → Type 0 = λ o. Stops e config now next o in go (Err e) next (subst P (sym same) (stops_early e config now next mine rest w))
+  pub continue_stop : (e : Stop) → ((path : Path) → old path ≡ and_then (mine path) (rest path)) → ((path : Path) → IsAt config.form path here → Stops e config now next (mine path))
+      → (path : Path) → IsAt config.form path from → Stops e config start next (whole path)
+  continue_stop e same w =
+      λ path at. let g = go path at in
+      g.1 (Err e) next here (subst (Stops e config now next) (sym (same path)) (stops_early e config now next (mine path) (rest path) (w path g.0)))
 
-pub continue_end : (config : Config) (start now : Text) (old whole : Output) → Continues config start now old whole → old ≡ nothing → Wrote config start now whole
-continue_end config start now old whole go same =
-    let P : Output → Type 0 = λ o. Wrote config now now o in go (Ok tt) now (subst P (sym same) (wrote_nothing config now))
+pub continue_end : (config : Config) (start now : Text) (from here : Walk) (old whole : Path → Output) → Continues config start now from here old whole
+    → ((path : Path) → old path ≡ nothing) → (path : Path) → IsAt config.form path from → Writes (Ok tt) config path start now here (whole path)
+continue_end config start now from here old whole go same =
+    λ path at. let g = go path at in
+    let P : Output → Type 0 = λ o. Writes (Ok tt) config path now now here o in
+    g.1 (Ok tt) now here (subst P (sym (same path)) (refl, adds_nothing config.form now, g.0))
 
 -- what the exit of a `?` owes
-pub writes_exit : (r : Result (Unit {0}) Error) (e : Error) (config : Config) (a b : Text) (o : Output) → IsErrAnd r (λ y. y ≡ e) → Stops e config a b o → Writes r config a b o
-writes_exit (Ok x) e config a b o h s = absurd h
-writes_exit (Err y) e config a b o h s = let P : Error → Type 0 = λ z. Stops z config a b o in subst P (sym h) s
+pub writes_exit : (r : Result (Unit {0}) Stop) (e : Stop) (config : Config) (a b : Text) (from to : Walk) (part : Path → Output) → IsErrAnd r (λ y. y ≡ e)
+    → ((path : Path) → IsAt config.form path from → Stops e config a b (part path)) → (path : Path) → IsAt config.form path from → Writes r config path a b to (part path)
+writes_exit (Ok x) e config a b from to part h s = absurd h
+writes_exit (Err y) e config a b from to part h s = λ path at. let P : Stop → Type 0 = λ z. Stops z config a b (part path) in subst P (sym h) (s path at)
 
 -- after want of memory the text of some first entries stands
-pub writes_memory : (r : Result (Unit {0}) Error) (config : Config) (a b : Text) (o : Output) → Writes r config a b o → IsOutOfMemory r
-    → (k : ℕ) × Appends a.taken b.taken (written config.form a.started (take k o.entries))
-writes_memory (Ok x) config a b o w m = absurd m
-writes_memory (Err (Custom e)) config a b o w m = absurd m
-writes_memory (Err (MaxSerializationDepthExceeded n)) config a b o w m = absurd m
-writes_memory (Err (Parse e n)) config a b o w m = absurd m
-writes_memory (Err Unsupported) config a b o w m = absurd m
-writes_memory (Err (FromUtf8 e)) config a b o w m = absurd m
-writes_memory (Err (Io e)) config a b o w m = absurd m
-writes_memory (Err (ParseInt e)) config a b o w m = absurd m
-writes_memory (Err (Utf8 e)) config a b o w m = absurd m
-writes_memory (Err OutOfMemory) config a b o w m =
-    let front : take (length w.front) o.entries ≡ w.front = ap (take (length w.front)) w.parts ∙ take-append_seam w.front w.rest in
-    (length w.front, subst (λ es. Appends a.taken b.taken (written config.form a.started es)) (sym front) w.adds.text)
-writes_memory (Err Failed) config a b o w m = absurd m
+pub some_entries : (form : Bool) (a b : Text) (es : List Entry) → AddsSome form a b es → (k : ℕ) × Appends a.taken b.taken (written form a.started (take k es))
+some_entries form a b es w =
+    let front : take (length w.front) es ≡ w.front = ap (take (length w.front)) w.parts ∙ take-append_seam w.front w.rest in
+    (length w.front, subst (λ es. Appends a.taken b.taken (written form a.started es)) (sym front) w.adds.text)
 
 -- whatever was added is visible
-pub writes_visible : (r : Result (Unit {0}) Error) (config : Config) (a b : Text) (o : Output) → Writes r config a b o
+pub writes_visible : (r : Result (Unit {0}) Stop) (config : Config) (path : Path) (a b : Text) (to : Walk) (o : Output) → Writes r config path a b to o
     → (added : List ℕ) × Appends a.taken b.taken added × All IsVisible added
-writes_visible (Ok x) config a b o w = (_, w.1.text, w.1.visible)
-writes_visible (Err (Custom e)) config a b o w = absurd w
-writes_visible (Err (MaxSerializationDepthExceeded n)) config a b o w = (_, w.2.text, w.2.visible)
-writes_visible (Err (Parse e n)) config a b o w = absurd w
-writes_visible (Err Unsupported) config a b o w = (_, w.1.text, w.1.visible)
-writes_visible (Err (FromUtf8 e)) config a b o w = absurd w
-writes_visible (Err (Io e)) config a b o w = (_, w.text, w.visible)
-writes_visible (Err (ParseInt e)) config a b o w = absurd w
-writes_visible (Err (Utf8 e)) config a b o w = absurd w
-writes_visible (Err OutOfMemory) config a b o w = (_, w.adds.text, w.adds.visible)
-writes_visible (Err Failed) config a b o w = absurd w
+writes_visible (Ok x) config path a b to o w = (_, w.1.text, w.1.visible)
+writes_visible (Err TooDeep) config path a b to o w = (_, w.1.text, w.1.visible)
+writes_visible (Err BadKey) config path a b to o w = (_, w.1.text, w.1.visible)
+writes_visible (Err Io) config path a b to o w = (_, w.text, w.visible)
+writes_visible (Err OutOfMemory) config path a b to o w = (_, w.adds.text, w.adds.visible)

@@ -17,4 +17,5 @@ pub mod Sizes
 pub mod Nesting
 pub mod Equality
 pub mod EqualityLaws
-pub mod Comparing
+pub mod Fitting
+pub mod ReadBack

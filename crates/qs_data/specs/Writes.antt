@@ -1,14 +1,18 @@
 -- What a call that writes leaves.
-use Rattle.std.specs.Prelude.{◌≡◌, ℕ, ◌<◌, ◌≤◌, Bool, true, List, ◌++◌, length, take, Option, Some, None, Result, Ok, Err}
+use Rattle.std.specs.Prelude.{◌≡◌, ℕ, ◌<◌, ◌≤◌, Bool, true, List, [], ◌∷◌, ◌++◌, length, take, Option, Some, None, Result, Ok, Err}
 use Rattle.std.specs.List.{All}
 use Rattle.std.specs.Io.KnownBytes.{Appends}
 use Rattle.qs_spec.specs.Config.{Config}
 use Rattle.qs_spec.specs.Data.{Data}
-use Rattle.qs_spec.specs.Entry.{Entry, Output, too_deep, bad_key}
-use Rattle.qs_spec.specs.Written.{written, started_after}
+use Rattle.qs_spec.specs.Escape.{encoded}
+use Rattle.qs_spec.specs.Entry.{Path, Entry, Output, too_deep, bad_key}
+use Rattle.qs_spec.specs.Written.{open_bytes, close_bytes, brackets_text, written, started_after}
 use Rattle.qs_tree.specs.declared.error.Error.{Error}
 use Rattle.qs_tree.specs.declared.error.Error.TheVariants.{Custom, MaxSerializationDepthExceeded, Parse, Unsupported, FromUtf8, Io, ParseInt, Utf8, OutOfMemory, Failed}
 use Rattle.qs_data.specs.declared.write.entry.Stream.{Stream}
+use Rattle.qs_data.specs.declared.write.entry.Walk.{Walk}
+use Rattle.qs_data.specs.declared.write.stop.Stop.{Stop}
+use Rattle.qs_data.specs.declared.write.stop.Stop.TheVariants as stop
 
 -- a byte above the space and below 0x7F
 abbrev pub IsVisible : ℕ → Type 0
@@ -46,31 +50,42 @@ pub record AddsPart (form : Bool) (old new : Text) (es : List Entry) : Type 0 wh
   pub failed : new.failed ≡ true
   pub writer : new.writer ≡ old.writer
 
--- what stands after each error
-abbrev pub Stops : Error → Config → Text → Text → Output → Type 0
-Stops (Custom message) config old new o = ⊥
-Stops (MaxSerializationDepthExceeded depth) config old new o = (depth ≡ config.max_depth) × (o.refusal ≡ Some too_deep) × Adds config.form old new o.entries
-Stops (Parse message position) config old new o = ⊥
-Stops Unsupported config old new o = (o.refusal ≡ Some bad_key) × Adds config.form old new o.entries
-Stops (FromUtf8 cause) config old new o = ⊥
-Stops (Io cause) config old new o = AddsPart config.form old new o.entries
-Stops (ParseInt cause) config old new o = ⊥
-Stops (Utf8 cause) config old new o = ⊥
-Stops OutOfMemory config old new o = AddsSome config.form old new o.entries
-Stops Failed config old new o = ⊥
+-- what stands after each stop
+abbrev pub Stops : Stop → Config → Text → Text → Output → Type 0
+Stops stop.TooDeep config old new o = (o.refusal ≡ Some too_deep) × Adds config.form old new o.entries
+Stops stop.BadKey config old new o = (o.refusal ≡ Some bad_key) × Adds config.form old new o.entries
+Stops stop.Io config old new o = AddsPart config.form old new o.entries
+Stops stop.OutOfMemory config old new o = AddsSome config.form old new o.entries
 
--- all entries were written and there is no refusal, or what the error says
-abbrev pub Writes : {T : Type 0} → Result T Error → Config → Text → Text → Output → Type 0
-Writes (Ok x) config old new o = (o.refusal ≡ None) × Adds config.form old new o.entries
-Writes (Err e) config old new o = Stops e config old new o
+-- a path behind `&`
+abbrev pub path_behind : Bool → Path → List ℕ
+path_behind form [] = []
+path_behind form (s ∷ path) = 38 ∷ (encoded form s ++ brackets_text form path)
+
+-- such a text with one more segment
+abbrev pub grown : Bool → List ℕ → List ℕ → List ℕ
+grown form [] s = 38 ∷ encoded form s
+grown form (b ∷ text) s = (b ∷ text) ++ (open_bytes form ++ (encoded form s ++ close_bytes form))
+
+-- the walk is at this path
+pub record IsAt (form : Bool) (path : Path) (walk : Walk) : Type 0 where
+  pub depth : walk.depth ≡ length path
+  pub text : walk.text.items ≡ path_behind form path
+  pub visible : All IsVisible walk.text.items
+
+-- all entries were written, there is no refusal and the walk is where it was, or what the stop says
+abbrev pub Writes : Result (Unit {0}) Stop → Config → Path → Text → Text → Walk → Output → Type 0
+Writes (Ok x) config path old new walk o = (o.refusal ≡ None) × Adds config.form old new o.entries × IsAt config.form path walk
+Writes (Err e) config path old new walk o = Stops e config old new o
 
 -- a stream and the text in it, by what its sink tells
 abbrev pub text_in : {S : Type 0} → (S → Option (List ℕ)) → (S → Bool) → (S → ℕ) → Stream S → Text
 text_in taken failed name stream = record { taken = taken stream.sink; failed = failed stream.sink; writer = name stream.sink; started = stream.started }
 
--- what a call that writes to a stream leaves
-abbrev pub WritesTo : {S T : Type 0} → (S → Option (List ℕ)) → (S → Bool) → (S → ℕ) → Result T Error → Config → Stream S → Stream S → Output → Type 0
-WritesTo taken failed name result config old new o = Writes result config (text_in taken failed name old) (text_in taken failed name new) o
+-- what a call leaves that writes a part of the data to a stream, wherever the walk is
+abbrev pub WritesTo : {S : Type 0} → (S → Option (List ℕ)) → (S → Bool) → (S → ℕ) → Result (Unit {0}) Stop → Config → Stream S → Stream S → Walk → Walk → (Path → Output) → Type 0
+WritesTo taken failed name result config old new from to part =
+    (path : Path) → IsAt config.form path from → Writes result config path (text_in taken failed name old) (text_in taken failed name new) to (part path)
 
 -- no value or nothing, also in options and types of their own: what takes no memory where it stands alone
 abbrev pub IsBare : Data → Type 0

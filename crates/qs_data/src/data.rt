@@ -4,7 +4,7 @@ ghost use Rattle.qs_data.specs.Equality.{data_same};
 ghost use Rattle.qs_data.specs.EqualityLaws.{data_per, data_equivalence};
 ghost use Rattle.qs_data.specs.Views.{data_of};
 
-use crate::comparing::meet;
+use crate::sameness::same_data;
 
 /// A value as a querystring carries it.
 ///
@@ -49,15 +49,14 @@ pub enum Data {
     StructVariant(String, Vec<(String, Data)>),
 }
 
-/// Takes no more stack for deep data than for flat ones, as long as there is memory for what waits to be compared. What finds no
-/// memory is compared by calls.
+/// Calls itself for each level of the data, and doesn't allocate.
 impl PartialEq for Data {
     ghost eq = { λ a b. data_same (data_of a) (data_of b) };
 
     ghost laws = { on_per data_of data_per };
 
     fn eq(&self, other: &Data) -> bool {
-        meet(self, other).is_same()
+        same_data(self, other)
     }
 }
 

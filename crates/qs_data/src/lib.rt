@@ -1,13 +1,15 @@
 //! Reading data by a shape, and writing data.
 #![tactic(auto)]
 
-mod comparing;
 mod copy;
 mod data;
 mod deserializer;
 mod discard;
 mod distinct;
+mod fits;
+mod plain;
 mod read;
+mod sameness;
 mod serializer;
 mod shape;
 mod sink;

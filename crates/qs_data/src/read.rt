@@ -11,7 +11,7 @@ mod maps;
 mod nested;
 mod scalar;
 mod variants;
-mod width;
+pub(crate) mod width;
 
 ghost use Rattle.std.specs.Prelude.{IsTrue, true};
 ghost use Rattle.qs_spec.specs.Read.{reads, read_ignored, read_option};

@@ -10,7 +10,7 @@ ghost use Rattle.qs_data.specs.Views.{data_of};
 
 use crate::data::Data;
 use crate::sink::{ByWrite, Sink};
-use crate::write::{Stream, Walk, write_data};
+use crate::write::{Stop, Stream, Walk, write_all};
 use qs_tree::{Config, Error, Result};
 use std::alloc::Global;
 use std::io::Write;
@@ -136,9 +136,19 @@ impl<S: Sink> Serializer<S> {
         if self.failed {
             return Err(Error::Failed);
         }
+        self.failed = true;
         let mut walk = Walk::new(alloc);
-        let result = write_data(&mut self.stream, &mut walk, self.config, datum);
-        self.failed = result.is_err();
-        result
+        match write_all(&mut self.stream, &mut walk, self.config, datum) {
+            Ok(()) => {
+                self.failed = false;
+                Ok(())
+            }
+            Err(Stop::TooDeep) => Err(Error::MaxSerializationDepthExceeded(
+                self.config.get_max_depth(),
+            )),
+            Err(Stop::BadKey) => Err(Error::Unsupported),
+            Err(Stop::Io) => Err(Error::Io(walk.cause)),
+            Err(Stop::OutOfMemory) => Err(Error::OutOfMemory),
+        }
     }
 }

@@ -1,11 +1,13 @@
 //! Where written text goes.
 
-ghost use Rattle.std.specs.Prelude.{◌≡◌, ℕ, ◌<◌, List, length, take, Bool, false, ◌||◌, OnOk, OnErr, is_err};
+ghost use Rattle.std.specs.Prelude.{◌≡◌, ℕ, ◌<◌, List, length, take, Bool, false, ◌||◌, OnOk, IfErr, is_err};
 ghost use Rattle.std.specs.declared.option.Option.{Option};
 ghost use Rattle.std.specs.Io.{WritesAtMost};
 ghost use Rattle.std.specs.Io.KnownBytes.{Appends, WriteAppends};
 ghost use Rattle.qs_data.specs.Put.{is_refused};
+ghost use Rattle.qs_data.specs.declared.write.stop.Stop.TheVariants.{Io};
 
+use crate::write::Stop;
 use std::io;
 use std::io::Write;
 
@@ -87,21 +89,31 @@ impl<W: Write + Drop> Sink for ByWrite<W> {
     }
 }
 
-/// Puts all of these bytes, one put after another, until one is refused.
-pub(crate) fn put_all<S: Sink>(sink: &mut S, bytes: &[u8]) -> io::Result<()>
+/// Puts all of these bytes, one put after another, until one is refused; `cause` then says why.
+pub(crate) fn put_all<S: Sink>(
+    sink: &mut S,
+    bytes: &[u8],
+    cause: &mut io::Error,
+) -> Result<(), Stop>
     ensures all { OnOk result (Appends (S.taken sink.old) (S.taken sink.new) bytes.now) }
-    ensures part { OnErr result ((n : ℕ) × (n < length bytes.now)
+    ensures part { IfErr result (λ stop. (stop ≡ Io) × (n : ℕ) × (n < length bytes.now)
         × Appends (S.taken sink.old) (S.taken sink.new) (take n bytes.now)) }
     ensures fails { S.failed sink.new ≡ (S.failed sink.old || is_err result) }
     ensures same_writer { S.writer_name sink.new ≡ S.writer_name sink.old }
 {
     let mut rest = bytes;
     while !rest.is_empty() {
-        let count = sink.put(rest)?;
-        if count == 0 {
-            return Err(io::Error::from(io::ErrorKind::WriteZero));
+        match sink.put(rest) {
+            Ok(0) => {
+                *cause = io::Error::from(io::ErrorKind::WriteZero);
+                return Err(Stop::Io);
+            }
+            Ok(count) => rest = &rest[count..],
+            Err(error) => {
+                *cause = error;
+                return Err(Stop::Io);
+            }
         }
-        rest = &rest[count..];
     }
     Ok(())
 }

@@ -1,10 +1,13 @@
-//! Data of 200,000 levels are compared, and discarded afterwards.
+//! Data of 200,000 levels are discarded, and data of 10,000 are compared.
 
 use crate::build::Build;
 use serde_qs::Data;
 use std::process::Abort;
 
-const LEVELS: usize = 200_000;
+// What is compared is compared by calls, level by level.
+const COMPARED: usize = 10_000;
+
+const DISCARDED: usize = 200_000;
 
 // Each kind of data that holds others, in turn. A leaf stands before or behind what goes on.
 fn deeper<R: Abort>(b: &Build<'_, R>, level: usize, inner: Data) -> Data {
@@ -22,25 +25,25 @@ fn deeper<R: Abort>(b: &Build<'_, R>, level: usize, inner: Data) -> Data {
     }
 }
 
-fn deep<R: Abort>(b: &Build<'_, R>, bottom: Data) -> Data {
+fn deep<R: Abort>(b: &Build<'_, R>, levels: usize, bottom: Data) -> Data {
     let mut datum = bottom;
-    for level in 0..LEVELS {
+    for level in 0..levels {
         datum = deeper(b, level, datum);
     }
     datum
 }
 
-fn deep_option<R: Abort>(b: &Build<'_, R>, bottom: Data) -> Data {
+fn deep_option<R: Abort>(b: &Build<'_, R>, levels: usize, bottom: Data) -> Data {
     let mut datum = bottom;
-    for _ in 0..LEVELS {
+    for _ in 0..levels {
         datum = b.some(datum);
     }
     datum
 }
 
-fn deep_list<R: Abort>(b: &Build<'_, R>, bottom: Data) -> Data {
+fn deep_list<R: Abort>(b: &Build<'_, R>, levels: usize, bottom: Data) -> Data {
     let mut datum = bottom;
-    for _ in 0..LEVELS {
+    for _ in 0..levels {
         datum = b.list([datum, Data::Unit]);
     }
     datum
@@ -62,9 +65,9 @@ fn deep_data_of_each_kind(rt: HostRuntime) {
         rt: &rt,
         alloc: rt.alloc(),
     };
-    let datum = deep(&b, b.text("a"));
-    let same = deep(&b, b.text("a"));
-    let other = deep(&b, b.text("b"));
+    let datum = deep(&b, COMPARED, b.text("a"));
+    let same = deep(&b, COMPARED, b.text("a"));
+    let other = deep(&b, COMPARED, b.text("b"));
     compared(&rt, datum, same, other);
 }
 
@@ -74,9 +77,9 @@ fn deep_options(rt: HostRuntime) {
         rt: &rt,
         alloc: rt.alloc(),
     };
-    let datum = deep_option(&b, Data::Unit);
-    let same = deep_option(&b, Data::Unit);
-    let other = deep_option(&b, Data::None);
+    let datum = deep_option(&b, COMPARED, Data::Unit);
+    let same = deep_option(&b, COMPARED, Data::Unit);
+    let other = deep_option(&b, COMPARED, Data::None);
     compared(&rt, datum, same, other);
 }
 
@@ -86,8 +89,19 @@ fn deep_lists(rt: HostRuntime) {
         rt: &rt,
         alloc: rt.alloc(),
     };
-    let datum = deep_list(&b, Data::Bool(true));
-    let same = deep_list(&b, Data::Bool(true));
-    let other = deep_list(&b, Data::Bool(false));
+    let datum = deep_list(&b, COMPARED, Data::Bool(true));
+    let same = deep_list(&b, COMPARED, Data::Bool(true));
+    let other = deep_list(&b, COMPARED, Data::Bool(false));
     compared(&rt, datum, same, other);
+}
+
+#[test]
+fn deep_data_are_discarded(rt: HostRuntime) {
+    let b = Build {
+        rt: &rt,
+        alloc: rt.alloc(),
+    };
+    deep(&b, DISCARDED, Data::Unit).discard();
+    deep_option(&b, DISCARDED, Data::Unit).discard();
+    deep_list(&b, DISCARDED, Data::Unit).discard();
 }

@@ -11,6 +11,10 @@ fn escaped(rt: HostRuntime) -> Result<(), Fail> {
     let rows = [
         ("100% a+b", "100%25+a%2Bb", "100%25%20a%2Bb"),
         ("é", "%C3%A9", "%C3%A9"),
+        ("hello, world!", "hello,+world!", "hello%2C%20world%21"),
+        ("a-b.c_d*Z9", "a-b.c_d*Z9", "a-b.c_d*Z9"),
+        ("a[b]=c&d", "a%5Bb%5D%3Dc%26d", "a%5Bb%5D%3Dc%26d"),
+        ("~/:\x00\x7F", "~/:%00%7F", "%7E%2F%3A%00%7F"),
     ];
     for (bytes, query, form) in rows {
         for (is_form, wanted) in [(false, query), (true, form)] {
@@ -18,6 +22,51 @@ fn escaped(rt: HostRuntime) -> Result<(), Fail> {
             encode(bytes.as_bytes(), is_form, &mut out)?;
             assert_eq!(rt; out.as_slice(), wanted.as_bytes(), "{bytes}");
         }
+    }
+    Ok(())
+}
+
+#[test]
+fn escaped_after_what_is_there(rt: HostRuntime) -> Result<(), Fail> {
+    let mut out = Vec::from_slice(rt.alloc(), b"x=")?;
+    encode(b"", false, &mut out)?;
+    encode(b"1 2", false, &mut out)?;
+    assert_eq!(rt; out.as_slice(), b"x=1+2".as_slice());
+    Ok(())
+}
+
+#[test]
+fn long_texts_escaped(rt: HostRuntime) -> Result<(), Fail> {
+    let (mut text, mut query, mut form) = (
+        Vec::new(rt.alloc()),
+        Vec::new(rt.alloc()),
+        Vec::new(rt.alloc()),
+    );
+    for _ in 0..30 {
+        text.extend_from_slice(b"words and more words, then an & ")?;
+        query.extend_from_slice(b"words+and+more+words,+then+an+%26+")?;
+        form.extend_from_slice(b"words%20and%20more%20words%2C%20then%20an%20%26%20")?;
+        for (is_form, expected) in [(false, &query), (true, &form)] {
+            let mut out = Vec::new(rt.alloc());
+            encode(&text, is_form, &mut out)?;
+            assert_eq!(rt; &out, expected);
+            let back = decode(rt.alloc(), &out)?;
+            assert_eq!(rt; back.as_slice(), text.as_slice());
+        }
+    }
+    Ok(())
+}
+
+#[test]
+fn plain_bytes_are_borrowed(rt: HostRuntime) -> Result<(), Fail> {
+    for bytes in [
+        b"".as_slice(),
+        b"a[b]=1&c".as_slice(),
+        b"\x00\xFF ".as_slice(),
+    ] {
+        let text = decode(rt.alloc(), bytes)?;
+        assert_eq!(rt; text.as_slice(), bytes);
+        assert!(rt; matches!(&text, CowSlice::Borrowed(_)));
     }
     Ok(())
 }
@@ -32,6 +81,15 @@ fn read_back(rt: HostRuntime) -> Result<(), Fail> {
         ("%4%41", "%4%41"),
         ("%4+1", "%4+1"),
         ("%4", "%4"),
+        ("%a%", "%a%"),
+        ("100%", "100%"),
+        ("%g1", "%g1"),
+        ("%A+", "%A+"),
+        ("a%5bb%5d=1", "a[b]=1"),
+        ("%C3%a9", "é"),
+        ("%2541", "%41"),
+        ("Jane+%2B+John", "Jane + John"),
+        ("++", "  "),
     ];
     for (bytes, wanted) in rows {
         let decoded = decode(rt.alloc(), bytes.as_bytes())?;

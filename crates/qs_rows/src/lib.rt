@@ -4,9 +4,17 @@
 #[cfg(test)]
 mod build;
 #[cfg(test)]
+mod configurations;
+#[cfg(test)]
 mod deep;
 #[cfg(test)]
+mod errors;
+#[cfg(test)]
 mod escapes;
+#[cfg(test)]
+mod maps;
+#[cfg(test)]
+mod read_back;
 #[cfg(test)]
 mod reading;
 #[cfg(test)]

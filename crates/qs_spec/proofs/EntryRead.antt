@@ -15,28 +15,28 @@ use Rattle.qs_spec.proofs.Spelled.{token_of_byte, no_bracket, is_other, encoded_
 use Rattle.qs_spec.proofs.Booleans.{and_both}
 
 -- segments in brackets and then some text, and a whole key and then some text
-abbrev brackets_then : Bool → Path → List ℕ → List ℕ
+abbrev pub brackets_then : Bool → Path → List ℕ → List ℕ
 brackets_then form [] text = text
 brackets_then form (s ∷ path) text = open_bytes form ++ (encoded form s ++ (close_bytes form ++ brackets_then form path text))
 
-abbrev key_then : Bool → Path → List ℕ → List ℕ
+abbrev pub key_then : Bool → Path → List ℕ → List ℕ
 key_then form [] text = text
 key_then form (s ∷ path) text = encoded form s ++ brackets_then form path text
 
-brackets_first : (form : Bool) (path : Path) (text : List ℕ) → brackets_text form path ++ text ≡ brackets_then form path text
+pub brackets_first : (form : Bool) (path : Path) (text : List ℕ) → brackets_text form path ++ text ≡ brackets_then form path text
 brackets_first form [] text = refl
 brackets_first form (s ∷ path) text =
     append_assoc (open_bytes form) (encoded form s ++ (close_bytes form ++ brackets_text form path)) text
     ∙ ap (λ l. open_bytes form ++ l) (append_assoc (encoded form s) (close_bytes form ++ brackets_text form path) text
     ∙ ap (λ l. encoded form s ++ l) (append_assoc (close_bytes form) (brackets_text form path) text ∙ ap (λ l. close_bytes form ++ l) (brackets_first form path text)))
 
-key_first : (form : Bool) (path : Path) (text : List ℕ) → path_text form path ++ text ≡ key_then form path text
+pub key_first : (form : Bool) (path : Path) (text : List ℕ) → path_text form path ++ text ≡ key_then form path text
 unfolding path_text
 key_first form [] text = refl
 key_first form (s ∷ path) text = append_assoc (encoded form s) (brackets_text form path) text ∙ ap (λ l. encoded form s ++ l) (brackets_first form path text)
 
 -- runs of other tokens are runs
-other_run : (ends : Kind → Bool) → ends Other ≡ false → (ts : List Token) → list_all (λ t. is_other t.kind) ts ≡ true → IsRun ends ts
+pub other_run : (ends : Kind → Bool) → ends Other ≡ false → (ts : List Token) → list_all (λ t. is_other t.kind) ts ≡ true → IsRun ends ts
 other_run ends e [] h = refl
 other_run ends e (t ∷ ts) h =
     let p = and_both (is_other t.kind) _ h in
@@ -49,7 +49,7 @@ other_run ends e (t ∷ ts) h =
     of Kind.Open h = cc
     of Kind.Close h = cc
 
-joins : (path : List Step) (s : Step) (more : List Step) → (path ++ s ∷ []) ++ more ≡ path ++ s ∷ more
+pub joins : (path : List Step) (s : Step) (more : List Step) → (path ++ s ∷ []) ++ more ≡ path ++ s ∷ more
 joins path s more = append_assoc path (s ∷ []) more
 
 brackets_front : (form : Bool) (room : ℕ) (segs : List (List ℕ)) (s : List ℕ) (v : Option (List ℕ)) (path : List Step) (bracket rest : List ℕ) → suc (length segs) ≤ room → IsSegment form s → AllByRecursion (IsSegment form) segs → IsValueOf ([] ∷ []) v
@@ -80,11 +80,11 @@ brackets_front form (suc room) (s2 ∷ segs) s v path bracket rest l h hs i =
           ∙ sym (append_assoc (g.first ∷ g.more) (close_token form ∷ open_token form ∷ w.toks) (tokens form rest));
     }
 
-root_run : (depth : ℕ) (ts : List Token) → list_all (λ t. is_other t.kind) ts ≡ true → IsRun (ends_root depth) ts
+pub root_run : (depth : ℕ) (ts : List Token) → list_all (λ t. is_other t.kind) ts ≡ true → IsRun (ends_root depth) ts
 root_run zero ts h = other_run (ends_root zero) refl ts h
 root_run (suc depth) ts h = other_run (ends_root (suc depth)) refl ts h
 
-some_value : (segs : List (List ℕ)) (v : Option (List ℕ)) → HasSegments segs → IsValueOf segs v → IsValueOf ([] ∷ []) v
+pub some_value : (segs : List (List ℕ)) (v : Option (List ℕ)) → HasSegments segs → IsValueOf segs v → IsValueOf ([] ∷ []) v
 some_value [] v k h = absurd k
 some_value (s ∷ segs) None k h = h
 some_value (s ∷ segs) (Some v) k h = h
@@ -127,7 +127,7 @@ key_brackets form (suc depth) s s2 segs v rest l h h2 hs i =
           ∙ sym (append_assoc (g.first ∷ g.more) (open_token form ∷ w.toks) (tokens form rest));
     }
 
-entry_front : (form : Bool) (depth : ℕ) (path : List (List ℕ)) (v : Option (List ℕ)) (rest : List ℕ) → AllByRecursion (IsSegment form) path → length path ≤ depth + 1 → IsValueOf path v → HasSegments path
+pub entry_front : (form : Bool) (depth : ℕ) (path : List (List ℕ)) (v : Option (List ℕ)) (rest : List ℕ) → AllByRecursion (IsSegment form) path → length path ≤ depth + 1 → IsValueOf path v → HasSegments path
     → Front (λ ts. IsPair depth ts (plain (steps form path) (leaf_of form v))) form (key_then form path (value_text form v)) rest
 entry_front form depth [] v rest h l i k = absurd k
 entry_front form depth (s ∷ []) v rest h l i k = key_value form depth s v rest h.0 (some_value (s ∷ []) v tt i)
@@ -151,12 +151,12 @@ value_pair form depth (Some v) h =
     }
 
 -- one pair and nothing else
-alone : {form : Bool} {depth : ℕ} {text : List ℕ} {p : Pair} → Front (λ ts. IsPair depth ts p) form text [] → ArePairs depth (tokens form text) (p ∷ [])
+pub alone : {form : Bool} {depth : ℕ} {text : List ℕ} {p : Pair} → Front (λ ts. IsPair depth ts p) form text [] → ArePairs depth (tokens form text) (p ∷ [])
 alone {form} {depth} {text} {p} f =
     subst (λ (ts : List Token). ArePairs depth ts (p ∷ [])) (sym (ap (tokens form) (sym (append-nil text)) ∙ f.whole)) (ArePairs.pair f.toks [] f.is tt ArePairs.none)
 
 -- one pair in front of `&` and others
-before : {form : Bool} {depth : ℕ} {text rest : List ℕ} {p : Pair} {ps : List Pair} → Front (λ ts. IsPair depth ts p) form text (38 ∷ rest) → ArePairs depth (tokens form rest) ps → ArePairs depth (tokens form (text ++ 38 ∷ rest)) (p ∷ ps)
+pub before : {form : Bool} {depth : ℕ} {text rest : List ℕ} {p : Pair} {ps : List Pair} → Front (λ ts. IsPair depth ts p) form text (38 ∷ rest) → ArePairs depth (tokens form rest) ps → ArePairs depth (tokens form (text ++ 38 ∷ rest)) (p ∷ ps)
 before {form} {depth} {text} {rest} {p} {ps} f more =
     subst (λ (ts : List Token). ArePairs depth ts (p ∷ ps)) (sym (f.whole ∙ ap (λ l. f.toks ++ l) (token_of_byte form 38 rest (no_bracket form 38 rest refl))))
     (ArePairs.pair f.toks (byte_token 38 ∷ tokens form rest) f.is refl (ArePairs.amp refl more))
@@ -166,11 +166,11 @@ has_key_of [] h = absurd h
 has_key_of (s ∷ path) h = refl
 
 -- entries with paths, behind nothing and behind another one
-text_of_first : (form : Bool) (e : Entry) (es : List Entry) → HasPath e → written form false (e ∷ es) ≡ (path_text form e.path ++ value_text form e.value) ++ written form true es
+pub text_of_first : (form : Bool) (e : Entry) (es : List Entry) → HasPath e → written form false (e ∷ es) ≡ (path_text form e.path ++ value_text form e.value) ++ written form true es
 unfolding written entry_text
 text_of_first form e es k = ap (λ b. (cond b [] [] ++ (path_text form e.path ++ value_text form e.value)) ++ written form b es) (has_key_of e.path k)
 
-text_of_next : (form : Bool) (e : Entry) (es : List Entry) → HasPath e → written form true (e ∷ es) ≡ 38 ∷ written form false (e ∷ es)
+pub text_of_next : (form : Bool) (e : Entry) (es : List Entry) → HasPath e → written form true (e ∷ es) ≡ 38 ∷ written form false (e ∷ es)
 unfolding written entry_text
 text_of_next form e es k =
     ap (λ b. (cond b (38 ∷ []) [] ++ (path_text form e.path ++ value_text form e.value)) ++ written form true es) (has_key_of e.path k)

@@ -15,8 +15,6 @@ pub mod Empty
 pub mod Scan
 pub mod Sound
 pub mod Reorder
-pub mod Unmarked
-pub mod Ties
 pub mod Places
 pub mod Marks
 pub mod Alike
@@ -37,3 +35,16 @@ pub mod KeysBack
 pub mod Ascending
 pub mod Lookup
 pub mod ScalarsBack
+pub mod Permuted
+pub mod PushRead
+pub mod Placed
+pub mod Nodes
+pub mod Branches
+pub mod Tidy
+pub mod AtKeys
+pub mod GoodParts
+pub mod ReadBack
+pub mod Fitting
+pub mod PartOrders
+pub mod WrittenBack
+pub mod EntryPlaces

@@ -54,7 +54,7 @@ put_eq k x xs e = ap (λ o. put_by o k x xs (put k xs)) e
 pub put_gt : (k x : Segment) (xs : List Segment) → compare_segments k x ≡ Greater → put k (x ∷ xs) ≡ x ∷ put k xs
 put_gt k x xs e = ap (λ o. put_by o k x xs (put k xs)) e
 
-pub turned_less : (a b : Segment) → compare_segments a b ≡ Less → compare_segments b a ≡ Greater
+turned_less : (a b : Segment) → compare_segments a b ≡ Less → compare_segments b a ≡ Greater
 turned_less a b e = turned b a ∙ ap ordering_reverse e
 
 put_less : (a b : Segment) (ks : List Segment) → compare_segments a b ≡ Less → put a (put b ks) ≡ put b (put a ks)

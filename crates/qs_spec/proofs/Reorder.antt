@@ -17,7 +17,7 @@ pub data Swaps : List Pair → List Pair → Type 0 where
   swap : (p q : Pair) (ps : List Pair) → meet p q ≡ false → Swaps (p ∷ q ∷ ps) (q ∷ p ∷ ps)
   both : {ps qs rs : List Pair} → Swaps ps qs → Swaps qs rs → Swaps ps rs
 
-pub to_place : (p : Pair) (front back : List Pair) → AllByRecursion (λ q. IsFalse (meet p q)) front → Swaps (p ∷ (front ++ back)) (front ++ p ∷ back)
+to_place : (p : Pair) (front back : List Pair) → AllByRecursion (λ q. IsFalse (meet p q)) front → Swaps (p ∷ (front ++ back)) (front ++ p ∷ back)
 to_place p [] back h = same (p ∷ back)
 to_place p (q ∷ front) back h = both (swap p q (front ++ back) h.0) (keep q (to_place p front back h.1))
 
@@ -35,7 +35,7 @@ under_keep k (s ∷ path) p {a} {b} w = by (is_same_segment k s.seg)
     by false = w
 
 -- paths of two that don't meet
-abbrev pub Apart : List Step → List Step → Type 0
+abbrev Apart : List Step → List Step → Type 0
 Apart a b = (is_front a b || is_front b a) ≡ false
 
 pub apart_rest : (s t : Step) (a b : List Step) → is_same_segment s.seg t.seg ≡ true → is_same_segment t.seg s.seg ≡ true → Apart (s ∷ a) (t ∷ b) → Apart a b
@@ -65,7 +65,7 @@ event_swap [] b p q l m h e = cc
 event_swap (s ∷ a) [] p q l m h e = cc
 event_swap (s ∷ a) (t ∷ b) p q l m h e = refl
 
-pub history_swaps : {ps qs : List Pair} → Swaps ps qs → map event ps ≡ map event qs
+history_swaps : {ps qs : List Pair} → Swaps ps qs → map event ps ≡ map event qs
 history_swaps (same ps) = refl
 history_swaps (keep p w) = ap (λ h. event p ∷ h) (history_swaps w)
 history_swaps (swap p q ps h) = event_swap p.path q.path p.push q.push p.leaf q.leaf (map event ps) h
@@ -81,7 +81,7 @@ apart_filled [] b e = cc
 apart_filled (s ∷ a) [] e = cc
 apart_filled (s ∷ a) (t ∷ b) e = e
 
-pub swaps_filled : {ps qs : List Pair} → Swaps ps qs → Swaps (filled ps) (filled qs)
+swaps_filled : {ps qs : List Pair} → Swaps ps qs → Swaps (filled ps) (filled qs)
 swaps_filled (same ps) = same (filled ps)
 swaps_filled (keep p w) = keep (record p { path = filled_path p.path }) (swaps_filled w)
 swaps_filled (swap p q ps h) = swap (record p { path = filled_path p.path }) (record q { path = filled_path q.path }) (filled ps) (apart_filled p.path q.path h)
@@ -93,13 +93,13 @@ heads_swap (s ∷ a) [] ks = refl
 heads_swap (s ∷ a) (t ∷ b) ks = put_twice s.seg t.seg ks
 
 -- the keys of a node depend on which segments come first, and not on their order
-pub heads_swaps : {ps qs : List Pair} → Swaps ps qs → heads ps ≡ heads qs
+heads_swaps : {ps qs : List Pair} → Swaps ps qs → heads ps ≡ heads qs
 heads_swaps (same ps) = refl
 heads_swaps (keep p w) = ap (put_head p.path) (heads_swaps w)
 heads_swaps (swap p q ps h) = heads_swap p.path q.path (heads ps)
 heads_swaps (both w v) = heads_swaps w ∙ heads_swaps v
 
-pub longest_swaps : {ps qs : List Pair} → Swaps ps qs → longest ps ≡ longest qs
+longest_swaps : {ps qs : List Pair} → Swaps ps qs → longest ps ≡ longest qs
 longest_swaps (same ps) = refl
 longest_swaps (keep p w) = ap (max _) (longest_swaps w)
 longest_swaps (swap p q ps h) = omega arith

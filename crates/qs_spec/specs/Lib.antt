@@ -18,4 +18,9 @@ pub mod Relation
 pub mod Entry
 pub mod Written
 pub mod Worked
+pub mod Plain
+pub mod Fits
+pub mod Listed
+pub mod Same
+pub mod ReadBack
 pub mod toward

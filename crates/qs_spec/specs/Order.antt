@@ -47,14 +47,6 @@ abbrev mutual
   unmarked_entries no_entries = no_entries
   unmarked_entries (entry k mark t es) = entry k false (unmarked t) (unmarked_entries es)
 
--- no key of the pair is marked
-abbrev pub IsUnmarked : Pair → Type 0
-IsUnmarked p = AllByRecursion (λ s. IsFalse s.mark) p.path
-
--- no key of any pair is marked
-abbrev pub AreUnmarked : List Pair → Type 0
-AreUnmarked ps = AllByRecursion IsUnmarked ps
-
 -- The second list has the pairs of the first, and keeps the order of every two that meet: the first pair stands behind pairs
 -- that it doesn't meet, and without it the rest is such an order of the rest.
 abbrev pub IsReordering : List Pair → List Pair → Type 0

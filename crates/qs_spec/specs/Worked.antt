@@ -1,5 +1,5 @@
 -- Short words for the worked examples: trees, shapes and data, and what is read of an input and written of data.
-use Rattle.std.specs.Prelude.{◌≡◌, ℕ, false, List, [], ◌∷◌, Option}
+use Rattle.std.specs.Prelude.{◌≡◌, ℕ, false, List, [], ◌∷◌, Option, None}
 use Rattle.qs_spec.specs.Config.{Config}
 use Rattle.qs_spec.specs.Segment.{Segment}
 use Rattle.qs_spec.specs.Leaf.{Leaf}
@@ -47,3 +47,8 @@ pub record IsRead (config : Config) (shape : Shape) (input : List ℕ) (answer :
 pub record IsWritten (config : Config) (d : Data) (text : List ℕ) (refusal : Option Refusal) : Type 0 where
   pub text_is : written config.form false (entries config d).entries ≡ text
   pub refusal_is : (entries config d).refusal ≡ refusal
+
+-- the data are written as the text, and this is what the shape reads from it
+pub record IsReadAs (config : Config) (shape : Shape) (d : Data) (text : List ℕ) (answer : Option Data) : Type 0 where
+  pub written : IsWritten config d text None
+  pub read : IsRead config shape text answer

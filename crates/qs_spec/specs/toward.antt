@@ -2,3 +2,5 @@ pub mod InPlace
 pub mod Reading
 pub mod Entries
 pub mod Keys
+pub mod Parts
+pub mod Fitting

@@ -6,14 +6,12 @@ ghost use Rattle.qs_spec.specs.Segment.{Segment};
 ghost use Rattle.qs_spec.specs.Grammar.{Pair, ArePairs};
 ghost use Rattle.qs_spec.specs.History.{events};
 ghost use Rattle.qs_spec.specs.Tree.{node};
-ghost use Rattle.qs_spec.specs.Order.{IsReordering, KeepsOrder, AreReordered, AreAlike, AreUnmarked, unmarked, unmarked_pair};
+ghost use Rattle.qs_spec.specs.Order.{IsReordering, KeepsOrder, AreReordered, AreAlike, unmarked, unmarked_pair};
 
 /// An order of the pairs that keeps those that meet changes no history, and of the node at most marks.
-/// Where no key is marked, it has the very same node.
 pub fn reordered_pairs()
     ensures histories { (ps qs : List Pair) → IsReordering ps qs → (path : List Segment) → events ps path ≡ events qs path }
     ensures nodes { (ps qs : List Pair) → IsReordering ps qs → unmarked (node ps) ≡ unmarked (node qs) }
-    ensures same { (ps qs : List Pair) → IsReordering ps qs → AreUnmarked ps → node ps ≡ node qs }
 {}
 
 /// An order of places that keeps those that meet is such an order.

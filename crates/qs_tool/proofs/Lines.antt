@@ -1,5 +1,5 @@
 -- Lines that are right, where the input is known.
-use Rattle.std.proofs.Common.{◌≡◌, ℕ, List, [], ◌++◌, take, Option, None, Some, refl, sym, subst, inl, inr, append-nil}
+use Rattle.std.proofs.Common.{◌≡◌, ◌≢◌, ℕ, arith, List, [], ◌++◌, take, Option, None, Some, refl, sym, subst, inl, inr, append-nil}
 use Rattle.std.specs.Option.{IfSome}
 use Rattle.std.specs.Io.KnownBytes.{Appends}
 use Rattle.qs_tool.specs.Arguments.{Word, asked}
@@ -22,6 +22,14 @@ Appends-nil (Some xs) = sym (append-nil xs)
 pub right_line : (words : List Word) (request : Request) (input line : List ℕ) (status : ℕ) → Some request ≡ asked words
     → IsAnswer request (without_newline input) line status → IsLine words input line status
 right_line words request input line status e p = subst (λ asked. IsLineOf asked input line status) e p
+
+pub two_goes_on : ◌≢◌ {A = ℕ} 2 3
+two_goes_on e = absurd (omega (arith, e))
+
+-- an answer ends with status 0 or 1
+pub never_stopped : (request : Request) (input line : List ℕ) (status : ℕ) → IsAnswer request input line status → status ≢ 3
+never_stopped request input line status (inl (text, printed, same, ended)) e = absurd (omega (arith, ended, e))
+never_stopped request input line status (inr (faulty, error, ended)) e = absurd (omega (arith, ended, e))
 
 pub usage_is_right : (words : List Word) (input : List ℕ) → None ≡ asked words → IsLine words input usage_line 2
 usage_is_right words input e = subst (λ asked. IsLineOf asked input usage_line 2) e (refl, refl)

@@ -1,5 +1,6 @@
 -- What the program writes, and the status that it ends with.
-use Rattle.std.specs.Prelude.{◌≡◌, ℕ, ◌-◌, ◌==◌, List, [], ◌∷◌, ◌++◌, ◌⊎◌, length, take, slice_index, if◌then◌else◌, false, Option, Some, None, IfSome, codes}
+use Rattle.std.specs.Prelude.{◌≡◌, ℕ, ◌-◌, ◌<◌, ◌==◌, List, [], ◌∷◌, ◌++◌, ◌⊎◌, length, take, slice_index, if◌then◌else◌, false, Option, Some, None, IfSome, codes}
+use Rattle.std.specs.Io.KnownBytes.{IsAtEnd}
 use Rattle.qs_spec.specs.Config.{Config}
 use Rattle.qs_spec.specs.Data.{Data}
 use Rattle.qs_spec.specs.Tree.{Tree, IsTree, IsRefused}
@@ -82,6 +83,9 @@ IsLineOf (Some request) input line status = IsAnswer request (without_newline in
 abbrev pub IsLine : List Word → List ℕ → List ℕ → ℕ → Type 0
 IsLine words input line status = IsLineOf (asked words) input line status
 
--- a line that a run begins to write: the right one, or the one that says that memory was refused
-abbrev pub IsBegun : List Word → List ℕ → List ℕ → Type 0
-IsBegun words input line = (line ≡ memory_line) ⊎ ((status : ℕ) × IsLine words input line status)
+-- so many bytes of a line that a run writes and then ends with status 3: of the line that says that memory was refused, or of the right one, which isn't
+-- written whole, and is only begun where the input was read to its end or not asked for
+abbrev pub IsBegun : List Word → List ℕ → Option (List ℕ) → List ℕ → ℕ → Type 0
+IsBegun words input left line n =
+    (line ≡ memory_line)
+    ⊎ ((n < length line) × ((asked words ≡ None) ⊎ IsAtEnd left) × ((status : ℕ) × IsLine words input line status))

@@ -1,6 +1,7 @@
 //! The answer to an input: a line and a status.
 
-ghost use Rattle.std.specs.Prelude.{◌≡◌, IfOk, IfSome};
+ghost use Rattle.std.specs.Prelude.{◌≡◌, IfOk, IfSome, OnOk};
+ghost use Rattle.std.specs.Io.KnownBytes.{IsAtEnd};
 ghost use Rattle.qs_tool.specs.Fault.{is_memory};
 ghost use Rattle.qs_tool.specs.Line.{IsAnswer, IsErrorLine, TellsError, without_newline};
 
@@ -20,8 +21,9 @@ pub struct Answer {
 
 /// The answer to the reader's input.
 pub fn respond<R: Read>(alloc: Global, request: Request, reader: &mut R) -> Result<Answer, Stop>
-    ensures { IfOk result (λ answer. IfSome (R.remaining reader.old)
+    ensures answer { IfOk result (λ answer. IfSome (R.remaining reader.old)
         (λ input. IsAnswer request (without_newline input) answer.line.items answer.status)) }
+    ensures ended { OnOk result (IsAtEnd (R.remaining reader.new)) }
 {
     let input = read_input(alloc, reader)?;
     Ok(answer_to(alloc, request, before_newline(input.as_slice()))?)

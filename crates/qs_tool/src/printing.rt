@@ -1,8 +1,13 @@
 //! What a command prints of the input that it reads.
 
-ghost use Rattle.std.specs.Prelude.{◌≡◌, Some, None, IfOk};
-ghost use Rattle.qs_tree.specs.Error.{OnlyOutOfMemory};
-ghost use Rattle.qs_data.specs.Views.{data_of};
+ghost use Rattle.std.specs.Prelude.{◌≡◌, Some, None, IfOk, true};
+ghost use Rattle.qs_spec.specs.Shape.{is_distinct};
+ghost use Rattle.qs_spec.specs.Tree.{IsTree, IsRefused};
+ghost use Rattle.qs_tree.specs.Error.{IsParse, OnlyOutOfMemory, OnlyParseOrOutOfMemory};
+ghost use Rattle.qs_data.specs.Gives.{Gives, OnlyCustomUtf8OrOutOfMemory};
+ghost use Rattle.qs_data.specs.Parsed.{parsed_of, reading};
+ghost use Rattle.qs_data.specs.Text.{is_text};
+ghost use Rattle.qs_data.specs.Views.{data_of, shape_of};
 ghost use Rattle.qs_tool.specs.Fault.{IfFault};
 ghost use Rattle.qs_tool.specs.Line.{IsFaulty, IsPrinted, printed, rewritten};
 ghost use Rattle.qs_tool.specs.Shown.{shown};
@@ -10,7 +15,7 @@ ghost use Rattle.qs_tool.specs.Shown.{shown};
 use crate::arguments::{Command, Request};
 use crate::shapes::shape_for;
 use crate::showing::show;
-use serde_qs::{Config, Data, Deserializer, Result, Serializer};
+use serde_qs::{Config, Data, Deserializer, Result, Serializer, Shape};
 use std::alloc::Global;
 
 /// What is printed of the input, or why it is refused.
@@ -19,11 +24,30 @@ pub fn printed(alloc: Global, request: Request, input: &[u8]) -> Result<Vec<u8>>
     ensures fault { IfFault result (IsFaulty request input.now) }
 {
     let shape = shape_for(alloc, request.command)?;
-    let deserializer = Deserializer::with_config(alloc, request.config, input)?;
-    let value = deserializer.read(alloc, &shape)?;
+    let deserializer = parsed(alloc, request.config, input)?;
+    let value = read_data(alloc, deserializer, &shape)?;
     let text = text_of(alloc, request, &value);
     value.discard();
     text
+}
+
+// The querystring, parsed, with what is asked of that here.
+fn parsed<'qs>(alloc: Global, config: Config, input: &'qs [u8]) -> Result<Deserializer<'qs>>
+    ensures config { IfOk result (λ d. (parsed_of d).config ≡ config) }
+    ensures tree { IfOk result (λ d. IsTree config.form config.max_depth input.now (parsed_of d).tree) }
+    ensures refused { IsParse result → IsRefused config.form config.max_depth input.now }
+    ensures errors { OnlyParseOrOutOfMemory result }
+{
+    Deserializer::with_config(alloc, config, input)
+}
+
+// The data that a shape reads, with what is asked of that here.
+fn read_data(alloc: Global, deserializer: Deserializer<'_>, shape: &Shape) -> Result<Data>
+    requires { is_distinct (shape_of shape.now) ≡ true }
+    ensures exact { Gives data_of (is_text (parsed_of deserializer.entry).tree) result (reading (parsed_of deserializer.entry) (shape_of shape.now)) }
+    ensures errors { OnlyCustomUtf8OrOutOfMemory result }
+{
+    deserializer.read(alloc, shape)
 }
 
 /// The text of the data: `any` shows them, the other commands write them as a querystring.

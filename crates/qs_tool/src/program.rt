@@ -1,7 +1,7 @@
 //! The program over any reader and writer.
 
-ghost use Rattle.std.specs.Prelude.{◌≡◌, ◌≢◌, ℕ, ◌≤◌, List, None, length, take, map, string_bytes, IfSome};
-ghost use Rattle.std.specs.Io.KnownBytes.{Appends};
+ghost use Rattle.std.specs.Prelude.{◌≡◌, ◌≢◌, ◌⊎◌, ℕ, ◌<◌, List, None, length, take, map, string_bytes, IfSome};
+ghost use Rattle.std.specs.Io.KnownBytes.{Appends, IsAtEnd};
 ghost use Rattle.qs_tool.specs.Arguments.{asked};
 ghost use Rattle.qs_tool.specs.Line.{IsLine, IsBegun, usage_line};
 
@@ -37,8 +37,9 @@ pub fn run<R: Read, W: Write>(alloc: Global, args: &[String], reader: &mut R, wr
     ensures usage { asked (map string_bytes args.now) ≡ None → result ≢ 3 →
         (result ≡ 2) × Appends (W.contents writer.old) (W.contents writer.new) usage_line }
     ensures unread { asked (map string_bytes args.now) ≡ None → reader.new ≡ reader.old }
+    ensures ended { result ≢ 3 → (asked (map string_bytes args.now) ≡ None) ⊎ IsAtEnd (R.remaining reader.new) }
     ensures stopped { IfSome (R.remaining reader.old) (λ input. result ≡ 3 →
-        (line : List ℕ) × (n : ℕ) × IsBegun (map string_bytes args.now) input line
+        (line : List ℕ) × (n : ℕ) × IsBegun (map string_bytes args.now) input (R.remaining reader.new) line n
         × Appends (W.contents writer.old) (W.contents writer.new) (take n line)) }
 {
     let Some(request) = Request::parse(args) else {
@@ -54,6 +55,7 @@ pub fn run<R: Read, W: Write>(alloc: Global, args: &[String], reader: &mut R, wr
 /// Writes the line, and answers the status, or 3 where the line was not taken whole.
 fn finish<W: Write>(writer: &mut W, line: &[u8], status: u8) -> u8
     ensures done { result ≢ 3 → (result ≡ status) × Appends (W.contents writer.old) (W.contents writer.new) line.now }
+    ensures cut { status ≢ 3 → result ≡ 3 → (n : ℕ) × (n < length line.now) × Appends (W.contents writer.old) (W.contents writer.new) (take n line.now) }
     ensures part { (n : ℕ) × Appends (W.contents writer.old) (W.contents writer.new) (take n line.now) }
 {
     match write_all(writer, line) {

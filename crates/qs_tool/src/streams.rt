@@ -1,7 +1,7 @@
 //! The input taken whole, and the line put whole.
 
 ghost use Rattle.std.specs.Prelude.{◌≡◌, ℕ, ◌<◌, length, take, IfOk, IfSome, OnOk, OnErr};
-ghost use Rattle.std.specs.Io.KnownBytes.{Appends};
+ghost use Rattle.std.specs.Io.KnownBytes.{Appends, IsAtEnd};
 
 use std::alloc::{AllocError, Global};
 use std::io::{Read, Write};
@@ -34,7 +34,8 @@ impl From<AllocError> for Stop {
 
 /// All that the reader has, by as many reads as are allowed.
 pub fn read_input<R: Read>(alloc: Global, reader: &mut R) -> Result<Vec<u8>, Stop>
-    ensures { IfOk result (λ bytes. IfSome (R.remaining reader.old) (λ input. bytes.items ≡ input)) }
+    ensures all { IfOk result (λ bytes. IfSome (R.remaining reader.old) (λ input. bytes.items ≡ input)) }
+    ensures ended { OnOk result (IsAtEnd (R.remaining reader.new)) }
 {
     let mut input = Vec::new(alloc);
     let mut buffer = [0u8; READ_SIZE];

@@ -1,13 +1,13 @@
 -- What stands behind a key, by the raw bytes of runs.
-use Rattle.std.proofs.Common.{◌≡◌, ℕ, suc, ◌-◌, Bool, true, false, cond, ◌&&◌, List, [], ◌∷◌, ◌++◌, length, take, drop, refl, sym, ap, ap₂, ◌∙◌, subst, arith, Option, Some, None, Result, length-append, ◌==◌, ◌<◌, ◌⊎◌, ⊎_elim, eqb-true}
+use Rattle.std.proofs.Common.{◌≡◌, ℕ, zero, suc, ◌-◌, Bool, true, false, cond, ◌&&◌, List, [], ◌∷◌, ◌++◌, length, take, drop, refl, sym, ap, ap₂, ◌∙◌, subst, arith, Option, Some, None, Result, length-append, ◌==◌, ◌<◌, ◌⊎◌, ⊎_elim}
 use Rattle.std.proofs.Math.Seq.{take-append_seam}
 use Rattle.std.proofs.lemmas.List.{drop_at, map-append}
 use Rattle.qs_spec.specs.Token.{Kind, Token, tokens, byte_token, is_escaped_bracket, raw_of}
 use Rattle.qs_spec.specs.Token.Kind.{Amp, Equals, Open, Close, Other}
 use Rattle.qs_spec.specs.Segment.{Step, step_of}
 use Rattle.qs_spec.specs.Leaf.{NoValue}
-use Rattle.qs_spec.specs.Grammar.{Pair, plain, pushed, longer, is_equals, is_close, ends_last}
-use Rattle.qs_spec.specs.toward.Reading.{Rest, cut, cut_at, with_leaf, read_value, value_at, after_close, after_close_at, after_run, in_segment, in_last, read_brackets}
+use Rattle.qs_spec.specs.Grammar.{Pair, plain, pushed, longer, is_equals, is_open, is_close, ends_last}
+use Rattle.qs_spec.specs.toward.Reading.{Rest, cut, with_leaf, read_value, value_at, after_close, after_close_at, after_run, in_segment, in_last, read_brackets}
 use Rattle.qs_tree.specs.declared.key.Key.{Key}
 use Rattle.qs_tree.specs.declared.cursor.Kind as kind
 use Rattle.qs_tree.specs.declared.cursor.Token as code
@@ -17,7 +17,7 @@ use Rattle.qs_tree.specs.declared.reading.Fault as fault
 use Rattle.qs_tree.specs.Views.{step_of_key}
 use Rattle.qs_tree.specs.Pairs.{path_of}
 use Rattle.qs_tree.specs.Cursor.{kind_of_token, token_of, behind, left, taken, IsLeft, IsPast}
-use Rattle.qs_tree.specs.Reading.{IsClosing, StandsBehind, ReadsPair, in_bracket}
+use Rattle.qs_tree.specs.Reading.{IsClosing, StandsBehind, ReadsPair, root_path, behind_root, behind_root_at}
 
 -- what is left behind some bytes
 pub left_behind : (start front rest : List ℕ) → start ≡ front ++ rest → IsLeft start rest
@@ -44,28 +44,6 @@ has_bytes form (b ∷ c ∷ e ∷ rest) = by (form && is_escaped_bracket b c e)
     by : (x : Bool) → HasBytes (cond x (record { kind = cond (e == 66) Open Close; raw = b ∷ c ∷ e ∷ [] } ∷ tokens form rest) (byte_token b ∷ tokens form (c ∷ e ∷ rest)))
     by true = (b, c ∷ e ∷ [], refl)
     by false = (b, [], refl)
-
--- below the limit
-bracket_cut : (room : ℕ) (path : List Step) (bracket : List ℕ) (ts : List Token) → HasBytes ts → read_brackets (suc room) path bracket ts ≡ in_bracket room path (raw_of (cut is_close ts).0) (cut is_close ts).1
-bracket_cut room path bracket [] h = refl
-bracket_cut room path bracket (t ∷ ts) h = by (is_close t.kind)
-  where
-    after : (c : List Token × List Token) → after_run (read_brackets room) (longer path (raw_of (t ∷ c.0))) c.1 ≡ in_bracket room path (t.raw ++ raw_of c.0) c.1
-    after c = ends c.1
-      where
-        ends : (stop : List Token) → after_run (read_brackets room) (longer path (t.raw ++ raw_of c.0)) stop ≡ in_bracket room path (t.raw ++ raw_of c.0) stop
-        ends [] = refl
-        ends (u ∷ rest) = subst (λ raw. after_close (read_brackets room) (longer path (raw ++ raw_of c.0)) rest ≡ in_bracket room path (raw ++ raw_of c.0) (u ∷ rest)) (sym h.2) refl
-
-    by : (x : Bool) → in_segment x (read_brackets room) path t ts ≡ in_bracket room path (raw_of (cut_at x t ts (cut is_close ts)).0) (cut_at x t ts (cut is_close ts)).1
-    by true = refl
-    by false = after (cut is_close ts)
-
-pub bracket_read : (form : Bool) (bytes : List ℕ) (room : ℕ) (path : List Step) (bracket raw : List ℕ) (stop : List Token)
-    → raw ≡ raw_of (cut is_close (tokens form bytes)).0 → (cut is_close (tokens form bytes)).1 ≡ stop
-    → read_brackets (suc room) path bracket (tokens form bytes) ≡ in_bracket room path raw stop
-bracket_read form bytes room path bracket raw stop e s =
-    bracket_cut room path bracket (tokens form bytes) (has_bytes form bytes) ∙ ap₂ (in_bracket room path) (sym e) s
 
 -- a path and one key more
 pub path_more : (keys new : List Key) (key : Key) (raw : List ℕ) → new ≡ keys ++ key ∷ [] → step_of_key key ≡ step_of raw → path_of new ≡ longer (path_of keys) raw
@@ -95,34 +73,33 @@ pub last_found : (path : List Step) (bracket raw : List ℕ) (t : Token) (ts sto
 last_found path bracket raw t ts stop other e s =
     ap (λ x. in_last x path bracket t ts) other ∙ ap₂ (λ r u. with_leaf (plain (longer path r)) (read_value u)) (sym e) s
 
--- below the limit: the end, a push, or a segment
-less_one : (room : ℕ) → 0 < room → room ≡ suc (room - 1)
-less_one room h = omega arith
+-- behind a bracket: the end, a push, or a segment
+pub end_found : (room : ℕ) (path : List Step) (bracket : List ℕ) → read_brackets room path bracket [] ≡ None
+end_found zero path bracket = refl
+end_found (suc room) path bracket = refl
 
-below : (form : Bool) (bytes : List ℕ) (room : ℕ) (path : List Step) (bracket raw : List ℕ) (stop : List Token)
-    → 0 < room → raw ≡ raw_of (cut is_close (tokens form bytes)).0 → (cut is_close (tokens form bytes)).1 ≡ stop
-    → read_brackets room path bracket (tokens form bytes) ≡ in_bracket (room - 1) path raw stop
-below form bytes room path bracket raw stop h e s =
-    ap (λ n. read_brackets n path bracket (tokens form bytes)) (less_one room h) ∙ bracket_read form bytes (room - 1) path bracket raw stop e s
+pub push_found : (room : ℕ) (path : List Step) (bracket : List ℕ) (t : Token) (ts : List Token) → is_close t.kind ≡ true → read_brackets room path bracket (t ∷ ts) ≡ with_leaf (pushed path) (read_value ts)
+push_found zero path bracket t ts e = ap (λ x. in_last x path bracket t ts) e
+push_found (suc room) path bracket t ts e = ap (λ x. in_segment x (read_brackets room) path t ts) e
 
-module _ (form : Bool) (bytes : List ℕ) (room : ℕ) (path : List Step) (bracket raw : List ℕ) (stop : Option code.Token) (rest : List Token)
-    (some : 0 < room) (run : raw ≡ raw_of (cut is_close (tokens form bytes)).0) (token : (cut is_close (tokens form bytes)).1 ≡ behind stop rest) where
-  pub below_end : stop ≡ None → read_brackets room path bracket (tokens form bytes) ≡ None
-  below_end e = below form bytes room path bracket raw [] some run (token ∙ ap (λ s. behind s rest) e)
+segment_found : (room : ℕ) (path : List Step) (bracket : List ℕ) (t : Token) (ts : List Token) → 0 < room → is_close t.kind ≡ false
+    → read_brackets room path bracket (t ∷ ts) ≡ after_run (read_brackets (room - 1)) (longer path (raw_of (t ∷ (cut is_close ts).0))) (cut is_close ts).1
+segment_found zero path bracket t ts h e = absurd (omega (arith, h))
+segment_found (suc room) path bracket t ts h e =
+    let less : room ≡ suc room - 1 = omega arith in
+    ap (λ x. in_segment x (read_brackets room) path t ts) e ∙ ap (λ n. after_run (read_brackets n) (longer path (raw_of (t ∷ (cut is_close ts).0))) (cut is_close ts).1) less
 
-  pub below_push : (t : code.Token) → stop ≡ Some t → (length raw == 0) ≡ true → read_brackets room path bracket (tokens form bytes) ≡ with_leaf (pushed path) (read_value rest)
-  below_push t e empty = below form bytes room path bracket raw (token_of t ∷ rest) some run (token ∙ ap (λ s. behind s rest) e) ∙ by raw empty
-    where
-      by : (raw : List ℕ) → (length raw == 0) ≡ true → in_bracket (room - 1) path raw (token_of t ∷ rest) ≡ with_leaf (pushed path) (read_value rest)
-      by [] e = refl
-      by (b ∷ raw) e = absurd (omega (arith, eqb-true (length (b ∷ raw)) 0 e))
+-- a token, and the bytes from its place on
+pub first_token : (place raw old new kept : List ℕ) → place ≡ old → old ≡ raw ++ new → kept ≡ new → place ≡ raw ++ kept
+first_token place raw old new kept at bytes same = at ∙ bytes ∙ ap (λ l. raw ++ l) (sym same)
 
-  pub below_segment : (t : code.Token) → stop ≡ Some t → (length raw == 0) ≡ false → read_brackets room path bracket (tokens form bytes) ≡ after_close (read_brackets (room - 1)) (longer path raw) rest
-  below_segment t e full = below form bytes room path bracket raw (token_of t ∷ rest) some run (token ∙ ap (λ s. behind s rest) e) ∙ by raw full
-    where
-      by : (raw : List ℕ) → (length raw == 0) ≡ false → in_bracket (room - 1) path raw (token_of t ∷ rest) ≡ after_close (read_brackets (room - 1)) (longer path raw) rest
-      by [] e = cc
-      by (b ∷ raw) e = refl
+-- a segment whose key was put to the path
+pub segment_read : (room : ℕ) (keys new : List Key) (key : Key) (bracket raw : List ℕ) (t : Token) (ts stop : List Token) → 0 < room → is_close t.kind ≡ false
+    → raw ≡ t.raw ++ raw_of (cut is_close ts).0 → (cut is_close ts).1 ≡ stop → new ≡ keys ++ key ∷ [] → step_of_key key ≡ step_of raw
+    → read_brackets room (path_of keys) bracket (t ∷ ts) ≡ after_run (read_brackets (room - 1)) (path_of new) stop
+segment_read room keys new key bracket raw t ts stop h e run token items k =
+    segment_found room (path_of keys) bracket t ts h e
+    ∙ ap₂ (after_run (read_brackets (room - 1))) (ap (longer (path_of keys)) (sym run) ∙ sym (path_more keys new key raw items k)) token
 
 -- behind a closed segment
 module _ (room : ℕ) (path : List Step) (t : code.Token) (rest : List Token) where
@@ -146,14 +123,18 @@ module _ (room : ℕ) (path : List Step) (t : code.Token) (rest : List Token) wh
 pub pair_as : (found same : Rest Pair) (r : Result code_pair.Pair fault.Fault) (new : cursor.Cursor) → found ≡ same → ReadsPair same r new → ReadsPair found r new
 pair_as found same r new e h = subst (λ f. ReadsPair f r new) (sym e) h
 
--- behind a segment whose key was put to the path
-pub segment_found : (form : Bool) (bytes : List ℕ) (room : ℕ) (keys : List Key) (bracket raw : List ℕ) (stop : Option code.Token) (rest : List Token) (t : code.Token) (new : List Key) (key : Key)
-    → 0 < room → raw ≡ raw_of (cut is_close (tokens form bytes)).0 → (cut is_close (tokens form bytes)).1 ≡ behind stop rest → stop ≡ Some t → (length raw == 0) ≡ false
-    → new ≡ keys ++ key ∷ [] → step_of_key key ≡ step_of raw
-    → read_brackets room (path_of keys) bracket (tokens form bytes) ≡ after_close (read_brackets (room - 1)) (path_of new) rest
-segment_found form bytes room keys bracket raw stop rest t new key some run token e full items k =
-    below_segment form bytes room (path_of keys) bracket raw stop rest some run token t e full
-    ∙ ap (λ p. after_close (read_brackets (room - 1)) p rest) (sym (path_more keys new key raw items k))
+-- behind a root key and an opening bracket
+pub root_open : (depth : ℕ) (key : List ℕ) (stop : Option code.Token) (t : code.Token) (ts us : List Token) (path : List Step) → stop ≡ Some t → is_open (kind_of_token t.kind) ≡ true → ts ≡ us → path ≡ root_path key
+    → behind_root depth key (behind stop ts) ≡ read_brackets depth path t.raw.now us
+root_open depth key stop t ts us path is opens same p =
+    ap₂ (λ o l. behind_root depth key (behind o l)) is same ∙ by (kind_of_token t.kind) opens ∙ ap (λ q. read_brackets depth q t.raw.now us) (sym p)
+  where
+    by : (k : Kind) → is_open k ≡ true → behind_root_at k depth (root_path key) (token_of t) us ≡ read_brackets depth (root_path key) t.raw.now us
+    by Open e = refl
+    by Amp e = cc
+    by Equals e = cc
+    by Close e = cc
+    by Other e = cc
 
 pub closes : (k : kind.Kind) → (k ≡ kind.TheVariants.Ampersand) ⊎ (k ≡ kind.TheVariants.Equals) → ends_last (kind_of_token k) ≡ true
 closes k h = ⊎_elim (λ e. ap (λ k. ends_last (kind_of_token k)) e) (λ e. ap (λ k. ends_last (kind_of_token k)) e) h

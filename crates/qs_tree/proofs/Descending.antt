@@ -1,20 +1,18 @@
 -- What a step on the way along a path leaves.
-use Rattle.std.proofs.Common.{◌≡◌, ℕ, ◌+◌, Bool, List, [], ◌∷◌, ◌++◌, Option, Some, None, option_map, option_and_then, Result, Ok, Err, refl, sym, ap, ◌∙◌}
+use Rattle.std.proofs.Common.{◌≡◌, ℕ, ◌+◌, Bool, List, [], ◌∷◌, ◌++◌, Option, Some, None, option_map, option_and_then, refl, sym, ap, subst, ◌∙◌, append-nil}
 use Rattle.qs_spec.specs.Segment.{Step}
 use Rattle.qs_spec.specs.Leaf.{Leaf}
 use Rattle.qs_spec.specs.Tree.{Tree, Entries}
 use Rattle.qs_spec.specs.Tree.Tree.{leaf, sequence, mapping, uninitialized}
 use Rattle.qs_spec.specs.toward.InPlace.{update, add_below, add}
 use Rattle.qs_tree.specs.declared.descent.OpenMap.{OpenMap}
-use Rattle.qs_tree.specs.declared.key.Key.{Key}
 use Rattle.qs_tree.specs.declared.conflict.Refusal.{Refusal}
 use Rattle.qs_tree.specs.declared.conflict.Refusal.TheVariants as refusal
 use Rattle.qs_tree.specs.Views.{segment_of_key, step_of_key}
-use Rattle.qs_tree.specs.Pairs.{path_of}
 use Rattle.qs_tree.specs.Draft.{draft_entries, Takes}
-use Rattle.qs_tree.specs.Conflict.{Clash, child, node_below, clash_below, clash_here, conflict_at, conflict_of, conflict_along, or_else}
-use Rattle.qs_tree.specs.Adding.{Gives, IsRefusal, entries_below}
-use Rattle.qs_tree.specs.Descent.{put_back, put_all_back, IsPlaced, ArePlaced, IsOpen, Leads, IsBarred}
+use Rattle.qs_tree.specs.Conflict.{node_below, clash_below, clash_here, conflict_at, conflict_along, or_else}
+use Rattle.qs_tree.specs.Adding.{IsRefusal, entries_below}
+use Rattle.qs_tree.specs.Descent.{put_back, put_all_back, IsOpen, Leads, IsBarred}
 use Rattle.qs_tree.proofs.Turns.{refused_too, updated, one_below, none_clash, child_below}
 
 -- the node at a key is taken out of the map that a node is or becomes
@@ -23,9 +21,8 @@ module _ (m : OpenMap) (before taken : Tree) (es : Entries) (is : entries_below 
   kept None = refl
   kept (Some u) = ap (option_map mapping) (sym (takes.rest u))
 
-  pub opened : IsPlaced m → IsOpen (step_of_key m.key) before m taken
-  opened placed = record {
-    placed = placed;
+  pub opened : IsOpen (step_of_key m.key) before m taken
+  opened = record {
     free = none_clash before es is;
     node = takes.node ∙ sym (child_below (segment_of_key m.key) before es is);
     whole = λ f. one_below (step_of_key m.key) f before es is ∙ ap (option_map mapping) (updated (step_of_key m.key) f es takes.ordered)
@@ -49,21 +46,9 @@ put_lowest_if : (ms : List OpenMap) (m : OpenMap) (o : Option Tree) → option_a
 put_lowest_if ms m None = refl
 put_lowest_if ms m (Some t) = sym (put_lowest ms m t)
 
-placed_lowest : (ms : List OpenMap) (m : OpenMap) → ArePlaced ms → IsPlaced m → ArePlaced (ms ++ m ∷ [])
-placed_lowest [] m all one = (one, tt)
-placed_lowest (n ∷ ms) m all one = (all.0, placed_lowest ms m all.1 one)
-
-pub lowest_placed : (ms : List OpenMap) (m : OpenMap) → ArePlaced (ms ++ m ∷ []) → IsPlaced m
-lowest_placed [] m all = all.0
-lowest_placed (n ∷ ms) m all = lowest_placed ms m all.1
-
-pub upper_placed : (ms : List OpenMap) (m : OpenMap) → ArePlaced (ms ++ m ∷ []) → ArePlaced ms
-upper_placed [] m all = tt
-upper_placed (n ∷ ms) m all = (all.0, upper_placed ms m all.1)
-
 -- the way begins
 pub begins : (level : ℕ) (path : List Step) (node : Tree) → Leads level path node [] level path node
-begins level path node = record { placed = tt; whole = λ tail push l. sym (itself (add (path ++ tail) push l node)); conflict = λ tail last. refl }
+begins level path node = record { whole = λ tail push l. sym (itself (add (path ++ tail) push l node)); conflict = λ tail last. refl }
 
 nothing_below : (s : Step) (f : Tree → Option Tree) (t : Tree) → entries_below t ≡ None → add_below s f t ≡ None
 nothing_below s f (leaf l) none = refl
@@ -75,7 +60,6 @@ module _ (level : ℕ) (path : List Step) (node : Tree) (ms : List OpenMap) (lev
   -- and goes on below one map more
   pub goes_on : (m : OpenMap) (taken : Tree) → IsOpen s node' m taken → Leads level path node (ms ++ m ∷ []) (level' + 1) rest taken
   goes_on m taken opens = record {
-    placed = placed_lowest ms m way.placed opens.placed;
     whole = λ tail push l. way.whole tail push l ∙ ap (option_and_then (put_all_back ms)) (opens.whole (add (rest ++ tail) push l)) ∙ put_lowest_if ms m (add (rest ++ tail) push l taken);
     conflict = λ tail last. way.conflict tail last ∙ ap (λ c. or_else (conflict_at level' c) (conflict_along (level' + 1) (rest ++ tail) last (node_below s.seg node'))) opens.free
         ∙ ap (conflict_along (level' + 1) (rest ++ tail) last) (sym opens.node);
@@ -89,23 +73,21 @@ module _ (level : ℕ) (path : List Step) (node : Tree) (ms : List OpenMap) (lev
   )
   ends refusal.OutOfMemory h = λ tail push l last. tt
 
--- what is made with the rest of a pair is put back, or refused
-module _ (push : Bool) (l : Leaf) (path tail : List Step) (node : Tree) (ms : List OpenMap) (level : ℕ) (node' : Tree) (way : Leads 0 path node ms level [] node') where
-  pub refused_at_end : (refusal : Refusal) → IsRefusal (add tail push l node') (conflict_along level tail (clash_here push) node') refusal
-      → IsRefusal (add (path ++ tail) push l node) (conflict_of (path ++ tail) push node) refusal
-  refused_at_end refusal h = refused_too (add tail push l node') _ _ _ refusal (λ none. way.whole tail push l ∙ ap (option_and_then (put_all_back ms)) none) (sym (way.conflict tail (clash_here push))) h
+-- what is made at the end of the way is put back, or refused
+module _ (push : Bool) (l : Leaf) (from : ℕ) (path : List Step) (node : Tree) (ms : List OpenMap) (level : ℕ) (node' : Tree) (way : Leads from path node ms level [] node') where
+  whole_way : add path push l node ≡ option_and_then (put_all_back ms) (add [] push l node')
+  whole_way = ap (λ p. add p push l node) (sym (append-nil path)) ∙ way.whole [] push l
 
-  pub added_at_end : {A : Type 0} (view : A → Tree) (made : Tree) (r : Result A Refusal) → add tail push l node' ≡ Some made → Gives view (put_all_back ms made) None r
-      → Gives view (add (path ++ tail) push l node) (conflict_of (path ++ tail) push node) r
-  added_at_end view made (Ok a) is h = way.whole tail push l ∙ ap (option_and_then (put_all_back ms)) is ∙ h
-  added_at_end view made (Err (refusal.Conflict c)) is h = cc
-  added_at_end view made (Err refusal.OutOfMemory) is h = tt
+  same_conflict : conflict_at level (clash_here push node') ≡ conflict_along from path (clash_here push) node
+  same_conflict = sym (way.conflict [] (clash_here push)) ∙ ap (λ p. conflict_along from p (clash_here push) node) (append-nil path)
 
--- the first conflict at the node at a key
-pub conflict_at_key : (level : ℕ) (s : Step) (last : Tree → Option Clash) (t : Tree) (es : Entries) → entries_below t ≡ Some es → conflict_at (level + 1) (last (child s.seg es)) ≡ conflict_along level (s ∷ []) last t
-conflict_at_key level s last t es is = rw (none_clash t es is, child_below s.seg t es is) refl
+  pub refused_at_end : (refusal : Refusal) → IsRefusal (add [] push l node') (conflict_at level (clash_here push node')) refusal
+      → IsRefusal (add path push l node) (conflict_along from path (clash_here push) node) refusal
+  refused_at_end refusal h = refused_too (add [] push l node') _ _ _ refusal (λ none. whole_way ∙ ap (option_and_then (put_all_back ms)) none) same_conflict h
 
--- a path by its keys
-pub path_front : (ks : List Key) (k : Key) → path_of (ks ++ k ∷ []) ≡ path_of ks ++ step_of_key k ∷ []
-path_front [] k = refl
-path_front (j ∷ ks) k = ap (λ l. step_of_key j ∷ l) (path_front ks k)
+  pub added_at_end : (made end : Tree) → add [] push l node' ≡ Some end → put_all_back ms end ≡ Some made → add path push l node ≡ Some made
+  added_at_end made end is h = whole_way ∙ ap (option_and_then (put_all_back ms)) is ∙ h
+
+-- a pair whose path ends here
+pub barred_at_end : (push : Bool) (l : Leaf) (level : ℕ) (path : List Step) (node : Tree) (refusal : Refusal) → IsBarred level path node refusal → IsRefusal (add path push l node) (conflict_along level path (clash_here push) node) refusal
+barred_at_end push l level path node refusal h = subst (λ p. IsRefusal (add p push l node) (conflict_along level p (clash_here push) node) refusal) (append-nil path) (h [] push l (clash_here push))

@@ -1,24 +1,29 @@
 -- What a map in the making holds after a step.
-use Rattle.std.proofs.Common.{◌≡◌, ℕ, List, [], ◌∷◌, ◌++◌, length, slice_get, Some, None, option_map, Ordering, Less, Equal, Greater, refl, sym, ap, ◌∙◌, arith, rules, Global}
+use Rattle.std.proofs.Common.{◌≡◌, ℕ, List, [], ◌∷◌, ◌++◌, length, slice_get, Option, Some, None, option_map, unwrap_or, Result, Ok, Err, Ordering, Less, Equal, Greater, refl, sym, ap, ◌∙◌, arith, rules, Global}
 use Rattle.std.specs.List.{AllByRecursion}
 use Rattle.std.specs.List.Sorted.{IsStrictlySortedBy}
-use Rattle.std.specs.Map.{keys_of, set_value}
+use Rattle.std.specs.Map.{keys_of, lookup, set_value}
 use Rattle.std.specs.Ordering.{ordering_reverse}
 use Rattle.std.specs.BTreeMap.{is_at, insert_entry}
 use Rattle.std.specs.declared.collections.BTreeMap.{BTreeMap}
-use Rattle.qs_spec.specs.Tree.{Tree}
+use Rattle.qs_spec.specs.Tree.{Tree, Entries}
+use Rattle.qs_spec.specs.Tree.Tree.{uninitialized}
 use Rattle.qs_spec.specs.toward.InPlace.{update}
 use Rattle.qs_tree.specs.declared.key.Key.{Key}
 use Rattle.qs_tree.specs.declared.draft.Draft.{Draft, Fresh, the_lemmas}
 use Rattle.qs_tree.specs.declared.draft.DraftMap.TheVariants as form
 use Rattle.qs_tree.specs.contracts.key.KeyOrd.TheImpl.Laws.{total-law}
+use Rattle.qs_tree.specs.declared.conflict.Refusal.{Refusal}
 use Rattle.qs_tree.specs.Keys.{key_cmp}
+use Rattle.qs_tree.specs.Conflict.{Conflict, child}
+use Rattle.qs_tree.specs.Adding.{Gives}
 use Rattle.qs_tree.specs.Places.{IsHit, IsGap, put_value}
 use Rattle.qs_tree.specs.Views.{segment_of_key, step_of_key, find}
-use Rattle.qs_tree.specs.Draft.{draft_tree, draft_entries, entries_seen, bare, vector_keys, Takes}
+use Rattle.qs_tree.specs.Draft.{draft_tree, draft_entries, entries_seen, Takes}
 use Rattle.qs_tree.proofs.Keys.{seen_view, seen-lookup, key_cmp-segments}
 use Rattle.qs_tree.proofs.Ordered.{ordered_seen}
-use Rattle.qs_tree.proofs.Places.{hit_lookup, gap_lookup, hit_set, hit_keys, gap_keys, keys-put_value}
+use Rattle.qs_tree.proofs.Places.{hit_lookup, gap_lookup, hit_set}
+use Rattle.qs_tree.proofs.Turns.{refused_too, put_there, refused_there}
 use Rattle.qs_tree.proofs.Views.{draft_tree-Fresh}
 
 abbrev Drafts : Type 0
@@ -30,17 +35,7 @@ draft_entries-Vector es = search (rules, the_lemmas)
 pub draft_entries-Tree : (m : BTreeMap Key Draft Global) → draft_entries (form.Tree m) ≡ entries_seen m.entries
 draft_entries-Tree m = search (rules, the_lemmas)
 
-pub vector_keys-Vector : (es : Drafts) → vector_keys (form.Vector es) ≡ Some (bare es)
-vector_keys-Vector es = search (rules, the_lemmas)
-
-pub vector_keys-Tree : (m : BTreeMap Key Draft Global) → vector_keys (form.Tree m) ≡ None
-vector_keys-Tree m = search (rules, the_lemmas)
-
-pub ruleset forms = (draft_entries-Vector, draft_entries-Tree, vector_keys-Vector, vector_keys-Tree)
-
-pub keys-bare : (es : Drafts) → keys_of (bare es) ≡ keys_of es
-keys-bare [] = refl
-keys-bare (e ∷ es) = ap (λ l. e.0 ∷ l) (keys-bare es)
+pub ruleset forms = (draft_entries-Vector, draft_entries-Tree)
 
 module _ {X : Type 0} (seen : X → Tree) (k : Key) where
   pub inserted : (es : List (Key × X)) (v : X) → update (step_of_key k) (λ _. Some (seen v)) (seen_view seen es) ≡ Some (seen_view seen (insert_entry key_cmp es k v))
@@ -92,17 +87,21 @@ module _ (k : Key) (es : Drafts) (i : ℕ) where
       let missing : None ≡ find (segment_of_key k) (entries_seen es) = ap (option_map draft_tree) (sym (gap_lookup key_cmp k es i gap)) ∙ seen-lookup draft_tree k es in
       record { node = rw (draft_tree-Fresh, ← missing); rest = λ u. refl; ordered = ordered_seen draft_tree es sorted }
 
-  pub hit_kept : IsHit key_cmp k es i → (w : Draft) → IsHit key_cmp k (bare (put_value es i w)) i
-  hit_kept hit w = hit_keys key_cmp k es (bare (put_value es i w)) i (sym (keys-put_value es i w) ∙ sym (keys-bare (put_value es i w))) hit
+-- a leaf is added at the node at a key, which was lent
+module _ (k : Key) (es : Drafts) (sorted : IsStrictlySortedBy key_cmp (keys_of es)) (old : Draft) (lent : old ≡ unwrap_or (lookup (is_at (key_cmp k)) es) Fresh) where
+  or_fresh : (o : Option Draft) → draft_tree (unwrap_or o Fresh) ≡ unwrap_or (option_map draft_tree o) uninitialized
+  or_fresh None = draft_tree-Fresh
+  or_fresh (Some d) = refl
 
-  pub gap_kept : IsGap key_cmp k es i → IsGap key_cmp k (bare es) i
-  gap_kept gap = gap_keys key_cmp k es (bare es) i (sym (keys-bare es)) gap
+  there : draft_tree old ≡ child (segment_of_key k) (entries_seen es)
+  there = ap draft_tree lent ∙ or_fresh _ ∙ ap (λ o. unwrap_or o uninitialized) (seen-lookup draft_tree k es)
 
-  pub hit_back : IsHit key_cmp k (bare es) i → IsHit key_cmp k es i
-  hit_back hit = hit_keys key_cmp k (bare es) es i (keys-bare es) hit
-
-  pub gap_back : IsGap key_cmp k (bare es) i → IsGap key_cmp k es i
-  gap_back gap = gap_keys key_cmp k (bare es) es i (keys-bare es) gap
+  pub at_key : {A : Type 0} (before seen : Entries) → entries_seen es ≡ before → (f : Tree → Option Tree) (conflict : Tree → Option Conflict) (new : Draft) → entries_seen (insert_entry key_cmp es k new) ≡ seen
+      → (r : Result A Refusal) → Gives (λ _. draft_tree new) (f (draft_tree old)) (conflict (draft_tree old)) r → Gives (λ _. seen) (update (step_of_key k) f before) (conflict (child (segment_of_key k) before)) r
+  at_key before seen was f conflict new is (Ok a) h = rw (← was)
+      (put_there (step_of_key k) f (entries_seen es) (ordered_seen draft_tree es sorted) (draft_tree old) there (entries_seen es) seen (draft_tree new) h (λ u. refl) (inserted draft_tree k es new ∙ ap Some is))
+  at_key before seen was f conflict new is (Err e) h = rw (← was)
+      (refused_too (f (draft_tree old)) _ _ _ e (refused_there (step_of_key k) f (entries_seen es) (ordered_seen draft_tree es sorted) (draft_tree old) there) (ap conflict there) h)
 
 -- a key above all of some entries goes to their end
 module _ (k : Key) (ks : List Key) where

@@ -38,10 +38,6 @@ position_none_is p xs is =
       | inr missing ↦ ltb-false (position_or_len p xs) (length xs) missing
     ]
 
--- the elements before the place that was found fail
-pub before_first_fails : (p : ℕ → Bool) (xs : List ℕ) (n : ℕ) → Some n ≡ position p xs → (k : ℕ) → k < n → p (get_or xs k 0) ≡ false
-before_first_fails p xs n is k below = fails_before_first p xs k 0 (omega (arith, (position_some_is p xs n is).0))
-
 -- where none was found, all fail
 pub all_fail : (p : ℕ → Bool) (xs : List ℕ) → None ≡ position p xs → (k : ℕ) → k < length xs → p (get_or xs k 0) ≡ false
 all_fail p xs is k below = fails_before_first p xs k 0 (omega (arith, position_none_is p xs is))

@@ -27,16 +27,6 @@ module _ (depth : ℕ) (ts : List Token) (t : Tree) where
       by None = refl
       by (Some ps) = ap (option_and_then (add_all ps)) a
 
-  -- where there is a tree, there are pairs
-  pub pairs_of_answer : {P : Type 0} (bound : ℕ) (r : Result ParsedValue Error) → Answers tree_of (grown depth ts t) bound r
-      → ((ps : List Pair) → pairs_of depth ts ≡ Some ps → P) → IfOk r (λ _. P)
-  pairs_of_answer {P} bound (Ok v) a h = by (pairs_of depth ts) refl a
-    where
-      by : (o : Option (List Pair)) → pairs_of depth ts ≡ o → option_and_then (λ ps. add_all ps t) o ≡ Some (tree_of v) → P
-      by None e a = absurd (none-some _ a)
-      by (Some ps) e a = h ps e
-  pairs_of_answer bound (Err f) a h = tt
-
 -- all pairs of an input make its tree, or none
 module _ (form : Bool) (depth b : ℕ) (bytes : List ℕ) where
   pub grown_tree : (t : Tree) → grown depth (tokens form (b ∷ bytes)) uninitialized ≡ Some t → IsTree form depth (b ∷ bytes) t

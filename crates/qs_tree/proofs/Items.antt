@@ -124,7 +124,7 @@ module _ (depth : ℕ) where
 
   pub err_item : (ts : List Token) (found : Rest Pair) (f : fault.Fault) → pairs_of depth ts ≡ and_pairs depth found → IsFault found f → IsFault (pairs_of depth ts) f
   err_item ts found (fault.TheVariants.Unread u) e h = e ∙ ap (and_pairs depth) h
-  err_item ts found (fault.TheVariants.Other o) e h = h
+  err_item ts found fault.TheVariants.OutOfMemory e h = tt
 
 -- a pair as an item
 pub pair_item : (depth : ℕ) (ts : List Token) (found : Rest Pair) (r : Result code_pair.Pair fault.Fault) (o : Result item.Item fault.Fault) (new : cursor.Cursor) → pairs_of depth ts ≡ and_pairs depth found

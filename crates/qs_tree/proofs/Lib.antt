@@ -1,4 +1,6 @@
 pub mod LaneLemmas
+pub mod Copied
+pub mod Spaces
 pub mod FirstPlace
 pub mod Runs
 pub mod Places
@@ -14,12 +16,10 @@ pub mod Descending
 pub mod BehindKeys
 pub mod Items
 pub mod Equality
-pub mod Rests
 pub mod MetNodes
+pub mod Lengths
 pub mod Growing
 pub mod SmallItems
-pub mod Spots
-pub mod SortedSpots
 pub mod Ordered
 pub mod Drafting
 pub mod Levels

@@ -36,6 +36,12 @@ entry_within [] i old h = absurd (none-some _ h)
 entry_within (e ∷ es) zero old h = omega (arith, ap nodes (same_Some _ _ h))
 entry_within (e ∷ es) (suc i) old h = omega (arith, entry_within es i old h)
 
+-- the same of an entry that was read
+pub entry_at_within : (es : Held) (i : ℕ) (e : Key × ParsedValue) → i < length es → e ≡ get_or es i e → nodes e.1 ≤ entry_nodes es
+entry_at_within [] i e lt is = absurd (omega arith)
+entry_at_within (f ∷ es) zero e lt is = omega (arith, ap (λ (p : Key × ParsedValue). nodes p.1) is)
+entry_at_within (f ∷ es) (suc i) e lt is = omega (arith, entry_at_within es i e (omega arith) is)
+
 pub entry_last : (es : Held) (k : Key) (v : ParsedValue) → entry_nodes (es ++ (k, v) ∷ []) ≡ entry_nodes es + nodes v
 entry_last [] k v = omega arith
 entry_last (e ∷ es) k v = omega (arith, entry_last es k v)
@@ -50,6 +56,9 @@ pub item_within : (vs : List ParsedValue) (i : ℕ) (d : ParsedValue) → i < le
 item_within [] i d lt = absurd (omega arith)
 item_within (v ∷ vs) zero d lt = omega arith
 item_within (v ∷ vs) (suc i) d lt = omega (arith, item_within vs i d (omega arith))
+
+pub item_at_within : (vs : List ParsedValue) (i : ℕ) (v : ParsedValue) → i < length vs → v ≡ get_or vs i v → nodes v ≤ item_nodes vs
+item_at_within vs i v lt is = omega (arith, ap nodes is, item_within vs i v lt)
 
 pub item_last : (vs : List ParsedValue) (v : ParsedValue) → item_nodes (vs ++ v ∷ []) ≡ item_nodes vs + nodes v
 item_last [] v = omega arith

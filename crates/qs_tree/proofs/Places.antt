@@ -1,5 +1,5 @@
 -- What a search by halves finds among entries in order, and what an edit at its place does.
-use Rattle.std.proofs.Common.{◌≡◌, ℕ, zero, suc, ◌+◌, ◌<◌, ◌≤◌, ◌/◌, List, [], ◌∷◌, ◌++◌, length, get_or, slice_get, slice_set, None, option_map, Ordering, Less, Equal, Greater, refl, sym, ap, subst, ◌∙◌, inl, inr, ◌⊎◌, arith}
+use Rattle.std.proofs.Common.{◌≡◌, ℕ, zero, suc, ◌+◌, ◌<◌, ◌≤◌, ◌/◌, List, [], ◌∷◌, ◌++◌, length, get_or, slice_get, slice_set, Some, None, unwrap_or, option_map, Ordering, Less, Equal, Greater, refl, sym, ap, subst, ◌∙◌, inl, inr, ◌⊎◌, arith}
 use Rattle.std.proofs.lemmas.Int.Digits.{length-digits_of_step}
 use Rattle.std.specs.Cmp.{IsTotalOrder}
 use Rattle.std.specs.List.{insert, remove, AllByRecursion}
@@ -80,6 +80,11 @@ module _ {K X : Type 0} (cmp : K → K → Ordering) (k : K) where
   hit_remove (e ∷ es) zero h = rw h.same
   hit_remove (e ∷ es) (suc i) h = rw (h.before 0 (omega arith)) (ap (λ l. e ∷ l) (hit_remove es i (hit_tail e es i h)))
 
+  pub hit_value : (es : List (K × X)) (i : ℕ) (v : X) → IsHit cmp k es i → option_map (λ e. e.1) (slice_get es i) ≡ Some (unwrap_or (lookup (is_at (cmp k)) es) v)
+  hit_value [] i v h = absurd (omega (arith, h.in_range))
+  hit_value (e ∷ es) zero v h = rw h.same refl
+  hit_value (e ∷ es) (suc i) v h = rw (h.before 0 (omega arith)) (hit_value es i v (hit_tail e es i h))
+
   pub gap_lookup : (es : List (K × X)) (i : ℕ) → IsGap cmp k es i → lookup (is_at (cmp k)) es ≡ None
   gap_lookup [] i h = refl
   gap_lookup (e ∷ es) zero h = rw (h.after 0 (omega arith) (omega arith)) (gap_lookup es 0 (gap_first e es h))
@@ -101,31 +106,10 @@ module _ {K X : Type 0} (cmp : K → K → Ordering) (k : K) where
   hit_insert (e ∷ es) zero v h = rw h.same
   hit_insert (e ∷ es) (suc i) v h = rw (h.before 0 (omega arith)) (ap (λ l. e ∷ l) (hit_insert es i v (hit_tail e es i h)))
 
--- a place says nothing of the values
-module _ {K X Y : Type 0} (cmp : K → K → Ordering) (k : K) (es : List (K × X)) (fs : List (K × Y)) (i : ℕ) (keys : keys_of es ≡ keys_of fs) where
-  lengths : length es ≡ length fs
-  lengths = sym (length-keys_of es) ∙ ap length keys ∙ length-keys_of fs
-
-  pub hit_keys : IsHit cmp k es i → IsHit cmp k fs i
-  hit_keys h = record { in_range = rw (← lengths) h.in_range; same = rw (← keys) h.same; before = λ j lt. rw (← keys) (h.before j lt) }
-
-  pub gap_keys : IsGap cmp k es i → IsGap cmp k fs i
-  gap_keys h = record { in_range = rw (← lengths) h.in_range; before = λ j lt. rw (← keys) (h.before j lt); after = λ j le lt. rw (← keys) (h.after j le (rw lengths lt)) }
-
 pub keys-put_value : {K X : Type 0} (es : List (K × X)) (i : ℕ) (w : X) → keys_of (put_value es i w) ≡ keys_of es
 keys-put_value [] i w = refl
 keys-put_value (e ∷ es) zero w = refl
 keys-put_value (e ∷ es) (suc i) w = ap (λ l. e.0 ∷ l) (keys-put_value es i w)
-
-pub put_value-again : {K X : Type 0} (es : List (K × X)) (i : ℕ) (u w : X) → put_value (put_value es i u) i w ≡ put_value es i w
-put_value-again [] i u w = refl
-put_value-again (e ∷ es) zero u w = refl
-put_value-again (e ∷ es) (suc i) u w = ap (λ l. e ∷ l) (put_value-again es i u w)
-
-pub length-put_value : {K X : Type 0} (es : List (K × X)) (i : ℕ) (w : X) → length (put_value es i w) ≡ length es
-length-put_value [] i w = refl
-length-put_value (e ∷ es) zero w = refl
-length-put_value (e ∷ es) (suc i) w = ap suc (length-put_value es i w)
 
 pub put_value-set : {K X : Type 0} (es : List (K × X)) (i : ℕ) (x : K × X) (w : X) → i < length es → x ≡ get_or es i x → slice_set es i (x.0, w) ≡ put_value es i w
 put_value-set [] i x w lt is = absurd (omega arith)
@@ -212,3 +196,23 @@ halved s t some half = omega (arith, length-digits_of_step 2 s (omega arith) som
 pub keys-append : {K X : Type 0} (es fs : List (K × X)) → keys_of (es ++ fs) ≡ keys_of es ++ keys_of fs
 keys-append [] fs = refl
 keys-append (e ∷ es) fs = ap (λ l. e.0 ∷ l) (keys-append es fs)
+
+-- what was put at a place
+module _ {K X : Type 0} where
+  pub insert_put : (es : List (K × X)) (i : ℕ) (k : K) (v w : X) → i < length es + 1 → put_value (insert es i (k, v)) i w ≡ insert es i (k, w)
+  insert_put [] zero k v w lt = refl
+  insert_put [] (suc i) k v w lt = absurd (omega arith)
+  insert_put (e ∷ es) zero k v w lt = refl
+  insert_put (e ∷ es) (suc i) k v w lt = ap (λ l. e ∷ l) (insert_put es i k v w (omega arith))
+
+  pub insert_get : (es : List (K × X)) (i : ℕ) (k : K) (v : X) → i < length es + 1 → slice_get (insert es i (k, v)) i ≡ Some (k, v)
+  insert_get [] zero k v lt = refl
+  insert_get [] (suc i) k v lt = absurd (omega arith)
+  insert_get (e ∷ es) zero k v lt = refl
+  insert_get (e ∷ es) (suc i) k v lt = insert_get es i k v (omega arith)
+
+  pub insert_length : (es : List (K × X)) (i : ℕ) (k : K) (v : X) → i < length es + 1 → i < length (insert es i (k, v))
+  insert_length [] zero k v lt = omega arith
+  insert_length [] (suc i) k v lt = absurd (omega arith)
+  insert_length (e ∷ es) zero k v lt = omega arith
+  insert_length (e ∷ es) (suc i) k v lt = omega (arith, insert_length es i k v (omega arith))

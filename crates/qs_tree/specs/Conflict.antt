@@ -81,7 +81,3 @@ conflict_along level (s ∷ path) last t = or_else (conflict_at level (clash_bel
 -- the conflict of a pair
 abbrev pub conflict_of : List Step → Bool → Tree → Option Conflict
 conflict_of path push t = conflict_along 0 path (clash_here push) t
-
--- the first conflict of going below along a path
-abbrev pub conflict_below : List Step → Tree → Option Conflict
-conflict_below path t = conflict_along 0 path (λ u. None) t

@@ -8,7 +8,7 @@ use Rattle.qs_spec.specs.toward.InPlace.{update, add_below, add}
 use Rattle.qs_tree.specs.declared.descent.OpenMap.{OpenMap}
 use Rattle.qs_tree.specs.declared.conflict.Refusal.{Refusal}
 use Rattle.qs_tree.specs.Views.{step_of_key}
-use Rattle.qs_tree.specs.Draft.{draft_entries, IsPlace}
+use Rattle.qs_tree.specs.Draft.{draft_entries}
 use Rattle.qs_tree.specs.Conflict.{Clash, clash_below, node_below, conflict_along}
 use Rattle.qs_tree.specs.Adding.{IsRefusal}
 
@@ -21,17 +21,8 @@ abbrev pub put_all_back : List OpenMap → Tree → Option Tree
 put_all_back [] t = Some t
 put_all_back (m ∷ ms) t = option_and_then (put_back m) (put_all_back ms t)
 
--- the place is that of the key
-abbrev pub IsPlaced : OpenMap → Type 0
-IsPlaced m = IsPlace m.key m.place m.map
-
-abbrev pub ArePlaced : List OpenMap → Type 0
-ArePlaced [] = Unit {0}
-ArePlaced (m ∷ ms) = IsPlaced m × ArePlaced ms
-
 -- the node at a step is taken out of the map that a node is or becomes; what is made of it is put back there
 pub record IsOpen (s : Step) (before : Tree) (m : OpenMap) (taken : Tree) : Type 0 where
-  pub placed : IsPlaced m
   pub free : clash_below before ≡ None
   pub node : taken ≡ node_below s.seg before
   pub whole : (f : Tree → Option Tree) → add_below s f before ≡ option_and_then (put_back m) (f taken)
@@ -39,7 +30,6 @@ pub record IsOpen (s : Step) (before : Tree) (m : OpenMap) (taken : Tree) : Type
 -- The way from a node leads to another, below these maps: a pair whose path begins with these keys is added to the one as a
 -- pair with the rest of its path is to the other, and the first conflict is the same, whatever there may be at the end.
 pub record Leads (level : ℕ) (path : List Step) (node : Tree) (ms : List OpenMap) (level' : ℕ) (path' : List Step) (node' : Tree) : Type 0 where
-  pub placed : ArePlaced ms
   pub whole : (tail : List Step) (push : Bool) (l : Leaf) → add (path ++ tail) push l node ≡ option_and_then (put_all_back ms) (add (path' ++ tail) push l node')
   pub conflict : (tail : List Step) (last : Tree → Option Clash) → conflict_along level (path ++ tail) last node ≡ conflict_along level' (path' ++ tail) last node'
 

@@ -1,5 +1,5 @@
 -- What a tree in the making stands for.
-use Rattle.std.specs.Prelude.{◌≡◌, ℕ, List, map, Option, Some, None, Result, Ok, Err}
+use Rattle.std.specs.Prelude.{◌≡◌, List, map, Some}
 use Rattle.qs_spec.specs.Tree.{Tree, Entries}
 use Rattle.qs_spec.specs.Tree.Tree.{leaf, sequence, mapping, uninitialized}
 use Rattle.qs_tree.specs.declared.draft.Draft.{Draft, fold-Draft}
@@ -8,8 +8,6 @@ use Rattle.qs_tree.specs.declared.draft.DraftMap.{DraftMap, fold-DraftMap}
 use Rattle.qs_tree.specs.declared.key.Key.{Key}
 use Rattle.qs_tree.specs.Views.{segment_of_key, step_of_key, items_of, entries_from}
 use Rattle.qs_tree.specs.Pairs.{leaf_tree}
-use Rattle.qs_tree.specs.Keys.{key_cmp}
-use Rattle.qs_tree.specs.Places.{IsHit, IsGap}
 use Rattle.qs_tree.specs.Ordered.{AreOrdered}
 use Rattle.qs_tree.specs.Conflict.{child}
 use Rattle.qs_spec.specs.toward.InPlace.{update}
@@ -35,30 +33,6 @@ draft_entries = fold-DraftMap Tree Entries draft_step draft_map_step
 -- the entries of a map of either form
 abbrev pub entries_seen : List (Key × Draft) → Entries
 entries_seen es = entries_from (map (λ p. (p.0, draft_tree p.1)) es)
-
--- the keys of some entries
-abbrev pub bare : List (Key × Draft) → List (Key × Unit {0})
-bare es = map (λ p. (p.0, tt)) es
-
-abbrev pub vector_step : DraftMap-F (Unit {0}) (Option (List (Key × Unit {0}))) → Option (List (Key × Unit {0}))
-vector_step (DraftMap-F.Vector es) = Some es
-vector_step (DraftMap-F.Tree m) = None
-
--- the keys of a map that is a vector
-abbrev pub vector_keys : DraftMap → Option (List (Key × Unit {0}))
-vector_keys = fold-DraftMap (Unit {0}) (Option (List (Key × Unit {0}))) (λ n. tt) vector_step
-
--- the key is at this place of a vector, or else would go there
-abbrev pub IsPlaceIn : Key → Result ℕ ℕ → Option (List (Key × Unit {0})) → Type 0
-IsPlaceIn k (Ok i) (Some es) = IsHit key_cmp k es i
-IsPlaceIn k (Err i) (Some es) = IsGap key_cmp k es i
-IsPlaceIn k place None = Unit {0}
-
-abbrev pub IsPlace : Key → Result ℕ ℕ → DraftMap → Type 0
-IsPlace k place m = IsPlaceIn k place (vector_keys m)
-
-abbrev pub IsPlaceAmong : Key → Result ℕ ℕ → List (Key × Draft) → Type 0
-IsPlaceAmong k place es = IsPlaceIn k place (Some (bare es))
 
 -- the node at a key is taken out, and the entries stay the same but for the node at that key
 pub record Takes (k : Key) (old : Entries) (taken : Tree) (new : Entries) : Type 0 where

@@ -3,6 +3,7 @@ pub mod Error
 pub mod Search
 pub mod Cursor
 pub mod Places
+pub mod Lending
 pub mod formers
 pub mod Views
 pub mod Ordered
@@ -15,8 +16,6 @@ pub mod Reading
 pub mod Conflict
 pub mod Adding
 pub mod Parsing
-pub mod Weight
-pub mod Sorting
 pub mod Small
 pub mod Draft
 pub mod Descent
@@ -24,5 +23,3 @@ pub mod Settling
 pub mod NodeCount
 pub mod Equality
 pub mod EqualityLaws
-pub mod Comparing
-pub mod Meeting

@@ -4,8 +4,8 @@ use Rattle.qs_spec.specs.Token.{Kind, Token}
 use Rattle.qs_spec.specs.Token.Kind.{Amp, Equals, Open, Close, Other}
 use Rattle.qs_spec.specs.Segment.{Step, step_of}
 use Rattle.qs_spec.specs.Leaf.{Leaf}
-use Rattle.qs_spec.specs.Grammar.{Pair, is_amp, plain, pushed, longer, ends_last, ends_root}
-use Rattle.qs_spec.specs.toward.Reading.{Rest, with_leaf, read_value, after_close, read_brackets, pairs_of}
+use Rattle.qs_spec.specs.Grammar.{Pair, is_amp, plain, ends_last, ends_root}
+use Rattle.qs_spec.specs.toward.Reading.{Rest, with_leaf, read_value, read_brackets, pairs_of}
 use Rattle.qs_tree.specs.declared.cursor.Token as token
 use Rattle.qs_tree.specs.declared.cursor.Cursor as cursor
 use Rattle.qs_tree.specs.declared.error.Error as error
@@ -13,7 +13,6 @@ use Rattle.qs_tree.specs.declared.pair.Leaf as code
 use Rattle.qs_tree.specs.declared.pair.Pair as code_pair
 use Rattle.qs_tree.specs.declared.reading.Item as item
 use Rattle.qs_tree.specs.declared.reading.Fault as fault
-use Rattle.qs_tree.specs.declared.reading.Reason as reason
 use Rattle.qs_tree.specs.Pairs.{leaf_of, pair_of}
 use Rattle.qs_tree.specs.Cursor.{kind_of_token, left, IsPast}
 
@@ -44,7 +43,7 @@ ReadsLeaf found (Err e) new = e ≡ error.TheVariants.OutOfMemory
 -- nothing was found, or memory ran out
 abbrev pub IsFault : {A : Type 0} → Option A → fault.Fault → Type 0
 IsFault found (fault.TheVariants.Unread u) = found ≡ None
-IsFault found (fault.TheVariants.Other e) = e ≡ error.TheVariants.OutOfMemory
+IsFault found fault.TheVariants.OutOfMemory = Unit {0}
 
 -- what was found is this pair, and the cursor is past it
 abbrev pub ReadsPair : Rest Pair → Result code_pair.Pair fault.Fault → cursor.Cursor → Type 0
@@ -82,11 +81,6 @@ abbrev pub root_path : List ℕ → List Step
 root_path [] = []
 root_path (b ∷ raw) = step_of (b ∷ raw) ∷ []
 
--- why a pair can't go on that ends in a bracket, behind these raw bytes
-abbrev pub end_reason : List ℕ → reason.Reason
-end_reason [] = reason.TheVariants.EndBehindOpen
-end_reason (b ∷ raw) = reason.TheVariants.EndInSegment
-
 -- what is found behind a root key with these raw bytes
 abbrev pub behind_root_at : Kind → ℕ → List Step → Token → List Token → Rest Pair
 behind_root_at Open depth path t rest = read_brackets depth path t.raw rest
@@ -98,9 +92,3 @@ behind_root_at Other depth path t rest = None
 abbrev pub behind_root : ℕ → List ℕ → List Token → Rest Pair
 behind_root depth raw [] = with_leaf (plain (root_path raw)) (read_value [])
 behind_root depth raw (t ∷ rest) = behind_root_at t.kind depth (root_path raw) t rest
-
--- what is found behind a bracket below the limit, by the bytes before a closing bracket and by what stands from there on
-abbrev pub in_bracket : ℕ → List Step → List ℕ → List Token → Rest Pair
-in_bracket room path raw [] = None
-in_bracket room path [] (t ∷ rest) = with_leaf (pushed path) (read_value rest)
-in_bracket room path (b ∷ raw) (t ∷ rest) = after_close (read_brackets room) (longer path (b ∷ raw)) rest

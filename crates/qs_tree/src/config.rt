@@ -149,6 +149,3 @@ impl Default for Config {
         Config::new()
     }
 }
-
-#[cfg(test)]
-mod tests;

@@ -1,11 +1,6 @@
 //! Conflicts of a pair with a tree.
-ghost use Rattle.std.specs.Prelude.{◌≡◌, ◌+◌, ◌<◌, ◌^◌, length, Some, None, option_map, MatchResult};
+ghost use Rattle.std.specs.Prelude.{◌≡◌};
 ghost use Rattle.qs_tree.specs.declared.conflict.Refusal.TheVariants.{OutOfMemory};
-ghost use Rattle.qs_tree.specs.Views.{segment_of_key};
-ghost use Rattle.qs_tree.specs.Draft.{draft_tree};
-ghost use Rattle.qs_tree.specs.Pairs.{path_of};
-ghost use Rattle.qs_tree.specs.Conflict as spec;
-ghost use Rattle.qs_tree.specs.Adding.{IsBelow, clash_view, conflict_view};
 
 use crate::draft::Draft;
 use crate::key::Key;
@@ -61,9 +56,7 @@ impl<T: Drop> From<AllocFailed<T>> for Refusal {
 
 /// The first conflict that a pair meets on its way below a tree along some keys, whatever it would add at their end. Takes no
 /// memory.
-pub(crate) fn conflict_below<'t, 'qs>(tree: &'t Draft<'qs>, path: &[Key<'qs>]) -> Option<Conflict>
-    ensures { option_map conflict_view result ≡ spec.conflict_below (path_of path.now) (draft_tree tree.now) }
-{
+pub(crate) fn conflict_below<'t, 'qs>(tree: &'t Draft<'qs>, path: &[Key<'qs>]) -> Option<Conflict> {
     let mut node = Some(tree);
     for (level, key) in path.iter().enumerate() {
         let Some(here) = node else {
@@ -81,11 +74,7 @@ pub(crate) fn conflict_below<'t, 'qs>(tree: &'t Draft<'qs>, path: &[Key<'qs>]) -
 fn node_below<'t, 'qs>(
     node: &'t Draft<'qs>,
     key: &Key<'qs>,
-) -> Result<Option<&'t Draft<'qs>>, Clash>
-    ensures { let before = draft_tree node.now in MatchResult result
-        (λ child. IsBelow (option_map (λ v. draft_tree v.now) child) (segment_of_key key.now) before)
-        (λ clash. spec.clash_below before ≡ Some (clash_view clash)) }
-{
+) -> Result<Option<&'t Draft<'qs>>, Clash> {
     match node {
         Draft::Map(map) => Ok(map.get(key)),
         Draft::Fresh => Ok(None),

@@ -10,6 +10,7 @@ ghost use Rattle.qs_tree.specs.Cursor.{kind_of_token, token_of, BeginsWith, ends
 
 use crate::search::find_ampersand;
 use crate::steps::Steps;
+use std::alloc::{AllocFailed, Global};
 
 /// What a token is for the grammar.
 #[derive(Clone, Copy)]
@@ -111,18 +112,6 @@ fn first_token(bytes: &[u8], form: bool) -> (Kind, usize)
     }
 }
 
-impl<'qs> Place<'qs> {
-    /// A cursor that begins at this place again, with steps of its own.
-    pub fn again(self) -> Cursor<'qs>
-        ensures rest { result.rest.now ≡ self.entry.rest.now }
-        ensures form { result.form ≡ self.entry.form }
-        ensures steps { result.steps ≡ 0 }
-        ensures fresh { result.ended ≡ false }
-    {
-        Cursor::new(self.rest, self.form, Steps::new())
-    }
-}
-
 /// What is left of an input. The input is seen only through the calls below, and each counts: a byte that is taken is a step,
 /// and so is a look that meets the end.
 #[derive(Drop)]
@@ -131,21 +120,54 @@ pub(crate) struct Cursor<'qs> {
     ended: bool,
     form: bool,
     steps: Steps,
+    trail: Trail<'qs>,
+}
+
+/// What is kept of the pair that is read, for the error of a conflict.
+#[derive(Drop)]
+struct Trail<'qs> {
+    /// What was left where the pair begins.
+    start: &'qs [u8],
+    /// By the level of a node on the pair's path.
+    spots: Vec<Spot>,
+}
+
+/// Where a conflict is told.
+#[derive(Clone, Copy)]
+pub(crate) struct Site<'qs> {
+    /// The bytes of the pair before the bracket that leads there.
+    pub key: &'qs [u8],
+    /// How many steps are to come.
+    pub to_come: usize,
+}
+
+/// Where a conflict with a node is told: behind the first token in the bracket that leads below the node.
+#[derive(Clone, Copy)]
+pub(crate) struct Spot {
+    /// How many bytes of the pair stand before the bracket.
+    key_len: usize,
+    /// How many steps are to come behind the token.
+    to_come: usize,
 }
 
 impl<'qs> Cursor<'qs> {
     /// The whole input, before it is looked at, with the steps that were taken before.
-    pub fn new(input: &'qs [u8], form: bool, steps: Steps) -> Self
+    pub fn new(alloc: Global, input: &'qs [u8], form: bool, steps: Steps) -> Self
         ensures rest { result.rest.now ≡ input.now }
         ensures form { result.form ≡ form }
         ensures steps { result.steps ≡ steps }
         ensures fresh { result.ended ≡ false }
     {
+        let spots = Vec::new(alloc);
         Cursor {
             rest: input,
             ended: false,
             form,
             steps,
+            trail: Trail {
+                start: input,
+                spots,
+            },
         }
     }
 
@@ -163,20 +185,6 @@ impl<'qs> Cursor<'qs> {
         self.ended
     }
 
-    /// Whether the input is read in form mode.
-    pub fn is_form(&self) -> bool
-        ensures { result ≡ self.now.form }
-    {
-        self.form
-    }
-
-    /// The bytes that are left. This is no look at them: who reads them takes a cursor of its own.
-    pub fn rest(&self) -> &'qs [u8]
-        ensures { result.now ≡ self.now.rest.now }
-    {
-        self.rest
-    }
-
     /// The place before what is left.
     pub fn place(&self) -> Place<'qs>
         ensures rest { result.rest.now ≡ self.now.rest.now }
@@ -188,13 +196,62 @@ impl<'qs> Cursor<'qs> {
         }
     }
 
-    /// How many bytes of an input were read up to here, and one more where its end was.
-    pub fn position(&self, input: &[u8]) -> usize
-        requires { length self.now.rest.now ≤ length input.now }
-        ensures bound { result ≤ length input.now + 1 }
-        ensures exact { result + (length self.now.rest.now + to_come self.now.ended) ≡ length input.now + 1 }
+    /// How many steps are to come: one for each byte that is left, and one for the end unless it was met.
+    pub fn to_come(&self) -> usize
+        ensures { result ≡ length self.now.rest.now + to_come self.now.ended }
     {
-        input.len() - self.rest.len() + usize::from(self.ended)
+        self.rest.len() + usize::from(!self.ended)
+    }
+
+    /// Begins a pair here, of which nothing is kept yet.
+    pub fn begin_pair(&mut self)
+        ensures rest { self.new.rest.now ≡ self.old.rest.now }
+        ensures form { self.new.form ≡ self.old.form }
+        ensures ended { self.new.ended ≡ self.old.ended }
+        ensures steps { self.new.steps ≡ self.old.steps }
+    {
+        self.trail.start = self.rest;
+        self.trail.spots.clear();
+    }
+
+    /// Keeps that a conflict with the node at the next level of the pair's path is told here, and where the bracket is that leads below it.
+    pub fn keep_spot(&mut self, bracket: Place<'qs>) -> Result<(), AllocFailed<Spot>>
+        ensures rest { self.new.rest.now ≡ self.old.rest.now }
+        ensures form { self.new.form ≡ self.old.form }
+        ensures ended { self.new.ended ≡ self.old.ended }
+        ensures steps { self.new.steps ≡ self.old.steps }
+    {
+        let key_len = self.trail.start.len().saturating_sub(bracket.rest.len());
+        let to_come = self.to_come();
+        self.trail.spots.push(Spot { key_len, to_come })
+    }
+
+    /// The same at the bracket behind a root key. An empty key is none of the path, and nothing is kept.
+    pub fn keep_root(&mut self, key: &[u8], bracket: Place<'qs>) -> Result<(), AllocFailed<Spot>>
+        ensures rest { self.new.rest.now ≡ self.old.rest.now }
+        ensures form { self.new.form ≡ self.old.form }
+        ensures ended { self.new.ended ≡ self.old.ended }
+        ensures steps { self.new.steps ≡ self.old.steps }
+    {
+        if key.is_empty() {
+            return Ok(());
+        }
+        self.keep_spot(bracket)
+    }
+
+    /// Where a conflict with the node at this level of the pair's path is told. Where no bracket leads below the node, that is here.
+    pub fn site(&self, level: usize) -> Site<'qs> {
+        let Trail { start, spots } = &self.trail;
+        match spots.as_slice().get(level) {
+            Some(spot) => Site {
+                key: start.get(..spot.key_len).unwrap_or(start),
+                to_come: spot.to_come,
+            },
+            None => Site {
+                key: start,
+                to_come: self.to_come(),
+            },
+        }
     }
 
     /// The bytes that were taken since a place.

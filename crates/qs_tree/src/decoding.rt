@@ -1,24 +1,17 @@
 //! What the bytes of a querystring stand for.
 
-ghost use Rattle.std.specs.Prelude.{◌≡◌, ◌+◌, ◌<◌, ◌≤◌, ◌++◌, false, length, IfNone, IfOk, IfSome, IsOk, SomeIff, take, drop, vec_len, vec_capacity};
+ghost use Rattle.std.specs.Prelude.{◌≡◌, ◌+◌, ◌<◌, ◌≤◌, ◌++◌, false, length, IfOk, IsOk, SomeIff, take, drop};
 ghost use Rattle.std.specs.Char.{digit_value};
 ghost use Rattle.std.specs.Cow.{cow_slice_items};
 ghost use Rattle.qs_spec.specs.Escape.{decoded, is_marked};
 ghost use Rattle.qs_tree.specs.Error.{OnlyOutOfMemory};
-ghost use Rattle.qs_tree.specs.Escapes.{is_owned, piece_text};
+ghost use Rattle.qs_tree.specs.Escapes.{is_owned};
 
+use crate::copying::{copy_run, put};
 use crate::error::Result;
-use crate::search::find_escape;
+use crate::search::{Byte, find_escape};
 use std::alloc::Global;
 use std::borrow::CowSlice;
-
-/// What the front of some bytes stands for.
-enum Piece<'a> {
-    /// A byte that an escape writes.
-    Byte(u8),
-    /// A broken escape, which stays as it is.
-    Raw(&'a [u8]),
-}
 
 /// What the bytes stand for: `+` is a space, and `%` with two hexadecimal digits of either case is one byte.
 ///
@@ -27,7 +20,8 @@ enum Piece<'a> {
 ///
 /// Bytes without `+` and `%` are borrowed and no memory is taken. All others are copied, into memory that
 /// is taken at once; where that is refused the answer is `OutOfMemory`, the only error. It goes over the
-/// bytes once, and over those before the first `+` or `%` twice; stretches between are copied whole.
+/// bytes once, and over those before the first `+` or `%` twice; what stands between two `%` is copied 32
+/// bytes at once.
 ///
 /// ```
 /// decode(alloc, b"a%5Bb%5D=1")?; // `a[b]=1`
@@ -41,68 +35,66 @@ pub fn decode(alloc: Global, bytes: &[u8]) -> Result<CowSlice<'_, u8>>
     if find_escape(bytes).is_none() {
         return Ok(CowSlice::Borrowed(bytes));
     }
-    let mut text = Vec::with_capacity(alloc, bytes.len())?;
-    append(bytes, &mut text);
+    let mut text = Vec::new(alloc);
+    text.resize(bytes.len(), 0)?;
+    let len = fill(bytes, &mut text);
+    text.truncate(len);
     Ok(CowSlice::Owned(text))
 }
 
-/// Appends what the bytes stand for, where there is room for as many.
-fn append(bytes: &[u8], text: &mut Vec<u8>)
-    requires { vec_len text.old + length bytes.now ≤ vec_capacity text.old }
-    ensures { text.new.items ≡ text.old.items ++ decoded bytes.now }
+/// Writes what the bytes stand for to the front of `room`, and returns how many bytes that is.
+fn fill(bytes: &[u8], room: &mut [u8]) -> usize
+    requires { length bytes.now ≤ length room.old }
+    ensures { take result room.new ≡ decoded bytes.now }
 {
     let mut rest = bytes;
-    while let Some((plain, piece, after)) = next_piece(rest) {
-        text.extend_from_slice(plain).unwrap();
-        match piece {
-            Piece::Byte(byte) => text.push(byte).unwrap(),
-            Piece::Raw(raw) => text.extend_from_slice(raw).unwrap(),
-        }
-        rest = after;
+    let mut at = 0;
+    while !rest.is_empty() {
+        let (read, written) = put_front(rest, room, at);
+        rest = &rest[read..];
+        at += written;
     }
-    text.extend_from_slice(rest).unwrap();
+    at
 }
 
-/// The stretch before the first `+` or `%`, what stands there, and what follows; none where all is plain.
-fn next_piece(bytes: &[u8]) -> Option<(&[u8], Piece<'_>, &[u8])>
-    ensures none { IfNone result (decoded bytes.now ≡ bytes.now) }
-    ensures some { IfSome result (λ p. decoded bytes.now ≡ p.0.now ++ (piece_text p.1 ++ decoded p.2.now)) }
-    ensures shorter { IfSome result (λ p. length p.2.now < length bytes.now) }
-    ensures room { IfSome result (λ p. length p.0.now + length (piece_text p.1) + length p.2.now ≤ length bytes.now) }
-{
-    let at = find_escape(bytes)?;
-    let (plain, tail) = bytes.split_at(at);
-    let (piece, after) = read_front(tail);
-    Some((plain, piece, after))
-}
-
-/// What the front of the bytes stands for, and what follows it.
-fn read_front(bytes: &[u8]) -> (Piece<'_>, &[u8])
-    requires { 0 < length bytes.now }
-    ensures value { decoded bytes.now ≡ piece_text result.0 ++ decoded result.1.now }
-    ensures shorter { length result.1.now < length bytes.now }
-    ensures room { length (piece_text result.0) + length result.1.now ≤ length bytes.now }
+/// Writes what some bytes of the front stand for to `room` from `at` on. Returns how many it took, and how
+/// many it wrote.
+#[inline(always)]
+fn put_front(bytes: &[u8], room: &mut [u8], at: usize) -> (usize, usize)
+    requires some { 0 < length bytes.now }
+    requires room { at + length bytes.now ≤ length room.old }
+    ensures some { 0 < result.0 }
+    ensures within { result.0 ≤ length bytes.now }
+    ensures room { result.1 ≤ result.0 }
+    ensures text { take (at + result.1) room.new ++ decoded (drop result.0 bytes.now)
+        ≡ take at room.old ++ decoded bytes.now }
 {
     match bytes {
-        [b'+', after @ ..] => (Piece::Byte(b' '), after),
-        [b'%', high, low, after @ ..] => match (hex_digit(*high), hex_digit(*low)) {
-            (Some(high), Some(low)) => (Piece::Byte(high * 16 + low), after),
-            (Some(_), None) => raw_front(bytes, 3),
-            (None, _) => raw_front(bytes, 2),
+        [b'%', high, low, ..] => match (hex_digit(*high), hex_digit(*low)) {
+            (Some(high), Some(low)) => {
+                room[at] = high * 16 + low;
+                (3, 1)
+            }
+            (Some(_), None) => put_raw(bytes, 3, room, at),
+            (None, _) => put_raw(bytes, 2, room, at),
         },
-        [b'%', ..] => raw_front(bytes, bytes.len()),
-        _ => raw_front(bytes, 1),
+        [b'%', ..] => put_raw(bytes, bytes.len(), room, at),
+        _ => {
+            let len = copy_run(Byte(b'%'), bytes, b'+', b' ', room, at);
+            (len, len)
+        }
     }
 }
 
-/// So many bytes as they are, and what follows them.
-fn raw_front(bytes: &[u8], len: usize) -> (Piece<'_>, &[u8])
-    requires { len ≤ length bytes.now }
-    ensures front { piece_text result.0 ≡ take len bytes.now }
-    ensures back { result.1.now ≡ drop len bytes.now }
+/// Writes so many bytes of a broken escape as they are.
+fn put_raw(bytes: &[u8], len: usize, room: &mut [u8], at: usize) -> (usize, usize)
+    requires within { len ≤ length bytes.now }
+    requires room { at + len ≤ length room.old }
+    ensures len { (result.0 ≡ len) × (result.1 ≡ len) }
+    ensures text { take (at + len) room.new ≡ take at room.old ++ take len bytes.now }
 {
-    let (raw, after) = bytes.split_at(len);
-    (Piece::Raw(raw), after)
+    put(&bytes[..len], room, at);
+    (len, len)
 }
 
 /// The value of a hexadecimal digit of either case.
@@ -116,6 +108,3 @@ fn hex_digit(byte: u8) -> Option<u8>
         _ => None,
     }
 }
-
-#[cfg(test)]
-mod tests;

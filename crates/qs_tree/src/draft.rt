@@ -1,5 +1,5 @@
 //! The tree of the pairs so far, while an input is scanned.
-ghost use Rattle.std.specs.Prelude.{◌≡◌, true, Some, IfOk, IfErr, OnOk, MatchResult, option_map};
+ghost use Rattle.std.specs.Prelude.{◌≡◌, true, Some, IfOk, OnOk, MatchResult, option_map};
 ghost use Rattle.std.specs.List.Sorted.{IsStrictlySortedBy};
 ghost use Rattle.std.specs.Map.{keys_of};
 ghost use Rattle.std.specs.String.{string_bytes};
@@ -11,9 +11,9 @@ ghost use Rattle.qs_tree.specs.declared.key.Key.{Key};
 ghost use Rattle.qs_tree.specs.Views.{segment_of_key, step_of_key, tree_of};
 ghost use Rattle.qs_tree.specs.Views as view;
 ghost use Rattle.qs_tree.specs.Keys.{key_cmp};
-ghost use Rattle.qs_tree.specs.Places.{IsHit, IsGap};
+ghost use Rattle.qs_tree.specs.Places.{IsPlaced};
 ghost use Rattle.qs_tree.specs.Conflict.{keys_text};
-ghost use Rattle.qs_tree.specs.Draft.{draft_tree, draft_entries, entries_seen, IsPlace, IsPlaceAmong, Takes};
+ghost use Rattle.qs_tree.specs.Draft.{draft_tree, draft_entries, entries_seen, Takes};
 
 use crate::draft_drop::drop_draft;
 use crate::entries::Entries;
@@ -50,14 +50,6 @@ pub(crate) enum DraftMap<'qs> {
 /// Up to so many entries a vector takes a key in their midst.
 const FEW: usize = 32;
 
-/// What was taken out of a map.
-#[derive(Drop)]
-pub(crate) struct Taken<'qs> {
-    pub node: Draft<'qs>,
-    /// In a vector, where the key is, or else where it would go. A tree doesn't tell.
-    pub place: Result<usize, usize>,
-}
-
 impl<'qs> Draft<'qs> {
     /// The node as it stays, or the map that it is, which has to be laid out first.
     pub fn into_value(self) -> Result<ParsedValue<'qs>, DraftMap<'qs>>
@@ -91,54 +83,33 @@ impl<'qs> DraftMap<'qs> {
     }
 
     /// Takes the node at a key out, which stays there as a fresh one. Where the key is missing the answer is fresh too.
-    pub fn take(&mut self, key: &Key<'qs>) -> Taken<'qs>
-        ensures taken { Takes key.now (draft_entries self.old) (draft_tree result.node) (draft_entries self.new) }
-        ensures place { IsPlace key.now result.place self.new }
+    pub fn take(&mut self, key: &Key<'qs>) -> Draft<'qs>
+        ensures { Takes key.now (draft_entries self.old) (draft_tree result) (draft_entries self.new) }
     {
         match self {
             DraftMap::Vector(entries) => take_at(entries, key),
-            DraftMap::Tree(map) => Taken {
-                node: take_below(map, key),
-                place: Err(0),
-            },
+            DraftMap::Tree(map) => take_below(map, key),
         }
     }
 
-    /// Puts a node at a key, which is where `take` said. A key that is there stays as it is.
-    pub fn put(
-        &mut self,
-        alloc: Global,
-        place: Result<usize, usize>,
-        key: Key<'qs>,
-        node: Draft<'qs>,
-    ) -> Result<(), AllocError>
-        requires { IsPlace key place self.old }
+    /// Puts a node at a key. A key that is there stays as it is.
+    pub fn put(&mut self, alloc: Global, key: Key<'qs>, node: Draft<'qs>) -> Result<(), AllocError>
         ensures { OnOk result (update (step_of_key key.entry) (λ _. Some (draft_tree node.entry)) (draft_entries self.old) ≡ Some (draft_entries self.new)) }
     {
-        self.make_room(alloc, place)?;
         match self {
-            DraftMap::Vector(entries) => put_at(entries, place, key, node),
+            DraftMap::Vector(entries) => {
+                let place = place_among(entries.as_slice(), &key);
+                if goes_between(place, entries.len()) {
+                    let mut map = into_tree(alloc, mem::replace(entries, Entries::new(alloc)))?;
+                    put_below(&mut map, key, node)?;
+                    *self = DraftMap::Tree(map);
+                    Ok(())
+                } else {
+                    put_at(entries, place, key, node)
+                }
+            }
             DraftMap::Tree(map) => put_below(map, key, node),
         }
-    }
-
-    // Goes on as a tree where a key would go into the midst of more than a few.
-    fn make_room(&mut self, alloc: Global, place: Result<usize, usize>) -> Result<(), AllocError>
-        ensures same { OnOk result (draft_entries self.new ≡ draft_entries self.old) }
-        ensures place { (key : Key) → IsPlace key place self.old → OnOk result (IsPlace key place self.new) }
-    {
-        let DraftMap::Vector(entries) = self else {
-            return Ok(());
-        };
-        let Err(at) = place else {
-            return Ok(());
-        };
-        if entries.len() < FEW || at == entries.len() {
-            return Ok(());
-        }
-        let entries = mem::replace(entries, Entries::new(alloc));
-        *self = DraftMap::Tree(into_tree(alloc, entries)?);
-        Ok(())
     }
 
     /// The keys as they are shown, with `, ` between them.
@@ -187,36 +158,41 @@ impl<'qs> Drop for DraftMap<'qs> {
 }
 
 // Takes the node at a key out of a vector.
-fn take_at<'qs>(entries: &mut Entries<Key<'qs>, Draft<'qs>>, key: &Key<'qs>) -> Taken<'qs>
-    ensures taken { Takes key.now (entries_seen entries.old) (draft_tree result.node) (entries_seen entries.new) }
-    ensures place { IsPlaceAmong key.now result.place entries.new }
+fn take_at<'qs>(entries: &mut Entries<Key<'qs>, Draft<'qs>>, key: &Key<'qs>) -> Draft<'qs>
+    ensures { Takes key.now (entries_seen entries.old) (draft_tree result) (entries_seen entries.new) }
 {
     match place_among(entries.as_slice(), key) {
-        Ok(at) => Taken {
-            node: entries.replace(at, Draft::Fresh),
-            place: Ok(at),
-        },
-        Err(at) => Taken {
-            node: Draft::Fresh,
-            place: Err(at),
-        },
+        Ok(at) => entries.replace(at, Draft::Fresh),
+        Err(_) => Draft::Fresh,
     }
 }
 
-// Where a key is among entries in the order of their keys, or else where it would go. Keys often come in order: so behind more than
-// a few entries the last key is looked at first.
-fn place_among<'qs>(entries: &[(Key<'qs>, Draft<'qs>)], key: &Key<'qs>) -> Result<usize, usize>
+/// Where a key is among entries in the order of their keys, or else where it would go. Keys often come in order: so the last key is
+/// looked at first.
+pub(crate) fn place_among<'qs>(
+    entries: &[(Key<'qs>, Draft<'qs>)],
+    key: &Key<'qs>,
+) -> Result<usize, usize>
     requires { IsStrictlySortedBy key_cmp (keys_of entries.now) }
-    ensures found { IfOk result (IsHit key_cmp key.now entries.now) }
-    ensures absent { IfErr result (IsGap key_cmp key.now entries.now) }
+    ensures { IsPlaced key_cmp key.now entries.now result }
 {
     let len = entries.len();
-    if len > FEW {
-        if let Ordering::Greater = key.compare(&entries[len - 1].0) {
-            return Err(len);
-        }
+    if len == 0 {
+        return Err(0);
     }
-    search(entries, key, &mut Steps::new())
+    match key.compare(&entries[len - 1].0) {
+        Ordering::Greater => Err(len),
+        Ordering::Equal => Ok(len - 1),
+        Ordering::Less => search(entries, key, &mut Steps::new()),
+    }
+}
+
+/// A key goes into the midst of more than a few entries.
+pub(crate) fn goes_between(place: Result<usize, usize>, len: usize) -> bool {
+    match place {
+        Ok(_) => false,
+        Err(at) => len >= FEW && at < len,
+    }
 }
 
 // Takes the node at a key out of a tree.
@@ -236,7 +212,7 @@ fn put_at<'qs>(
     key: Key<'qs>,
     node: Draft<'qs>,
 ) -> Result<(), AllocError>
-    requires { IsPlaceAmong key place entries.old }
+    requires { IsPlaced key_cmp key entries.old place }
     ensures { OnOk result (update (step_of_key key.entry) (λ _. Some (draft_tree node.entry)) (entries_seen entries.old) ≡ Some (entries_seen entries.new)) }
 {
     match place {
@@ -271,8 +247,8 @@ fn insert<'qs>(
     Ok(())
 }
 
-// The entries of a vector in a tree.
-fn into_tree<'qs>(
+/// The entries of a vector in a tree.
+pub(crate) fn into_tree<'qs>(
     alloc: Global,
     entries: Entries<Key<'qs>, Draft<'qs>>,
 ) -> Result<BTreeMap<Key<'qs>, Draft<'qs>>, AllocError>

@@ -1,19 +1,19 @@
 //! Bytes as a querystring writes them.
 
-ghost use Rattle.std.specs.Prelude.{◌≡◌, ◌+◌, ◌<◌, ◌≤◌, ◌++◌, true, length, IfNone, IfSome, OnOk, OnErr, vec_len, vec_capacity, min};
-ghost use Rattle.qs_spec.specs.Escape.{encoded, decoded, spelling};
+ghost use Rattle.std.specs.Prelude.{◌≡◌, ◌+◌, ◌<◌, ◌≤◌, ◌++◌, length, OnOk, OnErr, min, take, drop};
+ghost use Rattle.qs_spec.specs.Escape.{encoded, decoded};
 ghost use Rattle.qs_tree.specs.Error.{OnlyOutOfMemory};
-ghost use Rattle.qs_tree.specs.Search.{is_encoded};
 
+use crate::copying::{copy_run, put};
 use crate::error::Result;
-use crate::search::find_encoded;
+use crate::search::{Class, Escaped, count};
 use percent_encoding::percent_encode_byte;
 
 /// Appends the bytes as form mode (`form`), or query mode, writes them: some as they are, a space as `+` in
 /// query mode, and the rest as `%` and two upper case hexadecimal digits.
 ///
 /// It makes its growth first. Where that is refused the answer is `OutOfMemory` and `out` stays as it was;
-/// there is no other error. It goes over the bytes twice, and copies stretches that stay as they are whole.
+/// there is no other error. It goes over the bytes twice, 32 at once where no escape is written.
 ///
 /// ```
 /// encode(b"100% a+b", false, &mut out)?; // appends `100%25+a%2Bb`
@@ -25,8 +25,9 @@ pub fn encode(bytes: &[u8], form: bool, out: &mut Vec<u8>) -> Result<()>
     ensures errors { OnlyOutOfMemory result }
     ensures back { decoded (encoded form bytes.now) ≡ bytes.now }
 {
-    out.reserve(encoded_len(bytes, form))?;
-    append(bytes, form, out);
+    let begin = out.len();
+    out.resize(begin.saturating_add(encoded_len(bytes, form)), 0)?;
+    fill(bytes, form, out, begin);
     Ok(())
 }
 
@@ -34,52 +35,40 @@ pub fn encode(bytes: &[u8], form: bool, out: &mut Vec<u8>) -> Result<()>
 fn encoded_len(bytes: &[u8], form: bool) -> usize
     ensures { result ≡ min (length (encoded form bytes.now)) usize.MAX }
 {
-    let mut len = 0usize;
-    let mut rest = bytes;
-    while let Some((kept, escape, after)) = next_escape(rest, form) {
-        len = len.saturating_add(kept.len()).saturating_add(escape.len());
-        rest = after;
-    }
-    len.saturating_add(rest.len())
+    let escapes = count(Escaped { form }, bytes);
+    bytes.len().saturating_add(escapes.saturating_mul(2))
 }
 
-/// Appends what `encode` does, where there is room for it.
-fn append(bytes: &[u8], form: bool, out: &mut Vec<u8>)
-    requires { vec_len out.old + length (encoded form bytes.now) ≤ vec_capacity out.old }
-    ensures { out.new.items ≡ out.old.items ++ encoded form bytes.now }
+/// Writes what `encode` appends to the room for it, which is all from `begin` on.
+fn fill(bytes: &[u8], form: bool, room: &mut [u8], begin: usize)
+    requires { begin + length (encoded form bytes.now) ≡ length room.old }
+    ensures { room.new ≡ take begin room.old ++ encoded form bytes.now }
 {
     let mut rest = bytes;
-    while let Some((kept, escape, after)) = next_escape(rest, form) {
-        out.extend_from_slice(kept).unwrap();
-        out.extend_from_slice(escape.as_bytes()).unwrap();
-        rest = after;
-    }
-    out.extend_from_slice(rest).unwrap();
-}
-
-/// The stretch that stays as it is, what is written for the byte after it, and what follows that byte; none
-/// where all stays as it is.
-fn next_escape(bytes: &[u8], form: bool) -> Option<(&[u8], &'static str, &[u8])>
-    ensures none { IfNone result (encoded form bytes.now ≡ bytes.now) }
-    ensures some { IfSome result (λ p. encoded form bytes.now ≡ p.0.now ++ (p.1.now ++ encoded form p.2.now)) }
-    ensures shorter { IfSome result (λ p. length p.2.now < length bytes.now) }
-{
-    let at = find_encoded(bytes, form)?;
-    let (kept, tail) = bytes.split_at(at);
-    Some((kept, spelling(tail[0], form), &tail[1..]))
-}
-
-/// What is written for a byte that doesn't stay as it is.
-fn spelling(byte: u8, form: bool) -> &'static str
-    requires { is_encoded form byte ≡ true }
-    ensures { result.now ≡ spelling form byte }
-{
-    if byte == b' ' && !form {
-        "+"
-    } else {
-        percent_encode_byte(byte)
+    let mut at = begin;
+    while !rest.is_empty() {
+        let (read, written) = put_front(rest, form, room, at);
+        rest = &rest[read..];
+        at += written;
     }
 }
 
-#[cfg(test)]
-mod tests;
+/// Writes some bytes of the front to `room` from `at` on. Returns how many it took, and how many it wrote.
+#[inline(always)]
+fn put_front(bytes: &[u8], form: bool, room: &mut [u8], at: usize) -> (usize, usize)
+    requires some { 0 < length bytes.now }
+    requires room { at + length (encoded form bytes.now) ≤ length room.old }
+    ensures some { 0 < result.0 }
+    ensures within { result.0 ≤ length bytes.now }
+    ensures room { result.1 + length (encoded form (drop result.0 bytes.now)) ≡ length (encoded form bytes.now) }
+    ensures text { take (at + result.1) room.new ++ encoded form (drop result.0 bytes.now)
+        ≡ take at room.old ++ encoded form bytes.now }
+{
+    let escaped = Escaped { form };
+    if escaped.has(bytes[0]) {
+        put(percent_encode_byte(bytes[0]).as_bytes(), room, at);
+        return (1, 3);
+    }
+    let len = copy_run(escaped, bytes, b' ', b'+', room, at);
+    (len, len)
+}

@@ -1,11 +1,11 @@
 //! A vector of entries in the order of their keys, each key once.
-ghost use Rattle.std.specs.Prelude.{◌≡◌, ◌<◌, [], length, ◌∷◌, ◌++◌, IfOk, IfNone, OnOk, OnErr, Some, option_map, slice_get};
+ghost use Rattle.std.specs.Prelude.{◌≡◌, ◌<◌, [], length, ◌∷◌, ◌++◌, IfOk, IfNone, OnOk, OnErr, Some, option_map, slice_get, unwrap_or};
 ghost use Rattle.std.specs.List.{remove};
 ghost use Rattle.std.specs.Option.{option_to_list};
 ghost use Rattle.std.specs.List.Sorted.{IsStrictlySortedBy};
-ghost use Rattle.std.specs.Map.{keys_of};
-ghost use Rattle.std.specs.BTreeMap.{insert_entry};
-ghost use Rattle.qs_tree.specs.Places.{IsGap, put_value};
+ghost use Rattle.std.specs.Map.{keys_of, lookup};
+ghost use Rattle.std.specs.BTreeMap.{insert_entry, is_at};
+ghost use Rattle.qs_tree.specs.Places.{IsGap, IsPlaced, put_value};
 
 use std::alloc::{AllocError, Global};
 use std::marker::Model;
@@ -33,6 +33,9 @@ impl<K: Ord, V> Model for Entries<K, V> {
 }
 
 impl<K: Ord, V> Entries<K, V> {
+    ghost use Rattle.std.specs.Borrow.{sem};
+    ghost use Rattle.qs_tree.specs.Lending.{LendsValue};
+
     /// No entries. Nothing is allocated.
     pub fn new(alloc: Global) -> Self
         ensures { result ≡ [] }
@@ -89,6 +92,16 @@ impl<K: Ord, V> Entries<K, V> {
         }
     }
 
+    /// The value at a place, to be changed.
+    pub fn at_mut(&mut self, at: usize) -> &mut V
+        requires { at < length self.old }
+        ensures* writes_back { sem 𝓛 (LendsValue K.row V.row K.Ord.own K.PartialEq.own K.PartialOrd.own self.entry at result) }
+        ensures value { option_map (λ e. e.1) (slice_get self.old at) ≡ Some result.now }
+    {
+        let item = &mut self.items[at];
+        &mut item.1
+    }
+
     /// Puts a value in the place of the one that is there, and answers that one.
     pub fn replace(&mut self, at: usize, value: V) -> V
         requires { at < length self.old }
@@ -115,6 +128,41 @@ impl<K: Ord, V> Entries<K, V> {
 }
 
 impl<K: Ord + Drop, V: Drop> Entries<K, V> {
+    ghost use Rattle.std.specs.Borrow.{sem};
+    ghost use Rattle.qs_tree.specs.Lending.{LendsChild};
+
+    /// The value at a key, to be changed, which is fresh where the key was missing. The place is where the key is, or would go.
+    /// On an error nothing is told of the entries.
+    pub fn child(
+        &mut self,
+        place: Result<usize, usize>,
+        key: K,
+        fresh: V,
+    ) -> Result<&mut V, AllocError>
+        requires { IsPlaced K.cmp key self.old place }
+        ensures* writes_back { sem 𝓛 (LendsChild K.row V.row K.Ord.own K.PartialEq.own K.PartialOrd.own self.entry key result) }
+        ensures value { IfOk result (λ v. v.now ≡ unwrap_or (lookup (is_at (K.cmp key)) self.old) fresh) }
+    {
+        let at = self.filled(place, key, fresh)?;
+        Ok(self.at_mut(at))
+    }
+
+    // Puts the fresh value at the key where it is missing, and answers where the key is.
+    fn filled(&mut self, place: Result<usize, usize>, key: K, fresh: V) -> Result<usize, AllocError>
+        requires { IsPlaced K.cmp key self.old place }
+        ensures in_range { IfOk result (λ at. at < length self.new) }
+        ensures value { IfOk result (λ at. option_map (λ e. e.1) (slice_get self.new at) ≡ Some (unwrap_or (lookup (is_at (K.cmp key)) self.old) fresh)) }
+        ensures rest { IfOk result (λ at. (w : V) → put_value self.new at w ≡ insert_entry K.cmp self.old key w) }
+    {
+        match place {
+            Ok(at) => Ok(at),
+            Err(at) => {
+                self.insert_at(at, key, fresh)?;
+                Ok(at)
+            }
+        }
+    }
+
     /// Puts an entry at the place where its key is missing. On an error nothing is changed.
     pub fn insert_at(&mut self, at: usize, key: K, value: V) -> Result<(), AllocError>
         requires { IsGap K.cmp key self.old at }

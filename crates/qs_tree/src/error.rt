@@ -176,6 +176,3 @@ impl<T: Drop> From<AllocFailed<T>> for Error {
         Error::OutOfMemory
     }
 }
-
-#[cfg(test)]
-mod tests;

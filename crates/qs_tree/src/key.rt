@@ -4,7 +4,7 @@ ghost use Rattle.qs_spec.specs.Segment.Segment.{Int, Str};
 ghost use Rattle.qs_tree.specs.Keys.{key_cmp};
 ghost use Rattle.std.specs.Fmt.{WritesOnOk};
 ghost use Rattle.std.specs.Str.Lossy.{utf8_lossy};
-ghost use Rattle.qs_tree.specs.Views.{key_mark, segment_of_key, step_of_key, shown};
+ghost use Rattle.qs_tree.specs.Views.{segment_of_key, step_of_key, shown};
 
 use std::borrow::CowSlice;
 use std::cmp::Ordering;
@@ -23,13 +23,6 @@ pub enum Key<'a> {
 }
 
 impl<'a> Key<'a> {
-    /// Whether it is a text of its own, not one of the input.
-    pub(crate) fn is_owned(&self) -> bool
-        ensures { result ≡ key_mark self.now }
-    {
-        matches!(self, Key::String(CowSlice::Owned(_)))
-    }
-
     /// How this key stands to another one, of any lifetime.
     pub(crate) fn compare<'b>(&self, other: &Key<'b>) -> Ordering
         ensures { result ≡ key_cmp self.now other.now }

@@ -2,9 +2,9 @@
 #![tactic(auto)]
 
 mod add;
-pub mod comparing;
 mod config;
 mod conflict;
+mod copying;
 mod cursor;
 mod decoding;
 mod descent;
@@ -16,22 +16,17 @@ mod entries;
 mod error;
 mod key;
 mod map;
-mod meeting;
 mod pair;
 mod parsing;
 mod raw;
 mod reading;
 mod refusal;
-mod sampling;
+mod sameness;
 mod search;
 mod settling;
-mod sorting;
 mod steps;
 mod tree_laws;
-#[cfg(test)]
-mod tree_tests;
 mod value;
-mod weight;
 
 pub use crate::config::{ArrayFormat, Config, DuplicateKeyBehavior};
 pub use crate::decoding::decode;

@@ -13,11 +13,10 @@ ghost use Rattle.qs_tree.specs.Places.{IsHit, IsGap, binary_digits};
 ghost use Rattle.qs_tree.specs.Views as view;
 ghost use Rattle.qs_tree.specs.Views.{segment_of_key, step_of_key, tree_of, entries_of_map, map_pairs, take_out};
 
-use crate::comparing::equal_rests;
 use crate::dropping::drop_tree;
 use crate::entries::Entries;
 use crate::key::Key;
-use crate::meeting::NodesLeft;
+use crate::sameness::same_entries;
 use crate::steps::Steps;
 use crate::value::ParsedValue;
 use std::alloc::Global;
@@ -80,6 +79,7 @@ impl<'qs> ParsedMap<'qs> {
         ensures ordered { AreOrdered (entries_of_map self.now) }
         ensures most { steps.new ≤ steps.old + binary_digits (length (map_pairs self.now)) }
         ensures least { 0 < length (map_pairs self.now) → steps.old < steps.new }
+        ensures grows { steps.old ≤ steps.new }
     {
         find(self.map.as_slice(), key, steps)
     }
@@ -131,15 +131,14 @@ impl<'qs> ParsedMap<'qs> {
     }
 }
 
-/// Takes no more stack for a deep map than for a flat one, as long as there is memory for what waits to be compared.
+/// Calls itself for each level of the trees, and doesn't allocate.
 impl<'qs> PartialEq for ParsedMap<'qs> {
     ghost eq = { λ a b. entries_same (entries_of_map a) (entries_of_map b) };
 
     ghost laws = { on_per entries_of_map entries_per };
 
     fn eq(&self, other: &ParsedMap<'qs>) -> bool {
-        let rest = NodesLeft::Entries(self.map.as_slice(), other.map.as_slice());
-        equal_rests(self.map.allocator(), rest)
+        same_entries(self.map.as_slice(), other.map.as_slice())
     }
 }
 
@@ -160,6 +159,7 @@ pub(crate) fn find<'e, 'k, 'qs, V>(
     ensures value { option_map (λ v. v.now) result ≡ lookup (is_at (key_cmp key.now)) entries.now }
     ensures most { steps.new ≤ steps.old + binary_digits (length entries.now) }
     ensures least { 0 < length entries.now → steps.old < steps.new }
+    ensures grows { steps.old ≤ steps.new }
 {
     match search(entries, key, steps) {
         Ok(at) => Some(&entries[at].1),
@@ -178,6 +178,7 @@ pub(crate) fn search<'k, 'qs, V>(
     ensures absent { IfErr result (IsGap key_cmp key.now entries.now) }
     ensures most { steps.new ≤ steps.old + binary_digits (length entries.now) }
     ensures least { 0 < length entries.now → steps.old < steps.new }
+    ensures grows { steps.old ≤ steps.new }
 {
     let mut low = 0;
     let mut high = entries.len();

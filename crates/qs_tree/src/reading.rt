@@ -1,13 +1,13 @@
 //! One pair, read from what is left of an input.
 
 ghost use Rattle.std.specs.Prelude.{◌≡◌, ◌++◌, ◌<◌, [], length, IfOk, IsOk, IsOkAnd, IsTrue, true, false};
-ghost use Rattle.qs_spec.specs.Grammar.{plain, pushed, ends_root};
-ghost use Rattle.qs_spec.specs.toward.Reading.{with_leaf, read_value, read_brackets};
-ghost use Rattle.qs_tree.specs.declared.reading.Fault.TheVariants.{Other};
+ghost use Rattle.qs_spec.specs.Grammar.{plain, pushed, longer, ends_last, ends_root};
+ghost use Rattle.qs_spec.specs.Token.{raw_of};
+ghost use Rattle.qs_spec.specs.toward.Reading.{cut, with_leaf, read_value, read_brackets};
 ghost use Rattle.qs_tree.specs.Error.{OnlyOutOfMemory};
 ghost use Rattle.qs_tree.specs.Pairs.{path_of};
-ghost use Rattle.qs_tree.specs.Cursor.{ends_of, left, behind, GoesOn, KnowsEnd};
-ghost use Rattle.qs_tree.specs.Reading.{IsRootStop, IsClosing, IsBehind, StandsBehind, IsEnd, IsMore, end_reason, ReadsItem, ReadsLeaf, ReadsPair, is_nothing, root_path, behind_root};
+ghost use Rattle.qs_tree.specs.Cursor.{ends_of, left, behind, taken, GoesOn, IsLeft, KnowsEnd};
+ghost use Rattle.qs_tree.specs.Reading.{IsRootStop, IsClosing, IsBehind, StandsBehind, IsEnd, IsMore, ReadsItem, ReadsLeaf, ReadsPair, is_nothing, root_path, behind_root};
 ghost use Rattle.qs_tree.specs.Small.{is_plain, TakesNoMemory, IsEqualsStop, ReadsBare, ReadsSmall};
 
 use crate::cursor::{Cursor, Kind, Token, Until};
@@ -18,7 +18,6 @@ use crate::raw::{read_key, read_leaf};
 use std::alloc::{AllocFailed, Global};
 
 /// What was read.
-#[derive(Drop)]
 pub(crate) enum Item<'qs> {
     /// Nothing: the end was met.
     End,
@@ -28,15 +27,12 @@ pub(crate) enum Item<'qs> {
 }
 
 /// Why nothing was read.
-#[derive(Drop)]
 pub(crate) enum Fault<'qs> {
     Unread(Unread<'qs>),
-    /// Memory ran out.
-    Other(Error),
+    OutOfMemory,
 }
 
 /// A pair that can't be read to its end.
-#[derive(Drop)]
 pub(crate) struct Unread<'qs> {
     /// The keys up to the place where it can't go on.
     pub path: Vec<Key<'qs>>,
@@ -60,24 +56,24 @@ pub(crate) enum Reason {
 
 impl<'qs> From<Error> for Fault<'qs> {
     ghost use Rattle.std.specs.Prelude.{◌≡◌};
-    ghost use Rattle.qs_tree.specs.declared.reading.Fault.TheVariants.{Other};
+    ghost use Rattle.qs_tree.specs.declared.reading.Fault.TheVariants.{OutOfMemory};
 
-    ghost from_gives = { λ error fault. fault ≡ Other error };
+    ghost from_gives = { λ _ fault. fault ≡ OutOfMemory };
 
-    fn from(error: Error) -> Fault<'qs> {
-        Fault::Other(error)
+    // A key or a leaf has no other error.
+    fn from(_: Error) -> Fault<'qs> {
+        Fault::OutOfMemory
     }
 }
 
 impl<'qs, T: Drop> From<AllocFailed<T>> for Fault<'qs> {
     ghost use Rattle.std.specs.Prelude.{◌≡◌};
-    ghost use Rattle.qs_tree.specs.declared.reading.Fault.TheVariants.{Other};
-    ghost use Rattle.qs_tree.specs.declared.error.Error.TheVariants.{OutOfMemory};
+    ghost use Rattle.qs_tree.specs.declared.reading.Fault.TheVariants.{OutOfMemory};
 
-    ghost from_gives = { λ _ fault. fault ≡ Other OutOfMemory };
+    ghost from_gives = { λ _ fault. fault ≡ OutOfMemory };
 
     fn from(_: AllocFailed<T>) -> Fault<'qs> {
-        Fault::Other(Error::OutOfMemory)
+        Fault::OutOfMemory
     }
 }
 
@@ -97,6 +93,7 @@ pub(crate) fn read_item<'qs>(
     if cursor.has_ended() {
         return Ok(Item::End);
     }
+    cursor.begin_pair();
     let (key, stop) = cursor.run(root_end(max_depth));
     if is_nothing(key, stop) {
         return Ok(match stop {
@@ -118,7 +115,7 @@ fn is_nothing(key: &[u8], stop: Option<Token<'_>>) -> bool
 }
 
 /// What ends a root key: a bracket only where there may be brackets.
-pub(crate) fn root_end(max_depth: usize) -> Until
+fn root_end(max_depth: usize) -> Until
     ensures { ends_of result ≡ ends_root max_depth }
 {
     if max_depth == 0 {
@@ -145,6 +142,7 @@ fn read_behind_root<'qs>(
     let path = read_root(alloc, key)?;
     match stop {
         Some(token) if token.kind.is_open() => {
+            cursor.keep_root(key, token.place)?;
             read_brackets(alloc, cursor, max_depth, path, token)
         }
         _ => read_plain(alloc, cursor, path, stop),
@@ -252,15 +250,24 @@ fn read_brackets<'qs>(
     ensures moves { GoesOn cursor.old cursor.new }
 {
     let mut room = max_depth;
-    while room > 0 {
-        let (segment, stop) = cursor.run(Until::Close);
-        let Some(_) = stop else {
-            return Err(Fault::Unread(unended(alloc, path, segment)?));
+    loop {
+        let Some(first) = cursor.next() else {
+            let reason = Reason::EndBehindOpen;
+            return Err(Fault::Unread(Unread { path, reason }));
         };
-        if segment.is_empty() {
+        cursor.keep_spot(bracket.place)?;
+        if first.kind.is_close() {
             return read_push(alloc, cursor, path);
         }
+        if room == 0 {
+            return read_last_key(alloc, cursor, path, bracket);
+        }
+        let (segment, stop) = cursor.run_from(first.place, Until::Close);
         path.push(read_key(alloc, segment)?)?;
+        let Some(_) = stop else {
+            let reason = Reason::EndInSegment;
+            return Err(Fault::Unread(Unread { path, reason }));
+        };
         let next = cursor.next();
         let Some(token) = next else {
             return read_plain(alloc, cursor, path, next);
@@ -278,42 +285,21 @@ fn read_brackets<'qs>(
         let reason = Reason::BehindSegment(character);
         return Err(Fault::Unread(Unread { path, reason }));
     }
-    read_last_key(alloc, cursor, path, bracket)
 }
 
-/// A pair that ends in a bracket below the limit.
-fn unended<'qs>(alloc: Global, mut path: Vec<Key<'qs>>, segment: &'qs [u8]) -> Result<Unread<'qs>>
-    ensures path { IfOk result (λ unread. path_of unread.path.items ≡ path_of path.entry.items ++ root_path segment.now) }
-    ensures reason { IfOk result (λ unread. unread.reason ≡ end_reason segment.now) }
-    ensures errors { OnlyOutOfMemory result }
-{
-    if segment.is_empty() {
-        let reason = Reason::EndBehindOpen;
-        return Ok(Unread { path, reason });
-    }
-    path.push(read_key(alloc, segment)?)?;
-    let reason = Reason::EndInSegment;
-    Ok(Unread { path, reason })
-}
-
-/// Reads what follows an opening bracket at the limit: a push, or one last key that begins with the bracket.
+/// Reads a last key, which begins with a bracket at the limit, behind its first token.
 fn read_last_key<'qs>(
     alloc: Global,
     cursor: &mut Cursor<'qs>,
     mut path: Vec<Key<'qs>>,
     bracket: Token<'qs>,
 ) -> Result<Pair<'qs>, Fault<'qs>>
-    requires { IsBehind bracket cursor.old }
-    ensures pair { ReadsPair (read_brackets 0 (path_of path.entry.items) bracket.entry.raw.now (left cursor.old)) result cursor.new }
+    requires end { cursor.old.ended ≡ false }
+    requires behind { IsLeft bracket.place.rest.now cursor.old.rest.now }
+    ensures pair { let run = cut ends_last (left cursor.old) in let key = taken bracket.entry.place.rest.now cursor.old.rest.now ++ raw_of run.0 in
+        ReadsPair (with_leaf (plain (longer (path_of path.entry.items) key)) (read_value run.1)) result cursor.new }
     ensures moves { GoesOn cursor.old cursor.new }
 {
-    let Some(first) = cursor.next() else {
-        let reason = Reason::EndBehindOpen;
-        return Err(Fault::Unread(Unread { path, reason }));
-    };
-    if first.kind.is_close() {
-        return read_push(alloc, cursor, path);
-    }
     let (key, stop) = cursor.run_from(bracket.place, Until::Separator);
     path.push(read_key(alloc, key)?)?;
     read_plain(alloc, cursor, path, stop)

@@ -8,9 +8,11 @@ ghost use Rattle.std.specs.Prelude.{◌≡◌, ◌<◌, length, position, IfSome
 ghost use Rattle.qs_spec.specs.Escape.{is_marked};
 ghost use Rattle.qs_tree.specs.Search.{is_escape, is_ampersand, is_encoded};
 
-use self::class::{Class, LANES};
+pub(crate) use self::class::{Class, LANES, count, run};
 use self::encoded::Encoded;
-use self::marks::{Ampersand, Escape};
+pub(crate) use self::encoded::Escaped;
+pub(crate) use self::marks::Byte;
+use self::marks::Escape;
 
 /// The first place of `+` or `%`.
 ///
@@ -30,7 +32,7 @@ pub fn find_ampersand(bytes: &[u8]) -> Option<usize>
     ensures first { result ≡ position is_ampersand bytes.now }
     ensures within { IfSome result (λ at. at < length bytes.now) }
 {
-    find(Ampersand, bytes)
+    find(Byte(b'&'), bytes)
 }
 
 /// The first place of a byte that form mode (`form`), or query mode, doesn't write as itself: a space too,
@@ -51,7 +53,7 @@ fn find<C: Class>(class: C, bytes: &[u8]) -> Option<usize>
 {
     let mut at = 0;
     while bytes.len() - at >= LANES {
-        let run = class.run(bytes, at);
+        let run = run(class, bytes, at);
         if run < LANES {
             return Some(at + run);
         }
@@ -65,6 +67,3 @@ fn find<C: Class>(class: C, bytes: &[u8]) -> Option<usize>
     }
     None
 }
-
-#[cfg(test)]
-mod tests;

@@ -5,7 +5,7 @@ ghost use Rattle.qs_tree.specs.EqualityLaws.{trees_per};
 ghost use Rattle.qs_tree.specs.Views.{tree_of};
 
 use crate::map::ParsedMap;
-use crate::meeting::meet;
+use crate::sameness::same_nodes;
 use std::borrow::CowSlice;
 
 /// A node of the tree that a querystring stands for. It may borrow its texts and keys from the input.
@@ -28,13 +28,13 @@ pub enum ParsedValue<'qs> {
     Uninitialized,
 }
 
-/// Takes no more stack for a deep tree than for a flat one, as long as there is memory for what waits to be compared.
+/// Calls itself for each level of the trees, and doesn't allocate.
 impl<'qs> PartialEq for ParsedValue<'qs> {
     ghost eq = { λ a b. tree_same (tree_of a) (tree_of b) };
 
     ghost laws = { on_per tree_of trees_per };
 
     fn eq(&self, other: &ParsedValue<'qs>) -> bool {
-        meet(self, other).is_same()
+        same_nodes(self, other)
     }
 }

@@ -3,6 +3,20 @@
 //! A flat querystring such as `name=Alice&age=24` is a list of names with texts. Here a key may go further down by brackets,
 //! as `user[name]=Alice&user[langs][0]=en`, so that a querystring can hold structs, lists, maps and enums inside one another.
 //!
+//! A type of your own is read by [`from_str`] and written by [`to_string`]:
+//!
+//! ```
+//! use serde_qs::{from_str, to_string};
+//!
+//! let query: Query = from_str(alloc, "age=24&name=Alice")?;
+//! let text = to_string(alloc, &query)?; // name=Alice&age=24
+//! ```
+//!
+//! A struct gets this by [`Record`], from the names and types of its fields; docs/TYPES.md shows how, and what an enum needs.
+//! [`ConfigExt`] has the same calls under a [`Config`].
+//!
+//! # Without a type
+//!
 //! What is read is asked for by a [`Shape`], and comes as [`Data`]; what is written is given as [`Data`]. Both follow serde's
 //! data model.
 //!
@@ -42,8 +56,32 @@
 //! only there.
 #![tactic(auto)]
 
+mod config_ext;
+mod fields;
+mod laws;
+mod lent;
+mod lists;
+mod maps;
+mod members;
+mod options;
+mod reading;
+mod records;
+mod scalars;
+mod signed;
+mod traits;
+mod unsigned;
+mod writing;
+
+pub use config_ext::ConfigExt;
+pub use fields::Fields;
+pub use laws::value_comes_back;
+pub use members::Members;
 pub use qs_data::{
     ByWrite, Data, Deserializer, Deserializer as QsDeserializer, Field, KeyShape, Serializer,
     Serializer as QsSerializer, Shape, Sink, Variant, VariantKind,
 };
 pub use qs_tree::{ArrayFormat, Config, DuplicateKeyBehavior, Error, Result};
+pub use reading::{from_bytes, from_str, read_by};
+pub use records::Record;
+pub use traits::{Deserialize, RoundTrip, Serialize, unexpected};
+pub use writing::{to_string, to_writer};

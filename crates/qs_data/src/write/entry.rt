@@ -1,17 +1,19 @@
 //! Entries, each made whole before it is put.
 
-ghost use Rattle.std.specs.Prelude.{◌≡◌, ◌++◌, [], ◌∷◌, OnOk, IsNone, option_map, Some};
+ghost use Rattle.std.specs.Prelude.{◌≡◌, ◌==◌, ◌||◌, cond, ◌<◌, ◌≤◌, ◌⊎◌, ◌++◌, [], ◌∷◌, ℕ, Bool, List, length, Some, Err, OnOk, OnErr, IfErr, IsNone, option_map};
+ghost use Rattle.qs_spec.specs.Entry.{Path, one};
 ghost use Rattle.std.specs.List.{All};
-ghost use Rattle.qs_spec.specs.Entry.{one};
-ghost use Rattle.qs_spec.specs.Written.{brackets_text, entry_text, value_text, open_bytes, close_bytes};
-ghost use Rattle.qs_tree.specs.Error.{OnlyOutOfMemory, IsOutOfMemory};
-ghost use Rattle.qs_data.specs.Scalars.{scalar_text, path_of};
-ghost use Rattle.qs_data.specs.Writes.{IsVisible, WritesTo};
+ghost use Rattle.qs_spec.specs.Written.{open_bytes, close_bytes, value_text};
+ghost use Rattle.qs_data.specs.Scalars.{scalar_text};
+ghost use Rattle.qs_data.specs.Writes.{IsVisible, IsAt, path_behind, grown, WritesTo};
+ghost use Rattle.qs_data.specs.declared.write.stop.Stop.TheVariants.{TooDeep, OutOfMemory};
 
 use crate::sink::{Sink, put_all};
 use crate::write::scalar::Scalar;
-use qs_tree::{Config, Result};
-use std::alloc::Global;
+use crate::write::stop::Stop;
+use qs_tree::Config;
+use std::alloc::{AllocError, Global};
+use std::io;
 
 /// Where entries go: the sink, and whether an entry with a key was put to it.
 #[derive(Drop)]
@@ -20,104 +22,75 @@ pub(crate) struct Stream<S> {
     pub(crate) started: bool,
 }
 
-/// What a walk over data keeps: the path to where it is, and the room in which an entry is made.
+/// Where a walk over data is.
 #[derive(Drop)]
-pub(crate) struct Walk<'a> {
-    pub(crate) path: Vec<Scalar<'a>>,
-    entry: Vec<u8>,
+pub(crate) struct Walk {
+    /// How many segments lead there.
+    depth: usize,
+    /// Their text behind an `&`. Going in appends, leaving truncates.
+    text: Vec<u8>,
+    /// Why the sink failed, where it did.
+    pub(crate) cause: io::Error,
 }
 
-impl Walk<'_> {
+impl Walk {
     /// A walk that begins at the top.
-    pub(crate) fn new<'a>(alloc: Global) -> Walk<'a>
-        ensures { result.path.items ≡ [] }
+    pub(crate) fn new(alloc: Global) -> Walk
+        ensures { (form : Bool) → IsAt form [] result }
     {
         Walk {
-            path: Vec::new(alloc),
-            entry: Vec::new(alloc),
+            depth: 0,
+            text: Vec::new(alloc),
+            cause: io::Error::from(io::ErrorKind::WriteZero),
         }
     }
-}
 
-/// Puts the entry with this value, or with none, at the walk's path.
-pub(crate) fn put<S: Sink>(
-    stream: &mut Stream<S>,
-    walk: &mut Walk<'_>,
-    config: Config,
-    value: Option<Scalar<'_>>,
-) -> Result<()>
-    ensures writes { WritesTo S.taken S.failed S.writer_name result config stream.old stream.new
-        (one (path_of walk.old.path.items) (option_map scalar_text value.entry)) }
-    ensures path { walk.new.path.items ≡ walk.old.path.items }
-    ensures bare { walk.old.path.items ≡ [] → IsNone value.entry → IsOutOfMemory result → ⊥ }
-{
-    render(
-        &mut walk.entry,
-        config.get_form(),
-        stream.started,
-        &walk.path,
-        value,
-    )?;
-    put_all(&mut stream.sink, &walk.entry)?;
-    stream.started |= !walk.path.is_empty();
-    Ok(())
-}
-
-/// Puts the entry with an empty value at the walk's path.
-pub(crate) fn put_empty<S: Sink>(
-    stream: &mut Stream<S>,
-    walk: &mut Walk<'_>,
-    config: Config,
-) -> Result<()>
-    ensures writes { WritesTo S.taken S.failed S.writer_name result config stream.old stream.new
-        (one (path_of walk.old.path.items) (Some [])) }
-    ensures path { walk.new.path.items ≡ walk.old.path.items }
-    ensures bare { walk.old.path.items ≡ [] → IsOutOfMemory result → ⊥ }
-{
-    if !walk.path.is_empty() {
-        return put(stream, walk, config, Some(Scalar::Bytes(&[])));
+    /// How long the text is.
+    pub(crate) fn len(&self) -> usize
+        ensures { result ≡ length self.now.text.items }
+    {
+        self.text.len()
     }
-    put_all(&mut stream.sink, b"=")?;
-    Ok(())
-}
 
-/// Makes the text of an entry.
-fn render(
-    entry: &mut Vec<u8>,
-    form: bool,
-    started: bool,
-    path: &[Scalar<'_>],
-    value: Option<Scalar<'_>>,
-) -> Result<()>
-    ensures ok { OnOk result (entry.new.items ≡ entry_text form started (path_of path.now) (option_map scalar_text value.entry)) }
-    ensures errors { OnlyOutOfMemory result }
-    ensures visible { OnOk result (All IsVisible entry.new.items) }
-    ensures bare { path.now ≡ [] → IsNone value.entry → IsOutOfMemory result → ⊥ }
-{
-    entry.clear();
-    let Some((first, rest)) = path.split_first() else {
-        return append_value(entry, form, value);
-    };
-    if started {
-        entry.push(b'&')?;
+    /// Goes under one more segment, unless the path is as long as the limit allows.
+    pub(crate) fn enter(&mut self, config: Config, segment: Scalar<'_>) -> Result<(), Stop>
+        ensures ok { OnOk result ((path : Path) → IsAt config.form path self.old
+            → (length path ≤ config.max_depth) × IsAt config.form (path ++ scalar_text segment.entry ∷ []) self.new) }
+        ensures err { IfErr result (λ stop. (path : Path) → IsAt config.form path self.old
+            → ((stop ≡ TooDeep) × (config.max_depth < length path)) ⊎ (stop ≡ OutOfMemory)) }
+    {
+        if config.get_max_depth() < self.depth {
+            return Err(Stop::TooDeep);
+        }
+        append_segment(&mut self.text, config.get_form(), segment)?;
+        self.depth = self.depth.saturating_add(1);
+        Ok(())
     }
-    first.append(form, entry)?;
-    append_brackets(entry, form, rest)?;
-    append_value(entry, form, value)
+
+    /// Leaves the last segment; the text was this long before it.
+    pub(crate) fn leave(&mut self, len: usize)
+        ensures { (form : Bool) (path : Path) (segment : List ℕ) → IsAt form (path ++ segment ∷ []) self.old
+            → len ≡ length (path_behind form path) → IsAt form path self.new }
+    {
+        self.text.truncate(len);
+        self.depth = self.depth.saturating_sub(1);
+    }
 }
 
-/// Appends the segments in brackets.
-fn append_brackets(out: &mut Vec<u8>, form: bool, path: &[Scalar<'_>]) -> Result<()>
-    ensures ok { OnOk result (out.new.items ≡ out.old.items ++ brackets_text form (path_of path.now)) }
-    ensures errors { OnlyOutOfMemory result }
+/// Appends one more segment: the first behind an `&`, and the others in brackets.
+fn append_segment(out: &mut Vec<u8>, form: bool, segment: Scalar<'_>) -> Result<(), AllocError>
+    ensures ok { OnOk result (out.new.items ≡ grown form out.old.items (scalar_text segment.entry)) }
     ensures visible { All IsVisible out.old.items → OnOk result (All IsVisible out.new.items) }
 {
-    let (open, close) = brackets(form);
-    for segment in path {
-        out.extend_from_slice(open.as_bytes())?;
-        segment.append(form, out)?;
-        out.extend_from_slice(close.as_bytes())?;
+    if out.is_empty() {
+        out.reserve(128)?;
+        out.extend_from_slice(b"&")?;
+        return segment.append(form, out);
     }
+    let (open, close) = brackets(form);
+    out.extend_from_slice(open.as_bytes())?;
+    segment.append(form, out)?;
+    out.extend_from_slice(close.as_bytes())?;
     Ok(())
 }
 
@@ -130,15 +103,59 @@ fn brackets(form: bool) -> (&'static str, &'static str)
 }
 
 /// Appends the value behind `=`, where there is one.
-fn append_value(out: &mut Vec<u8>, form: bool, value: Option<Scalar<'_>>) -> Result<()>
+fn append_value(out: &mut Vec<u8>, form: bool, value: Option<Scalar<'_>>) -> Result<(), AllocError>
     ensures ok { OnOk result (out.new.items ≡ out.old.items ++ value_text form (option_map scalar_text value.entry)) }
-    ensures errors { OnlyOutOfMemory result }
     ensures visible { All IsVisible out.old.items → OnOk result (All IsVisible out.new.items) }
-    ensures bare { IsNone value.entry → IsOutOfMemory result → ⊥ }
+    ensures bare { IsNone value.entry → OnErr result ⊥ }
 {
     let Some(scalar) = value else {
         return Ok(());
     };
-    out.push(b'=')?;
+    out.extend_from_slice(b"=")?;
     scalar.append(form, out)
+}
+
+/// Puts the entry with this value, or with none, where the walk is.
+pub(crate) fn put<S: Sink>(
+    stream: &mut Stream<S>,
+    walk: &mut Walk,
+    config: Config,
+    value: Option<Scalar<'_>>,
+) -> Result<(), Stop>
+    ensures writes { WritesTo S.taken S.failed S.writer_name result config stream.old stream.new walk.old walk.new
+        (λ path. one path (option_map scalar_text value.entry)) }
+    ensures bare { walk.old.text.items ≡ [] → IsNone value.entry → result ≡ Err OutOfMemory → ⊥ }
+{
+    let len = walk.text.len();
+    append_value(&mut walk.text, config.get_form(), value)?;
+    let start = skipped(stream.started, len);
+    put_all(&mut stream.sink, &walk.text[start..], &mut walk.cause)?;
+    walk.text.truncate(len);
+    stream.started |= len != 0;
+    Ok(())
+}
+
+/// Puts the entry with an empty value where the walk is.
+pub(crate) fn put_empty<S: Sink>(
+    stream: &mut Stream<S>,
+    walk: &mut Walk,
+    config: Config,
+) -> Result<(), Stop>
+    ensures writes { WritesTo S.taken S.failed S.writer_name result config stream.old stream.new walk.old walk.new
+        (λ path. one path (Some [])) }
+    ensures bare { walk.old.text.items ≡ [] → result ≡ Err OutOfMemory → ⊥ }
+{
+    if !walk.text.is_empty() {
+        return put(stream, walk, config, Some(Scalar::Bytes(&[])));
+    }
+    put_all(&mut stream.sink, b"=", &mut walk.cause)?;
+    Ok(())
+}
+
+/// How much of the text is left out: the `&` where no entry with a key was put before.
+fn skipped(started: bool, len: usize) -> usize
+    ensures skips { result ≡ cond (started || len == 0) 0 1 }
+    ensures within { result ≤ len }
+{
+    if started || len == 0 { 0 } else { 1 }
 }

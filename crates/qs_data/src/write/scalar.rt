@@ -1,22 +1,24 @@
 //! Scalars: data that are written as one text.
 
-ghost use Rattle.std.specs.Prelude.{◌≡◌, ◌++◌, OnOk, option_map};
+ghost use Rattle.std.specs.Prelude.{◌≡◌, ◌++◌, Bool, OnOk, decimal, option_map};
+ghost use Rattle.std.specs.Fmt.{signed_decimal};
 ghost use Rattle.std.specs.List.{All};
 ghost use Rattle.qs_spec.specs.Escape.{encoded};
-ghost use Rattle.qs_spec.specs.Entry.{key_text};
-ghost use Rattle.qs_tree.specs.Error.{OnlyOutOfMemory};
+ghost use Rattle.qs_spec.specs.Entry.{boolean_text, key_text};
 ghost use Rattle.qs_data.specs.Views.{data_of};
 ghost use Rattle.qs_data.specs.Scalars.{scalar_text};
 ghost use Rattle.qs_data.specs.Writes.{IsVisible};
 
 use crate::data::Data;
 use itoa::Buffer;
-use qs_tree::{Result, encode};
+use qs_tree::encode;
+use std::alloc::AllocError;
 
 /// A value of one text, or a segment of a path.
 #[derive(Clone, Copy)]
 pub(crate) enum Scalar<'a> {
     Bytes(&'a [u8]),
+    Bool(bool),
     Unsigned(u64),
     Signed(i64),
     Char(char),
@@ -29,8 +31,7 @@ impl<'a> Scalar<'a> {
         ensures { option_map scalar_text result ≡ key_text (data_of datum.now) }
     {
         match datum {
-            Data::Bool(true) => Some(Scalar::Bytes(b"true")),
-            Data::Bool(false) => Some(Scalar::Bytes(b"false")),
+            Data::Bool(value) => Some(Scalar::Bool(*value)),
             Data::Unsigned(n) => Some(Scalar::Unsigned(*n)),
             Data::Signed(n) => Some(Scalar::Signed(*n)),
             Data::Char(c) => Some(Scalar::Char(*c)),
@@ -45,26 +46,48 @@ impl<'a> Scalar<'a> {
         }
     }
 
-    /// Appends its text, encoded.
-    pub(crate) fn append(self, form: bool, out: &mut Vec<u8>) -> Result<()>
+    /// Appends its text, encoded. Digits and words hold nothing to encode.
+    pub(crate) fn append(self, form: bool, out: &mut Vec<u8>) -> Result<(), AllocError>
         ensures ok { OnOk result (out.new.items ≡ out.old.items ++ encoded form (scalar_text self.entry)) }
-        ensures errors { OnlyOutOfMemory result }
         ensures visible { All IsVisible (encoded form (scalar_text self.entry)) }
     {
         match self {
             Scalar::Bytes(bytes) => append_encoded(bytes, form, out),
-            Scalar::Unsigned(n) => append_encoded(Buffer::new().format(n).as_bytes(), form, out),
-            Scalar::Signed(n) => append_encoded(Buffer::new().format(n).as_bytes(), form, out),
+            Scalar::Bool(value) => out.extend_from_slice(word(value).as_bytes()),
+            Scalar::Unsigned(n) => append_unsigned(n, out),
+            Scalar::Signed(n) => append_signed(n, out),
             Scalar::Char(c) => append_encoded(c.encode_utf8(&mut [0; 4]).as_bytes(), form, out),
         }
     }
 }
 
+/// The word for a boolean.
+pub(crate) fn word(value: bool) -> &'static str
+    ensures { result.now ≡ boolean_text value }
+{
+    if value { "true" } else { "false" }
+}
+
+/// Appends the digits of the number.
+fn append_unsigned(n: u64, out: &mut Vec<u8>) -> Result<(), AllocError>
+    ensures ok { (form : Bool) → OnOk result (out.new.items ≡ out.old.items ++ encoded form (decimal n)) }
+    ensures visible { (form : Bool) → All IsVisible (encoded form (decimal n)) }
+{
+    out.extend_from_slice(Buffer::new().format(n).as_bytes())
+}
+
+/// Appends the digits of the number, behind `-` where it is negative.
+fn append_signed(n: i64, out: &mut Vec<u8>) -> Result<(), AllocError>
+    ensures ok { (form : Bool) → OnOk result (out.new.items ≡ out.old.items ++ encoded form (signed_decimal n)) }
+    ensures visible { (form : Bool) → All IsVisible (encoded form (signed_decimal n)) }
+{
+    out.extend_from_slice(Buffer::new().format(n).as_bytes())
+}
+
 /// Appends the bytes, encoded.
-fn append_encoded(bytes: &[u8], form: bool, out: &mut Vec<u8>) -> Result<()>
+fn append_encoded(bytes: &[u8], form: bool, out: &mut Vec<u8>) -> Result<(), AllocError>
     ensures ok { OnOk result (out.new.items ≡ out.old.items ++ encoded form bytes.now) }
-    ensures errors { OnlyOutOfMemory result }
     ensures visible { All IsVisible (encoded form bytes.now) }
 {
-    encode(bytes, form, out)
+    encode(bytes, form, out).map_err(|_| AllocError)
 }

@@ -1,33 +1,47 @@
 //! The walk over data.
 
-ghost use Rattle.std.specs.Prelude.{◌≡◌, ◌++◌, [], ◌∷◌, map, string_bytes, OnOk, IfErr, option_map};
-ghost use Rattle.qs_spec.specs.Data.{values_of, pairs_of, members_of};
+ghost use Rattle.std.specs.Prelude.{◌≡◌, [], Err};
 ghost use Rattle.qs_spec.specs.Config.{element_segment};
-ghost use Rattle.qs_spec.specs.Entry.{Path, Output, entries_at, elements_from, pair_entries, member_entries, deeper, maybe_deeper, under_key, key_text};
-ghost use Rattle.qs_tree.specs.Error.{IsOutOfMemory};
-ghost use Rattle.qs_data.specs.Views.{data_of, named, pair_of};
-ghost use Rattle.qs_data.specs.Scalars.{scalar_text, path_of};
-ghost use Rattle.qs_data.specs.Writes.{Text, Stops, WritesTo, IsBare};
+ghost use Rattle.qs_spec.specs.Entry.{entries, entries_at, elements_from, pair_entries, member_entries, deeper, maybe_deeper};
+ghost use Rattle.qs_data.specs.Views.{data_of, values_in, pairs_in, members_in};
+ghost use Rattle.qs_data.specs.Scalars.{scalar_text};
+ghost use Rattle.qs_data.specs.Writes.{IsAt, Writes, WritesTo, IsBare, text_in};
+ghost use Rattle.qs_data.specs.declared.write.stop.Stop.TheVariants.{OutOfMemory};
 
 use crate::data::Data;
 use crate::sink::Sink;
 use crate::write::entry::{Stream, Walk, put, put_empty};
 use crate::write::scalar::Scalar;
-use qs_tree::{ArrayFormat, Config, Error, Result};
+use crate::write::stop::Stop;
+use qs_tree::{ArrayFormat, Config};
+
+/// Writes the entries of the data, where the walk is at the top.
+pub(crate) fn write_all<S: Sink>(
+    stream: &mut Stream<S>,
+    walk: &mut Walk,
+    config: Config,
+    datum: &Data,
+) -> Result<(), Stop>
+    requires { IsAt config.form [] walk.old }
+    ensures writes { Writes result config [] (text_in S.taken S.failed S.writer_name stream.old) (text_in S.taken S.failed S.writer_name stream.new) walk.new
+        (entries config (data_of datum.now)) }
+    ensures bare { IsBare (data_of datum.now) → result ≡ Err OutOfMemory → ⊥ }
+{
+    write_data(stream, walk, config, datum)
+}
 
 /// Writes the entries of the data at the walk's path.
 #[cycle(write)]
 #[tactic(auto, using(crate::proofs::Levels::levels), unfolding(qs_spec::specs::Entry::entries_at))]
-pub(crate) fn write_data<'a, S: Sink>(
+fn write_data<'a, S: Sink>(
     stream: &mut Stream<S>,
-    walk: &mut Walk<'a>,
+    walk: &mut Walk,
     config: Config,
     datum: &'a Data,
-) -> Result<()>
-    ensures writes { WritesTo S.taken S.failed S.writer_name result config stream.old stream.new
-        (entries_at config.max_depth config.array_format (data_of datum.now) (path_of walk.old.path.items)) }
-    ensures path { OnOk result (walk.new.path.items ≡ walk.old.path.items) }
-    ensures bare { IsBare (data_of datum.now) → walk.old.path.items ≡ [] → IsOutOfMemory result → ⊥ }
+) -> Result<(), Stop>
+    ensures writes { WritesTo S.taken S.failed S.writer_name result config stream.old stream.new walk.old walk.new
+        (entries_at config.max_depth config.array_format (data_of datum.now)) }
+    ensures bare { IsBare (data_of datum.now) → walk.old.text.items ≡ [] → result ≡ Err OutOfMemory → ⊥ }
 {
     match datum {
         Data::Unit => put_empty(stream, walk, config),
@@ -67,13 +81,12 @@ pub(crate) fn write_data<'a, S: Sink>(
 #[cycle(write)]
 fn write_elements<'a, S: Sink>(
     stream: &mut Stream<S>,
-    walk: &mut Walk<'a>,
+    walk: &mut Walk,
     config: Config,
     items: &'a Vec<Data>,
-) -> Result<()>
-    ensures writes { WritesTo S.taken S.failed S.writer_name result config stream.old stream.new
-        (elements_from config.max_depth config.array_format 0 (values_of (map data_of items.now.items)) (path_of walk.old.path.items)) }
-    ensures path { OnOk result (walk.new.path.items ≡ walk.old.path.items) }
+) -> Result<(), Stop>
+    ensures writes { WritesTo S.taken S.failed S.writer_name result config stream.old stream.new walk.old walk.new
+        (elements_from config.max_depth config.array_format 0 (values_in items.now.items)) }
 {
     for (place, item) in items.iter().enumerate() {
         write_element(stream, walk, config, place, item)?;
@@ -85,14 +98,13 @@ fn write_elements<'a, S: Sink>(
 #[cycle(write)]
 fn write_element<'a, S: Sink>(
     stream: &mut Stream<S>,
-    walk: &mut Walk<'a>,
+    walk: &mut Walk,
     config: Config,
     place: usize,
     item: &'a Data,
-) -> Result<()>
-    ensures writes { WritesTo S.taken S.failed S.writer_name result config stream.old stream.new
-        (maybe_deeper config.max_depth (path_of walk.old.path.items) (element_segment config.array_format place) (entries_at config.max_depth config.array_format (data_of item.now))) }
-    ensures path { OnOk result (walk.new.path.items ≡ walk.old.path.items) }
+) -> Result<(), Stop>
+    ensures writes { WritesTo S.taken S.failed S.writer_name result config stream.old stream.new walk.old walk.new
+        (λ path. maybe_deeper config.max_depth path (element_segment config.array_format place) (entries_at config.max_depth config.array_format (data_of item.now))) }
 {
     match config.get_array_format() {
         ArrayFormat::Indexed => {
@@ -107,17 +119,16 @@ fn write_element<'a, S: Sink>(
 #[cycle(write)]
 fn write_pairs<'a, S: Sink>(
     stream: &mut Stream<S>,
-    walk: &mut Walk<'a>,
+    walk: &mut Walk,
     config: Config,
     pairs: &'a Vec<(Data, Data)>,
-) -> Result<()>
-    ensures writes { WritesTo S.taken S.failed S.writer_name result config stream.old stream.new
-        (pair_entries config.max_depth config.array_format (pairs_of (map pair_of pairs.now.items)) (path_of walk.old.path.items)) }
-    ensures path { OnOk result (walk.new.path.items ≡ walk.old.path.items) }
+) -> Result<(), Stop>
+    ensures writes { WritesTo S.taken S.failed S.writer_name result config stream.old stream.new walk.old walk.new
+        (pair_entries config.max_depth config.array_format (pairs_in pairs.now.items)) }
 {
     for pair in pairs {
         let Some(key) = Scalar::of(&pair.0) else {
-            return Err(Error::Unsupported);
+            return Err(Stop::BadKey);
         };
         write_under(stream, walk, config, key, &pair.1)?;
     }
@@ -128,13 +139,12 @@ fn write_pairs<'a, S: Sink>(
 #[cycle(write)]
 fn write_members<'a, S: Sink>(
     stream: &mut Stream<S>,
-    walk: &mut Walk<'a>,
+    walk: &mut Walk,
     config: Config,
     members: &'a Vec<(String, Data)>,
-) -> Result<()>
-    ensures writes { WritesTo S.taken S.failed S.writer_name result config stream.old stream.new
-        (member_entries config.max_depth config.array_format (members_of (map (named data_of) members.now.items)) (path_of walk.old.path.items)) }
-    ensures path { OnOk result (walk.new.path.items ≡ walk.old.path.items) }
+) -> Result<(), Stop>
+    ensures writes { WritesTo S.taken S.failed S.writer_name result config stream.old stream.new walk.old walk.new
+        (member_entries config.max_depth config.array_format (members_in members.now.items)) }
 {
     for member in members {
         write_under(
@@ -152,18 +162,18 @@ fn write_members<'a, S: Sink>(
 #[cycle(write)]
 fn write_tuple_variant<'a, S: Sink>(
     stream: &mut Stream<S>,
-    walk: &mut Walk<'a>,
+    walk: &mut Walk,
     config: Config,
     name: &'a [u8],
     items: &'a Vec<Data>,
-) -> Result<()>
-    ensures writes { WritesTo S.taken S.failed S.writer_name result config stream.old stream.new
-        (deeper config.max_depth (path_of walk.old.path.items) name.now (elements_from config.max_depth config.array_format 0 (values_of (map data_of items.now.items)))) }
-    ensures path { OnOk result (walk.new.path.items ≡ walk.old.path.items) }
+) -> Result<(), Stop>
+    ensures writes { WritesTo S.taken S.failed S.writer_name result config stream.old stream.new walk.old walk.new
+        (λ path. deeper config.max_depth path name.now (elements_from config.max_depth config.array_format 0 (values_in items.now.items))) }
 {
-    enter(walk, config, Scalar::Bytes(name))?;
+    let len = walk.len();
+    walk.enter(config, Scalar::Bytes(name))?;
     write_elements(stream, walk, config, items)?;
-    walk.path.pop();
+    walk.leave(len);
     Ok(())
 }
 
@@ -171,18 +181,18 @@ fn write_tuple_variant<'a, S: Sink>(
 #[cycle(write)]
 fn write_struct_variant<'a, S: Sink>(
     stream: &mut Stream<S>,
-    walk: &mut Walk<'a>,
+    walk: &mut Walk,
     config: Config,
     name: &'a [u8],
     members: &'a Vec<(String, Data)>,
-) -> Result<()>
-    ensures writes { WritesTo S.taken S.failed S.writer_name result config stream.old stream.new
-        (deeper config.max_depth (path_of walk.old.path.items) name.now (member_entries config.max_depth config.array_format (members_of (map (named data_of) members.now.items)))) }
-    ensures path { OnOk result (walk.new.path.items ≡ walk.old.path.items) }
+) -> Result<(), Stop>
+    ensures writes { WritesTo S.taken S.failed S.writer_name result config stream.old stream.new walk.old walk.new
+        (λ path. deeper config.max_depth path name.now (member_entries config.max_depth config.array_format (members_in members.now.items))) }
 {
-    enter(walk, config, Scalar::Bytes(name))?;
+    let len = walk.len();
+    walk.enter(config, Scalar::Bytes(name))?;
     write_members(stream, walk, config, members)?;
-    walk.path.pop();
+    walk.leave(len);
     Ok(())
 }
 
@@ -190,32 +200,17 @@ fn write_struct_variant<'a, S: Sink>(
 #[cycle(write)]
 fn write_under<'a, S: Sink>(
     stream: &mut Stream<S>,
-    walk: &mut Walk<'a>,
+    walk: &mut Walk,
     config: Config,
     segment: Scalar<'a>,
     part: &'a Data,
-) -> Result<()>
-    ensures writes { WritesTo S.taken S.failed S.writer_name result config stream.old stream.new
-        (deeper config.max_depth (path_of walk.old.path.items) (scalar_text segment.entry) (entries_at config.max_depth config.array_format (data_of part.now))) }
-    ensures path { OnOk result (walk.new.path.items ≡ walk.old.path.items) }
+) -> Result<(), Stop>
+    ensures writes { WritesTo S.taken S.failed S.writer_name result config stream.old stream.new walk.old walk.new
+        (λ path. deeper config.max_depth path (scalar_text segment.entry) (entries_at config.max_depth config.array_format (data_of part.now))) }
 {
-    enter(walk, config, segment)?;
+    let len = walk.len();
+    walk.enter(config, segment)?;
     write_data(stream, walk, config, part)?;
-    walk.path.pop();
-    Ok(())
-}
-
-/// Goes under one more segment, unless the path is as long as the limit allows.
-fn enter<'a>(walk: &mut Walk<'a>, config: Config, segment: Scalar<'a>) -> Result<()>
-    ensures ok { OnOk result ((part : Path → Output)
-        → deeper config.max_depth (path_of walk.old.path.items) (scalar_text segment.entry) part ≡ part (path_of walk.new.path.items)) }
-    ensures path { OnOk result (walk.new.path.items ≡ walk.old.path.items ++ segment.entry ∷ []) }
-    ensures err { IfErr result (λ e. (text : Text) (part : Path → Output)
-        → Stops e config text text (deeper config.max_depth (path_of walk.old.path.items) (scalar_text segment.entry) part)) }
-{
-    if config.get_max_depth() < walk.path.len() {
-        return Err(Error::MaxSerializationDepthExceeded(config.get_max_depth()));
-    }
-    walk.path.push(segment)?;
+    walk.leave(len);
     Ok(())
 }

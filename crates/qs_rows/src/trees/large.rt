@@ -1,4 +1,4 @@
-//! Inputs of 8,192 keys in no order, whose pairs are sorted before they are added.
+//! Inputs of 8,192 keys in no order.
 
 use super::{
     AllocError, Config, ENDED_IN_KEY, Fail, Global, SEQUENCE_AND_MAP, VALUE_AND_MAP, form,
@@ -104,7 +104,7 @@ fn pairs_that_meet(rt: HostRuntime) -> Result<(), Fail> {
     accept_behind(&rt, alloc, Config::new(), input, more, wanted.as_str())
 }
 
-// An escaped key is the same key. Then nothing is sorted.
+// An escaped key is the same key.
 #[test]
 fn an_escaped_key(rt: HostRuntime) -> Result<(), Fail> {
     let alloc = rt.alloc();
@@ -120,7 +120,7 @@ fn an_escaped_key(rt: HostRuntime) -> Result<(), Fail> {
     )
 }
 
-// The first fault of the input is told, not the first of the sorted pairs.
+// The first fault of the input is told.
 #[test]
 fn faults(rt: HostRuntime) -> Result<(), Fail> {
     let alloc = rt.alloc();

@@ -122,6 +122,28 @@ fn an_input_without_end(rt: HostRuntime) -> Result<(), Fail> {
     Ok(())
 }
 
+// A byte a read, and one read more that is the end: a million at most.
+#[test]
+fn as_many_reads_as_are_allowed(rt: HostRuntime) -> Result<(), Fail> {
+    let words = words(rt.alloc(), "flat")?;
+    let mut input = Vec::from_slice(rt.alloc(), INPUT)?;
+    input.resize(999_999, b'&')?;
+    for (line, status) in [(LINE, 0), (b"".as_slice(), 3)] {
+        let mut reader = Source {
+            rest: input.as_slice(),
+            end: End::TakesNothing,
+        };
+        let mut writer = Vec::new(rt.alloc());
+        assert_eq!(rt;
+            run(rt.alloc(), words.as_slice(), &mut reader, &mut writer),
+            status
+        );
+        assert_eq!(rt; writer.as_slice(), line);
+        input.push(b'&')?;
+    }
+    Ok(())
+}
+
 #[test]
 fn writes_that_fail(rt: HostRuntime) -> Result<(), Fail> {
     let words = words(rt.alloc(), "flat")?;

@@ -1,8 +1,9 @@
 //! The bytes that mean something in a querystring wherever they stand.
 
-ghost use Rattle.qs_tree.specs.Search.{is_escape, is_ampersand};
+ghost use Rattle.std.specs.Prelude.{◌==◌};
+ghost use Rattle.qs_tree.specs.Search.{is_escape};
 
-use super::class::{Class, first_set};
+use super::class::Class;
 use std::simd::prelude::*;
 
 /// `+` and `%`.
@@ -13,10 +14,10 @@ impl Class for Escape {
     ghost contains = { λ _ b. is_escape b };
 
     #[inline(always)]
-    fn run(self, bytes: &[u8], at: usize) -> usize {
+    fn mask(self, bytes: &[u8], at: usize) -> u64 {
         let lanes = u8x32::from_slice(&bytes[at..]);
         let marks = lanes.simd_eq(u8x32::splat(b'+')) | lanes.simd_eq(u8x32::splat(b'%'));
-        first_set(marks.to_bitmask())
+        marks.to_bitmask()
     }
 
     fn has(self, byte: u8) -> bool {
@@ -24,20 +25,20 @@ impl Class for Escape {
     }
 }
 
-/// `&`.
+/// One byte alone.
 #[derive(Clone, Copy)]
-pub(super) struct Ampersand;
+pub(crate) struct Byte(pub(crate) u8);
 
-impl Class for Ampersand {
-    ghost contains = { λ _ b. is_ampersand b };
+impl Class for Byte {
+    ghost contains = { λ s b. b == s.0 };
 
     #[inline(always)]
-    fn run(self, bytes: &[u8], at: usize) -> usize {
+    fn mask(self, bytes: &[u8], at: usize) -> u64 {
         let lanes = u8x32::from_slice(&bytes[at..]);
-        first_set(lanes.simd_eq(u8x32::splat(b'&')).to_bitmask())
+        lanes.simd_eq(u8x32::splat(self.0)).to_bitmask()
     }
 
     fn has(self, byte: u8) -> bool {
-        byte == b'&'
+        byte == self.0
     }
 }

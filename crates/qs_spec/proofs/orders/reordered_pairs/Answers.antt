@@ -1,5 +1,4 @@
 use Rattle.qs_spec.proofs.Reorder.{swaps_of, events_swaps, node_reordered}
-use Rattle.qs_spec.proofs.Unmarked.{node_unmarked}
 use Rattle.qs_spec.proofs.orders.reordered_pairs.Goals as goal
 
 pub returns-clause-histories : goal.returns-clause-histories
@@ -7,6 +6,3 @@ returns-clause-histories c = λ ps qs h path. events_swaps path (swaps_of ps qs 
 
 pub returns-clause-nodes : goal.returns-clause-nodes
 returns-clause-nodes c = node_reordered
-
-pub returns-clause-same : goal.returns-clause-same
-returns-clause-same c = node_unmarked

@@ -1,19 +1,21 @@
-use Rattle.std.proofs.Common.{ℕ, List, ◌≡◌, sym, subst, ap, ◌∙◌, take, inl, inr, refl, map, string_bytes}
+use Rattle.std.proofs.Common.{ℕ, ◌<◌, List, ◌≡◌, length, sym, subst, ap, ◌∙◌, take, inl, inr, refl, map, string_bytes}
 use Rattle.std.specs.Io.KnownBytes.{Appends}
 use Rattle.qs_tool.specs.Line.{IsLine, IsBegun, usage_line, memory_line}
-use Rattle.qs_tool.proofs.Lines.{over, each, right_line, usage_is_right, Appends-nil}
+use Rattle.qs_tool.proofs.Lines.{over, each, never_stopped, two_goes_on, right_line, usage_is_right, Appends-nil}
 use Rattle.qs_tool.proofs.program.run.Goals as goal
 
 -- the usage line
 pub returns-in_default-clause-stopped : goal.returns-in_default-clause-stopped
 returns-in_default-clause-stopped g c =
     let words = map string_bytes c.args.args.now in
-    each (g.R.Read.remaining c.args.reader.now) _ (λ input three. (
+    each (g.R.Read.remaining c.args.reader.now) _ (λ input three.
+    let cut = c.finish.ensures.cut two_goes_on three in
+    let text = c.as_bytes.ensures.value in
+    let P : List ℕ → Type 0 = λ line. Appends (g.W.Write.contents c.args.writer.now) (g.W.Write.contents c.finish.new.writer) (take cut.0 line) in (
       usage_line,
-      c.finish.ensures.part.0,
-      inr (2, usage_is_right words input c.in_default.ensures),
-      let P : List ℕ → Type 0 = λ line. Appends (g.W.Write.contents c.args.writer.now) (g.W.Write.contents c.finish.new.writer) (take c.finish.ensures.part.0 line) in
-          subst P c.as_bytes.ensures.value c.finish.ensures.part.1,
+      cut.0,
+      inr (subst (λ (line : List ℕ). cut.0 < length line) text cut.1, inl (sym c.in_default.ensures), (2, usage_is_right words input c.in_default.ensures)),
+      subst P text cut.2,
     ))
 
 pub returns-in-Ok-clause-line : goal.returns-in-Ok-clause-line
@@ -25,19 +27,21 @@ returns-in-Ok-clause-line g c =
       answer.line.items,
       subst (IsLine words input answer.line.items) (sym done.0) (right_line words _ input _ _ c.in-Some.ensures right),
       subst (Appends (g.W.Write.contents c.args.writer.now) (g.W.Write.contents c.finish-in-Ok.new.writer)) c.as_slice.ensures.value done.1,
-    )) c.in-Ok.ensures
+    )) c.in-Ok.ensures.answer
 
 pub returns-in-Ok-clause-stopped : goal.returns-in-Ok-clause-stopped
 returns-in-Ok-clause-stopped g c =
     let words = map string_bytes c.args.args.now in
     let answer = c.in-Ok.answer in
-    over (g.R.Read.remaining c.args.reader.now) _ _ (λ input right three. (
+    over (g.R.Read.remaining c.args.reader.now) _ _ (λ input right three.
+    let cut = c.finish-in-Ok.ensures.cut (never_stopped _ _ _ _ right) three in
+    let text = c.as_slice.ensures.value in
+    let P : List ℕ → Type 0 = λ line. Appends (g.W.Write.contents c.args.writer.now) (g.W.Write.contents c.finish-in-Ok.new.writer) (take cut.0 line) in (
       answer.line.items,
-      c.finish-in-Ok.ensures.part.0,
-      inr (answer.status, right_line words _ input _ _ c.in-Some.ensures right),
-      let P : List ℕ → Type 0 = λ line. Appends (g.W.Write.contents c.args.writer.now) (g.W.Write.contents c.finish-in-Ok.new.writer) (take c.finish-in-Ok.ensures.part.0 line) in
-          subst P c.as_slice.ensures.value c.finish-in-Ok.ensures.part.1,
-    )) c.in-Ok.ensures
+      cut.0,
+      inr (subst (λ (line : List ℕ). cut.0 < length line) text cut.1, inr c.in-Ok.ensures.ended, (answer.status, right_line words _ input _ _ c.in-Some.ensures right)),
+      subst P text cut.2,
+    )) c.in-Ok.ensures.answer
 
 -- nothing is written
 pub returns-in-Err-Stream-clause-stopped : goal.returns-in-Err-Stream-clause-stopped

@@ -4,5 +4,5 @@ use Rattle.qs_tree.proofs.descent.open.Goals as goal
 
 pub returns : goal.returns
 returns c =
-    opened (record { map = c.take-node.new.self; key = c.args.key; place = c.take-node.result.place }) (draft_tree c.args.node) (draft_tree c.take-node.result.node)
-    (draft_entries c.in_ok-map.map) c.in_ok-map.ensures c.take-node.ensures.taken c.take-node.ensures.place
+    opened (record { map = c.take-child.new.self; key = c.args.key }) (draft_tree c.args.node) (draft_tree c.take-child.result)
+    (draft_entries c.in_ok-map.map) c.in_ok-map.ensures c.take-child.ensures

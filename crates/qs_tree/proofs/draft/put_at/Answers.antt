@@ -1,18 +1,18 @@
 use Rattle.qs_tree.specs.Keys.{key_cmp}
 use Rattle.qs_tree.specs.Draft.{draft_tree}
 use Rattle.qs_tree.proofs.Places.{hit_insert}
-use Rattle.qs_tree.proofs.Drafting.{inserted, hit_back, gap_back}
+use Rattle.qs_tree.proofs.Drafting.{inserted}
 use Rattle.qs_tree.proofs.draft.put_at.Goals as goal
 
 pub replace-requires : goal.replace-requires
-replace-requires c = (hit_back c.args.key c.args.entries.now c.in-Ok.at (rw c.in-Ok.is at c.requires)).in_range
+replace-requires c = (rw c.in-Ok.is at c.requires).in_range
 
 pub insert_at-requires : goal.insert_at-requires
-insert_at-requires c = gap_back c.args.key c.args.entries.now c.in-Err.at (rw c.in-Err.is at c.requires)
+insert_at-requires c = rw c.in-Err.is at c.requires
 
 pub returns-in-Ok : goal.returns-in-Ok
 returns-in-Ok c =
-    let found = hit_back c.args.key c.args.entries.now c.in-Ok.at (rw c.in-Ok.is at c.requires) in
+    let found = rw c.in-Ok.is at c.requires in
     rw (c.replace.ensures.new, ← hit_insert key_cmp c.args.key c.args.entries.now c.in-Ok.at c.args.node found) (inserted draft_tree c.args.key c.args.entries.now c.args.node)
 
 pub returns-in_ok-insert_at-in-Err : goal.returns-in_ok-insert_at-in-Err

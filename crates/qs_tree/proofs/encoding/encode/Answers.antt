@@ -2,8 +2,8 @@ use Rattle.qs_spec.proofs.Unescaped.{decoded-encoded}
 use Rattle.qs_tree.proofs.EncodedFronts.{all_bytes}
 use Rattle.qs_tree.proofs.encoding.encode.Goals as goal
 
-pub returns-in_err-reserve-clause-back : goal.returns-in_err-reserve-clause-back
-returns-in_err-reserve-clause-back c = decoded-encoded c.args.form c.args.bytes.now (all_bytes _ c.type_inv.bytes)
+pub returns-in_err-resize-clause-back : goal.returns-in_err-resize-clause-back
+returns-in_err-resize-clause-back c = decoded-encoded c.args.form c.args.bytes.now (all_bytes _ c.type_inv.bytes)
 
 pub returns-clause-back : goal.returns-clause-back
 returns-clause-back c = decoded-encoded c.args.form c.args.bytes.now (all_bytes _ c.type_inv.bytes)

@@ -6,8 +6,8 @@ use Rattle.qs_tree.specs.Reading.{IsBehind}
 use Rattle.qs_tree.proofs.reading.read_brackets.Given as goal
 
 -- what is found behind the last bracket is what is found behind the first
-abbrev pub invariant-loop-room : goal.invariant-loop-room
-invariant-loop-room l = record {
+abbrev pub invariant-loop-first : goal.invariant-loop-first
+invariant-loop-first l = record {
   found : read_brackets l.fn.max_depth (path_of l.fn.path.items) l.fn.bracket.raw.now (left l.fn.cursor) ≡ read_brackets l.room (path_of l.path.items) l.bracket.raw.now (left l.cursor);
   behind : IsBehind l.bracket l.cursor;
   form : l.cursor.form ≡ l.fn.cursor.form;
@@ -15,5 +15,5 @@ invariant-loop-room l = record {
   spent : spent l.cursor ≡ spent l.fn.cursor;
 }
 
-abbrev pub decreases-loop-room : goal.decreases-loop-room
-decreases-loop-room l = l.room
+abbrev pub decreases-loop-first : goal.decreases-loop-first
+decreases-loop-first l = l.room

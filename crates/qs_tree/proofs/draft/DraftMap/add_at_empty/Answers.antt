@@ -9,22 +9,22 @@ use Rattle.qs_tree.specs.Conflict.{child, conflict_at, clash_flat}
 use Rattle.qs_tree.proofs.Turns.{gives_err, refused_too, put_there, refused_there}
 use Rattle.qs_tree.proofs.draft.DraftMap.add_at_empty.Goals as goal
 
-pub returns-in_err-new : goal.returns-in_err-new
-returns-in_err-new c =
+pub returns-in_err-add_plain : goal.returns-in_err-add_plain
+returns-in_err-add_plain c =
     let f : Tree → Option Tree = add_flat false (leaf_of c.args.leaf) in
     let key = c.from-key.result in
     let es = draft_entries c.args.self.now in
-    let old = draft_tree c.take-old.result.node in
+    let old = draft_tree c.take-node.result in
     let empty : segment_of_key key ≡ Str [] = ap (λ s. s.seg) c.from-key.ensures in
-    let there : old ≡ child (Str []) es = rw (← empty) c.take-old.ensures.taken.node in
-    gives_err _ _ _ c.from_residual.result c.in_err-new.field-0.0 _ c.from_residual.ensures.1 (λ y p. p)
-    (refused_too (f old) _ _ _ c.in_err-new.field-0.0
-    (λ none. rw (← c.from-key.ensures) (refused_there (step_of_key key) f es c.take-old.ensures.taken.ordered old c.take-old.ensures.taken.node none))
+    let there : old ≡ child (Str []) es = rw (← empty) c.take-node.ensures.node in
+    gives_err _ _ _ c.from_residual.result c.in_err-add_plain.field-0.0 _ c.from_residual.ensures.1 (λ y p. p)
+    (refused_too (f old) _ _ _ c.in_err-add_plain.field-0.0
+    (λ none. rw (← c.from-key.ensures) (refused_there (step_of_key key) f es c.take-node.ensures.ordered old c.take-node.ensures.node none))
     (ap (λ t. conflict_at c.args.level (clash_flat false t)) there)
-    c.in_err-new.ensures.added)
+    c.in_err-add_plain.ensures.added)
 
 pub returns : goal.returns
 returns c =
     let f : Tree → Option Tree = add_flat false (leaf_of c.args.leaf) in
-    rw (← c.from-key.ensures) (put_there (step_of_key c.from-key.result) f (draft_entries c.args.self.now) c.take-old.ensures.taken.ordered (draft_tree c.take-old.result.node) c.take-old.ensures.taken.node
-    _ _ (draft_tree c.in_ok-new.new) c.in_ok-new.ensures.added c.take-old.ensures.taken.rest c.in_ok-put.ensures)
+    rw (← c.from-key.ensures) (put_there (step_of_key c.from-key.result) f (draft_entries c.args.self.now) c.take-node.ensures.ordered (draft_tree c.take-node.result) c.take-node.ensures.node
+    _ _ (draft_tree c.add_plain.new.node) c.in_ok-add_plain.ensures.added c.take-node.ensures.rest c.in_ok-put.ensures)

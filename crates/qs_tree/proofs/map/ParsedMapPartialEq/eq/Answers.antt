@@ -4,4 +4,4 @@ use Rattle.qs_tree.proofs.MetNodes.{entries_in}
 use Rattle.qs_tree.proofs.map.ParsedMapPartialEq.eq.Goals as goal
 
 pub returns : goal.returns
-returns c = c.equal_rests.ensures ∙ ap₂ entries_same (entries_in _ _ c.as_slice.ensures.all) (entries_in _ _ c.as_slice-2.ensures.all)
+returns c = c.same_entries.ensures ∙ ap₂ entries_same (entries_in _ _ c.as_slice.ensures.all) (entries_in _ _ c.as_slice-2.ensures.all)

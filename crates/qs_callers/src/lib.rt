@@ -1,0 +1,18 @@
+//! Callers of serde_qs: users' structs, an enum, and calls with them.
+#![tactic(auto)]
+
+mod account;
+mod calls;
+mod pair;
+mod query;
+mod search;
+mod sort;
+#[cfg(test)]
+mod tests;
+
+pub use account::Account;
+pub use calls::{asked, rewritten, sorted};
+pub use pair::Pair;
+pub use query::Query;
+pub use search::Search;
+pub use sort::Sort;

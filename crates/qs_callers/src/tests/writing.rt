@@ -1,0 +1,119 @@
+//! Typed calls that write.
+
+use super::{list, one, text};
+use crate::{Account, Pair, Query, Search, Sort, rewritten};
+use serde_qs::{Config, ConfigExt, Error, Result, from_str, to_string, to_writer};
+use std::io;
+use std::io::Write;
+use std::process::Abort;
+
+const TEXT: &str = "name=Alice&age=24&occupation=Student";
+
+#[test]
+fn each_call_writes(rt: HostRuntime) {
+    let alloc = rt.alloc();
+    let query: Query = from_str(alloc, TEXT).expect(&rt, "a query");
+    let written = to_string(alloc, &query).expect(&rt, "a text");
+    assert!(rt; written.as_str() == TEXT);
+    let written = Config::new()
+        .serialize_string(alloc, &query)
+        .expect(&rt, "a text");
+    assert!(rt; written.as_str() == TEXT);
+    let mut out = Vec::new(alloc);
+    to_writer(alloc, &query, &mut out).expect(&rt, "a text");
+    assert!(rt; out.as_slice() == TEXT.as_bytes());
+    let mut out = Vec::new(alloc);
+    Config::new()
+        .serialize_to_writer(alloc, &query, &mut out)
+        .expect(&rt, "a text");
+    assert!(rt; out.as_slice() == TEXT.as_bytes());
+    let written = rewritten(alloc, "occupation=Student&age=24&name=Alice").expect(&rt, "a text");
+    assert!(rt; written.as_str() == TEXT);
+}
+
+#[test]
+fn other_names(rt: HostRuntime) {
+    let alloc = rt.alloc();
+    let account = Account {
+        first_name: text(&rt, alloc, "John"),
+        last_name: text(&rt, alloc, "Doe"),
+        id: 12345,
+    };
+    let written = to_string(alloc, &account).expect(&rt, "a text");
+    assert!(rt; written.as_str() == "firstName=John&lastName=Doe&user-id=12345");
+}
+
+#[test]
+fn nested_values(rt: HostRuntime) {
+    let alloc = rt.alloc();
+    let search = Search {
+        text: text(&rt, alloc, "a b"),
+        page: Some(2),
+        sort: Sort::By(text(&rt, alloc, "price")),
+        ranges: list(&rt, alloc, [list(&rt, alloc, [-1, 2])]),
+        labels: one(&rt, alloc, "lang", text(&rt, alloc, "en")),
+    };
+    let written = to_string(alloc, &search).expect(&rt, "a text");
+    assert!(rt;
+        written.as_str()
+            == "text=a+b&page=2&sort[By]=price&ranges[0][0]=-1&ranges[0][1]=2&labels[lang]=en"
+    );
+}
+
+#[test]
+fn too_deep(rt: HostRuntime) {
+    let alloc = rt.alloc();
+    let pair = Pair {
+        a: 1u8,
+        b: list(&rt, alloc, [2u8]),
+    };
+    let config = Config::new().max_depth(0);
+    let result = config.serialize_string(alloc, &pair);
+    assert!(rt; matches!(result, Err(Error::MaxSerializationDepthExceeded(0))));
+    let mut out = Vec::new(alloc);
+    let result = config.serialize_to_writer(alloc, &pair, &mut out);
+    assert!(rt; matches!(result, Err(Error::MaxSerializationDepthExceeded(0))));
+    assert!(rt; out.as_slice() == b"a=1".as_slice());
+}
+
+/// Takes bytes one at a time while there is room, and then fails.
+#[derive(Drop)]
+struct Narrow {
+    held: Vec<u8>,
+    room: usize,
+}
+
+impl Write for Narrow {
+    fn write(&mut self, buf: &[u8]) -> io::Result<usize> {
+        let count = buf.len().min(1).min(self.room);
+        if count == 0 && !buf.is_empty() {
+            return Err(io::Error::from(io::ErrorKind::BrokenPipe));
+        }
+        self.held.extend_from_slice(&buf[..count])?;
+        self.room -= count;
+        Ok(count)
+    }
+
+    fn flush(&mut self) -> io::Result<()> {
+        Ok(())
+    }
+}
+
+#[test]
+fn a_writer_that_stops(rt: HostRuntime) {
+    let alloc = rt.alloc();
+    let query: Query = from_str(alloc, TEXT).expect(&rt, "a query");
+    for room in 0..=TEXT.len() {
+        let mut writer = Narrow {
+            held: Vec::new(alloc),
+            room,
+        };
+        let result: Result<()> = to_writer(alloc, &query, &mut writer);
+        assert!(rt; writer.held.as_slice() == &TEXT.as_bytes()[..room]);
+        if room < TEXT.len() {
+            assert!(rt; matches!(result, Err(Error::Io(_))), "{room}");
+        } else {
+            assert!(rt; result.is_ok());
+        }
+    }
+}

@@ -1,0 +1,198 @@
+//! Which data are plain, and which fit a shape.
+
+use crate::build::Build;
+use serde_qs::{Config, Data, KeyShape, Shape, VariantKind};
+use std::process::Abort;
+
+fn is_plain<R: Abort>(rt: &R, data: Data, wanted: bool) {
+    assert!(rt; data.is_plain(Config::new()) == wanted, "{data:?}");
+}
+
+fn fits<R: Abort>(rt: &R, shape: &Shape, data: Data, wanted: bool) {
+    assert!(rt; shape.fits(&data) == wanted, "{shape:?} {data:?}");
+}
+
+#[test]
+fn names(rt: HostRuntime) {
+    let alloc = rt.alloc();
+    let b = Build { rt: &rt, alloc };
+    for (name, wanted) in [
+        ("a", true),
+        ("", false),
+        ("0", true),
+        ("00", false),
+        ("07", false),
+    ] {
+        is_plain(&rt, b.one(name, Data::Unit), wanted);
+        is_plain(&rt, b.holding(name, Data::Unit), wanted);
+        is_plain(&rt, b.pairs([(b.text(name), Data::Unit)]), wanted);
+    }
+    is_plain(&rt, b.one("0x", Data::Unit), true);
+    is_plain(&rt, b.bare("07"), true);
+    is_plain(&rt, b.bare(""), false);
+}
+
+#[test]
+fn parts(rt: HostRuntime) {
+    let alloc = rt.alloc();
+    let b = Build { rt: &rt, alloc };
+    is_plain(&rt, b.record([]), false);
+    is_plain(&rt, b.holding_record("v", []), false);
+    is_plain(&rt, b.holding_items("v", []), false);
+    is_plain(&rt, b.list([]), true);
+    is_plain(&rt, b.items([]), true);
+    is_plain(&rt, b.pairs([]), true);
+    is_plain(&rt, b.list([b.record([])]), false);
+    is_plain(&rt, b.holding_items("v", [b.bare("")]), false);
+    is_plain(&rt, b.some(b.wrapped(Data::None)), false);
+    is_plain(&rt, b.wrapped(b.some(Data::Unit)), true);
+    let twice = b.record([b.member("a", Data::Unit), b.member("a", Data::None)]);
+    is_plain(&rt, twice, false);
+}
+
+#[test]
+fn keys(rt: HostRuntime) {
+    let alloc = rt.alloc();
+    let b = Build { rt: &rt, alloc };
+    let rows = [
+        (Data::Unsigned(1), b.text("1"), false),
+        (Data::Unsigned(1), Data::Unsigned(10), true),
+        (Data::Signed(-1), b.bare("-1"), false),
+        (Data::Char('é'), b.text("é"), false),
+        (Data::Bool(true), b.bare("true"), false),
+        (Data::Bool(true), Data::Bool(false), true),
+        (b.bytes(b"a"), b.text("b"), false),
+        (b.text("b"), Data::Unit, false),
+    ];
+    for (first, second, wanted) in rows {
+        is_plain(
+            &rt,
+            b.pairs([(first, Data::Unit), (second, Data::Unit)]),
+            wanted,
+        );
+    }
+}
+
+#[test]
+fn numbers(rt: HostRuntime) {
+    let alloc = rt.alloc();
+    let b = Build { rt: &rt, alloc };
+    let unsigned = [
+        (Shape::U8, 255, 256),
+        (Shape::U16, 65_535, 65_536),
+        (Shape::U32, 4_294_967_295, 4_294_967_296),
+    ];
+    for (shape, most, above) in unsigned {
+        fits(&rt, &shape, Data::Unsigned(most), true);
+        fits(&rt, &shape, Data::Unsigned(above), false);
+        fits(&rt, &shape, Data::Signed(0), false);
+    }
+    let signed = [
+        (Shape::I8, 127, 128),
+        (Shape::I8, -128, -129),
+        (Shape::I16, 32_767, 32_768),
+        (Shape::I16, -32_768, -32_769),
+        (Shape::I32, 2_147_483_647, 2_147_483_648),
+        (Shape::I32, -2_147_483_648, -2_147_483_649),
+    ];
+    for (shape, last, beyond) in signed {
+        fits(&rt, &shape, Data::Signed(last), true);
+        fits(&rt, &shape, Data::Signed(beyond), false);
+        fits(&rt, &shape, Data::Unsigned(0), false);
+    }
+    fits(&rt, &Shape::U64, Data::Unsigned(u64::MAX), true);
+    fits(&rt, &Shape::I64, Data::Signed(i64::MIN), true);
+    let map = |key| b.pairs([(key, Data::Unit)]);
+    fits(
+        &rt,
+        &b.map(KeyShape::U8, Shape::Unit),
+        map(Data::Unsigned(256)),
+        false,
+    );
+    fits(
+        &rt,
+        &b.map(KeyShape::I8, Shape::Unit),
+        map(Data::Signed(-128)),
+        true,
+    );
+    let names = b.map(b.names(&["a", "b"]), Shape::Unit);
+    fits(&rt, &names, map(b.bare("b")), true);
+    fits(&rt, &names, map(b.bare("c")), false);
+    fits(&rt, &names, map(b.text("a")), false);
+}
+
+#[test]
+fn fields(rt: HostRuntime) {
+    let alloc = rt.alloc();
+    let b = Build { rt: &rt, alloc };
+    let of = || [
+        b.optional("a", Shape::U8),
+        b.required("b", Shape::U8),
+        b.optional("c", Shape::U8),
+    ];
+    let member = |name| b.member(name, Data::Unsigned(1));
+    let shape = b.fields(of());
+    fits(
+        &rt,
+        &shape,
+        b.record([member("a"), member("b"), member("c")]),
+        true,
+    );
+    fits(&rt, &shape, b.record([member("b")]), true);
+    fits(&rt, &shape, b.record([member("b"), member("a")]), false);
+    fits(&rt, &shape, b.record([member("a"), member("c")]), false);
+    fits(&rt, &shape, b.record([member("b"), member("d")]), false);
+    fits(&rt, &shape, b.one("b", Data::Unit), false);
+    let variant = b.variants([b.struct_variant("v", of())]);
+    fits(
+        &rt,
+        &variant,
+        b.holding_record("v", [member("b"), member("c")]),
+        true,
+    );
+    fits(
+        &rt,
+        &variant,
+        b.holding_record("v", [member("c"), member("b")]),
+        false,
+    );
+    fits(&rt, &variant, b.holding_record("w", [member("b")]), false);
+}
+
+#[test]
+fn kinds(rt: HostRuntime) {
+    let alloc = rt.alloc();
+    let b = Build { rt: &rt, alloc };
+    let pair = b.tuple([Shape::Bool, Shape::Text]);
+    fits(&rt, &pair, b.items([Data::Bool(true), b.text("x")]), true);
+    fits(&rt, &pair, b.items([Data::Bool(true)]), false);
+    fits(
+        &rt,
+        &pair,
+        b.items([Data::Bool(true), b.text("x"), Data::Unit]),
+        false,
+    );
+    fits(&rt, &pair, b.list([Data::Bool(true), b.text("x")]), false);
+    fits(
+        &rt,
+        &b.seq(Shape::Char),
+        b.list([Data::Char('a'), Data::Char('b')]),
+        true,
+    );
+    fits(
+        &rt,
+        &b.seq(Shape::Char),
+        b.list([Data::Char('a'), Data::Unit]),
+        false,
+    );
+    fits(&rt, &b.option(Shape::Bytes), Data::None, true);
+    fits(&rt, &b.option(Shape::Bytes), b.some(b.bytes(b"x")), true);
+    fits(&rt, &b.option(Shape::Bytes), b.bytes(b"x"), false);
+    fits(&rt, &b.newtype(Shape::Unit), b.wrapped(Data::Unit), true);
+    fits(&rt, &b.newtype(Shape::Unit), Data::Unit, false);
+    fits(&rt, &Shape::Any, b.text("x"), false);
+    fits(&rt, &Shape::Ignored, Data::Unit, false);
+    let unit = b.variants([b.variant("u", VariantKind::Unit)]);
+    fits(&rt, &unit, b.bare("u"), true);
+    fits(&rt, &unit, b.holding("u", Data::Unit), false);
+}

@@ -1,0 +1,311 @@
+-- What is written of plain data, in any order that keeps lists, has a tree, from which a fitting shape reads data that are the same.
+use Rattle.std.proofs.Common.{◌≡◌, ℕ, ◌+◌, ◌≤◌, Bool, true, false, ◌&&◌, ◌||◌, ◌⊎◌, inl, inr, List, [], ◌∷◌, ◌++◌, map, length, refl, sym, ap, ap₂, ◌∙◌, subst, arith, Option, Some, None, le_refl, append-nil}
+use Rattle.std.specs.List.{AllByRecursion}
+use Rattle.std.specs.List.Sorted.{IsPermutation}
+use Rattle.std.specs.Str.{bytes_eq}
+use Rattle.std.proofs.lemmas.Option.{same_Some}
+use Rattle.qs_spec.specs.Config.{Config, ArrayFormat, indexed, empty_indexed, unindexed, are_refused}
+use Rattle.qs_spec.specs.Token.{tokens}
+use Rattle.qs_spec.specs.Segment.{step_of, is_same_segment}
+use Rattle.qs_spec.specs.Escape.{encoded}
+use Rattle.qs_spec.specs.Grammar.{Pair, ArePairs}
+use Rattle.qs_spec.specs.Tree.{node, longest, IsTree}
+use Rattle.qs_spec.specs.Order.{is_front}
+use Rattle.qs_spec.specs.Data.{Data, Values, no_values, one_value, Pairs, no_pairs, one_pair, Members, no_members, one_member}
+use Rattle.qs_spec.specs.Shape.{Shape, is_distinct}
+use Rattle.qs_spec.specs.Entry.{Path, Entry, entries, entries_at}
+use Rattle.qs_spec.specs.Written.{written, entry_text, path_text}
+use Rattle.qs_spec.specs.toward.Entries.{steps, HasSegments, IsValueOf}
+use Rattle.qs_spec.proofs.Order.{is_itself}
+use Rattle.qs_spec.proofs.Reorder.{Swaps}
+use Rattle.qs_spec.proofs.Booleans.{and_both, or_both}
+use Rattle.qs_spec.proofs.VariantNames.{bytes_equal}
+use Rattle.qs_spec.proofs.RelatedIsRead.{found_pairs}
+use Rattle.qs_spec.proofs.EntryRead.{written_pair}
+use Rattle.qs_spec.proofs.ReadingIsRelation.{is_the_relation}
+use Rattle.qs_spec.specs.Listed.{is_placed, is_list, is_listed, are_listed, are_listed_pairs, are_listed_members}
+use Rattle.qs_spec.specs.toward.Parts.{Part, entry_of, part_pair, end_segment, leaf_part, under_segment, Branch, branches, parts, value_parts, value_branches, pair_branches, member_branches}
+use Rattle.qs_spec.specs.ReadBack.{IsPlainFor, IsReadBack, is_prefix, ArePathsApart, KeepsPaths}
+use Rattle.qs_spec.proofs.Fitting.{fitting}
+use Rattle.qs_spec.proofs.Permuted.{Perm, Perm-from, perm_map, perm_all, perm_one}
+use Rattle.qs_spec.proofs.Placed.{after, parts_at}
+use Rattle.qs_spec.proofs.Nodes.{HasPairs}
+use Rattle.qs_spec.proofs.Branches.{pairs, all_both, some_pairs}
+use Rattle.qs_spec.proofs.Tidy.{Tidy, AllTidy, AllAlike, pairs_alike, alike_permitted}
+use Rattle.qs_spec.proofs.GoodParts.{IsFine, IsByteValue, good}
+use Rattle.qs_spec.proofs.ReadBack.{back}
+use Rattle.qs_spec.proofs.PushRead.{IsReadable, parts_read}
+use Rattle.qs_spec.proofs.PartOrders.{perm_tidy, perm_swaps, lifted, kept_perm, kept_swaps, kept_lift}
+
+after_nothing : (es : List Entry) → map (after []) es ≡ es
+after_nothing [] = refl
+after_nothing (e ∷ es) = ap (λ (l : List Entry). e ∷ l) (after_nothing es)
+
+-- the entries are the parts
+parts_of : (limit : ℕ) (fm : ArrayFormat) (d : Data) → is_listed fm false d ≡ true → (entries_at limit fm d []).refusal ≡ None
+    → ((entries_at limit fm d []).entries ≡ map entry_of (parts fm d)) × AllByRecursion (λ (p : Part). length (entry_of p).path ≤ limit + 1) (parts fm d)
+parts_of limit fm d li r =
+    let h = parts_at limit fm false d [] li (omega arith) r in (
+      h.is ∙ after_nothing (map entry_of (parts fm d)),
+      all_both (λ (p : Part). length {A = List ℕ} [] + length (entry_of p).path ≤ limit + 1) (λ (p : Part). Unit {0}) (λ (p : Part). length (entry_of p).path ≤ limit + 1) (λ p l u. omega arith) (parts fm d) h.short (any (parts fm d)),
+    )
+  where
+    any : (ps : List Part) → AllByRecursion (λ (p : Part). Unit {0}) ps
+    any [] = tt
+    any (p ∷ ps) = (tt, any ps)
+
+-- all have a path, or there is one alone without
+abbrev IsRooted : List Part → Type 0
+IsRooted ps = AllByRecursion (λ (p : Part). HasSegments p.path) ps ⊎ ((v : Option (List ℕ)) × (ps ≡ leaf_part v ∷ []))
+
+branches_paths : (bs : List Branch) → AllByRecursion (λ (p : Part). HasSegments p.path) (branches bs)
+branches_paths [] = tt
+branches_paths (b ∷ bs) = by b.1 (branches_paths bs)
+  where
+    by : (ps : List Part) → AllByRecursion (λ (p : Part). HasSegments p.path) (branches bs) → AllByRecursion (λ (p : Part). HasSegments p.path) (map (under_segment b.0) ps ++ branches bs)
+    by [] more = more
+    by (p ∷ ps) more = (tt, by ps more)
+
+-- a list at the root is written by places
+list_rooted : (fm : ArrayFormat) (ds : Values) → is_placed fm false ≡ true → IsRooted (value_parts fm ds)
+list_rooted indexed ds e = inl (branches_paths (value_branches indexed 0 ds))
+list_rooted empty_indexed ds e = cc
+list_rooted unindexed ds e = cc
+
+rooted : (fm : ArrayFormat) (d : Data) → is_listed fm false d ≡ true → IsRooted (parts fm d)
+rooted fm Data.unit e = inr (Some [], refl)
+rooted fm Data.none e = inr (None, refl)
+rooted fm (Data.some d) e = rooted fm d e
+rooted fm (Data.boolean b) e = inr (_, refl)
+rooted fm (Data.unsigned n) e = inr (_, refl)
+rooted fm (Data.signed n) e = inr (_, refl)
+rooted fm (Data.character c) e = inr (_, refl)
+rooted fm (Data.text t) e = inr (_, refl)
+rooted fm (Data.bytes b) e = inr (_, refl)
+rooted fm (Data.sequence no_values) e = inr (Some [], refl)
+rooted fm (Data.sequence (one_value d ds)) e = list_rooted fm (one_value d ds) (and_both (is_placed fm false) (is_list fm (one_value d ds)) (and_both (is_placed fm false && is_list fm (one_value d ds)) (are_listed fm (one_value d ds)) e).0).0
+rooted fm (Data.tuple no_values) e = inr (Some [], refl)
+rooted fm (Data.tuple (one_value d ds)) e = list_rooted fm (one_value d ds) (and_both (is_placed fm false) (is_list fm (one_value d ds)) (and_both (is_placed fm false && is_list fm (one_value d ds)) (are_listed fm (one_value d ds)) e).0).0
+rooted fm (Data.mapping no_pairs) e = inr (Some [], refl)
+rooted fm (Data.mapping (one_pair k d ps)) e = inl (branches_paths (pair_branches fm (one_pair k d ps)))
+rooted fm (Data.struct ms) e = inl (branches_paths (member_branches fm ms))
+rooted fm (Data.newtype d) e = rooted fm d e
+rooted fm (Data.unit_variant name) e = inr (_, refl)
+rooted fm (Data.newtype_variant name d) e = inl (branches_paths ((name, parts fm d) ∷ []))
+rooted fm (Data.tuple_variant name ds) e = inl (branches_paths ((name, value_parts fm ds) ∷ []))
+rooted fm (Data.struct_variant name ms) e = inl (branches_paths ((name, branches (member_branches fm ms)) ∷ []))
+
+-- some pairs whose histories are permitted are a tree
+pairs_tree : (fm : ArrayFormat) (form : Bool) (depth : ℕ) (text : List ℕ) (ps : List Pair) → ArePairs depth (tokens form text) ps → HasPairs ps → AllAlike fm ps → IsTree form depth text (node ps)
+pairs_tree fm form depth [] [] g h a = absurd h
+pairs_tree fm form depth [] (p ∷ ps) g h a = absurd (none (same_Some [] (p ∷ ps) (found_pairs g)))
+  where
+    none : [] ≡ p ∷ ps → ⊥
+    none e = cc
+pairs_tree fm form depth (b ∷ text) ps g h a = (ps, record { grammar = g; histories = alike_permitted fm ps a }, refl)
+
+readable : (form : Bool) (depth : ℕ) (p : Part) → HasSegments p.path → IsFine form p → length (entry_of p).path ≤ depth + 1 → IsReadable form depth p
+readable form depth p h f l = record { some = h; segments = f.0; short = l; value = by p.value f.1 }
+  where
+    by : (v : Option (List ℕ)) → IsByteValue v → IsValueOf ([] ∷ []) v
+    by None b = b
+    by (Some v) b = b
+
+-- the tree of the text of the parts, in another order
+written_tree : (fm : ArrayFormat) (form : Bool) (depth : ℕ) (ps qs : List Part) → IsRooted ps → AllByRecursion (IsFine form) ps → AllByRecursion (λ (p : Part). length (entry_of p).path ≤ depth + 1) ps → Perm ps qs
+    → HasPairs (pairs form qs) → AllAlike fm (pairs form qs) → IsTree form depth (written form false (map entry_of qs)) (node (pairs form qs))
+unfolding written entry_text path_text
+written_tree fm form depth ps qs r f l w h a = by r
+  where
+    alone : (v : Option (List ℕ)) → IsByteValue v → HasPairs (pairs form (leaf_part v ∷ [])) → AllAlike fm (pairs form (leaf_part v ∷ [])) → IsTree form depth (written form false (map entry_of (leaf_part v ∷ []))) (node (pairs form (leaf_part v ∷ [])))
+    alone None b h a = refl
+    alone (Some v) b h a =
+        pairs_tree fm form depth (written form false (map entry_of (leaf_part (Some v) ∷ []))) (pairs form (leaf_part (Some v) ∷ []))
+        (written_pair form depth (entry_of (leaf_part (Some v))) (record { segments = tt; short = omega arith; value = b })) h a
+
+    by : IsRooted ps → IsTree form depth (written form false (map entry_of qs)) (node (pairs form qs))
+    by (inl p) =
+        pairs_tree fm form depth (written form false (map entry_of qs)) (pairs form qs)
+        (parts_read form depth qs
+        (all_both (λ (p : Part). HasSegments p.path) (λ (p : Part). IsFine form p × (length (entry_of p).path ≤ depth + 1)) (IsReadable form depth) (λ e q r. readable form depth e q r.0 r.1) qs (perm_all (λ (p : Part). HasSegments p.path) w p)
+        (all_both (IsFine form) (λ (p : Part). length (entry_of p).path ≤ depth + 1) (λ (p : Part). IsFine form p × (length (entry_of p).path ≤ depth + 1)) (λ e q r. (q, r)) qs (perm_all (IsFine form) w f) (perm_all (λ (p : Part). length (entry_of p).path ≤ depth + 1) w l)))) h a
+    by (inr p) =
+        let one : qs ≡ leaf_part p.0 ∷ [] = perm_one (leaf_part p.0) qs (subst (λ (l : List Part). Perm l qs) p.1 w) in
+        let b : AllByRecursion (IsFine form) (leaf_part p.0 ∷ []) = subst (AllByRecursion (IsFine form)) p.1 f in
+        subst (λ (l : List Part). IsTree form depth (written form false (map entry_of l)) (node (pairs form l))) (sym one)
+        (alone p.0 b.0.1 (subst (λ (l : List Part). HasPairs (pairs form l)) one h) (subst (λ (l : List Part). AllAlike fm (pairs form l)) one a))
+
+-- parts in an order that only swaps those that don't meet are read back
+parts_back : (config : Config) (shape : Shape) (d : Data) (qs : List Part) → is_distinct shape ≡ true → IsPlainFor config shape d → is_listed config.array_format false d ≡ true
+    → Perm (parts config.array_format d) qs → Swaps (pairs config.form (parts config.array_format d)) (pairs config.form qs) → IsReadBack config shape d (written config.form false (map entry_of qs))
+parts_back config shape d qs dist w li q s =
+    let fm = config.array_format in
+    let form = config.form in
+    let depth = config.max_depth in
+    let r = parts_of depth fm d li w.whole in
+    let f = fitting shape d w.fits in
+    let g = good fm form f w.plain in
+    let ps = pairs form qs in
+    let b = back fm form (are_refused config.duplicates) f dist w.plain false li (longest ps) ps (le_refl (longest ps)) s in
+    record {
+      tree = node ps;
+      is_tree = written_tree fm form depth (parts fm d) qs (rooted fm d li) g.fine r.1 q (some_pairs form (parts fm d) ps g.full (perm_map (part_pair form) q)) (pairs_alike fm form qs (perm_tidy fm form q g.tidy));
+      answer = b.answer;
+      reads = (is_the_relation (are_refused config.duplicates) shape (node ps) b.answer dist).0 b.reads;
+      same = b.same;
+    }
+
+-- Plain data that are written without a refusal are read back from their entries in every order that keeps those with one path.
+pub lists_back : (config : Config) (shape : Shape) (d : Data) (es : List Entry) → is_distinct shape ≡ true → IsPlainFor config shape d → is_listed config.array_format false d ≡ true → KeepsPaths (entries config d).entries es
+    → IsReadBack config shape d (written config.form false es)
+lists_back config shape d es dist w li k =
+    let fm = config.array_format in
+    let r = parts_of config.max_depth fm d li w.whole in
+    let g = good fm config.form (fitting shape d w.fits) w.plain in
+    let o = kept_lift (parts fm d) es (subst (λ (l : List Entry). KeepsPaths l es) r.0 k) in
+    subst (λ (l : List Entry). IsReadBack config shape d (written config.form false l)) (sym o.1)
+    (parts_back config shape d o.0 dist w li (kept_perm o.2) (kept_swaps fm config.form o.2 g.tidy))
+
+mutual
+  listed : (below : Bool) (d : Data) → is_listed indexed below d ≡ true
+  listed below Data.unit = refl
+  listed below Data.none = refl
+  listed below (Data.some d) = listed below d
+  listed below (Data.boolean b) = refl
+  listed below (Data.unsigned n) = refl
+  listed below (Data.signed n) = refl
+  listed below (Data.character c) = refl
+  listed below (Data.text t) = refl
+  listed below (Data.bytes b) = refl
+  listed below (Data.sequence ds) = each_listed ds
+  listed below (Data.tuple ds) = each_listed ds
+  listed below (Data.mapping ps) = pairs_listed ps
+  listed below (Data.struct ms) = members_listed ms
+  listed below (Data.newtype d) = listed below d
+  listed below (Data.unit_variant name) = refl
+  listed below (Data.newtype_variant name d) = listed true d
+  listed below (Data.tuple_variant name ds) = each_listed ds
+  listed below (Data.struct_variant name ms) = members_listed ms
+
+  each_listed : (ds : Values) → are_listed indexed ds ≡ true
+  each_listed no_values = refl
+  each_listed (one_value d ds) = ap₂ (λ a b. a && b) (listed true d) (each_listed ds)
+
+  pairs_listed : (ps : Pairs) → are_listed_pairs indexed ps ≡ true
+  pairs_listed no_pairs = refl
+  pairs_listed (one_pair k d ps) = ap₂ (λ a b. a && b) (listed true d) (pairs_listed ps)
+
+  members_listed : (ms : Members) → are_listed_members indexed ms ≡ true
+  members_listed no_members = refl
+  members_listed (one_member n d ms) = ap₂ (λ a b. a && b) (listed true d) (members_listed ms)
+
+-- in the indexed format, in any order
+in_format : (config : Config) (d : Data) → config.array_format ≡ indexed → is_listed config.array_format false d ≡ true
+in_format config d e = ap (λ f. is_listed f false d) e ∙ listed false d
+
+pub read_back : (config : Config) (shape : Shape) (d : Data) (es : List Entry) → config.array_format ≡ indexed → is_distinct shape ≡ true → IsPlainFor config shape d → IsPermutation (entries config d).entries es
+    → IsReadBack config shape d (written config.form false es)
+read_back config shape d es e dist w p =
+    let fm = config.array_format in
+    let form = config.form in
+    let li = in_format config d e in
+    let r = parts_of config.max_depth fm d li w.whole in
+    let g = good fm form (fitting shape d w.fits) w.plain in
+    let o = lifted (parts fm d) es (subst (λ (l : List Entry). Perm l es) r.0 (Perm-from (entries config d).entries es p)) in
+    subst (λ (l : List Entry). IsReadBack config shape d (written form false l)) (sym o.1)
+    (parts_back config shape d o.0 dist w li o.2 (perm_swaps form o.2 (subst (λ f. AllTidy f form (parts fm d)) e g.tidy)))
+
+-- a path that begins another does so as steps
+front_steps : (form : Bool) (p q : Path) → is_prefix p q ≡ true → is_front (steps form p) (steps form q) ≡ true
+front_steps form [] q e = refl
+front_steps form (s ∷ p) [] e = cc
+front_steps form (s ∷ p) (t ∷ q) e =
+    let h = and_both (bytes_eq s t) (is_prefix p q) e in
+    ap₂ (λ a b. a && b) (ap (λ (x : List ℕ). is_same_segment (step_of (encoded form s)).seg (step_of (encoded form x)).seg) (sym (bytes_equal s t h.0)) ∙ is_itself (step_of (encoded form s)).seg) (front_steps form p q h.1)
+
+no_front : (form : Bool) (p q : Path) → is_front (steps form p) (steps form q) ≡ false → is_prefix p q ≡ false
+no_front form p q e = by (is_prefix p q) refl
+  where
+    by : (b : Bool) → is_prefix p q ≡ b → is_prefix p q ≡ false
+    by true d = let w = sym e ∙ front_steps form p q d in cc
+    by false d = d
+
+-- with places written no part pushes
+abbrev NonePush : List Part → Type 0
+NonePush ps = AllByRecursion (λ (p : Part). p.push ≡ false) ps
+
+none_join : (xs ys : List Part) → NonePush xs → NonePush ys → NonePush (xs ++ ys)
+none_join [] ys h i = i
+none_join (x ∷ xs) ys h i = (h.0, none_join xs ys h.1 i)
+
+none_segment : (s : List ℕ) (ps : List Part) → NonePush ps → NonePush (map (under_segment s) ps)
+none_segment s [] h = tt
+none_segment s (p ∷ ps) h = (h.0, none_segment s ps h.1)
+
+none_branches : (bs : List Branch) → AllByRecursion (λ (b : Branch). NonePush b.1) bs → NonePush (branches bs)
+none_branches [] h = tt
+none_branches (b ∷ bs) h = none_join (map (under_segment b.0) b.1) (branches bs) (none_segment b.0 b.1 h.0) (none_branches bs h.1)
+
+mutual
+  no_push : (d : Data) → NonePush (parts indexed d)
+  no_push Data.unit = (refl, tt)
+  no_push Data.none = (refl, tt)
+  no_push (Data.some d) = no_push d
+  no_push (Data.boolean b) = (refl, tt)
+  no_push (Data.unsigned n) = (refl, tt)
+  no_push (Data.signed n) = (refl, tt)
+  no_push (Data.character c) = (refl, tt)
+  no_push (Data.text t) = (refl, tt)
+  no_push (Data.bytes b) = (refl, tt)
+  no_push (Data.sequence no_values) = (refl, tt)
+  no_push (Data.sequence (one_value d ds)) = none_branches (value_branches indexed 0 (one_value d ds)) (no_pushes 0 (one_value d ds))
+  no_push (Data.tuple no_values) = (refl, tt)
+  no_push (Data.tuple (one_value d ds)) = none_branches (value_branches indexed 0 (one_value d ds)) (no_pushes 0 (one_value d ds))
+  no_push (Data.mapping no_pairs) = (refl, tt)
+  no_push (Data.mapping (one_pair k d ps)) = none_branches (pair_branches indexed (one_pair k d ps)) (no_pair_pushes (one_pair k d ps))
+  no_push (Data.struct ms) = none_branches (member_branches indexed ms) (no_member_pushes ms)
+  no_push (Data.newtype d) = no_push d
+  no_push (Data.unit_variant name) = (refl, tt)
+  no_push (Data.newtype_variant name d) = none_branches ((name, parts indexed d) ∷ []) (no_push d, tt)
+  no_push (Data.tuple_variant name ds) = none_branches ((name, branches (value_branches indexed 0 ds)) ∷ []) (none_branches (value_branches indexed 0 ds) (no_pushes 0 ds), tt)
+  no_push (Data.struct_variant name ms) = none_branches ((name, branches (member_branches indexed ms)) ∷ []) (none_branches (member_branches indexed ms) (no_member_pushes ms), tt)
+
+  no_pushes : (i : ℕ) (ds : Values) → AllByRecursion (λ (b : Branch). NonePush b.1) (value_branches indexed i ds)
+  no_pushes i no_values = tt
+  no_pushes i (one_value d ds) = (no_push d, no_pushes (i + 1) ds)
+
+  no_pair_pushes : (ps : Pairs) → AllByRecursion (λ (b : Branch). NonePush b.1) (pair_branches indexed ps)
+  no_pair_pushes no_pairs = tt
+  no_pair_pushes (one_pair k d ps) = (no_push d, no_pair_pushes ps)
+
+  no_member_pushes : (ms : Members) → AllByRecursion (λ (b : Branch). NonePush b.1) (member_branches indexed ms)
+  no_member_pushes no_members = tt
+  no_member_pushes (one_member n d ms) = (no_push d, no_member_pushes ms)
+
+whole_path : (p : Part) → p.push ≡ false → (entry_of p).path ≡ p.path
+whole_path p e = ap (λ b. p.path ++ end_segment b) e ∙ append-nil p.path
+
+paths_apart : (form : Bool) (ps : List Part) → NonePush ps → AllTidy indexed form ps → ArePathsApart (map entry_of ps)
+paths_apart form [] n h = tt
+paths_apart form (p ∷ ps) n h = (each ps n.1 h.0, paths_apart form ps n.1 h.1)
+  where
+    no : true ≡ false → ⊥
+    no e = cc
+
+    two : (q : Part) → q.push ≡ false → Tidy indexed form p q → (is_prefix (entry_of p).path (entry_of q).path || is_prefix (entry_of q).path (entry_of p).path) ≡ false
+    two q m (inl a) = absurd (no a.0)
+    two q m (inr t) =
+        let o = or_both (is_front (steps form p.path) (steps form q.path)) (is_front (steps form q.path) (steps form p.path)) t in
+        ap₂ (λ (x y : Path). is_prefix x y || is_prefix y x) (whole_path p n.0) (whole_path q m)
+        ∙ ap₂ (λ a b. a || b) (no_front form p.path q.path o.0) (no_front form q.path p.path o.1)
+
+    each : (qs : List Part) → NonePush qs → AllByRecursion (Tidy indexed form p) qs → AllByRecursion (λ (f : Entry). (is_prefix (entry_of p).path f.path || is_prefix f.path (entry_of p).path) ≡ false) (map entry_of qs)
+    each [] m t = tt
+    each (q ∷ qs) m t = (two q m.0 t.0, each qs m.1 t.1)
+
+-- No entry of plain data has the path of another, or one that begins it.
+pub entries_apart : (config : Config) (shape : Shape) (d : Data) → config.array_format ≡ indexed → IsPlainFor config shape d → ArePathsApart (entries config d).entries
+entries_apart config shape d e w =
+    let r = parts_of config.max_depth config.array_format d (in_format config d e) w.whole in
+    let is : (entries config d).entries ≡ map entry_of (parts indexed d) = r.0 ∙ ap (λ f. map entry_of (parts f d)) e in
+    subst ArePathsApart (sym is) (paths_apart config.form (parts indexed d) (no_push d) (good indexed config.form (fitting shape d w.fits) w.plain).tidy)

@@ -1,0 +1,48 @@
+// Worked losses: data that are read back as others, each for want of one premise.
+
+ghost use Rattle.std.specs.Prelude.{◌≡◌, codes, decimal, [], ◌∷◌, Some, None, true, false, pos};
+ghost use Rattle.qs_spec.specs.Config.{default, unindexed};
+ghost use Rattle.qs_spec.specs.Escape.{encoded};
+ghost use Rattle.qs_spec.specs.Segment.{segment_of};
+ghost use Rattle.qs_spec.specs.Segment.Segment.{Str};
+ghost use Rattle.qs_spec.specs.Shape.{Shape, KeyShape, no_fields, one_field, fields_of, no_shapes, one_shape, no_variants, one_variant, unit_kind, tuple_kind, struct_kind};
+ghost use Rattle.qs_spec.specs.Data.{Data, values_of, pairs_of, members_of};
+ghost use Rattle.qs_spec.specs.Worked.{field, one_member, IsReadAs};
+
+/// Data that aren't plain are read as other data, or not at all: an option in an option as nothing; a struct without fields is
+/// missing; digits after a zero are another number, and a bracket nests at form encoding; an empty name or key stands for no key;
+/// equal keys are one; bytes are a text; and an element beyond the indices is no item.
+pub fn not_plain_is_lost()
+    ensures option_in_option { IsReadAs default (field (codes "a") (Shape.option (Shape.option Shape.unit))) (one_member (codes "a") (Data.some Data.none)) (codes "a") (Some (one_member (codes "a") Data.none)) }
+    ensures option_in_newtype { IsReadAs default (field (codes "a") (Shape.option (Shape.newtype (Shape.option Shape.unit)))) (one_member (codes "a") (Data.some (Data.newtype Data.none))) (codes "a") (Some (one_member (codes "a") Data.none)) }
+    ensures empty_struct { IsReadAs default (field (codes "a") (Shape.struct (one_field (codes "x") Shape.unit true no_fields))) (one_member (codes "a") (Data.struct (members_of []))) [] None }
+    ensures empty_variant { IsReadAs default (field (codes "e") (Shape.enumeration (one_variant (codes "v") (struct_kind no_fields) no_variants))) (one_member (codes "e") (Data.struct_variant (codes "v") (members_of []))) [] None }
+    ensures empty_tuple_variant { IsReadAs default (field (codes "e") (Shape.enumeration (one_variant (codes "v") (tuple_kind no_shapes) no_variants))) (one_member (codes "e") (Data.tuple_variant (codes "v") (values_of []))) [] None }
+    ensures leading_zero { IsReadAs default (Shape.mapping KeyShape.text Shape.unit) (Data.mapping (pairs_of ((Data.text (codes "01"), Data.unit) ∷ []))) (codes "01=") (Some (Data.mapping (pairs_of ((Data.text (codes "1"), Data.unit) ∷ [])))) }
+    ensures leading_zero_of_a_field { IsReadAs default (field (codes "01") Shape.unit) (one_member (codes "01") Data.unit) (codes "01=") None }
+    ensures bracket_in_form { IsReadAs (record default { form = true }) (field (codes "a[b]") Shape.unit) (one_member (codes "a[b]") Data.unit) (codes "a%5Bb%5D=") None }
+    ensures empty_key { IsReadAs default (Shape.mapping KeyShape.text Shape.unit) (Data.mapping (pairs_of ((Data.text [], Data.unit) ∷ []))) (codes "=") (Some (Data.mapping (pairs_of []))) }
+    ensures empty_field { IsReadAs default (field [] Shape.text) (one_member [] (Data.text (codes "x"))) (codes "=x") None }
+    ensures empty_unit_variant { IsReadAs default (Shape.enumeration (one_variant [] unit_kind no_variants)) (Data.unit_variant []) (codes "=") None }
+    ensures equal_keys { IsReadAs default (Shape.mapping KeyShape.text Shape.text) (Data.mapping (pairs_of ((Data.text (codes "1"), Data.text (codes "x")) ∷ (Data.text (codes "1"), Data.text (codes "y")) ∷ []))) (codes "1=x&1=y") (Some (Data.mapping (pairs_of ((Data.text (codes "1"), Data.text (codes "y")) ∷ [])))) }
+    ensures key_of_bytes { IsReadAs default (Shape.mapping KeyShape.text Shape.unit) (Data.mapping (pairs_of ((Data.bytes (codes "a"), Data.unit) ∷ []))) (codes "a=") (Some (Data.mapping (pairs_of ((Data.text (codes "a"), Data.unit) ∷ [])))) }
+    ensures index_too_great { segment_of (encoded false (decimal 4294967296)) ≡ Str (codes "4294967296") }
+{}
+
+/// Data that don't fit the shape are read as others, or not at all: the fields of a struct variant in the shape's order, a number
+/// as one with a sign, and one beyond the shape's bits as none.
+pub fn not_fitting_is_lost()
+    ensures order_of_fields { IsReadAs default (Shape.enumeration (one_variant (codes "c") (struct_kind (fields_of ((codes "x", Shape.unsigned 8, false) ∷ (codes "y", Shape.unsigned 8, false) ∷ []))) no_variants)) (Data.struct_variant (codes "c") (members_of ((codes "y", Data.unsigned 1) ∷ (codes "x", Data.unsigned 2) ∷ []))) (codes "c[y]=1&c[x]=2") (Some (Data.struct_variant (codes "c") (members_of ((codes "x", Data.unsigned 2) ∷ (codes "y", Data.unsigned 1) ∷ [])))) }
+    ensures sign { IsReadAs default (Shape.signed 8) (Data.unsigned 5) (codes "=5") (Some (Data.signed (pos 5))) }
+    ensures bits { IsReadAs default (Shape.unsigned 8) (Data.unsigned 256) (codes "=256") None }
+    ensures length { IsReadAs default (Shape.tuple (one_shape (Shape.unsigned 8) no_shapes)) (Data.tuple (values_of (Data.unsigned 1 ∷ Data.unsigned 2 ∷ []))) (codes "0=1&1=2") (Some (Data.tuple (values_of (Data.unsigned 1 ∷ [])))) }
+    ensures any { IsReadAs default Shape.any (Data.unsigned 1) (codes "=1") (Some (Data.text (codes "1"))) }
+{}
+
+/// Where no index is written, a list without a path is read as other data, a list of lists loses how they were grouped, and without
+/// brackets a list of one empty text is an empty one.
+pub fn lists_without_indices()
+    ensures at_the_top { IsReadAs (record default { array_format = unindexed }) (Shape.sequence (Shape.unsigned 8)) (Data.sequence (values_of (Data.unsigned 1 ∷ Data.unsigned 2 ∷ []))) (codes "=1=2") None }
+    ensures lists_in_a_list { IsReadAs (record default { array_format = unindexed }) (field (codes "v") (Shape.sequence (Shape.sequence (Shape.unsigned 8)))) (one_member (codes "v") (Data.sequence (values_of (Data.sequence (values_of (Data.unsigned 1 ∷ Data.unsigned 2 ∷ [])) ∷ [])))) (codes "v=1&v=2") (Some (one_member (codes "v") (Data.sequence (values_of (Data.sequence (values_of (Data.unsigned 1 ∷ [])) ∷ Data.sequence (values_of (Data.unsigned 2 ∷ [])) ∷ []))))) }
+    ensures one_empty_text { IsReadAs (record default { array_format = unindexed }) (field (codes "v") (Shape.sequence Shape.text)) (one_member (codes "v") (Data.sequence (values_of (Data.text [] ∷ [])))) (codes "v=") (Some (one_member (codes "v") (Data.sequence (values_of [])))) }
+{}

@@ -1,0 +1,57 @@
+// Laws of reading back what was written.
+
+ghost use Rattle.std.specs.Prelude.{codes, [], ◌∷◌, ◌≡◌, List, true, false};
+ghost use Rattle.std.specs.List.Sorted.{IsPermutation};
+ghost use Rattle.qs_spec.specs.Config.{Config, default};
+ghost use Rattle.qs_spec.specs.Config.ArrayFormat.{indexed};
+ghost use Rattle.qs_spec.specs.Data.{Data, members_of, pairs_of, values_of};
+ghost use Rattle.qs_spec.specs.Plain.{is_plain};
+ghost use Rattle.qs_spec.specs.Shape.{Shape, KeyShape, newtype_kind, fields_of, variants_of, is_distinct};
+ghost use Rattle.qs_spec.specs.Entry.{Entry, entries};
+ghost use Rattle.qs_spec.specs.Written.{written};
+ghost use Rattle.qs_spec.specs.Listed.{is_listed};
+ghost use Rattle.qs_spec.specs.ReadBack.{IsPlainFor, IsReadBack, ArePathsApart, KeepsPaths, KeepsPlaces};
+
+/// Plain data that are written without an error are read by a fitting shape, under the same configuration, as data that are
+/// the same: in the indexed format from their entries in any order; in every format, where lists have a path and hold
+/// scalars, from an order that keeps entries with one path in theirs.
+pub fn plain_data_are_read_back()
+    ensures any_order { (config : Config) (shape : Shape) (d : Data) (es : List Entry) → config.array_format ≡ indexed → is_distinct shape ≡ true → IsPlainFor config shape d
+        → IsPermutation (entries config d).entries es → IsReadBack config shape d (written config.form false es) }
+    ensures lists_in_order { (config : Config) (shape : Shape) (d : Data) (es : List Entry) → is_distinct shape ≡ true → IsPlainFor config shape d → is_listed config.array_format false d ≡ true
+        → KeepsPaths (entries config d).entries es → IsReadBack config shape d (written config.form false es) }
+    ensures lists_by_place { (config : Config) (shape : Shape) (d : Data) (es : List Entry) → is_distinct shape ≡ true → IsPlainFor config shape d → is_listed config.array_format false d ≡ true
+        → KeepsPlaces (entries config d).entries es → IsReadBack config shape d (written config.form false es) }
+{}
+
+/// In the indexed format no entry of such data has the path of another, or one that begins it.
+pub fn entries_are_apart()
+    ensures { (config : Config) (shape : Shape) (d : Data) → config.array_format ≡ indexed → IsPlainFor config shape d → ArePathsApart (entries config d).entries }
+{}
+
+/// Data whose names and keys are digits, spaces and separators: plain, fitting, and written without an error.
+pub fn hostile_names_are_plain()
+    ensures { let shape = Shape.struct (fields_of ((codes "a b", Shape.mapping (KeyShape.unsigned 8) (Shape.option Shape.text), false)
+        ∷ (codes "e", Shape.enumeration (variants_of ((codes "v=1", newtype_kind (Shape.sequence Shape.character)) ∷ [])), false)
+        ∷ (codes "z", Shape.option Shape.boolean, false) ∷ (codes "7", Shape.unit, true) ∷ [])) in
+        let d = Data.struct (members_of ((codes "a b", Data.mapping (pairs_of ((Data.unsigned 10, Data.some (Data.text (codes "x&y"))) ∷ (Data.unsigned 0, Data.some (Data.text [])) ∷ [])))
+        ∷ (codes "e", Data.newtype_variant (codes "v=1") (Data.sequence (values_of (Data.character 91 ∷ Data.character 233 ∷ []))))
+        ∷ (codes "z", Data.none) ∷ (codes "7", Data.unit) ∷ [])) in
+        IsPlainFor default shape d }
+{}
+
+/// What isn't plain: an option in an option, a struct without fields, a name that is empty or digits after a zero, a bracket in a
+/// name in form mode, two fields of one name, two keys of one text, a key of bytes, a unit variant without a name.
+pub fn data_that_are_not_plain()
+    ensures option_in_option { is_plain false (Data.some (Data.newtype Data.none)) ≡ false }
+    ensures empty_struct { is_plain false (Data.struct (members_of [])) ≡ false }
+    ensures empty_name { is_plain false (Data.struct (members_of (([], Data.unit) ∷ []))) ≡ false }
+    ensures leading_zero { is_plain false (Data.newtype_variant (codes "01") Data.unit) ≡ false }
+    ensures zero { is_plain false (Data.newtype_variant (codes "0") Data.unit) ≡ true }
+    ensures bracket_in_form { is_plain true (Data.struct (members_of ((codes "a[", Data.unit) ∷ []))) ≡ false }
+    ensures bracket_in_query { is_plain false (Data.struct (members_of ((codes "a[", Data.unit) ∷ []))) ≡ true }
+    ensures one_name { is_plain false (Data.struct (members_of ((codes "a", Data.unit) ∷ (codes "a", Data.unit) ∷ []))) ≡ false }
+    ensures one_text { is_plain false (Data.mapping (pairs_of ((Data.unsigned 1, Data.unit) ∷ (Data.text (codes "1"), Data.unit) ∷ []))) ≡ false }
+    ensures bytes_key { is_plain false (Data.mapping (pairs_of ((Data.bytes (codes "a"), Data.unit) ∷ []))) ≡ false }
+    ensures no_variant { is_plain false (Data.unit_variant []) ≡ false }
+{}

@@ -1,0 +1,4 @@
+pub mod Levels
+pub mod PairsPut
+pub mod Steps
+pub mod WriteErrors

@@ -1,0 +1,10 @@
+pub mod Same
+pub mod Fits
+pub mod Meaning
+pub mod Maps
+pub mod Records
+pub mod Members
+pub mod ComesBack
+pub mod MapsComeBack
+pub mod Typed
+pub mod WrittenText

@@ -1,0 +1,58 @@
+-- What data mean as a value.
+use Rattle.std.proofs.Common.{refl}
+use Rattle.std.proofs.lemmas.Bool.{false≢true}
+use Rattle.std.specs.Prelude.{◌≡◌, ◌&&◌, ℕ, ℤ, Bool, true, false, List, [], ◌∷◌, Option, Some, None, option_map, option_and_then, nat_le, if◌then◌else◌}
+use Rattle.qs_spec.specs.Data.{Data, Values, no_values, one_value}
+use Rattle.qs_spec.specs.Data.Data.{unit, none, some, boolean, unsigned, signed, character, text, sequence}
+use Rattle.serde_qs.specs.Fits.{is_signed}
+
+abbrev pub unit_in : Data → Option (Unit {0})
+unit_in unit = Some tt
+unit_in _ = None
+
+abbrev pub boolean_in : Data → Option Bool
+boolean_in (boolean b) = Some b
+boolean_in _ = None
+
+-- a number up to `most`
+abbrev pub unsigned_in : ℕ → Data → Option ℕ
+unsigned_in most (unsigned n) = if nat_le n most then Some n else None
+unsigned_in most _ = None
+
+-- a number of so many bits
+abbrev pub signed_in : ℕ → Data → Option ℤ
+signed_in bits (signed z) = if is_signed bits z then Some z else None
+signed_in bits _ = None
+
+abbrev pub character_in : Data → Option ℕ
+character_in (character c) = Some c
+character_in _ = None
+
+abbrev pub text_in : Data → Option (List ℕ)
+text_in (text t) = Some t
+text_in _ = None
+
+abbrev pub option_data : {A : Type 0} → (A → Data) → Option A → Data
+option_data datum None = none
+option_data datum (Some x) = some (datum x)
+
+abbrev pub option_in : {A : Type 0} → (Data → Option A) → Data → Option (Option A)
+option_in m none = Some None
+option_in m (some d) = option_map Some (m d)
+option_in m _ = None
+
+abbrev pub values_in : {A : Type 0} → (Data → Option A) → Values → Option (List A)
+values_in m no_values = Some []
+values_in m (one_value d ds) = option_and_then (λ x. option_map (λ xs. x ∷ xs) (values_in m ds)) (m d)
+
+abbrev pub sequence_in : {A : Type 0} → (Data → Option A) → Data → Option (List A)
+sequence_in m (sequence ds) = values_in m ds
+sequence_in m _ = None
+
+abbrev pub both : {A B : Type 0} → Option A → Option B → Option (A × B)
+both a b = option_and_then (λ x. option_map (λ y. (x, y)) b) a
+
+-- of two tests that hold, each does
+pub both_hold : (a b : Bool) → (a && b) ≡ true → (a ≡ true) × (b ≡ true)
+both_hold true b h = (refl, h)
+both_hold false b h = absurd (false≢true h)

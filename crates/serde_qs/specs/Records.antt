@@ -1,0 +1,61 @@
+-- Structs by their fields.
+use Rattle.std.proofs.Common.{ap, ◌∙◌}
+use Rattle.std.specs.Prelude.{◌≡◌, ℕ, ◌==◌, Bool, true, ◌&&◌, List, length, [], ◌∷◌, Option, Some, None, map, if◌then◌else◌, reverse}
+use Rattle.std.specs.Borrow.{Bor}
+use Rattle.std.specs.Str.{bytes_eq}
+use Rattle.std.specs.declared.string.String.{String}
+use Rattle.std.specs.declared.alloc.Global.{Global}
+use Rattle.qs_spec.specs.Data.{Named, Members, no_members, one_member, members_of}
+use Rattle.qs_spec.specs.Data as v
+use Rattle.qs_spec.specs.Shape.{Shape, Field, fields_of, field_names_differ, are_distinct_fields, is_distinct}
+use Rattle.qs_data.specs.Views.{named, data_of}
+use Rattle.qs_data.specs.declared.data.Data.{Data}
+use Rattle.serde_qs.specs.Meaning.{both, both_hold}
+
+abbrev pub texts : List (Bor (List ℕ)) → List (List ℕ)
+texts names = map (λ (n : Bor (List ℕ)). n.now) names
+
+-- members of which the last is the first
+abbrev pub members_back : List (String Global × Data) → Members
+members_back ms = members_of (map (named data_of) (reverse ms))
+
+-- the first name, which is empty where there is none, and the others
+abbrev pub first_of : List (List ℕ) → List ℕ
+first_of [] = []
+first_of (n ∷ names) = n
+
+abbrev pub others_of : List (List ℕ) → List (List ℕ)
+others_of [] = []
+others_of (n ∷ names) = names
+
+-- the first field by the first name, in front of the others by theirs
+abbrev pub field_form : Shape → Bool → (List (List ℕ) → List Field) → List (List ℕ) → List Field
+field_form s optional rest names = (first_of names, s, optional) ∷ rest (others_of names)
+
+abbrev pub member_data : v.Data → (List (List ℕ) → List Named) → List (List ℕ) → List Named
+member_data x rest names = (first_of names, x) ∷ rest (others_of names)
+
+-- as many names as there are fields, and no two are equal
+abbrev pub are_names : List (List ℕ) → ℕ → List Field → Bool
+are_names names count fields = (length names == count) && field_names_differ (fields_of fields)
+
+pub both_true : {a b : Bool} → a ≡ true → b ≡ true → (a && b) ≡ true
+both_true {a} {b} p q = ap (λ x. x && b) p ∙ q
+
+-- then the struct of the fields is distinct, where each of them is
+pub differ : (names : List (List ℕ)) (count : ℕ) (fields : List Field) → are_names names count fields ≡ true → are_distinct_fields (fields_of fields) ≡ true
+    → is_distinct (Shape.struct (fields_of fields)) ≡ true
+differ names count fields h parts = both_true (both_hold (length names == count) (field_names_differ (fields_of fields)) h).1 parts
+
+abbrev pub nothing_in : Members → Option (Unit {0})
+nothing_in no_members = Some tt
+nothing_in _ = None
+
+-- the first member has the first name, and means a value of the first field
+abbrev pub member_in : {A B : Type 0} → (v.Data → Option A) → (List (List ℕ) → Members → Option B) → List (List ℕ) → Members → Option (A × B)
+member_in m rest names no_members = None
+member_in m rest names (one_member k d ms) = if bytes_eq k (first_of names) then both (m d) (rest (others_of names) ms) else None
+
+abbrev pub struct_in : {A : Type 0} → (Members → Option A) → v.Data → Option A
+struct_in m (v.struct ms) = m ms
+struct_in m _ = None

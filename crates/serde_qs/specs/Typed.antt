@@ -1,0 +1,48 @@
+-- What calls answer.
+use Rattle.std.specs.Prelude.{◌≡◌, true, ℕ, List, ⊤, option_and_then, Result, Ok, Err, Option, Some, None}
+use Rattle.qs_tree.specs.declared.error.Error.{Error}
+use Rattle.qs_data.specs.Gives.{Gives}
+use Rattle.qs_tree.specs.declared.error.Error.TheVariants.{Custom, Parse, Utf8, OutOfMemory}
+use Rattle.qs_spec.specs.Config.{Config}
+use Rattle.qs_spec.specs.Shape.{Shape}
+use Rattle.qs_spec.specs.Data.{Data}
+use Rattle.qs_spec.specs.Tree.{Tree, IsTree, IsRefused}
+use Rattle.qs_spec.specs.Read.{read_by}
+use Rattle.serde_qs.specs.Same.{Same}
+
+-- Seen by view, the answer is the value that the data mean; a fault comes exactly where they mean none, and any other error is want
+-- of memory.
+abbrev pub Means : {X Y : Type 0} → (X → Y) → Result X Error → Option Y → Type 0
+Means view result r = Gives view true result r
+
+-- The value that the input stands for under a configuration: it has a tree, from which the form reads data, which mean the value.
+pub record IsRead {V : Type 0} (config : Config) (form : Shape) (meaning : Data → Option V) (input : List ℕ) (value : V) : Type 0 where
+  pub tree : Tree
+  pub datum : Data
+  pub has_tree : IsTree config.form config.max_depth input tree
+  pub is_read : read_by config form tree ≡ Some datum
+  pub is_meant : meaning datum ≡ Some value
+
+-- it has a tree, from which the form reads nothing, or data that mean nothing
+pub record IsUnread {V : Type 0} (config : Config) (form : Shape) (meaning : Data → Option V) (input : List ℕ) : Type 0 where
+  pub tree : Tree
+  pub has_tree : IsTree config.form config.max_depth input tree
+  pub is_unread : option_and_then meaning (read_by config form tree) ≡ None
+
+-- what a typed call answers: the value that the input stands for, a refusal exactly where it has no tree, a fault exactly where it
+-- stands for no value, or want of memory
+abbrev pub ReturnsValue : {X V : Type 0} → (X → V) → Config → Shape → (Data → Option V) → List ℕ → Result X Error → Type 0
+ReturnsValue view config form meaning input (Ok x) = IsRead config form meaning input (view x)
+ReturnsValue view config form meaning input (Err (Custom m)) = IsUnread config form meaning input
+ReturnsValue view config form meaning input (Err (Utf8 m)) = IsUnread config form meaning input
+ReturnsValue view config form meaning input (Err (Parse m n)) = IsRefused config.form config.max_depth input
+ReturnsValue view config form meaning input (Err OutOfMemory) = ⊤
+ReturnsValue view config form meaning input (Err _) = ⊥
+
+-- the input has a tree, from which the form reads data that are the same as these, but for the order of maps
+pub record IsReadBack (config : Config) (form : Shape) (x : Data) (input : List ℕ) : Type 0 where
+  pub tree : Tree
+  pub datum : Data
+  pub has_tree : IsTree config.form config.max_depth input tree
+  pub is_read : read_by config form tree ≡ Some datum
+  pub is_same : Same x datum

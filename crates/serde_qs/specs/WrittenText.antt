@@ -1,0 +1,67 @@
+-- What is written of a value.
+use Rattle.std.specs.Prelude.{◌≡◌, ⊤, ℕ, ◌<◌, false, List, length, take, string_bytes, Result, Ok, Err, Option, Some, None, OnOk}
+use Rattle.std.specs.List.{All}
+use Rattle.std.specs.Io.KnownBytes.{Appends}
+use Rattle.std.specs.declared.string.String.{String}
+use Rattle.std.specs.declared.alloc.Global.{Global}
+use Rattle.qs_tree.specs.declared.error.Error.{Error}
+use Rattle.qs_tree.specs.declared.error.Error.TheVariants.{Custom, MaxSerializationDepthExceeded, Parse, Unsupported, FromUtf8, Io, ParseInt, Utf8, OutOfMemory, Failed}
+use Rattle.qs_tree.specs.Error.{IsTooDeep, IsUnsupported, IsIo, IsOutOfMemory}
+use Rattle.qs_data.specs.Writes.{IsVisible}
+use Rattle.qs_spec.specs.Config.{Config}
+use Rattle.qs_spec.specs.Data.{Data}
+use Rattle.qs_spec.specs.Entry.{entries, too_deep, bad_key}
+use Rattle.qs_spec.specs.Written.{written}
+
+-- the querystring of data: the text of their entries
+abbrev pub text_of : Config → Data → List ℕ
+text_of config x = written config.form false (entries config x).entries
+
+-- the text of the first k of them
+abbrev pub text_of_first : ℕ → Config → Data → List ℕ
+text_of_first k config x = written config.form false (take k (entries config x).entries)
+
+-- the whole text, of visible bytes, exactly where nothing is refused; otherwise the refusal, or want of memory
+abbrev pub ReturnsText : Config → Data → Result (String Global) Error → Type 0
+ReturnsText config x (Ok text) = ((entries config x).refusal ≡ None) × (string_bytes text ≡ text_of config x) × All IsVisible (string_bytes text)
+ReturnsText config x (Err (MaxSerializationDepthExceeded n)) = (n ≡ config.max_depth) × ((entries config x).refusal ≡ Some too_deep)
+ReturnsText config x (Err Unsupported) = (entries config x).refusal ≡ Some bad_key
+ReturnsText config x (Err OutOfMemory) = ⊤
+ReturnsText config x (Err _) = ⊥
+
+-- no other error than those of a serializer that hadn't failed
+abbrev pub IsValueWriteError : {T : Type 0} → Result T Error → Type 0
+IsValueWriteError (Ok x) = ⊤
+IsValueWriteError (Err (MaxSerializationDepthExceeded n)) = ⊤
+IsValueWriteError (Err Unsupported) = ⊤
+IsValueWriteError (Err (Io e)) = ⊤
+IsValueWriteError (Err OutOfMemory) = ⊤
+IsValueWriteError (Err _) = ⊥
+
+-- What a call that writes data to a writer leaves, whose bytes were old and are new. On Ok that is the whole text; after a refusal
+-- the text of the entries before it; after a failed write a proper beginning of the text; after want of memory that of some first
+-- entries. Only visible bytes are written.
+pub record WritesValue {T : Type 0} (config : Config) (x : Data) (old new : Option (List ℕ)) (result : Result T Error) : Type 0 where
+  pub whole : OnOk result ((entries config x).refusal ≡ None)
+  pub text : OnOk result (Appends old new (text_of config x))
+  pub too_deep : (n : ℕ) → IsTooDeep result n → (n ≡ config.max_depth) × ((entries config x).refusal ≡ Some too_deep)
+  pub too_deep_text : (n : ℕ) → IsTooDeep result n → Appends old new (text_of config x)
+  pub bad_key : IsUnsupported result → (entries config x).refusal ≡ Some bad_key
+  pub bad_key_text : IsUnsupported result → Appends old new (text_of config x)
+  pub io_text : IsIo result → (n : ℕ) × (n < length (text_of config x)) × Appends old new (take n (text_of config x))
+  pub memory_text : IsOutOfMemory result → (k : ℕ) × Appends old new (text_of_first k config x)
+  pub visible : (added : List ℕ) × Appends old new added × All IsVisible added
+  pub errors : IsValueWriteError result
+
+-- a write to memory fails only where memory is refused
+abbrev pub memory_for_io : Error → Error
+memory_for_io (Io e) = OutOfMemory
+memory_for_io (Custom m) = Custom m
+memory_for_io (MaxSerializationDepthExceeded n) = MaxSerializationDepthExceeded n
+memory_for_io (Parse m n) = Parse m n
+memory_for_io Unsupported = Unsupported
+memory_for_io (FromUtf8 e) = FromUtf8 e
+memory_for_io (ParseInt e) = ParseInt e
+memory_for_io (Utf8 e) = Utf8 e
+memory_for_io OutOfMemory = OutOfMemory
+memory_for_io Failed = Failed

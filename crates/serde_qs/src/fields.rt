@@ -1,0 +1,151 @@
+//! The fields of a struct, as nested pairs.
+
+ghost use Rattle.std.specs.Prelude.{◌≡◌, ℕ, suc, List, [], ◌++◌, Option, true, false, map, refl, IfOk};
+ghost use Rattle.qs_spec.specs.Data.{Named, Members as Parts};
+ghost use Rattle.qs_spec.specs.Shape.{Field as Spec, are_distinct_fields, fields_of};
+ghost use Rattle.qs_tree.specs.Error.{OnlyOutOfMemory};
+ghost use Rattle.qs_data.specs.Views.{field_of};
+ghost use Rattle.serde_qs.specs.ComesBack.{FieldsComeBack, fields_back, nothing_back};
+ghost use Rattle.serde_qs.specs.Records.{both_true, field_form, first_of, member_data, member_in, members_back, nothing_in, others_of, texts};
+ghost use Rattle.serde_qs.specs.Typed.{Means};
+
+use crate::traits::{Deserialize, RoundTrip, Serialize, unexpected};
+use qs_data::{Data, Field, Result};
+use std::alloc::Global;
+
+/// The fields of a struct, each pair a field and those after it: `(A, (B, (C, ())))`.
+///
+/// It is implemented for such pairs alone; a user names them as [`Record::Fields`](crate::Record::Fields).
+pub trait Fields: Sized {
+    ghost Value: { Type 0 };
+
+    ghost value: { Self → Value };
+
+    // How many there are.
+    ghost count: { ℕ };
+
+    // By the names of the fields: what is read for them, their data, and what members mean for them.
+    ghost form: { List (List ℕ) → List Spec };
+
+    ghost written: { List (List ℕ) → Self → List Named };
+
+    ghost meaning: { List (List ℕ) → Parts → Option Value };
+
+    /// Returns these fields and after them what is read for the fields of these names.
+    fn push_fields(alloc: Global, names: &[&'static str], fields: Vec<Field>) -> Result<Vec<Field>>
+        ensures exact { IfOk result (λ all. map field_of all.items ≡ map field_of fields.items ++ form (texts names.now)) }
+        ensures errors { OnlyOutOfMemory result };
+
+    /// Returns the fields that members mean, of which the last is the first field's.
+    fn from_members(
+        alloc: Global,
+        names: &[&'static str],
+        members: Vec<(String, Data)>,
+    ) -> Result<Self>
+        ensures { Means value result (meaning (texts names.now) (members_back members.items)) };
+
+    // From members that are the same as those of fields which fit, those fields come back.
+    ghost come_back: { FieldsComeBack form written meaning value };
+
+    // No struct or enum in the fields' shapes has a name twice.
+    ghost are_distinct: { (names : List (List ℕ)) → are_distinct_fields (fields_of (form names)) ≡ true };
+}
+
+impl Fields for () {
+    ghost Value = { Unit {0} };
+
+    ghost value = { λ _. tt };
+
+    ghost count = { 0 };
+
+    ghost form = { λ _. [] };
+
+    ghost written = { λ _ _. [] };
+
+    ghost meaning = { λ _ ms. nothing_in ms };
+
+    ghost come_back = { nothing_back };
+
+    ghost are_distinct = { λ _. refl };
+
+    fn push_fields(
+        _alloc: Global,
+        _names: &[&'static str],
+        fields: Vec<Field>,
+    ) -> Result<Vec<Field>> {
+        Ok(fields)
+    }
+
+    fn from_members(
+        alloc: Global,
+        _names: &[&'static str],
+        mut members: Vec<(String, Data)>,
+    ) -> Result<()> {
+        match members.pop() {
+            None => Ok(()),
+            Some(_) => Err(unexpected(alloc, "no further field")),
+        }
+    }
+}
+
+impl<T: RoundTrip + Drop, R: Fields + Drop> Fields for (T, R) {
+    ghost Value = { T.Value × R.Value };
+
+    ghost value = { λ x. (T.value x.0, R.value x.1) };
+
+    ghost count = { suc R.count };
+
+    ghost form = { λ names. field_form T.form false R.form names };
+
+    ghost written = { λ names x. member_data (T.datum x.0) (λ ns. R.written ns x.1) names };
+
+    ghost meaning = { λ names ms. member_in T.meaning R.meaning names ms };
+
+    ghost come_back = { λ names x ms h p. fields_back T.datum T.form T.meaning T.value T.comes_back R.form R.written R.meaning R.value R.come_back names x.0 x.1 ms h p };
+
+    ghost are_distinct = { λ names. both_true T.distinct (R.are_distinct (others_of names)) };
+
+    fn push_fields(
+        alloc: Global,
+        names: &[&'static str],
+        mut fields: Vec<Field>,
+    ) -> Result<Vec<Field>> {
+        let (name, rest) = split(names);
+        let shape = T::shape(alloc)?;
+        let name = String::from_str(alloc, name)?;
+        fields.push(Field {
+            name,
+            shape,
+            optional: false,
+        })?;
+        R::push_fields(alloc, rest, fields)
+    }
+
+    fn from_members(
+        alloc: Global,
+        names: &[&'static str],
+        mut members: Vec<(String, Data)>,
+    ) -> Result<(T, R)> {
+        let (name, rest) = split(names);
+        let Some((found, datum)) = members.pop() else {
+            return Err(unexpected(alloc, "a field"));
+        };
+        if found.as_str() != name {
+            return Err(unexpected(alloc, "another field"));
+        }
+        let first = T::from_data(alloc, datum)?;
+        let others = R::from_members(alloc, rest, members)?;
+        Ok((first, others))
+    }
+}
+
+/// Returns the first name, which is empty where there is none, and the others.
+fn split<'a>(names: &'a [&'static str]) -> (&'static str, &'a [&'static str])
+    ensures first { result.0.now ≡ first_of (texts names.now) }
+    ensures others { texts result.1.now ≡ others_of (texts names.now) }
+{
+    match names {
+        [name, rest @ ..] => (*name, rest),
+        [] => ("", names),
+    }
+}

@@ -1,11 +1,11 @@
-//! Data of 200,000 levels are discarded, and data of 10,000 are compared.
+//! Data of 200,000 levels are discarded, and data of 2,000 are compared.
 
 use crate::build::Build;
 use serde_qs::Data;
 use std::process::Abort;
 
 // What is compared is compared by calls, level by level.
-const COMPARED: usize = 10_000;
+const COMPARED: usize = 2_000;
 
 const DISCARDED: usize = 200_000;
 

@@ -6,9 +6,9 @@ use Rattle.qs_spec.specs.Data as d
 use Rattle.qs_spec.specs.Data.{Data}
 use Rattle.qs_spec.specs.Shape as s
 use Rattle.qs_spec.specs.Shape.{Shape}
+use Rattle.qs_spec.specs.Same.{Same}
 use Rattle.serde_qs.specs.Meaning.{text_in}
 use Rattle.serde_qs.specs.ComesBack.{ComesBack}
-use Rattle.serde_qs.specs.Same.Same.{same_unit_variant, same_newtype_variant, same_text}
 use Rattle.qs_callers.specs.declared.sort.Sort.{Sort}
 use Rattle.qs_callers.specs.declared.sort.Sort.TheVariants.{Relevance, By}
 
@@ -33,5 +33,5 @@ sort_in (d.newtype_variant name x) = if bytes_eq name (codes "By") then option_m
 sort_in _ = None
 
 pub sort_back : ComesBack sort_data sort_form sort_in sort_value
-sort_back Relevance _ h same_unit_variant = refl
-sort_back (By name) _ h (same_newtype_variant same_text) = refl
+sort_back Relevance _ h Same.unit_variant = refl
+sort_back (By name) _ h (Same.newtype_variant Same.text) = refl

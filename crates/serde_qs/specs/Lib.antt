@@ -1,4 +1,3 @@
-pub mod Same
 pub mod Fits
 pub mod Meaning
 pub mod Maps

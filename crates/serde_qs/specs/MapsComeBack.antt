@@ -19,11 +19,7 @@ use Rattle.serde_qs.specs.ComesBack.{ComesBack}
 use Rattle.serde_qs.specs.Fits.{fits, fit_pairs}
 use Rattle.serde_qs.specs.Maps.{entry_data, values_by_text, nowhere, put_value, pairs_onto, mapping_in}
 use Rattle.serde_qs.specs.Meaning.{both_hold}
-use Rattle.serde_qs.specs.Same.{Same, SamePairs, IsAbsent, IsTaken}
-use Rattle.serde_qs.specs.Same.Same.{same_mapping}
-use Rattle.serde_qs.specs.Same.SamePairs.{same_no_pairs, same_pair}
-use Rattle.serde_qs.specs.Same.IsAbsent.{absent_end, absent_more}
-use Rattle.serde_qs.specs.Same.IsTaken.{taken_first, taken_later}
+use Rattle.qs_spec.specs.Same.{Same, SamePairs, IsNoKey, KeysDiffer, IsWith}
 
 abbrev Entries : Type 0 → Type 0
 Entries A = List (String Global × A)
@@ -71,10 +67,22 @@ later_onto m k v (d.newtype_variant t e) x ps qs n rest f = refl
 later_onto m k v (d.tuple_variant t es) x ps qs n rest f = refl
 later_onto m k v (d.struct_variant t es) x ps qs n rest f = refl
 
-taken_onto : {V : Type 0} (m : Data → Option V) (k : List ℕ) (e : Data) (v : V) → m e ≡ Some v → {rs qs : Pairs} → IsTaken (d.text k) e rs qs
-    → (f : List ℕ → Option V) → pairs_onto m f rs ≡ pairs_onto m (put_value k v f) qs
-taken_onto m k e v h (taken_first {ps} a) f = ap (λ r. option_and_then (λ g. pairs_onto m g ps) (option_map (λ w. put_value k w f) r)) h
-taken_onto m k e v h (taken_later {l} {f = x} {ps} {qs} n t) f = later_onto m k v l x ps qs n (taken_onto m k e v h t) f
+other_key : {k e l : Data} {qs rest : Pairs} → IsWith k e qs rest → IsNoKey l qs → k ≡ l → ⊥
+other_key IsWith.here n p = n.0 (sym p)
+other_key (IsWith.later w) n p = other_key w n.1 p
+
+no_key_left : (l : Data) {k e : Data} {qs rest : Pairs} → IsWith k e qs rest → IsNoKey l qs → IsNoKey l rest
+no_key_left l IsWith.here n = n.1
+no_key_left l (IsWith.later w) n = (n.0, no_key_left l w n.1)
+
+differ_left : {k e : Data} {qs rest : Pairs} → IsWith k e qs rest → KeysDiffer qs → KeysDiffer rest
+differ_left IsWith.here n = n.1
+differ_left (IsWith.later {j} w) n = (no_key_left j w n.0, differ_left w n.1)
+
+taken_onto : {V : Type 0} (m : Data → Option V) (k : List ℕ) (e : Data) (v : V) → m e ≡ Some v → {qs rest : Pairs} → IsWith (d.text k) e qs rest → KeysDiffer qs
+    → (f : List ℕ → Option V) → pairs_onto m f qs ≡ pairs_onto m (put_value k v f) rest
+taken_onto m k e v h (IsWith.here {ps}) n f = ap (λ r. option_and_then (λ g. pairs_onto m g ps) (option_map (λ w. put_value k w f) r)) h
+taken_onto m k e v h (IsWith.later {j} {e = x} {ps} {qs} w) n f = later_onto m k v j x ps qs (other_key w n.0) (taken_onto m k e v h w n.1) f
 
 -- the values of entries, put one after another
 
@@ -83,15 +91,15 @@ over value [] f = f
 over value (x ∷ es) f = over value es (put_value (string_bytes x.0) (value x.1) f)
 
 pairs_back : {A V : Type 0} (datum : A → Data) (s : Shape) (meaning : Data → Option V) (value : A → V) → ComesBack datum s meaning value
-    → (es : Entries A) (qs : Pairs) (f : List ℕ → Option V) → fit_pairs KeyShape.text (fits s) (pairs_for datum es) ≡ true → SamePairs (pairs_for datum es) qs
+    → (es : Entries A) (qs : Pairs) (f : List ℕ → Option V) → fit_pairs KeyShape.text (fits s) (pairs_for datum es) ≡ true → KeysDiffer qs → SamePairs (pairs_for datum es) qs
     → pairs_onto meaning f qs ≡ Some (over value es f)
-pairs_back datum s meaning value back [] _ f h same_no_pairs = refl
-pairs_back datum s meaning value back (x ∷ es) rs f h (same_pair {k} {d = c} {e} {ps} {qs} a t p more) =
+pairs_back datum s meaning value back [] _ f h n SamePairs.pairs_end = refl
+pairs_back datum s meaning value back (x ∷ es) qs f h n (SamePairs.pairs_more {k} {d = c} {e} {ps} {rest} p w more) =
     let fit_rest = fit_pairs KeyShape.text (fits s) (pairs_for datum es) in
     let parts = both_hold (is_utf8 (string_bytes x.0)) (fits s (datum x.1) && fit_rest) h in
     let inner = both_hold (fits s (datum x.1)) fit_rest parts.1 in
-    taken_onto meaning (string_bytes x.0) e (value x.1) (back x.1 e inner.0 p) t f
-    ∙ pairs_back datum s meaning value back es qs (put_value (string_bytes x.0) (value x.1) f) inner.1 more
+    taken_onto meaning (string_bytes x.0) e (value x.1) (back x.1 e inner.0 p) w n f
+    ∙ pairs_back datum s meaning value back es rest (put_value (string_bytes x.0) (value x.1) f) inner.1 (differ_left w n) more
 
 -- where keys differ, those are what a look-up finds
 
@@ -109,11 +117,11 @@ found t es = lookup (is_at (λ k. slice_cmp nat_cmp t (string_bytes k))) es
 differing : (a b : List ℕ) → (a ≡ b → ⊥) → bytes_eq a b ≡ false
 differing a b n = ⊎_elim (λ y. absurd (n ((bytes_eq-Decides a b).0 y))) (λ f. f) (cases_Bool (bytes_eq a b))
 
-none_found : {A : Type 0} (datum : A → Data) (k : List ℕ) (es : Entries A) → IsAbsent (d.text k) (pairs_for datum es) → found k es ≡ None
-none_found datum k [] absent_end = refl
-none_found datum k (x ∷ es) (absent_more n a) =
-    cond-false (is_eq (slice_cmp nat_cmp k (string_bytes x.0))) (Some x.1) (found k es) (is_eq-slice_cmp k (string_bytes x.0) ∙ differing k (string_bytes x.0) (λ e. n (ap d.text e)))
-    ∙ none_found datum k es a
+none_found : {A : Type 0} (datum : A → Data) (k : List ℕ) (es : Entries A) → IsNoKey (d.text k) (pairs_for datum es) → found k es ≡ None
+none_found datum k [] n = refl
+none_found datum k (x ∷ es) n =
+    cond-false (is_eq (slice_cmp nat_cmp k (string_bytes x.0))) (Some x.1) (found k es) (is_eq-slice_cmp k (string_bytes x.0) ∙ differing k (string_bytes x.0) (λ e. n.0 (ap d.text e)))
+    ∙ none_found datum k es n.1
 
 same_test : (a b : List ℕ) → bytes_eq a b ≡ is_eq (slice_cmp nat_cmp b a)
 same_test a b =
@@ -127,18 +135,18 @@ one_more : {A V : Type 0} (value : A → V) (b : Bool) (a : A) (r : Option A) (o
 one_more value true a r o n = ap (λ q. or_else (option_map value q) (Some (value a))) (n refl)
 one_more value false a r o n = refl
 
-over_is_found : {A V : Type 0} (datum : A → Data) (value : A → V) (es : Entries A) (qs : Pairs) → SamePairs (pairs_for datum es) qs → (f : List ℕ → Option V) (t : List ℕ)
+over_is_found : {A V : Type 0} (datum : A → Data) (value : A → V) (es : Entries A) → KeysDiffer (pairs_for datum es) → (f : List ℕ → Option V) (t : List ℕ)
     → over value es f t ≡ or_else (option_map value (found t es)) (f t)
-over_is_found datum value [] _ same_no_pairs f t = refl
-over_is_found datum value (x ∷ es) rs (same_pair {k} {d = c} {e} {ps} {qs} a taken p more) f t =
+over_is_found datum value [] n f t = refl
+over_is_found datum value (x ∷ es) n f t =
     let key = string_bytes x.0 in
-    over_is_found datum value es qs more (put_value key (value x.1) f) t
-    ∙ one_more value (bytes_eq key t) x.1 (found t es) (f t) (λ y. subst (λ u. found u es ≡ None) ((bytes_eq-Decides key t).0 y) (none_found datum key es a))
+    over_is_found datum value es n.1 (put_value key (value x.1) f) t
+    ∙ one_more value (bytes_eq key t) x.1 (found t es) (f t) (λ y. subst (λ u. found u es ≡ None) ((bytes_eq-Decides key t).0 y) (none_found datum key es n.0))
     ∙ ap (λ b. or_else (option_map value (cond b (Some x.1) (found t es))) (f t)) (same_test key t)
 
 pub mapping_back : {A V : Type 0} (datum : A → Data) (s : Shape) (meaning : Data → Option V) (value : A → V) → ComesBack datum s meaning value
     → (m : BTreeMap (String Global) A) (e : Data) → fit_pairs KeyShape.text (fits s) (pairs_for datum m.entries) ≡ true → Same (d.mapping (pairs_for datum m.entries)) e
     → mapping_in meaning e ≡ Some (values_by_text value m)
-mapping_back datum s meaning value back m _ h (same_mapping {ps} {qs} p) =
-    pairs_back datum s meaning value back m.entries qs nowhere h p
-    ∙ ap Some (fun_ext (λ t. over_is_found datum value m.entries qs p nowhere t ∙ or_none (option_map value (found t m.entries))))
+mapping_back datum s meaning value back m _ h (Same.mapping {ps} {qs} k l p) =
+    pairs_back datum s meaning value back m.entries qs nowhere h l p
+    ∙ ap Some (fun_ext (λ t. over_is_found datum value m.entries k nowhere t ∙ or_none (option_map value (found t m.entries))))

@@ -8,7 +8,7 @@ use Rattle.qs_spec.specs.Shape.{Shape}
 use Rattle.qs_spec.specs.Data.{Data}
 use Rattle.qs_spec.specs.Tree.{Tree, IsTree, IsRefused}
 use Rattle.qs_spec.specs.Read.{read_by}
-use Rattle.serde_qs.specs.Same.{Same}
+use Rattle.qs_spec.specs.Same.{Same}
 
 -- Seen by view, the answer is the value that the data mean; a fault comes exactly where they mean none, and any other error is want
 -- of memory.

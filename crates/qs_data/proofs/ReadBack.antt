@@ -1,6 +1,7 @@
 -- A reader answers data that are those of which the input was written.
 use Rattle.std.proofs.Common.{◌≡◌, true, false, Bool, inl, inr, List, Result, Ok, Err, Some, None, sym, ap, ◌∙◌, subst}
 use Rattle.std.proofs.lemmas.Option.{none-some, same_Some}
+use Rattle.qs_spec.specs.Config.{Config}
 use Rattle.qs_spec.specs.Data as d
 use Rattle.qs_spec.specs.Shape as s
 use Rattle.qs_spec.specs.Read.{read_by}
@@ -18,13 +19,13 @@ use Rattle.qs_data.specs.Parsed.{Parsed, reading}
 use Rattle.qs_data.specs.Gives.{Gives, Refuses}
 use Rattle.qs_data.specs.ReadBack.{IsOrder, IsSame, ReadsBack}
 
-whole : (parsed : Parsed) (shape : s.Shape) (x : d.Data) (es : List Entry) → s.is_distinct shape ≡ true → IsPlainFor parsed.config shape x → IsOrder parsed.config x es → IsReadBack parsed.config shape x (written parsed.config.form false es)
-whole parsed shape x es dist w (inl o) = back.read_back parsed.config shape x es o.0 dist w o.1
-whole parsed shape x es dist w (inr o) = back.lists_back parsed.config shape x es dist w o.0 o.1
+pub in_order : (config : Config) (shape : s.Shape) (x : d.Data) (es : List Entry) → s.is_distinct shape ≡ true → IsPlainFor config shape x → IsOrder config x es → IsReadBack config shape x (written config.form false es)
+in_order config shape x es dist w (inl o) = back.read_back config shape x es o.0 dist w o.1
+in_order config shape x es dist w (inr o) = back.lists_back config shape x es dist w o.0 o.1
 
 pub reads_back : (parsed : Parsed) (shape : s.Shape) (all_text : Bool) (result : Result Data Error) → s.is_distinct shape ≡ true → Gives data_of all_text result (reading parsed shape) → ReadsBack parsed shape result
 reads_back parsed shape all_text result dist g x es w o t =
-    let b = whole parsed shape x es dist w o in
+    let b = in_order parsed.config shape x es dist w o in
     let one : b.tree ≡ parsed.tree = one_tree parsed.config.form parsed.config.max_depth (written parsed.config.form false es) b.tree parsed.tree b.is_tree t in
     let r : reading parsed shape ≡ Some b.answer = ap (read_by parsed.config shape) (sym one) ∙ b.reads in
     by b.answer b.same r result g

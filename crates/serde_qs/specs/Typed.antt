@@ -1,5 +1,5 @@
 -- What calls answer.
-use Rattle.std.specs.Prelude.{◌≡◌, true, ℕ, List, ⊤, option_and_then, Result, Ok, Err, Option, Some, None}
+use Rattle.std.specs.Prelude.{◌≡◌, true, false, ℕ, List, ⊤, option_and_then, Result, Ok, Err, Option, Some, None}
 use Rattle.qs_tree.specs.declared.error.Error.{Error}
 use Rattle.qs_data.specs.Gives.{Gives}
 use Rattle.qs_tree.specs.declared.error.Error.TheVariants.{Custom, Parse, Utf8, OutOfMemory}
@@ -8,6 +8,10 @@ use Rattle.qs_spec.specs.Shape.{Shape}
 use Rattle.qs_spec.specs.Data.{Data}
 use Rattle.qs_spec.specs.Tree.{Tree, IsTree, IsRefused}
 use Rattle.qs_spec.specs.Read.{read_by}
+use Rattle.qs_spec.specs.Entry.{Entry}
+use Rattle.qs_spec.specs.Written.{written}
+use Rattle.qs_spec.specs.ReadBack.{IsPlainFor}
+use Rattle.qs_data.specs.ReadBack.{IsOrder}
 use Rattle.qs_spec.specs.Same.{Same}
 
 -- Seen by view, the answer is the value that the data mean; a fault comes exactly where they mean none, and any other error is want
@@ -38,6 +42,19 @@ ReturnsValue view config form meaning input (Err (Utf8 m)) = IsUnread config for
 ReturnsValue view config form meaning input (Err (Parse m n)) = IsRefused config.form config.max_depth input
 ReturnsValue view config form meaning input (Err OutOfMemory) = ⊤
 ReturnsValue view config form meaning input (Err _) = ⊥
+
+-- data that are the same as these, but for the order of maps, mean the value, or mean none and the answer is a fault; or memory ran
+-- out
+abbrev pub ReturnsSame : {X V : Type 0} → (X → V) → (Data → Option V) → Data → Result X Error → Type 0
+ReturnsSame view meaning x (Ok y) = (e : Data) × Same x e × (meaning e ≡ Some (view y))
+ReturnsSame view meaning x (Err (Custom m)) = (e : Data) × Same x e × (meaning e ≡ None)
+ReturnsSame view meaning x (Err (Utf8 m)) = (e : Data) × Same x e × (meaning e ≡ None)
+ReturnsSame view meaning x (Err OutOfMemory) = ⊤
+ReturnsSame view meaning x (Err _) = ⊥
+
+-- what a typed call answers to an input that was written of plain data which fit, from their entries in any order
+pub record ReturnsWritten {X V : Type 0} (view : X → V) (config : Config) (form : Shape) (meaning : Data → Option V) (input : List ℕ) (result : Result X Error) : Type 0 where
+  pub returns : (x : Data) (es : List Entry) → IsPlainFor config form x → IsOrder config x es → input ≡ written config.form false es → ReturnsSame view meaning x result
 
 -- the input has a tree, from which the form reads data that are the same as these, but for the order of maps
 pub record IsReadBack (config : Config) (form : Shape) (x : Data) (input : List ℕ) : Type 0 where

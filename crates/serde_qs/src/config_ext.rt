@@ -1,7 +1,7 @@
 //! Typed calls under a configuration.
 
 ghost use Rattle.qs_spec.specs.Config.{Config as Settings};
-ghost use Rattle.serde_qs.specs.Typed.{ReturnsValue};
+ghost use Rattle.serde_qs.specs.Typed.{ReturnsValue, ReturnsWritten};
 ghost use Rattle.serde_qs.specs.WrittenText.{ReturnsText, WritesValue};
 
 use crate::reading::read_typed;
@@ -28,7 +28,8 @@ pub trait ConfigExt {
     /// let query: Query = Config::new().deserialize_bytes(alloc, b"name=Alice&age=24")?;
     /// ```
     fn deserialize_bytes<T: Deserialize>(self, alloc: Global, input: &[u8]) -> Result<T>
-        ensures { ReturnsValue T.value (settings self) T.form T.meaning input.now result };
+        ensures exact { ReturnsValue T.value (settings self) T.form T.meaning input.now result }
+        ensures back { ReturnsWritten T.value (settings self) T.form T.meaning input.now result };
 
     /// Returns the value that a querystring stands for. The errors are those of [`from_str`](crate::from_str).
     ///
@@ -36,7 +37,8 @@ pub trait ConfigExt {
     /// let query: Query = Config::new().deserialize_str(alloc, "name=Alice&age=24")?;
     /// ```
     fn deserialize_str<T: Deserialize>(self, alloc: Global, input: &str) -> Result<T>
-        ensures { ReturnsValue T.value (settings self) T.form T.meaning input.now result };
+        ensures exact { ReturnsValue T.value (settings self) T.form T.meaning input.now result }
+        ensures back { ReturnsWritten T.value (settings self) T.form T.meaning input.now result };
 
     /// Returns the querystring of a value. The errors are those of [`to_string`](crate::to_string).
     ///

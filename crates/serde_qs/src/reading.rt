@@ -9,7 +9,7 @@ ghost use Rattle.qs_data.specs.Gives.{Gives, OnlyCustomUtf8OrOutOfMemory};
 ghost use Rattle.qs_data.specs.Parsed.{parsed_of, reading};
 ghost use Rattle.qs_data.specs.Text.{is_text};
 ghost use Rattle.qs_data.specs.Views.{data_of, shape_of};
-ghost use Rattle.serde_qs.specs.Typed.{ReturnsValue};
+ghost use Rattle.serde_qs.specs.Typed.{ReturnsValue, ReturnsWritten};
 
 use crate::traits::Deserialize;
 use qs_data::{Config, Data, Deserializer, Result, Shape};
@@ -23,7 +23,8 @@ use std::alloc::Global;
 ///
 /// The errors are those of [`from_str`].
 pub fn from_bytes<T: Deserialize>(alloc: Global, input: &[u8]) -> Result<T>
-    ensures { ReturnsValue T.value default T.form T.meaning input.now result }
+    ensures exact { ReturnsValue T.value default T.form T.meaning input.now result }
+    ensures back { ReturnsWritten T.value default T.form T.meaning input.now result }
 {
     read_typed(alloc, Config::new(), input)
 }
@@ -45,7 +46,8 @@ pub fn from_bytes<T: Deserialize>(alloc: Global, input: &[u8]) -> Result<T>
 /// Each of the first two comes exactly where it is said to, and there is no other. The type's shape is made anew:
 /// [`read_by`] takes one that is kept.
 pub fn from_str<T: Deserialize>(alloc: Global, input: &str) -> Result<T>
-    ensures { ReturnsValue T.value default T.form T.meaning input.now result }
+    ensures exact { ReturnsValue T.value default T.form T.meaning input.now result }
+    ensures back { ReturnsWritten T.value default T.form T.meaning input.now result }
 {
     read_typed(alloc, Config::new(), input.as_bytes())
 }
@@ -59,6 +61,20 @@ pub fn from_str<T: Deserialize>(alloc: Global, input: &str) -> Result<T>
 ///
 /// The errors are those of [`from_str`], with this configuration in place of the default one.
 pub fn read_by<T: Deserialize>(
+    alloc: Global,
+    config: Config,
+    shape: &Shape,
+    input: &[u8],
+) -> Result<T>
+    requires { shape_of shape.now ≡ T.form }
+    ensures exact { ReturnsValue T.value config T.form T.meaning input.now result }
+    ensures back { ReturnsWritten T.value config T.form T.meaning input.now result }
+{
+    read_value(alloc, config, shape, input)
+}
+
+// The value that a querystring stands for.
+fn read_value<T: Deserialize>(
     alloc: Global,
     config: Config,
     shape: &Shape,
@@ -93,7 +109,8 @@ fn read_data(alloc: Global, deserializer: Deserializer<'_>, shape: &Shape) -> Re
 
 /// Returns the value that a querystring stands for under a configuration, by a shape that is made here.
 pub(crate) fn read_typed<T: Deserialize>(alloc: Global, config: Config, input: &[u8]) -> Result<T>
-    ensures { ReturnsValue T.value config T.form T.meaning input.now result }
+    ensures exact { ReturnsValue T.value config T.form T.meaning input.now result }
+    ensures back { ReturnsWritten T.value config T.form T.meaning input.now result }
 {
     let shape = T::shape(alloc)?;
     read_by(alloc, config, &shape, input)

@@ -84,26 +84,36 @@ fn written(rt: HostRuntime) {
     assert_eq!(&rt; written.as_slice(), text(b, &ENTRIES).as_bytes());
 }
 
+fn rotation(places: usize) -> [&'static str; 10] {
+    let mut entries = ENTRIES;
+    entries.rotate_left(places);
+    entries
+}
+
 #[test]
 fn rotated(rt: HostRuntime) {
     let t = Rows::new(&rt, rt.alloc());
-    let mut entries = ENTRIES;
-    for _ in 0..entries.len() {
-        entries.rotate_left(1);
-        reads_back(&t, &entries);
+    for places in 0..ENTRIES.len() {
+        reads_back(&t, &rotation(places));
     }
+}
+
+fn reverse() -> [&'static str; 10] {
+    let mut entries = ENTRIES;
+    entries.reverse();
+    entries
 }
 
 #[test]
 fn reversed(rt: HostRuntime) {
     let t = Rows::new(&rt, rt.alloc());
-    let mut entries = ENTRIES;
-    entries.reverse();
-    reads_back(&t, &entries);
+    reads_back(&t, &reverse());
 }
 
-/// Changes the entries' order by pseudo-random numbers after `state`, and returns the last of them.
-fn shuffle(entries: &mut [&'static str], mut state: u64) -> u64 {
+/// The entries in an order by pseudo-random numbers.
+fn shuffle(seed: u64) -> [&'static str; 10] {
+    let mut entries = ENTRIES;
+    let mut state = seed;
     for place in 0..entries.len() {
         state = state
             .wrapping_mul(6_364_136_223_846_793_005)
@@ -111,16 +121,13 @@ fn shuffle(entries: &mut [&'static str], mut state: u64) -> u64 {
         let other = (state >> 33) as usize % entries.len();
         entries.swap(place, other);
     }
-    state
+    entries
 }
 
 #[test]
 fn shuffled(rt: HostRuntime) {
     let t = Rows::new(&rt, rt.alloc());
-    let mut entries = ENTRIES;
-    let mut state: u64 = 20_261_124;
-    for _ in 0..100 {
-        state = shuffle(&mut entries, state);
-        reads_back(&t, &entries);
+    for seed in 0..100 {
+        reads_back(&t, &shuffle(seed));
     }
 }

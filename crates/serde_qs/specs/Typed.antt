@@ -55,11 +55,3 @@ ReturnsSame view meaning x (Err _) = ⊥
 -- what a typed call answers to an input that was written of plain data which fit, from their entries in any order
 pub record ReturnsWritten {X V : Type 0} (view : X → V) (config : Config) (form : Shape) (meaning : Data → Option V) (input : List ℕ) (result : Result X Error) : Type 0 where
   pub returns : (x : Data) (es : List Entry) → IsPlainFor config form x → IsOrder config x es → input ≡ written config.form false es → ReturnsSame view meaning x result
-
--- the input has a tree, from which the form reads data that are the same as these, but for the order of maps
-pub record IsReadBack (config : Config) (form : Shape) (x : Data) (input : List ℕ) : Type 0 where
-  pub tree : Tree
-  pub datum : Data
-  pub has_tree : IsTree config.form config.max_depth input tree
-  pub is_read : read_by config form tree ≡ Some datum
-  pub is_same : Same x datum

@@ -1,14 +1,22 @@
 //! Values that come back from what was written of them.
 
-ghost use Rattle.std.specs.Prelude.{◌≡◌, List, ℕ};
+ghost use Rattle.std.specs.Prelude.{List, false};
 ghost use Rattle.qs_spec.specs.Config.{Config as Settings};
-ghost use Rattle.serde_qs.specs.Typed.{IsRead, IsReadBack};
+ghost use Rattle.qs_spec.specs.Entry.{Entry};
+ghost use Rattle.qs_spec.specs.ReadBack.{IsPlainFor};
+ghost use Rattle.qs_spec.specs.Written.{written};
+ghost use Rattle.qs_data.specs.ReadBack.{IsOrder};
+ghost use Rattle.serde_qs.specs.Typed.{IsRead};
 
 use crate::traits::RoundTrip;
 
-/// From an input that is read back as the data of a value, but for the order of maps, comes that value.
+/// The entries of a value whose data are plain and within the depth limit stand for that value: in the indexed format in any
+/// order, and where lists hold scalars, in every format, in an order that keeps entries with one path in theirs.
+///
+/// The law calls [`fits`](RoundTrip::fits) and does nothing else.
 pub fn value_comes_back<T: RoundTrip>(value: &T)
-    ensures { (config : Settings) (input : List ℕ) → IsReadBack config T.form (T.datum value.now) input → IsRead config T.form T.meaning input (T.value value.now) }
+    ensures { (config : Settings) (es : List Entry) → IsPlainFor config T.form (T.datum value.now) → IsOrder config (T.datum value.now) es
+        → IsRead config T.form T.meaning (written config.form false es) (T.value value.now) }
 {
     value.fits();
 }

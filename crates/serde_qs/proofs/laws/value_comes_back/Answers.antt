@@ -1,10 +1,11 @@
+use Rattle.qs_data.proofs.ReadBack.{in_order}
 use Rattle.serde_qs.proofs.laws.value_comes_back.Goals as goal
 
 pub returns : goal.returns
-returns g c = λ config input b. record {
+returns g c = λ config es plain o. let b = in_order config g.T.RoundTrip.Deserialize.form (g.T.RoundTrip.Serialize.datum c.args.value.now) es g.met.T.RoundTrip.Deserialize.distinct plain o in record {
   tree = b.tree;
-  datum = b.datum;
-  has_tree = b.has_tree;
-  is_read = b.is_read;
-  is_meant = g.met.T.RoundTrip.comes_back c.args.value.now b.datum c.fits.ensures b.is_same;
+  datum = b.answer;
+  has_tree = b.is_tree;
+  is_read = b.reads;
+  is_meant = g.met.T.RoundTrip.comes_back c.args.value.now b.answer c.fits.ensures b.same;
 }

@@ -1,21 +1,18 @@
 -- A typed call answers what written data mean.
-use Rattle.std.proofs.Common.{◌≡◌, true, List, ℕ, Result, Ok, Err, Option, Some, None, option_and_then, sym, ap, ◌∙◌, subst}
+use Rattle.std.proofs.Common.{◌≡◌, true, List, ℕ, Result, Ok, Err, Option, Some, option_and_then, sym, ap, ◌∙◌, subst}
 use Rattle.std.proofs.lemmas.Option.{same_Some}
 use Rattle.qs_spec.specs.Config.{Config}
 use Rattle.qs_spec.specs.Data.{Data}
 use Rattle.qs_spec.specs.Shape.{Shape, is_distinct}
 use Rattle.qs_spec.specs.Tree.{Tree, IsTree}
 use Rattle.qs_spec.specs.Read.{read_by}
-use Rattle.qs_spec.specs.Entry.{Entry}
-use Rattle.qs_spec.specs.Written.{written}
-use Rattle.qs_spec.specs.ReadBack.{IsPlainFor, IsReadBack}
+use Rattle.qs_spec.specs.ReadBack.{IsReadBack}
 use Rattle.qs_spec.specs.Same.{Same}
 use Rattle.qs_spec.proofs.TreeOf.{one_tree}
 use Rattle.qs_tree.specs.declared.error.Error.{Error}
 use Rattle.qs_tree.specs.declared.error.Error.TheVariants.{Custom, Parse, Utf8, OutOfMemory}
-use Rattle.qs_data.specs.ReadBack.{IsOrder}
 use Rattle.qs_data.proofs.ReadBack.{in_order}
-use Rattle.serde_qs.specs.Typed.{IsRead, IsUnread, ReturnsValue, ReturnsSame, ReturnsWritten}
+use Rattle.serde_qs.specs.Typed.{ReturnsValue, ReturnsSame, ReturnsWritten}
 
 -- every tree of the input gives the data that are read back
 from_tree : (config : Config) (form : Shape) (x : Data) (input : List ℕ) (b : IsReadBack config form x input) (t : Tree) → IsTree config.form config.max_depth input t

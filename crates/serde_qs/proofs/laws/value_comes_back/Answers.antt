@@ -2,7 +2,7 @@ use Rattle.qs_data.proofs.ReadBack.{in_order}
 use Rattle.serde_qs.proofs.laws.value_comes_back.Goals as goal
 
 pub returns : goal.returns
-returns g c = λ config es plain o. let b = in_order config g.T.RoundTrip.Deserialize.form (g.T.RoundTrip.Serialize.datum c.args.value.now) es g.met.T.RoundTrip.Deserialize.distinct plain o in record {
+returns g c = λ config es plain o. let b = in_order config g.T.Deserialize.form (g.T.Serialize.datum c.args.value.now) es g.met.T.Deserialize.distinct plain o in record {
   tree = b.tree;
   datum = b.answer;
   has_tree = b.is_tree;

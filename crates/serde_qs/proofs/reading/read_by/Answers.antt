@@ -1,4 +1,3 @@
-use Rattle.std.specs.Prelude.{List, ℕ}
 use Rattle.serde_qs.proofs.WrittenRead.{returns_written}
 use Rattle.serde_qs.proofs.reading.read_by.Goals as goal
 

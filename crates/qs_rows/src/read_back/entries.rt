@@ -70,11 +70,6 @@ fn text<R: Abort>(b: &Build<'_, R>, places: &[usize]) -> String {
     text
 }
 
-fn reads_back<R: Abort>(t: &Rows<'_, R>, places: &[usize]) {
-    let b = &t.build;
-    t.reads(&text(b, places), &shape(b), data(b));
-}
-
 #[test]
 fn written(rt: HostRuntime) {
     let t = Rows::new(&rt, rt.alloc());
@@ -96,17 +91,20 @@ fn rotated_once(mut places: [usize; 10]) -> [usize; 10] {
 #[test]
 fn rotated(rt: HostRuntime) {
     let t = Rows::new(&rt, rt.alloc());
+    let b = &t.build;
     let mut places = IN_ORDER;
     for _ in 0..10 {
         places = rotated_once(places);
-        reads_back(&t, &places);
+        t.reads(&text(b, &places), &shape(b), data(b));
     }
 }
 
 #[test]
 fn reversed(rt: HostRuntime) {
     let t = Rows::new(&rt, rt.alloc());
-    reads_back(&t, &[9, 8, 7, 6, 5, 4, 3, 2, 1, 0]);
+    let b = &t.build;
+    let places = [9, 8, 7, 6, 5, 4, 3, 2, 1, 0];
+    t.reads(&text(b, &places), &shape(b), data(b));
 }
 
 /// The places in an order by pseudo-random numbers.
@@ -126,7 +124,8 @@ fn shuffle(seed: u64) -> [usize; 10] {
 #[test]
 fn shuffled(rt: HostRuntime) {
     let t = Rows::new(&rt, rt.alloc());
+    let b = &t.build;
     for seed in 0..100 {
-        reads_back(&t, &shuffle(seed));
+        t.reads(&text(b, &shuffle(seed)), &shape(b), data(b));
     }
 }

@@ -2,6 +2,7 @@
 
 mod reading;
 mod round_trips;
+mod web;
 mod writing;
 
 use serde_qs::{Error, Result};

@@ -8,3 +8,4 @@ pub mod ComesBack
 pub mod MapsComeBack
 pub mod Typed
 pub mod WrittenText
+pub mod Wrappers

@@ -70,6 +70,7 @@ mod scalars;
 mod signed;
 mod traits;
 mod unsigned;
+pub mod web;
 mod writing;
 
 pub use config_ext::ConfigExt;

@@ -1,4 +1,7 @@
 pub mod Levels
+pub mod NumberItems
+pub mod NumberLists
 pub mod PairsPut
+pub mod Pieces
 pub mod Steps
 pub mod WriteErrors

@@ -9,3 +9,4 @@ pub mod MapsComeBack
 pub mod Typed
 pub mod WrittenText
 pub mod Wrappers
+pub mod Items

@@ -58,6 +58,7 @@
 
 mod config_ext;
 mod fields;
+pub mod helpers;
 mod laws;
 mod lent;
 mod lists;

@@ -9,6 +9,8 @@ mod search;
 mod sort;
 #[cfg(test)]
 mod tests;
+mod values;
+mod wrappers;
 
 pub use account::Account;
 pub use calls::{asked, rewritten, sorted};
@@ -16,3 +18,9 @@ pub use pair::Pair;
 pub use query::Query;
 pub use search::Search;
 pub use sort::Sort;
+pub use values::Values;
+pub use wrappers::{
+    copied_form, copied_query, form_inside, is_same_form, is_same_query, order_of_forms,
+    order_of_queries, partial_order_of_forms, partial_order_of_queries, query_inside, set_form,
+    set_query,
+};

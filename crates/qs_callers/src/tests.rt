@@ -1,7 +1,9 @@
 //! Each call once, rejected inputs, and values that come back.
 
+mod helpers;
 mod reading;
 mod round_trips;
+mod web;
 mod writing;
 
 use serde_qs::{Error, Result};

@@ -1,5 +1,8 @@
 pub mod Levels
+pub mod NumberItems
+pub mod NumberLists
 pub mod PairsPut
+pub mod Pieces
 pub mod Steps
 pub mod WriteErrors
 pub mod WrittenRead

@@ -7,3 +7,5 @@ pub mod ComesBack
 pub mod MapsComeBack
 pub mod Typed
 pub mod WrittenText
+pub mod Wrappers
+pub mod Items

@@ -58,6 +58,7 @@
 
 mod config_ext;
 mod fields;
+pub mod helpers;
 mod laws;
 mod lent;
 mod lists;
@@ -70,6 +71,7 @@ mod scalars;
 mod signed;
 mod traits;
 mod unsigned;
+pub mod web;
 mod writing;
 
 pub use config_ext::ConfigExt;

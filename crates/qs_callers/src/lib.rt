@@ -1,9 +1,10 @@
-//! Callers of serde_qs: users' structs, an enum, and calls with them.
+//! Callers of serde_qs: users' structs and enums, and calls with them.
 #![tactic(auto)]
 
 mod account;
 mod calls;
 mod pair;
+mod price;
 mod query;
 mod search;
 mod sort;
@@ -13,6 +14,7 @@ mod tests;
 pub use account::Account;
 pub use calls::{asked, rewritten, sorted};
 pub use pair::Pair;
+pub use price::Price;
 pub use query::Query;
 pub use search::Search;
 pub use sort::Sort;

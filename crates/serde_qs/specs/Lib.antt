@@ -6,5 +6,7 @@ pub mod Records
 pub mod Members
 pub mod ComesBack
 pub mod MapsComeBack
+pub mod Variants
+pub mod Compound
 pub mod Typed
 pub mod WrittenText

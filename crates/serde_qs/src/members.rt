@@ -1,4 +1,4 @@
-//! The members of a struct that is written.
+//! The members of a struct that is written, and the variants of an enum.
 
 ghost use Rattle.std.specs.Prelude.{◌≡◌, [], ◌∷◌, ◌++◌, IfOk, string_bytes};
 ghost use Rattle.qs_spec.specs.Data as d;
@@ -52,6 +52,20 @@ impl Members {
         Data::Struct(self.members)
     }
 
+    /// Returns the variant of this name with these members, for [`Compound::written`](crate::Compound::written). The one error
+    /// is [`OutOfMemory`](qs_data::Error::OutOfMemory).
+    ///
+    /// ```
+    /// Sort::Between { from, to } => Members::new(alloc).with("from", from)?.with("to", to)?.under("Between"),
+    /// ```
+    pub fn under(self, name: &str) -> Result<Data>
+        ensures exact { IfOk result (λ x. data_of x ≡ d.struct_variant name.now (d.members_of (put_in self))) }
+        ensures errors { OnlyOutOfMemory result }
+    {
+        let name = String::from_str(self.alloc, name)?;
+        Ok(self.into_variant(name))
+    }
+
     /// Returns the variant of this name with these members. It doesn't allocate.
     #[tactic(auto, using(crate::proofs::Levels::levels))]
     pub fn into_variant(self, name: String) -> Data
@@ -59,4 +73,44 @@ impl Members {
     {
         Data::StructVariant(name, self.members)
     }
+}
+
+/// Returns the data of a variant that holds nothing, for [`Compound::written`](crate::Compound::written). The one error is
+/// [`OutOfMemory`](qs_data::Error::OutOfMemory).
+///
+/// ```
+/// Sort::Relevance => unit_variant(alloc, "Relevance"),
+/// ```
+pub fn unit_variant(alloc: Global, name: &str) -> Result<Data>
+    ensures exact { IfOk result (λ x. data_of x ≡ d.unit_variant name.now) }
+    ensures errors { OnlyOutOfMemory result }
+{
+    Ok(Data::UnitVariant(String::from_str(alloc, name)?))
+}
+
+/// Returns the data of a variant that holds one value, for [`Compound::written`](crate::Compound::written). The one error is
+/// [`OutOfMemory`](qs_data::Error::OutOfMemory).
+///
+/// ```
+/// Sort::By(field) => newtype_variant(alloc, "By", field),
+/// ```
+pub fn newtype_variant<T: Serialize>(alloc: Global, name: &str, value: &T) -> Result<Data>
+    ensures exact { IfOk result (λ x. data_of x ≡ d.newtype_variant name.now (T.datum value.now)) }
+    ensures errors { OnlyOutOfMemory result }
+{
+    let part = Box::new(alloc, value.to_data(alloc)?)?;
+    Ok(Data::NewtypeVariant(String::from_str(alloc, name)?, part))
+}
+
+/// Returns the data of a struct round one value, for [`Compound::written`](crate::Compound::written). The one error is
+/// [`OutOfMemory`](qs_data::Error::OutOfMemory).
+///
+/// ```
+/// newtype_struct(alloc, &self.0)
+/// ```
+pub fn newtype_struct<T: Serialize>(alloc: Global, value: &T) -> Result<Data>
+    ensures exact { IfOk result (λ x. data_of x ≡ d.newtype (T.datum value.now)) }
+    ensures errors { OnlyOutOfMemory result }
+{
+    Ok(Data::Newtype(Box::new(alloc, value.to_data(alloc)?)?))
 }

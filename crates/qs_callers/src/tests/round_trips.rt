@@ -1,7 +1,7 @@
 //! Values that are written and read back, in both modes.
 
 use super::{list, one, text, with};
-use crate::{Account, Pair, Sort};
+use crate::{Account, Pair, Price, Sort};
 use serde_qs::{Config, ConfigExt, RoundTrip};
 use std::alloc::Global;
 use std::collections::BTreeMap;
@@ -214,6 +214,14 @@ fn variants(rt: HostRuntime) {
         &Pair {
             a: Sort::Relevance,
             b: Sort::By(text(&rt, alloc, "hello")),
+        },
+    );
+    comes_back(
+        &rt,
+        alloc,
+        &Pair {
+            a: Sort::Between { from: 0, to: 7 },
+            b: Price(99),
         },
     );
     let both = list(

@@ -3,6 +3,7 @@
 
 mod account;
 mod calls;
+mod filter;
 mod pair;
 mod price;
 mod query;
@@ -13,6 +14,7 @@ mod tests;
 
 pub use account::Account;
 pub use calls::{asked, rewritten, sorted};
+pub use filter::Filter;
 pub use pair::Pair;
 pub use price::Price;
 pub use query::Query;

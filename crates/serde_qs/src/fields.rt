@@ -6,6 +6,7 @@ ghost use Rattle.qs_spec.specs.Shape.{Field as Spec, are_distinct_fields, fields
 ghost use Rattle.qs_tree.specs.Error.{OnlyOutOfMemory};
 ghost use Rattle.qs_data.specs.Views.{field_of};
 ghost use Rattle.serde_qs.specs.ComesBack.{FieldsComeBack, fields_back, nothing_back};
+ghost use Rattle.serde_qs.specs.Optional.{FieldsAreNamed, field_named};
 ghost use Rattle.serde_qs.specs.Records.{both_true, field_form, first_of, member_data, member_in, members_back, nothing_in, others_of, texts};
 ghost use Rattle.serde_qs.specs.Typed.{Means};
 
@@ -15,7 +16,7 @@ use std::alloc::Global;
 
 /// The fields of a struct, each pair a field and those after it: `(A, (B, (C, ())))`.
 ///
-/// It is implemented for such pairs alone; a user names them as [`Compound::Parts`](crate::Compound::Parts).
+/// A field that may be left out is an [`Optional`](crate::Optional) in place of the pair. It is implemented for these alone; a user names them as [`Compound::Parts`](crate::Compound::Parts).
 pub trait Fields: Sized {
     ghost Value: { Type 0 };
 
@@ -50,6 +51,9 @@ pub trait Fields: Sized {
     ) -> Result<Self>
         ensures { Means value result (meaning (texts names.now) (members_back members.items)) };
 
+    // The first member that is written has the name of a field.
+    ghost named: { FieldsAreNamed form written };
+
     // Where the names differ: from members that are the same as those of fields which fit, those fields come back.
     ghost come_back: { FieldsComeBack form written meaning value };
 
@@ -71,6 +75,8 @@ impl Fields for () {
     ghost written = { λ _ _. [] };
 
     ghost meaning = { λ _ ms. nothing_in ms };
+
+    ghost named = { λ _ _. refl };
 
     ghost come_back = { nothing_back };
 
@@ -114,6 +120,8 @@ impl<T: RoundTrip + Drop, R: Fields + Drop> Fields for (T, R) {
     ghost written = { λ names x. member_data (T.datum x.0) (λ ns. R.written ns x.1) names };
 
     ghost meaning = { λ names ms. member_in T.meaning R.meaning names ms };
+
+    ghost named = { λ names x. field_named T.datum T.form R.form R.written names x.0 x.1 };
 
     ghost come_back = { λ names x ms k h p. fields_back T.datum T.form T.meaning T.value T.comes_back R.form R.written R.meaning R.value R.come_back names x.0 x.1 ms k h p };
 

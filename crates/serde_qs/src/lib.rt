@@ -64,6 +64,7 @@ mod lent;
 mod lists;
 mod maps;
 mod members;
+mod optional;
 mod options;
 mod parts;
 mod payloads;
@@ -80,6 +81,7 @@ pub use config_ext::ConfigExt;
 pub use fields::Fields;
 pub use laws::value_comes_back;
 pub use members::{Members, newtype_struct, newtype_variant, unit_variant};
+pub use optional::Optional;
 pub use parts::{Enum, Parts};
 pub use payloads::{Newtype, Payload, Struct};
 pub use qs_data::{

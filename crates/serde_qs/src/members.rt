@@ -5,6 +5,7 @@ ghost use Rattle.qs_spec.specs.Data as d;
 ghost use Rattle.qs_tree.specs.Error.{OnlyOutOfMemory};
 ghost use Rattle.qs_data.specs.Views.{data_of};
 ghost use Rattle.serde_qs.specs.Members.{put_in};
+ghost use Rattle.serde_qs.specs.Optional.{some_data};
 
 use crate::traits::Serialize;
 use qs_data::{Data, Result};
@@ -42,6 +43,22 @@ impl Members {
         let name = String::from_str(self.alloc, name)?;
         self.members.push((name, datum))?;
         Ok(self)
+    }
+
+    /// Returns these members and, where there is a value, one more, as [`with`](Members::with). It is for a field that is
+    /// [`Optional`](crate::Optional).
+    ///
+    /// ```
+    /// Members::new(alloc).with("text", &self.text)?.with_some("page", &self.page)?
+    /// ```
+    pub fn with_some<T: Serialize>(self, name: &str, value: &Option<T>) -> Result<Members>
+        ensures added { IfOk result (λ all. put_in all ≡ put_in self ++ some_data T.datum name.now value.now []) }
+        ensures errors { OnlyOutOfMemory result }
+    {
+        match value {
+            Some(value) => self.with(name, value),
+            None => Ok(self),
+        }
     }
 
     /// Returns the struct of these members. It doesn't allocate.

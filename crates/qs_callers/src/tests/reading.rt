@@ -1,7 +1,7 @@
 //! Typed calls that read.
 
 use super::is_custom;
-use crate::{Account, Pair, Price, Query, Search, Sort, asked, sorted};
+use crate::{Account, Filter, Pair, Price, Query, Search, Sort, asked, sorted};
 use serde_qs::{
     Config, ConfigExt, Deserialize, Deserializer, Error, Result, Serialize, from_bytes, from_str,
     read_by,
@@ -129,4 +129,17 @@ fn a_search(rt: HostRuntime) {
             .get("lang")
             .is_some_and(|value| value.as_str() == "en")
     );
+}
+
+#[test]
+fn optional_fields(rt: HostRuntime) {
+    let alloc = rt.alloc();
+    let filter: Filter = from_str(alloc, "text=qs").expect(&rt, "a filter");
+    assert!(rt; filter.text.as_str() == "qs" && filter.page.is_none() && filter.size.is_none());
+    let filter: Filter = from_str(alloc, "size=10&text=qs").expect(&rt, "a filter");
+    assert!(rt; filter.page.is_none() && filter.size == Some(10));
+    let result: Result<Filter> = from_str(alloc, "text=qs&page=");
+    assert!(rt; is_custom(&result, "invalid type: string, expected u32"));
+    let result: Result<Filter> = from_str(alloc, "page=2");
+    assert!(rt; is_custom(&result, "missing field `text`"));
 }

@@ -1,7 +1,7 @@
 //! Typed calls that write.
 
 use super::{list, one, text};
-use crate::{Account, Pair, Price, Query, Search, Sort, rewritten};
+use crate::{Account, Filter, Pair, Price, Query, Search, Sort, rewritten};
 use serde_qs::{Config, ConfigExt, Error, Result, from_str, to_string, to_writer};
 use std::io;
 use std::io::Write;
@@ -73,6 +73,18 @@ fn variants(rt: HostRuntime) {
     };
     let written = to_string(alloc, &pair).expect(&rt, "a text");
     assert!(rt; written.as_str() == "a=Relevance&b[By]=price");
+}
+
+#[test]
+fn absent_fields_are_left_out(rt: HostRuntime) {
+    let alloc = rt.alloc();
+    let filter = Filter {
+        text: text(&rt, alloc, "qs"),
+        page: None,
+        size: Some(10),
+    };
+    let written = to_string(alloc, &filter).expect(&rt, "a text");
+    assert!(rt; written.as_str() == "text=qs&size=10");
 }
 
 #[test]

@@ -1,2 +1,1 @@
 pub mod Query
-pub mod Sort

@@ -2,7 +2,7 @@
 
 ghost use Rattle.std.specs.Prelude.{◌∷◌, [], codes, refl};
 
-use serde_qs::{Members, Record, Result, RoundTrip};
+use serde_qs::{Compound, Data, Members, Result, RoundTrip, Struct};
 use std::alloc::Global;
 
 /// An account.
@@ -13,12 +13,12 @@ pub struct Account {
     pub id: u32,
 }
 
-impl Record for Account {
-    type Fields = (String, (String, (u32, ())));
+impl Compound for Account {
+    type Parts = Struct<(String, (String, (u32, ())))>;
 
     ghost names = { codes "firstName" ∷ codes "lastName" ∷ codes "user-id" ∷ [] };
 
-    ghost fields = { λ account. (account.first_name, (account.last_name, (account.id, tt))) };
+    ghost parts = { λ account. record { 0 = (account.first_name, (account.last_name, (account.id, tt))) } };
 
     ghost complete = { refl };
 
@@ -26,7 +26,7 @@ impl Record for Account {
         &["firstName", "lastName", "user-id"]
     }
 
-    fn from_fields((first_name, (last_name, (id, ()))): Self::Fields) -> Account {
+    fn from_parts(Struct((first_name, (last_name, (id, ())))): Self::Parts) -> Account {
         Account {
             first_name,
             last_name,
@@ -34,14 +34,17 @@ impl Record for Account {
         }
     }
 
-    fn members(&self, alloc: Global) -> Result<Members> {
-        Members::new(alloc)
-            .with("firstName", &self.first_name)?
-            .with("lastName", &self.last_name)?
-            .with("user-id", &self.id)
+    fn written(&self, alloc: Global) -> Result<Data> {
+        Ok(
+            Members::new(alloc)
+                .with("firstName", &self.first_name)?
+                .with("lastName", &self.last_name)?
+                .with("user-id", &self.id)?
+                .into_struct(),
+        )
     }
 
-    fn fields_fit(&self) {
+    fn fit(&self) {
         self.first_name.fits();
         self.last_name.fits();
         self.id.fits();

@@ -6,7 +6,7 @@ ghost use Rattle.qs_callers.specs.Query.{query_form, query_in, query_value};
 
 use crate::query::Query;
 use crate::sort::Sort;
-use serde_qs::{Deserialize, Result, from_str, to_string};
+use serde_qs::{Compound, Parts, Result, from_str, to_string};
 use std::alloc::Global;
 
 /// Returns the query that a querystring stands for.
@@ -16,9 +16,11 @@ pub fn asked(alloc: Global, input: &str) -> Result<Query>
     from_str(alloc, input)
 }
 
+type SortParts = <Sort as Compound>::Parts;
+
 /// Returns the order that a querystring stands for.
 pub fn sorted(alloc: Global, input: &str) -> Result<Sort>
-    ensures { ReturnsValue ⟦<Sort as Deserialize>⟧.value default ⟦<Sort as Deserialize>⟧.form ⟦<Sort as Deserialize>⟧.meaning input.now result }
+    ensures { ReturnsValue (λ sort. ⟦<SortParts as Parts>⟧.value (⟦<Sort as Compound>⟧.parts sort)) default (⟦<SortParts as Parts>⟧.form ⟦<Sort as Compound>⟧.names) (⟦<SortParts as Parts>⟧.meaning ⟦<Sort as Compound>⟧.names) input.now result }
 {
     from_str(alloc, input)
 }

@@ -2,7 +2,7 @@
 
 ghost use Rattle.std.specs.Prelude.{◌∷◌, [], codes, refl};
 
-use serde_qs::{Members, Record, Result, RoundTrip};
+use serde_qs::{Compound, Data, Members, Result, RoundTrip, Struct};
 use std::alloc::Global;
 
 /// Two values.
@@ -12,12 +12,12 @@ pub struct Pair<A, B> {
     pub b: B,
 }
 
-impl<A: RoundTrip + Drop, B: RoundTrip + Drop> Record for Pair<A, B> {
-    type Fields = (A, (B, ()));
+impl<A: RoundTrip + Drop, B: RoundTrip + Drop> Compound for Pair<A, B> {
+    type Parts = Struct<(A, (B, ()))>;
 
     ghost names = { codes "a" ∷ codes "b" ∷ [] };
 
-    ghost fields = { λ pair. (pair.a, (pair.b, tt)) };
+    ghost parts = { λ pair. record { 0 = (pair.a, (pair.b, tt)) } };
 
     ghost complete = { refl };
 
@@ -25,15 +25,20 @@ impl<A: RoundTrip + Drop, B: RoundTrip + Drop> Record for Pair<A, B> {
         &["a", "b"]
     }
 
-    fn from_fields((a, (b, ())): Self::Fields) -> Pair<A, B> {
+    fn from_parts(Struct((a, (b, ()))): Self::Parts) -> Pair<A, B> {
         Pair { a, b }
     }
 
-    fn members(&self, alloc: Global) -> Result<Members> {
-        Members::new(alloc).with("a", &self.a)?.with("b", &self.b)
+    fn written(&self, alloc: Global) -> Result<Data> {
+        Ok(
+            Members::new(alloc)
+                .with("a", &self.a)?
+                .with("b", &self.b)?
+                .into_struct(),
+        )
     }
 
-    fn fields_fit(&self) {
+    fn fit(&self) {
         self.a.fits();
         self.b.fits();
     }

@@ -2,7 +2,7 @@
 
 ghost use Rattle.std.specs.Prelude.{◌∷◌, [], codes, refl};
 
-use serde_qs::{Members, Record, Result, RoundTrip};
+use serde_qs::{Compound, Data, Members, Result, RoundTrip, Struct};
 use std::alloc::Global;
 
 /// Whom a search asks for.
@@ -13,12 +13,12 @@ pub struct Query {
     pub occupation: String,
 }
 
-impl Record for Query {
-    type Fields = (String, (u8, (String, ())));
+impl Compound for Query {
+    type Parts = Struct<(String, (u8, (String, ())))>;
 
     ghost names = { codes "name" ∷ codes "age" ∷ codes "occupation" ∷ [] };
 
-    ghost fields = { λ query. (query.name, (query.age, (query.occupation, tt))) };
+    ghost parts = { λ query. record { 0 = (query.name, (query.age, (query.occupation, tt))) } };
 
     ghost complete = { refl };
 
@@ -26,7 +26,7 @@ impl Record for Query {
         &["name", "age", "occupation"]
     }
 
-    fn from_fields((name, (age, (occupation, ()))): Self::Fields) -> Query {
+    fn from_parts(Struct((name, (age, (occupation, ())))): Self::Parts) -> Query {
         Query {
             name,
             age,
@@ -34,14 +34,17 @@ impl Record for Query {
         }
     }
 
-    fn members(&self, alloc: Global) -> Result<Members> {
-        Members::new(alloc)
-            .with("name", &self.name)?
-            .with("age", &self.age)?
-            .with("occupation", &self.occupation)
+    fn written(&self, alloc: Global) -> Result<Data> {
+        Ok(
+            Members::new(alloc)
+                .with("name", &self.name)?
+                .with("age", &self.age)?
+                .with("occupation", &self.occupation)?
+                .into_struct(),
+        )
     }
 
-    fn fields_fit(&self) {
+    fn fit(&self) {
         self.name.fits();
         self.age.fits();
         self.occupation.fits();

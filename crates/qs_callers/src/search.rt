@@ -1,9 +1,8 @@
-//! A search: a struct with a list of lists, a map, an optional value and an enum.
+//! A search: a struct with a list of lists, a map and an optional value.
 
 ghost use Rattle.std.specs.Prelude.{◌∷◌, [], codes, refl};
 
-use crate::sort::Sort;
-use serde_qs::{Members, Record, Result, RoundTrip};
+use serde_qs::{Compound, Data, Members, Result, RoundTrip, Struct};
 use std::alloc::Global;
 use std::collections::BTreeMap;
 
@@ -12,53 +11,51 @@ use std::collections::BTreeMap;
 pub struct Search {
     pub text: String,
     pub page: Option<u32>,
-    pub sort: Sort,
     pub ranges: Vec<Vec<i64>>,
     pub labels: BTreeMap<String, String>,
 }
 
-impl Record for Search {
-    type Fields = (
-        String,
+impl Compound for Search {
+    type Parts = Struct<
         (
-            Option<u32>,
-            (Sort, (Vec<Vec<i64>>, (BTreeMap<String, String>, ()))),
+            String,
+            (Option<u32>, (Vec<Vec<i64>>, (BTreeMap<String, String>, ()))),
         ),
-    );
+    >;
 
-    ghost names = { codes "text" ∷ codes "page" ∷ codes "sort" ∷ codes "ranges" ∷ codes "labels" ∷ [] };
+    ghost names = { codes "text" ∷ codes "page" ∷ codes "ranges" ∷ codes "labels" ∷ [] };
 
-    ghost fields = { λ search. (search.text, (search.page, (search.sort, (search.ranges, (search.labels, tt))))) };
+    ghost parts = { λ search. record { 0 = (search.text, (search.page, (search.ranges, (search.labels, tt)))) } };
 
     ghost complete = { refl };
 
     fn names() -> &'static [&'static str] {
-        &["text", "page", "sort", "ranges", "labels"]
+        &["text", "page", "ranges", "labels"]
     }
 
-    fn from_fields((text, (page, (sort, (ranges, (labels, ()))))): Self::Fields) -> Search {
+    fn from_parts(Struct((text, (page, (ranges, (labels, ()))))): Self::Parts) -> Search {
         Search {
             text,
             page,
-            sort,
             ranges,
             labels,
         }
     }
 
-    fn members(&self, alloc: Global) -> Result<Members> {
-        Members::new(alloc)
-            .with("text", &self.text)?
-            .with("page", &self.page)?
-            .with("sort", &self.sort)?
-            .with("ranges", &self.ranges)?
-            .with("labels", &self.labels)
+    fn written(&self, alloc: Global) -> Result<Data> {
+        Ok(
+            Members::new(alloc)
+                .with("text", &self.text)?
+                .with("page", &self.page)?
+                .with("ranges", &self.ranges)?
+                .with("labels", &self.labels)?
+                .into_struct(),
+        )
     }
 
-    fn fields_fit(&self) {
+    fn fit(&self) {
         self.text.fits();
         self.page.fits();
-        self.sort.fits();
         self.ranges.fits();
         self.labels.fits();
     }

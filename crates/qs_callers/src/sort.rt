@@ -1,11 +1,13 @@
-//! How what was found is sorted: an enum, written out by hand.
+//! How what was found is sorted: an enum by its variants.
 
-ghost use Rattle.qs_data.specs.Views.{data_of, shape_of};
-ghost use Rattle.qs_callers.specs.Sort.{SortValue, sort_data, sort_value, sort_form, sort_in, sort_back};
-ghost use Rattle.std.specs.Prelude.{refl};
+ghost use Rattle.qs_callers.specs.declared.sort.Sort.TheVariants.{Relevance, By, Between};
+ghost use Rattle.serde_qs.specs.declared.variants.OneOf.TheVariants.{First, Later};
+ghost use Rattle.std.specs.Prelude.{◌∷◌, [], codes, refl};
 
+use serde_qs::OneOf::{First, Later};
 use serde_qs::{
-    Data, Deserialize, Result, RoundTrip, Serialize, Shape, Variant, VariantKind, unexpected,
+    Compound, Data, Enum, Last, Members, Newtype, OneOf, Result, RoundTrip, Struct,
+    newtype_variant, unit_variant,
 };
 use std::alloc::Global;
 
@@ -16,77 +18,50 @@ pub enum Sort {
     Relevance,
     /// By the field of this name.
     By(String),
+    /// By price, of those between these prices alone.
+    Between { from: u32, to: u32 },
 }
 
-impl Serialize for Sort {
-    ghost datum = { sort_data };
+impl Compound for Sort {
+    type Parts = Enum<OneOf<(), OneOf<Newtype<String>, Last<Struct<(u32, (u32, ()))>>>>>;
 
-    fn to_data(&self, alloc: Global) -> Result<Data> {
+    ghost names = { codes "Relevance" ∷ codes "By" ∷ codes "Between" ∷ codes "from" ∷ codes "to" ∷ [] };
+
+    ghost parts = { elim [ Relevance ↦ record { 0 = First tt } | By name ↦ record { 0 = Later (First (record { 0 = name })) } | Between from to ↦ record { 0 = Later (Later (record { 0 = record { 0 = (from, (to, tt)) } })) } ] };
+
+    ghost complete = { refl };
+
+    fn names() -> &'static [&'static str] {
+        &["Relevance", "By", "Between", "from", "to"]
+    }
+
+    fn from_parts(Enum(variant): Self::Parts) -> Sort {
+        match variant {
+            First(()) => Sort::Relevance,
+            Later(First(Newtype(name))) => Sort::By(name),
+            Later(Later(Last(Struct((from, (to, ())))))) => Sort::Between { from, to },
+        }
+    }
+
+    fn written(&self, alloc: Global) -> Result<Data> {
         match self {
-            Sort::Relevance => Ok(Data::UnitVariant(String::from_str(alloc, "Relevance")?)),
-            Sort::By(name) => {
-                let part = Box::new(alloc, name.to_data(alloc)?)?;
-                Ok(Data::NewtypeVariant(String::from_str(alloc, "By")?, part))
-            }
+            Sort::Relevance => unit_variant(alloc, "Relevance"),
+            Sort::By(name) => newtype_variant(alloc, "By", name),
+            Sort::Between { from, to } => Members::new(alloc)
+                .with("from", from)?
+                .with("to", to)?
+                .under("Between"),
         }
     }
-}
 
-impl Deserialize for Sort {
-    ghost Value = { SortValue };
-
-    ghost value = { sort_value };
-
-    ghost form = { sort_form };
-
-    ghost meaning = { sort_in };
-
-    ghost distinct = { refl };
-
-    fn shape(alloc: Global) -> Result<Shape> {
-        let relevance = Variant {
-            name: String::from_str(alloc, "Relevance")?,
-            kind: VariantKind::Unit,
-        };
-        let by = Variant {
-            name: String::from_str(alloc, "By")?,
-            kind: VariantKind::Newtype(Box::new(alloc, String::shape(alloc)?)?),
-        };
-        let mut variants = Vec::new(alloc);
-        variants.push(relevance)?;
-        variants.push(by)?;
-        Ok(Shape::Enum(variants))
-    }
-
-    fn from_data(alloc: Global, datum: Data) -> Result<Sort> {
-        match datum {
-            Data::UnitVariant(name) => {
-                if name.as_str() == "Relevance" {
-                    Ok(Sort::Relevance)
-                } else {
-                    Err(unexpected(alloc, "a variant"))
-                }
-            }
-            Data::NewtypeVariant(name, part) => {
-                if name.as_str() == "By" {
-                    let name = String::from_data(alloc, Box::into_inner(part))?;
-                    Ok(Sort::By(name))
-                } else {
-                    Err(unexpected(alloc, "a variant"))
-                }
-            }
-            _ => Err(unexpected(alloc, "a variant")),
-        }
-    }
-}
-
-impl RoundTrip for Sort {
-    ghost comes_back = { sort_back };
-
-    fn fits(&self) {
+    fn fit(&self) {
         match self {
             Sort::Relevance => {}
             Sort::By(name) => name.fits(),
+            Sort::Between { from, to } => {
+                from.fits();
+                to.fits();
+            }
         }
     }
 }

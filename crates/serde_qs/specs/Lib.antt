@@ -5,6 +5,9 @@ pub mod Records
 pub mod Members
 pub mod ComesBack
 pub mod MapsComeBack
+pub mod Optional
+pub mod Variants
+pub mod Compound
 pub mod Typed
 pub mod WrittenText
 pub mod Wrappers

@@ -3,7 +3,7 @@ use Rattle.std.proofs.Common.{refl}
 use Rattle.std.proofs.lemmas.Bool.{false≢true}
 use Rattle.std.specs.Prelude.{◌≡◌, ◌&&◌, ℕ, ℤ, Bool, true, false, List, [], ◌∷◌, Option, Some, None, option_map, option_and_then, nat_le, if◌then◌else◌}
 use Rattle.qs_spec.specs.Data.{Data, Values, no_values, one_value}
-use Rattle.qs_spec.specs.Data.Data.{unit, none, some, boolean, unsigned, signed, character, text, sequence}
+use Rattle.qs_spec.specs.Data.Data.{unit, none, some, boolean, unsigned, signed, character, text, sequence, newtype}
 use Rattle.serde_qs.specs.Fits.{is_signed}
 
 abbrev pub unit_in : Data → Option (Unit {0})
@@ -48,6 +48,10 @@ values_in m (one_value d ds) = option_and_then (λ x. option_map (λ xs. x ∷ x
 abbrev pub sequence_in : {A : Type 0} → (Data → Option A) → Data → Option (List A)
 sequence_in m (sequence ds) = values_in m ds
 sequence_in m _ = None
+
+abbrev pub newtype_in : {A : Type 0} → (Data → Option A) → Data → Option A
+newtype_in m (newtype d) = m d
+newtype_in m _ = None
 
 abbrev pub both : {A B : Type 0} → Option A → Option B → Option (A × B)
 both a b = option_and_then (λ x. option_map (λ y. (x, y)) b) a

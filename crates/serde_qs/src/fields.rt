@@ -6,6 +6,7 @@ ghost use Rattle.qs_spec.specs.Shape.{Field as Spec, are_distinct_fields, fields
 ghost use Rattle.qs_tree.specs.Error.{OnlyOutOfMemory};
 ghost use Rattle.qs_data.specs.Views.{field_of};
 ghost use Rattle.serde_qs.specs.ComesBack.{FieldsComeBack, fields_back, nothing_back};
+ghost use Rattle.serde_qs.specs.Optional.{FieldsAreNamed, field_named};
 ghost use Rattle.serde_qs.specs.Records.{both_true, field_form, first_of, member_data, member_in, members_back, nothing_in, others_of, texts};
 ghost use Rattle.serde_qs.specs.Typed.{Means};
 
@@ -15,14 +16,16 @@ use std::alloc::Global;
 
 /// The fields of a struct, each pair a field and those after it: `(A, (B, (C, ())))`.
 ///
-/// It is implemented for such pairs alone; a user names them as [`Record::Fields`](crate::Record::Fields).
+/// A field that may be left out is an [`Optional`](crate::Optional) in place of the pair. It is implemented for these alone; a user names them as [`Compound::Parts`](crate::Compound::Parts).
 pub trait Fields: Sized {
     ghost Value: { Type 0 };
 
     ghost value: { Self → Value };
 
-    // How many there are.
+    // How many there are, and the names after theirs.
     ghost count: { ℕ };
+
+    ghost after: { List (List ℕ) → List (List ℕ) };
 
     // By the names of the fields: what is read for them, their data, and what members mean for them.
     ghost form: { List (List ℕ) → List Spec };
@@ -30,6 +33,10 @@ pub trait Fields: Sized {
     ghost written: { List (List ℕ) → Self → List Named };
 
     ghost meaning: { List (List ℕ) → Parts → Option Value };
+
+    /// Returns the names after those of the fields.
+    fn skip<'a>(names: &'a [&'static str]) -> &'a [&'static str]
+        ensures { texts result.now ≡ after (texts names.now) };
 
     /// Returns these fields and after them what is read for the fields of these names.
     fn push_fields(alloc: Global, names: &[&'static str], fields: Vec<Field>) -> Result<Vec<Field>>
@@ -44,7 +51,10 @@ pub trait Fields: Sized {
     ) -> Result<Self>
         ensures { Means value result (meaning (texts names.now) (members_back members.items)) };
 
-    // From members that are the same as those of fields which fit, those fields come back.
+    // The first member that is written has the name of a field.
+    ghost named: { FieldsAreNamed form written };
+
+    // Where the names differ: from members that are the same as those of fields which fit, those fields come back.
     ghost come_back: { FieldsComeBack form written meaning value };
 
     // No struct or enum in the fields' shapes has a name twice.
@@ -58,15 +68,23 @@ impl Fields for () {
 
     ghost count = { 0 };
 
+    ghost after = { λ names. names };
+
     ghost form = { λ _. [] };
 
     ghost written = { λ _ _. [] };
 
     ghost meaning = { λ _ ms. nothing_in ms };
 
+    ghost named = { λ _ _. refl };
+
     ghost come_back = { nothing_back };
 
     ghost are_distinct = { λ _. refl };
+
+    fn skip<'a>(names: &'a [&'static str]) -> &'a [&'static str] {
+        names
+    }
 
     fn push_fields(
         _alloc: Global,
@@ -95,15 +113,24 @@ impl<T: RoundTrip + Drop, R: Fields + Drop> Fields for (T, R) {
 
     ghost count = { suc R.count };
 
+    ghost after = { λ names. R.after (others_of names) };
+
     ghost form = { λ names. field_form T.form false R.form names };
 
     ghost written = { λ names x. member_data (T.datum x.0) (λ ns. R.written ns x.1) names };
 
     ghost meaning = { λ names ms. member_in T.meaning R.meaning names ms };
 
-    ghost come_back = { λ names x ms h p. fields_back T.datum T.form T.meaning T.value T.comes_back R.form R.written R.meaning R.value R.come_back names x.0 x.1 ms h p };
+    ghost named = { λ names x. field_named T.datum T.form R.form R.written names x.0 x.1 };
+
+    ghost come_back = { λ names x ms k h p. fields_back T.datum T.form T.meaning T.value T.comes_back R.form R.written R.meaning R.value R.come_back names x.0 x.1 ms k h p };
 
     ghost are_distinct = { λ names. both_true T.distinct (R.are_distinct (others_of names)) };
+
+    fn skip<'a>(names: &'a [&'static str]) -> &'a [&'static str] {
+        let (_name, rest) = split(names);
+        R::skip(rest)
+    }
 
     fn push_fields(
         alloc: Global,
@@ -140,7 +167,7 @@ impl<T: RoundTrip + Drop, R: Fields + Drop> Fields for (T, R) {
 }
 
 /// Returns the first name, which is empty where there is none, and the others.
-fn split<'a>(names: &'a [&'static str]) -> (&'static str, &'a [&'static str])
+pub(crate) fn split<'a>(names: &'a [&'static str]) -> (&'static str, &'a [&'static str])
     ensures first { result.0.now ≡ first_of (texts names.now) }
     ensures others { texts result.1.now ≡ others_of (texts names.now) }
 {

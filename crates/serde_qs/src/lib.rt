@@ -12,7 +12,7 @@
 //! let text = to_string(alloc, &query)?; // name=Alice&age=24
 //! ```
 //!
-//! A struct gets this by [`Record`], from the names and types of its fields; docs/TYPES.md shows how, and what an enum needs.
+//! A struct or an enum gets this by [`Compound`], from the names and types of what it is made of; docs/TYPES.md shows how.
 //! [`ConfigExt`] has the same calls under a [`Config`].
 //!
 //! # Without a type
@@ -56,6 +56,7 @@
 //! only there.
 #![tactic(auto)]
 
+mod compound;
 mod config_ext;
 mod fields;
 pub mod helpers;
@@ -64,26 +65,33 @@ mod lent;
 mod lists;
 mod maps;
 mod members;
+mod optional;
 mod options;
+mod parts;
+mod payloads;
 mod reading;
-mod records;
 mod scalars;
 mod signed;
 mod traits;
 mod unsigned;
+mod variants;
 pub mod web;
 mod writing;
 
+pub use compound::Compound;
 pub use config_ext::ConfigExt;
 pub use fields::Fields;
 pub use laws::value_comes_back;
-pub use members::Members;
+pub use members::{Members, newtype_struct, newtype_variant, unit_variant};
+pub use optional::Optional;
+pub use parts::{Enum, Parts};
+pub use payloads::{Newtype, Payload, Struct};
 pub use qs_data::{
     ByWrite, Data, Deserializer, Deserializer as QsDeserializer, Field, KeyShape, Serializer,
     Serializer as QsSerializer, Shape, Sink, Variant, VariantKind,
 };
 pub use qs_tree::{ArrayFormat, Config, DuplicateKeyBehavior, Error, Result};
 pub use reading::{from_bytes, from_str, read_by};
-pub use records::Record;
 pub use traits::{Deserialize, RoundTrip, Serialize, unexpected};
+pub use variants::{Last, OneOf, Variants};
 pub use writing::{to_string, to_writer};

@@ -15,7 +15,7 @@ use std::alloc::Global;
 
 /// A type whose values are written as a querystring.
 ///
-/// A struct gets this trait by [`Record`](crate::Record). An enum implements it by hand, as docs/TYPES.md shows.
+/// A struct or an enum gets this trait by [`Compound`](crate::Compound).
 ///
 /// ```
 /// let datum = query.to_data(alloc)?; // Data::Struct: name, age
@@ -34,7 +34,7 @@ pub trait Serialize {
 
 /// A type whose values are read from a querystring.
 ///
-/// A struct gets this trait by [`Record`](crate::Record). An enum implements it by hand, as docs/TYPES.md shows.
+/// A struct or an enum gets this trait by [`Compound`](crate::Compound).
 ///
 /// ```
 /// let shape = Query::shape(alloc)?;

@@ -1,7 +1,7 @@
 //! Typed calls that read.
 
 use super::is_custom;
-use crate::{Account, Pair, Query, Search, Sort, asked, sorted};
+use crate::{Account, Filter, Pair, Price, Query, Search, Sort, asked, sorted};
 use serde_qs::{
     Config, ConfigExt, Deserialize, Deserializer, Error, Result, Serialize, from_bytes, from_str,
     read_by,
@@ -103,6 +103,12 @@ fn an_order(rt: HostRuntime) {
     let alloc = rt.alloc();
     let order = sorted(alloc, "By=price").expect(&rt, "an order");
     assert!(rt; matches!(&order, Sort::By(name) if name.as_str() == "price"));
+    let order = sorted(alloc, "Between[to]=9&Between[from]=2").expect(&rt, "an order");
+    assert!(rt; order == Sort::Between { from: 2, to: 9 });
+    let pair: Pair<Sort, Price> = from_str(alloc, "a=Relevance&b=250").expect(&rt, "a pair");
+    assert!(rt; pair.a == Sort::Relevance && pair.b == Price(250));
+    let result = sorted(alloc, "Between[from]=2");
+    assert!(rt; is_custom(&result, "missing field `to`"));
     let result: Result<Pair<Sort, u8>> = from_str(alloc, "a=Price&b=1");
     assert!(rt; is_custom(&result, "unknown variant `Price`"));
 }
@@ -110,12 +116,10 @@ fn an_order(rt: HostRuntime) {
 #[test]
 fn a_search(rt: HostRuntime) {
     let alloc = rt.alloc();
-    let input =
-        "text=qs&sort[By]=price&ranges[0][0]=-1&ranges[0][1]=2&ranges[1][0]=3&labels[lang]=en";
+    let input = "text=qs&ranges[0][0]=-1&ranges[0][1]=2&ranges[1][0]=3&labels[lang]=en";
     let search: Search = from_str(alloc, input).expect(&rt, "a search");
     assert!(rt; search.text.as_str() == "qs");
     assert!(rt; search.page.is_none());
-    assert!(rt; matches!(&search.sort, Sort::By(name) if name.as_str() == "price"));
     assert!(rt; search.ranges.len() == 2);
     assert!(rt; search.ranges[0].as_slice() == [-1, 2].as_slice());
     assert!(rt; search.ranges[1].as_slice() == [3].as_slice());
@@ -125,4 +129,17 @@ fn a_search(rt: HostRuntime) {
             .get("lang")
             .is_some_and(|value| value.as_str() == "en")
     );
+}
+
+#[test]
+fn optional_fields(rt: HostRuntime) {
+    let alloc = rt.alloc();
+    let filter: Filter = from_str(alloc, "text=qs").expect(&rt, "a filter");
+    assert!(rt; filter.text.as_str() == "qs" && filter.page.is_none() && filter.size.is_none());
+    let filter: Filter = from_str(alloc, "size=10&text=qs").expect(&rt, "a filter");
+    assert!(rt; filter.page.is_none() && filter.size == Some(10));
+    let result: Result<Filter> = from_str(alloc, "text=qs&page=");
+    assert!(rt; is_custom(&result, "invalid type: string, expected u32"));
+    let result: Result<Filter> = from_str(alloc, "page=2");
+    assert!(rt; is_custom(&result, "missing field `text`"));
 }

@@ -1,7 +1,7 @@
 //! Values that are written and read back, in both modes.
 
 use super::{list, one, text, with};
-use crate::{Account, Pair, Sort};
+use crate::{Account, Filter, Pair, Price, Sort};
 use serde_qs::{Config, ConfigExt, RoundTrip};
 use std::alloc::Global;
 use std::collections::BTreeMap;
@@ -216,6 +216,14 @@ fn variants(rt: HostRuntime) {
             b: Sort::By(text(&rt, alloc, "hello")),
         },
     );
+    comes_back(
+        &rt,
+        alloc,
+        &Pair {
+            a: Sort::Between { from: 0, to: 7 },
+            b: Price(99),
+        },
+    );
     let both = list(
         &rt,
         alloc,
@@ -233,4 +241,10 @@ fn structs(rt: HostRuntime) {
         id: 12345,
     };
     comes_back(&rt, alloc, &account);
+    let filter = Filter {
+        text: text(&rt, alloc, "a"),
+        page: Some(2),
+        size: None,
+    };
+    comes_back(&rt, alloc, &filter);
 }

@@ -1,7 +1,7 @@
 //! Typed calls that write.
 
 use super::{list, one, text};
-use crate::{Account, Pair, Query, Search, Sort, rewritten};
+use crate::{Account, Filter, Pair, Price, Query, Search, Sort, rewritten};
 use serde_qs::{Config, ConfigExt, Error, Result, from_str, to_string, to_writer};
 use std::io;
 use std::io::Write;
@@ -49,15 +49,42 @@ fn nested_values(rt: HostRuntime) {
     let search = Search {
         text: text(&rt, alloc, "a b"),
         page: Some(2),
-        sort: Sort::By(text(&rt, alloc, "price")),
         ranges: list(&rt, alloc, [list(&rt, alloc, [-1, 2])]),
         labels: one(&rt, alloc, "lang", text(&rt, alloc, "en")),
     };
     let written = to_string(alloc, &search).expect(&rt, "a text");
     assert!(rt;
-        written.as_str()
-            == "text=a+b&page=2&sort[By]=price&ranges[0][0]=-1&ranges[0][1]=2&labels[lang]=en"
+        written.as_str() == "text=a+b&page=2&ranges[0][0]=-1&ranges[0][1]=2&labels[lang]=en"
     );
+}
+
+#[test]
+fn variants(rt: HostRuntime) {
+    let alloc = rt.alloc();
+    let pair = Pair {
+        a: Sort::Between { from: 2, to: 9 },
+        b: Price(250),
+    };
+    let written = to_string(alloc, &pair).expect(&rt, "a text");
+    assert!(rt; written.as_str() == "a[Between][from]=2&a[Between][to]=9&b=250");
+    let pair = Pair {
+        a: Sort::Relevance,
+        b: Sort::By(text(&rt, alloc, "price")),
+    };
+    let written = to_string(alloc, &pair).expect(&rt, "a text");
+    assert!(rt; written.as_str() == "a=Relevance&b[By]=price");
+}
+
+#[test]
+fn absent_fields_are_left_out(rt: HostRuntime) {
+    let alloc = rt.alloc();
+    let filter = Filter {
+        text: text(&rt, alloc, "qs"),
+        page: None,
+        size: Some(10),
+    };
+    let written = to_string(alloc, &filter).expect(&rt, "a text");
+    assert!(rt; written.as_str() == "text=qs&size=10");
 }
 
 #[test]

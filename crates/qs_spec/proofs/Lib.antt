@@ -48,3 +48,4 @@ pub mod Fitting
 pub mod PartOrders
 pub mod WrittenBack
 pub mod EntryPlaces
+pub mod SameAsOne

@@ -31,6 +31,7 @@ pub use losses::{lists_without_indices, not_fitting_is_lost, not_plain_is_lost};
 pub use orders::{orders_by_place, reordered_inputs, reordered_pairs};
 pub use read_back::{
     data_that_are_not_plain, entries_are_apart, hostile_names_are_plain, plain_data_are_read_back,
+    writing_loses_nothing,
 };
 pub use reading::pairs_are_read;
 pub use relation::{one_data, reads_is_the_relation};

@@ -10,6 +10,7 @@ ghost use Rattle.qs_spec.specs.Shape.{Shape, KeyShape, newtype_kind, fields_of, 
 ghost use Rattle.qs_spec.specs.Entry.{Entry, entries};
 ghost use Rattle.qs_spec.specs.Written.{written};
 ghost use Rattle.qs_spec.specs.Listed.{is_listed};
+ghost use Rattle.qs_spec.specs.Same.{Same};
 ghost use Rattle.qs_spec.specs.ReadBack.{IsPlainFor, IsReadBack, ArePathsApart, KeepsPaths, KeepsPlaces};
 
 /// Plain data that are written without an error are read by a fitting shape, under the same configuration, as data that are
@@ -22,6 +23,15 @@ pub fn plain_data_are_read_back()
         → KeepsPaths (entries config d).entries es → IsReadBack config shape d (written config.form false es) }
     ensures lists_by_place { (config : Config) (shape : Shape) (d : Data) (es : List Entry) → is_distinct shape ≡ true → IsPlainFor config shape d → is_listed config.array_format false d ≡ true
         → KeepsPlaces (entries config d).entries es → IsReadBack config shape d (written config.form false es) }
+{}
+
+/// Plain data with the same entries in any order, that one shape fits, are the same: writing loses nothing. In the formats
+/// without indices, where lists have a path and hold scalars, so are data whose entries with one path come in one order.
+pub fn writing_loses_nothing()
+    ensures any_order { (config : Config) (shape : Shape) (d e : Data) → config.array_format ≡ indexed → is_distinct shape ≡ true → IsPlainFor config shape d → IsPlainFor config shape e
+        → IsPermutation (entries config d).entries (entries config e).entries → Same d e }
+    ensures lists_in_order { (config : Config) (shape : Shape) (d e : Data) → is_distinct shape ≡ true → IsPlainFor config shape d → IsPlainFor config shape e
+        → is_listed config.array_format false d ≡ true → is_listed config.array_format false e ≡ true → KeepsPaths (entries config d).entries (entries config e).entries → Same d e }
 {}
 
 /// In the indexed format no entry of such data has the path of another, or one that begins it.

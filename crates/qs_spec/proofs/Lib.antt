@@ -49,3 +49,4 @@ pub mod PartOrders
 pub mod WrittenBack
 pub mod EntryPlaces
 pub mod SameAsOne
+pub mod StableBack

@@ -42,7 +42,7 @@ after_nothing [] = refl
 after_nothing (e ∷ es) = ap (λ (l : List Entry). e ∷ l) (after_nothing es)
 
 -- the entries are the parts
-parts_of : (limit : ℕ) (fm : ArrayFormat) (d : Data) → is_listed fm false d ≡ true → (entries_at limit fm d []).refusal ≡ None
+pub parts_of : (limit : ℕ) (fm : ArrayFormat) (d : Data) → is_listed fm false d ≡ true → (entries_at limit fm d []).refusal ≡ None
     → ((entries_at limit fm d []).entries ≡ map entry_of (parts fm d)) × AllByRecursion (λ (p : Part). length (entry_of p).path ≤ limit + 1) (parts fm d)
 parts_of limit fm d li r =
     let h = parts_at limit fm false d [] li (omega arith) r in (
@@ -72,7 +72,7 @@ list_rooted indexed ds e = inl (branches_paths (value_branches indexed 0 ds))
 list_rooted empty_indexed ds e = cc
 list_rooted unindexed ds e = cc
 
-rooted : (fm : ArrayFormat) (d : Data) → is_listed fm false d ≡ true → IsRooted (parts fm d)
+pub rooted : (fm : ArrayFormat) (d : Data) → is_listed fm false d ≡ true → IsRooted (parts fm d)
 rooted fm Data.unit e = inr (Some [], refl)
 rooted fm Data.none e = inr (None, refl)
 rooted fm (Data.some d) e = rooted fm d e
@@ -112,7 +112,7 @@ readable form depth p h f l = record { some = h; segments = f.0; short = l; valu
     by (Some v) b = b
 
 -- the tree of the text of the parts, in another order
-written_tree : (fm : ArrayFormat) (form : Bool) (depth : ℕ) (ps qs : List Part) → IsRooted ps → AllByRecursion (IsFine form) ps → AllByRecursion (λ (p : Part). length (entry_of p).path ≤ depth + 1) ps → Perm ps qs
+pub written_tree : (fm : ArrayFormat) (form : Bool) (depth : ℕ) (ps qs : List Part) → IsRooted ps → AllByRecursion (IsFine form) ps → AllByRecursion (λ (p : Part). length (entry_of p).path ≤ depth + 1) ps → Perm ps qs
     → HasPairs (pairs form qs) → AllAlike fm (pairs form qs) → IsTree form depth (written form false (map entry_of qs)) (node (pairs form qs))
 unfolding written entry_text path_text
 written_tree fm form depth ps qs r f l w h a = by r
@@ -200,7 +200,7 @@ mutual
   members_listed (one_member n d ms) = ap₂ (λ a b. a && b) (listed true d) (members_listed ms)
 
 -- in the indexed format, in any order
-in_format : (config : Config) (d : Data) → config.array_format ≡ indexed → is_listed config.array_format false d ≡ true
+pub in_format : (config : Config) (d : Data) → config.array_format ≡ indexed → is_listed config.array_format false d ≡ true
 in_format config d e = ap (λ f. is_listed f false d) e ∙ listed false d
 
 pub read_back : (config : Config) (shape : Shape) (d : Data) (es : List Entry) → config.array_format ≡ indexed → is_distinct shape ≡ true → IsPlainFor config shape d → IsPermutation (entries config d).entries es

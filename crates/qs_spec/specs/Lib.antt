@@ -22,5 +22,6 @@ pub mod Plain
 pub mod Fits
 pub mod Listed
 pub mod Same
+pub mod Stable
 pub mod ReadBack
 pub mod toward

@@ -1,14 +1,15 @@
 -- Short words for the worked examples: trees, shapes and data, and what is read of an input and written of data.
-use Rattle.std.specs.Prelude.{◌≡◌, ℕ, false, List, [], ◌∷◌, Option, None}
+use Rattle.std.specs.Prelude.{◌≡◌, ℕ, false, List, [], ◌∷◌, Option, Some, None}
 use Rattle.qs_spec.specs.Config.{Config}
 use Rattle.qs_spec.specs.Segment.{Segment}
 use Rattle.qs_spec.specs.Leaf.{Leaf}
-use Rattle.qs_spec.specs.Tree.{Tree, Items, Entries, IsTree}
+use Rattle.qs_spec.specs.Tree.{Tree, Items, Entries, IsTree, IsRefused}
 use Rattle.qs_spec.specs.Shape.{Shape, no_fields, one_field}
-use Rattle.qs_spec.specs.Data.{Data, members_of}
+use Rattle.qs_spec.specs.Data.{Data, pairs_of, members_of}
 use Rattle.qs_spec.specs.Read.{read_by}
 use Rattle.qs_spec.specs.Entry.{Refusal, entries}
 use Rattle.qs_spec.specs.Written.{written}
+use Rattle.qs_spec.specs.Stable.{is_stable}
 
 -- a leaf without `+` and `%`
 abbrev pub text : List ℕ → Tree
@@ -37,6 +38,10 @@ field name s = Shape.struct (one_field name s false no_fields)
 abbrev pub one_member : List ℕ → Data → Data
 one_member name d = Data.struct (members_of ((name, d) ∷ []))
 
+-- a map of one text to data
+abbrev pub one_pair : List ℕ → Data → Data
+one_pair key d = Data.mapping (pairs_of ((Data.text key, d) ∷ []))
+
 -- the input has a tree, and this is what the shape reads from it
 pub record IsRead (config : Config) (shape : Shape) (input : List ℕ) (answer : Option Data) : Type 0 where
   pub tree : Tree
@@ -52,3 +57,16 @@ pub record IsWritten (config : Config) (d : Data) (text : List ℕ) (refusal : O
 pub record IsReadAs (config : Config) (shape : Shape) (d : Data) (text : List ℕ) (answer : Option Data) : Type 0 where
   pub written : IsWritten config d text None
   pub read : IsRead config shape text answer
+
+-- this is the tree of the input, if it has one
+abbrev pub IsTreeOrNone : Config → List ℕ → Option Tree → Type 0
+IsTreeOrNone config input None = IsRefused config.form config.max_depth input
+IsTreeOrNone config input (Some tree) = IsTree config.form config.max_depth input tree
+
+-- The input has this tree, which isn't stable; what `any` reads from it is written as the text, and the text has the other tree, or none.
+pub record IsUnstable (config : Config) (input : List ℕ) (tree : Tree) (d : Data) (text : List ℕ) (other : Option Tree) : Type 0 where
+  pub is_tree : IsTree config.form config.max_depth input tree
+  pub unstable : is_stable config.form tree ≡ false
+  pub reads : read_by config Shape.any tree ≡ Some d
+  pub written : IsWritten config d text None
+  pub again : IsTreeOrNone config text other

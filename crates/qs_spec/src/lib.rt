@@ -27,11 +27,13 @@ pub use keys::{
     ascending_keys, digits_and_numbers, found_by_lookup, written_keys_are_read,
     written_values_are_read,
 };
-pub use losses::{lists_without_indices, not_fitting_is_lost, not_plain_is_lost};
+pub use losses::{
+    lists_without_indices, not_fitting_is_lost, not_plain_is_lost, unstable_trees_are_lost,
+};
 pub use orders::{orders_by_place, reordered_inputs, reordered_pairs};
 pub use read_back::{
     data_that_are_not_plain, entries_are_apart, hostile_names_are_plain, plain_data_are_read_back,
-    writing_loses_nothing,
+    stable_trees_come_back, writing_loses_nothing,
 };
 pub use reading::pairs_are_read;
 pub use relation::{one_data, reads_is_the_relation};

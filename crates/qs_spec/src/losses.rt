@@ -4,10 +4,15 @@ ghost use Rattle.std.specs.Prelude.{◌≡◌, codes, decimal, [], ◌∷◌, So
 ghost use Rattle.qs_spec.specs.Config.{default, unindexed};
 ghost use Rattle.qs_spec.specs.Escape.{encoded};
 ghost use Rattle.qs_spec.specs.Segment.{segment_of};
-ghost use Rattle.qs_spec.specs.Segment.Segment.{Str};
+ghost use Rattle.qs_spec.specs.Segment.Segment.{Int, Str};
+ghost use Rattle.qs_spec.specs.Leaf.Leaf.{NoValue, Null};
+ghost use Rattle.qs_spec.specs.Tree.Tree.{leaf, mapping};
+ghost use Rattle.qs_spec.specs.Tree.Entries.{entry, no_entries};
+ghost use Rattle.qs_spec.specs.Stable.{is_stable};
+ghost use Rattle.qs_spec.specs.Entry.Refusal.{too_deep};
 ghost use Rattle.qs_spec.specs.Shape.{Shape, KeyShape, no_fields, one_field, fields_of, no_shapes, one_shape, no_variants, one_variant, unit_kind, tuple_kind, struct_kind};
 ghost use Rattle.qs_spec.specs.Data.{Data, values_of, pairs_of, members_of};
-ghost use Rattle.qs_spec.specs.Worked.{field, one_member, IsReadAs};
+ghost use Rattle.qs_spec.specs.Worked.{field, one_member, one_pair, text, texts, at_text, only, IsRead, IsReadAs, IsWritten, IsUnstable};
 
 /// Data that aren't plain are read as other data, or not at all: an option in an option as nothing; a struct without fields is
 /// missing; digits after a zero are another number, and a bracket nests at form encoding; an empty name or key stands for no key;
@@ -45,4 +50,19 @@ pub fn lists_without_indices()
     ensures at_the_top { IsReadAs (record default { array_format = unindexed }) (Shape.sequence (Shape.unsigned 8)) (Data.sequence (values_of (Data.unsigned 1 ∷ Data.unsigned 2 ∷ []))) (codes "=1=2") None }
     ensures lists_in_a_list { IsReadAs (record default { array_format = unindexed }) (field (codes "v") (Shape.sequence (Shape.sequence (Shape.unsigned 8)))) (one_member (codes "v") (Data.sequence (values_of (Data.sequence (values_of (Data.unsigned 1 ∷ Data.unsigned 2 ∷ [])) ∷ [])))) (codes "v=1&v=2") (Some (one_member (codes "v") (Data.sequence (values_of (Data.sequence (values_of (Data.unsigned 1 ∷ [])) ∷ Data.sequence (values_of (Data.unsigned 2 ∷ [])) ∷ []))))) }
     ensures one_empty_text { IsReadAs (record default { array_format = unindexed }) (field (codes "v") (Shape.sequence Shape.text)) (one_member (codes "v") (Data.sequence (values_of (Data.text [] ∷ [])))) (codes "v=") (Some (one_member (codes "v") (Data.sequence (values_of [])))) }
+{}
+
+/// What `any` reads from a tree that isn't stable is written as another: a key without `=` has one; several values of a key have
+/// indices; escaped digits are an index; in form mode an escaped bracket nests; and an empty key beside others is a push. A key
+/// beyond the depth limit isn't written, and a key that isn't UTF-8 isn't read.
+pub fn unstable_trees_are_lost()
+    ensures stable { is_stable true (mapping (entry (Int 7) false (leaf Null) (at_text (codes "a b") (mapping (entry (Int 0) false (text (codes "x")) (entry (Int 1) false (text (codes "[")) no_entries))) no_entries))) ≡ true }
+    ensures no_value { IsUnstable default (codes "a") (only (codes "a") (leaf NoValue)) (one_pair (codes "a") Data.unit) (codes "a=") (Some (only (codes "a") (leaf Null))) }
+    ensures several_values { IsUnstable default (codes "a=1&a=2") (only (codes "a") (texts (codes "1" ∷ codes "2" ∷ []))) (one_pair (codes "a") (Data.sequence (values_of (Data.text (codes "1") ∷ Data.text (codes "2") ∷ [])))) (codes "a[0]=1&a[1]=2") (Some (only (codes "a") (mapping (entry (Int 0) false (text (codes "1")) (entry (Int 1) false (text (codes "2")) no_entries))))) }
+    ensures escaped_digit { IsUnstable default (codes "%31=x") (mapping (entry (Str (codes "1")) true (text (codes "x")) no_entries)) (one_pair (codes "1") (Data.text (codes "x"))) (codes "1=x") (Some (mapping (entry (Int 1) false (text (codes "x")) no_entries))) }
+    ensures bracket_in_form { IsUnstable (record default { form = true }) (codes "a%5bb%5d=x") (mapping (entry (Str (codes "a[b]")) true (text (codes "x")) no_entries)) (one_pair (codes "a[b]") (Data.text (codes "x"))) (codes "a%5Bb%5D=x") (Some (only (codes "a") (only (codes "b") (text (codes "x"))))) }
+    ensures empty_key { IsUnstable default (codes "a[b]=1&a=2") (only (codes "a") (mapping (at_text [] (text (codes "2")) (at_text (codes "b") (text (codes "1")) no_entries)))) (one_pair (codes "a") (Data.mapping (pairs_of ((Data.text [], Data.text (codes "2")) ∷ (Data.text (codes "b"), Data.text (codes "1")) ∷ [])))) (codes "a[]=2&a[b]=1") None }
+    ensures beyond_the_limit { IsRead (record default { max_depth = 1 }) Shape.any (codes "a[b][c]=1") (Some (one_pair (codes "a") (one_pair (codes "b") (one_pair (codes "[c]") (Data.text (codes "1")))))) }
+    ensures too_deep { IsWritten (record default { max_depth = 1 }) (one_pair (codes "a") (one_pair (codes "b") (one_pair (codes "[c]") (Data.text (codes "1"))))) [] (Some too_deep) }
+    ensures key_not_utf8 { IsRead default Shape.any (codes "%FF=x") None }
 {}

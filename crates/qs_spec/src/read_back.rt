@@ -1,6 +1,6 @@
 // Laws of reading back what was written.
 
-ghost use Rattle.std.specs.Prelude.{codes, [], ◌∷◌, ◌≡◌, List, true, false};
+ghost use Rattle.std.specs.Prelude.{codes, [], ◌∷◌, ◌≡◌, ℕ, List, true, false, Some, None};
 ghost use Rattle.std.specs.List.Sorted.{IsPermutation};
 ghost use Rattle.qs_spec.specs.Config.{Config, default};
 ghost use Rattle.qs_spec.specs.Config.ArrayFormat.{indexed};
@@ -11,6 +11,10 @@ ghost use Rattle.qs_spec.specs.Entry.{Entry, entries};
 ghost use Rattle.qs_spec.specs.Written.{written};
 ghost use Rattle.qs_spec.specs.Listed.{is_listed};
 ghost use Rattle.qs_spec.specs.Same.{Same};
+ghost use Rattle.qs_spec.specs.Tree.{Tree, IsTree};
+ghost use Rattle.qs_spec.specs.Stable.{is_stable};
+ghost use Rattle.qs_spec.specs.Read.{read_by};
+ghost use Rattle.qs_spec.specs.Order.{AreAlike};
 ghost use Rattle.qs_spec.specs.ReadBack.{IsPlainFor, IsReadBack, ArePathsApart, KeepsPaths, KeepsPlaces};
 
 /// Plain data that are written without an error are read by a fitting shape, under the same configuration, as data that are
@@ -32,6 +36,13 @@ pub fn writing_loses_nothing()
         → IsPermutation (entries config d).entries (entries config e).entries → Same d e }
     ensures lists_in_order { (config : Config) (shape : Shape) (d e : Data) → is_distinct shape ≡ true → IsPlainFor config shape d → IsPlainFor config shape e
         → is_listed config.array_format false d ≡ true → is_listed config.array_format false e ≡ true → KeepsPaths (entries config d).entries (entries config e).entries → Same d e }
+{}
+
+/// Whatever the shape `any` reads from a stable tree, written without an error in the indexed format, has that tree again,
+/// marks aside, from its entries in any order.
+pub fn stable_trees_come_back()
+    ensures { (config : Config) (input : List ℕ) (t : Tree) (d : Data) (es : List Entry) → config.array_format ≡ indexed → IsTree config.form config.max_depth input t → is_stable config.form t ≡ true
+        → read_by config Shape.any t ≡ Some d → (entries config d).refusal ≡ None → IsPermutation (entries config d).entries es → AreAlike config.form config.max_depth input (written config.form false es) }
 {}
 
 /// In the indexed format no entry of such data has the path of another, or one that begins it.

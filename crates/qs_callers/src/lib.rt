@@ -4,6 +4,7 @@
 mod account;
 mod calls;
 mod filter;
+mod guard;
 mod pair;
 mod price;
 mod query;
@@ -17,6 +18,7 @@ mod wrappers;
 pub use account::Account;
 pub use calls::{asked, rewritten, sorted};
 pub use filter::Filter;
+pub use guard::{Rejected, guarded};
 pub use pair::Pair;
 pub use price::Price;
 pub use query::Query;

@@ -12,3 +12,4 @@ pub mod Typed
 pub mod WrittenText
 pub mod Wrappers
 pub mod Items
+pub mod Limits

@@ -1,0 +1,29 @@
+//! Limits in front of a typed call.
+
+ghost use Rattle.std.specs.Prelude.{◌≡◌};
+ghost use Rattle.qs_spec.specs.Config.{default};
+ghost use Rattle.serde_qs.specs.Limits.{Checks};
+ghost use Rattle.serde_qs.specs.Typed.{ReturnsValue};
+ghost use Rattle.qs_callers.specs.Guard.{Guards};
+ghost use Rattle.qs_callers.specs.Query.{query_form, query_in, query_value};
+
+use crate::query::Query;
+use serde_qs::{Error, LimitError, Limits, from_bytes};
+use std::alloc::Global;
+
+/// Why a service answers no query.
+#[derive(Debug, Drop)]
+pub enum Rejected {
+    /// The input is too large, and wasn't parsed.
+    TooLarge(LimitError),
+    /// The input stands for no query.
+    Unread(Error),
+}
+
+/// Returns the query that a querystring stands for, where it is within the limits.
+pub fn guarded(alloc: Global, limits: Limits, input: &[u8]) -> Result<Query, Rejected>
+    ensures { Guards limits input.now result }
+{
+    limits.check(input).map_err(Rejected::TooLarge)?;
+    from_bytes(alloc, input).map_err(Rejected::Unread)
+}

@@ -1,0 +1,9 @@
+use Rattle.std.proofs.Common.{rules, ◌∙◌}
+use Rattle.qs_request.proofs.target.query.Goals as goal
+
+pub returns-clause-back : goal.returns-clause-back
+returns-clause-back g c = record {
+  returns = λ x es plain order is.
+      let same = c.deserialize_str.ensures.back.returns x es plain order (c.query_text.ensures ∙ is) in
+      search (rules);
+}

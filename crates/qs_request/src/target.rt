@@ -1,0 +1,38 @@
+//! The query of a request target.
+
+ghost use Rattle.std.specs.Prelude.{◌≡◌};
+ghost use Rattle.serde_qs.specs.Typed.{ReturnsValue, ReturnsWritten};
+ghost use Rattle.qs_request.specs.Request.{query_of};
+
+use http_uri::Uri;
+use serde_qs::web::QsQuery;
+use serde_qs::{Config, ConfigExt, Deserialize, Result};
+use std::alloc::Global;
+
+/// Returns the value that the query of a request target stands for under a configuration.
+///
+/// The query is what follows the first `?` (RFC 3986, section 3.4); a fragment is no part of it. Where there is none, the
+/// empty querystring is read, so that a type without required fields has a value.
+///
+/// The default configuration takes brackets as they are. Clients that escape them need
+/// [`use_form_encoding`](Config::use_form_encoding), which reads both.
+///
+/// ```
+/// let target = Uri::from_str(alloc, "/test?page=2")?;
+/// let filter: QsQuery<Filter> = query(alloc, &target, Config::new())?; // page 2
+/// ```
+///
+/// The errors are those of [`from_str`](serde_qs::from_str) with this configuration. It allocates as that call does; the target stays as it was.
+pub fn query<T: Deserialize>(alloc: Global, uri: &Uri, config: Config) -> Result<QsQuery<T>>
+    ensures exact { ReturnsValue (λ query. T.value query.0) config T.form T.meaning (query_of uri.now) result }
+    ensures back { ReturnsWritten (λ query. T.value query.0) config T.form T.meaning (query_of uri.now) result }
+{
+    config.deserialize_str(alloc, query_text(uri)).map(QsQuery)
+}
+
+// The query of a request target, empty where there is none.
+fn query_text(uri: &Uri) -> &str
+    ensures { result.now ≡ query_of uri.now }
+{
+    uri.query().unwrap_or("")
+}

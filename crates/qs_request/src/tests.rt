@@ -1,0 +1,5 @@
+//! Requests as a server receives them.
+
+mod params;
+mod requests;
+mod users;

@@ -12,7 +12,11 @@ mod errors;
 #[cfg(test)]
 mod escapes;
 #[cfg(test)]
+mod helpers;
+#[cfg(test)]
 mod maps;
+#[cfg(test)]
+mod notation;
 #[cfg(test)]
 mod read_back;
 #[cfg(test)]

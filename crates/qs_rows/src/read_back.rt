@@ -1,7 +1,10 @@
 //! Plain data that fit a shape, read back from their entries in other orders, and what isn't read back.
 
 mod answered;
+mod cases;
 mod entries;
+mod formats;
 mod losses;
 mod orders;
 mod premises;
+mod random;

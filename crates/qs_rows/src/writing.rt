@@ -22,7 +22,7 @@ fn form() -> Config {
 }
 
 /// The data are written as this text.
-fn writes<R: Abort>(b: &Build<'_, R>, config: Config, datum: &Data, wanted: &str) {
+pub fn writes<R: Abort>(b: &Build<'_, R>, config: Config, datum: &Data, wanted: &str) {
     let mut serializer = Serializer::new(Vec::new(b.alloc), config);
     let result = serializer.serialize(b.alloc, datum);
     let written = serializer.into_sink().into_writer();

@@ -75,8 +75,6 @@ fn keys(rt: HostRuntime) {
 
 #[test]
 fn numbers(rt: HostRuntime) {
-    let alloc = rt.alloc();
-    let b = Build { rt: &rt, alloc };
     let unsigned = [
         (Shape::U8, 255, 256),
         (Shape::U16, 65_535, 65_536),
@@ -102,23 +100,23 @@ fn numbers(rt: HostRuntime) {
     }
     fits(&rt, &Shape::U64, Data::Unsigned(u64::MAX), true);
     fits(&rt, &Shape::I64, Data::Signed(i64::MIN), true);
+}
+
+#[test]
+fn keys_of_maps(rt: HostRuntime) {
+    let alloc = rt.alloc();
+    let b = Build { rt: &rt, alloc };
     let map = |key| b.pairs([(key, Data::Unit)]);
-    fits(
-        &rt,
-        &b.map(KeyShape::U8, Shape::Unit),
-        map(Data::Unsigned(256)),
-        false,
-    );
-    fits(
-        &rt,
-        &b.map(KeyShape::I8, Shape::Unit),
-        map(Data::Signed(-128)),
-        true,
-    );
-    let names = b.map(b.names(&["a", "b"]), Shape::Unit);
-    fits(&rt, &names, map(b.bare("b")), true);
-    fits(&rt, &names, map(b.bare("c")), false);
-    fits(&rt, &names, map(b.text("a")), false);
+    let rows = [
+        (KeyShape::U8, Data::Unsigned(256), false),
+        (KeyShape::I8, Data::Signed(-128), true),
+        (b.names(&["a", "b"]), b.bare("b"), true),
+        (b.names(&["a", "b"]), b.bare("c"), false),
+        (b.names(&["a", "b"]), b.text("a"), false),
+    ];
+    for (key, data, wanted) in rows {
+        fits(&rt, &b.map(key, Shape::Unit), map(data), wanted);
+    }
 }
 
 #[test]

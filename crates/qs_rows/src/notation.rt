@@ -1,0 +1,199 @@
+//! Shapes and data as words with spaces between, each before its parts: `Seq Option U8` and `Seq:2 None Some Unsigned:7`.
+//!
+//! Behind a colon stand a scalar's text, the count of parts, or names. They are escaped as in form mode. Behind the name of an
+//! optional field stands `?`. The variants of an enum stand behind its count: `Enum:2 unit:a struct:b:x:y? U8 Text`.
+
+use crate::build::Build;
+use qs_tree::decode;
+use serde_qs::{Data, Field, KeyShape, Shape, Variant, VariantKind};
+use std::process::Abort;
+
+/// What a text with escapes stands for.
+fn bytes<R: Abort>(b: &Build<'_, R>, text: &str) -> Vec<u8> {
+    let decoded = decode(b.alloc, text.as_bytes()).expect(b.rt, "memory");
+    Vec::from_slice(b.alloc, decoded.as_slice()).expect(b.rt, "memory")
+}
+
+fn string<R: Abort>(b: &Build<'_, R>, text: &str) -> String {
+    String::from_utf8(bytes(b, text)).expect(b.rt, "UTF-8")
+}
+
+/// The last one.
+fn part<R: Abort, T: Drop>(b: &Build<'_, R>, parts: &mut Vec<T>) -> T {
+    parts.pop().expect(b.rt, "a part")
+}
+
+fn boxed<R: Abort, T: Drop>(b: &Build<'_, R>, parts: &mut Vec<T>) -> Box<T> {
+    Box::new(b.alloc, part(b, parts)).expect(b.rt, "memory")
+}
+
+/// As many as the text says, from the last one on.
+fn counted<R: Abort, T: Drop>(b: &Build<'_, R>, count: &str, parts: &mut Vec<T>) -> Vec<T> {
+    let mut counted = Vec::new(b.alloc);
+    for _ in 0..count.parse::<u32>().expect(b.rt, "a count") {
+        let part = part(b, parts);
+        counted.push(part).expect(b.rt, "memory");
+    }
+    counted
+}
+
+/// A field for each name, with the shapes from the last one on.
+fn fields<R: Abort>(b: &Build<'_, R>, names: &str, shapes: &mut Vec<Shape>) -> Vec<Field> {
+    let mut fields = Vec::new(b.alloc);
+    for word in names.split(':').filter(|word| !word.is_empty()) {
+        let shape = part(b, shapes);
+        let field = match word.strip_suffix('?') {
+            Some(name) => b.optional(string(b, name).as_str(), shape),
+            None => b.required(string(b, word).as_str(), shape),
+        };
+        fields.push(field).expect(b.rt, "memory");
+    }
+    fields
+}
+
+fn key<R: Abort>(b: &Build<'_, R>, word: &str) -> KeyShape {
+    match word {
+        "Bool" => KeyShape::Bool,
+        "U8" => KeyShape::U8,
+        "U16" => KeyShape::U16,
+        "U32" => KeyShape::U32,
+        "U64" => KeyShape::U64,
+        "I8" => KeyShape::I8,
+        "I16" => KeyShape::I16,
+        "I32" => KeyShape::I32,
+        "I64" => KeyShape::I64,
+        "Char" => KeyShape::Char,
+        "Text" => KeyShape::Text,
+        _ => {
+            let (_, words) = word.split_once(':').expect(b.rt, word);
+            let mut names = Vec::new(b.alloc);
+            for name in words.split(':') {
+                names.push(string(b, name)).expect(b.rt, "memory");
+            }
+            KeyShape::Variants(names)
+        }
+    }
+}
+
+/// The kind of a variant, and its name.
+fn variant<R: Abort>(
+    b: &Build<'_, R>,
+    kind: &str,
+    rest: &str,
+    shapes: &mut Vec<Shape>,
+) -> Option<Variant> {
+    let (name, parts) = rest.split_once(':').unwrap_or((rest, ""));
+    let kind = match kind {
+        "unit" => VariantKind::Unit,
+        "newtype" => VariantKind::Newtype(boxed(b, shapes)),
+        "tuple" => VariantKind::Tuple(counted(b, parts, shapes)),
+        "struct" => VariantKind::Struct(fields(b, parts, shapes)),
+        _ => return None,
+    };
+    Some(b.variant(string(b, name).as_str(), kind))
+}
+
+/// The shape of a scalar.
+fn scalar<R: Abort>(b: &Build<'_, R>, word: &str) -> Shape {
+    match word {
+        "Unit" => Shape::Unit,
+        "Bool" => Shape::Bool,
+        "U8" => Shape::U8,
+        "U16" => Shape::U16,
+        "U32" => Shape::U32,
+        "U64" => Shape::U64,
+        "I8" => Shape::I8,
+        "I16" => Shape::I16,
+        "I32" => Shape::I32,
+        "I64" => Shape::I64,
+        "Char" => Shape::Char,
+        "Text" => Shape::Text,
+        "Bytes" => Shape::Bytes,
+        _ => panic!(b.rt; "{word}"),
+    }
+}
+
+/// The shape that these words are.
+pub fn shape<R: Abort>(b: &Build<'_, R>, words: &str) -> Shape {
+    let mut shapes = Vec::new(b.alloc);
+    let mut variants = Vec::new(b.alloc);
+    for word in words.rsplit(' ') {
+        let (kind, rest) = word.split_once(':').unwrap_or((word, ""));
+        if let Some(variant) = variant(b, kind, rest, &mut shapes) {
+            variants.push(variant).expect(b.rt, "memory");
+            continue;
+        }
+        let shape = match kind {
+            "Option" => Shape::Option(boxed(b, &mut shapes)),
+            "Newtype" => Shape::Newtype(boxed(b, &mut shapes)),
+            "Seq" => Shape::Seq(boxed(b, &mut shapes)),
+            "Tuple" => Shape::Tuple(counted(b, rest, &mut shapes)),
+            "Map" => Shape::Map(key(b, rest), boxed(b, &mut shapes)),
+            "Struct" => Shape::Struct(fields(b, rest, &mut shapes)),
+            "Enum" => Shape::Enum(counted(b, rest, &mut variants)),
+            _ => scalar(b, kind),
+        };
+        shapes.push(shape).expect(b.rt, "memory");
+    }
+    part(b, &mut shapes)
+}
+
+/// A member for each name, with the data from the last one on.
+fn members<R: Abort>(b: &Build<'_, R>, names: &str, data: &mut Vec<Data>) -> Vec<(String, Data)> {
+    let mut members = Vec::new(b.alloc);
+    for name in names.split(':').filter(|name| !name.is_empty()) {
+        let member = (string(b, name), part(b, data));
+        members.push(member).expect(b.rt, "memory");
+    }
+    members
+}
+
+/// As many keys, each with its value, as the text says.
+fn pairs<R: Abort>(b: &Build<'_, R>, count: &str, data: &mut Vec<Data>) -> Vec<(Data, Data)> {
+    let mut pairs = Vec::new(b.alloc);
+    for _ in 0..count.parse::<u32>().expect(b.rt, "a count") {
+        let pair = (part(b, data), part(b, data));
+        pairs.push(pair).expect(b.rt, "memory");
+    }
+    pairs
+}
+
+/// A variant that holds something.
+fn holding<R: Abort>(b: &Build<'_, R>, kind: &str, rest: &str, data: &mut Vec<Data>) -> Data {
+    let (name, parts) = rest.split_once(':').unwrap_or((rest, ""));
+    let name = string(b, name);
+    match kind {
+        "NewtypeVariant" => Data::NewtypeVariant(name, boxed(b, data)),
+        "TupleVariant" => Data::TupleVariant(name, counted(b, parts, data)),
+        "StructVariant" => Data::StructVariant(name, members(b, parts, data)),
+        _ => panic!(b.rt; "{kind}"),
+    }
+}
+
+/// The data that these words are.
+pub fn data<R: Abort>(b: &Build<'_, R>, words: &str) -> Data {
+    let mut data = Vec::new(b.alloc);
+    for word in words.rsplit(' ') {
+        let (kind, rest) = word.split_once(':').unwrap_or((word, ""));
+        let one = match kind {
+            "Unit" => Data::Unit,
+            "None" => Data::None,
+            "Bool" => Data::Bool(rest == "true"),
+            "Unsigned" => Data::Unsigned(rest.parse::<u64>().expect(b.rt, word)),
+            "Signed" => Data::Signed(rest.parse::<i64>().expect(b.rt, word)),
+            "Char" => Data::Char(string(b, rest).chars().next().expect(b.rt, word)),
+            "Text" => Data::Text(string(b, rest)),
+            "Bytes" => Data::Bytes(bytes(b, rest)),
+            "UnitVariant" => Data::UnitVariant(string(b, rest)),
+            "Some" => Data::Some(boxed(b, &mut data)),
+            "Newtype" => Data::Newtype(boxed(b, &mut data)),
+            "Seq" => Data::Seq(counted(b, rest, &mut data)),
+            "Tuple" => Data::Tuple(counted(b, rest, &mut data)),
+            "Map" => Data::Map(pairs(b, rest, &mut data)),
+            "Struct" => Data::Struct(members(b, rest, &mut data)),
+            _ => holding(b, kind, rest, &mut data),
+        };
+        data.push(one).expect(b.rt, "memory");
+    }
+    part(b, &mut data)
+}

@@ -1,0 +1,228 @@
+//! Random plain data of every kind, written, read back from their entries in another order.
+
+use crate::build::Build;
+use crate::notation;
+use crate::rows::Rows;
+use serde_qs::{Config, Data, Serializer};
+use std::alloc::Global;
+use std::process::Abort;
+
+/// Pseudo-random numbers.
+#[derive(Drop)]
+struct Random {
+    state: u64,
+}
+
+impl Random {
+    /// A number below the bound, and 0 where the bound is 0.
+    fn below(&mut self, bound: usize) -> usize {
+        self.state = self
+            .state
+            .wrapping_mul(6_364_136_223_846_793_005)
+            .wrapping_add(1_442_695_040_888_963_407);
+        (self.state >> 33) as usize % bound.max(1)
+    }
+}
+
+/// Shapes without parts, each with data.
+const SCALARS: [(&str, &str); 24] = [
+    ("Unit", "Unit"),
+    ("Bool", "Bool:true"),
+    ("Bool", "Bool:false"),
+    ("U8", "Unsigned:255"),
+    ("U16", "Unsigned:65535"),
+    ("U32", "Unsigned:4294967295"),
+    ("U64", "Unsigned:18446744073709551615"),
+    ("I8", "Signed:-128"),
+    ("I16", "Signed:32767"),
+    ("I32", "Signed:-2147483648"),
+    ("I64", "Signed:-9223372036854775808"),
+    ("Char", "Char:%C3%A9"),
+    ("Char", "Char:%5D"),
+    ("Text", "Text:"),
+    ("Text", "Text:a%20b%26c%3D%5Bd%5D%2B%25"),
+    ("Bytes", "Bytes:%FF%00"),
+    ("Option U16", "None"),
+    ("Option Text", "Some Text:"),
+    ("Option Bool", "Some Bool:false"),
+    ("Newtype Text", "Newtype Text:007"),
+    ("Enum:2 unit:u unit:%5Bv%5D", "UnitVariant:%5Bv%5D"),
+    ("Seq Text", "Seq:0"),
+    ("Tuple:0", "Tuple:0"),
+    ("Map:Text U8", "Map:0"),
+];
+
+/// Names of fields and variants. In form mode the last two aren't plain.
+const NAMES: [[&str; 2]; 6] = [
+    ["a", "b%20c"],
+    ["7", "0"],
+    ["%26%3D", "%2B"],
+    ["%C3%A9", "%2541"],
+    ["1", "a"],
+    ["%5Bx%5D", "%5D"],
+];
+
+/// What is put together: the words of a shape and of data, in each the names `a` and `b` and the parts `x` and `y`. The pairs of
+/// a map are in the order in which they are read.
+const WHOLES: [(&str, &str); 13] = [
+    ("Struct:<a>:<b> <x> <y>", "Struct:<a>:<b> <x> <y>"),
+    ("Struct:<a>:<b>? <x> <y>", "Struct:<a> <x>"),
+    ("Tuple:2 <x> <y>", "Tuple:2 <x> <y>"),
+    ("Seq <x>", "Seq:3 <x> <x> <x>"),
+    (
+        "Map:I8 <x>",
+        "Map:3 Signed:9 <x> Signed:10 <x> Signed:-3 <x>",
+    ),
+    ("Map:Text <x>", "Map:2 Text:%2B <x> Text:b%20c <x>"),
+    ("Map:Bool <x>", "Map:2 Bool:false <x> Bool:true <x>"),
+    ("Map:Char <x>", "Map:2 Char:1 <x> Char:%C3%A9 <x>"),
+    ("Map:Variants:p:q <x>", "Map:1 UnitVariant:q <x>"),
+    ("Enum:2 unit:u newtype:<a> <x>", "NewtypeVariant:<a> <x>"),
+    ("Enum:1 tuple:<a>:2 <x> <y>", "TupleVariant:<a>:2 <x> <y>"),
+    (
+        "Enum:1 struct:<a>:<b>:c <x> <y>",
+        "StructVariant:<a>:<b>:c <x> <y>",
+    ),
+    ("Newtype Tuple:1 <x>", "Newtype Tuple:1 <x>"),
+];
+
+/// The words of a shape and of data that fit it.
+#[derive(Drop)]
+struct Words {
+    shape: String,
+    data: String,
+}
+
+/// The words with these names and parts.
+fn filled<R: Abort>(b: &Build<'_, R>, words: &str, names: [&str; 2], x: &str, y: &str) -> String {
+    let mut filled = String::new(b.alloc);
+    for piece in words.split('<') {
+        let (place, rest) = piece.split_once('>').unwrap_or(("", piece));
+        let text = match place {
+            "a" => names[0],
+            "b" => names[1],
+            "x" => x,
+            "y" => y,
+            _ => "",
+        };
+        filled.push_str(text).expect(b.rt, "memory");
+        filled.push_str(rest).expect(b.rt, "memory");
+    }
+    filled
+}
+
+/// One of the wholes, of these parts, with two of the first so many names.
+fn whole<R: Abort>(
+    b: &Build<'_, R>,
+    random: &mut Random,
+    names: usize,
+    x: &Words,
+    y: &Words,
+) -> Words {
+    let (shape, data) = *WHOLES
+        .get(random.below(WHOLES.len()))
+        .expect(b.rt, "a whole");
+    let names = *NAMES.get(random.below(names)).expect(b.rt, "names");
+    Words {
+        shape: filled(b, shape, names, x.shape.as_str(), y.shape.as_str()),
+        data: filled(b, data, names, x.data.as_str(), y.data.as_str()),
+    }
+}
+
+/// As many scalars as a whole five deep has.
+fn scalars<R: Abort>(b: &Build<'_, R>, random: &mut Random) -> Vec<Words> {
+    let mut scalars = Vec::new(b.alloc);
+    for _ in 0..32 {
+        let (shape, data) = *SCALARS
+            .get(random.below(SCALARS.len()))
+            .expect(b.rt, "a scalar");
+        let scalar = Words {
+            shape: String::from_str(b.alloc, shape).expect(b.rt, "memory"),
+            data: String::from_str(b.alloc, data).expect(b.rt, "memory"),
+        };
+        scalars.push(scalar).expect(b.rt, "memory");
+    }
+    scalars
+}
+
+/// Wholes of wholes, so deep.
+fn nested<R: Abort>(b: &Build<'_, R>, random: &mut Random, names: usize, depth: u32) -> Words {
+    let mut parts = scalars(b, random);
+    for _ in 0..depth {
+        parts = wholes(b, random, names, parts);
+    }
+    parts.pop().expect(b.rt, "a whole")
+}
+
+/// A whole of each two.
+fn wholes<R: Abort>(
+    b: &Build<'_, R>,
+    random: &mut Random,
+    names: usize,
+    mut parts: Vec<Words>,
+) -> Vec<Words> {
+    let mut wholes = Vec::new(b.alloc);
+    for _ in 0..parts.len() / 2 {
+        let x = parts.pop().expect(b.rt, "a part");
+        let y = parts.pop().expect(b.rt, "a part");
+        let whole = whole(b, random, names, &x, &y);
+        wholes.push(whole).expect(b.rt, "memory");
+    }
+    wholes
+}
+
+fn written<R: Abort>(b: &Build<'_, R>, config: Config, data: &Data) -> String {
+    let mut serializer = Serializer::new(Vec::new(b.alloc), config);
+    let written = serializer.serialize(b.alloc, data);
+    assert!(b.rt; written.is_ok(), "{data:?}");
+    String::from_utf8(serializer.into_sink().into_writer()).expect(b.rt, "UTF-8")
+}
+
+/// The text with its entries in another order: each is put before or after those so far.
+fn shuffled<R: Abort>(b: &Build<'_, R>, random: &mut Random, text: &str) -> String {
+    let mut shuffled = String::new(b.alloc);
+    for (place, entry) in text.split('&').enumerate() {
+        let both = match (place, random.below(2)) {
+            (0, _) => format!(in b.alloc; "{entry}"),
+            (_, 0) => format!(in b.alloc; "{entry}&{shuffled}"),
+            _ => format!(in b.alloc; "{shuffled}&{entry}"),
+        };
+        shuffled = both.expect(b.rt, "memory");
+    }
+    shuffled
+}
+
+/// Data from each of some seeds come back, so deep.
+fn come_back<R: Abort>(rt: &R, alloc: Global, form: bool, depth: u32) {
+    let config = Config::new().max_depth(10).use_form_encoding(form);
+    let rows = Rows::new(rt, alloc).deep(10);
+    let (t, names) = match form {
+        true => (rows.form(), NAMES.len() - 1),
+        false => (rows, NAMES.len()),
+    };
+    let b = &t.build;
+    for seed in 0..20 {
+        let mut random = Random { state: seed };
+        let words = nested(b, &mut random, names, depth);
+        let shape = notation::shape(b, words.shape.as_str());
+        let data = notation::data(b, words.data.as_str());
+        assert!(b.rt; data.is_plain(config), "{data:?}");
+        assert!(b.rt; shape.fits(&data), "{data:?}");
+        let text = shuffled(b, &mut random, written(b, config, &data).as_str());
+        t.reads(text.as_str(), &shape, data);
+    }
+}
+
+#[test]
+fn in_query_mode(rt: HostRuntime) {
+    for depth in 1..6 {
+        come_back(&rt, rt.alloc(), false, depth);
+    }
+}
+
+#[test]
+fn in_form_mode(rt: HostRuntime) {
+    for depth in 1..6 {
+        come_back(&rt, rt.alloc(), true, depth);
+    }
+}

@@ -1,6 +1,6 @@
 //! What is measured.
 
-use crate::calls::{self, Keys, Sample};
+use crate::calls::{self, Keys, Sample, Shape};
 use crate::inputs::{self, Generator, Order};
 use crate::timing::grouped;
 use std::hint::black_box;
@@ -17,6 +17,8 @@ enum Call {
     Encode { form: bool, wanted: Vec<u8> },
     /// Writes the sample: as the case's bytes.
     Write(Sample),
+    /// Reads the case's bytes by the shape: so much.
+    Read(Shape, usize),
 }
 
 pub struct Case {
@@ -56,23 +58,29 @@ impl Case {
                 out.resize(self.bytes.len(), 0);
                 sample.write(1, &mut out) == Some(out.len()) && out == self.bytes
             }
+            Call::Read(shape, size) => calls::read(1, *shape, &self.bytes) == Some(*size),
         }
     }
 
-    /// Makes the call so many times. Where it writes, it first makes the data, and writes them once more.
+    /// Makes the call so many times. Where it writes or reads, it first makes the data or the shape, and does so once more.
     pub fn repeat(&self, times: usize) {
-        if let Call::Write(sample) = &self.call {
-            black_box(sample.write(times + 1, &mut []));
-            return;
+        let bytes = black_box(&self.bytes);
+        match &self.call {
+            Call::Write(sample) => drop(black_box(sample.write(times + 1, &mut []))),
+            Call::Read(shape, _) => drop(black_box(calls::read(times + 1, *shape, bytes))),
+            call => (0..times).for_each(|_| call.make(black_box(bytes))),
         }
-        for _ in 0..times {
-            let bytes = black_box(&self.bytes);
-            match self.call {
-                Call::Parse(_) | Call::Reject => drop(black_box(calls::parse(bytes))),
-                Call::Decode(_) => drop(black_box(calls::decode(bytes, &mut []))),
-                Call::Encode { form, .. } => drop(black_box(calls::encode(form, bytes, &mut []))),
-                Call::Write(_) => {}
-            }
+    }
+}
+
+impl Call {
+    /// Makes the call once. What is written or read is repeated within a call of its own.
+    fn make(&self, bytes: &[u8]) {
+        match self {
+            Call::Parse(_) | Call::Reject => drop(black_box(calls::parse(bytes))),
+            Call::Decode(_) => drop(black_box(calls::decode(bytes, &mut []))),
+            Call::Encode { form, .. } => drop(black_box(calls::encode(*form, bytes, &mut []))),
+            Call::Write(_) | Call::Read(..) => {}
         }
     }
 }
@@ -114,6 +122,7 @@ pub fn all(small: bool) -> Vec<Case> {
     ));
     cases.extend(series(written, |count| fields(0, count)));
     cases.extend([fields(5, 1), fields(5, many), numbers(many)]);
+    cases.extend(read(written, many, len));
     cases
 }
 
@@ -168,13 +177,15 @@ fn elements(count: usize) -> Case {
         root: 1,
         first: count,
     };
-    Case::new(name, inputs::elements(count), Call::Parse(keys))
+    let input = inputs::keyed(count, |place| format!("a[{place}]"));
+    Case::new(name, input, Call::Parse(keys))
 }
 
 fn pushed(count: usize) -> Case {
     let name = format!("parse {} pushed elements", grouped(count));
     let keys = Keys { root: 1, first: 0 };
-    Case::new(name, inputs::pushed(count), Call::Parse(keys))
+    let input = inputs::keyed(count, |_| "a[]".into());
+    Case::new(name, input, Call::Parse(keys))
 }
 
 /// Each pair has an escape in its key.
@@ -298,6 +309,75 @@ fn texts(len: usize) -> Vec<Case> {
             written(&ampersands.as_bytes()[..len / 3]),
         ),
     ]
+}
+
+/// A struct, the record, maps, a list, a nested text and long texts.
+fn read(counts: &[usize], many: usize, len: usize) -> Vec<Case> {
+    let case = |kind: &str, input: String, shape: Shape, size: usize| {
+        Case::new(format!("read {kind}"), input, Call::Read(shape, size))
+    };
+    let map = |count: usize, order: Order| {
+        let kind = format!("{} into a map, {}", counted(count, "pair"), order.name());
+        case(
+            &kind,
+            inputs::pairs(count, order, "key", ""),
+            Shape::Map,
+            17 * count,
+        )
+    };
+    let record = "AcmeCarrot CitySpecial-Street* No. 1112345".len();
+    let mut cases = vec![
+        case(
+            "three pairs into a struct",
+            "name=Alice&age=24&occupation=Student".into(),
+            Shape::Person,
+            12,
+        ),
+        case(
+            "the record of ten entries",
+            RECORD.into(),
+            Shape::Record,
+            record,
+        ),
+    ];
+    cases.extend(series(counts, |count| map(count, Order::InOrder)));
+    cases.extend([
+        map(many, Order::Shuffled),
+        case(
+            &format!("{} elements by number", grouped(many)),
+            (0..many)
+                .map(|place| format!("ids[{place}]={place}"))
+                .collect::<Vec<_>>()
+                .join("&"),
+            Shape::Ids,
+            many,
+        ),
+        case(
+            "one text, five keys deep",
+            "a[b][c][d][e]=text".into(),
+            Shape::Nested,
+            4,
+        ),
+        case(
+            "one value of letters",
+            format!("a={}", Generator::new().letters(len)),
+            Shape::Text,
+            len,
+        ),
+        case(
+            "one value of escapes",
+            format!("a={}", inputs::escapes(len)),
+            Shape::Text,
+            len / 3,
+        ),
+        case(
+            "one value of spaces",
+            format!("a={}", "+".repeat(len)),
+            Shape::Text,
+            len,
+        ),
+    ]);
+    cases
 }
 
 const RECORD: &str = "id=42&name=Acme&phone=12345&address[city]=Carrot+City&address[street]=Special-Street*+No.+11\

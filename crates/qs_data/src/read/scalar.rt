@@ -48,6 +48,7 @@ pub(crate) fn read_bool(alloc: Global, strict: bool, value: &ParsedValue<'_>) ->
 }
 
 /// An unsigned number: the last text.
+#[inline(always)]
 pub(crate) fn read_unsigned(
     alloc: Global,
     strict: bool,
@@ -66,6 +67,7 @@ pub(crate) fn read_unsigned(
 }
 
 /// A signed number: the last text.
+#[inline(always)]
 pub(crate) fn read_signed(
     alloc: Global,
     strict: bool,

@@ -1,5 +1,7 @@
 //! What is measured.
 
+mod data;
+
 use crate::calls::{self, Keys, Sample, Shape};
 use crate::inputs::{self, Generator, Order};
 use crate::timing::grouped;
@@ -114,15 +116,9 @@ pub fn all(small: bool) -> Vec<Case> {
     cases.extend(hostile(len));
     cases.extend(texts(len));
     cases.extend(encoded(len));
-    let written = &pairs[..pairs.len().min(4)];
-    cases.push(Case::new(
-        "write a record of ten entries",
-        RECORD,
-        Call::Write(Sample::Record),
-    ));
-    cases.extend(series(written, |count| fields(0, count)));
-    cases.extend([fields(5, 1), fields(5, many), numbers(many)]);
-    cases.extend(read(written, many, len));
+    let counts = &pairs[..pairs.len().min(4)];
+    cases.extend(data::written(counts, many));
+    cases.extend(data::read(counts, many, len));
     cases
 }
 
@@ -253,13 +249,14 @@ fn encoded(len: usize) -> Vec<Case> {
     ]
 }
 
-/// Long texts of letters, of words, of the escapes of letters, and of a byte that is always escaped.
+/// Long texts of letters, of words, of spaces, of the escapes of letters, and of a byte that is always escaped.
 fn texts(len: usize) -> Vec<Case> {
     let letters = Generator::new().letters(len);
     let escapes = inputs::escapes(len);
     let escaped = Generator::new().letters(len / 3);
     let ampersands = "&".repeat(len);
     let words = inputs::words(len);
+    let pluses = "+".repeat(len);
     let value = Keys { root: 1, first: 0 };
     let written = |bytes: &[u8]| Call::Write(Sample::Bytes(bytes.to_vec()));
     vec![
@@ -277,6 +274,16 @@ fn texts(len: usize) -> Vec<Case> {
             "parse one value of words",
             format!("a={}", words.replace(' ', "+")),
             Call::Parse(value),
+        ),
+        Case::new(
+            "parse one value of spaces",
+            format!("a={pluses}"),
+            Call::Parse(value),
+        ),
+        Case::new(
+            "decode spaces",
+            pluses,
+            Call::Decode(" ".repeat(len).into()),
         ),
         Case::new(
             "decode words",
@@ -309,102 +316,4 @@ fn texts(len: usize) -> Vec<Case> {
             written(&ampersands.as_bytes()[..len / 3]),
         ),
     ]
-}
-
-/// A struct, the record, maps, a list, a nested text and long texts.
-fn read(counts: &[usize], many: usize, len: usize) -> Vec<Case> {
-    let case = |kind: &str, input: String, shape: Shape, size: usize| {
-        Case::new(format!("read {kind}"), input, Call::Read(shape, size))
-    };
-    let map = |count: usize, order: Order| {
-        let kind = format!("{} into a map, {}", counted(count, "pair"), order.name());
-        case(
-            &kind,
-            inputs::pairs(count, order, "key", ""),
-            Shape::Map,
-            17 * count,
-        )
-    };
-    let record = "AcmeCarrot CitySpecial-Street* No. 1112345".len();
-    let mut cases = vec![
-        case(
-            "three pairs into a struct",
-            "name=Alice&age=24&occupation=Student".into(),
-            Shape::Person,
-            12,
-        ),
-        case(
-            "the record of ten entries",
-            RECORD.into(),
-            Shape::Record,
-            record,
-        ),
-    ];
-    cases.extend(series(counts, |count| map(count, Order::InOrder)));
-    cases.extend([
-        map(many, Order::Shuffled),
-        case(
-            &format!("{} elements by number", grouped(many)),
-            (0..many)
-                .map(|place| format!("ids[{place}]={place}"))
-                .collect::<Vec<_>>()
-                .join("&"),
-            Shape::Ids,
-            many,
-        ),
-        case(
-            "one text, five keys deep",
-            "a[b][c][d][e]=text".into(),
-            Shape::Nested,
-            4,
-        ),
-        case(
-            "one value of letters",
-            format!("a={}", Generator::new().letters(len)),
-            Shape::Text,
-            len,
-        ),
-        case(
-            "one value of escapes",
-            format!("a={}", inputs::escapes(len)),
-            Shape::Text,
-            len / 3,
-        ),
-        case(
-            "one value of spaces",
-            format!("a={}", "+".repeat(len)),
-            Shape::Text,
-            len,
-        ),
-    ]);
-    cases
-}
-
-const RECORD: &str = "id=42&name=Acme&phone=12345&address[city]=Carrot+City&address[street]=Special-Street*+No.+11\
-    &address[postcode]=12345&user_ids[0]=1&user_ids[1]=2&user_ids[2]=3&user_ids[3]=4";
-
-fn fields(keys: usize, count: usize) -> Case {
-    let (place, before, after) = match keys {
-        0 => ("", String::new(), ""),
-        _ => (
-            ", six keys deep",
-            format!("a{}[", "[a]".repeat(keys - 1)),
-            "]",
-        ),
-    };
-    let name = format!("write {}{place}", counted(count, "field"));
-    let text = inputs::fields(&before, after, count);
-    Case::new(name, text, Call::Write(Sample::Fields { keys, count }))
-}
-
-fn numbers(count: usize) -> Case {
-    let name = format!("write {} numbers in a list", grouped(count));
-    let entries: Vec<String> = (0..count)
-        .map(|number| format!("a[{number}]={number}"))
-        .collect();
-    Case::new(
-        name,
-        entries.join("&"),
-        Call::Write(Sample::Numbers { count }),
-    )
 }

@@ -47,6 +47,7 @@ impl<'a> Scalar<'a> {
     }
 
     /// Appends its text, encoded. Digits and words hold nothing to encode.
+    #[inline(always)]
     pub(crate) fn append(self, form: bool, out: &mut Vec<u8>) -> Result<(), AllocError>
         ensures ok { OnOk result (out.new.items ≡ out.old.items ++ encoded form (scalar_text self.entry)) }
         ensures visible { All IsVisible (encoded form (scalar_text self.entry)) }

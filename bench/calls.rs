@@ -17,6 +17,7 @@ unsafe extern "C" {
     fn qs_bench_write_record(times: usize, out: *mut u8, out_len: usize, len: *mut usize) -> bool;
     fn qs_bench_write_fields(times: usize, keys: usize, count: usize, out: *mut u8, out_len: usize, len: *mut usize) -> bool;
     fn qs_bench_write_numbers(times: usize, count: usize, out: *mut u8, out_len: usize, len: *mut usize) -> bool;
+    fn qs_bench_read(times: usize, shape: usize, input: *const u8, input_len: usize, size: *mut usize) -> bool;
     fn qs_bench_write_bytes(times: usize, bytes: *const u8, bytes_len: usize, out: *mut u8, out_len: usize, len: *mut usize) -> bool;
 }
 
@@ -78,6 +79,40 @@ impl Sample {
             }
         })
     }
+}
+
+/// What is read.
+#[derive(Clone, Copy)]
+pub enum Shape {
+    /// A map of texts.
+    Map = 0,
+    /// The record of ten entries.
+    Record = 1,
+    /// `ids`, a list of numbers.
+    Ids = 2,
+    /// `a`, a text.
+    Text = 3,
+    /// `name`, `age` and `occupation`: a text, a number and a text.
+    Person = 4,
+    /// A text five keys deep.
+    Nested = 5,
+}
+
+/// Reads the input so many times, once at least: how many bytes the texts have that were read, of `Ids` how many numbers there are,
+/// or nothing where it can't be read.
+pub fn read(times: usize, shape: Shape, input: &[u8]) -> Option<usize> {
+    let mut size = 0;
+    // SAFETY: the pointers and the length are those of borrows that last for the call.
+    let is_read = unsafe {
+        qs_bench_read(
+            times,
+            shape as usize,
+            input.as_ptr(),
+            input.len(),
+            &mut size,
+        )
+    };
+    is_read.then_some(size)
 }
 
 /// Makes a call with the place of `out`, its length and a place for the text's length: that length, where the call went well.

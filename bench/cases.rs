@@ -1,6 +1,8 @@
 //! What is measured.
 
-use crate::calls::{self, Keys, Sample};
+mod data;
+
+use crate::calls::{self, Keys, Sample, Shape};
 use crate::inputs::{self, Generator, Order};
 use crate::timing::grouped;
 use std::hint::black_box;
@@ -17,6 +19,8 @@ enum Call {
     Encode { form: bool, wanted: Vec<u8> },
     /// Writes the sample: as the case's bytes.
     Write(Sample),
+    /// Reads the case's bytes by the shape: so much.
+    Read(Shape, usize),
 }
 
 pub struct Case {
@@ -56,23 +60,29 @@ impl Case {
                 out.resize(self.bytes.len(), 0);
                 sample.write(1, &mut out) == Some(out.len()) && out == self.bytes
             }
+            Call::Read(shape, size) => calls::read(1, *shape, &self.bytes) == Some(*size),
         }
     }
 
-    /// Makes the call so many times. Where it writes, it first makes the data, and writes them once more.
+    /// Makes the call so many times. Where it writes or reads, it first makes the data or the shape, and does so once more.
     pub fn repeat(&self, times: usize) {
-        if let Call::Write(sample) = &self.call {
-            black_box(sample.write(times + 1, &mut []));
-            return;
+        let bytes = black_box(&self.bytes);
+        match &self.call {
+            Call::Write(sample) => drop(black_box(sample.write(times + 1, &mut []))),
+            Call::Read(shape, _) => drop(black_box(calls::read(times + 1, *shape, bytes))),
+            call => (0..times).for_each(|_| call.make(black_box(bytes))),
         }
-        for _ in 0..times {
-            let bytes = black_box(&self.bytes);
-            match self.call {
-                Call::Parse(_) | Call::Reject => drop(black_box(calls::parse(bytes))),
-                Call::Decode(_) => drop(black_box(calls::decode(bytes, &mut []))),
-                Call::Encode { form, .. } => drop(black_box(calls::encode(form, bytes, &mut []))),
-                Call::Write(_) => {}
-            }
+    }
+}
+
+impl Call {
+    /// Makes the call once. What is written or read is repeated within a call of its own.
+    fn make(&self, bytes: &[u8]) {
+        match self {
+            Call::Parse(_) | Call::Reject => drop(black_box(calls::parse(bytes))),
+            Call::Decode(_) => drop(black_box(calls::decode(bytes, &mut []))),
+            Call::Encode { form, .. } => drop(black_box(calls::encode(*form, bytes, &mut []))),
+            Call::Write(_) | Call::Read(..) => {}
         }
     }
 }
@@ -106,14 +116,9 @@ pub fn all(small: bool) -> Vec<Case> {
     cases.extend(hostile(len));
     cases.extend(texts(len));
     cases.extend(encoded(len));
-    let written = &pairs[..pairs.len().min(4)];
-    cases.push(Case::new(
-        "write a record of ten entries",
-        RECORD,
-        Call::Write(Sample::Record),
-    ));
-    cases.extend(series(written, |count| fields(0, count)));
-    cases.extend([fields(5, 1), fields(5, many), numbers(many)]);
+    let counts = &pairs[..pairs.len().min(4)];
+    cases.extend(data::written(counts, many));
+    cases.extend(data::read(counts, many, len));
     cases
 }
 
@@ -168,13 +173,15 @@ fn elements(count: usize) -> Case {
         root: 1,
         first: count,
     };
-    Case::new(name, inputs::elements(count), Call::Parse(keys))
+    let input = inputs::keyed(count, |place| format!("a[{place}]"));
+    Case::new(name, input, Call::Parse(keys))
 }
 
 fn pushed(count: usize) -> Case {
     let name = format!("parse {} pushed elements", grouped(count));
     let keys = Keys { root: 1, first: 0 };
-    Case::new(name, inputs::pushed(count), Call::Parse(keys))
+    let input = inputs::keyed(count, |_| "a[]".into());
+    Case::new(name, input, Call::Parse(keys))
 }
 
 /// Each pair has an escape in its key.
@@ -242,13 +249,14 @@ fn encoded(len: usize) -> Vec<Case> {
     ]
 }
 
-/// Long texts of letters, of words, of the escapes of letters, and of a byte that is always escaped.
+/// Long texts of letters, of words, of spaces, of the escapes of letters, and of a byte that is always escaped.
 fn texts(len: usize) -> Vec<Case> {
     let letters = Generator::new().letters(len);
     let escapes = inputs::escapes(len);
     let escaped = Generator::new().letters(len / 3);
     let ampersands = "&".repeat(len);
     let words = inputs::words(len);
+    let pluses = "+".repeat(len);
     let value = Keys { root: 1, first: 0 };
     let written = |bytes: &[u8]| Call::Write(Sample::Bytes(bytes.to_vec()));
     vec![
@@ -266,6 +274,16 @@ fn texts(len: usize) -> Vec<Case> {
             "parse one value of words",
             format!("a={}", words.replace(' ', "+")),
             Call::Parse(value),
+        ),
+        Case::new(
+            "parse one value of spaces",
+            format!("a={pluses}"),
+            Call::Parse(value),
+        ),
+        Case::new(
+            "decode spaces",
+            pluses,
+            Call::Decode(" ".repeat(len).into()),
         ),
         Case::new(
             "decode words",
@@ -298,33 +316,4 @@ fn texts(len: usize) -> Vec<Case> {
             written(&ampersands.as_bytes()[..len / 3]),
         ),
     ]
-}
-
-const RECORD: &str = "id=42&name=Acme&phone=12345&address[city]=Carrot+City&address[street]=Special-Street*+No.+11\
-    &address[postcode]=12345&user_ids[0]=1&user_ids[1]=2&user_ids[2]=3&user_ids[3]=4";
-
-fn fields(keys: usize, count: usize) -> Case {
-    let (place, before, after) = match keys {
-        0 => ("", String::new(), ""),
-        _ => (
-            ", six keys deep",
-            format!("a{}[", "[a]".repeat(keys - 1)),
-            "]",
-        ),
-    };
-    let name = format!("write {}{place}", counted(count, "field"));
-    let text = inputs::fields(&before, after, count);
-    Case::new(name, text, Call::Write(Sample::Fields { keys, count }))
-}
-
-fn numbers(count: usize) -> Case {
-    let name = format!("write {} numbers in a list", grouped(count));
-    let entries: Vec<String> = (0..count)
-        .map(|number| format!("a[{number}]={number}"))
-        .collect();
-    Case::new(
-        name,
-        entries.join("&"),
-        Call::Write(Sample::Numbers { count }),
-    )
 }

@@ -84,20 +84,11 @@ pub fn pairs(count: usize, order: Order, before: &str, after: &str) -> String {
     pairs.join("&")
 }
 
-/// Pairs `a[0]`, `a[1]` and so on, with values of eight letters.
-pub fn elements(count: usize) -> String {
+/// Pairs with these keys, by their places, and values of eight letters.
+pub fn keyed(count: usize, key: impl Fn(usize) -> String) -> String {
     let mut generator = Generator::new();
     let pairs: Vec<String> = (0..count)
-        .map(|place| format!("a[{place}]={}", generator.letters(8)))
-        .collect();
-    pairs.join("&")
-}
-
-/// Pairs `a[]`, with values of eight letters.
-pub fn pushed(count: usize) -> String {
-    let mut generator = Generator::new();
-    let pairs: Vec<String> = (0..count)
-        .map(|_| format!("a[]={}", generator.letters(8)))
+        .map(|place| format!("{}={}", key(place), generator.letters(8)))
         .collect();
     pairs.join("&")
 }

@@ -114,12 +114,13 @@ fn last_text(alloc: Global, times: usize, datum: &Data) -> Result<Vec<u8>>
     text_of(alloc, datum)
 }
 
-/// The text that the data are written as.
+/// The text that the data are written as, in a buffer that begins with room for 128 bytes.
 fn text_of(alloc: Global, datum: &Data) -> Result<Vec<u8>>
     ensures whole { IfOk result (λ text. (entries default (data_of datum.now)).refusal ≡ None) }
     ensures text { IfOk result (λ text. text.items ≡ text_of (data_of datum.now)) }
 {
-    let mut serializer = Serializer::new(Vec::new(alloc), Config::new());
+    let text = Vec::with_capacity(alloc, 128)?;
+    let mut serializer = Serializer::new(text, Config::new());
     serializer.serialize(alloc, datum)?;
     Ok(serializer.into_sink().into_writer())
 }

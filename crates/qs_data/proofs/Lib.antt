@@ -15,6 +15,7 @@ pub mod Steps
 pub mod Fields
 pub mod Variants
 pub mod Items
+pub mod Kept
 pub mod Pairs
 pub mod Tuples
 pub mod Sizes

@@ -91,3 +91,10 @@ signed_plain form (negsuc n) l =
     let p = unsigned_plain form (suc n) (omega (arith, l)) in
     let same : encoded form (45 ∷ decimal (suc n)) ≡ 45 ∷ decimal (suc n) = ap (λ t. t ++ encoded form (decimal (suc n))) (minus form) ∙ ap (λ t. 45 ∷ t) p.0 in
     (same, subst (All IsVisible) (sym same) (All-cons IsVisible 45 (decimal (suc n)) (omega arith, omega arith) (subst (All IsVisible) p.0 p.1)))
+
+-- what holds where one call went well holds where another does that goes well with it
+pub on_ok : {A B E F : Type 0} (r : Result A E) (s : Result B F) (P Q : Type 0) → is_ok s ≡ is_ok r → (P → Q) → OnOk r P → OnOk s Q
+on_ok (Ok x) (Ok y) P Q same then holds = then holds
+on_ok (Ok x) (Err e) P Q same then holds = tt
+on_ok (Err e) (Ok y) P Q same then holds = absurd (cc)
+on_ok (Err e) (Err f) P Q same then holds = tt

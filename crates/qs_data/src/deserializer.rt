@@ -88,7 +88,8 @@ impl<'qs> Deserializer<'qs> {
     /// configuration, these data are read back: in the indexed format from their entries in any order. A map has its pairs in the
     /// order of its keys.
     ///
-    /// Memory is taken for what the data keep and for a fault's message; data of a scalar without bytes take none.
+    /// Memory is taken for what the data keep, for a struct with room for each field of its shape, and for a fault's message; data
+    /// of a scalar without bytes take none.
     pub fn read(self, alloc: Global, shape: &Shape) -> Result<Data>
         requires { is_distinct (shape_of shape.now) ≡ true }
         ensures exact { Gives data_of (is_text (parsed_of self.entry).tree) result (reading (parsed_of self.entry) (shape_of shape.now)) }

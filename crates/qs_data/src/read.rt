@@ -15,8 +15,9 @@ pub(crate) mod width;
 
 ghost use Rattle.std.specs.Prelude.{IsTrue, true};
 ghost use Rattle.qs_spec.specs.Read.{reads, read_ignored, read_option};
+ghost use Rattle.qs_spec.specs.Shape as s;
 ghost use Rattle.qs_tree.specs.Views.{tree_of};
-ghost use Rattle.qs_data.specs.Views.{data_of, shape_of};
+ghost use Rattle.qs_data.specs.Views.{data_of, fields_in, key_shape_of, shape_of, shapes_in};
 ghost use Rattle.qs_data.specs.Text.{is_text};
 ghost use Rattle.qs_data.specs.Gives.{Gives, IsFrugal, takes_no_memory};
 
@@ -31,7 +32,7 @@ use crate::read::scalar::{
 };
 use crate::read::variants::read_enum;
 use crate::read::width::Width;
-use crate::shape::Shape;
+use crate::shape::{Field, KeyShape, Shape};
 use qs_tree::{ParsedValue, Result};
 use std::alloc::Global;
 
@@ -62,23 +63,79 @@ pub(crate) fn read(
         Shape::Text => read_text(alloc, strict, value),
         Shape::Bytes => read_bytes(alloc, strict, value),
         Shape::Option(part) => read_option(alloc, strict, part, value),
-        Shape::Seq(part) => Ok(Data::Seq(read_list(alloc, strict, part, value)?)),
-        Shape::Tuple(parts) => {
-            let expected = Expected::Tuple(parts.len());
-            Ok(Data::Tuple(read_tuple(alloc, strict, parts, value, expected)?))
-        }
-        Shape::Map(key_shape, part) => Ok(Data::Map(read_map(
-            alloc, strict, key_shape, part, value,
-        )?)),
-        Shape::Struct(fields) => Ok(Data::Struct(read_struct(alloc, strict, fields, value)?)),
-        Shape::Newtype(part) => {
-            let held = read(alloc, strict, part, value)?;
-            Ok(Data::Newtype(Box::new(alloc, held)?))
-        }
+        Shape::Seq(part) => seq_data(alloc, strict, part, value),
+        Shape::Tuple(parts) => tuple_data(alloc, strict, parts, value),
+        Shape::Map(key_shape, part) => map_data(alloc, strict, key_shape, part, value),
+        Shape::Struct(fields) => struct_data(alloc, strict, fields, value),
+        Shape::Newtype(part) => newtype_data(alloc, strict, part, value),
         Shape::Enum(variants) => read_enum(alloc, strict, variants, value),
         Shape::Any => read_any(alloc, value),
         Shape::Ignored => read_ignored(alloc, value),
     }
+}
+
+#[cycle(read)]
+#[inline(always)]
+#[tactic(auto, unfolding(qs_spec::specs::Read::reads))]
+fn seq_data(alloc: Global, strict: bool, part: &Shape, value: &ParsedValue<'_>) -> Result<Data>
+    ensures { Gives data_of (is_text (tree_of value.now)) result (reads strict (s.Shape.sequence (shape_of part.now)) (tree_of value.now)) }
+{
+    Ok(Data::Seq(read_list(alloc, strict, part, value)?))
+}
+
+#[cycle(read)]
+#[inline(always)]
+#[tactic(auto, unfolding(qs_spec::specs::Read::reads))]
+fn tuple_data(
+    alloc: Global,
+    strict: bool,
+    parts: &Vec<Shape>,
+    value: &ParsedValue<'_>,
+) -> Result<Data>
+    ensures { Gives data_of (is_text (tree_of value.now)) result (reads strict (s.Shape.tuple (shapes_in parts.now.items)) (tree_of value.now)) }
+{
+    let expected = Expected::Tuple(parts.len());
+    Ok(Data::Tuple(read_tuple(alloc, strict, parts, value, expected)?))
+}
+
+#[cycle(read)]
+#[inline(always)]
+#[tactic(auto, using(crate::proofs::Levels::levels), unfolding(qs_spec::specs::Read::reads))]
+fn map_data(
+    alloc: Global,
+    strict: bool,
+    key_shape: &KeyShape,
+    part: &Shape,
+    value: &ParsedValue<'_>,
+) -> Result<Data>
+    ensures { Gives data_of (is_text (tree_of value.now)) result
+        (reads strict (s.Shape.mapping (key_shape_of key_shape.now) (shape_of part.now)) (tree_of value.now)) }
+{
+    Ok(Data::Map(read_map(alloc, strict, key_shape, part, value)?))
+}
+
+#[cycle(read)]
+#[inline(always)]
+#[tactic(auto, using(crate::proofs::Levels::levels), unfolding(qs_spec::specs::Read::reads))]
+fn struct_data(
+    alloc: Global,
+    strict: bool,
+    fields: &Vec<Field>,
+    value: &ParsedValue<'_>,
+) -> Result<Data>
+    ensures { Gives data_of (is_text (tree_of value.now)) result (reads strict (s.Shape.struct (fields_in fields.now.items)) (tree_of value.now)) }
+{
+    Ok(Data::Struct(read_struct(alloc, strict, fields, value)?))
+}
+
+#[cycle(read)]
+#[inline(always)]
+#[tactic(auto, unfolding(qs_spec::specs::Read::reads))]
+fn newtype_data(alloc: Global, strict: bool, part: &Shape, value: &ParsedValue<'_>) -> Result<Data>
+    ensures { Gives data_of (is_text (tree_of value.now)) result (reads strict (s.Shape.newtype (shape_of part.now)) (tree_of value.now)) }
+{
+    let held = read(alloc, strict, part, value)?;
+    Ok(Data::Newtype(Box::new(alloc, held)?))
 }
 
 // A value that may be absent: it is where there is no value, and an empty one is read as none.

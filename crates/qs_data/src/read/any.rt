@@ -17,6 +17,7 @@ use std::mem;
 /// whose keys are all numbers; another map keeps its keys as texts.
 ///
 /// Takes the same stack at any depth: lists and maps that hold others wait on the heap.
+#[inline(always)]
 pub(crate) fn read_any(alloc: Global, value: &ParsedValue<'_>) -> Result<Data>
     ensures { Gives data_of (is_text (tree_of value.now)) result (any_data (tree_of value.now)) }
 {

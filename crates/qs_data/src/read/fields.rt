@@ -22,6 +22,7 @@ use std::alloc::Global;
 /// The fields of a node: by their names among keys, and by their places among items.
 #[cycle(read)]
 #[tactic(auto, unfolding(qs_spec::specs::Read::struct_members))]
+#[inline(always)]
 pub(crate) fn read_struct(
     alloc: Global,
     strict: bool,
@@ -81,7 +82,7 @@ fn read_names(
     ensures { Gives (λ v. map (named data_of) v.items) (entries_are_text (entries_of entries.entry)) result
         (reads_names strict (fields_in fields.now.items) (entries_of entries.entry)) }
 {
-    let mut members = Vec::new(alloc);
+    let mut members = Vec::with_capacity(alloc, fields.len())?;
     for field in fields {
         let Some(value) = read_field(alloc, strict, field, entries)? else {
             continue;

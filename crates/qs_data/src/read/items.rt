@@ -76,6 +76,7 @@ impl<'t, 'qs> Items<'t, 'qs> {
     }
 
     /// The item at a place, if there are so many; refused where a map has another key there.
+    #[inline(always)]
     pub(crate) fn at(self, alloc: Global, place: usize) -> Result<Option<&'t ParsedValue<'qs>>>
         ensures { Gives (option_map (λ v. tree_of v.now)) true result (first_item (drop place (items_in self.entry))) }
     {

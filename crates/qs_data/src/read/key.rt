@@ -18,6 +18,7 @@ use qs_tree::{Key, Result};
 use std::alloc::Global;
 
 /// Reads a key by its text; that of a number is its digits. The fault of a key that holds a bracket is told with a hint.
+#[inline(always)]
 pub(crate) fn read_key(alloc: Global, shape: &KeyShape, key: &Key<'_>) -> Result<Data>
     ensures { Gives data_of (is_utf8 (segment_text (segment_of_key key.now))) result
         (key_data (key_shape_of shape.now) (segment_text (segment_of_key key.now))) }
@@ -38,6 +39,7 @@ pub(crate) fn read_key(alloc: Global, shape: &KeyShape, key: &Key<'_>) -> Result
 }
 
 /// What the text of a key stands for.
+#[inline(always)]
 pub(crate) fn key_data(alloc: Global, shape: &KeyShape, bytes: &[u8]) -> Result<Data>
     ensures { Gives data_of (is_utf8 bytes.now) result (key_data (key_shape_of shape.now) bytes.now) }
 {

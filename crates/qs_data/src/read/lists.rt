@@ -55,6 +55,7 @@ pub(crate) fn read_each(
 
 /// A tuple: the first items of a node, each by its own shape.
 #[cycle(read)]
+#[inline(always)]
 pub(crate) fn read_tuple(
     alloc: Global,
     strict: bool,

@@ -48,6 +48,7 @@ pub(crate) fn read_bool(alloc: Global, strict: bool, value: &ParsedValue<'_>) ->
 }
 
 /// An unsigned number: the last text.
+#[inline(always)]
 pub(crate) fn read_unsigned(
     alloc: Global,
     strict: bool,
@@ -66,6 +67,7 @@ pub(crate) fn read_unsigned(
 }
 
 /// A signed number: the last text.
+#[inline(always)]
 pub(crate) fn read_signed(
     alloc: Global,
     strict: bool,
@@ -116,6 +118,7 @@ pub(crate) fn read_bytes(alloc: Global, strict: bool, value: &ParsedValue<'_>) -
 }
 
 // The last text of a node, if it has one; none where there is no value or an empty one.
+#[inline(always)]
 fn scalar_text<'t>(
     alloc: Global,
     strict: bool,
@@ -188,6 +191,7 @@ pub(crate) fn bool_data(alloc: Global, bytes: &[u8]) -> Result<Data>
 }
 
 /// The unsigned number that a text stands for: digits, and a `+` before them or none.
+#[inline(always)]
 pub(crate) fn unsigned_data(alloc: Global, width: Width, bytes: &[u8]) -> Result<Data>
     ensures gives { Gives data_of (is_utf8 bytes.now) result (unsigned_data (bits_of width) bytes.now) }
     ensures frugal { IsFrugal result (unsigned_data (bits_of width) bytes.now) }
@@ -199,6 +203,7 @@ pub(crate) fn unsigned_data(alloc: Global, width: Width, bytes: &[u8]) -> Result
 }
 
 /// The signed number that a text stands for: digits, and a `+` or a `-` before them or none.
+#[inline(always)]
 pub(crate) fn signed_data(alloc: Global, width: Width, bytes: &[u8]) -> Result<Data>
     ensures gives { Gives data_of (is_utf8 bytes.now) result (signed_data (bits_of width) bytes.now) }
     ensures frugal { IsFrugal result (signed_data (bits_of width) bytes.now) }

@@ -11,7 +11,7 @@ ghost use Rattle.qs_data.specs.Writes.{IsVisible};
 
 use crate::data::Data;
 use itoa::Buffer;
-use qs_tree::encode;
+use qs_tree::{encode, find_encoded};
 use std::alloc::AllocError;
 
 /// A value of one text, or a segment of a path.
@@ -47,6 +47,7 @@ impl<'a> Scalar<'a> {
     }
 
     /// Appends its text, encoded. Digits and words hold nothing to encode.
+    #[inline(always)]
     pub(crate) fn append(self, form: bool, out: &mut Vec<u8>) -> Result<(), AllocError>
         ensures ok { OnOk result (out.new.items ≡ out.old.items ++ encoded form (scalar_text self.entry)) }
         ensures visible { All IsVisible (encoded form (scalar_text self.entry)) }
@@ -84,10 +85,14 @@ fn append_signed(n: i64, out: &mut Vec<u8>) -> Result<(), AllocError>
     out.extend_from_slice(Buffer::new().format(n).as_bytes())
 }
 
-/// Appends the bytes, encoded.
+/// Appends the bytes, encoded. Those before the first that doesn't stay as it is are copied at once.
 fn append_encoded(bytes: &[u8], form: bool, out: &mut Vec<u8>) -> Result<(), AllocError>
     ensures ok { OnOk result (out.new.items ≡ out.old.items ++ encoded form bytes.now) }
     ensures visible { All IsVisible (encoded form bytes.now) }
 {
-    encode(bytes, form, out).map_err(|_| AllocError)
+    let Some(at) = find_encoded(bytes, form) else {
+        return out.extend_from_slice(bytes);
+    };
+    out.extend_from_slice(&bytes[..at])?;
+    encode(&bytes[at..], form, out).map_err(|_| AllocError)
 }

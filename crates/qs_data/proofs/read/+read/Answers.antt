@@ -155,13 +155,11 @@ read-returns-in-Option-clause-gives t c =
     let held = subst (λ x. Gives data_of (is_text n) c.read_option.result (read_option (reads c.args.strict (shape_of x)) n)) c.deref.ensures c.read_option.ensures in
     subst (λ x. Gives data_of (is_text n) c.read_option.result (reads c.args.strict x n)) (sym shaped) held
 
-pub read-returns-in_ok-read_struct-in-Struct-clause-gives : goal.read-returns-in_ok-read_struct-in-Struct-clause-gives
+pub struct_data-returns : goal.struct_data-returns
 unfolding reads
-read-returns-in_ok-read_struct-in-Struct-clause-gives t c =
-    let n = tree_of c.args.value.now in
-    let k = c.in_ok-read_struct-in-Struct in
-    let shaped : shape_of c.args.shape.now ≡ Shape.struct (fields_in c.in-Struct.fields.items) = ap shape_of c.in-Struct.is ∙ search (rules, shape.the_lemmas) in
-    ap (λ x. reads c.args.strict x n) shaped ∙ ap (λ r. option_map (λ ms. d.struct (d.members_of ms)) r) k.ensures ∙ ap Some (sym (data_of_struct k.field-0))
+struct_data-returns t c =
+    let k = c.in_ok-read_struct in
+    ap (λ r. option_map (λ ms. d.struct (d.members_of ms)) r) k.ensures ∙ ap Some (sym (data_of_struct k.field-0))
 
 pub variants::read_least-returns-in_err-place : goal.variants::read_least-returns-in_err-place
 variants::read_least-returns-in_err-place t c =

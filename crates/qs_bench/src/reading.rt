@@ -1,0 +1,66 @@
+//! Reading.
+
+ghost use Rattle.std.specs.Prelude.{◌≡◌, true, IsTrue, IsFalse, IfOk, IfSome};
+ghost use Rattle.qs_spec.specs.Shape.{is_distinct};
+ghost use Rattle.qs_data.specs.Views.{data_of, shape_of};
+ghost use Rattle.qs_bench.specs.Reads.{IsRead, IsReadBy};
+
+use crate::loads::numbered_load;
+use qs_data::{Data, Deserializer, Result, Shape};
+use std::alloc::Global;
+
+/// Reads the input by the shape with this number (`loads.rt`) so many times, once at least, each time from its bytes. Answers
+/// whether all went well: `size` is then how much was read last. Else nothing is changed.
+#[unsafe(no_mangle)]
+pub extern "C" fn qs_bench_read(
+    alloc: Global,
+    times: usize,
+    number: usize,
+    input: &[u8],
+    size: &mut usize,
+) -> bool
+    ensures read { IsTrue result → IsRead number input.now size.new }
+    ensures refused { IsFalse result → size.new ≡ size.old }
+{
+    let Some(read) = last_size(alloc, times, number, input) else {
+        return false;
+    };
+    *size = read;
+    true
+}
+
+/// How much is read the last of so many times.
+fn last_size(alloc: Global, times: usize, number: usize, input: &[u8]) -> Option<usize>
+    ensures { IfSome result (IsRead number input.now) }
+{
+    let Ok(Some(load)) = numbered_load(alloc, number) else {
+        return None;
+    };
+    if !load.shape.is_distinct() {
+        return None;
+    }
+    let Ok(datum) = last_data(alloc, times, &load.shape, input) else {
+        return None;
+    };
+    let size = load.size_of(&datum)?;
+    Some(size)
+}
+
+/// The data that are read the last of so many times.
+fn last_data(alloc: Global, times: usize, shape: &Shape, input: &[u8]) -> Result<Data>
+    requires { is_distinct (shape_of shape.now) ≡ true }
+    ensures { IfOk result (λ d. IsReadBy (shape_of shape.now) input.now (data_of d)) }
+{
+    for _ in 1..times {
+        read(alloc, shape, input)?;
+    }
+    read(alloc, shape, input)
+}
+
+/// The data that are read.
+fn read(alloc: Global, shape: &Shape, input: &[u8]) -> Result<Data>
+    requires { is_distinct (shape_of shape.now) ≡ true }
+    ensures { IfOk result (λ d. IsReadBy (shape_of shape.now) input.now (data_of d)) }
+{
+    Deserializer::new(alloc, input)?.read(alloc, shape)
+}

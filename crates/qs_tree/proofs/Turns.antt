@@ -1,18 +1,19 @@
 -- What a step of adding a pair leaves.
-use Rattle.std.proofs.Common.{◌≡◌, Option, Some, None, option_map, option_and_then, Result, Ok, Err, Ordering, Less, Equal, Greater, refl, sym, ap, subst, ◌∙◌}
+use Rattle.std.proofs.Common.{◌≡◌, ℕ, ◌+◌, Bool, List, ◌∷◌, Option, Some, None, option_map, option_and_then, Result, Ok, Err, Ordering, Less, Equal, Greater, refl, sym, ap, subst, ◌∙◌}
 use Rattle.std.proofs.lemmas.Option.{same_Some}
 use Rattle.std.specs.Result.{IsErrAnd}
 use Rattle.qs_spec.specs.Segment.{Segment, Step, compare_segments}
+use Rattle.qs_spec.specs.Leaf.{Leaf}
 use Rattle.qs_spec.specs.Tree.{Tree, Entries}
 use Rattle.qs_spec.specs.Tree.Tree.{leaf, sequence, mapping, uninitialized}
 use Rattle.qs_spec.specs.Tree.Entries.{no_entries, entry}
-use Rattle.qs_spec.specs.toward.InPlace.{update, update_by, add_below}
+use Rattle.qs_spec.specs.toward.InPlace.{update, update_by, add_below, add}
 use Rattle.qs_spec.proofs.Order.{segments_total}
 use Rattle.qs_tree.specs.declared.conflict.Refusal.{Refusal}
 use Rattle.qs_tree.specs.declared.conflict.Refusal.TheVariants as refusal
 use Rattle.qs_tree.specs.Views.{find}
 use Rattle.qs_tree.specs.Ordered.{IsBefore, AreOrdered}
-use Rattle.qs_tree.specs.Conflict.{Conflict, child, node_below, clash_below}
+use Rattle.qs_tree.specs.Conflict.{Conflict, child, node_below, clash_below, clash_here, conflict_along}
 use Rattle.qs_tree.specs.Adding.{Gives, IsRefusal, entries_below}
 
 pub gives_err : {A B : Type 0} (view : A → B) (expected : Option B) (conflict : Option Conflict) (r : Result A Refusal) (e : Refusal) (Q : Refusal → Type 0)
@@ -81,3 +82,10 @@ child_below s (leaf l) es is = cc
 child_below s (sequence xs) es is = cc
 child_below s (mapping ms) es is = rw (same_Some ms es is)
 child_below s uninitialized es is = rw (← same_Some no_entries es is)
+
+-- what is done below a map
+pub below_map : (s : Step) (rest : List Step) (push : Bool) (l : Leaf) (level : ℕ) (es new : Entries) (r : Result (Unit {0}) Refusal)
+    → Gives (λ _. new) (update s (add rest push l) es) (conflict_along (level + 1) rest (clash_here push) (child s.seg es)) r
+    → Gives (λ _. mapping new) (add (s ∷ rest) push l (mapping es)) (conflict_along level (s ∷ rest) (clash_here push) (mapping es)) r
+below_map s rest push l level es new (Ok a) h = ap (option_map mapping) h
+below_map s rest push l level es new (Err e) h = refused_too _ _ _ _ e (λ none. ap (option_map mapping) none) refl h

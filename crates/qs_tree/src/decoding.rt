@@ -10,7 +10,7 @@ ghost use Rattle.qs_tree.specs.Escapes.{is_owned};
 use crate::copying::{copy_run, put};
 use crate::error::Result;
 use crate::search::{Byte, find_escape};
-use std::alloc::Global;
+use std::alloc::{AllocError, Global};
 use std::borrow::CowSlice;
 
 /// What the bytes stand for: `+` is a space, and `%` with two hexadecimal digits of either case is one byte.
@@ -31,6 +31,15 @@ pub fn decode(alloc: Global, bytes: &[u8]) -> Result<CowSlice<'_, u8>>
     ensures owned { IfOk result (λ text. is_owned text ≡ is_marked bytes.now) }
     ensures no_memory { is_marked bytes.now ≡ false → IsOk result }
     ensures errors { OnlyOutOfMemory result }
+{
+    Ok(unescape(alloc, bytes)?)
+}
+
+/// The same, with an error without a text.
+pub(crate) fn unescape(alloc: Global, bytes: &[u8]) -> Result<CowSlice<'_, u8>, AllocError>
+    ensures value { IfOk result (λ text. cow_slice_items text ≡ decoded bytes.now) }
+    ensures owned { IfOk result (λ text. is_owned text ≡ is_marked bytes.now) }
+    ensures no_memory { is_marked bytes.now ≡ false → IsOk result }
 {
     if find_escape(bytes).is_none() {
         return Ok(CowSlice::Borrowed(bytes));

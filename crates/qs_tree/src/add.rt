@@ -1,5 +1,5 @@
 //! Adding a pair to a tree, in place.
-ghost use Rattle.std.specs.Prelude.{◌≡◌, ◌≤◌, [], length, drop, true, false, IsOkAnd, Some, None};
+ghost use Rattle.std.specs.Prelude.{◌≡◌, ◌+◌, ◌<◌, ◌≤◌, [], ◌∷◌, length, drop, true, false, IsOkAnd, Some, None};
 ghost use Rattle.qs_spec.specs.Segment.Segment.{Str};
 ghost use Rattle.qs_spec.specs.Tree.{Tree, empty_step};
 ghost use Rattle.qs_spec.specs.toward.InPlace as in_place;
@@ -64,13 +64,28 @@ fn add_along<'qs>(
     let key = pair.take_key(level);
     match node {
         Draft::Map(map) => add_below(alloc, map, key, pair, level + 1),
-        _ => {
-            let mut map = map_of(alloc, mem::replace(node, Draft::Fresh), level)?;
-            add_below(alloc, &mut map, key, pair, level + 1)?;
-            *node = Draft::Map(map);
-            Ok(())
-        }
+        _ => add_in_new_map(alloc, node, key, pair, level),
     }
+}
+
+// Adds a pair, of whose path this key is next, to a node that becomes a map.
+#[cycle(adding)]
+#[inline(never)]
+fn add_in_new_map<'qs>(
+    alloc: Global,
+    node: &mut Draft<'qs>,
+    key: Key<'qs>,
+    pair: &mut Pair<'qs>,
+    level: usize,
+) -> Result<(), Refusal>
+    requires { level < length pair.old.path.items }
+    ensures { let push = is_push pair.old.manner in let path = step_of_key key.entry ∷ path_of (drop (level + 1) pair.old.path.items) in let before = draft_tree node.old in
+        Gives (λ _. draft_tree node.new) (add path push (leaf_of pair.old.leaf) before) (conflict_along level path (clash_here push) before) result }
+{
+    let mut map = map_of(alloc, mem::replace(node, Draft::Fresh), level)?;
+    add_below(alloc, &mut map, key, pair, level + 1)?;
+    *node = Draft::Map(map);
+    Ok(())
 }
 
 // Adds a pair to the node at a key of a map, which is at a level of its path.
@@ -123,6 +138,7 @@ fn add_in_tree<'qs>(
 }
 
 // Adds a pair to a node at a level of its path, where the maps on the way are taken apart and put together again.
+#[inline(never)]
 fn add_by_value<'qs>(
     alloc: Global,
     node: &mut Draft<'qs>,
@@ -191,6 +207,7 @@ fn add_plain<'qs>(
 }
 
 // Pushes a leaf onto a node, a sequence or a fresh one.
+#[inline(never)]
 #[tactic(auto, using(crate::proofs::Views::views))]
 fn add_pushed<'qs>(
     alloc: Global,
@@ -217,6 +234,7 @@ fn add_pushed<'qs>(
 
 impl<'qs> DraftMap<'qs> {
     // Adds a plain leaf at the empty text.
+    #[inline(never)]
     fn add_at_empty(&mut self, alloc: Global, leaf: Leaf<'qs>, level: usize) -> Result<(), Refusal>
         ensures { let before = draft_entries self.old in
             Gives (λ _. draft_entries self.new) (update empty_step (add_flat false (leaf_of leaf.entry)) before)
@@ -230,6 +248,7 @@ impl<'qs> DraftMap<'qs> {
     }
 
     // The conflict of a leaf with this map, which is lost.
+    #[inline(never)]
     fn conflict(&mut self, alloc: Global, level: usize) -> Refusal
         ensures { IsRefusal {B = Tree} None (conflict_at level (Some (leaf_on_map (keys_text true (draft_entries self.old))))) result }
     {

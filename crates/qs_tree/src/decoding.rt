@@ -44,11 +44,19 @@ pub(crate) fn unescape(alloc: Global, bytes: &[u8]) -> Result<CowSlice<'_, u8>, 
     if find_escape(bytes).is_none() {
         return Ok(CowSlice::Borrowed(bytes));
     }
+    Ok(CowSlice::Owned(unescaped(alloc, bytes)?))
+}
+
+/// What the bytes stand for, in memory of its own.
+#[inline(never)]
+fn unescaped(alloc: Global, bytes: &[u8]) -> Result<Vec<u8>, AllocError>
+    ensures { IfOk result (λ text. text.items ≡ decoded bytes.now) }
+{
     let mut text = Vec::new(alloc);
     text.resize(bytes.len(), 0)?;
     let len = fill(bytes, &mut text);
     text.truncate(len);
-    Ok(CowSlice::Owned(text))
+    Ok(text)
 }
 
 /// Writes what the bytes stand for to the front of `room`, and returns how many bytes that is.

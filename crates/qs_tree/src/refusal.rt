@@ -34,6 +34,7 @@ impl<'qs> From<AllocError> for ScanError<'qs> {
 }
 
 /// Why a pair that can't be read to its end isn't added. A conflict with the tree that the pair meets before is told first.
+#[inline(never)]
 pub(crate) fn unread_error<'qs>(
     alloc: Global,
     tree: &mut Draft<'qs>,
@@ -48,6 +49,7 @@ pub(crate) fn unread_error<'qs>(
 }
 
 /// Why a pair isn't added.
+#[inline(never)]
 pub(crate) fn add_error<'qs>(refusal: Refusal, cursor: &Cursor<'qs>) -> ScanError<'qs>
     ensures { refusal ≡ no_memory.OutOfMemory → result ≡ OutOfMemory }
 {
@@ -81,6 +83,7 @@ fn conflict_before<'qs>(
 
 impl<'qs> ScanError<'qs> {
     /// What is told of an input that takes so many steps.
+    #[inline(never)]
     pub fn into_error(self, alloc: Global, all: usize) -> Error
         ensures { Tells self.entry all result }
     {

@@ -3,10 +3,13 @@ use Rattle.std.proofs.Common.{◌+◌, ◌-◌, ◌*◌, length}
 use Rattle.qs_tree.proofs.add.+adding.Given as goal
 
 abbrev pub decreases-add_along : goal.decreases-add_along
-decreases-add_along l = 3 * (length l.pair.now.path.items - l.level)
+decreases-add_along l = 4 * (length l.pair.now.path.items - l.level)
 
 abbrev pub decreases-add_below : goal.decreases-add_below
-decreases-add_below l = 3 * (length l.pair.now.path.items - l.level) + 2
+decreases-add_below l = 4 * (length l.pair.now.path.items - l.level) + 2
 
 abbrev pub decreases-add_in_tree : goal.decreases-add_in_tree
-decreases-add_in_tree l = 3 * (length l.pair.now.path.items - l.level) + 1
+decreases-add_in_tree l = 4 * (length l.pair.now.path.items - l.level) + 1
+
+abbrev pub decreases-add_in_new_map : goal.decreases-add_in_new_map
+decreases-add_in_new_map l = 4 * (length l.pair.now.path.items - (l.level + 1)) + 3

@@ -59,7 +59,7 @@ fn add_along<'qs>(
         return add_by_value(alloc, node, pair, level);
     }
     if level == pair.path.len() {
-        return add_here(alloc, node, pair.manner, pair.leaf.take(), level);
+        return add_here(alloc, node, pair, level);
     }
     let key = pair.take_key(level);
     match node {
@@ -149,40 +149,43 @@ fn add_by_value<'qs>(
     ensures { let push = is_push pair.old.manner in let path = path_of (drop level pair.old.path.items) in let before = draft_tree node.old in
         Gives (λ _. draft_tree node.new) (add path push (leaf_of pair.old.leaf) before) (conflict_along level path (clash_here push) before) result }
 {
-    let leaf = pair.leaf.take();
     let top = mem::replace(node, Draft::Fresh);
     let Way {
         maps,
         node: mut end,
         level,
     } = descend(alloc, top, pair, level)?;
-    add_here(alloc, &mut end, pair.manner, leaf, level)?;
+    add_here(alloc, &mut end, pair, level)?;
     *node = rebuild(alloc, maps, end)?;
     Ok(())
 }
 
-// Adds a leaf at this very node.
+// Adds a pair's leaf at this very node.
 fn add_here<'qs>(
     alloc: Global,
     node: &mut Draft<'qs>,
-    manner: Manner,
-    leaf: Leaf<'qs>,
+    pair: &mut Pair<'qs>,
     level: usize,
 ) -> Result<(), Refusal>
     ensures added { let before = draft_tree node.old in
-        Gives (λ _. draft_tree node.new) (in_place.add_here (is_push manner) (leaf_of leaf.entry) before) (conflict_at level (clash_here (is_push manner) before)) result }
-    ensures fresh { manner ≡ Plain → node.old ≡ Fresh → IsOkAnd result (λ _. IsFlat node.new) }
+        Gives (λ _. draft_tree node.new) (in_place.add_here (is_push pair.old.manner) (leaf_of pair.old.leaf) before) (conflict_at level (clash_here (is_push pair.old.manner) before)) result }
+    ensures fresh { pair.old.manner ≡ Plain → node.old ≡ Fresh → IsOkAnd result (λ _. IsFlat node.new) }
 {
-    match manner {
-        Manner::Push => add_pushed(alloc, node, leaf, level),
+    match pair.manner {
+        Manner::Push => add_pushed(alloc, node, pair.leaf.take(), level),
         Manner::Plain => match node {
-            Draft::Map(map) => map.add_at_empty(alloc, leaf, level),
-            _ => add_plain(alloc, node, leaf, level),
+            Draft::Fresh => {
+                *node = Draft::Leaf(pair.leaf.take());
+                Ok(())
+            }
+            Draft::Map(map) => map.add_at_empty(alloc, pair.leaf.take(), level),
+            _ => add_plain(alloc, node, pair.leaf.take(), level),
         },
     }
 }
 
 // Adds a plain leaf at a node, beside what is there. Refused at a map.
+#[inline(never)]
 #[tactic(auto, using(crate::proofs::Views::views))]
 fn add_plain<'qs>(
     alloc: Global,

@@ -45,6 +45,7 @@ pub(crate) fn descend<'qs>(
         (λ way. Leads level path before way.maps.items way.level [] (draft_tree way.node))
         (λ refusal. IsBarred level path before refusal) }
     ensures manner { pair.new.manner ≡ pair.old.manner }
+    ensures leaf { pair.new.leaf ≡ pair.old.leaf }
 {
     let mut maps = Vec::new(alloc);
     let mut node = node;

@@ -13,7 +13,7 @@ returns-in_err-maps c =
 pub returns-in_err-add_here : goal.returns-in_err-add_here
 returns-in_err-add_here c =
     let way = c.in_ok-maps.field-0 in
-    let refused = rw (c.in_ok-maps.ensures.manner, c.take-leaf.ensures) at c.in_err-add_here.ensures.added in
+    let refused = rw (c.in_ok-maps.ensures.manner, c.in_ok-maps.ensures.leaf) at c.in_err-add_here.ensures.added in
     gives_err _ _ _ c.from_residual-in_err-add_here.result c.in_err-add_here.field-0.0 _ c.from_residual-in_err-add_here.ensures.1 (λ y p. p)
     (refused_at_end (is_push c.args.pair.now.manner) (leaf_of c.args.pair.now.leaf) c.args.level (path_of (drop c.args.level c.args.pair.now.path.items)) (draft_tree c.args.node.now) way.maps.items way.level (draft_tree way.node)
     (rw c.replace-top.ensures.value at c.in_ok-maps.ensures.way) c.in_err-add_here.field-0.0 refused)
@@ -21,6 +21,6 @@ returns-in_err-add_here c =
 pub returns : goal.returns
 returns c =
     let way = c.in_ok-maps.field-0 in
-    let added = rw (c.in_ok-maps.ensures.manner, c.take-leaf.ensures) at c.in_ok-add_here.ensures.added in
+    let added = rw (c.in_ok-maps.ensures.manner, c.in_ok-maps.ensures.leaf) at c.in_ok-add_here.ensures.added in
     added_at_end (is_push c.args.pair.now.manner) (leaf_of c.args.pair.now.leaf) c.args.level (path_of (drop c.args.level c.args.pair.now.path.items)) (draft_tree c.args.node.now) way.maps.items way.level (draft_tree way.node)
     (rw c.replace-top.ensures.value at c.in_ok-maps.ensures.way) _ (draft_tree c.add_here.new.node) added c.in_ok-node.ensures

@@ -14,4 +14,5 @@ loop-level-preserved c =
           c.in_ok-map.map (draft_tree c.in_ok-map.child) c.in_ok-map.ensures);
       count = omega (arith, c.loop-level-test.true, c.take_key-key.ensures.len);
       manner = c.take_key-key.ensures.manner ∙ c.loop-level.invariant.manner;
+      leaf = c.take_key-key.ensures.leaf ∙ c.loop-level.invariant.leaf;
     }

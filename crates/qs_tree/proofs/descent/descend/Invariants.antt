@@ -10,6 +10,7 @@ invariant-loop-level l = record {
   way : Leads l.fn.level (path_of (drop l.fn.level l.fn.pair.path.items)) (draft_tree l.fn.node) l.maps.items l.level (path_of (drop l.level l.pair.path.items)) (draft_tree l.node);
   count : l.level ≤ length l.pair.path.items;
   manner : l.pair.manner ≡ l.fn.pair.manner;
+  leaf : l.pair.leaf ≡ l.fn.pair.leaf;
 }
 
 abbrev pub decreases-loop-level : goal.decreases-loop-level

@@ -120,8 +120,8 @@ module _ (room : ℕ) (path : List Step) (t : code.Token) (rest : List Token) wh
   behind_other d = ap (λ k. after_close_at k (read_brackets room) path (token_of t) rest) d
 
 -- what is read where the same is found
-pub pair_as : (found same : Rest Pair) (r : Result code_pair.Pair fault.Fault) (new : cursor.Cursor) → found ≡ same → ReadsPair same r new → ReadsPair found r new
-pair_as found same r new e h = subst (λ f. ReadsPair f r new) (sym e) h
+pub pair_as : {A : Type 0} (found same : Rest Pair) (r : Result A fault.Fault) (new : cursor.Cursor) (p : code_pair.Pair) → found ≡ same → ReadsPair same r new p → ReadsPair found r new p
+pair_as found same r new p e h = subst (λ f. ReadsPair f r new p) (sym e) h
 
 -- behind a root key and an opening bracket
 pub root_open : (depth : ℕ) (key : List ℕ) (stop : Option code.Token) (t : code.Token) (ts us : List Token) (path : List Step) → stop ≡ Some t → is_open (kind_of_token t.kind) ≡ true → ts ≡ us → path ≡ root_path key

@@ -1,6 +1,6 @@
 -- One item of what is left, and the pairs behind it.
 use Rattle.std.proofs.Common.{◌≡◌, ℕ, zero, suc, Bool, true, false, ◌&&◌, ◌==◌, List, [], ◌∷◌, ◌++◌, length, refl, sym, ap, ◌∙◌, subst, arith, Option, Some, None, Result, Ok, Err, option_map, eqb-true, length-append}
-use Rattle.std.specs.Result.{MatchResult, IsOkAnd}
+use Rattle.std.specs.Result.{IsErrAnd}
 use Rattle.qs_spec.specs.Token.{Kind, Token, tokens, raw_of}
 use Rattle.qs_spec.specs.Token.Kind.{Amp, Equals, Open, Close, Other}
 use Rattle.qs_spec.specs.Segment.{step_of}
@@ -119,16 +119,14 @@ module _ (depth : ℕ) where
   past_pairs [] new h = sym (ap (λ l. pairs_of depth (tokens new.form l)) h)
   past_pairs (t ∷ ts) new h = after_ampersand depth t ts h.0 ∙ ap (pairs_of depth) h.1
 
-  pub ok_item : (ts : List Token) (found : Rest Pair) (p : code_pair.Pair) (new : cursor.Cursor) → pairs_of depth ts ≡ and_pairs depth found → ReadsPair found (Ok p) new → ReadsItem depth ts (Ok (item.TheVariants.Pair p)) new
-  ok_item ts found p new e h = e ∙ ap (and_pairs depth) h.1 ∙ ap (option_map (λ ps. pair_of p ∷ ps)) (past_pairs h.0 new h.2)
+  pub pair_item : (ts : List Token) (found : Rest Pair) (a : Unit {0}) (new : cursor.Cursor) (p : code_pair.Pair) → pairs_of depth ts ≡ and_pairs depth found → ReadsPair found (Ok a) new p → ReadsItem depth ts (Ok item.TheVariants.Pair) new p
+  pair_item ts found a new p e h = e ∙ ap (and_pairs depth) h.1 ∙ ap (option_map (λ ps. pair_of p ∷ ps)) (past_pairs h.0 new h.2)
 
-  pub err_item : (ts : List Token) (found : Rest Pair) (f : fault.Fault) → pairs_of depth ts ≡ and_pairs depth found → IsFault found f → IsFault (pairs_of depth ts) f
-  err_item ts found (fault.TheVariants.Unread u) e h = e ∙ ap (and_pairs depth) h
-  err_item ts found fault.TheVariants.OutOfMemory e h = tt
+  fault_same : (ts : List Token) (found : Rest Pair) (f : fault.Fault) → pairs_of depth ts ≡ and_pairs depth found → IsFault found f → IsFault (pairs_of depth ts) f
+  fault_same ts found (fault.TheVariants.Unread reason) e h = e ∙ ap (and_pairs depth) h
+  fault_same ts found fault.TheVariants.OutOfMemory e h = tt
 
--- a pair as an item
-pub pair_item : (depth : ℕ) (ts : List Token) (found : Rest Pair) (r : Result code_pair.Pair fault.Fault) (o : Result item.Item fault.Fault) (new : cursor.Cursor) → pairs_of depth ts ≡ and_pairs depth found
-    → ReadsPair found r new → MatchResult r (λ p. IsOkAnd o (λ i. i ≡ item.TheVariants.Pair p)) (λ e. o ≡ Err e) → ReadsItem depth ts o new
-pair_item depth ts found (Ok p) (Ok i) new e h m = subst (λ i. ReadsItem depth ts (Ok i) new) (sym m) (ok_item depth ts found p new e h)
-pair_item depth ts found (Ok p) (Err f) new e h m = absurd m
-pair_item depth ts found (Err f) o new e h m = subst (λ o. ReadsItem depth ts o new) (sym m) (err_item depth ts found f e h)
+  pub fault_item : (ts : List Token) (found : Rest Pair) (o : Result item.Item fault.Fault) (f : fault.Fault) (Q : fault.Fault → Type 0) (new : cursor.Cursor) (p : code_pair.Pair) → IsErrAnd o Q → ((g : fault.Fault) → Q g → g ≡ f)
+      → pairs_of depth ts ≡ and_pairs depth found → IsFault found f → ReadsItem depth ts o new p
+  fault_item ts found (Ok i) f Q new p h same e fault = absurd h
+  fault_item ts found (Err g) f Q new p h same e fault = fault_same ts found g e (subst (IsFault found) (sym (same g h)) fault)

@@ -1,6 +1,5 @@
 -- Items of inputs for which no memory is taken.
-use Rattle.std.proofs.Common.{◌≡◌, ℕ, zero, suc, Bool, true, false, cond, ◌&&◌, ◌||◌, ◌==◌, List, [], ◌∷◌, ◌++◌, length, refl, sym, ap, ap₂, ◌∙◌, subst, Option, Some, None, Result, Ok, Err, eqb-true, ◌<◌, arith, inl, inr}
-use Rattle.std.specs.Result.{MatchResult, IsOkAnd}
+use Rattle.std.proofs.Common.{◌≡◌, ℕ, zero, suc, Bool, true, false, cond, ◌&&◌, ◌||◌, ◌==◌, List, [], ◌∷◌, ◌++◌, length, refl, sym, ap, ap₂, ◌∙◌, subst, Option, Some, None, Result, eqb-true, ◌<◌, arith, inl, inr}
 use Rattle.std.proofs.lemmas.List.Folds.{list_all-append}
 use Rattle.qs_spec.specs.Token.{Kind, Token, tokens, byte_token, kind_of, raw_of}
 use Rattle.qs_spec.specs.Token.Kind.{Amp, Equals, Open, Close}
@@ -19,7 +18,7 @@ use Rattle.qs_tree.proofs.Views.{draft_tree-Fresh}
 use Rattle.qs_tree.specs.Search.{is_ampersand}
 use Rattle.qs_tree.specs.Cursor.{kind_of_token, token_of, raw_behind, behind}
 use Rattle.qs_tree.specs.Reading.{is_nothing}
-use Rattle.qs_tree.specs.Small.{is_ampersands, is_plain, is_plain_value, TakesNoMemory, IsEqualsStop, ReadsBare, ReadsSmall, StaysSmall}
+use Rattle.qs_tree.specs.Small.{is_ampersands, is_plain, is_plain_value, TakesNoMemory, IsEqualsStop, ReadsSmall, StaysSmall}
 
 -- a byte other than `%` is a token by itself
 alone : (form : Bool) (b : ℕ) (rest : List ℕ) → (b == 37) ≡ false → tokens form (b ∷ rest) ≡ byte_token b ∷ tokens form rest
@@ -115,12 +114,6 @@ module _ (depth : ℕ) (form : Bool) where
             let h = begins b v key stop rest after run token whole (other_than b 61 parts.0 refl) (ap (λ k. is_amp k || is_equals k) k) in
             (h.empty, subst IsEqualsStop (sym h.is) (ap is_equals (h.kind ∙ k)), ap is_plain h.left ∙ parts.1)
 
--- such a pair as an item
-pub small_pair : (r : Result code_pair.Pair fault.Fault) (o : Result item.Item fault.Fault) (new : cursor.Cursor) → ReadsBare r new → MatchResult r (λ p. IsOkAnd o (λ i. i ≡ item.TheVariants.Pair p)) (λ e. o ≡ Err e) → ReadsSmall o new
-small_pair (Ok p) (Ok i) new h m = subst (λ i. ReadsSmall (Ok i) new) (sym m) h
-small_pair (Ok p) (Err f) new h m = absurd m
-small_pair (Err f) o new h m = absurd h
-
 -- one item more of what is left of such an input
 pub small_start : (rest : List ℕ) (tree : Draft) → TakesNoMemory rest → tree ≡ Fresh → StaysSmall rest tree
 small_start rest tree small fresh = inr (small, fresh)
@@ -136,8 +129,8 @@ pub small_flat : (rest : List ℕ) (tree : Draft) → StaysSmall rest tree → I
 small_flat rest tree (inl h) = h.1
 small_flat rest tree (inr h) = subst IsFlat (sym h.1) (subst IsNoMap (sym draft_tree-Fresh) tt)
 
-pub small_goes : (rest : List ℕ) (tree : Draft) (o : Result item.Item fault.Fault) (new : cursor.Cursor) → StaysSmall rest tree → (TakesNoMemory rest → ReadsSmall o new) → ReadsSmall o new
-small_goes rest tree o new h f = f (small_read rest tree h)
+pub small_goes : (rest : List ℕ) (tree : Draft) (o : Result item.Item fault.Fault) (new : cursor.Cursor) (p : code_pair.Pair) → StaysSmall rest tree → (TakesNoMemory rest → ReadsSmall o new p) → ReadsSmall o new p
+small_goes rest tree o new p h f = f (small_read rest tree h)
 
 pub small_ampersand : (old new : List ℕ) (tree : Draft) → length new < length old → StaysSmall old tree → is_ampersands new ≡ true → StaysSmall new tree
 small_ampersand old new tree shorter (inl h) amp = absurd (omega (arith, ap length h.0))

@@ -1,6 +1,6 @@
 -- What the calls of a cursor take.
-use Rattle.std.specs.Prelude.{◌≡◌, ℕ, ◌+◌, ◌-◌, ◌≤◌, List, [], ◌∷◌, ◌++◌, take, drop, length, Bool, true, false, Option, Some, None}
-use Rattle.qs_spec.specs.Token.{Kind, Token, tokens}
+use Rattle.std.specs.Prelude.{◌≡◌, ℕ, ◌+◌, ◌-◌, ◌≤◌, List, [], ◌∷◌, ◌++◌, take, drop, length, ◌==◌, Bool, true, false, Option, Some, None}
+use Rattle.qs_spec.specs.Token.{Kind, Token, tokens, kind_of}
 use Rattle.qs_spec.specs.Grammar.{is_close, ends_last, ends_root}
 use Rattle.qs_tree.specs.declared.cursor.Kind as kind
 use Rattle.qs_tree.specs.declared.cursor.Token as token
@@ -27,6 +27,10 @@ ends_of until.TheVariants.Close = is_close
 -- the first token is of this kind and so many bytes, and the others follow
 abbrev pub BeginsWith : Bool → List ℕ → kind.Kind → ℕ → Type 0
 BeginsWith form bytes k len = tokens form bytes ≡ record { kind = kind_of_token k; raw = take len bytes } ∷ tokens form (drop len bytes)
+
+-- a byte that is no `%` and no separator or bracket, and so a token by itself
+abbrev pub IsLetter : ℕ → Type 0
+IsLetter b = ((b == 37) ≡ false) × (kind_of b ≡ Kind.Other)
 
 -- the tokens that are left
 abbrev pub left : cursor.Cursor → List Token

@@ -8,7 +8,7 @@ use Rattle.qs_spec.specs.Grammar.{Pair, is_amp, plain, ends_last, ends_root}
 use Rattle.qs_spec.specs.toward.Reading.{Rest, with_leaf, read_value, read_brackets, pairs_of}
 use Rattle.qs_tree.specs.declared.cursor.Token as token
 use Rattle.qs_tree.specs.declared.cursor.Cursor as cursor
-use Rattle.qs_tree.specs.declared.error.Error as error
+use Rattle.std.specs.declared.alloc.AllocError.{AllocError}
 use Rattle.qs_tree.specs.declared.pair.Leaf as code
 use Rattle.qs_tree.specs.declared.pair.Pair as code_pair
 use Rattle.qs_tree.specs.declared.reading.Item as item
@@ -36,39 +36,39 @@ StandsBehind None c = (c.rest.now ≡ []) × (c.ended ≡ true)
 StandsBehind (Some t) c = IsBehind t c
 
 -- what was found is this leaf, and the cursor is past what it stands in; or memory ran out
-abbrev pub ReadsLeaf : Rest Leaf → Result code.Leaf error.Error → cursor.Cursor → Type 0
+abbrev pub ReadsLeaf : Rest Leaf → Result code.Leaf AllocError → cursor.Cursor → Type 0
 ReadsLeaf found (Ok l) new = (rest : List Token) × (found ≡ Some (leaf_of l, rest)) × IsPast rest new
-ReadsLeaf found (Err e) new = e ≡ error.TheVariants.OutOfMemory
+ReadsLeaf found (Err e) new = Unit {0}
 
 -- nothing was found, or memory ran out
 abbrev pub IsFault : {A : Type 0} → Option A → fault.Fault → Type 0
-IsFault found (fault.TheVariants.Unread u) = found ≡ None
+IsFault found (fault.TheVariants.Unread reason) = found ≡ None
 IsFault found fault.TheVariants.OutOfMemory = Unit {0}
 
 -- what was found is this pair, and the cursor is past it
-abbrev pub ReadsPair : Rest Pair → Result code_pair.Pair fault.Fault → cursor.Cursor → Type 0
-ReadsPair found (Ok p) new = (rest : List Token) × (found ≡ Some (pair_of p, rest)) × IsPast rest new
-ReadsPair found (Err f) new = IsFault found f
+abbrev pub ReadsPair : {A : Type 0} → Rest Pair → Result A fault.Fault → cursor.Cursor → code_pair.Pair → Type 0
+ReadsPair found (Ok a) new p = (rest : List Token) × (found ≡ Some (pair_of p, rest)) × IsPast rest new
+ReadsPair found (Err f) new p = IsFault found f
 
 -- the pairs of some tokens are none, or those of what is left now, or one pair and those; or they are no pairs
-abbrev pub ReadsItem : ℕ → List Token → Result item.Item fault.Fault → cursor.Cursor → Type 0
-ReadsItem depth ts (Ok item.TheVariants.End) new = pairs_of depth ts ≡ Some []
-ReadsItem depth ts (Ok item.TheVariants.Ampersand) new = pairs_of depth ts ≡ pairs_of depth (left new)
-ReadsItem depth ts (Ok (item.TheVariants.Pair p)) new = pairs_of depth ts ≡ option_map (λ ps. pair_of p ∷ ps) (pairs_of depth (left new))
-ReadsItem depth ts (Err f) new = IsFault (pairs_of depth ts) f
+abbrev pub ReadsItem : ℕ → List Token → Result item.Item fault.Fault → cursor.Cursor → code_pair.Pair → Type 0
+ReadsItem depth ts (Ok item.TheVariants.End) new p = pairs_of depth ts ≡ Some []
+ReadsItem depth ts (Ok item.TheVariants.Ampersand) new p = pairs_of depth ts ≡ pairs_of depth (left new)
+ReadsItem depth ts (Ok item.TheVariants.Pair) new p = pairs_of depth ts ≡ option_map (λ ps. pair_of p ∷ ps) (pairs_of depth (left new))
+ReadsItem depth ts (Err f) new p = IsFault (pairs_of depth ts) f
 
 -- the end was met
 abbrev pub IsEnd : Result item.Item fault.Fault → Type 0
 IsEnd (Ok item.TheVariants.End) = Unit {0}
 IsEnd (Ok item.TheVariants.Ampersand) = ⊥
-IsEnd (Ok (item.TheVariants.Pair p)) = ⊥
+IsEnd (Ok item.TheVariants.Pair) = ⊥
 IsEnd (Err e) = ⊥
 
 -- something was read
 abbrev pub IsMore : Result item.Item fault.Fault → Type 0
 IsMore (Ok item.TheVariants.End) = ⊥
 IsMore (Ok item.TheVariants.Ampersand) = Unit {0}
-IsMore (Ok (item.TheVariants.Pair p)) = Unit {0}
+IsMore (Ok item.TheVariants.Pair) = Unit {0}
 IsMore (Err e) = ⊥
 
 -- an empty root key before `&` or the end

@@ -37,16 +37,16 @@ IsEqualsStop None = ⊥
 IsEqualsStop (Some t) = IsTrue (is_equals (kind_of_token t.kind))
 
 -- a plain pair at the empty path was read, and nothing is left
-abbrev pub ReadsBare : Result pair.Pair fault.Fault → cursor.Cursor → Type 0
-ReadsBare (Ok p) new = IsBare p × (new.rest.now ≡ [])
-ReadsBare (Err f) new = ⊥
+abbrev pub ReadsBare : {A : Type 0} → Result A fault.Fault → cursor.Cursor → pair.Pair → Type 0
+ReadsBare (Ok a) new p = IsBare p × (new.rest.now ≡ [])
+ReadsBare (Err f) new p = ⊥
 
 -- the end was met, or an `&` before others, or such a pair
-abbrev pub ReadsSmall : Result item.Item fault.Fault → cursor.Cursor → Type 0
-ReadsSmall (Ok item.TheVariants.End) new = Unit {0}
-ReadsSmall (Ok item.TheVariants.Ampersand) new = IsTrue (is_ampersands new.rest.now)
-ReadsSmall (Ok (item.TheVariants.Pair p)) new = IsBare p × (new.rest.now ≡ [])
-ReadsSmall (Err f) new = ⊥
+abbrev pub ReadsSmall : Result item.Item fault.Fault → cursor.Cursor → pair.Pair → Type 0
+ReadsSmall (Ok item.TheVariants.End) new p = Unit {0}
+ReadsSmall (Ok item.TheVariants.Ampersand) new p = IsTrue (is_ampersands new.rest.now)
+ReadsSmall (Ok item.TheVariants.Pair) new p = IsBare p × (new.rest.now ≡ [])
+ReadsSmall (Err f) new p = ⊥
 
 -- nothing is left, and the tree is no map; or it is still fresh, and what is left is such an input
 abbrev pub StaysSmall : List ℕ → Draft → Type 0

@@ -1,6 +1,5 @@
 //! Adding a pair to a tree, in place.
-ghost use Rattle.std.specs.Prelude.{◌≡◌, ◌+◌, ◌<◌, ◌^◌, [], length, true, false, IsOkAnd, Some, None};
-ghost use Rattle.std.specs.Vec.Iter.{into_iter_items};
+ghost use Rattle.std.specs.Prelude.{◌≡◌, ◌+◌, ◌<◌, ◌≤◌, [], ◌∷◌, length, drop, true, false, IsOkAnd, Some, None};
 ghost use Rattle.qs_spec.specs.Segment.Segment.{Str};
 ghost use Rattle.qs_spec.specs.Tree.{Tree, empty_step};
 ghost use Rattle.qs_spec.specs.toward.InPlace as in_place;
@@ -22,75 +21,85 @@ use crate::pair::{Leaf, Manner, Pair};
 use std::alloc::Global;
 use std::collections::BTreeMap;
 use std::mem;
-use std::vec::IntoIter;
 
 /// So many keys of a path are gone down in place, each by a frame of the stack. The maps below them are taken apart and put
 /// together again, which takes memory and no stack.
 const LEVELS: usize = 64;
 
-/// Adds a pair to a tree: its leaf goes to the end of its path, as its manner says.
+/// Adds a pair to a tree: its leaf goes to the end of its path, as its manner says. Its keys and its leaf are taken out of it.
 ///
 /// Refused where the pair is in conflict with a node, or memory runs out; the tree is lost then. A plain leaf at the path of
 /// a fresh tree takes no memory.
 pub(crate) fn add_pair<'qs>(
     alloc: Global,
     tree: &mut Draft<'qs>,
-    pair: Pair<'qs>,
+    pair: &mut Pair<'qs>,
 ) -> Result<(), Refusal>
-    ensures added { let p = pair_of pair.entry in let before = draft_tree tree.old in
+    ensures added { let p = pair_of pair.old in let before = draft_tree tree.old in
         Gives (λ _. draft_tree tree.new) (add p.path p.push p.leaf before) (conflict_of p.path p.push before) result }
-    ensures fresh { IsBare pair.entry → tree.old ≡ Fresh → IsOkAnd result (λ _. IsFlat tree.new) }
+    ensures fresh { IsBare pair.old → tree.old ≡ Fresh → IsOkAnd result (λ _. IsFlat tree.new) }
 {
-    let Pair { path, manner, leaf } = pair;
-    add_along(alloc, tree, &mut path.into_iter(), manner, leaf, 0)
+    add_along(alloc, tree, pair, 0)
 }
 
-// Adds a leaf at the end of keys below a node at a level.
+// Adds a pair to a node at a level of its path.
 #[cycle(adding)]
 fn add_along<'qs>(
     alloc: Global,
     node: &mut Draft<'qs>,
-    keys: &mut IntoIter<Key<'qs>>,
-    manner: Manner,
-    leaf: Leaf<'qs>,
+    pair: &mut Pair<'qs>,
     level: usize,
 ) -> Result<(), Refusal>
-    requires { level + length (into_iter_items keys.old) < 2 ^ 64 }
-    ensures added { let push = is_push manner in let path = path_of (into_iter_items keys.old) in let before = draft_tree node.old in
-        Gives (λ _. draft_tree node.new) (add path push (leaf_of leaf.entry) before) (conflict_along level path (clash_here push) before) result }
-    ensures fresh { into_iter_items keys.old ≡ [] → level ≡ 0 → manner ≡ Plain → node.old ≡ Fresh → IsOkAnd result (λ _. IsFlat node.new) }
+    requires { level ≤ length pair.old.path.items }
+    ensures added { let push = is_push pair.old.manner in let path = path_of (drop level pair.old.path.items) in let before = draft_tree node.old in
+        Gives (λ _. draft_tree node.new) (add path push (leaf_of pair.old.leaf) before) (conflict_along level path (clash_here push) before) result }
+    ensures fresh { IsBare pair.old → level ≡ 0 → node.old ≡ Fresh → IsOkAnd result (λ _. IsFlat node.new) }
 {
     if level >= LEVELS {
-        return add_by_value(alloc, node, keys, manner, leaf, level);
+        return add_by_value(alloc, node, pair, level);
     }
-    let Some(key) = keys.next() else {
-        return add_here(alloc, node, manner, leaf, level);
-    };
+    if level == pair.path.len() {
+        return add_here(alloc, node, pair, level);
+    }
+    let key = pair.take_key(level);
     match node {
-        Draft::Map(map) => add_below(alloc, map, key, keys, manner, leaf, level + 1),
-        _ => {
-            let mut map = map_of(alloc, mem::replace(node, Draft::Fresh), level)?;
-            add_below(alloc, &mut map, key, keys, manner, leaf, level + 1)?;
-            *node = Draft::Map(map);
-            Ok(())
-        }
+        Draft::Map(map) => add_below(alloc, map, key, pair, level + 1),
+        _ => add_in_new_map(alloc, node, key, pair, level),
     }
 }
 
-// Adds a leaf at the end of keys below the node at a key of a map, which is at a level.
+// Adds a pair, of whose path this key is next, to a node that becomes a map.
+#[cycle(adding)]
+#[inline(never)]
+fn add_in_new_map<'qs>(
+    alloc: Global,
+    node: &mut Draft<'qs>,
+    key: Key<'qs>,
+    pair: &mut Pair<'qs>,
+    level: usize,
+) -> Result<(), Refusal>
+    requires { level < length pair.old.path.items }
+    ensures { let push = is_push pair.old.manner in let path = step_of_key key.entry ∷ path_of (drop (level + 1) pair.old.path.items) in let before = draft_tree node.old in
+        Gives (λ _. draft_tree node.new) (add path push (leaf_of pair.old.leaf) before) (conflict_along level path (clash_here push) before) result }
+{
+    let mut map = map_of(alloc, mem::replace(node, Draft::Fresh), level)?;
+    add_below(alloc, &mut map, key, pair, level + 1)?;
+    *node = Draft::Map(map);
+    Ok(())
+}
+
+// Adds a pair to the node at a key of a map, which is at a level of its path.
 #[cycle(adding)]
 fn add_below<'qs>(
     alloc: Global,
     map: &mut DraftMap<'qs>,
     key: Key<'qs>,
-    keys: &mut IntoIter<Key<'qs>>,
-    manner: Manner,
-    leaf: Leaf<'qs>,
+    pair: &mut Pair<'qs>,
     level: usize,
 ) -> Result<(), Refusal>
-    requires { level + length (into_iter_items keys.old) < 2 ^ 64 }
-    ensures { let push = is_push manner in let path = path_of (into_iter_items keys.old) in let before = draft_entries map.old in
-        Gives (λ _. draft_entries map.new) (update (step_of_key key.entry) (add path push (leaf_of leaf.entry)) before)
+    requires { level ≤ length pair.old.path.items }
+    ensures { let push = is_push pair.old.manner in let path = path_of (drop level pair.old.path.items) in let before = draft_entries map.old in
+        Gives (λ _. draft_entries map.new) (update (step_of_key key.entry) (add path push (leaf_of pair.old.leaf)) before)
         (conflict_along level path (clash_here push) (child (segment_of_key key.entry) before)) result }
 {
     match map {
@@ -98,15 +107,15 @@ fn add_below<'qs>(
             let place = place_among(entries.as_slice(), &key);
             if goes_between(place, entries.len()) {
                 let mut tree = into_tree(alloc, mem::replace(entries, Entries::new(alloc)))?;
-                add_in_tree(alloc, &mut tree, key, keys, manner, leaf, level)?;
+                add_in_tree(alloc, &mut tree, key, pair, level)?;
                 *map = DraftMap::Tree(tree);
                 Ok(())
             } else {
                 let child = entries.child(place, key, Draft::Fresh)?;
-                add_along(alloc, child, keys, manner, leaf, level)
+                add_along(alloc, child, pair, level)
             }
         }
-        DraftMap::Tree(tree) => add_in_tree(alloc, tree, key, keys, manner, leaf, level),
+        DraftMap::Tree(tree) => add_in_tree(alloc, tree, key, pair, level),
     }
 }
 
@@ -116,66 +125,67 @@ fn add_in_tree<'qs>(
     alloc: Global,
     tree: &mut BTreeMap<Key<'qs>, Draft<'qs>>,
     key: Key<'qs>,
-    keys: &mut IntoIter<Key<'qs>>,
-    manner: Manner,
-    leaf: Leaf<'qs>,
+    pair: &mut Pair<'qs>,
     level: usize,
 ) -> Result<(), Refusal>
-    requires { level + length (into_iter_items keys.old) < 2 ^ 64 }
-    ensures { let push = is_push manner in let path = path_of (into_iter_items keys.old) in let before = entries_seen tree.old.entries in
-        Gives (λ _. entries_seen tree.new.entries) (update (step_of_key key.entry) (add path push (leaf_of leaf.entry)) before)
+    requires { level ≤ length pair.old.path.items }
+    ensures { let push = is_push pair.old.manner in let path = path_of (drop level pair.old.path.items) in let before = entries_seen tree.old.entries in
+        Gives (λ _. entries_seen tree.new.entries) (update (step_of_key key.entry) (add path push (leaf_of pair.old.leaf)) before)
         (conflict_along level path (clash_here push) (child (segment_of_key key.entry) before)) result }
 {
     let child = tree.entry(key)?.or_insert(Draft::Fresh);
-    add_along(alloc, child, keys, manner, leaf, level)
+    add_along(alloc, child, pair, level)
 }
 
-// Adds a leaf at the end of keys below a node at a level, where the maps on the way are taken apart and put together again.
+// Adds a pair to a node at a level of its path, where the maps on the way are taken apart and put together again.
+#[inline(never)]
 fn add_by_value<'qs>(
     alloc: Global,
     node: &mut Draft<'qs>,
-    keys: &mut IntoIter<Key<'qs>>,
-    manner: Manner,
-    leaf: Leaf<'qs>,
+    pair: &mut Pair<'qs>,
     level: usize,
 ) -> Result<(), Refusal>
-    requires { level + length (into_iter_items keys.old) < 2 ^ 64 }
-    ensures { let push = is_push manner in let path = path_of (into_iter_items keys.old) in let before = draft_tree node.old in
-        Gives (λ _. draft_tree node.new) (add path push (leaf_of leaf.entry) before) (conflict_along level path (clash_here push) before) result }
+    requires { level ≤ length pair.old.path.items }
+    ensures { let push = is_push pair.old.manner in let path = path_of (drop level pair.old.path.items) in let before = draft_tree node.old in
+        Gives (λ _. draft_tree node.new) (add path push (leaf_of pair.old.leaf) before) (conflict_along level path (clash_here push) before) result }
 {
     let top = mem::replace(node, Draft::Fresh);
     let Way {
         maps,
         node: mut end,
         level,
-    } = descend(alloc, top, keys, level)?;
-    add_here(alloc, &mut end, manner, leaf, level)?;
+    } = descend(alloc, top, pair, level)?;
+    add_here(alloc, &mut end, pair, level)?;
     *node = rebuild(alloc, maps, end)?;
     Ok(())
 }
 
-// Adds a leaf at this very node.
+// Adds a pair's leaf at this very node.
 fn add_here<'qs>(
     alloc: Global,
     node: &mut Draft<'qs>,
-    manner: Manner,
-    leaf: Leaf<'qs>,
+    pair: &mut Pair<'qs>,
     level: usize,
 ) -> Result<(), Refusal>
     ensures added { let before = draft_tree node.old in
-        Gives (λ _. draft_tree node.new) (in_place.add_here (is_push manner) (leaf_of leaf.entry) before) (conflict_at level (clash_here (is_push manner) before)) result }
-    ensures fresh { manner ≡ Plain → node.old ≡ Fresh → IsOkAnd result (λ _. IsFlat node.new) }
+        Gives (λ _. draft_tree node.new) (in_place.add_here (is_push pair.old.manner) (leaf_of pair.old.leaf) before) (conflict_at level (clash_here (is_push pair.old.manner) before)) result }
+    ensures fresh { pair.old.manner ≡ Plain → node.old ≡ Fresh → IsOkAnd result (λ _. IsFlat node.new) }
 {
-    match manner {
-        Manner::Push => add_pushed(alloc, node, leaf, level),
+    match pair.manner {
+        Manner::Push => add_pushed(alloc, node, pair.leaf.take(), level),
         Manner::Plain => match node {
-            Draft::Map(map) => map.add_at_empty(alloc, leaf, level),
-            _ => add_plain(alloc, node, leaf, level),
+            Draft::Fresh => {
+                *node = Draft::Leaf(pair.leaf.take());
+                Ok(())
+            }
+            Draft::Map(map) => map.add_at_empty(alloc, pair.leaf.take(), level),
+            _ => add_plain(alloc, node, pair.leaf.take(), level),
         },
     }
 }
 
 // Adds a plain leaf at a node, beside what is there. Refused at a map.
+#[inline(never)]
 #[tactic(auto, using(crate::proofs::Views::views))]
 fn add_plain<'qs>(
     alloc: Global,
@@ -200,6 +210,7 @@ fn add_plain<'qs>(
 }
 
 // Pushes a leaf onto a node, a sequence or a fresh one.
+#[inline(never)]
 #[tactic(auto, using(crate::proofs::Views::views))]
 fn add_pushed<'qs>(
     alloc: Global,
@@ -226,6 +237,7 @@ fn add_pushed<'qs>(
 
 impl<'qs> DraftMap<'qs> {
     // Adds a plain leaf at the empty text.
+    #[inline(never)]
     fn add_at_empty(&mut self, alloc: Global, leaf: Leaf<'qs>, level: usize) -> Result<(), Refusal>
         ensures { let before = draft_entries self.old in
             Gives (λ _. draft_entries self.new) (update empty_step (add_flat false (leaf_of leaf.entry)) before)
@@ -239,6 +251,7 @@ impl<'qs> DraftMap<'qs> {
     }
 
     // The conflict of a leaf with this map, which is lost.
+    #[inline(never)]
     fn conflict(&mut self, alloc: Global, level: usize) -> Refusal
         ensures { IsRefusal {B = Tree} None (conflict_at level (Some (leaf_on_map (keys_text true (draft_entries self.old))))) result }
     {

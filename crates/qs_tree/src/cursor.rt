@@ -1,12 +1,12 @@
 //! The input, taken token by token.
 
-ghost use Rattle.std.specs.Prelude.{◌≡◌, ℕ, ◌+◌, ◌++◌, ◌<◌, ◌≤◌, ◌-◌, [], length, IfSome, IfNone, IsTrue, true, false};
+ghost use Rattle.std.specs.Prelude.{◌≡◌, ℕ, ◌+◌, ◌++◌, ◌<◌, ◌≤◌, ◌-◌, [], length, take, drop, IfSome, IfNone, IsTrue, true, false};
 ghost use Rattle.qs_spec.specs.Escape.{is_marked};
-ghost use Rattle.qs_spec.specs.Token.{raw_of};
+ghost use Rattle.qs_spec.specs.Token.{raw_of, tokens};
 ghost use Rattle.qs_tree.specs.Small.{is_plain};
 ghost use Rattle.qs_spec.specs.Grammar.{is_amp, is_equals, is_open, is_close};
 ghost use Rattle.qs_spec.specs.toward.Reading.{cut};
-ghost use Rattle.qs_tree.specs.Cursor.{kind_of_token, token_of, BeginsWith, ends_of, left, spent, looks, met, raw_behind, behind, IsPast, GoesOn, taken, to_come, IsLeft};
+ghost use Rattle.qs_tree.specs.Cursor.{kind_of_token, token_of, BeginsWith, ends_of, left, spent, looks, met, raw_behind, behind, IsPast, GoesOn, taken, to_come, IsLeft, IsLetter};
 
 use crate::search::find_ampersand;
 use crate::steps::Steps;
@@ -110,6 +110,35 @@ fn first_token(bytes: &[u8], form: bool) -> (Kind, usize)
         b']' => (Kind::Close, 1),
         byte => (Kind::Other(byte), 1),
     }
+}
+
+/// Whether the byte is one that means nothing in a key.
+#[inline(always)]
+fn is_letter(byte: u8) -> bool
+    ensures { IsTrue result → IsLetter byte }
+{
+    !matches!(byte, b'%' | b'&' | b'=' | b'[' | b']')
+}
+
+/// How many bytes there are before what ends a run.
+fn run_len(bytes: &[u8], form: bool, until: Until) -> usize
+    ensures within { result ≤ length bytes.now }
+    ensures run { take result bytes.now ≡ raw_of (cut (ends_of until) (tokens form bytes.now)).0 }
+    ensures stop { tokens form (drop result bytes.now) ≡ (cut (ends_of until) (tokens form bytes.now)).1 }
+{
+    let mut at = 0;
+    while at < bytes.len() {
+        if is_letter(bytes[at]) {
+            at += 1;
+            continue;
+        }
+        let (kind, len) = first_token(&bytes[at..], form);
+        if until.is_at(kind) {
+            break;
+        }
+        at += len;
+    }
+    at
 }
 
 /// What is left of an input. The input is seen only through the calls below, and each counts: a byte that is taken is a step,
@@ -319,15 +348,12 @@ impl<'qs> Cursor<'qs> {
         ensures fewer { length self.new.rest.now ≤ length self.old.rest.now }
         ensures form { self.new.form ≡ self.old.form }
     {
-        loop {
-            let before = self.since(place);
-            let Some(token) = self.next() else {
-                return (before, None);
-            };
-            if until.is_at(token.kind) {
-                return (before, Some(token));
-            }
-        }
+        let len = run_len(self.rest, self.form, until);
+        let (_, rest) = self.rest.split_at(len);
+        self.rest = rest;
+        self.steps.add(len);
+        let before = self.since(place);
+        (before, self.next())
     }
 
     /// Takes a value: the bytes up to the next `&` or the end, and that `&` or the end too.

@@ -10,7 +10,7 @@ ghost use Rattle.qs_tree.specs.Escapes.{is_owned};
 use crate::copying::{copy_run, put};
 use crate::error::Result;
 use crate::search::{Byte, find_escape};
-use std::alloc::Global;
+use std::alloc::{AllocError, Global};
 use std::borrow::CowSlice;
 
 /// What the bytes stand for: `+` is a space, and `%` with two hexadecimal digits of either case is one byte.
@@ -32,14 +32,31 @@ pub fn decode(alloc: Global, bytes: &[u8]) -> Result<CowSlice<'_, u8>>
     ensures no_memory { is_marked bytes.now ≡ false → IsOk result }
     ensures errors { OnlyOutOfMemory result }
 {
+    Ok(unescape(alloc, bytes)?)
+}
+
+/// The same, with an error without a text.
+pub(crate) fn unescape(alloc: Global, bytes: &[u8]) -> Result<CowSlice<'_, u8>, AllocError>
+    ensures value { IfOk result (λ text. cow_slice_items text ≡ decoded bytes.now) }
+    ensures owned { IfOk result (λ text. is_owned text ≡ is_marked bytes.now) }
+    ensures no_memory { is_marked bytes.now ≡ false → IsOk result }
+{
     if find_escape(bytes).is_none() {
         return Ok(CowSlice::Borrowed(bytes));
     }
+    Ok(CowSlice::Owned(unescaped(alloc, bytes)?))
+}
+
+/// What the bytes stand for, in memory of its own.
+#[inline(never)]
+fn unescaped(alloc: Global, bytes: &[u8]) -> Result<Vec<u8>, AllocError>
+    ensures { IfOk result (λ text. text.items ≡ decoded bytes.now) }
+{
     let mut text = Vec::new(alloc);
     text.resize(bytes.len(), 0)?;
     let len = fill(bytes, &mut text);
     text.truncate(len);
-    Ok(CowSlice::Owned(text))
+    Ok(text)
 }
 
 /// Writes what the bytes stand for to the front of `room`, and returns how many bytes that is.

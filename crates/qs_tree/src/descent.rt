@@ -1,6 +1,5 @@
 //! The way along a path down to the node at its end, and back up.
-ghost use Rattle.std.specs.Prelude.{◌≡◌, ◌+◌, ◌<◌, ◌^◌, [], length, None, MatchResult};
-ghost use Rattle.std.specs.Vec.Iter.{into_iter_items};
+ghost use Rattle.std.specs.Prelude.{◌≡◌, ◌≤◌, [], length, drop, None, MatchResult};
 ghost use Rattle.qs_tree.specs.Views.{step_of_key};
 ghost use Rattle.qs_tree.specs.Pairs.{path_of};
 ghost use Rattle.qs_tree.specs.Draft.{draft_tree, draft_entries};
@@ -11,9 +10,8 @@ ghost use Rattle.qs_tree.specs.Descent.{IsOpen, Leads, IsBarred, put_back, put_a
 use crate::conflict::{Clash, Conflict, Refusal};
 use crate::draft::{Draft, DraftMap};
 use crate::key::Key;
-use crate::pair::Leaf;
+use crate::pair::{Leaf, Pair};
 use std::alloc::Global;
-use std::vec::IntoIter;
 
 /// A map with the node at one of its keys taken out.
 #[derive(Drop)]
@@ -32,25 +30,28 @@ pub(crate) struct Way<'qs> {
     pub level: usize,
 }
 
-/// Goes down from a node at a level along keys. Fresh nodes on the way become maps.
+/// Goes down from a node at a level along the keys of a pair from there on, which are taken out. Fresh nodes on the way become maps.
 ///
 /// Refused where a node on the way is in conflict with a path that goes on by these keys, or memory runs out; the node is lost
 /// then. Memory is taken for the maps.
 pub(crate) fn descend<'qs>(
     alloc: Global,
     node: Draft<'qs>,
-    keys: &mut IntoIter<Key<'qs>>,
+    pair: &mut Pair<'qs>,
     level: usize,
 ) -> Result<Way<'qs>, Refusal>
-    requires { level + length (into_iter_items keys.old) < 2 ^ 64 }
-    ensures { let path = path_of (into_iter_items keys.old) in let before = draft_tree node.entry in MatchResult result
+    requires { level ≤ length pair.old.path.items }
+    ensures way { let path = path_of (drop level pair.old.path.items) in let before = draft_tree node.entry in MatchResult result
         (λ way. Leads level path before way.maps.items way.level [] (draft_tree way.node))
         (λ refusal. IsBarred level path before refusal) }
+    ensures manner { pair.new.manner ≡ pair.old.manner }
+    ensures leaf { pair.new.leaf ≡ pair.old.leaf }
 {
     let mut maps = Vec::new(alloc);
     let mut node = node;
     let mut level = level;
-    while let Some(key) = keys.next() {
+    while level < pair.path.len() {
+        let key = pair.take_key(level);
         let (map, child) = open(alloc, node, key, level)?;
         maps.push(map)?;
         node = child;

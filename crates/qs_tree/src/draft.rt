@@ -48,7 +48,7 @@ pub(crate) enum DraftMap<'qs> {
 }
 
 /// Up to so many entries a vector takes a key in their midst.
-const FEW: usize = 32;
+const FEW: usize = 128;
 
 impl<'qs> Draft<'qs> {
     /// The node as it stays, or the map that it is, which has to be laid out first.
@@ -248,6 +248,7 @@ fn insert<'qs>(
 }
 
 /// The entries of a vector in a tree.
+#[inline(never)]
 pub(crate) fn into_tree<'qs>(
     alloc: Global,
     entries: Entries<Key<'qs>, Draft<'qs>>,
@@ -262,6 +263,7 @@ pub(crate) fn into_tree<'qs>(
 }
 
 // The entries of a tree in a vector.
+#[inline(never)]
 fn into_vector<'qs>(
     alloc: Global,
     map: BTreeMap<Key<'qs>, Draft<'qs>>,

@@ -178,7 +178,9 @@ impl<K: Ord + Drop, V: Drop> Entries<K, V> {
         ensures ok { OnOk result (self.new ≡ self.old ++ (key, value) ∷ []) }
         ensures err { OnErr result (self.new ≡ self.old) }
     {
-        Ok(self.items.push((key, value))?)
+        self.items.reserve(1)?;
+        self.items.push_reserved((key, value));
+        Ok(())
     }
 
     /// Takes the entry at a place out.

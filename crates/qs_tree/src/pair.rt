@@ -1,12 +1,14 @@
 //! The pairs of a querystring.
-ghost use Rattle.std.specs.Prelude.{◌≡◌};
+ghost use Rattle.std.specs.Prelude.{◌≡◌, ◌+◌, ◌<◌, ◌∷◌, length, drop};
 ghost use Rattle.qs_spec.specs.Tree.Tree.{leaf};
 ghost use Rattle.qs_tree.specs.Views.{tree_of};
 ghost use Rattle.qs_tree.specs.Pairs.{leaf_of};
 
 use crate::key::Key;
 use crate::value::ParsedValue;
+use std::alloc::Global;
 use std::borrow::CowSlice;
+use std::mem;
 
 /// What stands behind a key.
 #[derive(Debug, Drop)]
@@ -35,7 +37,36 @@ pub(crate) struct Pair<'qs> {
     pub leaf: Leaf<'qs>,
 }
 
+impl<'qs> Pair<'qs> {
+    /// No pair yet. Nothing is allocated.
+    pub fn new(alloc: Global) -> Self {
+        Pair {
+            path: Vec::new(alloc),
+            manner: Manner::Plain,
+            leaf: Leaf::NoValue,
+        }
+    }
+
+    /// Takes a key out of the path, in which a number stays.
+    pub fn take_key(&mut self, level: usize) -> Key<'qs>
+        requires { level < length self.old.path.items }
+        ensures key { drop level self.old.path.items ≡ result ∷ drop (level + 1) self.new.path.items }
+        ensures len { length self.new.path.items ≡ length self.old.path.items }
+        ensures manner { self.new.manner ≡ self.old.manner }
+        ensures leaf { self.new.leaf ≡ self.old.leaf }
+    {
+        mem::replace(&mut self.path[level], Key::Int(0))
+    }
+}
+
 impl<'qs> Leaf<'qs> {
+    /// Takes the leaf out, and leaves one without a value.
+    pub fn take(&mut self) -> Leaf<'qs>
+        ensures { result ≡ self.old }
+    {
+        mem::replace(self, Leaf::NoValue)
+    }
+
     /// The leaf as a node.
     pub fn into_value(self) -> ParsedValue<'qs>
         ensures { tree_of result ≡ leaf (leaf_of self.entry) }

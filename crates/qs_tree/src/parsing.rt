@@ -137,33 +137,35 @@ fn scan<'qs>(
     ensures no_memory { TakesNoMemory cursor.old.rest.now → IsOk result }
 {
     let mut tree = Draft::Fresh;
+    let mut pair = Pair::new(alloc);
     loop {
-        let item = match read_item(alloc, cursor, max_depth) {
+        let item = match read_item(alloc, cursor, max_depth, &mut pair) {
             Ok(item) => item,
-            Err(Fault::Unread(unread)) => return Err(unread_error(alloc, tree, unread, cursor)),
+            Err(Fault::Unread(reason)) => {
+                return Err(unread_error(alloc, &mut tree, &mut pair, reason, cursor));
+            }
             Err(Fault::OutOfMemory) => return Err(ScanError::OutOfMemory),
         };
         match item {
             Item::End => return Ok(tree.settled(alloc)?),
             Item::Ampersand => {}
-            Item::Pair(pair) => tree = added(alloc, tree, pair, cursor)?,
+            Item::Pair => add(alloc, &mut tree, &mut pair, cursor)?,
         }
     }
 }
 
-// The tree with one pair more.
-fn added<'qs>(
+// Adds one pair more to the tree.
+fn add<'qs>(
     alloc: Global,
-    tree: Draft<'qs>,
-    pair: Pair<'qs>,
+    tree: &mut Draft<'qs>,
+    pair: &mut Pair<'qs>,
     cursor: &Cursor<'qs>,
-) -> Result<Draft<'qs>, ScanError<'qs>>
-    ensures tree { let p = pair_of pair.entry in Finds draft_tree (in_place.add p.path p.push p.leaf (draft_tree tree.entry)) result }
-    ensures fresh { IsBare pair.entry → tree.entry ≡ Fresh → IsOkAnd result IsFlat }
+) -> Result<(), ScanError<'qs>>
+    ensures tree { let p = pair_of pair.old in Finds (λ _. draft_tree tree.new) (in_place.add p.path p.push p.leaf (draft_tree tree.old)) result }
+    ensures fresh { IsBare pair.old → tree.old ≡ Fresh → IsOkAnd result (λ _. IsFlat tree.new) }
 {
-    let mut tree = tree;
-    match add_pair(alloc, &mut tree, pair) {
-        Ok(()) => Ok(tree),
+    match add_pair(alloc, tree, pair) {
+        Ok(()) => Ok(()),
         Err(refusal) => Err(add_error(refusal, cursor)),
     }
 }

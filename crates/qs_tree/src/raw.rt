@@ -4,39 +4,35 @@ ghost use Rattle.std.specs.Prelude.{◌≡◌, false, IfOk, IsOk};
 ghost use Rattle.qs_spec.specs.Escape.{is_marked};
 ghost use Rattle.qs_spec.specs.Segment.{step_of};
 ghost use Rattle.qs_spec.specs.Leaf.{value_leaf};
-ghost use Rattle.qs_tree.specs.Error.{OnlyOutOfMemory};
 ghost use Rattle.qs_tree.specs.Views.{step_of_key};
 ghost use Rattle.qs_tree.specs.Pairs.{leaf_of};
 ghost use Rattle.qs_tree.specs.Raw.{index_from, index_of};
 
-use crate::decoding::decode;
-use crate::error::Result;
+use crate::decoding::unescape;
 use crate::key::Key;
 use crate::pair::Leaf;
-use std::alloc::Global;
+use std::alloc::{AllocError, Global};
 
 /// The key that a segment's raw bytes spell. Digits alone are a number where 32 bits hold it, which is asked before anything
 /// is decoded; all else is the text that the bytes stand for, borrowed where it is the same.
-pub(crate) fn read_key(alloc: Global, raw: &[u8]) -> Result<Key<'_>>
+pub(crate) fn read_key(alloc: Global, raw: &[u8]) -> Result<Key<'_>, AllocError>
     ensures key { IfOk result (λ key. step_of_key key ≡ step_of raw.now) }
-    ensures errors { OnlyOutOfMemory result }
 {
     match read_index(raw) {
         Some(index) => Ok(Key::Int(index)),
-        None => Ok(Key::String(decode(alloc, raw)?)),
+        None => Ok(Key::String(unescape(alloc, raw)?)),
     }
 }
 
 /// The leaf of the raw bytes behind `=`.
-pub(crate) fn read_leaf(alloc: Global, raw: &[u8]) -> Result<Leaf<'_>>
+pub(crate) fn read_leaf(alloc: Global, raw: &[u8]) -> Result<Leaf<'_>, AllocError>
     ensures leaf { IfOk result (λ leaf. leaf_of leaf ≡ value_leaf raw.now) }
     ensures no_memory { is_marked raw.now ≡ false → IsOk result }
-    ensures errors { OnlyOutOfMemory result }
 {
     if raw.is_empty() {
         return Ok(Leaf::Null);
     }
-    Ok(Leaf::Text(decode(alloc, raw)?))
+    Ok(Leaf::Text(unescape(alloc, raw)?))
 }
 
 /// The number that digits alone write, at least one, where 32 bits hold it.

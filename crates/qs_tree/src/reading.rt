@@ -1,42 +1,36 @@
 //! One pair, read from what is left of an input.
 
-ghost use Rattle.std.specs.Prelude.{◌≡◌, ◌++◌, ◌<◌, [], length, IfOk, IsOk, IsOkAnd, IsTrue, true, false};
+ghost use Rattle.std.specs.Prelude.{◌≡◌, ◌++◌, ◌<◌, [], length, IfOk, IsOk, IsTrue, true, false};
 ghost use Rattle.qs_spec.specs.Grammar.{plain, pushed, longer, ends_last, ends_root};
 ghost use Rattle.qs_spec.specs.Token.{raw_of};
 ghost use Rattle.qs_spec.specs.toward.Reading.{cut, with_leaf, read_value, read_brackets};
-ghost use Rattle.qs_tree.specs.Error.{OnlyOutOfMemory};
 ghost use Rattle.qs_tree.specs.Pairs.{path_of};
 ghost use Rattle.qs_tree.specs.Cursor.{ends_of, left, behind, taken, GoesOn, IsLeft, KnowsEnd};
 ghost use Rattle.qs_tree.specs.Reading.{IsRootStop, IsClosing, IsBehind, StandsBehind, IsEnd, IsMore, ReadsItem, ReadsLeaf, ReadsPair, is_nothing, root_path, behind_root};
 ghost use Rattle.qs_tree.specs.Small.{is_plain, TakesNoMemory, IsEqualsStop, ReadsBare, ReadsSmall};
 
 use crate::cursor::{Cursor, Kind, Token, Until};
-use crate::error::{Error, Result};
 use crate::key::Key;
 use crate::pair::{Leaf, Manner, Pair};
 use crate::raw::{read_key, read_leaf};
-use std::alloc::{AllocFailed, Global};
+use std::alloc::{AllocError, AllocFailed, Global};
 
 /// What was read.
-pub(crate) enum Item<'qs> {
+#[derive(Clone, Copy)]
+pub(crate) enum Item {
     /// Nothing: the end was met.
     End,
     /// An `&` with nothing before it.
     Ampersand,
-    Pair(Pair<'qs>),
+    Pair,
 }
 
 /// Why nothing was read.
-pub(crate) enum Fault<'qs> {
-    Unread(Unread<'qs>),
+#[derive(Clone, Copy)]
+pub(crate) enum Fault {
+    /// A pair can't be read to its end. Its path has the keys up to the place where it can't go on.
+    Unread(Reason),
     OutOfMemory,
-}
-
-/// A pair that can't be read to its end.
-pub(crate) struct Unread<'qs> {
-    /// The keys up to the place where it can't go on.
-    pub path: Vec<Key<'qs>>,
-    pub reason: Reason,
 }
 
 /// What stands where a pair can't go on so.
@@ -54,41 +48,41 @@ pub(crate) enum Reason {
     BehindPush,
 }
 
-impl<'qs> From<Error> for Fault<'qs> {
+impl From<AllocError> for Fault {
     ghost use Rattle.std.specs.Prelude.{◌≡◌};
     ghost use Rattle.qs_tree.specs.declared.reading.Fault.TheVariants.{OutOfMemory};
 
     ghost from_gives = { λ _ fault. fault ≡ OutOfMemory };
 
-    // A key or a leaf has no other error.
-    fn from(_: Error) -> Fault<'qs> {
+    fn from(_: AllocError) -> Fault {
         Fault::OutOfMemory
     }
 }
 
-impl<'qs, T: Drop> From<AllocFailed<T>> for Fault<'qs> {
+impl<T: Drop> From<AllocFailed<T>> for Fault {
     ghost use Rattle.std.specs.Prelude.{◌≡◌};
     ghost use Rattle.qs_tree.specs.declared.reading.Fault.TheVariants.{OutOfMemory};
 
     ghost from_gives = { λ _ fault. fault ≡ OutOfMemory };
 
-    fn from(_: AllocFailed<T>) -> Fault<'qs> {
+    fn from(_: AllocFailed<T>) -> Fault {
         Fault::OutOfMemory
     }
 }
 
-/// Reads up to the next `&` or the end: a pair, or nothing. The end is looked at once: behind it nothing is read.
+/// Reads up to the next `&` or the end: a pair, which is put in place of the one before, or nothing. The end is looked at once: behind it nothing is read.
 pub(crate) fn read_item<'qs>(
     alloc: Global,
     cursor: &mut Cursor<'qs>,
     max_depth: usize,
-) -> Result<Item<'qs>, Fault<'qs>>
+    pair: &mut Pair<'qs>,
+) -> Result<Item, Fault>
     requires { KnowsEnd cursor.old }
-    ensures item { ReadsItem max_depth (left cursor.old) result cursor.new }
+    ensures item { ReadsItem max_depth (left cursor.old) result cursor.new pair.new }
     ensures end { IsEnd result → cursor.new.ended ≡ true }
     ensures shorter { IsMore result → length cursor.new.rest.now < length cursor.old.rest.now }
     ensures moves { GoesOn cursor.old cursor.new }
-    ensures small { TakesNoMemory cursor.old.rest.now → ReadsSmall result cursor.new }
+    ensures small { TakesNoMemory cursor.old.rest.now → ReadsSmall result cursor.new pair.new }
 {
     if cursor.has_ended() {
         return Ok(Item::End);
@@ -101,7 +95,9 @@ pub(crate) fn read_item<'qs>(
             Some(_) => Item::Ampersand,
         });
     }
-    read_behind_root(alloc, cursor, max_depth, key, stop).map(Item::Pair)
+    pair.path.clear();
+    read_behind_root(alloc, cursor, max_depth, key, stop, pair)?;
+    Ok(Item::Pair)
 }
 
 /// An empty root key before `&` or the end is no pair.
@@ -125,41 +121,42 @@ fn root_end(max_depth: usize) -> Until
     }
 }
 
-/// Reads a pair behind its root key and the token behind that.
+/// Reads a pair behind its root key and the token behind that. No key is in its path yet.
 fn read_behind_root<'qs>(
     alloc: Global,
     cursor: &mut Cursor<'qs>,
     max_depth: usize,
     key: &'qs [u8],
     stop: Option<Token<'qs>>,
-) -> Result<Pair<'qs>, Fault<'qs>>
+    pair: &mut Pair<'qs>,
+) -> Result<(), Fault>
     requires root { IsRootStop stop }
     requires behind { StandsBehind stop cursor.old }
-    ensures pair { ReadsPair (behind_root max_depth key.now (behind stop.entry (left cursor.old))) result cursor.new }
+    requires empty { pair.old.path.items ≡ [] }
+    ensures pair { ReadsPair (behind_root max_depth key.now (behind stop.entry (left cursor.old))) result cursor.new pair.new }
     ensures moves { GoesOn cursor.old cursor.new }
-    ensures bare { key.now ≡ [] → IsEqualsStop stop.entry → IsTrue (is_plain cursor.old.rest.now) → ReadsBare result cursor.new }
+    ensures bare { key.now ≡ [] → IsEqualsStop stop.entry → IsTrue (is_plain cursor.old.rest.now) → ReadsBare result cursor.new pair.new }
 {
-    let path = read_root(alloc, key)?;
+    read_root(alloc, key, &mut pair.path)?;
     match stop {
         Some(token) if token.kind.is_open() => {
             cursor.keep_root(key, token.place)?;
-            read_brackets(alloc, cursor, max_depth, path, token)
+            read_brackets(alloc, cursor, max_depth, token, pair)
         }
-        _ => read_plain(alloc, cursor, path, stop),
+        _ => read_plain(alloc, cursor, stop, pair),
     }
 }
 
-/// The path of a root key.
-fn read_root<'qs>(alloc: Global, key: &'qs [u8]) -> Result<Vec<Key<'qs>>>
-    ensures path { IfOk result (λ path. path_of path.items ≡ root_path key.now) }
-    ensures errors { OnlyOutOfMemory result }
-    ensures empty { key.now ≡ [] → IsOkAnd result (λ path. path.items ≡ []) }
+/// Puts a root key to an empty path. An empty key is none of the path.
+fn read_root<'qs>(alloc: Global, key: &'qs [u8], path: &mut Vec<Key<'qs>>) -> Result<(), AllocError>
+    requires { path.old.items ≡ [] }
+    ensures path { IfOk result (λ _. path_of path.new.items ≡ root_path key.now) }
+    ensures empty { key.now ≡ [] → IsOk result × (path.new.items ≡ []) }
 {
-    let mut path = Vec::new(alloc);
     if !key.is_empty() {
         path.push(read_key(alloc, key)?)?;
     }
-    Ok(path)
+    Ok(())
 }
 
 /// Reads what follows a key: nothing, or, behind `=`, a value.
@@ -167,7 +164,7 @@ fn read_value<'qs>(
     alloc: Global,
     cursor: &mut Cursor<'qs>,
     stop: Option<Token<'qs>>,
-) -> Result<Leaf<'qs>>
+) -> Result<Leaf<'qs>, AllocError>
     requires closing { IsClosing stop }
     requires behind { StandsBehind stop cursor.old }
     ensures leaf { ReadsLeaf (read_value (behind stop.entry (left cursor.old))) result cursor.new }
@@ -184,31 +181,28 @@ fn read_value<'qs>(
 fn read_plain<'qs>(
     alloc: Global,
     cursor: &mut Cursor<'qs>,
-    path: Vec<Key<'qs>>,
     stop: Option<Token<'qs>>,
-) -> Result<Pair<'qs>, Fault<'qs>>
+    pair: &mut Pair<'qs>,
+) -> Result<(), Fault>
     requires closing { IsClosing stop }
     requires behind { StandsBehind stop cursor.old }
-    ensures pair { ReadsPair (with_leaf (plain (path_of path.entry.items)) (read_value (behind stop.entry (left cursor.old)))) result cursor.new }
+    ensures pair { ReadsPair (with_leaf (plain (path_of pair.old.path.items)) (read_value (behind stop.entry (left cursor.old)))) result cursor.new pair.new }
     ensures moves { GoesOn cursor.old cursor.new }
-    ensures bare { path.entry.items ≡ [] → IsEqualsStop stop.entry → IsTrue (is_plain cursor.old.rest.now) → ReadsBare result cursor.new }
+    ensures bare { pair.old.path.items ≡ [] → IsEqualsStop stop.entry → IsTrue (is_plain cursor.old.rest.now) → ReadsBare result cursor.new pair.new }
 {
-    let leaf = read_value(alloc, cursor, stop)?;
-    Ok(Pair {
-        path,
-        manner: Manner::Plain,
-        leaf,
-    })
+    pair.manner = Manner::Plain;
+    pair.leaf = read_value(alloc, cursor, stop)?;
+    Ok(())
 }
 
 /// Reads a push behind its `[]`.
 fn read_push<'qs>(
     alloc: Global,
     cursor: &mut Cursor<'qs>,
-    path: Vec<Key<'qs>>,
-) -> Result<Pair<'qs>, Fault<'qs>>
+    pair: &mut Pair<'qs>,
+) -> Result<(), Fault>
     requires { cursor.old.ended ≡ false }
-    ensures pair { ReadsPair (with_leaf (pushed (path_of path.entry.items)) (read_value (left cursor.old))) result cursor.new }
+    ensures pair { ReadsPair (with_leaf (pushed (path_of pair.old.path.items)) (read_value (left cursor.old))) result cursor.new pair.new }
     ensures moves { GoesOn cursor.old cursor.new }
 {
     let next = cursor.next();
@@ -226,15 +220,12 @@ fn read_push<'qs>(
             },
         ) => Reason::BehindPush,
         _ => {
-            let leaf = read_value(alloc, cursor, next)?;
-            return Ok(Pair {
-                path,
-                manner: Manner::Push,
-                leaf,
-            });
+            pair.manner = Manner::Push;
+            pair.leaf = read_value(alloc, cursor, next)?;
+            return Ok(());
         }
     };
-    Err(Fault::Unread(Unread { path, reason }))
+    Err(Fault::Unread(reason))
 }
 
 /// Reads what follows an opening bracket behind a path, with room for so many segments.
@@ -242,35 +233,33 @@ fn read_brackets<'qs>(
     alloc: Global,
     cursor: &mut Cursor<'qs>,
     max_depth: usize,
-    mut path: Vec<Key<'qs>>,
     mut bracket: Token<'qs>,
-) -> Result<Pair<'qs>, Fault<'qs>>
+    pair: &mut Pair<'qs>,
+) -> Result<(), Fault>
     requires { IsBehind bracket cursor.old }
-    ensures pair { ReadsPair (read_brackets max_depth (path_of path.entry.items) bracket.entry.raw.now (left cursor.old)) result cursor.new }
+    ensures pair { ReadsPair (read_brackets max_depth (path_of pair.old.path.items) bracket.entry.raw.now (left cursor.old)) result cursor.new pair.new }
     ensures moves { GoesOn cursor.old cursor.new }
 {
     let mut room = max_depth;
     loop {
         let Some(first) = cursor.next() else {
-            let reason = Reason::EndBehindOpen;
-            return Err(Fault::Unread(Unread { path, reason }));
+            return Err(Fault::Unread(Reason::EndBehindOpen));
         };
         cursor.keep_spot(bracket.place)?;
         if first.kind.is_close() {
-            return read_push(alloc, cursor, path);
+            return read_push(alloc, cursor, pair);
         }
         if room == 0 {
-            return read_last_key(alloc, cursor, path, bracket);
+            return read_last_key(alloc, cursor, bracket, pair);
         }
         let (segment, stop) = cursor.run_from(first.place, Until::Close);
-        path.push(read_key(alloc, segment)?)?;
+        pair.path.push(read_key(alloc, segment)?)?;
         let Some(_) = stop else {
-            let reason = Reason::EndInSegment;
-            return Err(Fault::Unread(Unread { path, reason }));
+            return Err(Fault::Unread(Reason::EndInSegment));
         };
         let next = cursor.next();
         let Some(token) = next else {
-            return read_plain(alloc, cursor, path, next);
+            return read_plain(alloc, cursor, next, pair);
         };
         let character = match token.kind {
             Kind::Open => {
@@ -278,12 +267,11 @@ fn read_brackets<'qs>(
                 room -= 1;
                 continue;
             }
-            Kind::Ampersand | Kind::Equals => return read_plain(alloc, cursor, path, next),
+            Kind::Ampersand | Kind::Equals => return read_plain(alloc, cursor, next, pair),
             Kind::Close => ']',
             Kind::Other(byte) => char::from(byte),
         };
-        let reason = Reason::BehindSegment(character);
-        return Err(Fault::Unread(Unread { path, reason }));
+        return Err(Fault::Unread(Reason::BehindSegment(character)));
     }
 }
 
@@ -291,16 +279,16 @@ fn read_brackets<'qs>(
 fn read_last_key<'qs>(
     alloc: Global,
     cursor: &mut Cursor<'qs>,
-    mut path: Vec<Key<'qs>>,
     bracket: Token<'qs>,
-) -> Result<Pair<'qs>, Fault<'qs>>
+    pair: &mut Pair<'qs>,
+) -> Result<(), Fault>
     requires end { cursor.old.ended ≡ false }
     requires behind { IsLeft bracket.place.rest.now cursor.old.rest.now }
     ensures pair { let run = cut ends_last (left cursor.old) in let key = taken bracket.entry.place.rest.now cursor.old.rest.now ++ raw_of run.0 in
-        ReadsPair (with_leaf (plain (longer (path_of path.entry.items) key)) (read_value run.1)) result cursor.new }
+        ReadsPair (with_leaf (plain (longer (path_of pair.old.path.items) key)) (read_value run.1)) result cursor.new pair.new }
     ensures moves { GoesOn cursor.old cursor.new }
 {
     let (key, stop) = cursor.run_from(bracket.place, Until::Separator);
-    path.push(read_key(alloc, key)?)?;
-    read_plain(alloc, cursor, path, stop)
+    pair.path.push(read_key(alloc, key)?)?;
+    read_plain(alloc, cursor, stop, pair)
 }

@@ -11,9 +11,8 @@ use crate::conflict::{Clash, Conflict, Refusal, conflict_below};
 use crate::cursor::{Cursor, Site};
 use crate::draft::Draft;
 use crate::error::Error;
-use crate::key::Key;
 use crate::pair::{Leaf, Manner, Pair};
-use crate::reading::{Reason, Unread};
+use crate::reading::Reason;
 use std::alloc::{AllocError, Global};
 use std::{fmt, str};
 
@@ -35,20 +34,22 @@ impl<'qs> From<AllocError> for ScanError<'qs> {
 }
 
 /// Why a pair that can't be read to its end isn't added. A conflict with the tree that the pair meets before is told first.
+#[inline(never)]
 pub(crate) fn unread_error<'qs>(
     alloc: Global,
-    tree: Draft<'qs>,
-    unread: Unread<'qs>,
+    tree: &mut Draft<'qs>,
+    pair: &mut Pair<'qs>,
+    reason: Reason,
     cursor: &Cursor<'qs>,
 ) -> ScanError<'qs> {
-    let Unread { path, reason } = unread;
-    match conflict_before(alloc, tree, path, reason) {
+    match conflict_before(alloc, tree, pair, reason) {
         Ok(()) => ScanError::Unread(reason, cursor.to_come()),
         Err(refusal) => add_error(refusal, cursor),
     }
 }
 
 /// Why a pair isn't added.
+#[inline(never)]
 pub(crate) fn add_error<'qs>(refusal: Refusal, cursor: &Cursor<'qs>) -> ScanError<'qs>
     ensures { refusal ≡ no_memory.OutOfMemory → result ≡ OutOfMemory }
 {
@@ -63,18 +64,17 @@ pub(crate) fn add_error<'qs>(refusal: Refusal, cursor: &Cursor<'qs>) -> ScanErro
 // A conflict that a pair meets before it can't go on.
 fn conflict_before<'qs>(
     alloc: Global,
-    tree: Draft<'qs>,
-    path: Vec<Key<'qs>>,
+    tree: &mut Draft<'qs>,
+    pair: &mut Pair<'qs>,
     reason: Reason,
 ) -> Result<(), Refusal> {
     match reason {
         Reason::OpenBehindPush | Reason::BehindPush => {
-            let manner = Manner::Push;
-            let leaf = Leaf::NoValue;
-            let mut tree = tree;
-            add_pair(alloc, &mut tree, Pair { path, manner, leaf })
+            pair.manner = Manner::Push;
+            pair.leaf = Leaf::NoValue;
+            add_pair(alloc, tree, pair)
         }
-        _ => match conflict_below(&tree, &path) {
+        _ => match conflict_below(tree, &pair.path) {
             Some(conflict) => Err(Refusal::Conflict(conflict)),
             None => Ok(()),
         },
@@ -83,6 +83,7 @@ fn conflict_before<'qs>(
 
 impl<'qs> ScanError<'qs> {
     /// What is told of an input that takes so many steps.
+    #[inline(never)]
     pub fn into_error(self, alloc: Global, all: usize) -> Error
         ensures { Tells self.entry all result }
     {

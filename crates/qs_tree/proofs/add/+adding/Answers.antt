@@ -1,5 +1,4 @@
-use Rattle.std.proofs.Common.{◌≡◌, ap, sym, ◌∙◌, unwrap_or, rules, refl, Global}
-use Rattle.std.specs.Vec.Iter.{into_iter_items}
+use Rattle.std.proofs.Common.{drop, ◌+◌, ◌≡◌, ap, sym, ◌∙◌, unwrap_or, rules, refl, Global}
 use Rattle.std.specs.declared.collections.BTreeMap.{BTreeMap}
 use Rattle.qs_spec.specs.toward.InPlace.{add}
 use Rattle.qs_tree.specs.declared.key.Key.{Key}
@@ -7,21 +6,23 @@ use Rattle.qs_tree.specs.declared.draft.Draft.{Draft, Fresh, the_lemmas}
 use Rattle.qs_tree.specs.Pairs.{is_push, leaf_of, path_of}
 use Rattle.qs_tree.specs.Draft.{draft_entries, entries_seen}
 use Rattle.qs_tree.specs.Conflict.{clash_here, conflict_along}
-use Rattle.qs_tree.proofs.Turns.{gives_err}
+use Rattle.qs_tree.specs.Views.{step_of_key}
+use Rattle.qs_tree.proofs.Views.{draft_tree-Map}
+use Rattle.qs_tree.proofs.Turns.{gives_err, below_map}
 use Rattle.qs_tree.proofs.Drafting.{draft_entries-Vector, at_key}
 use Rattle.qs_tree.proofs.add.+adding.Goals as goal
 
 pub add_below-returns-in_ok-child-in-Vector : goal.add_below-returns-in_ok-child-in-Vector
 add_below-returns-in_ok-child-in-Vector t c =
     let es = c.in-Vector.entries in
-    let path = path_of (into_iter_items c.args.keys.now) in
-    let push = is_push c.args.manner in
+    let path = path_of (drop c.args.level c.args.pair.now.path.items) in
+    let push = is_push c.args.pair.now.manner in
     let new = c.add_along.new.node in
     let sorted = rw c.in-Vector.entries-is at c.as_slice.ensures.sorted in
     let lent = rw c.in-Vector.entries-is at c.in_ok-child-in-Vector.ensures.value in
     let put = rw c.in-Vector.entries-is at (c.child.follows.holds new (search rules)) in
     rw c.in-Vector.is
-    (at_key c.args.key es sorted c.in_ok-child-in-Vector.child.now lent _ _ (sym (draft_entries-Vector es)) (add path push (leaf_of c.args.leaf)) (conflict_along c.args.level path (clash_here push)) new
+    (at_key c.args.key es sorted c.in_ok-child-in-Vector.child.now lent _ _ (sym (draft_entries-Vector es)) (add path push (leaf_of c.args.pair.now.leaf)) (conflict_along c.args.level path (clash_here push)) new
     (ap entries_seen (sym put) ∙ search (rules, the_lemmas)) c.add_along.result c.add_along.ensures.added)
 
 pub add_below-returns-in_err-add_in_tree-in-Vector : goal.add_below-returns-in_err-add_in_tree-in-Vector
@@ -34,10 +35,18 @@ add_below-returns-in_err-add_in_tree-in-Vector t c =
 pub add_in_tree-returns : goal.add_in_tree-returns
 add_in_tree-returns t c =
     let es = c.args.tree.now.entries in
-    let path = path_of (into_iter_items c.args.keys.now) in
-    let push = is_push c.args.manner in
+    let path = path_of (drop c.args.level c.args.pair.now.path.items) in
+    let push = is_push c.args.pair.now.manner in
     let new = c.add_along.new.node in
     let lent = c.or_insert-child.ensures.value ∙ ap (λ o. unwrap_or o Fresh) c.in_ok-tree.ensures.value in
     let written = c.tree-3-1.given.1 (sym c.in_ok-tree.ensures.same_map) in
-    at_key c.args.key es c.in_ok-tree.ensures.ordered c.or_insert-child.result.now lent _ _ refl (add path push (leaf_of c.args.leaf)) (conflict_along c.args.level path (clash_here push)) new
+    at_key c.args.key es c.in_ok-tree.ensures.ordered c.or_insert-child.result.now lent _ _ refl (add path push (leaf_of c.args.pair.now.leaf)) (conflict_along c.args.level path (clash_here push)) new
     (ap entries_seen (sym (ap (λ (m : BTreeMap Key Draft Global). m.entries) written ∙ c.in_ok-tree.ensures.update.1 new))) c.add_along.result c.add_along.ensures.added
+
+pub add_along-returns-in-Map-clause-added : goal.add_along-returns-in-Map-clause-added
+add_along-returns-in-Map-clause-added t c =
+    let pair = c.take_key-key.new.self in
+    let h = rw (c.take_key-key.ensures.manner, c.take_key-key.ensures.leaf) at c.add_below.ensures in
+    rw (c.in-Map.is, c.take_key-key.ensures.key, draft_tree-Map c.in-Map.map, draft_tree-Map c.add_below.new.map)
+    (below_map (step_of_key c.take_key-key.result) (path_of (drop (c.args.level + 1) pair.path.items)) (is_push c.args.pair.now.manner) (leaf_of c.args.pair.now.leaf) c.args.level
+    (draft_entries c.in-Map.map) (draft_entries c.add_below.new.map) c.add_below.result h)

@@ -1,13 +1,15 @@
 -- Each key that is gone down is one fewer.
-use Rattle.std.proofs.Common.{◌+◌, ◌*◌, length}
-use Rattle.std.specs.Vec.Iter.{into_iter_items}
+use Rattle.std.proofs.Common.{◌+◌, ◌-◌, ◌*◌, length}
 use Rattle.qs_tree.proofs.add.+adding.Given as goal
 
 abbrev pub decreases-add_along : goal.decreases-add_along
-decreases-add_along l = 3 * length (into_iter_items l.keys.now)
+decreases-add_along l = 4 * (length l.pair.now.path.items - l.level)
 
 abbrev pub decreases-add_below : goal.decreases-add_below
-decreases-add_below l = 3 * length (into_iter_items l.keys.now) + 2
+decreases-add_below l = 4 * (length l.pair.now.path.items - l.level) + 2
 
 abbrev pub decreases-add_in_tree : goal.decreases-add_in_tree
-decreases-add_in_tree l = 3 * length (into_iter_items l.keys.now) + 1
+decreases-add_in_tree l = 4 * (length l.pair.now.path.items - l.level) + 1
+
+abbrev pub decreases-add_in_new_map : goal.decreases-add_in_new_map
+decreases-add_in_new_map l = 4 * (length l.pair.now.path.items - (l.level + 1)) + 3

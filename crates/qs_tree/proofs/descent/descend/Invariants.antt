@@ -1,16 +1,17 @@
--- The maps so far lead from the node to this one, with the keys that are left ahead.
-use Rattle.std.proofs.Common.{◌≡◌, ◌+◌, length}
-use Rattle.std.specs.Vec.Iter.{into_iter_items, into_iter_len}
+-- The maps so far lead from the node to this one, with the keys from its level on ahead.
+use Rattle.std.proofs.Common.{◌≡◌, ◌≤◌, ◌-◌, length, drop}
 use Rattle.qs_tree.specs.Pairs.{path_of}
 use Rattle.qs_tree.specs.Draft.{draft_tree}
 use Rattle.qs_tree.specs.Descent.{Leads}
 use Rattle.qs_tree.proofs.descent.descend.Given as goal
 
-abbrev pub invariant-loop-key : goal.invariant-loop-key
-invariant-loop-key l = record {
-  way : Leads l.fn.level (path_of (into_iter_items l.fn.keys)) (draft_tree l.fn.node) l.maps.items l.level (path_of (into_iter_items l.keys)) (draft_tree l.node);
-  count : l.level + length (into_iter_items l.keys) ≡ l.fn.level + length (into_iter_items l.fn.keys);
+abbrev pub invariant-loop-level : goal.invariant-loop-level
+invariant-loop-level l = record {
+  way : Leads l.fn.level (path_of (drop l.fn.level l.fn.pair.path.items)) (draft_tree l.fn.node) l.maps.items l.level (path_of (drop l.level l.pair.path.items)) (draft_tree l.node);
+  count : l.level ≤ length l.pair.path.items;
+  manner : l.pair.manner ≡ l.fn.pair.manner;
+  leaf : l.pair.leaf ≡ l.fn.pair.leaf;
 }
 
-abbrev pub decreases-loop-key : goal.decreases-loop-key
-decreases-loop-key l = into_iter_len l.keys
+abbrev pub decreases-loop-level : goal.decreases-loop-level
+decreases-loop-level l = length l.pair.path.items - l.level

@@ -17,11 +17,12 @@ returns-in-End-clause-end c =
 
 pub loop-item-preserved-in-Ampersand : goal.loop-item-preserved-in-Ampersand
 loop-item-preserved-in-Ampersand c =
+    let pair = c.read_item.new.pair in
     let old = c.loop-item.cursor in
     let new = c.read_item.new.cursor in
     let depth = c.args.max_depth in
     let before = c.loop-item.invariant in
-    let read = subst (λ i. ReadsItem depth (left old) (Ok i) new) c.in-Ampersand.is c.in-Ok.ensures.item in
+    let read = subst (λ i. ReadsItem depth (left old) (Ok i) new pair) c.in-Ampersand.is c.in-Ok.ensures.item in
     let shorter = c.in-Ok.ensures.shorter (subst (λ i. IsMore (Ok i)) (sym c.in-Ampersand.is) tt) in
     record {
       grows = sym (grown_same depth (left old) (draft_tree c.loop-item.tree) (left new) read) ∙ before.grows;
@@ -29,7 +30,7 @@ loop-item-preserved-in-Ampersand c =
       steps = c.in-Ok.ensures.moves.steps ∙ before.steps;
       end = c.in-Ok.ensures.moves.end;
       small = λ small. small_ampersand old.rest.now new.rest.now c.loop-item.tree shorter (before.small small)
-          (subst (λ i. ReadsSmall (Ok i) new) c.in-Ampersand.is (small_goes old.rest.now c.loop-item.tree (Ok c.in-Ok.item) new (before.small small) c.in-Ok.ensures.small));
+          (subst (λ i. ReadsSmall (Ok i) new pair) c.in-Ampersand.is (small_goes old.rest.now c.loop-item.tree (Ok c.in-Ok.item) new pair (before.small small) c.in-Ok.ensures.small));
     }
 
 pub loop-item-preserved : goal.loop-item-preserved
@@ -38,17 +39,17 @@ loop-item-preserved c =
     let new = c.read_item.new.cursor in
     let depth = c.args.max_depth in
     let before = c.loop-item.invariant in
-    let pair = c.in-Pair.pair in
-    let read = subst (λ i. ReadsItem depth (left old) (Ok i) new) c.in-Pair.is c.in-Ok.ensures.item in
+    let pair = c.read_item.new.pair in
+    let read = subst (λ i. ReadsItem depth (left old) (Ok i) new pair) c.in-Pair.is c.in-Ok.ensures.item in
     let shorter = c.in-Ok.ensures.shorter (subst (λ i. IsMore (Ok i)) (sym c.in-Pair.is) tt) in
     record {
-      grows = sym (grown_pair depth (left old) (draft_tree c.loop-item.tree) (left new) (pair_of pair) (draft_tree c.in_ok-tree-in-Pair.tree) read c.in_ok-tree-in-Pair.ensures.tree) ∙ before.grows;
+      grows = sym (grown_pair depth (left old) (draft_tree c.loop-item.tree) (left new) (pair_of pair) (draft_tree c.add.new.tree) read c.in_ok-add-in-Pair.ensures.tree) ∙ before.grows;
       fewer = omega (arith, shorter, before.fewer);
       steps = c.in-Ok.ensures.moves.steps ∙ before.steps;
       end = c.in-Ok.ensures.moves.end;
       small = λ small.
-          let bare = subst (λ i. ReadsSmall (Ok i) new) c.in-Pair.is (small_goes old.rest.now c.loop-item.tree (Ok c.in-Ok.item) new (before.small small) c.in-Ok.ensures.small) in
-          small_end new.rest.now c.in_ok-tree-in-Pair.tree bare.1 (c.in_ok-tree-in-Pair.ensures.fresh bare.0 (small_fresh old.rest.now new.rest.now c.loop-item.tree shorter (before.small small)));
+          let bare = subst (λ i. ReadsSmall (Ok i) new pair) c.in-Pair.is (small_goes old.rest.now c.loop-item.tree (Ok c.in-Ok.item) new pair (before.small small) c.in-Ok.ensures.small) in
+          small_end new.rest.now c.add.new.tree bare.1 (c.in_ok-add-in-Pair.ensures.fresh bare.0 (small_fresh old.rest.now new.rest.now c.loop-item.tree shorter (before.small small)));
     }
 
 pub loop-item-init : goal.loop-item-init

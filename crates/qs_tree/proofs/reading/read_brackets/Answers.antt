@@ -6,17 +6,16 @@ use Rattle.qs_tree.specs.Cursor.{kind_of_token, token_of, looks, met, left, behi
 use Rattle.qs_tree.specs.Pairs.{path_of}
 use Rattle.qs_tree.proofs.BehindKeys.{pair_as, push_found, last_found, first_token, left_behind, taken_behind, segment_read, behind_closing, behind_open, behind_close, behind_other, closes}
 use Rattle.qs_tree.proofs.reading.read_brackets.Goals as goal
-use Rattle.qs_tree.proofs.reading.read_brackets.Goals.{in-Close, in-Other}
 
 pub returns-then-is_close-clause-pair : goal.returns-then-is_close-clause-pair
 returns-then-is_close-clause-pair c =
-    let keys = c.loop-first.path.items in
+    let keys = c.loop-first.pair.path.items in
     let room = c.loop-first.room in
     let bracket = c.loop-first.bracket.raw.now in
     let first = token_of c.in-Some.first in
     let kept = c.keep_spot.new.self in
     let found = c.loop-first.invariant.found ∙ ap (read_brackets room (path_of keys) bracket) (c.in-Some.ensures.token ∙ ap (λ ts. first ∷ ts) (sym (ap₂ tokens c.in_ok-keep_spot.ensures.form c.in_ok-keep_spot.ensures.rest))) in
-    pair_as _ _ c.read_push.result c.read_push.new.cursor (found ∙ push_found room (path_of keys) bracket first (left kept) (sym c.is_close.ensures ∙ c.if-is_close.true)) c.read_push.ensures.pair
+    pair_as _ _ c.read_push.result c.read_push.new.cursor c.read_push.new.pair (found ∙ push_found room (path_of keys) bracket first (left kept) (sym c.is_close.ensures ∙ c.if-is_close.true)) c.read_push.ensures.pair
 
 -- the bracket and the token are what was taken since the bracket's place
 pub read_last_key-requires-clause-behind : goal.read_last_key-requires-clause-behind
@@ -31,7 +30,7 @@ read_last_key-requires-clause-behind c =
 
 pub returns-then-room-eq0-clause-pair : goal.returns-then-room-eq0-clause-pair
 returns-then-room-eq0-clause-pair c =
-    let keys = c.loop-first.path.items in
+    let keys = c.loop-first.pair.path.items in
     let room = c.loop-first.room in
     let bracket = c.loop-first.bracket.raw.now in
     let first = token_of c.in-Some.first in
@@ -42,7 +41,7 @@ returns-then-room-eq0-clause-pair c =
     ∙ sym (append_assoc bracket first.raw kept.rest.now) in
     let none : room ≡ 0 = omega arith in
     let run = cut ends_last (left kept) in
-    pair_as _ _ c.read_last_key.result c.read_last_key.new.cursor
+    pair_as _ _ c.read_last_key.result c.read_last_key.new.cursor c.read_last_key.new.pair
     (found ∙ ap (λ n. read_brackets n (path_of keys) bracket (first ∷ left kept)) none
     ∙ last_found (path_of keys) bracket (taken place kept.rest.now ++ raw_of run.0) first (left kept) run.1 (sym c.is_close.ensures ∙ c.if-is_close.false)
     (ap (λ l. l ++ raw_of run.0) (taken_behind place (bracket ++ first.raw) kept.rest.now whole)) refl)
@@ -50,7 +49,7 @@ returns-then-room-eq0-clause-pair c =
 
 pub returns-in_default-stop-clause-pair : goal.returns-in_default-stop-clause-pair
 returns-in_default-stop-clause-pair c =
-    let keys = c.loop-first.path.items in
+    let keys = c.loop-first.pair.path.items in
     let room = c.loop-first.room in
     let bracket = c.loop-first.bracket.raw.now in
     let first = token_of c.in-Some.first in
@@ -66,7 +65,7 @@ returns-in_default-stop-clause-pair c =
 
 pub returns-in_default-next-clause-pair : goal.returns-in_default-next-clause-pair
 returns-in_default-next-clause-pair c =
-    let keys = c.loop-first.path.items in
+    let keys = c.loop-first.pair.path.items in
     let room = c.loop-first.room in
     let bracket = c.loop-first.bracket.raw.now in
     let first = token_of c.in-Some.first in
@@ -79,14 +78,14 @@ returns-in_default-next-clause-pair c =
     let segment = found ∙ segment_read room keys new c.in_ok-read_key.field-0 bracket c.run_from.result.0.now first (left kept) (behind c.run_from.result.1 behind_run) (omega arith)
     (sym c.is_close.ensures ∙ c.if-is_close.false) run c.run_from.ensures.token c.in_ok-push.ensures.items c.in_ok-read_key.ensures.key in
     let closed = segment ∙ ap (λ o. after_run (read_brackets (room - 1)) (path_of new) (behind o behind_run)) c.in-Some-stop.is in
-    pair_as _ _ c.read_plain.result c.read_plain.new.cursor
+    pair_as _ _ c.read_plain.result c.read_plain.new.cursor c.read_plain.new.pair
     (closed ∙ ap (after_close (read_brackets (room - 1)) (path_of new)) c.in_default-next.ensures.token
     ∙ ap (λ o. with_leaf (plain (path_of new)) (read_value (behind o (left c.next-next.new.self)))) (sym c.in_default-next.is))
     c.read_plain.ensures.pair
 
 pub returns-in-Ampersand-clause-pair : goal.returns-in-Ampersand-clause-pair
 returns-in-Ampersand-clause-pair c =
-    let keys = c.loop-first.path.items in
+    let keys = c.loop-first.pair.path.items in
     let room = c.loop-first.room in
     let bracket = c.loop-first.bracket.raw.now in
     let first = token_of c.in-Some.first in
@@ -100,7 +99,7 @@ returns-in-Ampersand-clause-pair c =
     (sym c.is_close.ensures ∙ c.if-is_close.false) run c.run_from.ensures.token c.in_ok-push.ensures.items c.in_ok-read_key.ensures.key in
     let closed = segment ∙ ap (λ o. after_run (read_brackets (room - 1)) (path_of new) (behind o behind_run)) c.in-Some-stop.is in
     let token = c.in-Some-next.token in
-    pair_as _ _ c.read_plain-in-Ampersand.result c.read_plain-in-Ampersand.new.cursor
+    pair_as _ _ c.read_plain-in-Ampersand.result c.read_plain-in-Ampersand.new.cursor c.read_plain-in-Ampersand.new.pair
     (closed ∙ ap (after_close (read_brackets (room - 1)) (path_of new)) c.in-Some-next.ensures.token
     ∙ behind_closing (room - 1) (path_of new) token (left c.next-next.new.self) (kind_of_token token.kind) refl (closes token.kind c.in-Ampersand.is)
     ∙ ap (λ o. with_leaf (plain (path_of new)) (read_value (behind o (left c.next-next.new.self)))) (sym c.in-Some-next.is))
@@ -108,7 +107,7 @@ returns-in-Ampersand-clause-pair c =
 
 pub loop-first-preserved : goal.loop-first-preserved
 loop-first-preserved c =
-    let keys = c.loop-first.path.items in
+    let keys = c.loop-first.pair.path.items in
     let room = c.loop-first.room in
     let bracket = c.loop-first.bracket.raw.now in
     let first = token_of c.in-Some.first in
@@ -130,9 +129,9 @@ loop-first-preserved c =
       spent = omega (arith, c.in-Some-next.ensures.cost, c.in-Some.ensures.cost, c.in_ok-keep_spot.ensures.steps, ap length c.in_ok-keep_spot.ensures.rest, ap looks c.in-Some-stop.is);
     }
 
-pub returns-in-loop-first-clause-pair : goal.returns-in-loop-first-clause-pair
-returns-in-loop-first-clause-pair c =
-    let keys = c.loop-first.path.items in
+pub returns-in-Close-clause-pair : goal.returns-in-Close-clause-pair
+returns-in-Close-clause-pair c =
+    let keys = c.loop-first.pair.path.items in
     let room = c.loop-first.room in
     let bracket = c.loop-first.bracket.raw.now in
     let first = token_of c.in-Some.first in
@@ -147,7 +146,23 @@ returns-in-loop-first-clause-pair c =
     let closed = segment ∙ ap (λ o. after_run (read_brackets (room - 1)) (path_of new) (behind o behind_run)) c.in-Some-stop.is in
     let token = c.in-Some-next.token in
     closed ∙ ap (after_close (read_brackets (room - 1)) (path_of new)) c.in-Some-next.ensures.token
-    ∙ elim c.match-token.branch [
-      | in-Close w ↦ behind_close (room - 1) (path_of new) token (left c.next-next.new.self) (ap kind_of_token w.in-Close.is)
-      | in-Other w ↦ behind_other (room - 1) (path_of new) token (left c.next-next.new.self) (ap kind_of_token w.in-Other.is)
-    ]
+    ∙ behind_close (room - 1) (path_of new) token (left c.next-next.new.self) (ap kind_of_token c.in-Close.is)
+
+pub returns-in-Other-clause-pair : goal.returns-in-Other-clause-pair
+returns-in-Other-clause-pair c =
+    let keys = c.loop-first.pair.path.items in
+    let room = c.loop-first.room in
+    let bracket = c.loop-first.bracket.raw.now in
+    let first = token_of c.in-Some.first in
+    let kept = c.keep_spot.new.self in
+    let found = c.loop-first.invariant.found ∙ ap (read_brackets room (path_of keys) bracket) (c.in-Some.ensures.token ∙ ap (λ ts. first ∷ ts) (sym (ap₂ tokens c.in_ok-keep_spot.ensures.form c.in_ok-keep_spot.ensures.rest))) in
+    let new = c.push.new.self.items in
+    let behind_run = left c.run_from.new.self in
+    let first_bytes = first_token c.in-Some.first.place.rest.now first.raw c.loop-first.cursor.rest.now c.next.new.self.rest.now kept.rest.now c.in-Some.ensures.place c.in-Some.ensures.bytes c.in_ok-keep_spot.ensures.rest in
+    let run = c.run_from.ensures.run ∙ ap (λ l. l ++ raw_of (cut is_close (left kept)).0) (taken_behind c.in-Some.first.place.rest.now first.raw kept.rest.now first_bytes) in
+    let segment = found ∙ segment_read room keys new c.in_ok-read_key.field-0 bracket c.run_from.result.0.now first (left kept) (behind c.run_from.result.1 behind_run) (omega arith)
+    (sym c.is_close.ensures ∙ c.if-is_close.false) run c.run_from.ensures.token c.in_ok-push.ensures.items c.in_ok-read_key.ensures.key in
+    let closed = segment ∙ ap (λ o. after_run (read_brackets (room - 1)) (path_of new) (behind o behind_run)) c.in-Some-stop.is in
+    let token = c.in-Some-next.token in
+    closed ∙ ap (after_close (read_brackets (room - 1)) (path_of new)) c.in-Some-next.ensures.token
+    ∙ behind_other (room - 1) (path_of new) token (left c.next-next.new.self) (ap kind_of_token c.in-Other.is)

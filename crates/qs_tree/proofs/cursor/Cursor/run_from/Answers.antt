@@ -1,26 +1,19 @@
-use Rattle.std.proofs.Common.{◌++◌, arith, sym, ap, ◌∙◌}
-use Rattle.qs_spec.specs.Token.{raw_of}
-use Rattle.qs_spec.specs.toward.Reading.{cut}
-use Rattle.qs_tree.specs.Cursor.{ends_of, left, token_of, taken}
-use Rattle.qs_tree.proofs.Runs.{left_more, taken_more, run_more, token_more}
+use Rattle.std.proofs.Common.{◌≡◌, ◌++◌, sym, ap, ap₂, ◌∙◌}
+use Rattle.std.proofs.lemmas.List.{take-append-drop}
+use Rattle.qs_spec.specs.Token.{tokens}
+use Rattle.qs_tree.specs.Cursor.{ends_of, left, taken}
+use Rattle.qs_tree.proofs.Runs.{taken_more, stop_kind}
 use Rattle.qs_tree.proofs.cursor.Cursor.run_from.Goals as goal
 
-pub loop-token-preserved : goal.loop-token-preserved
-loop-token-preserved c =
+pub returns-clause-run : goal.returns-clause-run
+returns-clause-run c =
     let start = c.args.place.rest.now in
-    let old = c.loop-token.self in
-    let new = c.next.new.self in
-    let token = c.in-Some.token in
-    let ends = ends_of c.args.until in
-    let other = sym c.is_at.ensures ∙ c.if-is_at.false in
-    let before = c.loop-token.invariant in
-    record {
-      form = c.in-Some.ensures.form ∙ before.form;
-      ended = c.in-Some.ensures.met ∙ before.ended;
-      rest = left_more start old.rest.now token.raw.now new.rest.now before.rest c.in-Some.ensures.bytes;
-      run = before.run ∙ ap (λ ts. taken start old.rest.now ++ raw_of (cut ends ts).0) c.in-Some.ensures.token
-          ∙ run_more ends (token_of token) (left new) (taken start old.rest.now) other
-          ∙ ap (λ l. l ++ raw_of (cut ends (left new)).0) (sym (taken_more start old.rest.now token.raw.now new.rest.now before.rest c.in-Some.ensures.bytes));
-      token = before.token ∙ ap (λ ts. (cut ends ts).1) c.in-Some.ensures.token ∙ token_more ends (token_of token) (left new) other;
-      spent = omega (arith, c.in-Some.ensures.cost);
-    }
+    let old = c.args.self.now.rest.now in
+    let raw = c.split_at.result.0.now in
+    let whole : old ≡ raw ++ c.split_at.result.1.now = sym (ap₂ ◌++◌ c.split_at.ensures.front c.split_at.ensures.back ∙ take-append-drop c.run_len-len.result old) in
+    c.since-before.ensures ∙ taken_more start old raw c.split_at.result.1.now c.requires whole
+    ∙ ap (λ l. taken start old ++ l) (c.split_at.ensures.front ∙ c.run_len-len.ensures.run)
+
+pub returns-clause-kind : goal.returns-clause-kind
+returns-clause-kind c = stop_kind (ends_of c.args.until) (left c.args.self.now) c.next.result (left c.next.new.self)
+    (sym c.run_len-len.ensures.stop ∙ ap (tokens c.args.self.now.form) (sym c.split_at.ensures.back) ∙ c.next.ensures.token)

@@ -12,3 +12,7 @@ pub mod Typed
 pub mod WrittenText
 pub mod Wrappers
 pub mod Items
+pub mod Pieces
+pub mod Delimited
+pub mod NumberLists
+pub mod DelimitedComesBack

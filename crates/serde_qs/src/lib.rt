@@ -58,6 +58,7 @@
 
 mod compound;
 mod config_ext;
+mod delimited;
 mod fields;
 pub mod helpers;
 mod laws;
@@ -80,6 +81,7 @@ mod writing;
 
 pub use compound::Compound;
 pub use config_ext::ConfigExt;
+pub use delimited::{Comma, Delimited, Delimiter, Pipe, Space, WholeNumber};
 pub use fields::Fields;
 pub use laws::value_comes_back;
 pub use members::{Members, newtype_struct, newtype_variant, unit_variant};

@@ -2,7 +2,9 @@
 #![tactic(auto)]
 
 mod account;
+mod age;
 mod calls;
+mod chart;
 mod filter;
 mod pair;
 mod price;
@@ -15,7 +17,9 @@ mod values;
 mod wrappers;
 
 pub use account::Account;
+pub use age::Age;
 pub use calls::{asked, rewritten, sorted};
+pub use chart::Chart;
 pub use filter::Filter;
 pub use pair::Pair;
 pub use price::Price;

@@ -2,7 +2,6 @@ pub mod Fits
 pub mod Meaning
 pub mod Maps
 pub mod Records
-pub mod Members
 pub mod ComesBack
 pub mod MapsComeBack
 pub mod Optional

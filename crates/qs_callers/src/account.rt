@@ -2,7 +2,7 @@
 
 ghost use Rattle.std.specs.Prelude.{◌∷◌, [], codes, refl};
 
-use serde_qs::{Compound, Data, Members, Result, RoundTrip, Struct};
+use serde_qs::{Compound, Data, Result, RoundTrip, Struct, struct_of};
 use std::alloc::Global;
 
 /// An account.
@@ -35,12 +35,10 @@ impl Compound for Account {
     }
 
     fn written(&self, alloc: Global) -> Result<Data> {
-        Ok(
-            Members::new(alloc)
-                .with("firstName", &self.first_name)?
-                .with("lastName", &self.last_name)?
-                .with("user-id", &self.id)?
-                .into_struct(),
+        struct_of(
+            alloc,
+            &["firstName", "lastName", "user-id"],
+            (&self.first_name, (&self.last_name, (&self.id, ()))),
         )
     }
 

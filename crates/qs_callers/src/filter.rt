@@ -2,7 +2,7 @@
 
 ghost use Rattle.std.specs.Prelude.{◌∷◌, [], codes, refl};
 
-use serde_qs::{Compound, Data, Members, Optional, Result, RoundTrip, Struct};
+use serde_qs::{Compound, Data, Optional, Result, RoundTrip, SkipNone, Struct, struct_of};
 use std::alloc::Global;
 
 /// What is shown, and how much of it.
@@ -31,12 +31,13 @@ impl Compound for Filter {
     }
 
     fn written(&self, alloc: Global) -> Result<Data> {
-        Ok(
-            Members::new(alloc)
-                .with("text", &self.text)?
-                .with_some("page", &self.page)?
-                .with_some("size", &self.size)?
-                .into_struct(),
+        struct_of(
+            alloc,
+            &["text", "page", "size"],
+            (
+                &self.text,
+                (SkipNone(&self.page), (SkipNone(&self.size), ())),
+            ),
         )
     }
 

@@ -2,7 +2,9 @@
 #![tactic(auto)]
 
 mod account;
+mod age;
 mod calls;
+mod chart;
 mod filter;
 mod guard;
 mod pair;
@@ -16,7 +18,9 @@ mod values;
 mod wrappers;
 
 pub use account::Account;
+pub use age::Age;
 pub use calls::{asked, rewritten, sorted};
+pub use chart::Chart;
 pub use filter::Filter;
 pub use guard::{Rejected, guarded};
 pub use pair::Pair;

@@ -2,7 +2,7 @@
 
 ghost use Rattle.std.specs.Prelude.{◌∷◌, [], codes, refl};
 
-use serde_qs::{Compound, Data, Members, Result, RoundTrip, Struct};
+use serde_qs::{Compound, Data, Result, RoundTrip, Struct, struct_of};
 use std::alloc::Global;
 
 /// Two values.
@@ -30,12 +30,7 @@ impl<A: RoundTrip + Drop, B: RoundTrip + Drop> Compound for Pair<A, B> {
     }
 
     fn written(&self, alloc: Global) -> Result<Data> {
-        Ok(
-            Members::new(alloc)
-                .with("a", &self.a)?
-                .with("b", &self.b)?
-                .into_struct(),
-        )
+        struct_of(alloc, &["a", "b"], (&self.a, (&self.b, ())))
     }
 
     fn fit(&self) {

@@ -2,7 +2,7 @@
 
 ghost use Rattle.std.specs.Prelude.{◌∷◌, [], codes, refl};
 
-use serde_qs::{Compound, Data, Members, Result, RoundTrip, Struct};
+use serde_qs::{Compound, Data, Result, RoundTrip, Struct, struct_of};
 use std::alloc::Global;
 
 /// Whom a search asks for.
@@ -35,12 +35,10 @@ impl Compound for Query {
     }
 
     fn written(&self, alloc: Global) -> Result<Data> {
-        Ok(
-            Members::new(alloc)
-                .with("name", &self.name)?
-                .with("age", &self.age)?
-                .with("occupation", &self.occupation)?
-                .into_struct(),
+        struct_of(
+            alloc,
+            &["name", "age", "occupation"],
+            (&self.name, (&self.age, (&self.occupation, ()))),
         )
     }
 

@@ -2,7 +2,7 @@
 
 ghost use Rattle.std.specs.Prelude.{◌∷◌, [], codes, refl};
 
-use serde_qs::{Compound, Data, Members, Result, RoundTrip, Struct};
+use serde_qs::{Compound, Data, Result, RoundTrip, Struct, struct_of};
 use std::alloc::Global;
 use std::collections::BTreeMap;
 
@@ -43,13 +43,10 @@ impl Compound for Search {
     }
 
     fn written(&self, alloc: Global) -> Result<Data> {
-        Ok(
-            Members::new(alloc)
-                .with("text", &self.text)?
-                .with("page", &self.page)?
-                .with("ranges", &self.ranges)?
-                .with("labels", &self.labels)?
-                .into_struct(),
+        struct_of(
+            alloc,
+            &["text", "page", "ranges", "labels"],
+            (&self.text, (&self.page, (&self.ranges, (&self.labels, ())))),
         )
     }
 

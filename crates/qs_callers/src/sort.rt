@@ -6,8 +6,8 @@ ghost use Rattle.std.specs.Prelude.{◌∷◌, [], codes, refl};
 
 use serde_qs::OneOf::{First, Later};
 use serde_qs::{
-    Compound, Data, Enum, Last, Members, Newtype, OneOf, Result, RoundTrip, Struct,
-    newtype_variant, unit_variant,
+    Compound, Data, Enum, Last, Newtype, OneOf, Result, RoundTrip, Struct, newtype_variant,
+    struct_variant, unit_variant,
 };
 use std::alloc::Global;
 
@@ -47,10 +47,9 @@ impl Compound for Sort {
         match self {
             Sort::Relevance => unit_variant(alloc, "Relevance"),
             Sort::By(name) => newtype_variant(alloc, "By", name),
-            Sort::Between { from, to } => Members::new(alloc)
-                .with("from", from)?
-                .with("to", to)?
-                .under("Between"),
+            Sort::Between { from, to } => {
+                struct_variant(alloc, "Between", &["from", "to"], (from, (to, ())))
+            }
         }
     }
 

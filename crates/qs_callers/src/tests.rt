@@ -1,5 +1,6 @@
 //! Each call once, rejected inputs, and values that come back.
 
+mod fields;
 mod guard;
 mod helpers;
 mod reading;

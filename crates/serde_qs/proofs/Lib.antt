@@ -1,6 +1,5 @@
 pub mod Levels
 pub mod NumberItems
-pub mod NumberLists
 pub mod PairsPut
 pub mod Pieces
 pub mod Steps

@@ -1,20 +1,15 @@
 -- Texts cut at a delimiter, and the items of their pieces.
-use Rattle.std.proofs.Common.{◌≡◌, ℕ, ◌==◌, length, true, false, ◌&&◌, List, [], ◌∷◌, ◌++◌, append-nil, map, drop, take-append-drop, Option, Some, None, refl, sym, ap, ap₂, ◌∙◌, subst, eq-eqb}
+use Rattle.std.proofs.Common.{◌≡◌, ℕ, ◌==◌, List, [], ◌∷◌, ◌++◌, map, drop, take-append-drop, Option, Some, None, refl, sym, ap, ap₂, ◌∙◌, subst}
 use Rattle.std.specs.Char.{IsScalar, encode_utf8}
-use Rattle.std.specs.List.{All, slice_split}
+use Rattle.std.specs.List.{All}
 use Rattle.std.specs.Option.{option_map, option_and_then}
-use Rattle.std.specs.Str.{IsUtf8, NonePass, NoCharPasses, chars, encode_utf8_all}
+use Rattle.std.specs.Str.{IsUtf8, NonePass, NoCharPasses, chars}
 use Rattle.std.specs.Str.Pattern.{FindsChar, SplitsAroundMatch}
-use Rattle.std.proofs.lemmas.Bool.{false≢true}
 use Rattle.std.proofs.lemmas.List.Elements.{All-nil, All-cons}
-use Rattle.std.proofs.lemmas.List.Splits.{slice_split_at, slice_split_none}
-use Rattle.std.proofs.lemmas.Str.{IsUtf8-encode, chars-encodes, chars_from_encodes, encodes-chars, chars-append}
-use Rattle.serde_qs.specs.Items.{pieces, items_in, listed_in}
+use Rattle.std.proofs.lemmas.Str.{chars_from_encodes}
+use Rattle.serde_qs.specs.Items.{pieces, items_in}
+use Rattle.serde_qs.specs.Pieces.{Differs, first_piece, last_piece}
 use Rattle.serde_qs.proofs.Steps.{before, before-front}
-
--- the character is another than the delimiter
-abbrev pub Differs : ℕ → ℕ → Type 0
-Differs delimiter c = (c == delimiter) ≡ false
 
 all_differ : (delimiter : ℕ) (cs : List ℕ) → NonePass (λ c. c == delimiter) cs → All (Differs delimiter) cs
 all_differ delimiter [] h = All-nil (Differs delimiter)
@@ -22,25 +17,6 @@ all_differ delimiter (c ∷ cs) h = All-cons (Differs delimiter) c cs h.0 (all_d
 
 without : (delimiter : ℕ) (t : List ℕ) → IsUtf8 t → NoCharPasses (λ c. c == delimiter) t → All (Differs delimiter) (chars t)
 without delimiter t u h = subst (All (Differs delimiter)) (chars_from_encodes h.0 t u h.1) (all_differ delimiter h.0 h.2)
-
-one_char : (c : ℕ) → IsScalar c → chars (encode_utf8 c) ≡ c ∷ []
-one_char c s = ap chars (sym (append-nil (encode_utf8 c))) ∙ chars-encodes (c ∷ []) (ap (λ b. b && true) s)
-
--- a text without the delimiter, in front of one, is the first piece
-pub first_piece : (delimiter : ℕ) (t rest : List ℕ) → IsScalar delimiter → IsUtf8 t → All (Differs delimiter) (chars t)
-    → pieces delimiter (t ++ (encode_utf8 delimiter ++ rest)) ≡ t ∷ pieces delimiter rest
-unfolding pieces
-first_piece delimiter t rest s u h =
-    let after : chars (encode_utf8 delimiter ++ rest) ≡ delimiter ∷ chars rest = chars-append (encode_utf8 delimiter) rest (IsUtf8-encode delimiter s) ∙ ap (λ cs. cs ++ chars rest) (one_char delimiter s) in
-    let whole = chars-append t (encode_utf8 delimiter ++ rest) u ∙ ap (λ cs. chars t ++ cs) after in
-    ap (λ cs. map encode_utf8_all (slice_split (λ c. c == delimiter) cs)) whole
-    ∙ ap (λ ps. map encode_utf8_all ps) (slice_split_at (λ c. c == delimiter) (chars t) delimiter (chars rest) h (eq-eqb delimiter delimiter refl))
-    ∙ ap (λ x. x ∷ map encode_utf8_all (slice_split (λ c. c == delimiter) (chars rest))) (encodes-chars t u)
-
--- a text without the delimiter is one piece
-pub last_piece : (delimiter : ℕ) (t : List ℕ) → IsUtf8 t → All (Differs delimiter) (chars t) → pieces delimiter t ≡ t ∷ []
-unfolding pieces
-last_piece delimiter t u h = ap (λ ps. map encode_utf8_all ps) (slice_split_none (λ c. c == delimiter) (chars t) h) ∙ ap (λ x. x ∷ []) (encodes-chars t u)
 
 -- what `split_once` cuts off is the first piece
 pub piece_before : (delimiter : ℕ) (s front back : List ℕ) → IsScalar delimiter → IsUtf8 front → SplitsAroundMatch (FindsChar delimiter) s front back
@@ -63,11 +39,6 @@ before-item m xs t ts x h =
 
 pub no-item : {A : Type 0} (m : List ℕ → Option A) (xs : List A) (t : List ℕ) (ts : List (List ℕ)) → m t ≡ None → before xs (items_in m (t ∷ ts)) ≡ None
 no-item m xs t ts h = ap (λ r. before xs (option_and_then (λ y. option_map (λ ys. y ∷ ys) (items_in m ts)) r)) h
-
--- a text that isn't empty is read by its pieces
-pub listed_pieces : {A : Type 0} (m : List ℕ → Option A) (delimiter : ℕ) (t : List ℕ) → (length t == 0) ≡ false → listed_in m delimiter t ≡ items_in m (pieces delimiter t)
-listed_pieces m delimiter [] e = absurd (false≢true (sym e))
-listed_pieces m delimiter (b ∷ bs) e = refl
 
 -- one more value
 pub map_more : {A B : Type 0} (f : A → B) (xs : List A) (x : A) → map f (xs ++ x ∷ []) ≡ map f xs ++ f x ∷ []

@@ -2,7 +2,6 @@ pub mod Fits
 pub mod Meaning
 pub mod Maps
 pub mod Records
-pub mod Members
 pub mod ComesBack
 pub mod MapsComeBack
 pub mod Optional
@@ -13,3 +12,7 @@ pub mod WrittenText
 pub mod Wrappers
 pub mod Items
 pub mod Limits
+pub mod Pieces
+pub mod Delimited
+pub mod NumberLists
+pub mod DelimitedComesBack

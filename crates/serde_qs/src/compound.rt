@@ -35,7 +35,7 @@ use std::alloc::Global;
 ///     }
 ///
 ///     fn written(&self, alloc: Global) -> Result<Data> {
-///         Ok(Members::new(alloc).with("x", &self.x)?.with("y", &self.y)?.into_struct())
+///         struct_of(alloc, &["x", "y"], (&self.x, (&self.y, ())))
 ///     }
 ///
 ///     fn fit(&self) {

@@ -167,7 +167,7 @@ impl<T: RoundTrip + Drop, R: Fields + Drop> Fields for (T, R) {
 }
 
 /// Returns the first name, which is empty where there is none, and the others.
-pub(crate) fn split<'a>(names: &'a [&'static str]) -> (&'static str, &'a [&'static str])
+pub(crate) fn split<'a, 'n>(names: &'a [&'n str]) -> (&'n str, &'a [&'n str])
     ensures first { result.0.now ≡ first_of (texts names.now) }
     ensures others { texts result.1.now ≡ others_of (texts names.now) }
 {

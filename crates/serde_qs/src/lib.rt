@@ -58,6 +58,7 @@
 
 mod compound;
 mod config_ext;
+mod delimited;
 mod fields;
 pub mod helpers;
 mod laws;
@@ -65,12 +66,12 @@ mod lent;
 mod limits;
 mod lists;
 mod maps;
-mod members;
 mod optional;
 mod options;
 mod parts;
 mod payloads;
 mod reading;
+mod references;
 mod scalars;
 mod signed;
 mod traits;
@@ -78,13 +79,14 @@ mod unsigned;
 mod variants;
 pub mod web;
 mod writing;
+mod written;
 
 pub use compound::Compound;
 pub use config_ext::ConfigExt;
+pub use delimited::{Comma, Delimited, Delimiter, Pipe, Space, WholeNumber};
 pub use fields::Fields;
 pub use laws::value_comes_back;
 pub use limits::{LimitError, Limits};
-pub use members::{Members, newtype_struct, newtype_variant, unit_variant};
 pub use optional::Optional;
 pub use parts::{Enum, Parts};
 pub use payloads::{Newtype, Payload, Struct};
@@ -94,6 +96,8 @@ pub use qs_data::{
 };
 pub use qs_tree::{ArrayFormat, Config, DuplicateKeyBehavior, Error, Result};
 pub use reading::{from_bytes, from_str, read_by};
+pub use references::{References, SkipNone};
 pub use traits::{Deserialize, RoundTrip, Serialize, unexpected};
 pub use variants::{Last, OneOf, Variants};
 pub use writing::{to_string, to_writer};
+pub use written::{newtype_struct, newtype_variant, struct_of, struct_variant, unit_variant};

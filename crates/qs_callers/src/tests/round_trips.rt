@@ -8,7 +8,11 @@ use std::collections::BTreeMap;
 use std::process::Abort;
 
 /// The value comes back from what is written of it, in both modes.
-fn comes_back<R: Abort, T: RoundTrip + PartialEq + Drop>(rt: &R, alloc: Global, value: &T) {
+pub(crate) fn comes_back<R: Abort, T: RoundTrip + PartialEq + Drop>(
+    rt: &R,
+    alloc: Global,
+    value: &T,
+) {
     comes_back_by(rt, alloc, Config::new(), value);
     comes_back_by(rt, alloc, Config::new().use_form_encoding(true), value);
 }

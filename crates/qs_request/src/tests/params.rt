@@ -2,7 +2,7 @@
 
 ghost use Rattle.std.specs.Prelude.{◌∷◌, [], codes, refl};
 
-use serde_qs::{Compound, Data, Members, Result, RoundTrip, Struct};
+use serde_qs::{Compound, Data, Result, RoundTrip, Struct, struct_of};
 use std::alloc::Global;
 
 #[derive(Drop)]
@@ -40,14 +40,16 @@ impl Compound for Params {
     }
 
     fn written(&self, alloc: Global) -> Result<Data> {
-        Ok(
-            Members::new(alloc)
-                .with("foo", &self.foo)?
-                .with("bars", &self.bars)?
-                .with("limit", &self.limit)?
-                .with("offset", &self.offset)?
-                .with("remaining", &self.remaining)?
-                .into_struct(),
+        struct_of(
+            alloc,
+            &["foo", "bars", "limit", "offset", "remaining"],
+            (
+                &self.foo,
+                (
+                    &self.bars,
+                    (&self.limit, (&self.offset, (&self.remaining, ()))),
+                ),
+            ),
         )
     }
 

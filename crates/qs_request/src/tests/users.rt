@@ -2,7 +2,7 @@
 
 ghost use Rattle.std.specs.Prelude.{◌∷◌, [], codes, refl};
 
-use serde_qs::{Compound, Data, Members, Result, RoundTrip, Struct};
+use serde_qs::{Compound, Data, Result, RoundTrip, Struct, struct_of};
 use std::alloc::Global;
 
 #[derive(Drop)]
@@ -28,7 +28,7 @@ impl Compound for Users {
     }
 
     fn written(&self, alloc: Global) -> Result<Data> {
-        Ok(Members::new(alloc).with("id", &self.id)?.into_struct())
+        struct_of(alloc, &["id"], (&self.id, ()))
     }
 
     fn fit(&self) {
@@ -59,7 +59,7 @@ impl Compound for Note {
     }
 
     fn written(&self, alloc: Global) -> Result<Data> {
-        Ok(Members::new(alloc).with("note", &self.note)?.into_struct())
+        struct_of(alloc, &["note"], (&self.note, ()))
     }
 
     fn fit(&self) {

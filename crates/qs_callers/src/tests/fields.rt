@@ -1,0 +1,61 @@
+//! Fields of users' types: a list in one text, a checked value.
+
+use super::round_trips::comes_back;
+use super::{is_custom, list, text};
+use crate::{Age, Chart, Pair};
+use serde_qs::{Config, ConfigExt, Delimited, Pipe, Result, Space, from_str, to_string};
+
+#[test]
+fn a_list_in_one_text(rt: HostRuntime) {
+    let alloc = rt.alloc();
+    let rows = [("title=Rain&values=1,2,3", 3), ("title=Rain&values=", 0)];
+    for (input, count) in rows {
+        let chart: Chart = from_str(alloc, input).expect(&rt, "a chart");
+        assert!(rt; chart.values.items.len() == count, "{input}");
+        let written = to_string(alloc, &chart).expect(&rt, "a text");
+        assert!(rt; written.as_str() == input, "{written}");
+    }
+    let chart = Chart {
+        title: text(&rt, alloc, "Rain"),
+        values: Delimited::new(list(&rt, alloc, [7, 8])),
+    };
+    comes_back(&rt, alloc, &chart);
+    let config = Config::new().use_form_encoding(true);
+    let written = config.serialize_string(alloc, &chart).expect(&rt, "a text");
+    assert!(rt; written.as_str() == "title=Rain&values=7%2C8", "{written}");
+    let result: Result<Chart> = from_str(alloc, "title=Rain&values=1,x");
+    assert!(rt; is_custom(&result, "invalid item `x`"));
+    let result: Result<Chart> = from_str(alloc, "title=Rain&values[a]=1");
+    assert!(rt; is_custom(&result, "invalid type: map, expected a string"));
+}
+
+#[test]
+fn other_delimiters(rt: HostRuntime) {
+    let alloc = rt.alloc();
+    let a: Delimited<i8, Pipe> = Delimited::new(list(&rt, alloc, [-1i8, 2]));
+    let b: Delimited<u64, Space> = Delimited::new(list(&rt, alloc, [3u64, 4]));
+    let pair = Pair { a, b };
+    let written = to_string(alloc, &pair).expect(&rt, "a text");
+    assert!(rt; written.as_str() == "a=-1|2&b=3+4", "{written}");
+    comes_back(&rt, alloc, &pair);
+}
+
+#[test]
+fn an_age_below_150(rt: HostRuntime) {
+    let alloc = rt.alloc();
+    let pair: Pair<Age, bool> = from_str(alloc, "a=149&b=true").expect(&rt, "a pair");
+    assert!(rt; pair.a.years() == 149);
+    comes_back(&rt, alloc, &pair);
+    let rows = [
+        (
+            "a=150&b=true",
+            "invalid type: data, expected an age below 150",
+        ),
+        ("a=256&b=true", "invalid type: string, expected u8"),
+        ("b=true", "missing field `a`"),
+    ];
+    for (input, wanted) in rows {
+        let result: Result<Pair<Age, bool>> = from_str(alloc, input);
+        assert!(rt; is_custom(&result, wanted), "{input}");
+    }
+}

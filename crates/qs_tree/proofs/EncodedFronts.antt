@@ -1,5 +1,5 @@
 -- How many bytes `encoded` has, and what it is up to an escape, and after one.
-use Rattle.std.proofs.Common.{◌≡◌, ℕ, zero, suc, ◌+◌, ◌*◌, ◌/◌, ◌%◌, ◌<◌, ◌≤◌, true, false, Bool, List, [], ◌∷◌, ◌++◌, map, length, get_or, take, drop, refl, sym, ap, ◌∙◌, arith, not, ◌||◌, ◌==◌, inl, inr, Fits, w8, cond, count_by}
+use Rattle.std.proofs.Common.{◌≡◌, ℕ, zero, suc, ◌+◌, ◌*◌, ◌/◌, ◌%◌, ◌<◌, ◌≤◌, true, false, Bool, List, [], ◌∷◌, ◌++◌, map, length, get_or, take, drop, refl, sym, ap, ◌∙◌, arith, ◌||◌, ◌==◌, inl, inr, Fits, w8, cond, count_by}
 use Rattle.std.specs.List.{AllByRecursion}
 use Rattle.std.specs.Fmt.{digit_glyph}
 use Rattle.std.proofs.lemmas.List.{length-append}
@@ -7,7 +7,7 @@ use Rattle.std.proofs.lemmas.List.Sums.{sum_by-cons}
 use Rattle.std.proofs.lemmas.Bool.{cond-true, cond-false, not-true, not-false, cases_Bool, eqb-true}
 use Rattle.percent_encoding.specs.Percent.{percent_encode_byte}
 use Rattle.qs_spec.proofs.Booleans.{or_both}
-use Rattle.qs_spec.specs.Escape.{encoded, spelling, escape, is_kept_in_form, is_kept_in_query}
+use Rattle.qs_spec.specs.Escape.{encoded, spelling, escape, is_kept_in_query}
 use Rattle.qs_tree.specs.Search.{is_escaped, NoneBetween}
 use Rattle.qs_tree.specs.Escapes.{swapped}
 

@@ -1,4 +1,4 @@
-use Rattle.std.proofs.Common.{◌≡◌, ◌+◌, ◌≤◌, ◌++◌, length, take}
+use Rattle.std.proofs.Common.{◌≡◌, ◌+◌, ◌++◌, length, take}
 use Rattle.qs_spec.specs.Escape.{encoded}
 use Rattle.qs_tree.proofs.encoding.fill.Given as goal
 

@@ -1,4 +1,4 @@
-use Rattle.std.proofs.Common.{◌≡◌, ◌+◌, ◌++◌, ◌∙◌, ap, sym, arith, length, take, drop, map, get_or}
+use Rattle.std.proofs.Common.{◌+◌, ◌++◌, ◌∙◌, ap, sym, arith, length, take, drop, map, get_or}
 use Rattle.std.proofs.lemmas.List.{append_assoc, length-append, length-map, length-take-le}
 use Rattle.qs_spec.specs.Escape.{encoded, escape}
 use Rattle.qs_tree.specs.Escapes.{swapped}

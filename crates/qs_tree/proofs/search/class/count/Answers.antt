@@ -1,4 +1,4 @@
-use Rattle.std.proofs.Common.{◌≡◌, ◌∙◌, ap, arith, cond, count_by, count_ones, length, take, take-add}
+use Rattle.std.proofs.Common.{◌≡◌, ◌∙◌, ap, arith, cond, count_by, count_ones, take, take-add}
 use Rattle.std.proofs.lemmas.List.Sums.{count_by-le-length, sum_by-append}
 use Rattle.std.proofs.lemmas.List.{length-take-le}
 use Rattle.std.proofs.lemmas.Simd.{ones-mask_l, length-chunk}

@@ -25,22 +25,22 @@ use std::alloc::Global;
 #[inline(always)]
 pub(crate) fn read_struct(
     alloc: Global,
-    strict: bool,
+    reject_duplicates: bool,
     fields: &Vec<Field>,
     value: &ParsedValue<'_>,
 ) -> Result<Vec<(String, Data)>>
     ensures { Gives (λ v. map (named data_of) v.items) (is_text (tree_of value.now)) result
-        (struct_members (reads_names strict (fields_in fields.now.items)) (reads_places strict (fields_in fields.now.items)) (tree_of value.now)) }
+        (struct_members (reads_names reject_duplicates (fields_in fields.now.items)) (reads_places reject_duplicates (fields_in fields.now.items)) (tree_of value.now)) }
 {
     match value {
         ParsedValue::NoValue | ParsedValue::Null => read_entries(
             alloc,
-            strict,
+            reject_duplicates,
             fields,
             Entries::Empty,
         ),
-        ParsedValue::Map(map) => read_entries(alloc, strict, fields, Entries::Map(map)),
-        ParsedValue::Sequence(items) => read_places(alloc, strict, fields, items),
+        ParsedValue::Map(map) => read_entries(alloc, reject_duplicates, fields, Entries::Map(map)),
+        ParsedValue::Sequence(items) => read_places(alloc, reject_duplicates, fields, items),
         ParsedValue::String(text) => {
             as_text(text.as_slice())?;
             Err(Fault::mismatch(alloc, value, Expected::Struct))
@@ -53,16 +53,16 @@ pub(crate) fn read_struct(
 #[cycle(read)]
 pub(crate) fn read_entries(
     alloc: Global,
-    strict: bool,
+    reject_duplicates: bool,
     fields: &Vec<Field>,
     entries: Entries<'_, '_>,
 ) -> Result<Vec<(String, Data)>>
     ensures { Gives (λ v. map (named data_of) v.items) (entries_are_text (entries_of entries.entry)) result
         (option_and_then (λ ms. cond (keys_are_text (entries_of entries.entry)) (Some ms) None)
-        (reads_names strict (fields_in fields.now.items) (entries_of entries.entry))) }
+        (reads_names reject_duplicates (fields_in fields.now.items) (entries_of entries.entry))) }
 {
     let tested = test_keys(entries);
-    let members = read_names(alloc, strict, fields, entries)?;
+    let members = read_names(alloc, reject_duplicates, fields, entries)?;
     match tested {
         Ok(()) => Ok(members),
         Err(key) => Err(key.error(alloc)),
@@ -74,17 +74,17 @@ pub(crate) fn read_entries(
 #[tactic(auto, unfolding(qs_spec::specs::Read::reads))]
 fn read_names(
     alloc: Global,
-    strict: bool,
+    reject_duplicates: bool,
     fields: &Vec<Field>,
     entries: Entries<'_, '_>,
 ) -> Result<Vec<(String, Data)>>
     requires { NumbersFit (entries_of entries) }
     ensures { Gives (λ v. map (named data_of) v.items) (entries_are_text (entries_of entries.entry)) result
-        (reads_names strict (fields_in fields.now.items) (entries_of entries.entry)) }
+        (reads_names reject_duplicates (fields_in fields.now.items) (entries_of entries.entry)) }
 {
     let mut members = Vec::with_capacity(alloc, fields.len())?;
     for field in fields {
-        let Some(value) = read_field(alloc, strict, field, entries)? else {
+        let Some(value) = read_field(alloc, reject_duplicates, field, entries)? else {
             continue;
         };
         let name = field.name.clone()?;
@@ -97,14 +97,14 @@ fn read_names(
 #[cycle(read)]
 fn read_field(
     alloc: Global,
-    strict: bool,
+    reject_duplicates: bool,
     field: &Field,
     entries: Entries<'_, '_>,
 ) -> Result<Option<Data>>
     requires { NumbersFit (entries_of entries) }
     ensures { let f = field_of field.now in
         Gives (option_map data_of) (entries_are_text (entries_of entries.entry)) result
-        (read_field f.2 (is_option_shape f.1) (reads strict f.1) (found f.0 (entries_of entries.entry))) }
+        (read_field f.2 (is_option_shape f.1) (reads reject_duplicates f.1) (found f.0 (entries_of entries.entry))) }
 {
     match find(entries, &field.name) {
         Found::Missing => {
@@ -116,7 +116,7 @@ fn read_field(
                 Err(Fault::MissingField(&field.name).error(alloc))
             }
         }
-        Found::One(value) => Ok(Some(read(alloc, strict, &field.shape, value)?)),
+        Found::One(value) => Ok(Some(read(alloc, reject_duplicates, &field.shape, value)?)),
         Found::Several => Err(Fault::DuplicateField(&field.name).error(alloc)),
     }
 }
@@ -135,16 +135,16 @@ fn is_option(shape: &Shape) -> bool
 #[tactic(auto, unfolding(qs_spec::specs::Read::reads))]
 fn read_places(
     alloc: Global,
-    strict: bool,
+    reject_duplicates: bool,
     fields: &Vec<Field>,
     items: &[ParsedValue<'_>],
 ) -> Result<Vec<(String, Data)>>
     ensures { Gives (λ v. map (named data_of) v.items) (items_are_text (items_from (map tree_of items.now))) result
-        (reads_places strict (fields_in fields.now.items) (items_from (map tree_of items.now))) }
+        (reads_places reject_duplicates (fields_in fields.now.items) (items_from (map tree_of items.now))) }
 {
     let mut members = Vec::new(alloc);
     for (i, field) in fields.iter().enumerate() {
-        let Some(value) = read_place(alloc, strict, field, items, i)? else {
+        let Some(value) = read_place(alloc, reject_duplicates, field, items, i)? else {
             continue;
         };
         let name = field.name.clone()?;
@@ -157,17 +157,17 @@ fn read_places(
 #[cycle(read)]
 fn read_place(
     alloc: Global,
-    strict: bool,
+    reject_duplicates: bool,
     field: &Field,
     items: &[ParsedValue<'_>],
     place: usize,
 ) -> Result<Option<Data>>
     ensures { let f = field_of field.now in
         Gives (option_map data_of) (items_are_text (items_from (map tree_of items.now))) result
-        (read_place f.2 (reads strict f.1) (items_from (map tree_of (drop place items.now)))) }
+        (read_place f.2 (reads reject_duplicates f.1) (items_from (map tree_of (drop place items.now)))) }
 {
     match items.get(place) {
-        Some(item) => Ok(Some(read(alloc, strict, &field.shape, item)?)),
+        Some(item) => Ok(Some(read(alloc, reject_duplicates, &field.shape, item)?)),
         None => {
             if field.optional {
                 Ok(None)

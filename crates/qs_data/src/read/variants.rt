@@ -28,16 +28,16 @@ use std::alloc::Global;
 #[tactic(auto, unfolding(qs_spec::specs::Read::read_enum))]
 pub(crate) fn read_enum(
     alloc: Global,
-    strict: bool,
+    reject_duplicates: bool,
     variants: &Vec<Variant>,
     value: &ParsedValue<'_>,
 ) -> Result<Data>
     ensures { let vs = variants_in variants.now.items in
-        Gives data_of (is_text (tree_of value.now)) result (read_enum vs (reads_variant strict vs) (tree_of value.now)) }
+        Gives data_of (is_text (tree_of value.now)) result (read_enum vs (reads_variant reject_duplicates vs) (tree_of value.now)) }
 {
     match value {
         ParsedValue::String(text) => read_name(alloc, variants, text.as_slice()),
-        ParsedValue::Map(map) => read_least(alloc, strict, variants, map),
+        ParsedValue::Map(map) => read_least(alloc, reject_duplicates, variants, map),
         _ => Err(Fault::mismatch(alloc, value, Expected::Enum)),
     }
 }
@@ -63,12 +63,12 @@ fn read_name(alloc: Global, variants: &[Variant], name: &[u8]) -> Result<Data>
 #[tactic(auto, unfolding(qs_spec::specs::Read::read_enum))]
 fn read_least(
     alloc: Global,
-    strict: bool,
+    reject_duplicates: bool,
     variants: &Vec<Variant>,
     map: &ParsedMap<'_>,
 ) -> Result<Data>
     ensures { let vs = variants_in variants.now.items in let es = entries_of_map map.now in
-        Gives data_of (entries_are_text es) result (read_enum vs (reads_variant strict vs) (mapping es)) }
+        Gives data_of (entries_are_text es) result (read_enum vs (reads_variant reject_duplicates vs) (mapping es)) }
 {
     let Some((key, value)) = map.at(0) else {
         let found = Kind::Map;
@@ -76,7 +76,7 @@ fn read_least(
         return Err(Fault::InvalidType { found, expected }.error(alloc));
     };
     let place = place_of_key(alloc, variants, key)?;
-    read_variant(alloc, strict, &variants[place], value)
+    read_variant(alloc, reject_duplicates, &variants[place], value)
 }
 
 // The place of the variant that a key names.
@@ -114,26 +114,32 @@ fn place_of(alloc: Global, variants: &[Variant], name: &[u8]) -> Result<usize>
 #[tactic(auto, using(crate::proofs::Levels::levels), unfolding(qs_spec::specs::Read::reads))]
 fn read_variant(
     alloc: Global,
-    strict: bool,
+    reject_duplicates: bool,
     variant: &Variant,
     value: &ParsedValue<'_>,
 ) -> Result<Data>
     ensures { let v = variant_of variant.now in
-        Gives data_of (is_text (tree_of value.now)) result (reads_kind strict v.1 v.0 (tree_of value.now)) }
+        Gives data_of (is_text (tree_of value.now)) result (reads_kind reject_duplicates v.1 v.0 (tree_of value.now)) }
 {
     let name = variant.name.clone()?;
     match &variant.kind {
         VariantKind::Unit => Ok(Data::UnitVariant(name)),
         VariantKind::Newtype(part) => {
-            let held = read(alloc, strict, part, value)?;
+            let held = read(alloc, reject_duplicates, part, value)?;
             Ok(Data::NewtypeVariant(name, Box::new(alloc, held)?))
         }
         VariantKind::Tuple(parts) => {
-            let items = read_tuple(alloc, strict, parts, value, Expected::TupleVariant)?;
+            let items = read_tuple(
+                alloc,
+                reject_duplicates,
+                parts,
+                value,
+                Expected::TupleVariant,
+            )?;
             Ok(Data::TupleVariant(name, items))
         }
         VariantKind::Struct(fields) => {
-            let members = read_variant_fields(alloc, strict, fields, value)?;
+            let members = read_variant_fields(alloc, reject_duplicates, fields, value)?;
             Ok(Data::StructVariant(name, members))
         }
     }
@@ -144,16 +150,21 @@ fn read_variant(
 #[tactic(auto, unfolding(qs_spec::specs::Read::struct_members))]
 fn read_variant_fields(
     alloc: Global,
-    strict: bool,
+    reject_duplicates: bool,
     fields: &Vec<Field>,
     value: &ParsedValue<'_>,
 ) -> Result<Vec<(String, Data)>>
     ensures { let fs = fields_in fields.now.items in
         Gives (λ v. map (named data_of) v.items) (is_text (tree_of value.now)) result
-        (struct_members (reads_names strict fs) (reads_places strict fs) (as_map (tree_of value.now))) }
+        (struct_members (reads_names reject_duplicates fs) (reads_places reject_duplicates fs) (as_map (tree_of value.now))) }
 {
     match value {
-        ParsedValue::String(_) => read_entries(alloc, strict, fields, Entries::Leaf(value)),
-        _ => read_struct(alloc, strict, fields, value),
+        ParsedValue::String(_) => read_entries(
+            alloc,
+            reject_duplicates,
+            fields,
+            Entries::Leaf(value),
+        ),
+        _ => read_struct(alloc, reject_duplicates, fields, value),
     }
 }

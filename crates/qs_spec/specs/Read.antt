@@ -1,5 +1,5 @@
 -- What a shape reads from a node. docs/QUERYSTRINGS.md has the same as a table.
-use Rattle.std.specs.Prelude.{ℕ, ◌+◌, Bool, true, false, ◌&&◌, ◌==◌, nat_lt, cond, List, [], ◌∷◌, Option, Some, None, option_map, option_and_then}
+use Rattle.std.specs.Prelude.{ℕ, ◌+◌, Bool, true, false, ◌&&◌, ◌||◌, ◌==◌, nat_lt, cond, List, [], ◌∷◌, Option, Some, None, option_map, option_and_then}
 use Rattle.std.specs.Str.{bytes_eq, is_utf8}
 use Rattle.qs_spec.specs.Segment.{Segment, segment_text}
 use Rattle.qs_spec.specs.Segment.Segment.{Int, Str}
@@ -11,7 +11,7 @@ use Rattle.qs_spec.specs.Tree.Items.{no_items, item}
 use Rattle.qs_spec.specs.Tree.Entries.{no_entries, entry}
 use Rattle.qs_spec.specs.Config.{Config, are_refused}
 use Rattle.qs_spec.specs.Data.{Data, Values, no_values, one_value, Pairs, no_pairs, one_pair, values_of, pairs_of, members_of, Named}
-use Rattle.qs_spec.specs.Shape.{Shape, Shapes, no_shapes, one_shape, Fields, no_fields, one_field, Variants, no_variants, one_variant, VariantKind, unit_kind, newtype_kind, tuple_kind, struct_kind, KeyShape, is_option}
+use Rattle.qs_spec.specs.Shape.{Shape, Shapes, no_shapes, one_shape, Fields, no_fields, one_field, Variants, no_variants, one_variant, VariantKind, unit_kind, newtype_kind, tuple_kind, struct_kind, UnknownKeys, are_ignored, KeyShape, is_option, is_field_name}
 use Rattle.qs_spec.specs.Scalar.{boolean_data, unsigned_data, signed_data, character_data, text_data, key_data}
 
 -- how a part is read
@@ -107,9 +107,20 @@ abbrev pub found : List ℕ → Entries → List Tree
 found name no_entries = []
 found name (entry k mark t es) = cond (bytes_eq (segment_text k) name) (t ∷ found name es) (found name es)
 
+-- the text of every key is as the test asks
+abbrev pub all_keys : (List ℕ → Bool) → Entries → Bool
+all_keys test no_entries = true
+all_keys test (entry k mark t es) = test (segment_text k) && all_keys test es
+
 abbrev pub keys_are_text : Entries → Bool
-keys_are_text no_entries = true
-keys_are_text (entry k mark t es) = is_utf8 (segment_text k) && keys_are_text es
+keys_are_text = all_keys is_utf8
+
+abbrev pub keys_are_names : Fields → Entries → Bool
+keys_are_names fs = all_keys (λ key. is_field_name key fs)
+
+-- every key is a text, and a field's name where unknown keys are rejected
+abbrev pub keys_are_allowed : UnknownKeys → Fields → Entries → Bool
+keys_are_allowed unknown fs es = keys_are_text es && (keys_are_names fs es || are_ignored unknown)
 
 -- A field by its name: Some None where it is left out. Two keys with its text are refused; with none it is left out if it is
 -- optional, and else none if its shape is an option.
@@ -131,15 +142,15 @@ abbrev pub with_field : List ℕ → Option Data → Option (List Named) → Opt
 with_field name None rest = rest
 with_field name (Some d) rest = with_front (name, d) rest
 
--- The fields of a node: by their names in a map, whose keys are all texts, and in Null and NoValue, which have no keys; by their
+-- The fields of a node: by their names in a map, whose keys are all allowed, and in Null and NoValue, which have no keys; by their
 -- places in a sequence.
-unfoldable pub struct_members : (Entries → Option (List Named)) → (Items → Option (List Named)) → Tree → Option (List Named)
-struct_members names places (leaf NoValue) = names no_entries
-struct_members names places (leaf Null) = names no_entries
-struct_members names places (leaf (Text bytes mark)) = None
-struct_members names places (sequence xs) = places xs
-struct_members names places (mapping es) = option_and_then (λ ms. cond (keys_are_text es) (Some ms) None) (names es)
-struct_members names places uninitialized = None
+unfoldable pub struct_members : (Entries → Bool) → (Entries → Option (List Named)) → (Items → Option (List Named)) → Tree → Option (List Named)
+struct_members allowed names places (leaf NoValue) = names no_entries
+struct_members allowed names places (leaf Null) = names no_entries
+struct_members allowed names places (leaf (Text bytes mark)) = None
+struct_members allowed names places (sequence xs) = places xs
+struct_members allowed names places (mapping es) = option_and_then (λ ms. cond (allowed es) (Some ms) None) (names es)
+struct_members allowed names places uninitialized = None
 
 abbrev pub read_pairs : KeyShape → Reader → Entries → Option (List (Data × Data))
 read_pairs k r no_entries = Some []
@@ -221,7 +232,7 @@ unfoldable mutual
   reads reject_duplicates (Shape.sequence s) t = option_map (λ ds. Data.sequence (values_of ds)) (read_list (reads reject_duplicates s) t)
   reads reject_duplicates (Shape.tuple ss) t = option_map (λ ds. Data.tuple (values_of ds)) (option_and_then (reads_tuple reject_duplicates ss) (items t))
   reads reject_duplicates (Shape.mapping k s) t = option_map (λ ps. Data.mapping (pairs_of ps)) (read_map k (reads reject_duplicates s) t)
-  reads reject_duplicates (Shape.struct fs) t = option_map (λ ms. Data.struct (members_of ms)) (struct_members (reads_names reject_duplicates fs) (reads_places reject_duplicates fs) t)
+  reads reject_duplicates (Shape.struct unknown fs) t = option_map (λ ms. Data.struct (members_of ms)) (struct_members (keys_are_allowed unknown fs) (reads_names reject_duplicates fs) (reads_places reject_duplicates fs) t)
   reads reject_duplicates (Shape.newtype s) t = option_map Data.newtype (reads reject_duplicates s t)
   reads reject_duplicates (Shape.enumeration vs) t = read_enum vs (reads_variant reject_duplicates vs) t
   reads reject_duplicates Shape.any t = any_data t
@@ -254,7 +265,7 @@ unfoldable mutual
   reads_kind reject_duplicates unit_kind n t = Some (Data.unit_variant n)
   reads_kind reject_duplicates (newtype_kind s) n t = option_map (Data.newtype_variant n) (reads reject_duplicates s t)
   reads_kind reject_duplicates (tuple_kind ss) n t = option_map (λ ds. Data.tuple_variant n (values_of ds)) (option_and_then (reads_tuple reject_duplicates ss) (items t))
-  reads_kind reject_duplicates (struct_kind fs) n t = option_map (λ ms. Data.struct_variant n (members_of ms)) (struct_members (reads_names reject_duplicates fs) (reads_places reject_duplicates fs) (as_map t))
+  reads_kind reject_duplicates (struct_kind unknown fs) n t = option_map (λ ms. Data.struct_variant n (members_of ms)) (struct_members (keys_are_allowed unknown fs) (reads_names reject_duplicates fs) (reads_places reject_duplicates fs) (as_map t))
 
 -- what a configuration and a shape read from a node
 abbrev pub read_by : Config → Shape → Reader

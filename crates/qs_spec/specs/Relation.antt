@@ -5,9 +5,9 @@ use Rattle.qs_spec.specs.Segment.{Segment, segment_text}
 use Rattle.qs_spec.specs.Leaf.Leaf.{NoValue, Null, Text}
 use Rattle.qs_spec.specs.Tree.{Tree, Items, Entries}
 use Rattle.qs_spec.specs.Data.{Data, Values, no_values, one_value, Pairs, no_pairs, one_pair, Members, no_members, one_member}
-use Rattle.qs_spec.specs.Shape.{Shape, Shapes, no_shapes, one_shape, Fields, no_fields, one_field, Variants, one_variant, VariantKind, unit_kind, newtype_kind, tuple_kind, struct_kind, KeyShape}
+use Rattle.qs_spec.specs.Shape.{Shape, Shapes, no_shapes, one_shape, Fields, no_fields, one_field, Variants, one_variant, VariantKind, unit_kind, newtype_kind, tuple_kind, struct_kind, UnknownKeys, KeyShape}
 use Rattle.qs_spec.specs.Scalar.{boolean_data, unsigned_data, signed_data, character_data, key_data}
-use Rattle.qs_spec.specs.Read.{last_item, are_ints, items, found, keys_are_text, under_empty, as_map}
+use Rattle.qs_spec.specs.Read.{last_item, are_ints, items, found, keys_are_allowed, under_empty, as_map}
 
 -- the last text of a node: that of a text, or of a sequence's last item, of which `reject_duplicates` allows one alone
 abbrev pub last : Bool → Tree → Option (List ℕ)
@@ -66,7 +66,7 @@ mutual
     map_text : {k : KeyShape} {s : Shape} {t : List ℕ} {mark : Bool} {ps : Pairs} → ReadsPairs reject_duplicates k s (under_empty (Tree.leaf (Text t mark))) ps
         → Reads reject_duplicates (Shape.mapping k s) (Tree.leaf (Text t mark)) (Data.mapping ps)
     map : {k : KeyShape} {s : Shape} {es : Entries} {ps : Pairs} → ReadsPairs reject_duplicates k s es ps → Reads reject_duplicates (Shape.mapping k s) (Tree.mapping es) (Data.mapping ps)
-    struct : {fs : Fields} {n : Tree} {ms : Members} → ReadsStruct reject_duplicates fs n ms → Reads reject_duplicates (Shape.struct fs) n (Data.struct ms)
+    struct : {u : UnknownKeys} {fs : Fields} {n : Tree} {ms : Members} → ReadsStruct reject_duplicates u fs n ms → Reads reject_duplicates (Shape.struct u fs) n (Data.struct ms)
     unit_variant : {vs : Variants} {name : List ℕ} {mark : Bool} → HasVariant name unit_kind vs → Reads reject_duplicates (Shape.enumeration vs) (Tree.leaf (Text name mark)) (Data.unit_variant name)
     variant : {vs : Variants} {kind : VariantKind} {key : Segment} {mark : Bool} {n : Tree} {es : Entries} {d : Data} → HasVariant (segment_text key) kind vs → ReadsVariant reject_duplicates kind (segment_text key) n d
         → Reads reject_duplicates (Shape.enumeration vs) (Tree.mapping (Entries.entry key mark n es)) d
@@ -94,12 +94,12 @@ mutual
     pairs_more : {k : KeyShape} {s : Shape} {key : Segment} {mark : Bool} {n : Tree} {es : Entries} {a d : Data} {ps : Pairs} → key_data k (segment_text key) ≡ Some a → Reads reject_duplicates s n d → ReadsPairs reject_duplicates k s es ps
         → ReadsPairs reject_duplicates k s (Entries.entry key mark n es) (one_pair a d ps)
 
-  -- the fields of a node: by their names in a map, whose keys are texts, by their places in a sequence
-  pub data ReadsStruct (reject_duplicates : Bool) : Fields → Tree → Members → Type 0 where
-    fields_of_null : {fs : Fields} {ms : Members} → ReadsNames reject_duplicates fs Entries.no_entries ms → ReadsStruct reject_duplicates fs (Tree.leaf Null) ms
-    fields_of_no_value : {fs : Fields} {ms : Members} → ReadsNames reject_duplicates fs Entries.no_entries ms → ReadsStruct reject_duplicates fs (Tree.leaf NoValue) ms
-    fields_by_name : {fs : Fields} {es : Entries} {ms : Members} → IsTrue (keys_are_text es) → ReadsNames reject_duplicates fs es ms → ReadsStruct reject_duplicates fs (Tree.mapping es) ms
-    fields_by_place : {fs : Fields} {xs : Items} {ms : Members} → ReadsPlaces reject_duplicates fs xs ms → ReadsStruct reject_duplicates fs (Tree.sequence xs) ms
+  -- the fields of a node: by their names in a map, whose keys are allowed, by their places in a sequence
+  pub data ReadsStruct (reject_duplicates : Bool) : UnknownKeys → Fields → Tree → Members → Type 0 where
+    fields_of_null : {u : UnknownKeys} {fs : Fields} {ms : Members} → ReadsNames reject_duplicates fs Entries.no_entries ms → ReadsStruct reject_duplicates u fs (Tree.leaf Null) ms
+    fields_of_no_value : {u : UnknownKeys} {fs : Fields} {ms : Members} → ReadsNames reject_duplicates fs Entries.no_entries ms → ReadsStruct reject_duplicates u fs (Tree.leaf NoValue) ms
+    fields_by_name : {u : UnknownKeys} {fs : Fields} {es : Entries} {ms : Members} → IsTrue (keys_are_allowed u fs es) → ReadsNames reject_duplicates fs es ms → ReadsStruct reject_duplicates u fs (Tree.mapping es) ms
+    fields_by_place : {u : UnknownKeys} {fs : Fields} {xs : Items} {ms : Members} → ReadsPlaces reject_duplicates fs xs ms → ReadsStruct reject_duplicates u fs (Tree.sequence xs) ms
 
   -- A field whose name one key has is read; a field whose name none has is left out if it is optional, and else none if its shape is an option.
   pub data ReadsNames (reject_duplicates : Bool) : Fields → Entries → Members → Type 0 where
@@ -122,4 +122,4 @@ mutual
     as_unit : {name : List ℕ} {n : Tree} → ReadsVariant reject_duplicates unit_kind name n (Data.unit_variant name)
     as_newtype : {s : Shape} {name : List ℕ} {n : Tree} {d : Data} → Reads reject_duplicates s n d → ReadsVariant reject_duplicates (newtype_kind s) name n (Data.newtype_variant name d)
     as_tuple : {ss : Shapes} {name : List ℕ} {n : Tree} {xs : List (Option Tree)} {ds : Values} → items n ≡ Some xs → ReadsFirst reject_duplicates ss xs ds → ReadsVariant reject_duplicates (tuple_kind ss) name n (Data.tuple_variant name ds)
-    as_struct : {fs : Fields} {name : List ℕ} {n : Tree} {ms : Members} → ReadsStruct reject_duplicates fs (as_map n) ms → ReadsVariant reject_duplicates (struct_kind fs) name n (Data.struct_variant name ms)
+    as_struct : {u : UnknownKeys} {fs : Fields} {name : List ℕ} {n : Tree} {ms : Members} → ReadsStruct reject_duplicates u fs (as_map n) ms → ReadsVariant reject_duplicates (struct_kind u fs) name n (Data.struct_variant name ms)

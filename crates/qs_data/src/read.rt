@@ -10,6 +10,7 @@ mod lists;
 mod maps;
 mod nested;
 mod scalar;
+mod unknown;
 mod variants;
 pub(crate) mod width;
 
@@ -20,6 +21,7 @@ ghost use Rattle.qs_tree.specs.Views.{tree_of};
 ghost use Rattle.qs_data.specs.Views.{data_of, fields_in, key_shape_of, shape_of, shapes_in};
 ghost use Rattle.qs_data.specs.Text.{is_text};
 ghost use Rattle.qs_data.specs.Gives.{Gives, IsFrugal, takes_no_memory};
+ghost use Rattle.qs_data.specs.Keys.{unknown_of};
 
 use crate::data::Data;
 use crate::read::any::read_any;
@@ -30,6 +32,7 @@ use crate::read::maps::read_map;
 use crate::read::scalar::{
     read_bool, read_bytes, read_char, read_signed, read_text, read_unit, read_unsigned,
 };
+use crate::read::unknown::UnknownKeys;
 use crate::read::variants::read_enum;
 use crate::read::width::Width;
 use crate::shape::{Field, KeyShape, Shape};
@@ -66,7 +69,20 @@ pub(crate) fn read(
         Shape::Seq(part) => seq_data(alloc, reject_duplicates, part, value),
         Shape::Tuple(parts) => tuple_data(alloc, reject_duplicates, parts, value),
         Shape::Map(key_shape, part) => map_data(alloc, reject_duplicates, key_shape, part, value),
-        Shape::Struct(fields) => struct_data(alloc, reject_duplicates, fields, value),
+        Shape::Struct(fields) => struct_data(
+            alloc,
+            reject_duplicates,
+            UnknownKeys::Ignored,
+            fields,
+            value,
+        ),
+        Shape::StrictStruct(fields) => struct_data(
+            alloc,
+            reject_duplicates,
+            UnknownKeys::Rejected,
+            fields,
+            value,
+        ),
         Shape::Newtype(part) => newtype_data(alloc, reject_duplicates, part, value),
         Shape::Enum(variants) => read_enum(alloc, reject_duplicates, variants, value),
         Shape::Any => read_any(alloc, value),
@@ -125,12 +141,14 @@ fn map_data(
 fn struct_data(
     alloc: Global,
     reject_duplicates: bool,
+    unknown: UnknownKeys,
     fields: &Vec<Field>,
     value: &ParsedValue<'_>,
 ) -> Result<Data>
-    ensures { Gives data_of (is_text (tree_of value.now)) result (reads reject_duplicates (s.Shape.struct (fields_in fields.now.items)) (tree_of value.now)) }
+    ensures { Gives data_of (is_text (tree_of value.now)) result
+        (reads reject_duplicates (s.Shape.struct (unknown_of unknown) (fields_in fields.now.items)) (tree_of value.now)) }
 {
-    Ok(Data::Struct(read_struct(alloc, reject_duplicates, fields, value)?))
+    Ok(Data::Struct(read_struct(alloc, reject_duplicates, unknown, fields, value)?))
 }
 
 #[cycle(read)]

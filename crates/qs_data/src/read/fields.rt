@@ -2,12 +2,12 @@
 
 ghost use Rattle.std.specs.Prelude.{Some, None, cond, drop, map, option_map, option_and_then};
 ghost use Rattle.qs_spec.specs.Shape.{is_option as is_option_shape};
-ghost use Rattle.qs_spec.specs.Read.{struct_members, reads, reads_names, reads_places, read_field, read_place, found, keys_are_text};
+ghost use Rattle.qs_spec.specs.Read.{struct_members, reads, reads_names, reads_places, read_field, read_place, found, keys_are_allowed};
 ghost use Rattle.qs_tree.specs.Views.{tree_of, items_from};
 ghost use Rattle.qs_data.specs.Views.{data_of, field_of, fields_in, named, shape_of};
 ghost use Rattle.qs_data.specs.Text.{is_text, items_are_text, entries_are_text};
 ghost use Rattle.qs_data.specs.Gives.{Gives};
-ghost use Rattle.qs_data.specs.Keys.{NumbersFit, entries_of};
+ghost use Rattle.qs_data.specs.Keys.{NumbersFit, entries_of, unknown_of};
 ghost use Rattle.std.specs.Prelude.{◌≡◌};
 
 use crate::data::Data;
@@ -15,6 +15,7 @@ use crate::read::fault::{Expected, Fault};
 use crate::read::keys::{Entries, Found, find, test_keys};
 use crate::read::read;
 use crate::read::scalar::as_text;
+use crate::read::unknown::UnknownKeys;
 use crate::shape::{Field, Shape};
 use qs_tree::{ParsedValue, Result};
 use std::alloc::Global;
@@ -26,20 +27,29 @@ use std::alloc::Global;
 pub(crate) fn read_struct(
     alloc: Global,
     reject_duplicates: bool,
+    unknown: UnknownKeys,
     fields: &Vec<Field>,
     value: &ParsedValue<'_>,
 ) -> Result<Vec<(String, Data)>>
     ensures { Gives (λ v. map (named data_of) v.items) (is_text (tree_of value.now)) result
-        (struct_members (reads_names reject_duplicates (fields_in fields.now.items)) (reads_places reject_duplicates (fields_in fields.now.items)) (tree_of value.now)) }
+        (struct_members (keys_are_allowed (unknown_of unknown) (fields_in fields.now.items)) (reads_names reject_duplicates (fields_in fields.now.items))
+        (reads_places reject_duplicates (fields_in fields.now.items)) (tree_of value.now)) }
 {
     match value {
         ParsedValue::NoValue | ParsedValue::Null => read_entries(
             alloc,
             reject_duplicates,
+            unknown,
             fields,
             Entries::Empty,
         ),
-        ParsedValue::Map(map) => read_entries(alloc, reject_duplicates, fields, Entries::Map(map)),
+        ParsedValue::Map(map) => read_entries(
+            alloc,
+            reject_duplicates,
+            unknown,
+            fields,
+            Entries::Map(map),
+        ),
         ParsedValue::Sequence(items) => read_places(alloc, reject_duplicates, fields, items),
         ParsedValue::String(text) => {
             as_text(text.as_slice())?;
@@ -49,20 +59,23 @@ pub(crate) fn read_struct(
     }
 }
 
-/// The fields by their names, and then a test of all keys.
+/// The fields by their names, and then a test of all keys: for one that no field has, where such are rejected, and for one that isn't
+/// a text.
 #[cycle(read)]
 pub(crate) fn read_entries(
     alloc: Global,
     reject_duplicates: bool,
+    unknown: UnknownKeys,
     fields: &Vec<Field>,
     entries: Entries<'_, '_>,
 ) -> Result<Vec<(String, Data)>>
     ensures { Gives (λ v. map (named data_of) v.items) (entries_are_text (entries_of entries.entry)) result
-        (option_and_then (λ ms. cond (keys_are_text (entries_of entries.entry)) (Some ms) None)
+        (option_and_then (λ ms. cond (keys_are_allowed (unknown_of unknown) (fields_in fields.now.items) (entries_of entries.entry)) (Some ms) None)
         (reads_names reject_duplicates (fields_in fields.now.items) (entries_of entries.entry))) }
 {
     let tested = test_keys(entries);
     let members = read_names(alloc, reject_duplicates, fields, entries)?;
+    unknown.test(alloc, fields, entries)?;
     match tested {
         Ok(()) => Ok(members),
         Err(key) => Err(key.error(alloc)),

@@ -1,14 +1,16 @@
 //! Reading an enum.
 
-ghost use Rattle.std.specs.Prelude.{◌<◌, Some, IfOk, length, map, option_map, slice_get};
+ghost use Rattle.std.specs.Prelude.{◌<◌, Some, IfOk, length, map, option_map, slice_get, string_bytes};
 ghost use Rattle.std.specs.Str.{is_utf8};
 ghost use Rattle.qs_spec.specs.Segment.{segment_text};
+ghost use Rattle.qs_spec.specs.Shape.{struct_kind};
 ghost use Rattle.qs_spec.specs.Tree.Tree.{mapping};
-ghost use Rattle.qs_spec.specs.Read.{read_enum, reads_names, reads_places, reads_variant, reads_kind, struct_members, as_map, unit_variant_data};
+ghost use Rattle.qs_spec.specs.Read.{read_enum, reads_names, reads_places, reads_variant, reads_kind, struct_members, keys_are_allowed, as_map, unit_variant_data};
 ghost use Rattle.qs_tree.specs.Views.{tree_of, entries_of_map, segment_of_key};
 ghost use Rattle.qs_data.specs.Views.{data_of, fields_in, named, variant_of, variants_in};
 ghost use Rattle.qs_data.specs.Text.{is_text, entries_are_text};
 ghost use Rattle.qs_data.specs.Gives.{Gives};
+ghost use Rattle.qs_data.specs.Keys.{unknown_of};
 ghost use Rattle.qs_data.specs.Variants.{variant_named};
 
 use crate::data::Data;
@@ -18,6 +20,7 @@ use crate::read::keys::Entries;
 use crate::read::lists::read_tuple;
 use crate::read::read;
 use crate::read::scalar::as_text;
+use crate::read::unknown::UnknownKeys;
 use crate::shape::{Field, Variant, VariantKind};
 use itoa::Buffer;
 use qs_tree::{Key, ParsedMap, ParsedValue, Result};
@@ -53,6 +56,7 @@ fn read_name(alloc: Global, variants: &[Variant], name: &[u8]) -> Result<Data>
         VariantKind::Newtype(_) => Expected::NewtypeVariant,
         VariantKind::Tuple(_) => Expected::TupleVariant,
         VariantKind::Struct(_) => Expected::StructVariant,
+        VariantKind::StrictStruct(_) => Expected::StructVariant,
     };
     let found = Kind::UnitVariant;
     Err(Fault::InvalidType { found, expected }.error(alloc))
@@ -138,11 +142,41 @@ fn read_variant(
             )?;
             Ok(Data::TupleVariant(name, items))
         }
-        VariantKind::Struct(fields) => {
-            let members = read_variant_fields(alloc, reject_duplicates, fields, value)?;
-            Ok(Data::StructVariant(name, members))
-        }
+        VariantKind::Struct(fields) => struct_variant_data(
+            alloc,
+            reject_duplicates,
+            UnknownKeys::Ignored,
+            name,
+            fields,
+            value,
+        ),
+        VariantKind::StrictStruct(fields) => struct_variant_data(
+            alloc,
+            reject_duplicates,
+            UnknownKeys::Rejected,
+            name,
+            fields,
+            value,
+        ),
     }
+}
+
+#[cycle(read)]
+#[inline(always)]
+#[tactic(auto, using(crate::proofs::Levels::levels), unfolding(qs_spec::specs::Read::reads))]
+fn struct_variant_data(
+    alloc: Global,
+    reject_duplicates: bool,
+    unknown: UnknownKeys,
+    name: String,
+    fields: &Vec<Field>,
+    value: &ParsedValue<'_>,
+) -> Result<Data>
+    ensures { Gives data_of (is_text (tree_of value.now)) result
+        (reads_kind reject_duplicates (struct_kind (unknown_of unknown) (fields_in fields.now.items)) (string_bytes name) (tree_of value.now)) }
+{
+    let members = read_variant_fields(alloc, reject_duplicates, unknown, fields, value)?;
+    Ok(Data::StructVariant(name, members))
 }
 
 // The fields of a struct variant: those of a struct, where a text counts as a map with that text under the empty key.
@@ -151,20 +185,22 @@ fn read_variant(
 fn read_variant_fields(
     alloc: Global,
     reject_duplicates: bool,
+    unknown: UnknownKeys,
     fields: &Vec<Field>,
     value: &ParsedValue<'_>,
 ) -> Result<Vec<(String, Data)>>
     ensures { let fs = fields_in fields.now.items in
         Gives (λ v. map (named data_of) v.items) (is_text (tree_of value.now)) result
-        (struct_members (reads_names reject_duplicates fs) (reads_places reject_duplicates fs) (as_map (tree_of value.now))) }
+        (struct_members (keys_are_allowed (unknown_of unknown) fs) (reads_names reject_duplicates fs) (reads_places reject_duplicates fs) (as_map (tree_of value.now))) }
 {
     match value {
         ParsedValue::String(_) => read_entries(
             alloc,
             reject_duplicates,
+            unknown,
             fields,
             Entries::Leaf(value),
         ),
-        _ => read_struct(alloc, reject_duplicates, fields, value),
+        _ => read_struct(alloc, reject_duplicates, unknown, fields, value),
     }
 }

@@ -1,27 +1,25 @@
-use Rattle.std.proofs.Common.{◌≡◌, ◌+◌, ◌<◌, ◌++◌, ◌∷◌, [], ap, sym, subst, ◌∙◌, length, slice_get, map, drop, true, false, Some, None, option_map, string_bytes, rules, arith}
+use Rattle.std.proofs.Common.{◌≡◌, ◌+◌, ◌<◌, ◌++◌, ◌||◌, ◌∷◌, [], ap, sym, subst, ◌∙◌, length, slice_get, map, drop, true, false, Some, None, option_map, string_bytes, rules, arith}
 use Rattle.std.proofs.lemmas.Grind.{common_steps}
 use Rattle.std.specs.Str.{is_utf8}
 use Rattle.qs_spec.specs.Segment.{segment_text, Step}
 use Rattle.qs_spec.specs.Tree.Tree.{mapping}
 use Rattle.qs_spec.specs.Tree.Entries.{entry}
 use Rattle.qs_spec.specs.Data as d
-use Rattle.qs_spec.specs.Shape.{is_option as is_option_shape, Shape, struct_kind}
+use Rattle.qs_spec.specs.Shape.{is_option as is_option_shape, are_ignored, Shape}
 use Rattle.qs_spec.specs.Tree.Items.{no_items}
-use Rattle.qs_spec.specs.Read.{reads, reads_names, reads_places, reads_variant, reads_kind, read_enum, read_option, read_field, read_place, found, struct_members, as_map, under_empty, keys_are_text, items, read_each, read_list, read_pairs, reads_tuple}
+use Rattle.qs_spec.specs.Read.{reads, reads_names, reads_places, reads_variant, reads_kind, read_enum, read_option, read_field, read_place, found, struct_members, as_map, under_empty, keys_are_text, keys_are_names, keys_are_allowed, items, read_each, read_list, read_pairs, reads_tuple}
 use Rattle.qs_tree.specs.Views.{tree_of, items_from, entries_of_map, step_of_key}
 use Rattle.qs_data.specs.declared.shape.Shape as shape
 use Rattle.qs_data.specs.declared.shape.Field.{out-Field}
-use Rattle.qs_data.specs.declared.shape.VariantKind as kind
-use Rattle.qs_data.specs.declared.shape.Variant.{out-Variant}
-use Rattle.qs_data.specs.Views.{data_of, named, shape_of, field_of, fields_in, kind_of, variant_of, variants_in, key_shape_of, pair_of, shapes_in}
+use Rattle.qs_data.specs.Views.{data_of, named, shape_of, field_of, fields_in, variant_of, variants_in, key_shape_of, pair_of, shapes_in}
 use Rattle.qs_data.specs.Text.{is_text, items_are_text, entries_are_text}
 use Rattle.qs_data.specs.Gives.{Gives}
-use Rattle.qs_data.specs.Keys.{entries_of, entries_after}
+use Rattle.qs_data.specs.Keys.{entries_of, entries_after, unknown_of}
 use Rattle.qs_data.specs.Variants.{variant_named}
 use Rattle.qs_data.proofs.Levels.{data_of_struct, data_of_struct_variant}
 use Rattle.qs_data.proofs.Entries.{after_some, keys_bad, untested}
-use Rattle.qs_data.proofs.Variants.{variant_name, variant_kind, named_is, enum_none, enum_some, least_key_bad, least_value_bad, text_as_map, under_bad}
-use Rattle.qs_data.proofs.Refusals.{gives_exit, gives_as, fault, told_of_key}
+use Rattle.qs_data.proofs.Variants.{named_is, enum_none, enum_some, least_key_bad, least_value_bad, text_as_map, under_bad}
+use Rattle.qs_data.proofs.Refusals.{and_left, gives_exit, gives_as, fault, told_of_key}
 use Rattle.qs_tree.specs.declared.error.Error.TheVariants.{Utf8}
 use Rattle.qs_spec.specs.Scalar.{key_data}
 use Rattle.qs_spec.specs.Tree.{Tree}
@@ -41,7 +39,9 @@ pub fields::read_entries-returns-in-Err : goal.fields::read_entries-returns-in-E
 fields::read_entries-returns-in-Err t c =
     let es = entries_of c.args.entries in
     let bad : keys_are_text es ≡ false = c.in-Err.ensures.text in
-    let none = untested (keys_are_text es) (reads_names c.args.reject_duplicates (fields_in c.args.fields.now.items) es) bad in
+    let u = unknown_of c.args.unknown in
+    let fs = fields_in c.args.fields.now.items in
+    let none = untested (keys_are_allowed u fs es) (reads_names c.args.reject_duplicates fs es) (and_left (keys_are_text es) (keys_are_names fs es || are_ignored u) bad) in
     told_of_key (entries_are_text es) c.in-Err.key.text.now (Utf8 c.in-Err.key.cause) c.error.result _ c.error.ensures (none, keys_bad es bad)
 
 pub fields::read_field-returns-in_err-read-in-One : goal.fields::read_field-returns-in_err-read-in-One
@@ -191,30 +191,23 @@ variants::read_least-returns t c =
     gives_as data_of (is_text n) (entries_are_text es) c.read_variant.result (reads_kind c.args.reject_duplicates (variant_of v).1 (variant_of v).0 n) (read_enum vs (reads_variant c.args.reject_duplicates vs) (mapping es))
     c.read_variant.ensures (sym (enum_some c.args.reject_duplicates vs es (entries_after 1 es) key.seg key.mark n least v named)) (least_value_bad c.args.reject_duplicates vs es (entries_after 1 es) key.seg key.mark n least)
 
-pub variants::read_variant-returns-in_ok-members-in-Struct : goal.variants::read_variant-returns-in_ok-members-in-Struct
+pub variants::struct_variant_data-returns : goal.variants::struct_variant_data-returns
 unfolding reads
-variants::read_variant-returns-in_ok-members-in-Struct t c =
-    let v = c.args.variant.now in
-    let n = tree_of c.args.value.now in
-    let k = c.in_ok-members-in-Struct in
-    let fs = fields_in c.in-Struct.fields.items in
-    let name = c.in_ok-name.name in
-    let copied : string_bytes name ≡ string_bytes (out-Variant v).name = c.in_ok-name.ensures.cases in
-    let named : (variant_of v).0 ≡ string_bytes name = variant_name v ∙ sym copied in
-    let held : (variant_of v).1 ≡ struct_kind fs = variant_kind v ∙ ap kind_of c.in-Struct.is ∙ search (rules, kind.the_lemmas) in
-    ap (λ x. reads_kind c.args.reject_duplicates x (variant_of v).0 n) held ∙ ap (λ x. reads_kind c.args.reject_duplicates (struct_kind fs) x n) named
-    ∙ ap (option_map (λ ms. d.struct_variant (string_bytes name) (d.members_of ms))) k.ensures ∙ ap Some (sym (data_of_struct_variant name k.members))
+variants::struct_variant_data-returns t c =
+    let k = c.in_ok-members in
+    ap (option_map (λ ms. d.struct_variant (string_bytes c.args.name) (d.members_of ms))) k.ensures ∙ ap Some (sym (data_of_struct_variant c.args.name k.members))
 
 pub variants::read_variant_fields-returns-in-String : goal.variants::read_variant_fields-returns-in-String
 unfolding struct_members
 variants::read_variant_fields-returns-in-String t c =
     let fs = fields_in c.args.fields.now.items in
     let n = tree_of c.args.value.now in
+    let allowed = keys_are_allowed (unknown_of c.args.unknown) fs in
     let names = reads_names c.args.reject_duplicates fs in
     let places = reads_places c.args.reject_duplicates fs in
     let seen : as_map n ≡ mapping (under_empty n) = ap (λ x. as_map (tree_of x)) c.in-String.is ∙ text_as_map c.in-String.field-0 ∙ ap (λ x. mapping (under_empty (tree_of x))) (sym c.in-String.is) in
-    gives_as (λ x. map (named data_of) x.items) (entries_are_text (under_empty n)) (is_text n) c.read_entries.result _ (struct_members names places (as_map n))
-    c.read_entries.ensures (ap (struct_members names places) (sym seen)) (under_bad n)
+    gives_as (λ x. map (named data_of) x.items) (entries_are_text (under_empty n)) (is_text n) c.read_entries.result _ (struct_members allowed names places (as_map n))
+    c.read_entries.ensures (ap (struct_members allowed names places) (sym seen)) (under_bad n)
 
 pub lists::read_list-returns : goal.lists::read_list-returns
 unfolding read_list

@@ -5,6 +5,7 @@ mod guard;
 mod helpers;
 mod reading;
 mod round_trips;
+mod strict;
 mod web;
 mod writing;
 

@@ -54,7 +54,7 @@ abbrev mutual
   fits (Shape.sequence s) (d.sequence xs) = fit_each (fits s) xs
   fits (Shape.tuple ss) (d.tuple xs) = fit_parts ss xs
   fits (Shape.mapping k s) (d.mapping ps) = fit_pairs k (fits s) ps
-  fits (Shape.struct fs) (d.struct ms) = fit_fields fs ms
+  fits (Shape.struct u fs) (d.struct ms) = fit_fields fs ms
   fits (Shape.newtype s) (d.newtype x) = fits s x
   fits (Shape.enumeration vs) x = fit_variant vs x
   fits _ _ = false
@@ -79,5 +79,5 @@ abbrev mutual
   fit_kind unit_kind (d.unit_variant n) = true
   fit_kind (newtype_kind s) (d.newtype_variant n x) = fits s x
   fit_kind (tuple_kind ss) (d.tuple_variant n xs) = fit_parts ss xs
-  fit_kind (struct_kind fs) (d.struct_variant n ms) = fit_fields fs ms
+  fit_kind (struct_kind u fs) (d.struct_variant n ms) = fit_fields fs ms
   fit_kind _ _ = false

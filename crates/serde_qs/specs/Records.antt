@@ -7,7 +7,7 @@ use Rattle.std.specs.declared.string.String.{String}
 use Rattle.std.specs.declared.alloc.Global.{Global}
 use Rattle.qs_spec.specs.Data.{Named, Members, no_members, one_member, members_of}
 use Rattle.qs_spec.specs.Data as v
-use Rattle.qs_spec.specs.Shape.{Shape, Field, fields_of, field_names_differ, are_distinct_fields, is_distinct}
+use Rattle.qs_spec.specs.Shape.{Shape, UnknownKeys, Field, fields_of, field_names_differ, are_distinct_fields, is_distinct}
 use Rattle.qs_data.specs.Views.{named, data_of}
 use Rattle.qs_data.specs.declared.data.Data.{Data}
 use Rattle.serde_qs.specs.Meaning.{both, both_hold}
@@ -43,8 +43,8 @@ pub both_true : {a b : Bool} → a ≡ true → b ≡ true → (a && b) ≡ true
 both_true {a} {b} p q = ap (λ x. x && b) p ∙ q
 
 -- then the struct of the fields is distinct, where each of them is
-pub differ : (names : List (List ℕ)) (count : ℕ) (fields : List Field) → are_names names count fields ≡ true → are_distinct_fields (fields_of fields) ≡ true
-    → is_distinct (Shape.struct (fields_of fields)) ≡ true
+pub differ : {u : UnknownKeys} (names : List (List ℕ)) (count : ℕ) (fields : List Field) → are_names names count fields ≡ true → are_distinct_fields (fields_of fields) ≡ true
+    → is_distinct (Shape.struct u (fields_of fields)) ≡ true
 differ names count fields h parts = both_true (both_hold (length names == count) (field_names_differ (fields_of fields)) h).1 parts
 
 abbrev pub nothing_in : Members → Option (Unit {0})

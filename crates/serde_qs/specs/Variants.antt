@@ -20,7 +20,7 @@ abbrev pub kind_differs : VariantKind → Bool
 kind_differs unit_kind = true
 kind_differs (newtype_kind s) = true
 kind_differs (tuple_kind ss) = true
-kind_differs (struct_kind fs) = field_names_differ fs
+kind_differs (struct_kind u fs) = field_names_differ fs
 
 -- the names of the variants differ, and in each variant those of its fields
 abbrev pub variants_differ : Variants → Bool

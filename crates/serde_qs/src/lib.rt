@@ -74,6 +74,7 @@ mod reading;
 mod references;
 mod scalars;
 mod signed;
+mod strict;
 mod traits;
 mod unsigned;
 mod variants;
@@ -97,6 +98,7 @@ pub use qs_data::{
 pub use qs_tree::{ArrayFormat, Config, DuplicateKeyBehavior, Error, Result};
 pub use reading::{from_bytes, from_str, read_by};
 pub use references::{References, SkipNone};
+pub use strict::StrictStruct;
 pub use traits::{Deserialize, RoundTrip, Serialize, unexpected};
 pub use variants::{Last, OneOf, Variants};
 pub use writing::{to_string, to_writer};

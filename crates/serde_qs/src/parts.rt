@@ -26,7 +26,7 @@ pub struct Enum<V>(pub V);
 
 /// What a struct or an enum is made of: its fields, its variants, or one value.
 ///
-/// It is implemented for [`Struct`], [`Enum`] and [`Newtype`] alone; a user names them as
+/// It is implemented for [`Struct`], [`StrictStruct`](crate::StrictStruct), [`Enum`] and [`Newtype`] alone; a user names them as
 /// [`Compound::Parts`](crate::Compound::Parts).
 pub trait Parts: Sized {
     ghost Value: { Type 0 };
@@ -65,7 +65,7 @@ impl<F: Fields + Drop> Parts for Struct<F> {
 
     ghost are_named = { λ names. are_names names F.count (F.form names) };
 
-    ghost form = { λ names. s.Shape.struct (fields_of (F.form names)) };
+    ghost form = { λ names. s.Shape.struct s.UnknownKeys.ignored (fields_of (F.form names)) };
 
     ghost written = { λ names x. d.struct (members_of (F.written names x.0)) };
 
@@ -80,14 +80,25 @@ impl<F: Fields + Drop> Parts for Struct<F> {
         Ok(Shape::Struct(fields))
     }
 
-    #[tactic(auto, using(crate::proofs::Levels::levels))]
     fn from_data(alloc: Global, names: &[&'static str], datum: Data) -> Result<Struct<F>> {
-        let Data::Struct(mut members) = datum else {
-            return Err(unexpected(alloc, "a struct"));
-        };
-        members.reverse();
-        Ok(Struct(F::from_members(alloc, names, members)?))
+        Ok(Struct(struct_fields(alloc, names, datum)?))
     }
+}
+
+/// Returns the fields that the data of a struct mean.
+#[tactic(auto, using(crate::proofs::Levels::levels))]
+pub(crate) fn struct_fields<F: Fields + Drop>(
+    alloc: Global,
+    names: &[&'static str],
+    datum: Data,
+) -> Result<F>
+    ensures { Means F.value result (struct_in (F.meaning (texts names.now)) (data_of datum)) }
+{
+    let Data::Struct(mut members) = datum else {
+        return Err(unexpected(alloc, "a struct"));
+    };
+    members.reverse();
+    F::from_members(alloc, names, members)
 }
 
 impl<V: Variants + Drop> Parts for Enum<V> {

@@ -24,7 +24,7 @@ pub struct Newtype<T>(pub T);
 #[derive(Debug, PartialEq, Drop)]
 pub struct Struct<F>(pub F);
 
-/// What a variant of an enum holds: `()`, a [`Newtype`] or a [`Struct`].
+/// What a variant of an enum holds: `()`, a [`Newtype`], a [`Struct`] or a [`StrictStruct`](crate::StrictStruct).
 ///
 /// It is implemented for these alone; a user names them in [`Compound::Parts`](crate::Compound::Parts).
 pub trait Payload: Sized {
@@ -153,7 +153,7 @@ impl<F: Fields + Drop> Payload for Struct<F> {
 
     ghost after = { F.after };
 
-    ghost form = { λ names. s.struct_kind (fields_of (F.form names)) };
+    ghost form = { λ names. s.struct_kind s.UnknownKeys.ignored (fields_of (F.form names)) };
 
     ghost written = { λ n names x. d.struct_variant n (members_of (F.written names x.0)) };
 
@@ -173,12 +173,23 @@ impl<F: Fields + Drop> Payload for Struct<F> {
         Ok(VariantKind::Struct(F::push_fields(alloc, names, Vec::new(alloc))?))
     }
 
-    #[tactic(auto, using(crate::proofs::Levels::levels))]
     fn from_data(alloc: Global, names: &[&'static str], datum: Data) -> Result<Struct<F>> {
-        let Data::StructVariant(_, mut members) = datum else {
-            return Err(unexpected(alloc, "a struct variant"));
-        };
-        members.reverse();
-        Ok(Struct(F::from_members(alloc, names, members)?))
+        Ok(Struct(variant_fields(alloc, names, datum)?))
     }
+}
+
+/// Returns the fields that the data of a struct variant mean.
+#[tactic(auto, using(crate::proofs::Levels::levels))]
+pub(crate) fn variant_fields<F: Fields + Drop>(
+    alloc: Global,
+    names: &[&'static str],
+    datum: Data,
+) -> Result<F>
+    ensures { Means F.value result (struct_variant_in (F.meaning (texts names.now)) (data_of datum)) }
+{
+    let Data::StructVariant(_, mut members) = datum else {
+        return Err(unexpected(alloc, "a struct variant"));
+    };
+    members.reverse();
+    F::from_members(alloc, names, members)
 }

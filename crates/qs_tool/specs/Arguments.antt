@@ -11,7 +11,7 @@ use Rattle.qs_tree.specs.declared.config.DuplicateKeyBehavior.TheVariants.{TakeL
 use Rattle.qs_tool.specs.declared.arguments.Command.{Command}
 use Rattle.qs_tool.specs.declared.arguments.Command.TheVariants.{Flat, Params, Any}
 use Rattle.qs_tool.specs.declared.arguments.Choice.{Choice}
-use Rattle.qs_tool.specs.declared.arguments.Choice.TheVariants.{Form, Depth, Format, Duplicates}
+use Rattle.qs_tool.specs.declared.arguments.Choice.TheVariants.{Form, Strict, Depth, Format, Duplicates}
 use Rattle.qs_tool.specs.declared.arguments.Settings.{Settings}
 use Rattle.qs_tool.specs.declared.arguments.Request.{Request}
 
@@ -30,6 +30,10 @@ format_named w =
 abbrev pub duplicates_named : Word → Option DuplicateKeyBehavior
 duplicates_named w = cond (bytes_eq w (codes "last")) (Some TakeLast) (cond (bytes_eq w (codes "error")) (Some Error) None)
 
+-- an option that takes no value
+abbrev pub flag_named : Word → Option Choice
+flag_named w = cond (bytes_eq w (codes "--form")) (Some Form) (cond (bytes_eq w (codes "--strict")) (Some Strict) None)
+
 -- an option that takes a value, with this value
 abbrev pub valued : Word → Word → Option Choice
 valued w value =
@@ -45,15 +49,16 @@ followed (Some c) more = option_map (λ cs. c ∷ cs) more
 abbrev mutual
   pub choices_of : List Word → Option (List Choice)
   choices_of [] = Some []
-  choices_of (w ∷ ws) = cond (bytes_eq w (codes "--form")) (followed (Some Form) (choices_of ws)) (choices_with w ws)
+  choices_of (w ∷ ws) = choices_from (flag_named w) w ws
 
-  -- those of an option that takes a value, and of what comes after it
-  pub choices_with : Word → List Word → Option (List Choice)
-  choices_with w [] = None
-  choices_with w (value ∷ ws) = followed (valued w value) (choices_of ws)
+  -- those of a flag, or of an option with its value, and of what comes after it
+  pub choices_from : Option Choice → Word → List Word → Option (List Choice)
+  choices_from (Some flag) w ws = followed (Some flag) (choices_of ws)
+  choices_from None w [] = None
+  choices_from None w (value ∷ ws) = followed (valued w value) (choices_of ws)
 
 abbrev pub unchosen : Settings
-unchosen = record { form = false; depth = None; format = None; duplicates = None }
+unchosen = record { form = false; strict = false; depth = None; format = None; duplicates = None }
 
 abbrev pub unless_given : {A B : Type 0} → Option A → B → Option B
 unless_given None after = Some after
@@ -62,6 +67,7 @@ unless_given (Some x) after = None
 -- options and one more, unless it was given before
 abbrev pub choose : Settings → Choice → Option Settings
 choose s Form = cond s.form None (Some (record s { form = true }))
+choose s Strict = cond s.strict None (Some (record s { strict = true }))
 choose s (Depth n) = unless_given s.depth (record s { depth = Some n })
 choose s (Format f) = unless_given s.format (record s { format = Some f })
 choose s (Duplicates d) = unless_given s.duplicates (record s { duplicates = Some d })
@@ -79,6 +85,7 @@ or_else x (Some y) = y
 abbrev pub request : Command → ℕ → Settings → Request
 request command depth s = record {
   command = command;
+  strict = s.strict;
   config = record {
     max_depth = depth;
     form = s.form;

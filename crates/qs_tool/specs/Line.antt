@@ -24,7 +24,7 @@ abbrev pub ended : List ℕ → List ℕ
 ended text = text ++ 10 ∷ []
 
 abbrev pub usage_line : List ℕ
-usage_line = ended (codes "usage: qs_tool flat|params|any [--form] [--depth N] [--format indexed|empty|unindexed] [--duplicates last|error]")
+usage_line = ended (codes "usage: qs_tool flat|params|any [--form] [--strict] [--depth N] [--format indexed|empty|unindexed] [--duplicates last|error]")
 
 abbrev pub memory_line : List ℕ
 memory_line = ended (codes "error: out of memory")
@@ -56,16 +56,16 @@ pub record IsPrinted (request : Request) (input text : List ℕ) : Type 0 where
   pub tree : Tree
   pub value : Data
   pub has_tree : IsTree request.config.form request.config.max_depth input tree
-  pub is_read : read_by request.config (shape_for request.command) tree ≡ Some value
+  pub is_read : read_by request.config (shape_for request.command request.strict) tree ≡ Some value
   pub is_text : printed request.command request.config value ≡ Some text
 
 -- the input has no tree, or the command's shape reads nothing from it, or what it reads isn't printed
 pub data IsFaulty (request : Request) (input : List ℕ) : Type 0 where
   no_tree : IsRefused request.config.form request.config.max_depth input → IsFaulty request input
   not_read : (tree : Tree) → IsTree request.config.form request.config.max_depth input tree
-      → read_by request.config (shape_for request.command) tree ≡ None → IsFaulty request input
+      → read_by request.config (shape_for request.command request.strict) tree ≡ None → IsFaulty request input
   not_printed : (tree : Tree) (value : Data) → IsTree request.config.form request.config.max_depth input tree
-      → read_by request.config (shape_for request.command) tree ≡ Some value
+      → read_by request.config (shape_for request.command request.strict) tree ≡ Some value
       → printed request.command request.config value ≡ None → IsFaulty request input
 
 -- what is printed, with status 0, or an error, with status 1

@@ -3,7 +3,7 @@
 ghost use Rattle.std.specs.Prelude.{◌≡◌, map, string_bytes};
 ghost use Rattle.std.specs.Option.{option_and_then};
 ghost use Rattle.qs_spec.specs.Scalar.{unsigned_number};
-ghost use Rattle.qs_tool.specs.Arguments.{asked, command_named, choices_of, chosen, choose, valued, format_named, duplicates_named, unchosen, configured};
+ghost use Rattle.qs_tool.specs.Arguments.{asked, command_named, choices_of, chosen, choose, flag_named, valued, format_named, duplicates_named, unchosen, configured};
 
 use serde_qs::{ArrayFormat, Config, DuplicateKeyBehavior};
 
@@ -22,6 +22,8 @@ pub enum Command {
 #[derive(Clone, Copy, Debug)]
 pub struct Request {
     pub command: Command,
+    /// Whether all structs are strict.
+    pub strict: bool,
     pub config: Config,
 }
 
@@ -29,6 +31,7 @@ pub struct Request {
 #[derive(Clone, Copy)]
 enum Choice {
     Form,
+    Strict,
     Depth(usize),
     Format(ArrayFormat),
     Duplicates(DuplicateKeyBehavior),
@@ -38,6 +41,7 @@ enum Choice {
 #[derive(Clone, Copy)]
 struct Settings {
     form: bool,
+    strict: bool,
     depth: Option<usize>,
     format: Option<ArrayFormat>,
     duplicates: Option<DuplicateKeyBehavior>,
@@ -71,6 +75,17 @@ impl Command {
 }
 
 impl Choice {
+    /// The option of this name, where it takes no value.
+    fn flag(name: &str) -> Option<Choice>
+        ensures { result ≡ flag_named name.now }
+    {
+        match name {
+            "--form" => Some(Choice::Form),
+            "--strict" => Some(Choice::Strict),
+            _ => None,
+        }
+    }
+
     /// The option of this name, with this value.
     fn valued(name: &str, value: &str) -> Option<Choice>
         ensures { result ≡ valued name.now value.now }
@@ -91,6 +106,7 @@ impl Settings {
     {
         Settings {
             form: false,
+            strict: false,
             depth: None,
             format: None,
             duplicates: None,
@@ -103,6 +119,10 @@ impl Settings {
     {
         match choice {
             Choice::Form if !self.form => Some(Settings { form: true, ..self }),
+            Choice::Strict if !self.strict => Some(Settings {
+                strict: true,
+                ..self
+            }),
             Choice::Depth(depth) if self.depth.is_none() => Some(Settings {
                 depth: Some(depth),
                 ..self
@@ -134,7 +154,11 @@ impl Settings {
             .use_form_encoding(self.form)
             .array_format(self.format.unwrap_or_default())
             .duplicate_key_behavior(self.duplicates.unwrap_or_default());
-        Some(Request { command, config })
+        Some(Request {
+            command,
+            strict: self.strict,
+            config,
+        })
     }
 }
 
@@ -145,9 +169,9 @@ fn options(words: &[String]) -> Option<Settings>
     let mut settings = Settings::new();
     let mut rest = words;
     while let [name, after @ ..] = rest {
-        let choice = if name.as_str() == "--form" {
+        let choice = if let Some(flag) = Choice::flag(name.as_str()) {
             rest = after;
-            Choice::Form
+            flag
         } else {
             let [value, after @ ..] = after else {
                 return None;

@@ -23,7 +23,7 @@ pub fn printed(alloc: Global, request: Request, input: &[u8]) -> Result<Vec<u8>>
     ensures text { IfOk result (λ text. IsPrinted request input.now text.items) }
     ensures fault { IfFault result (IsFaulty request input.now) }
 {
-    let shape = shape_for(alloc, request.command)?;
+    let shape = shape_for(alloc, request.command, request.strict)?;
     let deserializer = parsed(alloc, request.config, input)?;
     let value = read_data(alloc, deserializer, &shape)?;
     let text = text_of(alloc, request, &value);

@@ -13,7 +13,7 @@ use std::io::{Read, Write};
 
 /// What is written where the arguments are wrong.
 const USAGE: &str =
-    "usage: qs_tool flat|params|any [--form] [--depth N] [--format indexed|empty|unindexed] [--duplicates last|error]\n";
+    "usage: qs_tool flat|params|any [--form] [--strict] [--depth N] [--format indexed|empty|unindexed] [--duplicates last|error]\n";
 
 /// What is written where a growth was refused.
 const NO_MEMORY: &str = "error: out of memory\n";

@@ -5,6 +5,7 @@ mod arguments;
 mod flat;
 mod params;
 mod streams;
+mod strict;
 
 use crate::program::run;
 use std::alloc::{AllocError, Global};

@@ -5,13 +5,14 @@ use std::test::Fail;
 const PERSON: &str = "name=a&age=1&occupation=b";
 
 const USAGE: &str =
-    "usage: qs_tool flat|params|any [--form] [--depth N] [--format indexed|empty|unindexed] [--duplicates last|error]";
+    "usage: qs_tool flat|params|any [--form] [--strict] [--depth N] [--format indexed|empty|unindexed] [--duplicates last|error]";
 
 #[test]
 fn right(rt: HostRuntime) -> Result<(), Fail> {
     let rows = [
         "flat --form --format empty --duplicates last | name=a&age=1&occupation=b | name=a&age=1&occupation=b&note",
         "flat --duplicates last --form --format unindexed | name=a&age=1&occupation=b | name=a&age=1&occupation=b&note",
+        "flat --strict --form | name=a&age=1&occupation=b | name=a&age=1&occupation=b&note",
         "flat --format indexed | name=a&age=1&occupation=b | name=a&age=1&occupation=b&note",
         "any --depth +0 | a[b]=1 | {'a%5Bb%5D':'1'}",
         "any --depth 007 | a[b]=1 | {'a':{'b':'1'}}",
@@ -32,7 +33,7 @@ fn wrong(rt: HostRuntime) -> Result<(), Fail> {
         "any params",
         "flat --depth 1",
         "flat --depth 0",
-        "flat --strict",
+        "flat --strict --strict",
         "flat --form --form",
         "flat --format",
         "flat --format Indexed",

@@ -28,7 +28,7 @@ proves() {
     (cd "$room/crates/answered" && rt check) >"$room/said" 2>&1 </dev/null
 }
 
-for kind in trees program; do
+for kind in trees program strict; do
     if proves "$kind"; then
         passed=$((passed + $(grep -c '= refl' "$room/crates/answered/proofs/Cases.antt")))
     else

@@ -58,6 +58,6 @@ refuse_each "user_ids=7&user_ids=8&phone=12345&name=A%63me&$address&id=42" 0 \
 refuse_each 'id=1&name=a&phone=2&address=c&address=s&address=p&user_ids=7' 1 'error: Maximum serialization depth `0` exceeded' params --depth 0
 refuse_each 'a[b]=1&a[c][]=2&d&a[c][]=%20&%5B=%5B' 0 "{'%5B':'%5B','a':{'b':'1','c':['2','%20']},'d':()}" any
 refuse_each 'a[0]=x&a[2]=y' 1 'error: missing index, expected: 1 got 2' any
-refuse_each '' 2 'usage: qs_tool flat|params|any [--form] [--depth N] [--format indexed|empty|unindexed] [--duplicates last|error]' round
+refuse_each '' 2 'usage: qs_tool flat|params|any [--form] [--strict] [--depth N] [--format indexed|empty|unindexed] [--duplicates last|error]' round
 
 report

@@ -2,7 +2,7 @@
 # Rows that a person worked out, on the built program: the arguments, the input, the status and the line.
 source "$(dirname "${BASH_SOURCE[0]}")/support/counting.sh"
 
-usage='usage: qs_tool flat|params|any [--form] [--depth N] [--format indexed|empty|unindexed] [--duplicates last|error]'
+usage='usage: qs_tool flat|params|any [--form] [--strict] [--depth N] [--format indexed|empty|unindexed] [--duplicates last|error]'
 alice='age=24&occupation=Student&name=Alice+B.'
 person='name=a&age=1&occupation=b'
 
@@ -36,6 +36,14 @@ row "user_ids[3]=4&user_ids[2]=3&user_ids[1]=2&user_ids[0]=1&address[postcode]=1
 row "id=1&name=a&phone=2&$address&user_ids=7&user_ids=8" 0 "id=1&name=a&phone=2&$address&user_ids[]=7&user_ids[]=8" params --format empty
 row 'id=1&name=a&phone=2&address=c&address=s&address=p&user_ids=7' 1 'error: Maximum serialization depth `0` exceeded' params --depth 0
 
+# unknown keys
+row "$person&x=2" 1 'error: unknown field `x`' flat --strict
+row "$person&x=2" 0 "$person&note" flat
+row "$person&c%5Bd%5D=2" 1 $'error: unknown field `c[d]`\nInvalid field contains an encoded bracket -- consider using form encoding mode\n  https://docs.rs/serde_qs/latest/serde_qs/#query-string-vs-form-encoding' flat --strict
+row "id=1&name=a&phone=2&$address&user_ids[0]=7&address[zip]=1" 1 'error: unknown field `zip`' params --strict
+row "id=1&name=a&phone=2&$address&user_ids[0]=7" 0 "id=1&name=a&phone=2&$address&user_ids[0]=7" params --strict
+row 'a=1' 0 "{'a':'1'}" any --strict
+
 # whatever is there
 row '' 0 '()' any
 row '=foo' 0 "'foo'" any
@@ -63,7 +71,7 @@ row "$person" 2 "$usage" --form flat
 row "$person" 2 "$usage" flat --depth 1
 row "$person" 2 "$usage" flat --depth 0
 row "$person" 2 "$usage" flat --form --form
-row "$person" 2 "$usage" flat --strict
+row "$person" 2 "$usage" flat --strict --strict
 row "$person" 2 "$usage" flat --format
 row "$person" 2 "$usage" flat --format Indexed
 row "$person" 2 "$usage" flat --format indexed --format indexed

@@ -1,6 +1,6 @@
 """Writes the answered cases as equations over the definitions of qs_spec, each to be proved by computing both sides.
 
-usage: definitions.py program|trees TABLE [wrong]     with `wrong` the first case has another answer, which is to be refused
+usage: definitions.py program|strict|trees TABLE [wrong]     with `wrong` the first case has another answer, which is to be refused
 """
 
 import sys
@@ -20,7 +20,8 @@ use Rattle.std.specs.Fmt.{digits}
 use lib.Utf8.{encode}
 use Rattle.qs_spec.specs.Config.{ArrayFormat, indexed, empty_indexed, unindexed}
 use Rattle.qs_spec.specs.Data.{Data, no_values, one_value, no_pairs, one_pair}
-use Rattle.qs_spec.specs.Shape.{Shape, no_fields, one_field}
+use Rattle.qs_spec.specs.Shape.{Shape, UnknownKeys, no_fields, one_field}
+use Rattle.qs_spec.specs.Shape.UnknownKeys.{ignored, rejected}
 use Rattle.qs_spec.specs.Read.{read_list, struct_members, read_map, read_enum, any_data, any_items, any_places, any_pairs, reads, reads_tuple, reads_names, reads_places, reads_variant, reads_kind}
 use Rattle.qs_spec.specs.Entry.{deeper, entries_at, elements_from, pair_entries, member_entries, Output, Refusal}
 use Rattle.qs_spec.specs.Written.{path_text, entry_text, written}
@@ -44,14 +45,14 @@ text_of form output = text_unless output.refusal (written form false output.entr
 abbrev rewritten : Bool → ℕ → Bool → Shape → ArrayFormat → List ℕ → Option (List ℕ)
 rewritten form depth reject_duplicates shape format bytes = option_and_then (λ d. text_of form (entries_at depth format d [])) (read form depth reject_duplicates shape bytes)
 
-abbrev flat : Shape
-flat = Shape.struct (one_field (codes "name") Shape.text false (one_field (codes "age") (Shape.unsigned 8) false (one_field (codes "occupation") Shape.text false (one_field (codes "active") Shape.boolean true (one_field (codes "note") (Shape.option Shape.text) false no_fields)))))
+abbrev flat : UnknownKeys → Shape
+flat unknown = Shape.struct unknown (one_field (codes "name") Shape.text false (one_field (codes "age") (Shape.unsigned 8) false (one_field (codes "occupation") Shape.text false (one_field (codes "active") Shape.boolean true (one_field (codes "note") (Shape.option Shape.text) false no_fields)))))
 
-abbrev address : Shape
-address = Shape.struct (one_field (codes "city") Shape.text false (one_field (codes "street") Shape.text false (one_field (codes "postcode") Shape.text false no_fields)))
+abbrev address : UnknownKeys → Shape
+address unknown = Shape.struct unknown (one_field (codes "city") Shape.text false (one_field (codes "street") Shape.text false (one_field (codes "postcode") Shape.text false no_fields)))
 
-abbrev params : Shape
-params = Shape.struct (one_field (codes "id") (Shape.unsigned 8) false (one_field (codes "name") Shape.text false (one_field (codes "phone") (Shape.unsigned 32) false (one_field (codes "address") address false (one_field (codes "user_ids") (Shape.sequence (Shape.unsigned 8)) false no_fields)))))
+abbrev params : UnknownKeys → Shape
+params unknown = Shape.struct unknown (one_field (codes "id") (Shape.unsigned 8) false (one_field (codes "name") Shape.text false (one_field (codes "phone") (Shape.unsigned 32) false (one_field (codes "address") (address unknown) false (one_field (codes "user_ids") (Shape.sequence (Shape.unsigned 8)) false no_fields)))))
 """,
 }
 
@@ -170,11 +171,14 @@ def program_case(fields):
         return f"read {form} {depth} {reject_duplicates} Shape.any {bytes_term(given)} ≡ {answer}"
     answer = f"Some {bytes_term(line)}" if status == "0" else "None"
     places = FORMATS[option.get("--format", "indexed")]
-    return f"rewritten {form} {depth} {reject_duplicates} {command} {places} {bytes_term(given)} ≡ {answer}"
+    unknown = "rejected" if "--strict" in words else "ignored"
+    return f"rewritten {form} {depth} {reject_duplicates} ({command} {unknown}) {places} {bytes_term(given)} ≡ {answer}"
 
 
 def main():
     kind, table = sys.argv[1:3]
+    if kind == "strict":  # a table of the program
+        kind = "program"
     with open(table, encoding="ascii") as lines:
         rows = [line.rstrip("\n").split("\t") for line in lines]
     if kind == "program":

@@ -79,6 +79,11 @@ impl<'r, R: Abort> Build<'r, R> {
         Shape::Struct(self.vec(fields))
     }
 
+    /// The same, where unknown keys are rejected.
+    pub fn strict<const N: usize>(&self, fields: [Field; N]) -> Shape {
+        Shape::StrictStruct(self.vec(fields))
+    }
+
     /// The shape of a struct with this one field, which has to be there.
     pub fn field(&self, name: &str, shape: Shape) -> Shape {
         self.fields([self.required(name, shape)])
@@ -108,6 +113,11 @@ impl<'r, R: Abort> Build<'r, R> {
     /// A variant that holds these fields.
     pub fn struct_variant<const N: usize>(&self, name: &str, fields: [Field; N]) -> Variant {
         self.variant(name, VariantKind::Struct(self.vec(fields)))
+    }
+
+    /// The same, where unknown keys are rejected.
+    pub fn strict_variant<const N: usize>(&self, name: &str, fields: [Field; N]) -> Variant {
+        self.variant(name, VariantKind::StrictStruct(self.vec(fields)))
     }
 
     /// A key that is one of these names.

@@ -10,4 +10,5 @@ mod numbers;
 mod options;
 mod scalars;
 mod several;
+mod strict;
 mod structs;

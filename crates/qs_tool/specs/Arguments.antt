@@ -1,5 +1,5 @@
 -- What the program's arguments ask for.
-use Rattle.std.specs.Prelude.{ℕ, Bool, true, false, cond, List, [], ◌∷◌, Option, Some, None, option_map, option_and_then, codes}
+use Rattle.std.specs.Prelude.{ℕ, Bool, true, false, cond, ◌||◌, List, [], ◌∷◌, Option, Some, None, option_map, option_and_then, codes}
 use Rattle.std.specs.Str.{bytes_eq}
 use Rattle.qs_spec.specs.Config.{default}
 use Rattle.qs_spec.specs.Scalar.{unsigned_number}
@@ -30,6 +30,13 @@ format_named w =
 abbrev pub duplicates_named : Word → Option DuplicateKeyBehavior
 duplicates_named w = cond (bytes_eq w (codes "last")) (Some TakeLast) (cond (bytes_eq w (codes "error")) (Some Error) None)
 
+-- an option that takes no value
+abbrev pub flag_named : Word → Option Choice
+flag_named w = cond (bytes_eq w (codes "--form")) (Some Form) None
+
+abbrev pub takes_value : Word → Bool
+takes_value w = bytes_eq w (codes "--depth") || (bytes_eq w (codes "--format") || bytes_eq w (codes "--duplicates"))
+
 -- an option that takes a value, with this value
 abbrev pub valued : Word → Word → Option Choice
 valued w value =
@@ -41,11 +48,16 @@ abbrev pub followed : Option Choice → Option (List Choice) → Option (List Ch
 followed None more = None
 followed (Some c) more = option_map (λ cs. c ∷ cs) more
 
+-- a flag and the options after it, or where there is no flag, the others
+abbrev pub flag_or : Option Choice → Option (List Choice) → Option (List Choice) → Option (List Choice)
+flag_or None more others = others
+flag_or flag more others = followed flag more
+
 -- the options that some words are, one after the other
 abbrev mutual
   pub choices_of : List Word → Option (List Choice)
   choices_of [] = Some []
-  choices_of (w ∷ ws) = cond (bytes_eq w (codes "--form")) (followed (Some Form) (choices_of ws)) (choices_with w ws)
+  choices_of (w ∷ ws) = flag_or (flag_named w) (choices_of ws) (choices_with w ws)
 
   -- those of an option that takes a value, and of what comes after it
   pub choices_with : Word → List Word → Option (List Choice)

@@ -11,7 +11,7 @@ struct Place<'t, 'qs> {
 }
 
 /// Returns the paths of a querystring's leaves, a line each, as `["user"]["ids"][0]` for `user[ids][0]=7`.
-pub fn leaves(alloc: Global, input: &str) -> Result<String> {
+pub fn leaf_paths(alloc: Global, input: &str) -> Result<String> {
     let tree = parse(alloc, input.as_bytes(), Config::new())?;
     let mut lines = String::new(alloc);
     let root = Place {

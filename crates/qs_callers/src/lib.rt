@@ -33,7 +33,7 @@ pub use chart::Chart;
 pub use client::{exchanged, served, target};
 pub use filter::Filter;
 pub use guard::{Rejected, guarded};
-pub use leaves::leaves;
+pub use leaves::leaf_paths;
 pub use link::Link;
 pub use order::{Order, ordered};
 pub use pair::Pair;

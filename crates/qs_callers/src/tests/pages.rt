@@ -3,8 +3,8 @@
 use super::round_trips::comes_back;
 use super::text;
 use crate::{
-    Address, Filter, Link, Order, Products, Query, exchanged, leaves, next_page, ordered, served,
-    target,
+    Address, Filter, Link, Order, Products, Query, exchanged, leaf_paths, next_page, ordered,
+    served, target,
 };
 use serde_qs::{Result, from_str, to_string};
 use std::alloc::Global;
@@ -112,8 +112,8 @@ fn leaves_of_a_tree(rt: HostRuntime) {
         ("a[]=&1=x", "[1]\n[\"a\"][0]\n"),
     ];
     for (input, wanted) in rows {
-        let found = leaves(alloc, input).expect(&rt, input);
+        let found = leaf_paths(alloc, input).expect(&rt, input);
         assert!(rt; found.as_str() == wanted, "{found}");
     }
-    assert!(rt; leaves(alloc, "a[b").is_err());
+    assert!(rt; leaf_paths(alloc, "a[b").is_err());
 }

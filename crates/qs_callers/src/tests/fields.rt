@@ -2,7 +2,7 @@
 
 use super::round_trips::comes_back;
 use super::{is_custom, list, text};
-use crate::{Age, Chart, Listing, Paging, Pair, Place, Sort};
+use crate::{Age, Chart, Paging, Pair, Place};
 use serde_qs::{Config, ConfigExt, Delimited, Pipe, Result, Space, from_str, to_string};
 
 #[test]

@@ -9,6 +9,7 @@ use Rattle.qs_data.specs.Views.{data_of, named, same}
 use Rattle.qs_data.specs.declared.data.Data as r
 use Rattle.qs_data.specs.declared.data.Data.{Data}
 use Rattle.serde_qs.specs.Records.{members_back}
+use Rattle.serde_qs.specs.Tuples.{values_back}
 
 members_level : (xs : List (String Global × Data)) → map (named same) (map (λ (x : String Global × Data). (x.0, data_of x.1)) xs) ≡ map (named data_of) xs
 members_level [] = refl
@@ -30,4 +31,7 @@ data_of_text text = search (rules, r.the_lemmas)
 pub back_reverse : (xs : List (String Global × Data)) → members_back (reverse xs) ≡ d.members_of (map (named data_of) xs)
 back_reverse xs = ap (λ ys. d.members_of (map (named data_of) ys)) (reverse-reverse xs)
 
-pub ruleset levels = (data_of_struct, data_of_struct_variant, back_reverse)
+pub values_reverse : (xs : List Data) → values_back (reverse xs) ≡ d.values_of (map data_of xs)
+values_reverse xs = ap (λ ys. d.values_of (map data_of ys)) (reverse-reverse xs)
+
+pub ruleset levels = (data_of_struct, data_of_struct_variant, back_reverse, values_reverse)

@@ -5,6 +5,8 @@ pub mod Records
 pub mod ComesBack
 pub mod MapsComeBack
 pub mod Optional
+pub mod Defaulted
+pub mod Tuples
 pub mod Variants
 pub mod Compound
 pub mod Typed

@@ -58,9 +58,12 @@
 
 mod compound;
 mod config_ext;
+mod defaulted;
+mod defaults;
 mod delimited;
 mod fields;
 pub mod helpers;
+mod items;
 mod laws;
 mod lent;
 mod limits;
@@ -84,22 +87,27 @@ mod written;
 
 pub use compound::Compound;
 pub use config_ext::ConfigExt;
+pub use defaulted::{Defaulted, OrDefault};
 pub use delimited::{Comma, Delimited, Delimiter, Pipe, Space, WholeNumber};
 pub use fields::Fields;
+pub use items::Items;
 pub use laws::value_comes_back;
 pub use limits::{LimitError, Limits};
 pub use optional::Optional;
 pub use parts::{Enum, Parts};
-pub use payloads::{Newtype, Payload, Struct};
+pub use payloads::{Newtype, Payload, Struct, Tuple};
 pub use qs_data::{
     ByWrite, Data, Deserializer, Deserializer as QsDeserializer, Field, KeyShape, Serializer,
     Serializer as QsSerializer, Shape, Sink, Variant, VariantKind,
 };
 pub use qs_tree::{ArrayFormat, Config, DuplicateKeyBehavior, Error, Result};
 pub use reading::{from_bytes, from_str, read_by};
-pub use references::{References, SkipNone};
+pub use references::{ItemReferences, References, SkipNone};
 pub use strict::StrictStruct;
 pub use traits::{Deserialize, RoundTrip, Serialize, unexpected};
 pub use variants::{Last, OneOf, Variants};
 pub use writing::{to_string, to_writer};
-pub use written::{newtype_struct, newtype_variant, struct_of, struct_variant, unit_variant};
+pub use written::{
+    newtype_struct, newtype_variant, struct_of, struct_variant, tuple_struct, tuple_variant,
+    unit_variant,
+};

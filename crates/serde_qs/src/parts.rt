@@ -1,20 +1,22 @@
 //! What a struct or an enum is made of.
 
 ghost use Rattle.std.specs.Prelude.{◌≡◌, ℕ, ◌==◌, Bool, List, Option, length, true, IfOk};
-ghost use Rattle.qs_spec.specs.Data.{Data as Datum, members_of};
+ghost use Rattle.qs_spec.specs.Data.{Data as Datum, members_of, values_of};
 ghost use Rattle.qs_spec.specs.Data as d;
-ghost use Rattle.qs_spec.specs.Shape.{Shape as Form, fields_of, is_distinct, variants_of};
+ghost use Rattle.qs_spec.specs.Shape.{Shape as Form, fields_of, is_distinct, shapes_of, variants_of};
 ghost use Rattle.qs_spec.specs.Shape as s;
 ghost use Rattle.qs_tree.specs.Error.{OnlyOutOfMemory};
 ghost use Rattle.qs_data.specs.Views.{data_of, shape_of};
 ghost use Rattle.serde_qs.specs.ComesBack.{PartsComeBack, newtype_back, struct_back};
 ghost use Rattle.serde_qs.specs.Meaning.{newtype_in};
 ghost use Rattle.serde_qs.specs.Records.{are_names, differ, struct_in, texts};
+ghost use Rattle.serde_qs.specs.Tuples.{tuple_back, tuple_in};
 ghost use Rattle.serde_qs.specs.Typed.{Means};
 ghost use Rattle.serde_qs.specs.Variants.{are_variants, enum_back, enum_distinct};
 
 use crate::fields::Fields;
-use crate::payloads::{Newtype, Struct};
+use crate::items::Items;
+use crate::payloads::{Newtype, Struct, Tuple};
 use crate::traits::{Deserialize, RoundTrip, Serialize, unexpected};
 use crate::variants::Variants;
 use qs_data::{Data, Result, Shape};
@@ -24,9 +26,9 @@ use std::alloc::Global;
 #[derive(Debug, PartialEq, Drop)]
 pub struct Enum<V>(pub V);
 
-/// What a struct or an enum is made of: its fields, its variants, or one value.
+/// What a struct or an enum is made of: its fields, its items, its variants, or one value.
 ///
-/// It is implemented for [`Struct`], [`StrictStruct`](crate::StrictStruct), [`Enum`] and [`Newtype`] alone; a user names them as
+/// It is implemented for [`Struct`], [`StrictStruct`](crate::StrictStruct), [`Tuple`], [`Enum`] and [`Newtype`] alone; a user names them as
 /// [`Compound::Parts`](crate::Compound::Parts).
 pub trait Parts: Sized {
     ghost Value: { Type 0 };
@@ -154,5 +156,36 @@ impl<T: RoundTrip + Drop> Parts for Newtype<T> {
             Data::Newtype(part) => Ok(Newtype(T::from_data(alloc, Box::into_inner(part))?)),
             _ => Err(unexpected(alloc, "a newtype")),
         }
+    }
+}
+
+impl<I: Items + Drop> Parts for Tuple<I> {
+    ghost Value = { I.Value };
+
+    ghost value = { λ x. I.value x.0 };
+
+    ghost are_named = { λ names. length names == 0 };
+
+    ghost form = { λ _. s.Shape.tuple (shapes_of I.form) };
+
+    ghost written = { λ _ x. d.tuple (values_of (I.written x.0)) };
+
+    ghost meaning = { λ _ d. tuple_in I.meaning d };
+
+    ghost come_back = { λ _ x e _ h p. tuple_back I.form I.written I.meaning I.value I.come_back x.0 e h p };
+
+    ghost distinct = { λ _ _. I.distinct };
+
+    fn shape(alloc: Global, _names: &[&'static str]) -> Result<Shape> {
+        Ok(Shape::Tuple(I::push_shapes(alloc, Vec::new(alloc))?))
+    }
+
+    #[tactic(auto, using(crate::proofs::Levels::levels))]
+    fn from_data(alloc: Global, _names: &[&'static str], datum: Data) -> Result<Tuple<I>> {
+        let Data::Tuple(mut values) = datum else {
+            return Err(unexpected(alloc, "a tuple"));
+        };
+        values.reverse();
+        Ok(Tuple(I::from_items(alloc, values)?))
     }
 }

@@ -1,17 +1,19 @@
 //! What a variant of an enum holds.
 
 ghost use Rattle.std.specs.Prelude.{◌≡◌, ℕ, suc, List, Option, true, refl, IfOk};
-ghost use Rattle.qs_spec.specs.Data.{Data as Datum, members_of};
+ghost use Rattle.qs_spec.specs.Data.{Data as Datum, members_of, values_of};
 ghost use Rattle.qs_spec.specs.Data as d;
-ghost use Rattle.qs_spec.specs.Shape.{VariantKind as KindForm, fields_of, is_distinct_kind};
+ghost use Rattle.qs_spec.specs.Shape.{VariantKind as KindForm, fields_of, is_distinct_kind, shapes_of};
 ghost use Rattle.qs_spec.specs.Shape as s;
 ghost use Rattle.qs_tree.specs.Error.{OnlyOutOfMemory};
 ghost use Rattle.qs_data.specs.Views.{data_of, kind_of};
 ghost use Rattle.serde_qs.specs.Records.{both_true, texts};
+ghost use Rattle.serde_qs.specs.Tuples.{tuple_variant_back, tuple_variant_in};
 ghost use Rattle.serde_qs.specs.Typed.{Means};
 ghost use Rattle.serde_qs.specs.Variants.{KindComesBack, KindIsDistinct, KindIsNamed, newtype_variant_back, newtype_variant_in, struct_variant_back, struct_variant_in, unit_variant_back, unit_variant_in};
 
 use crate::fields::Fields;
+use crate::items::Items;
 use crate::traits::{Deserialize, RoundTrip, Serialize, unexpected};
 use qs_data::{Data, Result, VariantKind};
 use std::alloc::Global;
@@ -24,7 +26,11 @@ pub struct Newtype<T>(pub T);
 #[derive(Debug, PartialEq, Drop)]
 pub struct Struct<F>(pub F);
 
-/// What a variant of an enum holds: `()`, a [`Newtype`], a [`Struct`] or a [`StrictStruct`](crate::StrictStruct).
+/// The items of a tuple, or of a variant with items, as nested pairs: `Tuple<(u8, (u8, ()))>`.
+#[derive(Debug, PartialEq, Drop)]
+pub struct Tuple<I>(pub I);
+
+/// What a variant of an enum holds: `()`, a [`Newtype`], a [`Tuple`], a [`Struct`] or a [`StrictStruct`](crate::StrictStruct).
 ///
 /// It is implemented for these alone; a user names them in [`Compound::Parts`](crate::Compound::Parts).
 pub trait Payload: Sized {
@@ -175,6 +181,45 @@ impl<F: Fields + Drop> Payload for Struct<F> {
 
     fn from_data(alloc: Global, names: &[&'static str], datum: Data) -> Result<Struct<F>> {
         Ok(Struct(variant_fields(alloc, names, datum)?))
+    }
+}
+
+impl<I: Items + Drop> Payload for Tuple<I> {
+    ghost Value = { I.Value };
+
+    ghost value = { λ x. I.value x.0 };
+
+    ghost count = { 0 };
+
+    ghost after = { λ names. names };
+
+    ghost form = { λ _. s.tuple_kind (shapes_of I.form) };
+
+    ghost written = { λ n _ x. d.tuple_variant n (values_of (I.written x.0)) };
+
+    ghost meaning = { λ _ d. tuple_variant_in I.meaning d };
+
+    ghost named = { λ _ _ _. refl };
+
+    ghost comes_back = { λ n _ x e _ h p. tuple_variant_back I.form I.written I.meaning I.value I.come_back n x.0 e h p };
+
+    ghost is_distinct = { λ _ _. I.distinct };
+
+    fn skip<'a>(names: &'a [&'static str]) -> &'a [&'static str] {
+        names
+    }
+
+    fn kind(alloc: Global, _names: &[&'static str]) -> Result<VariantKind> {
+        Ok(VariantKind::Tuple(I::push_shapes(alloc, Vec::new(alloc))?))
+    }
+
+    #[tactic(auto, using(crate::proofs::Levels::levels))]
+    fn from_data(alloc: Global, _names: &[&'static str], datum: Data) -> Result<Tuple<I>> {
+        let Data::TupleVariant(_, mut values) = datum else {
+            return Err(unexpected(alloc, "a tuple variant"));
+        };
+        values.reverse();
+        Ok(Tuple(I::from_items(alloc, values)?))
     }
 }
 

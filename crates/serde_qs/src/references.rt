@@ -1,7 +1,7 @@
 //! The fields of a struct that is written, by reference.
 
-ghost use Rattle.std.specs.Prelude.{◌≡◌, ℕ, List, [], ◌++◌, map, IfOk};
-ghost use Rattle.qs_spec.specs.Data.{Named};
+ghost use Rattle.std.specs.Prelude.{◌≡◌, ℕ, List, [], ◌∷◌, ◌++◌, map, IfOk};
+ghost use Rattle.qs_spec.specs.Data.{Data as Datum, Named};
 ghost use Rattle.qs_tree.specs.Error.{OnlyOutOfMemory};
 ghost use Rattle.qs_data.specs.Views.{data_of, named};
 ghost use Rattle.serde_qs.specs.Optional.{optional_data};
@@ -83,5 +83,35 @@ impl<'a, T: Serialize, R: References + Drop> References for (SkipNone<'a, T>, R)
             before.push((name, datum))?;
         }
         others.push_members(alloc, rest, before)
+    }
+}
+
+/// References to the items of a tuple that is written, as nested pairs: `(&self.0, (&self.1, ()))`.
+pub trait ItemReferences: Sized {
+    // The data of the items.
+    ghost listed: { Self → List Datum };
+
+    /// Returns these data and after them those of the items. The one error is
+    /// [`OutOfMemory`](qs_data::Error::OutOfMemory).
+    fn push_items(self, alloc: Global, before: Vec<Data>) -> Result<Vec<Data>>
+        ensures exact { IfOk result (λ all. map data_of all.items ≡ map data_of before.items ++ listed self) }
+        ensures errors { OnlyOutOfMemory result };
+}
+
+impl ItemReferences for () {
+    ghost listed = { λ _. [] };
+
+    fn push_items(self, _alloc: Global, before: Vec<Data>) -> Result<Vec<Data>> {
+        Ok(before)
+    }
+}
+
+impl<'a, T: Serialize, R: ItemReferences + Drop> ItemReferences for (&'a T, R) {
+    ghost listed = { λ x. T.datum x.0.now ∷ R.listed x.1 };
+
+    fn push_items(self, alloc: Global, mut before: Vec<Data>) -> Result<Vec<Data>> {
+        let (item, others) = self;
+        before.push(item.to_data(alloc)?)?;
+        others.push_items(alloc, before)
     }
 }

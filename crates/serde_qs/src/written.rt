@@ -1,13 +1,13 @@
 //! The data of structs and of variants that are written.
 
 ghost use Rattle.std.specs.Prelude.{◌≡◌, IfOk};
-ghost use Rattle.qs_spec.specs.Data.{members_of};
+ghost use Rattle.qs_spec.specs.Data.{members_of, values_of};
 ghost use Rattle.qs_spec.specs.Data as d;
 ghost use Rattle.qs_tree.specs.Error.{OnlyOutOfMemory};
 ghost use Rattle.qs_data.specs.Views.{data_of};
 ghost use Rattle.serde_qs.specs.Records.{texts};
 
-use crate::references::References;
+use crate::references::{ItemReferences, References};
 use crate::traits::Serialize;
 use qs_data::{Data, Result};
 use std::alloc::Global;
@@ -85,4 +85,32 @@ pub fn newtype_struct<T: Serialize>(alloc: Global, value: &T) -> Result<Data>
     ensures errors { OnlyOutOfMemory result }
 {
     Ok(Data::Newtype(Box::new(alloc, value.to_data(alloc)?)?))
+}
+
+/// Returns the variant of this name with these items, for [`Compound::written`](crate::Compound::written). The one error is
+/// [`OutOfMemory`](qs_data::Error::OutOfMemory).
+///
+/// ```
+/// Area::Circle(radius, unit) => tuple_variant(alloc, "Circle", (radius, (unit, ()))),
+/// ```
+pub fn tuple_variant<R: ItemReferences + Drop>(alloc: Global, name: &str, items: R) -> Result<Data>
+    ensures exact { IfOk result (λ x. data_of x ≡ d.tuple_variant name.now (values_of (R.listed items))) }
+    ensures errors { OnlyOutOfMemory result }
+{
+    let name = String::from_str(alloc, name)?;
+    let values = items.push_items(alloc, Vec::new(alloc))?;
+    Ok(Data::TupleVariant(name, values))
+}
+
+/// Returns the tuple of these items, for [`Compound::written`](crate::Compound::written). The one error is
+/// [`OutOfMemory`](qs_data::Error::OutOfMemory).
+///
+/// ```
+/// tuple_struct(alloc, (&self.0, (&self.1, ())))
+/// ```
+pub fn tuple_struct<R: ItemReferences + Drop>(alloc: Global, items: R) -> Result<Data>
+    ensures exact { IfOk result (λ x. data_of x ≡ d.tuple (values_of (R.listed items))) }
+    ensures errors { OnlyOutOfMemory result }
+{
+    Ok(Data::Tuple(items.push_items(alloc, Vec::new(alloc))?))
 }

@@ -2,7 +2,7 @@
 
 use super::round_trips::comes_back;
 use super::{is_custom, list, text};
-use crate::{Age, Chart, Pair};
+use crate::{Age, Chart, Paging, Pair, Place};
 use serde_qs::{Config, ConfigExt, Delimited, Pipe, Result, Space, from_str, to_string};
 
 #[test]
@@ -58,4 +58,41 @@ fn an_age_below_150(rt: HostRuntime) {
         let result: Result<Pair<Age, bool>> = from_str(alloc, input);
         assert!(rt; is_custom(&result, wanted), "{input}");
     }
+}
+
+#[test]
+fn a_tuple_variant(rt: HostRuntime) {
+    let alloc = rt.alloc();
+    let pair = Pair {
+        a: Place::At(-1, 2),
+        b: Place::Anywhere,
+    };
+    let written = to_string(alloc, &pair).expect(&rt, "a text");
+    assert!(rt;
+        written.as_str() == "a[At][0]=-1&a[At][1]=2&b=Anywhere",
+        "{written}"
+    );
+    comes_back(&rt, alloc, &pair);
+}
+
+#[test]
+fn fields_with_a_default(rt: HostRuntime) {
+    let alloc = rt.alloc();
+    let rows = [
+        ("text=a", 0, false, "text=a&page=0&short=false"),
+        ("text=a&page=2", 2, false, "text=a&page=2&short=false"),
+        ("short=true&text=a", 0, true, "text=a&page=0&short=true"),
+    ];
+    for (input, page, is_short, wanted) in rows {
+        let paging: Paging = from_str(alloc, input).expect(&rt, "a page");
+        assert!(rt;
+            paging.page == page && paging.is_short == is_short,
+            "{input}"
+        );
+        let written = to_string(alloc, &paging).expect(&rt, "a text");
+        assert!(rt; written.as_str() == wanted, "{written}");
+        comes_back(&rt, alloc, &paging);
+    }
+    let result: Result<Paging> = from_str(alloc, "text=a&page=");
+    assert!(rt; is_custom(&result, "invalid type: string, expected u32"));
 }

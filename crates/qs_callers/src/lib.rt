@@ -22,6 +22,7 @@ mod query;
 mod range;
 mod search;
 mod sort;
+mod span;
 #[cfg(test)]
 mod tests;
 mod values;
@@ -38,7 +39,7 @@ pub use guard::{Rejected, guarded};
 pub use leaves::leaf_paths;
 pub use link::Link;
 pub use order::{Order, ordered};
-pub use paging::Paging;
+pub use paging::{Page, Paging};
 pub use pair::Pair;
 pub use payment::{Method, Payment};
 pub use place::Place;
@@ -48,6 +49,7 @@ pub use query::Query;
 pub use range::Range;
 pub use search::Search;
 pub use sort::Sort;
+pub use span::Span;
 pub use values::Values;
 pub use wrappers::{
     copied_form, copied_query, form_inside, is_same_form, is_same_query, order_of_forms,

@@ -18,7 +18,8 @@ pub fn leaf_paths(alloc: Global, input: &str) -> Result<String> {
         path: String::new(alloc),
         node: &tree,
     };
-    let mut rest = vec![in alloc; root]?;
+    let mut rest = Vec::new(alloc);
+    rest.push(root)?;
     for _ in 0..u64::MAX {
         let Some(Place { path, node }) = rest.pop() else {
             break;

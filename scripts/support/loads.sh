@@ -6,7 +6,7 @@ source "$(dirname "${BASH_SOURCE[0]}")/counting.sh"
 support=$(dirname "${BASH_SOURCE[0]}")
 
 # A short pair takes more as a node than as bytes, and so does a bracket, as a map of its own. Both grow with the length alone.
-declare -A most_time=([texts]=4 [pairs]=60 [maps]=60)
+declare -A most_time=([texts]=4 [pairs]=120 [maps]=60)
 declare -A most_memory=([texts]=2 [pairs]=12 [maps]=10)
 # A shorter run counts as one of so many seconds: the program's start is most of it.
 least_seconds=0.01

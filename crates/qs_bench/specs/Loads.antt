@@ -2,13 +2,14 @@
 use Rattle.std.specs.Prelude.{ℕ, List, [], ◌∷◌, false, codes}
 use Rattle.qs_spec.specs.Shape.{Shape, KeyShape, Field, fields_of}
 use Rattle.qs_spec.specs.Shape.Shape.{unsigned, text, sequence, mapping, struct}
+use Rattle.qs_spec.specs.Shape.UnknownKeys.{ignored}
 
 abbrev pub field : List ℕ → Shape → Field
 field name shape = (name, shape, false)
 
 -- one field
 abbrev pub only : List ℕ → Shape → Shape
-only name shape = struct (fields_of (field name shape ∷ []))
+only name shape = struct ignored (fields_of (field name shape ∷ []))
 
 -- a list under one field
 abbrev pub list : Shape → Shape
@@ -16,7 +17,7 @@ list item = only (codes "ids") (sequence item)
 
 -- somebody's address
 abbrev pub address : Shape
-address = struct (fields_of
+address = struct ignored (fields_of
     (field (codes "city") text
     ∷ field (codes "street") text
     ∷ field (codes "postcode") text
@@ -24,7 +25,7 @@ address = struct (fields_of
 
 -- a record of ten entries
 abbrev pub record_of_ten : Shape
-record_of_ten = struct (fields_of
+record_of_ten = struct ignored (fields_of
     (field (codes "id") (unsigned 64)
     ∷ field (codes "name") text
     ∷ field (codes "phone") (unsigned 64)
@@ -33,7 +34,7 @@ record_of_ten = struct (fields_of
     ∷ []))
 
 abbrev pub person : Shape
-person = struct (fields_of
+person = struct ignored (fields_of
     (field (codes "name") text
     ∷ field (codes "age") (unsigned 8)
     ∷ field (codes "occupation") text

@@ -61,28 +61,77 @@ row "$person" 0 "$person&note" flat --form --format unindexed --duplicates error
 row 'a[b]=1' 0 "{'a%5Bb%5D':'1'}" any --duplicates last --depth +0
 row 'a[b]=1' 0 "{'a':{'b':'1'}}" any --depth 007
 
-# wrong arguments
-row "$person" 2 "$usage"
-row "$person" 2 "$usage" ''
-row "$person" 2 "$usage" round
-row "$person" 2 "$usage" FLAT
-row "$person" 2 "$usage" flat flat
-row "$person" 2 "$usage" --form flat
-row "$person" 2 "$usage" flat --depth 1
-row "$person" 2 "$usage" flat --depth 0
-row "$person" 2 "$usage" flat --form --form
-row "$person" 2 "$usage" flat --strict --strict
-row "$person" 2 "$usage" flat --format
-row "$person" 2 "$usage" flat --format Indexed
-row "$person" 2 "$usage" flat --format indexed --format indexed
-row "$person" 2 "$usage" flat --duplicates
-row "$person" 2 "$usage" flat --duplicates none
-row "$person" 2 "$usage" any --depth
-row "$person" 2 "$usage" any --depth -0
-row "$person" 2 "$usage" any --depth 18446744073709551616
-row "$person" 2 "$usage" params --depth --form
-row "$person" 2 "$usage" params --depth 1 --depth 1
-row "$person" 2 "$usage" flat --form ''
-row "$person" 2 "$usage" flat --form=true
+# misuse SAID ARGUMENTS..: the usage line with status 2, whatever the input is, and this on standard error
+misuse() {
+    local said=$1
+    shift
+    printf '%s' "$person" | "$program" "$@" >"$room/output" 2>"$room/said"
+    status=${PIPESTATUS[1]}
+    expect "qs_tool $*" 2 "$usage"$'\n'
+    printf 'qs_tool: %s\n' "$said" >"$room/wanted"
+    if cmp -s "$room/said" "$room/wanted"; then
+        pass
+    else
+        fail "qs_tool $*: said '$(head -c 200 "$room/said")', and not '$said'"
+    fi
+}
+
+number="'--depth' takes a number from 0 to 18446744073709551615"
+format="'--format' takes 'indexed', 'empty' or 'unindexed'"
+misuse 'no command is given'
+misuse "unknown command ''" ''
+misuse "unknown command 'round'" round
+misuse "unknown command 'FLAT'" FLAT
+misuse "unknown command '--form'" --form flat
+misuse "unknown command '-h'" -h
+misuse "unknown command '--help'" --help flat
+misuse "unknown command '--version'" --version --version
+misuse "unknown option '--help'" any --help
+misuse "unknown option 'flat'" flat flat
+misuse "unknown option '--dept'" any --dept 1
+misuse "'--strict' is given twice" flat --strict --form --strict
+misuse "unknown option ''" flat --form ''
+misuse "unknown option '--form=true'" flat --form=true
+misuse "'flat' takes no '--depth'" flat --depth 1
+misuse "'flat' takes no '--depth'" flat --form --depth 0 --format empty
+misuse "'--form' is given twice" flat --form --form
+misuse "'--format' is given twice" flat --format indexed --format indexed
+misuse "'--depth' is given twice" params --depth 1 --depth 1
+misuse "'--duplicates' is given twice" any --duplicates last --form --duplicates error
+misuse "$format" flat --format
+misuse "$format" flat --format Indexed
+misuse "'--duplicates' takes 'last' or 'error'" flat --duplicates
+misuse "'--duplicates' takes 'last' or 'error'" flat --duplicates none
+misuse "$number" any --depth
+misuse "$number" any --depth ''
+misuse "$number" any --depth -0
+misuse "$number" any --depth 18446744073709551616
+misuse "$number" params --depth --form
+# the first of several
+misuse "unknown option '--no'" flat --depth 1 --no --form --form
+misuse "'--form' is given twice" flat --form --form --no
+
+# alone, without standard input
+"$program" --version >"$room/output" 2>"$room/said" <&-
+status=$?
+expect 'qs_tool --version' 0 $'qs_tool 1.1.3\n'
+"$program" --help >"$room/help" 2>>"$room/said" <&-
+status=$?
+head -n 1 "$room/help" >"$room/output"
+expect 'qs_tool --help' 0 "$usage"$'\n'
+[ ! -s "$room/said" ] || fail '--help or --version wrote to standard error'
+
+# each example of the help: the line below it is what the program prints
+example='^ *\$ echo '\''(.*)'\'' \| qs_tool (.*)$'
+examples=0
+while IFS= read -r line; do
+    [[ $line =~ $example ]] || continue
+    input=${BASH_REMATCH[1]} arguments=${BASH_REMATCH[2]}
+    IFS=' ' read -r wanted
+    examples=$((examples + 1))
+    [[ $wanted == error:* ]] && code=1 || code=0
+    row "$input"$'\n' $code "$wanted" $arguments
+done <"$room/help"
+[ $examples -ge 7 ] || fail "the help has only $examples examples"
 
 report

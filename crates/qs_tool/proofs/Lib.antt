@@ -1,6 +1,7 @@
 pub mod Distinct
 pub mod Lines
 pub mod Numbers
+pub mod Options
 pub mod Pieces
 pub mod Refusals
 pub mod Taken

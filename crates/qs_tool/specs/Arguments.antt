@@ -1,5 +1,5 @@
 -- What the program's arguments ask for.
-use Rattle.std.specs.Prelude.{ℕ, Bool, true, false, cond, List, [], ◌∷◌, Option, Some, None, option_map, option_and_then, codes}
+use Rattle.std.specs.Prelude.{ℕ, Bool, true, false, cond, ◌||◌, List, [], ◌∷◌, Option, Some, None, option_map, option_and_then, codes}
 use Rattle.std.specs.Str.{bytes_eq}
 use Rattle.qs_spec.specs.Config.{default}
 use Rattle.qs_spec.specs.Scalar.{unsigned_number}
@@ -34,6 +34,9 @@ duplicates_named w = cond (bytes_eq w (codes "last")) (Some TakeLast) (cond (byt
 abbrev pub flag_named : Word → Option Choice
 flag_named w = cond (bytes_eq w (codes "--form")) (Some Form) (cond (bytes_eq w (codes "--strict")) (Some Strict) None)
 
+abbrev pub takes_value : Word → Bool
+takes_value w = bytes_eq w (codes "--depth") || (bytes_eq w (codes "--format") || bytes_eq w (codes "--duplicates"))
+
 -- an option that takes a value, with this value
 abbrev pub valued : Word → Word → Option Choice
 valued w value =
@@ -45,17 +48,21 @@ abbrev pub followed : Option Choice → Option (List Choice) → Option (List Ch
 followed None more = None
 followed (Some c) more = option_map (λ cs. c ∷ cs) more
 
+-- a flag and the options after it, or where there is no flag, the others
+abbrev pub flag_or : Option Choice → Option (List Choice) → Option (List Choice) → Option (List Choice)
+flag_or None more others = others
+flag_or flag more others = followed flag more
+
 -- the options that some words are, one after the other
 abbrev mutual
   pub choices_of : List Word → Option (List Choice)
   choices_of [] = Some []
-  choices_of (w ∷ ws) = choices_from (flag_named w) w ws
+  choices_of (w ∷ ws) = flag_or (flag_named w) (choices_of ws) (choices_with w ws)
 
-  -- those of a flag, or of an option with its value, and of what comes after it
-  pub choices_from : Option Choice → Word → List Word → Option (List Choice)
-  choices_from (Some flag) w ws = followed (Some flag) (choices_of ws)
-  choices_from None w [] = None
-  choices_from None w (value ∷ ws) = followed (valued w value) (choices_of ws)
+  -- those of an option that takes a value, and of what comes after it
+  pub choices_with : Word → List Word → Option (List Choice)
+  choices_with w [] = None
+  choices_with w (value ∷ ws) = followed (valued w value) (choices_of ws)
 
 abbrev pub unchosen : Settings
 unchosen = record { form = false; strict = false; depth = None; format = None; duplicates = None }

@@ -1,10 +1,13 @@
 //! What the program's arguments ask for.
 
-ghost use Rattle.std.specs.Prelude.{◌≡◌, map, string_bytes};
+ghost use Rattle.std.specs.Prelude.{◌≡◌, IfErr, map, string_bytes};
 ghost use Rattle.std.specs.Option.{option_and_then};
+ghost use Rattle.std.specs.Result.{result_ok};
 ghost use Rattle.qs_spec.specs.Scalar.{unsigned_number};
-ghost use Rattle.qs_tool.specs.Arguments.{asked, command_named, choices_of, chosen, choose, flag_named, valued, format_named, duplicates_named, unchosen, configured};
+ghost use Rattle.qs_tool.specs.Arguments.{asked, command_named, choices_of, chosen, choose, flag_named, valued, takes_value, format_named, duplicates_named, unchosen, configured};
+ghost use Rattle.qs_tool.specs.Misuse.{IsMisuse, IsWrongOption};
 
+use crate::misuse::Misuse;
 use serde_qs::{ArrayFormat, Config, DuplicateKeyBehavior};
 
 /// What the program does.
@@ -48,15 +51,21 @@ struct Settings {
 }
 
 impl Request {
-    /// What the words ask for: a command, and then options in any order, each at most once. None where they are anything else.
-    pub fn parse(words: &[String]) -> Option<Request>
-        ensures { result ≡ asked (map string_bytes words.now) }
+    /// What the words ask for: a command, and then options in any order, each at most once. Where they are anything else, what is
+    /// wrong with them.
+    pub fn parse(words: &[String]) -> Result<Request, Misuse<'_>>
+        ensures request { result_ok result ≡ asked (map string_bytes words.now) }
+        ensures misuse { IfErr result (λ misuse. IsMisuse (map string_bytes words.now) misuse) }
     {
         let [name, rest @ ..] = words else {
-            return None;
+            return Err(Misuse::NoCommand);
         };
-        let command = Command::named(name.as_str())?;
-        options(rest)?.configured(command)
+        let Some(command) = Command::named(name.as_str()) else {
+            return Err(Misuse::UnknownCommand(name.as_str()));
+        };
+        options(rest)?
+            .configured(command)
+            .ok_or(Misuse::DepthOfFlat)
     }
 }
 
@@ -162,26 +171,44 @@ impl Settings {
     }
 }
 
-/// The options that the words are, each given once at most.
-fn options(words: &[String]) -> Option<Settings>
-    ensures { result ≡ option_and_then (chosen unchosen) (choices_of (map string_bytes words.now)) }
+/// The options that the words are, each given once at most; or the first that is wrong.
+fn options(words: &[String]) -> Result<Settings, Misuse<'_>>
+    ensures settings { result_ok result ≡ option_and_then (chosen unchosen) (choices_of (map string_bytes words.now)) }
+    ensures misuse { IfErr result (λ misuse. IsWrongOption (map string_bytes words.now) misuse) }
 {
     let mut settings = Settings::new();
     let mut rest = words;
     while let [name, after @ ..] = rest {
-        let choice = if let Some(flag) = Choice::flag(name.as_str()) {
+        let name = name.as_str();
+        let choice = if let Some(flag) = Choice::flag(name) {
             rest = after;
             flag
         } else {
+            if !takes_value(name) {
+                return Err(Misuse::UnknownOption(name));
+            }
             let [value, after @ ..] = after else {
-                return None;
+                return Err(Misuse::Value(name));
+            };
+            let Some(choice) = Choice::valued(name, value.as_str()) else {
+                return Err(Misuse::Value(name));
             };
             rest = after;
-            Choice::valued(name.as_str(), value.as_str())?
+            choice
         };
-        settings = settings.choose(choice)?;
+        let Some(chosen) = settings.choose(choice) else {
+            return Err(Misuse::Twice(name));
+        };
+        settings = chosen;
     }
-    Some(settings)
+    Ok(settings)
+}
+
+/// Whether a value follows the option of this name.
+fn takes_value(name: &str) -> bool
+    ensures { result ≡ takes_value name.now }
+{
+    matches!(name, "--depth" | "--format" | "--duplicates")
 }
 
 /// The number that the text writes: digits, with or without `+` in front, of at most 64 bits.

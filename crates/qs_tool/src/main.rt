@@ -3,6 +3,8 @@
 
 mod answer;
 mod arguments;
+mod information;
+mod misuse;
 mod printing;
 mod program;
 mod shapes;
@@ -11,6 +13,9 @@ mod streams;
 #[cfg(test)]
 mod tests;
 
+use crate::arguments::Request;
+use crate::information::Information;
+use crate::program::{finish, run};
 use std::alloc::AllocError;
 use std::process::ExitCode;
 use std::{env, io};
@@ -28,7 +33,15 @@ fn main(rt: HostRuntime) -> ExitCode {
     let Ok(words) = words(&rt) else {
         return ExitCode::from(3);
     };
-    let mut reader = rt.reader();
+    let words = words.as_slice();
     let mut writer = io::writer(&rt);
-    ExitCode::from(program::run(rt.alloc(), words.as_slice(), &mut reader, &mut writer))
+    if let Some(information) = Information::asked(words) {
+        return ExitCode::from(finish(&mut writer, information.text().as_bytes(), 0));
+    }
+    let mut reader = rt.reader();
+    let status = run(rt.alloc(), words, &mut reader, &mut writer);
+    if let Err(misuse) = Request::parse(words) {
+        let _ = eprintln!(rt; "qs_tool: {misuse}");
+    }
+    ExitCode::from(status)
 }

@@ -42,7 +42,7 @@ pub fn run<R: Read, W: Write>(alloc: Global, args: &[String], reader: &mut R, wr
         (line : List ℕ) × (n : ℕ) × IsBegun (map string_bytes args.now) input (R.remaining reader.new) line n
         × Appends (W.contents writer.old) (W.contents writer.new) (take n line)) }
 {
-    let Some(request) = Request::parse(args) else {
+    let Ok(request) = Request::parse(args) else {
         return finish(writer, USAGE.as_bytes(), 2);
     };
     match respond(alloc, request, reader) {
@@ -53,7 +53,7 @@ pub fn run<R: Read, W: Write>(alloc: Global, args: &[String], reader: &mut R, wr
 }
 
 /// Writes the line, and answers the status, or 3 where the line was not taken whole.
-fn finish<W: Write>(writer: &mut W, line: &[u8], status: u8) -> u8
+pub fn finish<W: Write>(writer: &mut W, line: &[u8], status: u8) -> u8
     ensures done { result ≢ 3 → (result ≡ status) × Appends (W.contents writer.old) (W.contents writer.new) line.now }
     ensures cut { status ≢ 3 → result ≡ 3 → (n : ℕ) × (n < length line.now) × Appends (W.contents writer.old) (W.contents writer.new) (take n line.now) }
     ensures part { (n : ℕ) × Appends (W.contents writer.old) (W.contents writer.new) (take n line.now) }

@@ -1,5 +1,7 @@
 //! Arguments that are right, and wrong ones.
-use super::expect;
+use super::{expect, words};
+use crate::arguments::Request;
+use crate::information::Information;
 use std::test::Fail;
 
 const PERSON: &str = "name=a&age=1&occupation=b";
@@ -24,32 +26,64 @@ fn right(rt: HostRuntime) -> Result<(), Fail> {
 
 #[test]
 fn wrong(rt: HostRuntime) -> Result<(), Fail> {
+    let number = "'--depth' takes a number from 0 to 18446744073709551615";
     let rows = [
-        "",
-        "round",
-        "FLAT",
-        "--form flat",
-        "flat flat",
-        "any params",
-        "flat --depth 1",
-        "flat --depth 0",
-        "flat --strict --strict",
-        "flat --form --form",
-        "flat --format",
-        "flat --format Indexed",
-        "params --format empty --format empty",
-        "flat --duplicates none",
-        "any --duplicates",
-        "any --depth",
-        "any --depth -0",
-        "any --depth ",
-        "any --depth --form",
-        "params --depth 1 --depth 1",
-        "any --depth 18446744073709551616",
+        ("", "unknown command ''"),
+        ("round", "unknown command 'round'"),
+        ("FLAT", "unknown command 'FLAT'"),
+        ("--form flat", "unknown command '--form'"),
+        ("--help flat", "unknown command '--help'"),
+        ("flat flat", "unknown option 'flat'"),
+        ("flat --strict --strict", "'--strict' is given twice"),
+        ("flat --depth 1", "'flat' takes no '--depth'"),
+        ("flat --form --form", "'--form' is given twice"),
+        ("params --depth 1 --depth 1", "'--depth' is given twice"),
+        (
+            "flat --format",
+            "'--format' takes 'indexed', 'empty' or 'unindexed'",
+        ),
+        (
+            "flat --format Indexed",
+            "'--format' takes 'indexed', 'empty' or 'unindexed'",
+        ),
+        (
+            "any --duplicates none",
+            "'--duplicates' takes 'last' or 'error'",
+        ),
+        ("any --depth", number),
+        ("any --depth -0", number),
+        ("any --depth ", number),
+        ("any --depth --form", number),
+        ("any --depth 18446744073709551616", number),
+        ("flat --depth 1 --no --form --form", "unknown option '--no'"),
     ];
-    for arguments in rows {
+    for (arguments, said) in rows {
         let row = format!(in rt.alloc(); "{arguments} | {PERSON} | {USAGE}")?;
         expect(&rt, rt.alloc(), 2, &[row.as_str()])?;
+        let words = words(rt.alloc(), arguments)?;
+        let misuse = match Request::parse(words.as_slice()) {
+            Ok(_) => String::new(rt.alloc()),
+            Err(misuse) => format!(in rt.alloc(); "{misuse}")?,
+        };
+        assert_eq!(rt; misuse.as_str(), said, "{arguments}");
     }
+    Ok(())
+}
+
+#[test]
+fn alone(rt: HostRuntime) -> Result<(), Fail> {
+    let rows = [
+        ("--help", Some(Information::Help)),
+        ("--version", Some(Information::Version)),
+        ("--help --version", None),
+        ("any --help", None),
+        ("", None),
+    ];
+    for (arguments, wanted) in rows {
+        let words = words(rt.alloc(), arguments)?;
+        let information = Information::asked(words.as_slice());
+        assert_eq!(rt; information, wanted, "{arguments}");
+    }
+    assert_eq!(rt; Information::Version.text(), "qs_tool 1.1.3\n");
     Ok(())
 }

@@ -1,6 +1,6 @@
 #!/usr/bin/env bash
 # Holds the definitions of qs_spec against the answered cases: each is an equation that the prover accepts by computing both
-# sides. One case of each table is also put wrongly, and has to be refused.
+# sides. One case of each table is also put wrongly, and has to be rejected.
 set -u
 root=$(cd "$(dirname "${BASH_SOURCE[0]}")/.." && pwd) || exit 1
 room=$(mktemp -d) || exit 1
@@ -28,7 +28,7 @@ proves() {
     (cd "$room/crates/answered" && rt check) >"$room/said" 2>&1 </dev/null
 }
 
-for kind in trees program strict; do
+for kind in trees program strict reads writes; do
     if proves "$kind"; then
         passed=$((passed + $(grep -c '= refl' "$room/crates/answered/proofs/Cases.antt")))
     else
@@ -38,7 +38,7 @@ for kind in trees program strict; do
     fi
     if proves "$kind" wrong || ! grep -q 'case_0' "$room/said"; then
         failed=$((failed + 1))
-        printf '  FAILED: a wrong case of %s.tsv was not refused\n' "$kind"
+        printf '  FAILED: a wrong case of %s.tsv was not rejected\n' "$kind"
     else
         passed=$((passed + 1))
     fi

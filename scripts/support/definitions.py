@@ -1,29 +1,32 @@
 """Writes the answered cases as equations over the definitions of qs_spec, each to be proved by computing both sides.
 
-usage: definitions.py program|strict|trees TABLE [wrong]     with `wrong` the first case has another answer, which is to be refused
+usage: definitions.py program|strict|trees|reads|writes TABLE [wrong]     with `wrong` one case alone, with another answer, which is to be rejected
 """
 
 import sys
 
-HEAD = {
-    "trees": """\
+from notation import bytes_term, chain, data_term, flag, shape_term
+
+TREES = """\
 use Rattle.std.specs.Prelude.{◌≡◌, Bool, true, false, [], ◌∷◌, Some, None, refl}
 use Rattle.qs_spec.specs.Tree.{leaf, sequence, mapping, uninitialized, no_items, item, no_entries, entry}
 use Rattle.qs_spec.specs.Leaf.Leaf.{NoValue, Null, Text}
 use Rattle.qs_spec.specs.Segment.Segment.{Int, Str}
 use Rattle.qs_spec.proofs.TreeOf.{tree_of}
-""",
-    "program": """\
-use Rattle.std.specs.Prelude.{◌≡◌, ℕ, Bool, true, false, List, [], ◌∷◌, codes, Option, Some, None, option_and_then, refl, ⊤}
+"""
+
+COMPUTING = """\
+use Rattle.std.specs.Prelude.{◌≡◌, ℕ, pos, neg_ℤ, Bool, true, false, List, [], ◌∷◌, codes, Option, Some, None, option_and_then, refl, ⊤}
 use Rattle.std.specs.Str.{is_utf8, chars}
-use Rattle.std.specs.Fmt.{digits}
+use Rattle.std.specs.Fmt.{digits, signed_decimal}
+use Rattle.std.specs.Char.{encode_utf8}
 use lib.Utf8.{encode}
 use Rattle.qs_spec.specs.Config.{ArrayFormat, indexed, empty_indexed, unindexed}
-use Rattle.qs_spec.specs.Data.{Data, no_values, one_value, no_pairs, one_pair}
-use Rattle.qs_spec.specs.Shape.{Shape, UnknownKeys, no_fields, one_field}
+use Rattle.qs_spec.specs.Data.{Data, no_values, one_value, no_pairs, one_pair, no_members, one_member}
+use Rattle.qs_spec.specs.Shape.{Shape, KeyShape, UnknownKeys, no_shapes, one_shape, no_fields, one_field, no_variants, one_variant, unit_kind, newtype_kind, tuple_kind, struct_kind}
 use Rattle.qs_spec.specs.Shape.UnknownKeys.{ignored, rejected}
 use Rattle.qs_spec.specs.Read.{read_list, struct_members, read_map, read_enum, any_data, any_items, any_places, any_pairs, reads, reads_tuple, reads_names, reads_places, reads_variant, reads_kind}
-use Rattle.qs_spec.specs.Entry.{deeper, entries_at, elements_from, pair_entries, member_entries, Output, Refusal}
+use Rattle.qs_spec.specs.Entry.{deeper, entries_at, elements_from, pair_entries, member_entries, Output, Refusal, too_deep, bad_key}
 use Rattle.qs_spec.specs.Written.{path_text, entry_text, written}
 use Rattle.qs_spec.proofs.TreeOf.{tree_of}
 
@@ -45,6 +48,12 @@ text_of form output = text_unless output.refusal (written form false output.entr
 abbrev rewritten : Bool → ℕ → Bool → Shape → ArrayFormat → List ℕ → Option (List ℕ)
 rewritten form depth reject_duplicates shape format bytes = option_and_then (λ d. text_of form (entries_at depth format d [])) (read form depth reject_duplicates shape bytes)
 
+-- the first error, and the text of the entries before it
+abbrev outcome : Bool → ℕ → ArrayFormat → Data → Option Refusal × List ℕ
+outcome form depth format d = ((entries_at depth format d []).refusal, written form false (entries_at depth format d []).entries)
+"""
+
+SHAPES = """
 abbrev flat : UnknownKeys → Shape
 flat unknown = Shape.struct unknown (one_field (codes "name") Shape.text false (one_field (codes "age") (Shape.unsigned 8) false (one_field (codes "occupation") Shape.text false (one_field (codes "active") Shape.boolean true (one_field (codes "note") (Shape.option Shape.text) false no_fields)))))
 
@@ -53,26 +62,11 @@ address unknown = Shape.struct unknown (one_field (codes "city") Shape.text fals
 
 abbrev params : UnknownKeys → Shape
 params unknown = Shape.struct unknown (one_field (codes "id") (Shape.unsigned 8) false (one_field (codes "name") Shape.text false (one_field (codes "phone") (Shape.unsigned 32) false (one_field (codes "address") (address unknown) false (one_field (codes "user_ids") (Shape.sequence (Shape.unsigned 8)) false no_fields)))))
-""",
-}
+"""
+
+HEADS = {"trees": TREES, "program": COMPUTING + SHAPES, "strict": COMPUTING + SHAPES, "reads": COMPUTING, "writes": COMPUTING}
 
 FORMATS = {"indexed": "indexed", "empty": "empty_indexed", "unindexed": "unindexed"}
-
-
-def bytes_term(data):
-    return "(" + " ∷ ".join([str(byte) for byte in data] + ["[]"]) + ")"
-
-
-def flag(value):
-    return "true" if value else "false"
-
-
-def chain(one, none, parts):
-    """A list of a family of its own: its constructors, applied."""
-    term = none
-    for part in reversed(parts):
-        term = f"({one} {part} {term})"
-    return term
 
 
 class Reader:
@@ -175,22 +169,45 @@ def program_case(fields):
     return f"rewritten {form} {depth} {reject_duplicates} ({command} {unknown}) {places} {bytes_term(given)} ≡ {answer}"
 
 
+def read_case(fields):
+    mode, depth, duplicates, shape, given, answer = fields
+    answer = "None" if answer == "none" else f"Some {data_term(answer)}"
+    return f"read {flag(mode == 'form')} {depth} {flag(duplicates == 'error')} {shape_term(shape)} {bytes_term(bytes.fromhex(given))} ≡ {answer}"
+
+
+def write_case(fields):
+    mode, depth, places, data, outcome, text = fields
+    refusal = "None" if outcome == "ok" else f"Some {outcome}"
+    return f"outcome {flag(mode == 'form')} {depth} {FORMATS[places]} {data_term(data)} ≡ ({refusal}, {bytes_term(bytes.fromhex(text))})"
+
+
+CASES = {"trees": tree_case, "program": program_case, "strict": program_case, "reads": read_case, "writes": write_case}
+
+
+def wrong_row(kind, rows):
+    """A row whose answer is not the one that is wanted."""
+    if kind == "trees":
+        return ["0", "0", "", "refused", ""]
+    if kind in ("program", "strict"):
+        accepted = next(row for row in rows if row[2] == "0")
+        return [*accepted[:2], "1", accepted[3]]
+    if kind == "reads":
+        return [*next(row for row in rows if row[5] != "none")[:5], "none"]
+    return [*next(row for row in rows if row[4] == "ok")[:5], "26"]
+
+
 def main():
     kind, table = sys.argv[1:3]
-    if kind == "strict":  # a table of the program
-        kind = "program"
     with open(table, encoding="ascii") as lines:
         rows = [line.rstrip("\n").split("\t") for line in lines]
-    if kind == "program":
+    if kind in ("program", "strict"):
         rows = [row for row in rows if row[2] in ("0", "1")]
     if "wrong" in sys.argv:
-        accepted = next(row for row in rows if row[3] == "ok" or row[2] == "0")
-        rows = [["0", "0", "", "refused", ""] if kind == "trees" else [*accepted[:2], "1", accepted[3]]]
-    case = {"trees": tree_case, "program": program_case}[kind]
-    unfolding = "unfolding all_of_it\n" if kind == "program" else ""
-    print(HEAD[kind])
+        rows = [wrong_row(kind, rows)]
+    unfolding = "" if kind == "trees" else "unfolding all_of_it\n"
+    print(HEADS[kind])
     for number, row in enumerate(rows):
-        print(f"case_{number} : {case(row)}\n{unfolding}case_{number} = refl\n")
+        print(f"case_{number} : {CASES[kind](row)}\n{unfolding}case_{number} = refl\n")
 
 
 main()

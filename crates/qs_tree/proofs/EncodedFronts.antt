@@ -17,7 +17,7 @@ escape_is b small =
     let same : b / 16 % 16 ≡ b / 16 = omega arith in
     ap (λ high. 37 ∷ digit_glyph true high ∷ digit_glyph true (b % 16) ∷ []) same
 
-spelling_escape : (form : Bool) (b : ℕ) → is_escaped form b ≡ true → spelling form b ≡ escape b
+pub spelling_escape : (form : Bool) (b : ℕ) → is_escaped form b ≡ true → spelling form b ≡ escape b
 spelling_escape true b is = cond-false _ _ _ (not-true _ is)
 spelling_escape false b is =
     let neither = or_both (is_kept_in_query b) (b == 32) (not-true _ is) in
@@ -27,7 +27,7 @@ one_of : (x y : Bool) → (x || y) ≡ true → y ≡ false → x ≡ true
 one_of true y some none = refl
 one_of false y some none = absurd (cc)
 
-spelling_plain : (form : Bool) (b : ℕ) → is_escaped form b ≡ false → spelling form b ≡ swapped 32 43 b ∷ []
+pub spelling_plain : (form : Bool) (b : ℕ) → is_escaped form b ≡ false → spelling form b ≡ swapped 32 43 b ∷ []
 spelling_plain true b is =
     elim (cases_Bool (b == 32)) [
       | inl space ↦ let escaped : is_escaped true b ≡ true = ap (is_escaped true) (eqb-true b 32 space) in absurd (cc)

@@ -1,19 +1,21 @@
 //! Bytes as a querystring writes them.
 
 ghost use Rattle.std.specs.Prelude.{◌≡◌, ◌+◌, ◌<◌, ◌≤◌, ◌++◌, length, OnOk, OnErr, min, take, drop};
-ghost use Rattle.qs_spec.specs.Escape.{encoded, decoded};
+ghost use Rattle.qs_spec.specs.Escape.{encoded, decoded, spelling};
 ghost use Rattle.qs_tree.specs.Error.{OnlyOutOfMemory};
 
 use crate::copying::{copy_run, put};
 use crate::error::Result;
-use crate::search::{Class, Escaped, count};
+use crate::search::{Class, Escaped, LANES, count};
 use percent_encoding::percent_encode_byte;
+use std::alloc::AllocError;
 
 /// Appends the bytes as form mode (`form`), or query mode, writes them: some as they are, a space as `+` in
 /// query mode, and the rest as `%` and two upper case hexadecimal digits.
 ///
 /// It makes its growth first. Where that is refused the answer is `OutOfMemory` and `out` stays as it was;
-/// there is no other error. It goes over the bytes twice, 32 at once where no escape is written.
+/// there is no other error. It goes over the bytes twice, 32 at once where no escape is written; over fewer
+/// than 32 bytes once.
 ///
 /// ```
 /// encode(b"100% a+b", false, &mut out)?; // appends `100%25+a%2Bb`
@@ -25,10 +27,45 @@ pub fn encode(bytes: &[u8], form: bool, out: &mut Vec<u8>) -> Result<()>
     ensures errors { OnlyOutOfMemory result }
     ensures back { decoded (encoded form bytes.now) ≡ bytes.now }
 {
+    if bytes.len() < LANES {
+        return Ok(append_short(bytes, form, out)?);
+    }
     let begin = out.len();
     out.resize(begin.saturating_add(encoded_len(bytes, form)), 0)?;
     fill(bytes, form, out, begin);
     Ok(())
+}
+
+/// The same for fewer bytes than 32 lanes take.
+fn append_short(bytes: &[u8], form: bool, out: &mut Vec<u8>) -> Result<(), AllocError>
+    requires { length bytes.now < LANES }
+    ensures ok { OnOk result (out.new.items ≡ out.old.items ++ encoded form bytes.now) }
+    ensures err { OnErr result (out.new.items ≡ out.old.items) }
+{
+    let mut room = [0; 3 * LANES];
+    let mut rest = bytes;
+    let mut at = 0;
+    while let [byte, tail @ ..] = rest {
+        at += put_byte(*byte, form, &mut room, at);
+        rest = tail;
+    }
+    out.extend_from_slice(&room[..at])
+}
+
+/// Writes one byte to `room` from `at` on, encoded. Returns how many it wrote.
+#[inline(always)]
+fn put_byte(byte: u8, form: bool, room: &mut [u8], at: usize) -> usize
+    requires { at + 3 ≤ length room.old }
+    ensures few { result ≤ 3 }
+    ensures text { take (at + result) room.new ≡ take at room.old ++ spelling form byte }
+{
+    let escaped = Escaped { form };
+    if escaped.has(byte) {
+        put(percent_encode_byte(byte).as_bytes(), room, at);
+        return 3;
+    }
+    room[at] = if byte == b' ' { b'+' } else { byte };
+    1
 }
 
 /// How many bytes `encode` appends, or the greatest size where they are more.

@@ -7,3 +7,9 @@ returns-in_err-resize-clause-back c = decoded-encoded c.args.form c.args.bytes.n
 
 pub returns-clause-back : goal.returns-clause-back
 returns-clause-back c = decoded-encoded c.args.form c.args.bytes.now (all_bytes _ c.type_inv.bytes)
+
+pub returns-in_err-append_short-clause-back : goal.returns-in_err-append_short-clause-back
+returns-in_err-append_short-clause-back c = decoded-encoded c.args.form c.args.bytes.now (all_bytes _ c.type_inv.bytes)
+
+pub returns-then-bytes-lt-LANES-clause-back : goal.returns-then-bytes-lt-LANES-clause-back
+returns-then-bytes-lt-LANES-clause-back c = decoded-encoded c.args.form c.args.bytes.now (all_bytes _ c.type_inv.bytes)

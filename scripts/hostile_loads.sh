@@ -5,36 +5,32 @@ source "$(dirname "${BASH_SOURCE[0]}")/support/loads.sh"
 
 # So many brackets would overflow a stack of 8 MiB many times over if a call were made for each.
 deepest=100000
-# A short pair takes more memory as a node than as bytes.
-room_of_pairs=12
-# So does a bracket, as a map of its own.
-room_of_maps=10
 
 for count in 100000 300000; do
     numbers $count 'in order' | sed "s/.*/'k&':'v'/" | joined , | between { } >"$room/wanted"
     for order in 'in order' reversed shuffled; do
         numbers $count "$order" | sed 's/.*/k&=v/' | joined '&' >"$room/input"
-        load "$count keys, $order" 0 $room_of_pairs any
+        load "$count keys, $order" 0 pairs any
     done
 done
 
 numbers 100000 'in order' | sed "s/.*/'k&':'v'/" | joined , | between "{'m':{" '}}' >"$room/wanted"
 for order in 'in order' reversed shuffled; do
     numbers 100000 "$order" | sed 's/.*/m[k&]=v/' | joined '&' >"$room/input"
-    load "a map of 100000 keys, $order" 0 $room_of_pairs any
+    load "a map of 100000 keys, $order" 0 pairs any
 done
 
 numbers 100000 'in order' | sed "s/.*/'v&'/" | joined , | between "{'a':[" ']}' >"$room/wanted"
 for order in 'in order' reversed shuffled; do
     numbers 100000 "$order" | awk '{ printf "a[%d]=v%s\n", $1, $1 }' | joined '&' >"$room/input"
-    load "a list of 100000, $order" 0 $room_of_pairs any
+    load "a list of 100000, $order" 0 pairs any
 done
 
 times 100000 "'v'," | sed 's/,$//' | between "{'a':[" ']}' >"$room/wanted"
 times 100000 'a[]=v&' >"$room/input"
-load '100000 pushes' 0 $room_of_pairs any
+load '100000 pushes' 0 pairs any
 times 100000 'a=v&' >"$room/input"
-load '100000 values of one key' 0 $room_of_pairs any
+load '100000 values of one key' 0 pairs any
 
 conflict='invalid input: the same key is used for both a value and a nested map'
 times 100000 'a=1&a[b]=2&' >"$room/input"
@@ -43,6 +39,9 @@ rejected '100000 conflicts' 7 "$conflict"
 rejected 'a conflict at the front of 10 MB' 7 "$conflict"
 
 million=1000000
+times $((9 * million)) v | between "{'a':'" "'}" >"$room/wanted"
+{ printf 'a='; times $((9 * million)) v; } >"$room/input"
+tree 'a value of 9 MB'
 unclosed='unexpected end of input while parsing nested key'
 times $million '[' >"$room/input"
 rejected 'opening brackets' $((million + 1)) "$unclosed"
@@ -51,7 +50,7 @@ rejected 'escaped opening brackets, form mode' $((3 * million + 1)) "$unclosed" 
 
 # A key that is never closed runs over the separators that follow, up to the end.
 for text in letters + %41; do
-    for bytes in $million $((16 * million)); do
+    for bytes in $million $((4 * million)) $((16 * million)); do
         { printf 'x=1'; times $((bytes / (3 + ${#text}))) "&a[$text"; } >"$room/input"
         end=$(($(wc -c <"$room/input") + 1))
         rejected "$bytes bytes of unclosed keys with $text" $end "$unclosed"
@@ -77,7 +76,7 @@ tree 'equals signs'
 
 times $million '&' >"$room/input"
 echo 'error: internal error: attempted to deserialize unitialised value' >"$room/wanted"
-load 'ampersands' 1 $room_of_texts any
+load 'ampersands' 1 texts any
 
 # nested_text COUNT VALUE: a pair whose key has so many brackets.
 nested_text() {
@@ -88,18 +87,18 @@ nested_text() {
 
 nested_text $deepest 1 >"$room/input"
 { printf "{'a':"; times $deepest "{'b':"; printf "'1'"; times $((deepest + 1)) '}'; echo; } >"$room/wanted"
-load "$deepest brackets" 0 $room_of_maps any --depth $deepest
+load "$deepest brackets" 0 maps any --depth $deepest
 
 { nested_text $deepest 1; printf '&a[c]=%%FF'; } >"$room/input"
 echo 'error: invalid utf-8 sequence of 1 bytes from index 0' >"$room/wanted"
-load "$deepest brackets beside a value that isn't UTF-8" 1 $room_of_maps any --depth $deepest
+load "$deepest brackets beside a value that isn't UTF-8" 1 maps any --depth $deepest
 
 { nested_text $deepest 1; printf '&'; nested_text $deepest 2; } >"$room/input"
 { printf "{'a':"; times $deepest "{'b':"; printf "['1','2']"; times $((deepest + 1)) '}'; echo; } >"$room/wanted"
-load "$deepest brackets, twice" 0 $room_of_maps any --depth $deepest
+load "$deepest brackets, twice" 0 maps any --depth $deepest
 
 { nested_text $deepest 1; printf '&a[]=2'; } >"$room/input"
-room_of_texts=$room_of_maps rejected "$deepest brackets and a conflict" $((3 * deepest + 7)) \
+parts=maps rejected "$deepest brackets and a conflict" $((3 * deepest + 7)) \
     'invalid input: the key `a` appears in the input as both a sequence and a map (with keys "b")' --depth $deepest
 
 nested_text $million 1 >"$room/input"

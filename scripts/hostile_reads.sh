@@ -4,8 +4,6 @@
 source "$(dirname "${BASH_SOURCE[0]}")/support/loads.sh"
 
 count=300000
-# An element takes more memory as a node and as a number than as bytes.
-room_of_pairs=12
 others='id=1&name=a&phone=2&address[city]=c&address[street]=s&address[postcode]=p'
 
 # The entries on standard input, after those of the other fields, are the input.
@@ -15,7 +13,7 @@ entries() {
 
 # reads NAME: they are read as the line $room/wanted.
 reads() {
-    load "$1" 0 $room_of_pairs params
+    load "$1" 0 pairs params
 }
 
 numbers $count 'in order' | awk '{ printf "user_ids[%d]=%d\n", $1, $1 % 200 }' | joined '&' | between "$others&" '' >"$room/wanted"
@@ -40,6 +38,10 @@ numbers $count shuffled | sed "s/.*/$(times 40 n)&=v/; \$a user_ids=7" | entries
 reads "$count unknown keys with one front"
 numbers $count shuffled | sed 's/.*/%6bey&=v/; $a user_ids=7' | entries
 reads "$count unknown keys, each with an escape"
+numbers $count shuffled | sed 's/./%3&/g; s/.*/%6b%65%79&=v/; $a user_ids=7' | entries
+reads "$count unknown keys, each of escapes alone"
+numbers $count shuffled | sed '1s/^/%6b/; s/.*/key&=v/; $a user_ids=7' | entries
+reads "$count unknown keys, one with an escape"
 
 sed -i "s/name=a/name=b$count/" "$room/wanted"
 seq 1 $count | sed 's/.*/name=b&/; $a user_ids=7' | entries

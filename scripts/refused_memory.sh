@@ -58,6 +58,42 @@ refuse_each "user_ids=7&user_ids=8&phone=12345&name=A%63me&$address&id=42" 0 \
 refuse_each 'id=1&name=a&phone=2&address=c&address=s&address=p&user_ids=7' 1 'error: Maximum serialization depth `0` exceeded' params --depth 0
 refuse_each 'a[b]=1&a[c][]=2&d&a[c][]=%20&%5B=%5B' 0 "{'%5B':'%5B','a':{'b':'1','c':['2','%20']},'d':()}" any
 refuse_each 'a[0]=x&a[2]=y' 1 'error: missing index, expected: 1 got 2' any
+refuse_each 'age=1&age=2&name=a&occupation=b&note=' 0 'name=a&age=2&occupation=b&note=' flat
+refuse_each 'age=1&age=2&name=a&occupation=b&note=' 1 'error: multiple values provided for non-sequence field' flat --duplicates error
+
+# fails INPUT POSITION MESSAGE OPTION..: the input has no tree.
+fails() {
+    local input=$1 position=$2 message=$3
+    shift 3
+    refuse_each "$input" 1 "error: parsing failed with error: '$message' at position: $position" any "$@"
+}
+
+value_and_map='invalid input: the same key is used for both a value and a nested map'
+value_and_sequence='invalid input: the same key is used for both a value and a sequence'
+unclosed='unexpected end of input while parsing nested key'
+refuse_each 'a[b][c][d][e][f][g][h]=i' 0 "{'a':{'b':{'c':{'d':{'e':{'f':{'%5Bg%5D%5Bh%5D':'i'}}}}}}}" any
+refuse_each 'a[b][=1' 0 "{'a':{'b':{'%5B%3D1':()}}}" any --depth 1
+refuse_each 'a[b&c]=1' 0 "{'a':{'b%26c':'1'}}" any
+refuse_each 'a[b]=1&a=2' 0 "{'a':{'':'2','b':'1'}}" any
+fails 'a=2&a[b]=1' 7 "$value_and_map"
+refuse_each 'a=1&a=2&a[]=3' 0 "{'a':['1','2','3']}" any
+fails 'a=1&a[]=2' 7 "$value_and_sequence"
+fails 'abc&abc[]=1' 9 "$value_and_sequence"
+fails 'vec[[]=1&vec[]=2' 14 'invalid input: the key `vec` appears in the input as both a sequence and a map (with keys "[")'
+refuse_each '1=a&%31=b' 0 "{'1':'a','1':'b'}" any
+refuse_each '' 0 '()' any
+refuse_each '&&&' 1 'error: internal error: attempted to deserialize unitialised value' any
+fails 'a[' 3 'query string ended before expected'
+fails 'a[b' 4 "$unclosed"
+refuse_each 'abc%5Bdef%5D=ghi' 0 "{'abc':{'def':'ghi'}}" any --form
+refuse_each 'abc%5bdef%5d=ghi' 0 "{'abc%5Bdef%5D':'ghi'}" any --form
+refuse_each '=foo' 0 "'foo'" any
+refuse_each '0=a' 0 "['a']" any
+refuse_each 'a' 0 "{'a':()}" any
+refuse_each 'a=' 0 "{'a':''}" any
+refuse_each '01=x' 1 'error: missing index, expected: 0 got 1' any
+fails '=1&a=2' 7 "$value_and_map"
+refuse_each 'a[4294967296]=p&a[4294967295]=q' 0 "{'a':{'4294967295':'q','4294967296':'p'}}" any
 refuse_each '' 2 'usage: qs_tool flat|params|any [--form] [--strict] [--depth N] [--format indexed|empty|unindexed] [--duplicates last|error]' round
 
 report

@@ -78,7 +78,7 @@ status=${PIPESTATUS[1]}
 expect 'params, an input that comes in pieces' 0 "$order"$'\n'
 
 # more than one read, at and beside the length of one
-for length in 8191 8192 8193 100000; do
+for length in 8191 8192 8193 100000 9000000; do
     long=$(printf '%*s' "$length" '' | tr ' ' x)
     printf 'name=%s&age=1&occupation=b' "$long" | "$program" flat >"$room/output"
     status=${PIPESTATUS[1]}

@@ -2,15 +2,22 @@
 #![tactic(auto)]
 
 mod account;
+mod address;
 mod age;
 mod calls;
 mod chart;
+mod client;
 mod filter;
 mod guard;
+mod leaves;
+mod link;
+mod order;
 mod pair;
 mod payment;
 mod price;
+mod products;
 mod query;
+mod range;
 mod search;
 mod sort;
 #[cfg(test)]
@@ -19,15 +26,22 @@ mod values;
 mod wrappers;
 
 pub use account::Account;
+pub use address::Address;
 pub use age::Age;
 pub use calls::{asked, rewritten, sorted};
 pub use chart::Chart;
+pub use client::{exchanged, served, target};
 pub use filter::Filter;
 pub use guard::{Rejected, guarded};
+pub use leaves::leaves;
+pub use link::Link;
+pub use order::{Order, ordered};
 pub use pair::Pair;
 pub use payment::{Method, Payment};
 pub use price::Price;
+pub use products::{Products, next_page};
 pub use query::Query;
+pub use range::Range;
 pub use search::Search;
 pub use sort::Sort;
 pub use values::Values;

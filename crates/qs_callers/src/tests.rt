@@ -3,6 +3,7 @@
 mod fields;
 mod guard;
 mod helpers;
+mod pages;
 mod reading;
 mod round_trips;
 mod strict;

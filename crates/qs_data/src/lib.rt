@@ -7,6 +7,7 @@ mod deserializer;
 mod discard;
 mod distinct;
 mod fits;
+mod listed;
 mod plain;
 mod read;
 mod sameness;

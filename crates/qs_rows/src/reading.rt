@@ -1,6 +1,7 @@
 //! Small inputs read by small shapes.
 
 mod any;
+mod broken;
 mod enums;
 mod faults;
 mod lists;

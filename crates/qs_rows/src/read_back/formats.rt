@@ -92,3 +92,41 @@ fn one_empty_text(rt: HostRuntime) {
     writes(b, config(ArrayFormat::EmptyIndexed), &data, "a[]=");
     t.reads("a[]=", &shape, data);
 }
+
+/// Whether the lists come back with empty brackets, and without brackets.
+#[test]
+fn premises(rt: HostRuntime) {
+    let t = Rows::new(&rt, rt.alloc());
+    let b = &t.build;
+    let list = |item| b.list([item]);
+    let rows = [
+        (lists(b), true, true),
+        (b.text(""), true, true),
+        (b.list([]), false, false),
+        (b.some(b.items([])), false, false),
+        (b.one("a", b.list([])), true, true),
+        (b.one("a", b.some(b.wrapped(b.list([])))), true, true),
+        (b.one("a", list(b.text(""))), true, false),
+        (b.one("a", list(b.bytes(b""))), true, false),
+        (b.one("a", b.list([b.text(""), b.text("")])), true, true),
+        (b.one("a", list(Data::Unit)), false, false),
+        (b.one("a", list(b.list([]))), false, false),
+        (
+            b.one("a", b.items([b.some(Data::Bool(true))])),
+            false,
+            false,
+        ),
+        (b.one("a", list(b.one("b", Data::Char('c')))), false, false),
+        (b.holding("v", list(b.bare("u"))), true, true),
+        (b.holding_items("v", [Data::Unsigned(1)]), true, true),
+        (b.holding_items("v", [b.text("")]), true, false),
+        (b.pairs([(b.text("k"), list(Data::None))]), false, false),
+    ];
+    for (data, brackets, nothing) in rows {
+        assert!(&rt; data.is_listed(config(ArrayFormat::Indexed)), "{data:?}");
+        let empty = data.is_listed(config(ArrayFormat::EmptyIndexed));
+        assert_eq!(&rt; empty, brackets, "{data:?}");
+        let unindexed = data.is_listed(config(ArrayFormat::Unindexed));
+        assert_eq!(&rt; unindexed, nothing, "{data:?}");
+    }
+}

@@ -43,9 +43,9 @@ pub both_true : {a b : Bool} → a ≡ true → b ≡ true → (a && b) ≡ true
 both_true {a} {b} p q = ap (λ x. x && b) p ∙ q
 
 -- then the struct of the fields is distinct, where each of them is
-pub differ : {u : UnknownKeys} (names : List (List ℕ)) (count : ℕ) (fields : List Field) → are_names names count fields ≡ true → are_distinct_fields (fields_of fields) ≡ true
+pub differ : (u : UnknownKeys) (names : List (List ℕ)) (count : ℕ) (fields : List Field) → are_names names count fields ≡ true → are_distinct_fields (fields_of fields) ≡ true
     → is_distinct (Shape.struct u (fields_of fields)) ≡ true
-differ names count fields h parts = both_true (both_hold (length names == count) (field_names_differ (fields_of fields)) h).1 parts
+differ u names count fields h parts = both_true (both_hold (length names == count) (field_names_differ (fields_of fields)) h).1 parts
 
 abbrev pub nothing_in : Members → Option (Unit {0})
 nothing_in no_members = Some tt

@@ -37,7 +37,7 @@ impl<F: Fields + Drop> Parts for StrictStruct<F> {
 
     ghost come_back = { λ names x e k h p. struct_back F.count F.form F.written F.meaning F.value F.come_back names x.0 e k h p };
 
-    ghost distinct = { λ names k. differ names F.count (F.form names) k (F.are_distinct names) };
+    ghost distinct = { λ names k. differ s.UnknownKeys.rejected names F.count (F.form names) k (F.are_distinct names) };
 
     fn shape(alloc: Global, names: &[&'static str]) -> Result<Shape> {
         let fields = F::push_fields(alloc, names, Vec::new(alloc))?;

@@ -7,7 +7,6 @@ mod deserializer;
 mod discard;
 mod distinct;
 mod fits;
-mod listed;
 mod plain;
 mod read;
 mod sameness;

@@ -67,6 +67,13 @@ impl Request {
             .configured(command)
             .ok_or(Misuse::DepthOfFlat)
     }
+
+    /// What the words ask for, where they ask for something.
+    pub fn from_words(words: &[String]) -> Option<Request>
+        ensures { result ≡ asked (map string_bytes words.now) }
+    {
+        Request::parse(words).ok()
+    }
 }
 
 impl Command {

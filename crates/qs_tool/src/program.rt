@@ -42,7 +42,7 @@ pub fn run<R: Read, W: Write>(alloc: Global, args: &[String], reader: &mut R, wr
         (line : List ℕ) × (n : ℕ) × IsBegun (map string_bytes args.now) input (R.remaining reader.new) line n
         × Appends (W.contents writer.old) (W.contents writer.new) (take n line)) }
 {
-    let Ok(request) = Request::parse(args) else {
+    let Some(request) = Request::from_words(args) else {
         return finish(writer, USAGE.as_bytes(), 2);
     };
     match respond(alloc, request, reader) {

@@ -1,5 +1,5 @@
 -- The configuration that a caller's settings are.
-use Rattle.std.specs.Prelude.{ℕ, Bool, true, false}
+use Rattle.std.specs.Prelude.{ℕ, ◌==◌, cond, Bool, true, false}
 use Rattle.qs_spec.specs.Config.{Config, ArrayFormat, indexed, empty_indexed, unindexed, Duplicates, take_last, refuse}
 use Rattle.qs_c.specs.declared.settings.Settings.{Settings}
 
@@ -7,10 +7,9 @@ use Rattle.qs_c.specs.declared.settings.Settings.{Settings}
 abbrev pub most_levels : ℕ
 most_levels = 100
 
+-- 0 and 1 are these, and each other number is the last
 abbrev pub format_of : ℕ → ArrayFormat
-format_of 0 = indexed
-format_of 1 = empty_indexed
-format_of _ = unindexed
+format_of n = cond (n == 0) indexed (cond (n == 1) empty_indexed unindexed)
 
 abbrev pub duplicates_of : Bool → Duplicates
 duplicates_of true = refuse

@@ -1,6 +1,10 @@
 -- The data that JSON is: a null is none, a number is its text, an object is a map with strings as keys.
 use Rattle.std.specs.Prelude.{◌≡◌, ℕ, List, Some}
+use Rattle.std.specs.Borrow.{Bor}
 use Rattle.json.specs.Json as j
+use Rattle.json.specs.Value.{value_view}
+use Rattle.json.specs.declared.value.Value.{Value}
+use Rattle.std.specs.declared.alloc.Global.{Global}
 use Rattle.qs_spec.specs.Data as d
 
 abbrev mutual
@@ -23,3 +27,10 @@ abbrev mutual
 -- the text is JSON, which is the data
 abbrev pub IsJsonOf : List ℕ → d.Data → Type 0
 IsJsonOf text x = (json : j.Json) × (j.document text ≡ Some json) × (x ≡ data_from json)
+
+-- the data that a value of the program is, and those that a member of one is
+abbrev pub item_data : Value Global → d.Data
+item_data v = data_from (value_view v)
+
+abbrev pub member_data : Bor (List ℕ) × Value Global → d.Data × d.Data
+member_data m = (d.text m.0.now, item_data m.1)

@@ -1,11 +1,10 @@
 //! Data of JSON.
 
-ghost use Rattle.std.specs.Prelude.{◌≡◌, IfOk};
-ghost use Rattle.std.specs.Str.{IsUtf8};
+ghost use Rattle.std.specs.Prelude.{◌≡◌, ◌⊎◌, map, IfOk};
 ghost use Rattle.json.specs.Json.{document};
-ghost use Rattle.json.specs.Value.{value_view, items_view, members_view};
-ghost use Rattle.qs_data.specs.Views.{data_of, values_in, pairs_in};
-ghost use Rattle.qs_c.specs.Taken.{data_from, values_from, pairs_from, IsJsonOf};
+ghost use Rattle.json.specs.Value.{value_view};
+ghost use Rattle.qs_data.specs.Views.{data_of, pair_of};
+ghost use Rattle.qs_c.specs.Taken.{data_from, item_data, member_data, IsJsonOf};
 ghost use Rattle.qs_c.specs.declared.failure.Kind.TheVariants as kind;
 
 use crate::failure::{Failure, Kind};
@@ -54,7 +53,7 @@ fn take(alloc: Global, value: &Value<'_>) -> Result<Data, AllocError>
 
 #[cycle(take)]
 fn take_items(alloc: Global, items: &Vec<Value<'_>>) -> Result<Vec<Data>, AllocError>
-    ensures { IfOk result (λ taken. values_in taken.items ≡ values_from (items_view items.now.items)) }
+    ensures { IfOk result (λ taken. map data_of taken.items ≡ map item_data items.now.items) }
 {
     let mut taken = Vec::new(alloc);
     for item in items {
@@ -68,7 +67,7 @@ fn take_members(
     alloc: Global,
     members: &Vec<(&str, Value<'_>)>,
 ) -> Result<Vec<(Data, Data)>, AllocError>
-    ensures { IfOk result (λ taken. pairs_in taken.items ≡ pairs_from (members_view members.now.items)) }
+    ensures { IfOk result (λ taken. map pair_of taken.items ≡ map member_data members.now.items) }
 {
     let mut taken = Vec::new(alloc);
     for member in members {

@@ -1,6 +1,6 @@
 //! Words, names and signs of a shape's text.
 
-ghost use Rattle.std.specs.Prelude.{◌≡◌, ◌<◌, ◌≤◌, length, IsTrue};
+ghost use Rattle.std.specs.Prelude.{◌≤◌, length};
 
 use crate::failure::{Failure, Kind};
 use qs_tree::decode;
@@ -57,7 +57,7 @@ impl<'t> Cursor<'t> {
     /// The letters, digits, `_` and `-` that come next.
     pub(crate) fn word(&mut self) -> &'t [u8] {
         self.skip_blanks();
-        let len = run(self.rest, is_of_word);
+        let len = run(Class::Word, self.rest);
         let (word, rest) = self.rest.split_at(len);
         self.rest = rest;
         word
@@ -76,7 +76,7 @@ impl<'t> Cursor<'t> {
     }
 
     fn quoted(&mut self, alloc: Global) -> Result<String, Failure> {
-        let len = run(self.rest, is_no_quote);
+        let len = run(Class::NoQuote, self.rest);
         let (name, rest) = self.rest.split_at(len);
         self.rest = rest;
         self.expect(alloc, b'"', "a name has no closing quote")?;
@@ -94,7 +94,7 @@ impl<'t> Cursor<'t> {
     }
 
     fn skip_blanks(&mut self) {
-        let blanks = run(self.rest, is_blank);
+        let blanks = run(Class::Blank, self.rest);
         self.rest = &self.rest[blanks..];
     }
 
@@ -108,28 +108,31 @@ impl<'t> Cursor<'t> {
     }
 }
 
-/// How many bytes at the front are such.
-fn run(bytes: &[u8], is_such: fn(u8) -> bool) -> usize
+/// A class of bytes.
+#[derive(Clone, Copy)]
+enum Class {
+    Blank,
+    /// Letters, digits, `_`, `-` and all that isn't ASCII.
+    Word,
+    NoQuote,
+}
+
+impl Class {
+    fn has(self, byte: u8) -> bool {
+        match self {
+            Class::Blank => matches!(byte, b' ' | b'\t' | b'\n' | b'\r'),
+            Class::Word => matches!(byte, b'a'..=b'z' | b'A'..=b'Z' | b'0'..=b'9' | b'_' | b'-' | 0x80..=0xFF),
+            Class::NoQuote => byte != b'"',
+        }
+    }
+}
+
+/// How many bytes of the class stand at the front.
+fn run(class: Class, bytes: &[u8]) -> usize
     ensures { result ≤ length bytes.now }
 {
-    let mut len = 0;
-    for byte in bytes {
-        if !is_such(*byte) {
-            break;
-        }
-        len += 1;
+    match bytes.iter().position(|byte| !class.has(*byte)) {
+        Some(len) => len,
+        None => bytes.len(),
     }
-    len
-}
-
-fn is_blank(byte: u8) -> bool {
-    matches!(byte, b' ' | b'\t' | b'\n' | b'\r')
-}
-
-fn is_no_quote(byte: u8) -> bool {
-    byte != b'"'
-}
-
-fn is_of_word(byte: u8) -> bool {
-    matches!(byte, b'a'..=b'z' | b'A'..=b'Z' | b'0'..=b'9' | b'_' | b'-' | 0x80..=0xFF)
 }

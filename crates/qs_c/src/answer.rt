@@ -1,8 +1,8 @@
 //! What a call leaves with its caller.
 
-ghost use Rattle.std.specs.Prelude.{◌≡◌, ◌<◌, ◌≤◌, ◌++◌, length, drop, IfOk, IfErr, IsTrue, IsFalse};
+ghost use Rattle.std.specs.Prelude.{◌≡◌, ◌<◌, ◌≤◌, ◌++◌, ⊥, length, drop, IfOk, IfErr, IsErr, IsTrue, IsFalse};
 ghost use Rattle.qs_c.specs.Answer.{IsHandedOut};
-ghost use Rattle.qs_c.specs.Status.{code_of};
+ghost use Rattle.qs_c.specs.Status.{code_of, IsDone};
 
 use crate::failure::Failure;
 
@@ -23,7 +23,8 @@ pub(crate) fn hand_out(
     answer: &mut Answer,
 ) -> u32
     ensures done { IfOk outcome (λ text. IsHandedOut text.items out.old out.new result answer.new.len) }
-    ensures failed { IfErr outcome (λ failure. (result ≡ code_of failure.kind) × (1 < result)) }
+    ensures failed { IfErr outcome (λ failure. result ≡ code_of failure.kind) }
+    ensures fails { IsErr outcome → IsDone result → ⊥ }
 {
     match outcome {
         Ok(text) => give(&text, out, answer),
@@ -33,7 +34,8 @@ pub(crate) fn hand_out(
 
 /// Copies the bytes to the front of `out`, where they fit there, and returns the status.
 pub(crate) fn give(text: &[u8], out: &mut [u8], answer: &mut Answer) -> u32
-    ensures { IsHandedOut text.now out.old out.new result answer.new.len }
+    ensures text { IsHandedOut text.now out.old out.new result answer.new.len }
+    ensures done { IsDone result }
 {
     answer.len = text.len();
     answer.position = 0;
@@ -42,16 +44,24 @@ pub(crate) fn give(text: &[u8], out: &mut [u8], answer: &mut Answer) -> u32
 
 /// Copies the error's text to the front of `out`, where it fits there, and returns the error's status.
 pub(crate) fn fail(failure: Failure, out: &mut [u8], answer: &mut Answer) -> u32
-    ensures failed { (result ≡ code_of failure.kind) × (1 < result) }
+    ensures failed { result ≡ code_of failure.kind }
+    ensures fails { IsDone result → ⊥ }
     ensures position { answer.new.position ≡ failure.position }
 {
-    answer.len = 0;
     answer.position = failure.position;
-    if let Some(text) = &failure.text {
-        answer.len = text.len();
-        put(text.as_bytes(), out);
-    }
+    answer.len = say(&failure, out);
     failure.kind.code()
+}
+
+/// Copies the error's text to the front of `out`, where it fits there, and returns its length.
+fn say(failure: &Failure, out: &mut [u8]) -> usize {
+    match &failure.text {
+        Some(text) => {
+            put(text.as_bytes(), out);
+            text.len()
+        }
+        None => 0,
+    }
 }
 
 /// Copies the bytes to the front of `out`, if they fit there.

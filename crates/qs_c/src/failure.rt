@@ -1,7 +1,7 @@
 //! Why a call failed.
 
-ghost use Rattle.std.specs.Prelude.{◌≡◌, ◌<◌};
-ghost use Rattle.qs_c.specs.Status.{code_of};
+ghost use Rattle.std.specs.Prelude.{◌≡◌, ⊥};
+ghost use Rattle.qs_c.specs.Status.{code_of, IsDone};
 
 use std::alloc::{AllocError, AllocFailed};
 
@@ -30,7 +30,7 @@ impl Kind {
     /// The number that a call returns.
     pub(crate) fn code(self) -> u32
         ensures code { result ≡ code_of self }
-        ensures failed { 1 < result }
+        ensures failed { IsDone result → ⊥ }
     {
         match self {
             Kind::OutOfMemory => 2,

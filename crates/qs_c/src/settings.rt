@@ -1,8 +1,9 @@
 //! How a querystring is read and written, as a caller says it.
 
-ghost use Rattle.std.specs.Prelude.{◌≡◌, ◌≤◌, IfOk, IfErr};
-ghost use Rattle.qs_c.specs.Settings.{config_of, most_levels};
-ghost use Rattle.qs_c.specs.declared.failure.Kind.TheVariants as kind;
+ghost use Rattle.std.specs.Prelude.{◌≡◌, ◌≤◌, ◌⊎◌, IfOk};
+ghost use Rattle.qs_tree.specs.Settings.{array_format_of, duplicates_of as behavior_of};
+ghost use Rattle.qs_c.specs.Settings.{config_of, format_of, duplicates_of, most_levels};
+ghost use Rattle.qs_c.specs.declared.failure.Kind.TheVariants.{OutOfMemory, Settings as BadSettings};
 
 use crate::failure::{Failure, Kind};
 use qs_data::{ArrayFormat, Config, DuplicateKeyBehavior};
@@ -34,23 +35,33 @@ impl Settings {
         if self.max_depth > MOST_LEVELS {
             return Err(bad(alloc, "max_depth is more than 100"));
         }
-        let array_format = match self.array_format {
-            0 => ArrayFormat::Indexed,
-            1 => ArrayFormat::EmptyIndexed,
-            2 => ArrayFormat::Unindexed,
-            _ => return Err(bad(alloc, "array_format is none of 0, 1 and 2")),
-        };
-        let duplicates = match self.reject_duplicates {
-            true => DuplicateKeyBehavior::Error,
-            false => DuplicateKeyBehavior::TakeLast,
-        };
-        Ok(
-            Config::new()
-                .max_depth(self.max_depth)
-                .use_form_encoding(self.form)
-                .array_format(array_format)
-                .duplicate_key_behavior(duplicates),
-        )
+        let array_format = self.elements(alloc)?;
+        Ok(Config::new()
+            .max_depth(self.max_depth)
+            .use_form_encoding(self.form)
+            .array_format(array_format)
+            .duplicate_key_behavior(self.duplicates()))
+    }
+
+    fn elements(&self, alloc: Global) -> Result<ArrayFormat, Failure>
+        ensures { IfOk result (λ format. array_format_of format ≡ format_of self.now.array_format) }
+    {
+        match self.array_format {
+            0 => Ok(ArrayFormat::Indexed),
+            1 => Ok(ArrayFormat::EmptyIndexed),
+            2 => Ok(ArrayFormat::Unindexed),
+            _ => Err(bad(alloc, "array_format is none of 0, 1 and 2")),
+        }
+    }
+
+    fn duplicates(&self) -> DuplicateKeyBehavior
+        ensures { behavior_of result ≡ duplicates_of self.now.reject_duplicates }
+    {
+        if self.reject_duplicates {
+            DuplicateKeyBehavior::Error
+        } else {
+            DuplicateKeyBehavior::TakeLast
+        }
     }
 }
 

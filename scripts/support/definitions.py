@@ -32,7 +32,7 @@ unfolding is_utf8 chars digits encode read_list struct_members read_map read_enu
 all_of_it = tt
 
 abbrev read : Bool → ℕ → Bool → Shape → List ℕ → Option Data
-read form depth strict shape bytes = option_and_then (reads strict shape) (tree_of form depth bytes)
+read form depth reject_duplicates shape bytes = option_and_then (reads reject_duplicates shape) (tree_of form depth bytes)
 
 abbrev text_unless : Option Refusal → List ℕ → Option (List ℕ)
 text_unless None text = Some text
@@ -42,7 +42,7 @@ abbrev text_of : Bool → Output → Option (List ℕ)
 text_of form output = text_unless output.refusal (written form false output.entries)
 
 abbrev rewritten : Bool → ℕ → Bool → Shape → ArrayFormat → List ℕ → Option (List ℕ)
-rewritten form depth strict shape format bytes = option_and_then (λ d. text_of form (entries_at depth format d [])) (read form depth strict shape bytes)
+rewritten form depth reject_duplicates shape format bytes = option_and_then (λ d. text_of form (entries_at depth format d [])) (read form depth reject_duplicates shape bytes)
 
 abbrev flat : Shape
 flat = Shape.struct (one_field (codes "name") Shape.text false (one_field (codes "age") (Shape.unsigned 8) false (one_field (codes "occupation") Shape.text false (one_field (codes "active") Shape.boolean true (one_field (codes "note") (Shape.option Shape.text) false no_fields)))))
@@ -162,15 +162,15 @@ def tree_case(fields):
 def program_case(fields):
     words, given, status, shown = fields[0].split(" "), *fields[1:4]
     option = dict(zip(words, words[1:] + [""]))
-    command, form, strict = words[0], flag("--form" in words), flag(option.get("--duplicates") == "error")
+    command, form, reject_duplicates = words[0], flag("--form" in words), flag(option.get("--duplicates") == "error")
     depth = "0" if command == "flat" else option.get("--depth", "5")
     given, line = bytes.fromhex(given).removesuffix(b"\n"), bytes.fromhex(shown)[:-1]
     if command == "any":
         answer = f"Some {ShownReader(line.decode()).data()}" if status == "0" else "None"
-        return f"read {form} {depth} {strict} Shape.any {bytes_term(given)} ≡ {answer}"
+        return f"read {form} {depth} {reject_duplicates} Shape.any {bytes_term(given)} ≡ {answer}"
     answer = f"Some {bytes_term(line)}" if status == "0" else "None"
     places = FORMATS[option.get("--format", "indexed")]
-    return f"rewritten {form} {depth} {strict} {command} {places} {bytes_term(given)} ≡ {answer}"
+    return f"rewritten {form} {depth} {reject_duplicates} {command} {places} {bytes_term(given)} ≡ {answer}"
 
 
 def main():

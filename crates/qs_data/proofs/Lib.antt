@@ -11,6 +11,7 @@ pub mod Numbers
 pub mod Scalars
 pub mod Found
 pub mod Entries
+pub mod Unknown
 pub mod Steps
 pub mod Fields
 pub mod Variants

@@ -38,16 +38,16 @@ utf8_some b c h = elim (cases_Bool (is_utf8 b)) [
 ]
 
 -- the text behind a scalar says what is read
-pub scalar_is : (strict : Bool) (empty : Option Data) (get : List ℕ → Option Data) (t : Tree) (o : Option (List ℕ)) → scalar_text strict t ≡ Some o → read_scalar strict empty get t ≡ data_by_text empty get o
-scalar_is strict empty get (leaf NoValue) o h = let e : None ≡ o = cc in ap (data_by_text empty get) e
-scalar_is strict empty get (leaf Null) o h = let e : None ≡ o = cc in ap (data_by_text empty get) e
-scalar_is strict empty get (leaf (Text b m)) o h = let e : Some b ≡ o = cc in ap (data_by_text empty get) e
-scalar_is strict empty get (sequence xs) o h = by_last (last_item strict xs) h where
+pub scalar_is : (reject_duplicates : Bool) (empty : Option Data) (get : List ℕ → Option Data) (t : Tree) (o : Option (List ℕ)) → scalar_text reject_duplicates t ≡ Some o → read_scalar reject_duplicates empty get t ≡ data_by_text empty get o
+scalar_is reject_duplicates empty get (leaf NoValue) o h = let e : None ≡ o = cc in ap (data_by_text empty get) e
+scalar_is reject_duplicates empty get (leaf Null) o h = let e : None ≡ o = cc in ap (data_by_text empty get) e
+scalar_is reject_duplicates empty get (leaf (Text b m)) o h = let e : Some b ≡ o = cc in ap (data_by_text empty get) e
+scalar_is reject_duplicates empty get (sequence xs) o h = by_last (last_item reject_duplicates xs) h where
   by_last : (l : Option (List ℕ)) → option_map Some l ≡ Some o → option_and_then get l ≡ data_by_text empty get o
   by_last None k = absurd cc
   by_last (Some b) k = let e : Some b ≡ o = cc in ap (data_by_text empty get) e
-scalar_is strict empty get (mapping es) o h = absurd cc
-scalar_is strict empty get uninitialized o h = absurd cc
+scalar_is reject_duplicates empty get (mapping es) o h = absurd cc
+scalar_is reject_duplicates empty get uninitialized o h = absurd cc
 
 item_bad : (t : Tree) (b : List ℕ) → item_text t ≡ Some b → is_utf8 b ≡ false → is_text t ≡ false
 item_bad (leaf l) b h n = let e : leaf_text l ≡ b = cc in ap is_utf8 e ∙ n
@@ -55,38 +55,38 @@ item_bad (sequence xs) b h n = absurd cc
 item_bad (mapping es) b h n = absurd cc
 item_bad uninitialized b h n = absurd cc
 
-last_bad : (strict : Bool) (xs : Items) (b : List ℕ) → last_item strict xs ≡ Some b → is_utf8 b ≡ false → items_are_text xs ≡ false
-last_bad strict no_items b h n = absurd cc
-last_bad strict (item t no_items) b h n = and_left (is_text t) true (item_bad t b h n)
+last_bad : (reject_duplicates : Bool) (xs : Items) (b : List ℕ) → last_item reject_duplicates xs ≡ Some b → is_utf8 b ≡ false → items_are_text xs ≡ false
+last_bad reject_duplicates no_items b h n = absurd cc
+last_bad reject_duplicates (item t no_items) b h n = and_left (is_text t) true (item_bad t b h n)
 last_bad true (item t (item u xs)) b h n = absurd cc
 last_bad false (item t (item u xs)) b h n = and_right (is_text t) (items_are_text (item u xs)) (last_bad false (item u xs) b h n)
 
-pub scalar_bad : (strict : Bool) (t : Tree) (b : List ℕ) → scalar_text strict t ≡ Some (Some b) → is_utf8 b ≡ false → is_text t ≡ false
-scalar_bad strict (leaf NoValue) b h n = absurd cc
-scalar_bad strict (leaf Null) b h n = absurd cc
-scalar_bad strict (leaf (Text c m)) b h n = let e : c ≡ b = cc in ap is_utf8 e ∙ n
-scalar_bad strict (sequence xs) b h n = by_last (last_item strict xs) refl h where
-  by_last : (l : Option (List ℕ)) → last_item strict xs ≡ l → option_map Some l ≡ Some (Some b) → items_are_text xs ≡ false
+pub scalar_bad : (reject_duplicates : Bool) (t : Tree) (b : List ℕ) → scalar_text reject_duplicates t ≡ Some (Some b) → is_utf8 b ≡ false → is_text t ≡ false
+scalar_bad reject_duplicates (leaf NoValue) b h n = absurd cc
+scalar_bad reject_duplicates (leaf Null) b h n = absurd cc
+scalar_bad reject_duplicates (leaf (Text c m)) b h n = let e : c ≡ b = cc in ap is_utf8 e ∙ n
+scalar_bad reject_duplicates (sequence xs) b h n = by_last (last_item reject_duplicates xs) refl h where
+  by_last : (l : Option (List ℕ)) → last_item reject_duplicates xs ≡ l → option_map Some l ≡ Some (Some b) → items_are_text xs ≡ false
   by_last None e k = absurd cc
-  by_last (Some c) e k = let same : c ≡ b = cc in last_bad strict xs b (e ∙ ap Some same) n
-scalar_bad strict (mapping es) b h n = absurd cc
-scalar_bad strict uninitialized b h n = absurd cc
+  by_last (Some c) e k = let same : c ≡ b = cc in last_bad reject_duplicates xs b (e ∙ ap Some same) n
+scalar_bad reject_duplicates (mapping es) b h n = absurd cc
+scalar_bad reject_duplicates uninitialized b h n = absurd cc
 
 -- what is read of the text behind a scalar is read of the scalar
-pub scalar_gives : {X : Type 0} (view : X → Data) (strict : Bool) (empty : Option Data) (get : List ℕ → Option Data) (t : Tree) (b : List ℕ) (x : Result X Error)
-    → scalar_text strict t ≡ Some (Some b) → Gives view (is_utf8 b) x (get b) → Gives view (is_text t) x (read_scalar strict empty get t)
-scalar_gives view strict empty get t b x h g = gives_as view (is_utf8 b) (is_text t) x (get b) (read_scalar strict empty get t) g (sym (scalar_is strict empty get t (Some b) h)) (scalar_bad strict t b h)
+pub scalar_gives : {X : Type 0} (view : X → Data) (reject_duplicates : Bool) (empty : Option Data) (get : List ℕ → Option Data) (t : Tree) (b : List ℕ) (x : Result X Error)
+    → scalar_text reject_duplicates t ≡ Some (Some b) → Gives view (is_utf8 b) x (get b) → Gives view (is_text t) x (read_scalar reject_duplicates empty get t)
+scalar_gives view reject_duplicates empty get t b x h g = gives_as view (is_utf8 b) (is_text t) x (get b) (read_scalar reject_duplicates empty get t) g (sym (scalar_is reject_duplicates empty get t (Some b) h)) (scalar_bad reject_duplicates t b h)
 
 -- the last of some items
-pub last_item_is : (strict : Bool) (ts : List ParsedValue) (d : ParsedValue) → Some d ≡ slice_get ts (length ts - 1) → ((strict ≡ true) × (length ts ≤ 1)) ⊎ (strict ≡ false)
-    → last_item strict (items_from (map tree_of ts)) ≡ item_text (tree_of d)
-last_item_is strict [] d h k = absurd cc
-last_item_is strict (t ∷ []) d h k = let e : t ≡ d = cc in ap (λ x. item_text (tree_of x)) e
-last_item_is strict (t ∷ u ∷ ts) d h (inl k) = absurd (omega (arith, k.1))
-last_item_is strict (t ∷ u ∷ ts) d h (inr k) =
+pub last_item_is : (reject_duplicates : Bool) (ts : List ParsedValue) (d : ParsedValue) → Some d ≡ slice_get ts (length ts - 1) → ((reject_duplicates ≡ true) × (length ts ≤ 1)) ⊎ (reject_duplicates ≡ false)
+    → last_item reject_duplicates (items_from (map tree_of ts)) ≡ item_text (tree_of d)
+last_item_is reject_duplicates [] d h k = absurd cc
+last_item_is reject_duplicates (t ∷ []) d h k = let e : t ≡ d = cc in ap (λ x. item_text (tree_of x)) e
+last_item_is reject_duplicates (t ∷ u ∷ ts) d h (inl k) = absurd (omega (arith, k.1))
+last_item_is reject_duplicates (t ∷ u ∷ ts) d h (inr k) =
     let same : length (t ∷ u ∷ ts) - 1 ≡ suc (length (u ∷ ts) - 1) = omega arith in
-    ap (λ b. cond b None (last_item strict (items_from (map tree_of (u ∷ ts))))) k
-    ∙ last_item_is strict (u ∷ ts) d (h ∙ ap (slice_get (t ∷ u ∷ ts)) same) (inr k)
+    ap (λ b. cond b None (last_item reject_duplicates (items_from (map tree_of (u ∷ ts))))) k
+    ∙ last_item_is reject_duplicates (u ∷ ts) d (h ∙ ap (slice_get (t ∷ u ∷ ts)) same) (inr k)
 
 pub boolean_none : (b : List ℕ) → utf8_text b ≡ None → boolean_data b ≡ None
 boolean_none b h = elim (cases_Bool (bytes_eq b (codes "true"))) [

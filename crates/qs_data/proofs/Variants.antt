@@ -48,12 +48,12 @@ module _ (name : List ℕ) (vs : List Variant) (i : ℕ) (d : Variant) (here : i
   named_later e = named_at ∙ ap (λ b. cond b (Some (variant_of d)) (variant_named name (variants_in (drop (i + 1) vs)))) (ap (λ n. bytes_eq n name) (variant_name d) ∙ e)
 
 -- what the variant of a name reads
-pub reads_named : (strict : Bool) (vs : Variants) (name : List ℕ) (t : Tree) → reads_variant strict vs name t ≡ option_and_then (λ x. reads_kind strict x.1 x.0 t) (variant_named name vs)
+pub reads_named : (reject_duplicates : Bool) (vs : Variants) (name : List ℕ) (t : Tree) → reads_variant reject_duplicates vs name t ≡ option_and_then (λ x. reads_kind reject_duplicates x.1 x.0 t) (variant_named name vs)
 unfolding reads
-reads_named strict no_variants name t = refl
-reads_named strict (one_variant n k vs) name t = elim (cases_Bool (bytes_eq n name)) [
+reads_named reject_duplicates no_variants name t = refl
+reads_named reject_duplicates (one_variant n k vs) name t = elim (cases_Bool (bytes_eq n name)) [
   | inl is ↦ rw is
-  | inr not ↦ rw not (reads_named strict vs name t)
+  | inr not ↦ rw not (reads_named reject_duplicates vs name t)
 ]
 
 -- what the variant of a name is without a value
@@ -90,16 +90,16 @@ pub no_unit : (name : List ℕ) (vs : List Variant) → option_map Some (variant
 no_unit name vs h = unit_named (variants_in vs) name ∙ ap (option_and_then (λ x. cond (is_unit_kind x.1) (Some (Data.unit_variant x.0)) None)) (not_named (variant_named name (variants_in vs)) h)
 
 -- what an enum reads of a map whose least entry is known
-module _ (strict : Bool) (vs : Variants) (es more : Entries) (k : Segment) (m : Bool) (t : Tree) (least : es ≡ entry k m t more) where
-  enum_at : read_enum vs (reads_variant strict vs) (mapping es) ≡ option_and_then (λ x. reads_kind strict x.1 x.0 t) (variant_named (segment_text k) vs)
+module _ (reject_duplicates : Bool) (vs : Variants) (es more : Entries) (k : Segment) (m : Bool) (t : Tree) (least : es ≡ entry k m t more) where
+  enum_at : read_enum vs (reads_variant reject_duplicates vs) (mapping es) ≡ option_and_then (λ x. reads_kind reject_duplicates x.1 x.0 t) (variant_named (segment_text k) vs)
   unfolding read_enum
-  enum_at = ap (λ x. read_enum vs (reads_variant strict vs) (mapping x)) least ∙ reads_named strict vs (segment_text k) t
+  enum_at = ap (λ x. read_enum vs (reads_variant reject_duplicates vs) (mapping x)) least ∙ reads_named reject_duplicates vs (segment_text k) t
 
-  pub enum_none : option_map Some (variant_named (segment_text k) vs) ≡ None → read_enum vs (reads_variant strict vs) (mapping es) ≡ None
-  enum_none h = enum_at ∙ ap (option_and_then (λ x. reads_kind strict x.1 x.0 t)) (not_named (variant_named (segment_text k) vs) h)
+  pub enum_none : option_map Some (variant_named (segment_text k) vs) ≡ None → read_enum vs (reads_variant reject_duplicates vs) (mapping es) ≡ None
+  enum_none h = enum_at ∙ ap (option_and_then (λ x. reads_kind reject_duplicates x.1 x.0 t)) (not_named (variant_named (segment_text k) vs) h)
 
-  pub enum_some : (d : Variant) → variant_named (segment_text k) vs ≡ Some (variant_of d) → read_enum vs (reads_variant strict vs) (mapping es) ≡ reads_kind strict (variant_of d).1 (variant_of d).0 t
-  enum_some d h = enum_at ∙ ap (option_and_then (λ x. reads_kind strict x.1 x.0 t)) h
+  pub enum_some : (d : Variant) → variant_named (segment_text k) vs ≡ Some (variant_of d) → read_enum vs (reads_variant reject_duplicates vs) (mapping es) ≡ reads_kind reject_duplicates (variant_of d).1 (variant_of d).0 t
+  enum_some d h = enum_at ∙ ap (option_and_then (λ x. reads_kind reject_duplicates x.1 x.0 t)) h
 
   pub least_key_bad : is_utf8 (segment_text k) ≡ false → entries_are_text es ≡ false
   least_key_bad n = ap entries_are_text least ∙ and_left (is_utf8 (segment_text k) && is_text t) (entries_are_text more) (and_left (is_utf8 (segment_text k)) (is_text t) n)

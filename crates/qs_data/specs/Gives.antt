@@ -23,6 +23,11 @@ abbrev pub Gives : {X Y : Type 0} → (X → Y) → Bool → Result X Error → 
 Gives view all_text (Ok x) r = r ≡ Some (view x)
 Gives view all_text (Err e) r = Refuses all_text e r
 
+-- an answer that says nothing, where a test is passed
+abbrev pub when : Bool → Option (Unit {0})
+when true = Some tt
+when false = None
+
 -- no other error than a fault, a text that isn't UTF-8, and want of memory
 abbrev pub OnlyCustomUtf8OrOutOfMemory : {X : Type 0} → Result X Error → Type 0
 OnlyCustomUtf8OrOutOfMemory (Ok x) = ⊤

@@ -12,6 +12,13 @@ use Rattle.qs_data.specs.declared.read.keys.Found.{Found}
 use Rattle.qs_data.specs.declared.read.keys.Found.TheVariants.{Missing, One, Several}
 use Rattle.qs_data.specs.declared.read.keys.Entries.{Entries}
 use Rattle.qs_data.specs.declared.read.keys.Entries.TheVariants as e
+use Rattle.qs_spec.specs.Shape as s
+use Rattle.qs_data.specs.declared.read.unknown.UnknownKeys.{UnknownKeys}
+use Rattle.qs_data.specs.declared.read.unknown.UnknownKeys.TheVariants as u
+
+abbrev pub unknown_of : UnknownKeys → s.UnknownKeys
+unknown_of u.Ignored = s.UnknownKeys.ignored
+unknown_of u.Rejected = s.UnknownKeys.rejected
 
 -- the keys with their values
 abbrev pub entries_of : Entries → t.Entries

@@ -9,12 +9,12 @@ use Rattle.qs_spec.specs.Read.{last_item}
 
 -- none where there is no value or an empty one, and else the last text
 abbrev pub scalar_text : Bool → Tree → Option (Option (List ℕ))
-scalar_text strict (leaf NoValue) = Some None
-scalar_text strict (leaf Null) = Some None
-scalar_text strict (leaf (Text bytes mark)) = Some (Some bytes)
-scalar_text strict (sequence xs) = option_map Some (last_item strict xs)
-scalar_text strict (mapping es) = None
-scalar_text strict uninitialized = None
+scalar_text reject_duplicates (leaf NoValue) = Some None
+scalar_text reject_duplicates (leaf Null) = Some None
+scalar_text reject_duplicates (leaf (Text bytes mark)) = Some (Some bytes)
+scalar_text reject_duplicates (sequence xs) = option_map Some (last_item reject_duplicates xs)
+scalar_text reject_duplicates (mapping es) = None
+scalar_text reject_duplicates uninitialized = None
 
 -- what is read where there is no text, and of one
 abbrev pub data_by_text : Option Data → (List ℕ → Option Data) → Option (List ℕ) → Option Data

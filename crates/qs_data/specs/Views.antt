@@ -75,7 +75,8 @@ shape_layer (Shape-F.Option x) = s.Shape.option x.value
 shape_layer (Shape-F.Seq x) = s.Shape.sequence x.value
 shape_layer (Shape-F.Shape::Tuple xs) = s.Shape.tuple (s.shapes_of xs.items)
 shape_layer (Shape-F.Map key x) = s.Shape.mapping (key_shape_of key) x.value
-shape_layer (Shape-F.Shape::Struct fs) = s.Shape.struct (s.fields_of fs.items)
+shape_layer (Shape-F.Shape::Struct fs) = s.Shape.struct s.UnknownKeys.ignored (s.fields_of fs.items)
+shape_layer (Shape-F.Shape::StrictStruct fs) = s.Shape.struct s.UnknownKeys.rejected (s.fields_of fs.items)
 shape_layer (Shape-F.Shape::Newtype x) = s.Shape.newtype x.value
 shape_layer (Shape-F.Enum vs) = s.Shape.enumeration (s.variants_of vs.items)
 shape_layer Shape-F.Any = s.Shape.any
@@ -91,7 +92,8 @@ abbrev pub kind_layer : VariantKind-F s.Shape s.VariantKind s.Field s.Variant â†
 kind_layer VariantKind-F.VariantKind::Unit = s.unit_kind
 kind_layer (VariantKind-F.VariantKind::Newtype x) = s.newtype_kind x.value
 kind_layer (VariantKind-F.VariantKind::Tuple xs) = s.tuple_kind (s.shapes_of xs.items)
-kind_layer (VariantKind-F.VariantKind::Struct fs) = s.struct_kind (s.fields_of fs.items)
+kind_layer (VariantKind-F.VariantKind::Struct fs) = s.struct_kind s.UnknownKeys.ignored (s.fields_of fs.items)
+kind_layer (VariantKind-F.VariantKind::StrictStruct fs) = s.struct_kind s.UnknownKeys.rejected (s.fields_of fs.items)
 
 -- the shape that a value stands for
 abbrev pub shape_of : Shape â†’ s.Shape

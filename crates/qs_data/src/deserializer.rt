@@ -97,7 +97,7 @@ impl<'qs> Deserializer<'qs> {
         ensures no_memory { takes_no_memory (shape_of shape.now) ≡ true → IsFrugal result (reading (parsed_of self.entry) (shape_of shape.now)) }
         ensures errors { OnlyCustomUtf8OrOutOfMemory result }
     {
-        let strict = self.config.get_duplicates() == DuplicateKeyBehavior::Error;
-        read(alloc, strict, shape, &self.tree)
+        let reject_duplicates = self.config.get_duplicates() == DuplicateKeyBehavior::Error;
+        read(alloc, reject_duplicates, shape, &self.tree)
     }
 }

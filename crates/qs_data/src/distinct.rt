@@ -1,6 +1,6 @@
 //! Shapes whose names differ.
 
-ghost use Rattle.std.specs.Prelude.{◌≡◌, map, string_bytes};
+ghost use Rattle.std.specs.Prelude.{◌≡◌, ◌&&◌, map, string_bytes};
 ghost use Rattle.std.specs.List.{list_any};
 ghost use Rattle.std.specs.Str.{bytes_eq};
 ghost use Rattle.qs_spec.specs.Shape.{is_distinct, are_distinct, are_distinct_fields, are_distinct_variants, is_distinct_kind, is_distinct_key, field_names_differ, variant_names_differ, names_differ, is_field_name, is_variant_name};
@@ -21,7 +21,7 @@ impl Shape {
             Shape::Option(part) | Shape::Seq(part) | Shape::Newtype(part) => part.is_distinct(),
             Shape::Tuple(parts) => are_distinct(parts),
             Shape::Map(key, part) => is_distinct_key(key) && part.is_distinct(),
-            Shape::Struct(fields) => field_names_differ(fields) && are_distinct_fields(fields),
+            Shape::Struct(fields) | Shape::StrictStruct(fields) => is_distinct_struct(fields),
             Shape::Enum(variants) => variant_names_differ(variants)
                 && are_distinct_variants(variants),
             _ => true,
@@ -39,6 +39,13 @@ fn are_distinct(shapes: &Vec<Shape>) -> bool
         }
     }
     true
+}
+
+#[cycle(distinct)]
+fn is_distinct_struct(fields: &Vec<Field>) -> bool
+    ensures { result ≡ (field_names_differ (fields_in fields.now.items) && are_distinct_fields (fields_in fields.now.items)) }
+{
+    field_names_differ(fields) && are_distinct_fields(fields)
 }
 
 #[cycle(distinct)]
@@ -73,7 +80,9 @@ fn is_distinct_kind(kind: &VariantKind) -> bool
         VariantKind::Unit => true,
         VariantKind::Newtype(part) => part.is_distinct(),
         VariantKind::Tuple(parts) => are_distinct(parts),
-        VariantKind::Struct(fields) => field_names_differ(fields) && are_distinct_fields(fields),
+        VariantKind::Struct(fields) | VariantKind::StrictStruct(fields) => {
+            is_distinct_struct(fields)
+        }
     }
 }
 
@@ -90,18 +99,19 @@ fn field_names_differ(fields: &[Field]) -> bool
     ensures { result ≡ field_names_differ (fields_in fields.now) }
 {
     for (i, field) in fields.iter().enumerate() {
-        if is_field_name(&fields[i + 1..], &field.name) {
+        if is_field_name(&fields[i + 1..], field.name.as_bytes()) {
             return false;
         }
     }
     true
 }
 
-fn is_field_name(fields: &[Field], name: &str) -> bool
+/// Whether the text of a key is one of the fields' names.
+pub(crate) fn is_field_name(fields: &[Field], name: &[u8]) -> bool
     ensures { result ≡ is_field_name name.now (fields_in fields.now) }
 {
     for field in fields {
-        if field.name.as_str() == name {
+        if field.name.as_bytes() == name {
             return true;
         }
     }

@@ -60,7 +60,7 @@ fn fits(shape: &Shape, datum: &Data) -> bool
         Shape::Seq(part) => fits_seq(part, datum),
         Shape::Tuple(parts) => fits_tuple(parts, datum),
         Shape::Map(key, part) => fits_map(key, part, datum),
-        Shape::Struct(fields) => fits_struct(fields, datum),
+        Shape::Struct(fields) | Shape::StrictStruct(fields) => fits_struct(fields, datum),
         Shape::Newtype(part) => fits_newtype(part, datum),
         Shape::Enum(variants) => fits_enum(variants, datum),
         Shape::Any | Shape::Ignored => false,
@@ -161,7 +161,8 @@ fn fits_pairs(key: &KeyShape, part: &Shape, pairs: &Vec<(Data, Data)>) -> bool
 #[cycle(fits)]
 #[tactic(auto, using(crate::proofs::Levels::levels))]
 fn fits_struct(fields: &Vec<Field>, datum: &Data) -> bool
-    ensures { result ≡ fits (s.Shape.struct (fields_in fields.now.items)) (data_of datum.now) }
+    ensures plain { result ≡ fits (s.Shape.struct s.UnknownKeys.ignored (fields_in fields.now.items)) (data_of datum.now) }
+    ensures strict { result ≡ fits (s.Shape.struct s.UnknownKeys.rejected (fields_in fields.now.items)) (data_of datum.now) }
 {
     match datum {
         Data::Struct(members) => fits_fields(fields, members),
@@ -247,7 +248,9 @@ fn fits_kind(kind: &VariantKind, datum: &Data) -> bool
         VariantKind::Unit => is_unit_variant(datum),
         VariantKind::Newtype(part) => fits_newtype_variant(part, datum),
         VariantKind::Tuple(parts) => fits_tuple_variant(parts, datum),
-        VariantKind::Struct(fields) => fits_struct_variant(fields, datum),
+        VariantKind::Struct(fields) | VariantKind::StrictStruct(fields) => {
+            fits_struct_variant(fields, datum)
+        }
     }
 }
 
@@ -280,7 +283,8 @@ fn fits_tuple_variant(parts: &Vec<Shape>, datum: &Data) -> bool
 #[cycle(fits)]
 #[tactic(auto, using(crate::proofs::Levels::levels))]
 fn fits_struct_variant(fields: &Vec<Field>, datum: &Data) -> bool
-    ensures { result ≡ fits_variant (Some (s.struct_kind (fields_in fields.now.items))) (data_of datum.now) }
+    ensures plain { result ≡ fits_variant (Some (s.struct_kind s.UnknownKeys.ignored (fields_in fields.now.items))) (data_of datum.now) }
+    ensures strict { result ≡ fits_variant (Some (s.struct_kind s.UnknownKeys.rejected (fields_in fields.now.items))) (data_of datum.now) }
 {
     match datum {
         Data::StructVariant(_, members) => fits_fields(fields, members),

@@ -40,6 +40,8 @@ pub enum Shape {
     Map(KeyShape, Box<Shape>),
     /// Fields, by their names or by their places.
     Struct(Vec<Field>),
+    /// Fields as those of a [`Struct`](Shape::Struct), where a map's keys that no field has are rejected.
+    StrictStruct(Vec<Field>),
     /// A value in a type of its own.
     Newtype(Box<Shape>),
     /// One of these variants, by its name.
@@ -84,6 +86,8 @@ pub enum VariantKind {
     Tuple(Vec<Shape>),
     /// Fields, by their names or by their places.
     Struct(Vec<Field>),
+    /// Fields as those of a [`Struct`](VariantKind::Struct), where a map's keys that no field has are rejected.
+    StrictStruct(Vec<Field>),
 }
 
 /// How the text of a map's key is read.

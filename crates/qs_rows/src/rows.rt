@@ -47,7 +47,7 @@ impl<'r, R: Abort> Rows<'r, R> {
     }
 
     /// The same where several values for one are refused.
-    pub fn strict(&self) -> Self {
+    pub fn reject_duplicates(&self) -> Self {
         let config = self
             .config
             .duplicate_key_behavior(DuplicateKeyBehavior::Error);

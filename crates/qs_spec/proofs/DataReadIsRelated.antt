@@ -10,9 +10,9 @@ use Rattle.qs_spec.specs.Tree.Tree.{leaf, sequence, mapping, uninitialized}
 use Rattle.qs_spec.specs.Tree.Items.{item, no_items}
 use Rattle.qs_spec.specs.Tree.Entries.{entry, no_entries}
 use Rattle.qs_spec.specs.Data.{Data, Members, one_member, values_of, pairs_of, members_of, Named}
-use Rattle.qs_spec.specs.Shape.{Shape, Fields, one_field, Variants, no_variants, one_variant, VariantKind, unit_kind, newtype_kind, tuple_kind, struct_kind, KeyShape, is_option}
+use Rattle.qs_spec.specs.Shape.{Shape, Fields, one_field, Variants, no_variants, one_variant, VariantKind, unit_kind, newtype_kind, tuple_kind, struct_kind, UnknownKeys, KeyShape, is_option}
 use Rattle.qs_spec.specs.Scalar.{text_data, key_data}
-use Rattle.qs_spec.specs.Read.{read_scalar, read_option, read_unit, read_character, read_ignored, last_item, read_each, with_front, found, keys_are_text, read_field, read_place, items_after, with_field, struct_members, read_pairs, under_empty, read_map, is_unit_kind, unit_variant_data, reads, reads_names, reads_places}
+use Rattle.qs_spec.specs.Read.{read_scalar, read_option, read_unit, read_character, read_ignored, last_item, read_each, with_front, found, keys_are_allowed, read_field, read_place, items_after, with_field, struct_members, read_pairs, under_empty, read_map, is_unit_kind, unit_variant_data, reads, reads_names, reads_places}
 use Rattle.qs_spec.specs.Relation.{last, IsFull, HasVariant, Reads, ReadsEach, ReadsPairs, ReadsStruct, ReadsNames, ReadsPlaces}
 use Rattle.qs_spec.proofs.SomeAnswers.{mapped, chained, tested}
 use Rattle.qs_spec.proofs.VariantNames.{bytes_equal}
@@ -115,7 +115,7 @@ option_of Shape.bytes e = cc
 option_of (Shape.sequence s) e = cc
 option_of (Shape.tuple ss) e = cc
 option_of (Shape.mapping k s) e = cc
-option_of (Shape.struct fs) e = cc
+option_of (Shape.struct u fs) e = cc
 option_of (Shape.newtype s) e = cc
 option_of (Shape.enumeration vs) e = cc
 option_of Shape.any e = cc
@@ -149,24 +149,24 @@ place_related st name s optional fs (item t xs) o ms h e more =
     subst (λ (o : Option Data). ReadsPlaces st (one_field name s optional fs) (item t xs) (with_member name o ms)) m.2 (ReadsPlaces.place_found (h t m.0 m.1) more)
 
 -- the fields of a node, by what is related of names and places
-pub struct_related : (st : Bool) (fs : Fields) (n : Tree) (ms : List Named) → ((es : Entries) (ms : List Named) → reads_names st fs es ≡ Some ms → ReadsNames st fs es (members_of ms))
-    → ((xs : Items) (ms : List Named) → reads_places st fs xs ≡ Some ms → ReadsPlaces st fs xs (members_of ms)) → struct_members (reads_names st fs) (reads_places st fs) n ≡ Some ms → ReadsStruct st fs n (members_of ms)
+pub struct_related : (st : Bool) (u : UnknownKeys) (fs : Fields) (n : Tree) (ms : List Named) → ((es : Entries) (ms : List Named) → reads_names st fs es ≡ Some ms → ReadsNames st fs es (members_of ms))
+    → ((xs : Items) (ms : List Named) → reads_places st fs xs ≡ Some ms → ReadsPlaces st fs xs (members_of ms)) → struct_members (keys_are_allowed u fs) (reads_names st fs) (reads_places st fs) n ≡ Some ms → ReadsStruct st u fs n (members_of ms)
 unfolding struct_members
-struct_related st fs (leaf NoValue) ms names places e = ReadsStruct.fields_of_no_value (names no_entries ms e)
-struct_related st fs (leaf Null) ms names places e = ReadsStruct.fields_of_null (names no_entries ms e)
-struct_related st fs (leaf (Text t m)) ms names places e = absurd (none-some ms e)
-struct_related st fs (sequence xs) ms names places e = ReadsStruct.fields_by_place (places xs ms e)
-struct_related st fs (mapping es) ms names places e =
-    let c = chained (λ ms. cond (keys_are_text es) (Some ms) None) (reads_names st fs es) ms e in
-    let d = tested (keys_are_text es) c.0 ms c.2 in
+struct_related st u fs (leaf NoValue) ms names places e = ReadsStruct.fields_of_no_value (names no_entries ms e)
+struct_related st u fs (leaf Null) ms names places e = ReadsStruct.fields_of_null (names no_entries ms e)
+struct_related st u fs (leaf (Text t m)) ms names places e = absurd (none-some ms e)
+struct_related st u fs (sequence xs) ms names places e = ReadsStruct.fields_by_place (places xs ms e)
+struct_related st u fs (mapping es) ms names places e =
+    let c = chained (λ ms. cond (keys_are_allowed u fs es) (Some ms) None) (reads_names st fs es) ms e in
+    let d = tested (keys_are_allowed u fs es) c.0 ms c.2 in
     ReadsStruct.fields_by_name d.0 (names es ms (c.1 ∙ ap Some d.1))
-struct_related st fs uninitialized ms names places e = absurd (none-some ms e)
+struct_related st u fs uninitialized ms names places e = absurd (none-some ms e)
 
 unit_of : (k : VariantKind) → is_unit_kind k ≡ true → unit_kind ≡ k
 unit_of unit_kind e = refl
 unit_of (newtype_kind s) e = cc
 unit_of (tuple_kind ss) e = cc
-unit_of (struct_kind fs) e = cc
+unit_of (struct_kind u fs) e = cc
 
 pub unit_variant_related : (vs : Variants) (name : List ℕ) (d : Data) → unit_variant_data vs name ≡ Some d → HasVariant name unit_kind vs × (Data.unit_variant name ≡ d)
 unit_variant_related no_variants name d e = absurd (none-some d e)

@@ -6,8 +6,8 @@ use Rattle.qs_spec.specs.Segment.{segment_text}
 use Rattle.qs_spec.specs.Tree.{Tree, Items, Entries}
 use Rattle.qs_spec.specs.Tree.Tree.{leaf, sequence, mapping, uninitialized}
 use Rattle.qs_spec.specs.Data.{Data, Values, Pairs, Members}
-use Rattle.qs_spec.specs.Shape.{Shape, Shapes, Fields, VariantKind, KeyShape, is_option, variant_names_differ, is_distinct_key, field_names_differ, is_distinct, are_distinct, are_distinct_fields, are_distinct_variants, is_distinct_kind}
-use Rattle.qs_spec.specs.Read.{read_ignored, read_each, with_front, keys_are_text, read_field, with_field, struct_members, read_pairs, read_map, read_enum, any_data, reads, reads_tuple, reads_names, reads_places, reads_kind}
+use Rattle.qs_spec.specs.Shape.{Shape, Shapes, Fields, VariantKind, UnknownKeys, KeyShape, is_option, variant_names_differ, is_distinct_key, field_names_differ, is_distinct, are_distinct, are_distinct_fields, are_distinct_variants, is_distinct_kind}
+use Rattle.qs_spec.specs.Read.{read_ignored, read_each, with_front, keys_are_allowed, read_field, with_field, struct_members, read_pairs, read_map, read_enum, any_data, reads, reads_tuple, reads_names, reads_places, reads_kind}
 use Rattle.qs_spec.specs.Relation.{IsThere, Reads, ReadsEach, ReadsFirst, ReadsPairs, ReadsStruct, ReadsNames, ReadsPlaces, ReadsVariant}
 use Rattle.qs_spec.proofs.Booleans.{and_both}
 use Rattle.qs_spec.proofs.ReadingParts.{value_list, pair_list, member_list, values_made, pairs_made, members_made, scalar_read, text_read, option_read, list_read}
@@ -48,7 +48,7 @@ mutual
   sound st e Reads.map_no_value = refl
   sound st e (Reads.map_text {k} {s} {ps = ps} r) = pairs_made Data.mapping _ ps (sound_pairs st (and_both (is_distinct_key k) (is_distinct s) e).1 r)
   sound st e (Reads.map {k} {s} {es} {ps} r) = pairs_made Data.mapping _ ps (sound_pairs st (and_both (is_distinct_key k) (is_distinct s) e).1 r)
-  sound st e (Reads.struct {fs} {n} {ms} r) = members_made Data.struct _ ms (sound_struct st (and_both (field_names_differ fs) (are_distinct_fields fs) e).1 r)
+  sound st e (Reads.struct {u} {fs} {n} {ms} r) = members_made Data.struct _ ms (sound_struct st (and_both (field_names_differ fs) (are_distinct_fields fs) e).1 r)
   sound st e (Reads.unit_variant {vs} {name} h) = unit_variant_read name vs (and_both (variant_names_differ vs) (are_distinct_variants vs) e).0 h
   sound st e (Reads.variant {vs} {kind} {key} {n = n} h r) =
       let p = and_both (variant_names_differ vs) (are_distinct_variants vs) e in
@@ -78,11 +78,11 @@ mutual
       ap (option_and_then (λ b. option_and_then (λ y. with_front (b, y) (read_pairs k (reads st s) es)) (reads st s n))) i
       ∙ ap (option_and_then (λ y. with_front (a, y) (read_pairs k (reads st s) es))) (sound st e r) ∙ ap (with_front (a, d)) (sound_pairs st e q)
 
-  sound_struct : (st : Bool) {fs : Fields} {n : Tree} {ms : Members} → are_distinct_fields fs ≡ true → ReadsStruct st fs n ms → struct_members (reads_names st fs) (reads_places st fs) n ≡ Some (member_list ms)
+  sound_struct : (st : Bool) {u : UnknownKeys} {fs : Fields} {n : Tree} {ms : Members} → are_distinct_fields fs ≡ true → ReadsStruct st u fs n ms → struct_members (keys_are_allowed u fs) (reads_names st fs) (reads_places st fs) n ≡ Some (member_list ms)
   sound_struct st e (ReadsStruct.fields_of_null r) = sound_names st e r
   sound_struct st e (ReadsStruct.fields_of_no_value r) = sound_names st e r
-  sound_struct st e (ReadsStruct.fields_by_name {fs} {es} {ms} u r) =
-      ap (option_and_then (λ ys. cond (keys_are_text es) (Some ys) None)) (sound_names st e r) ∙ ap (λ b. cond b (Some (member_list ms)) None) u
+  sound_struct st e (ReadsStruct.fields_by_name {u} {fs} {es} {ms} k r) =
+      ap (option_and_then (λ ys. cond (keys_are_allowed u fs es) (Some ys) None)) (sound_names st e r) ∙ ap (λ b. cond b (Some (member_list ms)) None) k
   sound_struct st e (ReadsStruct.fields_by_place r) = sound_places st e r
 
   sound_names : (st : Bool) {fs : Fields} {es : Entries} {ms : Members} → are_distinct_fields fs ≡ true → ReadsNames st fs es ms → reads_names st fs es ≡ Some (member_list ms)
@@ -109,7 +109,7 @@ mutual
   sound_variant st e ReadsVariant.as_unit = refl
   sound_variant st e (ReadsVariant.as_newtype {name = name} r) = ap (option_map (Data.newtype_variant name)) (sound st e r)
   sound_variant st e (ReadsVariant.as_tuple {ss} {name} {n} {xs} {ds} i r) = values_made (Data.tuple_variant name) _ ds (ap (option_and_then (reads_tuple st ss)) i ∙ sound_first st e r)
-  sound_variant st e (ReadsVariant.as_struct {fs} {name} {n} {ms} r) = members_made (Data.struct_variant name) _ ms (sound_struct st (and_both (field_names_differ fs) (are_distinct_fields fs) e).1 r)
+  sound_variant st e (ReadsVariant.as_struct {u} {fs} {name} {n} {ms} r) = members_made (Data.struct_variant name) _ ms (sound_struct st (and_both (field_names_differ fs) (are_distinct_fields fs) e).1 r)
 
 pub one_data : (st : Bool) (s : Shape) (n : Tree) (d e : Data) → is_distinct s ≡ true → Reads st s n d → Reads st s n e → d ≡ e
 one_data st s n d e h p q = same_Some d e (sym (sound st h p) ∙ sound st h q)

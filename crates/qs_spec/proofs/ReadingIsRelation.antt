@@ -11,7 +11,7 @@ use Rattle.qs_spec.specs.Tree.Entries.{entry, no_entries}
 use Rattle.qs_spec.specs.Data.{Data, Values, values_of, pairs_of, members_of, Named}
 use Rattle.qs_spec.specs.Shape.{Shape, Shapes, no_shapes, one_shape, Fields, no_fields, one_field, Variants, no_variants, one_variant, VariantKind, unit_kind, newtype_kind, tuple_kind, struct_kind, is_option, is_distinct}
 use Rattle.qs_spec.specs.Scalar.{boolean_data, unsigned_data, signed_data, text_data}
-use Rattle.qs_spec.specs.Read.{items, read_each, read_list, with_front, found, read_field, read_place, items_after, with_field, struct_members, read_map, as_map, read_enum, reads, reads_tuple, reads_names, reads_places, reads_variant, reads_kind}
+use Rattle.qs_spec.specs.Read.{items, read_each, read_list, with_front, found, read_field, read_place, items_after, with_field, struct_members, keys_are_allowed, read_map, as_map, read_enum, reads, reads_tuple, reads_names, reads_places, reads_variant, reads_kind}
 use Rattle.qs_spec.specs.Relation.{HasVariant, Reads, ReadsFirst, ReadsNames, ReadsPlaces, ReadsVariant}
 use Rattle.std.proofs.Common.{◌↔◌}
 use Rattle.qs_spec.proofs.SomeAnswers.{mapped, chained}
@@ -72,9 +72,9 @@ mutual
   related st (Shape.mapping k s) n d e =
       let m = mapped (λ ps. Data.mapping (pairs_of ps)) (read_map k (reads st s) n) d e in
       subst (Reads st (Shape.mapping k s) n) m.2 (map_related st k s n m.0 (λ n d f. related st s n d f) m.1)
-  related st (Shape.struct fs) n d e =
-      let m = mapped (λ ms. Data.struct (members_of ms)) (struct_members (reads_names st fs) (reads_places st fs) n) d e in
-      subst (Reads st (Shape.struct fs) n) m.2 (Reads.struct (struct_related st fs n m.0 (λ es ms f. names_related st fs es ms f) (λ xs ms f. places_related st fs xs ms f) m.1))
+  related st (Shape.struct u fs) n d e =
+      let m = mapped (λ ms. Data.struct (members_of ms)) (struct_members (keys_are_allowed u fs) (reads_names st fs) (reads_places st fs) n) d e in
+      subst (Reads st (Shape.struct u fs) n) m.2 (Reads.struct (struct_related st u fs n m.0 (λ es ms f. names_related st fs es ms f) (λ xs ms f. places_related st fs xs ms f) m.1))
   related st (Shape.newtype s) n d e = let m = mapped Data.newtype (reads st s n) d e in subst (Reads st (Shape.newtype s) n) m.2 (Reads.newtype (related st s n m.0 m.1))
   related st (Shape.enumeration vs) n d e = enum_related st vs n d (λ name t d f. variants_related st vs name t d f) e
   related st Shape.any n d e = any_related st n d e
@@ -112,9 +112,9 @@ mutual
   kind_related st unit_kind name t d e = subst (ReadsVariant st unit_kind name t) (same_Some (Data.unit_variant name) d e) ReadsVariant.as_unit
   kind_related st (newtype_kind s) name t d e = let m = mapped (Data.newtype_variant name) (reads st s t) d e in subst (ReadsVariant st (newtype_kind s) name t) m.2 (ReadsVariant.as_newtype (related st s t m.0 m.1))
   kind_related st (tuple_kind ss) name t d e = values_related st t d (Data.tuple_variant name) (ReadsVariant st (tuple_kind ss) name t) (reads_tuple st ss) (λ xs ds i f. ReadsVariant.as_tuple i (first_related st ss xs ds f)) e
-  kind_related st (struct_kind fs) name t d e =
-      let m = mapped (λ ms. Data.struct_variant name (members_of ms)) (struct_members (reads_names st fs) (reads_places st fs) (as_map t)) d e in
-      subst (ReadsVariant st (struct_kind fs) name t) m.2 (ReadsVariant.as_struct (struct_related st fs (as_map t) m.0 (λ es ms f. names_related st fs es ms f) (λ xs ms f. places_related st fs xs ms f) m.1))
+  kind_related st (struct_kind u fs) name t d e =
+      let m = mapped (λ ms. Data.struct_variant name (members_of ms)) (struct_members (keys_are_allowed u fs) (reads_names st fs) (reads_places st fs) (as_map t)) d e in
+      subst (ReadsVariant st (struct_kind u fs) name t) m.2 (ReadsVariant.as_struct (struct_related st u fs (as_map t) m.0 (λ es ms f. names_related st fs es ms f) (λ xs ms f. places_related st fs xs ms f) m.1))
 
 pub is_the_relation : (st : Bool) (s : Shape) (n : Tree) (d : Data) → is_distinct s ≡ true → (Reads st s n d ↔ (reads st s n ≡ Some d))
 is_the_relation st s n d h = (λ r. sound st h r, λ e. related st s n d e)

@@ -49,7 +49,7 @@ by_tuple fits (Some (tuple_kind ss)) = fits ss
 by_tuple fits _ = false
 
 abbrev pub by_struct : (Fields → Bool) → Option VariantKind → Bool
-by_struct fits (Some (struct_kind fs)) = fits fs
+by_struct fits (Some (struct_kind u fs)) = fits fs
 by_struct fits _ = false
 
 abbrev pub are_optional : Fields → Bool
@@ -77,7 +77,7 @@ abbrev mutual
   fits (Shape.sequence s) (Data.sequence ds) = each_fits s ds
   fits (Shape.tuple ss) (Data.tuple ds) = fits_tuple ss ds
   fits (Shape.mapping k s) (Data.mapping ps) = fits_pairs k s ps
-  fits (Shape.struct fs) (Data.struct ms) = fits_fields fs ms
+  fits (Shape.struct u fs) (Data.struct ms) = fits_fields fs ms
   fits (Shape.enumeration vs) (Data.unit_variant name) = is_utf8 name && is_unit (kind_of name vs)
   fits (Shape.enumeration vs) (Data.newtype_variant name d) = is_utf8 name && by_newtype (λ s. fits s d) (kind_of name vs)
   fits (Shape.enumeration vs) (Data.tuple_variant name ds) = is_utf8 name && by_tuple (λ ss. fits_tuple ss ds) (kind_of name vs)

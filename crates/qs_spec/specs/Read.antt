@@ -1,5 +1,5 @@
 -- What a shape reads from a node. docs/QUERYSTRINGS.md has the same as a table.
-use Rattle.std.specs.Prelude.{ℕ, ◌+◌, Bool, true, false, ◌&&◌, ◌==◌, nat_lt, cond, List, [], ◌∷◌, Option, Some, None, option_map, option_and_then}
+use Rattle.std.specs.Prelude.{ℕ, ◌+◌, Bool, true, false, ◌&&◌, ◌||◌, ◌==◌, nat_lt, cond, List, [], ◌∷◌, Option, Some, None, option_map, option_and_then}
 use Rattle.std.specs.Str.{bytes_eq, is_utf8}
 use Rattle.qs_spec.specs.Segment.{Segment, segment_text}
 use Rattle.qs_spec.specs.Segment.Segment.{Int, Str}
@@ -11,7 +11,7 @@ use Rattle.qs_spec.specs.Tree.Items.{no_items, item}
 use Rattle.qs_spec.specs.Tree.Entries.{no_entries, entry}
 use Rattle.qs_spec.specs.Config.{Config, are_refused}
 use Rattle.qs_spec.specs.Data.{Data, Values, no_values, one_value, Pairs, no_pairs, one_pair, values_of, pairs_of, members_of, Named}
-use Rattle.qs_spec.specs.Shape.{Shape, Shapes, no_shapes, one_shape, Fields, no_fields, one_field, Variants, no_variants, one_variant, VariantKind, unit_kind, newtype_kind, tuple_kind, struct_kind, KeyShape, is_option}
+use Rattle.qs_spec.specs.Shape.{Shape, Shapes, no_shapes, one_shape, Fields, no_fields, one_field, Variants, no_variants, one_variant, VariantKind, unit_kind, newtype_kind, tuple_kind, struct_kind, UnknownKeys, are_ignored, KeyShape, is_option, is_field_name}
 use Rattle.qs_spec.specs.Scalar.{boolean_data, unsigned_data, signed_data, character_data, text_data, key_data}
 
 -- how a part is read
@@ -23,20 +23,20 @@ abbrev pub item_text : Tree → Option (List ℕ)
 item_text (leaf l) = Some (leaf_text l)
 item_text _ = None
 
--- the bytes of the last item; several are refused under `strict`
+-- the bytes of the last item; several are refused under `reject_duplicates`
 abbrev pub last_item : Bool → Items → Option (List ℕ)
-last_item strict no_items = None
-last_item strict (item t no_items) = item_text t
-last_item strict (item t (item u xs)) = cond strict None (last_item strict (item u xs))
+last_item reject_duplicates no_items = None
+last_item reject_duplicates (item t no_items) = item_text t
+last_item reject_duplicates (item t (item u xs)) = cond reject_duplicates None (last_item reject_duplicates (item u xs))
 
 -- a scalar, with what it is for Null and NoValue, and how the last text is read otherwise
 abbrev pub read_scalar : Bool → Option Data → (List ℕ → Option Data) → Reader
-read_scalar strict empty get (leaf NoValue) = empty
-read_scalar strict empty get (leaf Null) = empty
-read_scalar strict empty get (leaf (Text bytes mark)) = get bytes
-read_scalar strict empty get (sequence xs) = option_and_then get (last_item strict xs)
-read_scalar strict empty get (mapping es) = None
-read_scalar strict empty get uninitialized = None
+read_scalar reject_duplicates empty get (leaf NoValue) = empty
+read_scalar reject_duplicates empty get (leaf Null) = empty
+read_scalar reject_duplicates empty get (leaf (Text bytes mark)) = get bytes
+read_scalar reject_duplicates empty get (sequence xs) = option_and_then get (last_item reject_duplicates xs)
+read_scalar reject_duplicates empty get (mapping es) = None
+read_scalar reject_duplicates empty get uninitialized = None
 
 abbrev pub read_unit : Reader
 read_unit (leaf NoValue) = Some Data.unit
@@ -107,9 +107,20 @@ abbrev pub found : List ℕ → Entries → List Tree
 found name no_entries = []
 found name (entry k mark t es) = cond (bytes_eq (segment_text k) name) (t ∷ found name es) (found name es)
 
+-- the text of every key is as the test asks
+abbrev pub all_keys : (List ℕ → Bool) → Entries → Bool
+all_keys test no_entries = true
+all_keys test (entry k mark t es) = test (segment_text k) && all_keys test es
+
 abbrev pub keys_are_text : Entries → Bool
-keys_are_text no_entries = true
-keys_are_text (entry k mark t es) = is_utf8 (segment_text k) && keys_are_text es
+keys_are_text = all_keys is_utf8
+
+abbrev pub keys_are_names : Fields → Entries → Bool
+keys_are_names fs = all_keys (λ key. is_field_name key fs)
+
+-- every key is a text, and a field's name where unknown keys are rejected
+abbrev pub keys_are_allowed : UnknownKeys → Fields → Entries → Bool
+keys_are_allowed unknown fs es = keys_are_text es && (keys_are_names fs es || are_ignored unknown)
 
 -- A field by its name: Some None where it is left out. Two keys with its text are refused; with none it is left out if it is
 -- optional, and else none if its shape is an option.
@@ -131,15 +142,15 @@ abbrev pub with_field : List ℕ → Option Data → Option (List Named) → Opt
 with_field name None rest = rest
 with_field name (Some d) rest = with_front (name, d) rest
 
--- The fields of a node: by their names in a map, whose keys are all texts, and in Null and NoValue, which have no keys; by their
+-- The fields of a node: by their names in a map, whose keys are all allowed, and in Null and NoValue, which have no keys; by their
 -- places in a sequence.
-unfoldable pub struct_members : (Entries → Option (List Named)) → (Items → Option (List Named)) → Tree → Option (List Named)
-struct_members names places (leaf NoValue) = names no_entries
-struct_members names places (leaf Null) = names no_entries
-struct_members names places (leaf (Text bytes mark)) = None
-struct_members names places (sequence xs) = places xs
-struct_members names places (mapping es) = option_and_then (λ ms. cond (keys_are_text es) (Some ms) None) (names es)
-struct_members names places uninitialized = None
+unfoldable pub struct_members : (Entries → Bool) → (Entries → Option (List Named)) → (Items → Option (List Named)) → Tree → Option (List Named)
+struct_members allowed names places (leaf NoValue) = names no_entries
+struct_members allowed names places (leaf Null) = names no_entries
+struct_members allowed names places (leaf (Text bytes mark)) = None
+struct_members allowed names places (sequence xs) = places xs
+struct_members allowed names places (mapping es) = option_and_then (λ ms. cond (allowed es) (Some ms) None) (names es)
+struct_members allowed names places uninitialized = None
 
 abbrev pub read_pairs : KeyShape → Reader → Entries → Option (List (Data × Data))
 read_pairs k r no_entries = Some []
@@ -207,54 +218,54 @@ unfoldable mutual
   any_pairs no_entries = Some no_pairs
   any_pairs (entry k mark t es) = option_and_then (λ a. option_and_then (λ d. option_map (one_pair a d) (any_pairs es)) (any_data t)) (text_data (segment_text k))
 
--- what the shape reads from the node; under `strict` several values for a scalar are refused
+-- what the shape reads from the node; under `reject_duplicates` several values for a scalar are refused
 unfoldable mutual
   pub reads : Bool → Shape → Reader
-  reads strict Shape.unit t = read_unit t
-  reads strict Shape.boolean t = read_scalar strict (Some (Data.boolean true)) boolean_data t
-  reads strict (Shape.unsigned bits) t = read_scalar strict None (unsigned_data bits) t
-  reads strict (Shape.signed bits) t = read_scalar strict None (signed_data bits) t
-  reads strict Shape.character t = read_character t
-  reads strict Shape.text t = read_scalar strict (Some (Data.text [])) text_data t
-  reads strict Shape.bytes t = read_scalar strict (Some (Data.bytes [])) (λ b. Some (Data.bytes b)) t
-  reads strict (Shape.option s) t = read_option (reads strict s) t
-  reads strict (Shape.sequence s) t = option_map (λ ds. Data.sequence (values_of ds)) (read_list (reads strict s) t)
-  reads strict (Shape.tuple ss) t = option_map (λ ds. Data.tuple (values_of ds)) (option_and_then (reads_tuple strict ss) (items t))
-  reads strict (Shape.mapping k s) t = option_map (λ ps. Data.mapping (pairs_of ps)) (read_map k (reads strict s) t)
-  reads strict (Shape.struct fs) t = option_map (λ ms. Data.struct (members_of ms)) (struct_members (reads_names strict fs) (reads_places strict fs) t)
-  reads strict (Shape.newtype s) t = option_map Data.newtype (reads strict s t)
-  reads strict (Shape.enumeration vs) t = read_enum vs (reads_variant strict vs) t
-  reads strict Shape.any t = any_data t
-  reads strict Shape.ignored t = read_ignored t
+  reads reject_duplicates Shape.unit t = read_unit t
+  reads reject_duplicates Shape.boolean t = read_scalar reject_duplicates (Some (Data.boolean true)) boolean_data t
+  reads reject_duplicates (Shape.unsigned bits) t = read_scalar reject_duplicates None (unsigned_data bits) t
+  reads reject_duplicates (Shape.signed bits) t = read_scalar reject_duplicates None (signed_data bits) t
+  reads reject_duplicates Shape.character t = read_character t
+  reads reject_duplicates Shape.text t = read_scalar reject_duplicates (Some (Data.text [])) text_data t
+  reads reject_duplicates Shape.bytes t = read_scalar reject_duplicates (Some (Data.bytes [])) (λ b. Some (Data.bytes b)) t
+  reads reject_duplicates (Shape.option s) t = read_option (reads reject_duplicates s) t
+  reads reject_duplicates (Shape.sequence s) t = option_map (λ ds. Data.sequence (values_of ds)) (read_list (reads reject_duplicates s) t)
+  reads reject_duplicates (Shape.tuple ss) t = option_map (λ ds. Data.tuple (values_of ds)) (option_and_then (reads_tuple reject_duplicates ss) (items t))
+  reads reject_duplicates (Shape.mapping k s) t = option_map (λ ps. Data.mapping (pairs_of ps)) (read_map k (reads reject_duplicates s) t)
+  reads reject_duplicates (Shape.struct unknown fs) t = option_map (λ ms. Data.struct (members_of ms)) (struct_members (keys_are_allowed unknown fs) (reads_names reject_duplicates fs) (reads_places reject_duplicates fs) t)
+  reads reject_duplicates (Shape.newtype s) t = option_map Data.newtype (reads reject_duplicates s t)
+  reads reject_duplicates (Shape.enumeration vs) t = read_enum vs (reads_variant reject_duplicates vs) t
+  reads reject_duplicates Shape.any t = any_data t
+  reads reject_duplicates Shape.ignored t = read_ignored t
 
   -- the first items, each by its shape
   pub reads_tuple : Bool → Shapes → List (Option Tree) → Option (List Data)
-  reads_tuple strict no_shapes xs = Some []
-  reads_tuple strict (one_shape s ss) [] = None
-  reads_tuple strict (one_shape s ss) (x ∷ xs) = option_and_then (λ d. with_front d (reads_tuple strict ss xs)) (option_and_then (reads strict s) x)
+  reads_tuple reject_duplicates no_shapes xs = Some []
+  reads_tuple reject_duplicates (one_shape s ss) [] = None
+  reads_tuple reject_duplicates (one_shape s ss) (x ∷ xs) = option_and_then (λ d. with_front d (reads_tuple reject_duplicates ss xs)) (option_and_then (reads reject_duplicates s) x)
 
   -- the fields in their order, each looked up among the entries
   pub reads_names : Bool → Fields → Entries → Option (List Named)
-  reads_names strict no_fields es = Some []
-  reads_names strict (one_field name s optional fs) es =
-      option_and_then (λ d. with_field name d (reads_names strict fs es)) (read_field optional (is_option s) (reads strict s) (found name es))
+  reads_names reject_duplicates no_fields es = Some []
+  reads_names reject_duplicates (one_field name s optional fs) es =
+      option_and_then (λ d. with_field name d (reads_names reject_duplicates fs es)) (read_field optional (is_option s) (reads reject_duplicates s) (found name es))
 
   -- the fields in their order, each by its place
   pub reads_places : Bool → Fields → Items → Option (List Named)
-  reads_places strict no_fields xs = Some []
-  reads_places strict (one_field name s optional fs) xs =
-      option_and_then (λ d. with_field name d (reads_places strict fs (items_after xs))) (read_place optional (reads strict s) xs)
+  reads_places reject_duplicates no_fields xs = Some []
+  reads_places reject_duplicates (one_field name s optional fs) xs =
+      option_and_then (λ d. with_field name d (reads_places reject_duplicates fs (items_after xs))) (read_place optional (reads reject_duplicates s) xs)
 
   -- the variant of the name, on a value
   pub reads_variant : Bool → Variants → List ℕ → Reader
-  reads_variant strict no_variants name t = None
-  reads_variant strict (one_variant n k vs) name t = cond (bytes_eq n name) (reads_kind strict k n t) (reads_variant strict vs name t)
+  reads_variant reject_duplicates no_variants name t = None
+  reads_variant reject_duplicates (one_variant n k vs) name t = cond (bytes_eq n name) (reads_kind reject_duplicates k n t) (reads_variant reject_duplicates vs name t)
 
   pub reads_kind : Bool → VariantKind → List ℕ → Reader
-  reads_kind strict unit_kind n t = Some (Data.unit_variant n)
-  reads_kind strict (newtype_kind s) n t = option_map (Data.newtype_variant n) (reads strict s t)
-  reads_kind strict (tuple_kind ss) n t = option_map (λ ds. Data.tuple_variant n (values_of ds)) (option_and_then (reads_tuple strict ss) (items t))
-  reads_kind strict (struct_kind fs) n t = option_map (λ ms. Data.struct_variant n (members_of ms)) (struct_members (reads_names strict fs) (reads_places strict fs) (as_map t))
+  reads_kind reject_duplicates unit_kind n t = Some (Data.unit_variant n)
+  reads_kind reject_duplicates (newtype_kind s) n t = option_map (Data.newtype_variant n) (reads reject_duplicates s t)
+  reads_kind reject_duplicates (tuple_kind ss) n t = option_map (λ ds. Data.tuple_variant n (values_of ds)) (option_and_then (reads_tuple reject_duplicates ss) (items t))
+  reads_kind reject_duplicates (struct_kind unknown fs) n t = option_map (λ ms. Data.struct_variant n (members_of ms)) (struct_members (keys_are_allowed unknown fs) (reads_names reject_duplicates fs) (reads_places reject_duplicates fs) (as_map t))
 
 -- what a configuration and a shape read from a node
 abbrev pub read_by : Config → Shape → Reader

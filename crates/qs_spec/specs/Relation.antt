@@ -5,18 +5,18 @@ use Rattle.qs_spec.specs.Segment.{Segment, segment_text}
 use Rattle.qs_spec.specs.Leaf.Leaf.{NoValue, Null, Text}
 use Rattle.qs_spec.specs.Tree.{Tree, Items, Entries}
 use Rattle.qs_spec.specs.Data.{Data, Values, no_values, one_value, Pairs, no_pairs, one_pair, Members, no_members, one_member}
-use Rattle.qs_spec.specs.Shape.{Shape, Shapes, no_shapes, one_shape, Fields, no_fields, one_field, Variants, one_variant, VariantKind, unit_kind, newtype_kind, tuple_kind, struct_kind, KeyShape}
+use Rattle.qs_spec.specs.Shape.{Shape, Shapes, no_shapes, one_shape, Fields, no_fields, one_field, Variants, one_variant, VariantKind, unit_kind, newtype_kind, tuple_kind, struct_kind, UnknownKeys, KeyShape}
 use Rattle.qs_spec.specs.Scalar.{boolean_data, unsigned_data, signed_data, character_data, key_data}
-use Rattle.qs_spec.specs.Read.{last_item, are_ints, items, found, keys_are_text, under_empty, as_map}
+use Rattle.qs_spec.specs.Read.{last_item, are_ints, items, found, keys_are_allowed, under_empty, as_map}
 
--- the last text of a node: that of a text, or of a sequence's last item, of which `strict` allows one alone
+-- the last text of a node: that of a text, or of a sequence's last item, of which `reject_duplicates` allows one alone
 abbrev pub last : Bool → Tree → Option (List ℕ)
-last strict (Tree.leaf NoValue) = None
-last strict (Tree.leaf Null) = None
-last strict (Tree.leaf (Text bytes mark)) = Some bytes
-last strict (Tree.sequence xs) = last_item strict xs
-last strict (Tree.mapping es) = None
-last strict Tree.uninitialized = None
+last reject_duplicates (Tree.leaf NoValue) = None
+last reject_duplicates (Tree.leaf Null) = None
+last reject_duplicates (Tree.leaf (Text bytes mark)) = Some bytes
+last reject_duplicates (Tree.sequence xs) = last_item reject_duplicates xs
+last reject_duplicates (Tree.mapping es) = None
+last reject_duplicates Tree.uninitialized = None
 
 -- a pair was there
 abbrev pub IsThere : Tree → Type 0
@@ -40,86 +40,86 @@ pub data HasVariant (name : List ℕ) (kind : VariantKind) : Variants → Type 0
   later : {n : List ℕ} {k : VariantKind} {vs : Variants} → HasVariant name kind vs → HasVariant name kind (one_variant n k vs)
 
 mutual
-  pub data Reads (strict : Bool) : Shape → Tree → Data → Type 0 where
-    unit_null : Reads strict Shape.unit (Tree.leaf Null) Data.unit
-    unit_no_value : Reads strict Shape.unit (Tree.leaf NoValue) Data.unit
-    boolean_null : Reads strict Shape.boolean (Tree.leaf Null) (Data.boolean true)
-    boolean_no_value : Reads strict Shape.boolean (Tree.leaf NoValue) (Data.boolean true)
-    boolean : {n : Tree} {d : Data} {t : List ℕ} → last strict n ≡ Some t → boolean_data t ≡ Some d → Reads strict Shape.boolean n d
-    unsigned : {bits : ℕ} {n : Tree} {d : Data} {t : List ℕ} → last strict n ≡ Some t → unsigned_data bits t ≡ Some d → Reads strict (Shape.unsigned bits) n d
-    signed : {bits : ℕ} {n : Tree} {d : Data} {t : List ℕ} → last strict n ≡ Some t → signed_data bits t ≡ Some d → Reads strict (Shape.signed bits) n d
-    character : {t : List ℕ} {mark : Bool} {d : Data} → character_data t ≡ Some d → Reads strict Shape.character (Tree.leaf (Text t mark)) d
-    text_null : Reads strict Shape.text (Tree.leaf Null) (Data.text [])
-    text_no_value : Reads strict Shape.text (Tree.leaf NoValue) (Data.text [])
-    text : {n : Tree} {t : List ℕ} → last strict n ≡ Some t → IsTrue (is_utf8 t) → Reads strict Shape.text n (Data.text t)
-    bytes_null : Reads strict Shape.bytes (Tree.leaf Null) (Data.bytes [])
-    bytes_no_value : Reads strict Shape.bytes (Tree.leaf NoValue) (Data.bytes [])
-    bytes : {n : Tree} {t : List ℕ} → last strict n ≡ Some t → Reads strict Shape.bytes n (Data.bytes t)
-    option_no_value : {s : Shape} → Reads strict (Shape.option s) (Tree.leaf NoValue) Data.none
-    option_null : {s : Shape} {d : Data} → Reads strict s (Tree.leaf NoValue) d → Reads strict (Shape.option s) (Tree.leaf Null) (Data.some d)
-    option_full : {s : Shape} {n : Tree} {d : Data} → IsFull n → Reads strict s n d → Reads strict (Shape.option s) n (Data.some d)
-    newtype : {s : Shape} {n : Tree} {d : Data} → Reads strict s n d → Reads strict (Shape.newtype s) n (Data.newtype d)
-    sequence : {s : Shape} {n : Tree} {xs : List (Option Tree)} {ds : Values} → items n ≡ Some xs → ReadsEach strict s xs ds → Reads strict (Shape.sequence s) n (Data.sequence ds)
-    tuple : {ss : Shapes} {n : Tree} {xs : List (Option Tree)} {ds : Values} → items n ≡ Some xs → ReadsFirst strict ss xs ds → Reads strict (Shape.tuple ss) n (Data.tuple ds)
-    map_null : {k : KeyShape} {s : Shape} → Reads strict (Shape.mapping k s) (Tree.leaf Null) (Data.mapping no_pairs)
-    map_no_value : {k : KeyShape} {s : Shape} → Reads strict (Shape.mapping k s) (Tree.leaf NoValue) (Data.mapping no_pairs)
-    map_text : {k : KeyShape} {s : Shape} {t : List ℕ} {mark : Bool} {ps : Pairs} → ReadsPairs strict k s (under_empty (Tree.leaf (Text t mark))) ps
-        → Reads strict (Shape.mapping k s) (Tree.leaf (Text t mark)) (Data.mapping ps)
-    map : {k : KeyShape} {s : Shape} {es : Entries} {ps : Pairs} → ReadsPairs strict k s es ps → Reads strict (Shape.mapping k s) (Tree.mapping es) (Data.mapping ps)
-    struct : {fs : Fields} {n : Tree} {ms : Members} → ReadsStruct strict fs n ms → Reads strict (Shape.struct fs) n (Data.struct ms)
-    unit_variant : {vs : Variants} {name : List ℕ} {mark : Bool} → HasVariant name unit_kind vs → Reads strict (Shape.enumeration vs) (Tree.leaf (Text name mark)) (Data.unit_variant name)
-    variant : {vs : Variants} {kind : VariantKind} {key : Segment} {mark : Bool} {n : Tree} {es : Entries} {d : Data} → HasVariant (segment_text key) kind vs → ReadsVariant strict kind (segment_text key) n d
-        → Reads strict (Shape.enumeration vs) (Tree.mapping (Entries.entry key mark n es)) d
-    any_null : Reads strict Shape.any (Tree.leaf Null) (Data.text [])
-    any_no_value : Reads strict Shape.any (Tree.leaf NoValue) Data.unit
-    any_text : {t : List ℕ} {mark : Bool} → IsTrue (is_utf8 t) → Reads strict Shape.any (Tree.leaf (Text t mark)) (Data.text t)
-    any_sequence : {xs : Items} {d : Data} → Reads strict (Shape.sequence Shape.any) (Tree.sequence xs) d → Reads strict Shape.any (Tree.sequence xs) d
-    any_places : {es : Entries} {d : Data} → IsTrue (are_ints es) → Reads strict (Shape.sequence Shape.any) (Tree.mapping es) d → Reads strict Shape.any (Tree.mapping es) d
-    any_map : {es : Entries} {d : Data} → IsFalse (are_ints es) → Reads strict (Shape.mapping KeyShape.text Shape.any) (Tree.mapping es) d → Reads strict Shape.any (Tree.mapping es) d
-    ignored : {n : Tree} → IsThere n → Reads strict Shape.ignored n Data.unit
+  pub data Reads (reject_duplicates : Bool) : Shape → Tree → Data → Type 0 where
+    unit_null : Reads reject_duplicates Shape.unit (Tree.leaf Null) Data.unit
+    unit_no_value : Reads reject_duplicates Shape.unit (Tree.leaf NoValue) Data.unit
+    boolean_null : Reads reject_duplicates Shape.boolean (Tree.leaf Null) (Data.boolean true)
+    boolean_no_value : Reads reject_duplicates Shape.boolean (Tree.leaf NoValue) (Data.boolean true)
+    boolean : {n : Tree} {d : Data} {t : List ℕ} → last reject_duplicates n ≡ Some t → boolean_data t ≡ Some d → Reads reject_duplicates Shape.boolean n d
+    unsigned : {bits : ℕ} {n : Tree} {d : Data} {t : List ℕ} → last reject_duplicates n ≡ Some t → unsigned_data bits t ≡ Some d → Reads reject_duplicates (Shape.unsigned bits) n d
+    signed : {bits : ℕ} {n : Tree} {d : Data} {t : List ℕ} → last reject_duplicates n ≡ Some t → signed_data bits t ≡ Some d → Reads reject_duplicates (Shape.signed bits) n d
+    character : {t : List ℕ} {mark : Bool} {d : Data} → character_data t ≡ Some d → Reads reject_duplicates Shape.character (Tree.leaf (Text t mark)) d
+    text_null : Reads reject_duplicates Shape.text (Tree.leaf Null) (Data.text [])
+    text_no_value : Reads reject_duplicates Shape.text (Tree.leaf NoValue) (Data.text [])
+    text : {n : Tree} {t : List ℕ} → last reject_duplicates n ≡ Some t → IsTrue (is_utf8 t) → Reads reject_duplicates Shape.text n (Data.text t)
+    bytes_null : Reads reject_duplicates Shape.bytes (Tree.leaf Null) (Data.bytes [])
+    bytes_no_value : Reads reject_duplicates Shape.bytes (Tree.leaf NoValue) (Data.bytes [])
+    bytes : {n : Tree} {t : List ℕ} → last reject_duplicates n ≡ Some t → Reads reject_duplicates Shape.bytes n (Data.bytes t)
+    option_no_value : {s : Shape} → Reads reject_duplicates (Shape.option s) (Tree.leaf NoValue) Data.none
+    option_null : {s : Shape} {d : Data} → Reads reject_duplicates s (Tree.leaf NoValue) d → Reads reject_duplicates (Shape.option s) (Tree.leaf Null) (Data.some d)
+    option_full : {s : Shape} {n : Tree} {d : Data} → IsFull n → Reads reject_duplicates s n d → Reads reject_duplicates (Shape.option s) n (Data.some d)
+    newtype : {s : Shape} {n : Tree} {d : Data} → Reads reject_duplicates s n d → Reads reject_duplicates (Shape.newtype s) n (Data.newtype d)
+    sequence : {s : Shape} {n : Tree} {xs : List (Option Tree)} {ds : Values} → items n ≡ Some xs → ReadsEach reject_duplicates s xs ds → Reads reject_duplicates (Shape.sequence s) n (Data.sequence ds)
+    tuple : {ss : Shapes} {n : Tree} {xs : List (Option Tree)} {ds : Values} → items n ≡ Some xs → ReadsFirst reject_duplicates ss xs ds → Reads reject_duplicates (Shape.tuple ss) n (Data.tuple ds)
+    map_null : {k : KeyShape} {s : Shape} → Reads reject_duplicates (Shape.mapping k s) (Tree.leaf Null) (Data.mapping no_pairs)
+    map_no_value : {k : KeyShape} {s : Shape} → Reads reject_duplicates (Shape.mapping k s) (Tree.leaf NoValue) (Data.mapping no_pairs)
+    map_text : {k : KeyShape} {s : Shape} {t : List ℕ} {mark : Bool} {ps : Pairs} → ReadsPairs reject_duplicates k s (under_empty (Tree.leaf (Text t mark))) ps
+        → Reads reject_duplicates (Shape.mapping k s) (Tree.leaf (Text t mark)) (Data.mapping ps)
+    map : {k : KeyShape} {s : Shape} {es : Entries} {ps : Pairs} → ReadsPairs reject_duplicates k s es ps → Reads reject_duplicates (Shape.mapping k s) (Tree.mapping es) (Data.mapping ps)
+    struct : {u : UnknownKeys} {fs : Fields} {n : Tree} {ms : Members} → ReadsStruct reject_duplicates u fs n ms → Reads reject_duplicates (Shape.struct u fs) n (Data.struct ms)
+    unit_variant : {vs : Variants} {name : List ℕ} {mark : Bool} → HasVariant name unit_kind vs → Reads reject_duplicates (Shape.enumeration vs) (Tree.leaf (Text name mark)) (Data.unit_variant name)
+    variant : {vs : Variants} {kind : VariantKind} {key : Segment} {mark : Bool} {n : Tree} {es : Entries} {d : Data} → HasVariant (segment_text key) kind vs → ReadsVariant reject_duplicates kind (segment_text key) n d
+        → Reads reject_duplicates (Shape.enumeration vs) (Tree.mapping (Entries.entry key mark n es)) d
+    any_null : Reads reject_duplicates Shape.any (Tree.leaf Null) (Data.text [])
+    any_no_value : Reads reject_duplicates Shape.any (Tree.leaf NoValue) Data.unit
+    any_text : {t : List ℕ} {mark : Bool} → IsTrue (is_utf8 t) → Reads reject_duplicates Shape.any (Tree.leaf (Text t mark)) (Data.text t)
+    any_sequence : {xs : Items} {d : Data} → Reads reject_duplicates (Shape.sequence Shape.any) (Tree.sequence xs) d → Reads reject_duplicates Shape.any (Tree.sequence xs) d
+    any_places : {es : Entries} {d : Data} → IsTrue (are_ints es) → Reads reject_duplicates (Shape.sequence Shape.any) (Tree.mapping es) d → Reads reject_duplicates Shape.any (Tree.mapping es) d
+    any_map : {es : Entries} {d : Data} → IsFalse (are_ints es) → Reads reject_duplicates (Shape.mapping KeyShape.text Shape.any) (Tree.mapping es) d → Reads reject_duplicates Shape.any (Tree.mapping es) d
+    ignored : {n : Tree} → IsThere n → Reads reject_duplicates Shape.ignored n Data.unit
 
   -- every item, each of which stands at its place
-  pub data ReadsEach (strict : Bool) : Shape → List (Option Tree) → Values → Type 0 where
-    each_end : {s : Shape} → ReadsEach strict s [] no_values
-    each_item : {s : Shape} {n : Tree} {xs : List (Option Tree)} {d : Data} {ds : Values} → Reads strict s n d → ReadsEach strict s xs ds → ReadsEach strict s (Some n ∷ xs) (one_value d ds)
+  pub data ReadsEach (reject_duplicates : Bool) : Shape → List (Option Tree) → Values → Type 0 where
+    each_end : {s : Shape} → ReadsEach reject_duplicates s [] no_values
+    each_item : {s : Shape} {n : Tree} {xs : List (Option Tree)} {d : Data} {ds : Values} → Reads reject_duplicates s n d → ReadsEach reject_duplicates s xs ds → ReadsEach reject_duplicates s (Some n ∷ xs) (one_value d ds)
 
   -- the first items, each by its shape
-  pub data ReadsFirst (strict : Bool) : Shapes → List (Option Tree) → Values → Type 0 where
-    first_end : {xs : List (Option Tree)} → ReadsFirst strict no_shapes xs no_values
-    first_item : {s : Shape} {ss : Shapes} {n : Tree} {xs : List (Option Tree)} {d : Data} {ds : Values} → Reads strict s n d → ReadsFirst strict ss xs ds → ReadsFirst strict (one_shape s ss) (Some n ∷ xs) (one_value d ds)
+  pub data ReadsFirst (reject_duplicates : Bool) : Shapes → List (Option Tree) → Values → Type 0 where
+    first_end : {xs : List (Option Tree)} → ReadsFirst reject_duplicates no_shapes xs no_values
+    first_item : {s : Shape} {ss : Shapes} {n : Tree} {xs : List (Option Tree)} {d : Data} {ds : Values} → Reads reject_duplicates s n d → ReadsFirst reject_duplicates ss xs ds → ReadsFirst reject_duplicates (one_shape s ss) (Some n ∷ xs) (one_value d ds)
 
   -- the pairs of a map in their order
-  pub data ReadsPairs (strict : Bool) : KeyShape → Shape → Entries → Pairs → Type 0 where
-    pairs_end : {k : KeyShape} {s : Shape} → ReadsPairs strict k s Entries.no_entries no_pairs
-    pairs_more : {k : KeyShape} {s : Shape} {key : Segment} {mark : Bool} {n : Tree} {es : Entries} {a d : Data} {ps : Pairs} → key_data k (segment_text key) ≡ Some a → Reads strict s n d → ReadsPairs strict k s es ps
-        → ReadsPairs strict k s (Entries.entry key mark n es) (one_pair a d ps)
+  pub data ReadsPairs (reject_duplicates : Bool) : KeyShape → Shape → Entries → Pairs → Type 0 where
+    pairs_end : {k : KeyShape} {s : Shape} → ReadsPairs reject_duplicates k s Entries.no_entries no_pairs
+    pairs_more : {k : KeyShape} {s : Shape} {key : Segment} {mark : Bool} {n : Tree} {es : Entries} {a d : Data} {ps : Pairs} → key_data k (segment_text key) ≡ Some a → Reads reject_duplicates s n d → ReadsPairs reject_duplicates k s es ps
+        → ReadsPairs reject_duplicates k s (Entries.entry key mark n es) (one_pair a d ps)
 
-  -- the fields of a node: by their names in a map, whose keys are texts, by their places in a sequence
-  pub data ReadsStruct (strict : Bool) : Fields → Tree → Members → Type 0 where
-    fields_of_null : {fs : Fields} {ms : Members} → ReadsNames strict fs Entries.no_entries ms → ReadsStruct strict fs (Tree.leaf Null) ms
-    fields_of_no_value : {fs : Fields} {ms : Members} → ReadsNames strict fs Entries.no_entries ms → ReadsStruct strict fs (Tree.leaf NoValue) ms
-    fields_by_name : {fs : Fields} {es : Entries} {ms : Members} → IsTrue (keys_are_text es) → ReadsNames strict fs es ms → ReadsStruct strict fs (Tree.mapping es) ms
-    fields_by_place : {fs : Fields} {xs : Items} {ms : Members} → ReadsPlaces strict fs xs ms → ReadsStruct strict fs (Tree.sequence xs) ms
+  -- the fields of a node: by their names in a map, whose keys are allowed, by their places in a sequence
+  pub data ReadsStruct (reject_duplicates : Bool) : UnknownKeys → Fields → Tree → Members → Type 0 where
+    fields_of_null : {u : UnknownKeys} {fs : Fields} {ms : Members} → ReadsNames reject_duplicates fs Entries.no_entries ms → ReadsStruct reject_duplicates u fs (Tree.leaf Null) ms
+    fields_of_no_value : {u : UnknownKeys} {fs : Fields} {ms : Members} → ReadsNames reject_duplicates fs Entries.no_entries ms → ReadsStruct reject_duplicates u fs (Tree.leaf NoValue) ms
+    fields_by_name : {u : UnknownKeys} {fs : Fields} {es : Entries} {ms : Members} → IsTrue (keys_are_allowed u fs es) → ReadsNames reject_duplicates fs es ms → ReadsStruct reject_duplicates u fs (Tree.mapping es) ms
+    fields_by_place : {u : UnknownKeys} {fs : Fields} {xs : Items} {ms : Members} → ReadsPlaces reject_duplicates fs xs ms → ReadsStruct reject_duplicates u fs (Tree.sequence xs) ms
 
   -- A field whose name one key has is read; a field whose name none has is left out if it is optional, and else none if its shape is an option.
-  pub data ReadsNames (strict : Bool) : Fields → Entries → Members → Type 0 where
-    names_end : {es : Entries} → ReadsNames strict no_fields es no_members
-    name_found : {name : List ℕ} {s : Shape} {optional : Bool} {fs : Fields} {es : Entries} {n : Tree} {d : Data} {ms : Members} → found name es ≡ n ∷ [] → Reads strict s n d → ReadsNames strict fs es ms
-        → ReadsNames strict (one_field name s optional fs) es (one_member name d ms)
-    name_left_out : {name : List ℕ} {s : Shape} {fs : Fields} {es : Entries} {ms : Members} → found name es ≡ [] → ReadsNames strict fs es ms → ReadsNames strict (one_field name s true fs) es ms
-    name_as_none : {name : List ℕ} {s : Shape} {fs : Fields} {es : Entries} {ms : Members} → found name es ≡ [] → ReadsNames strict fs es ms
-        → ReadsNames strict (one_field name (Shape.option s) false fs) es (one_member name Data.none ms)
+  pub data ReadsNames (reject_duplicates : Bool) : Fields → Entries → Members → Type 0 where
+    names_end : {es : Entries} → ReadsNames reject_duplicates no_fields es no_members
+    name_found : {name : List ℕ} {s : Shape} {optional : Bool} {fs : Fields} {es : Entries} {n : Tree} {d : Data} {ms : Members} → found name es ≡ n ∷ [] → Reads reject_duplicates s n d → ReadsNames reject_duplicates fs es ms
+        → ReadsNames reject_duplicates (one_field name s optional fs) es (one_member name d ms)
+    name_left_out : {name : List ℕ} {s : Shape} {fs : Fields} {es : Entries} {ms : Members} → found name es ≡ [] → ReadsNames reject_duplicates fs es ms → ReadsNames reject_duplicates (one_field name s true fs) es ms
+    name_as_none : {name : List ℕ} {s : Shape} {fs : Fields} {es : Entries} {ms : Members} → found name es ≡ [] → ReadsNames reject_duplicates fs es ms
+        → ReadsNames reject_duplicates (one_field name (Shape.option s) false fs) es (one_member name Data.none ms)
 
   -- A field at whose place there is an item is read; beyond the end it is left out if it is optional.
-  pub data ReadsPlaces (strict : Bool) : Fields → Items → Members → Type 0 where
-    places_end : {xs : Items} → ReadsPlaces strict no_fields xs no_members
-    place_found : {name : List ℕ} {s : Shape} {optional : Bool} {fs : Fields} {n : Tree} {xs : Items} {d : Data} {ms : Members} → Reads strict s n d → ReadsPlaces strict fs xs ms
-        → ReadsPlaces strict (one_field name s optional fs) (Items.item n xs) (one_member name d ms)
-    place_left_out : {name : List ℕ} {s : Shape} {fs : Fields} {ms : Members} → ReadsPlaces strict fs Items.no_items ms → ReadsPlaces strict (one_field name s true fs) Items.no_items ms
+  pub data ReadsPlaces (reject_duplicates : Bool) : Fields → Items → Members → Type 0 where
+    places_end : {xs : Items} → ReadsPlaces reject_duplicates no_fields xs no_members
+    place_found : {name : List ℕ} {s : Shape} {optional : Bool} {fs : Fields} {n : Tree} {xs : Items} {d : Data} {ms : Members} → Reads reject_duplicates s n d → ReadsPlaces reject_duplicates fs xs ms
+        → ReadsPlaces reject_duplicates (one_field name s optional fs) (Items.item n xs) (one_member name d ms)
+    place_left_out : {name : List ℕ} {s : Shape} {fs : Fields} {ms : Members} → ReadsPlaces reject_duplicates fs Items.no_items ms → ReadsPlaces reject_duplicates (one_field name s true fs) Items.no_items ms
 
   -- a variant of this kind and name, on the value of its key
-  pub data ReadsVariant (strict : Bool) : VariantKind → List ℕ → Tree → Data → Type 0 where
-    as_unit : {name : List ℕ} {n : Tree} → ReadsVariant strict unit_kind name n (Data.unit_variant name)
-    as_newtype : {s : Shape} {name : List ℕ} {n : Tree} {d : Data} → Reads strict s n d → ReadsVariant strict (newtype_kind s) name n (Data.newtype_variant name d)
-    as_tuple : {ss : Shapes} {name : List ℕ} {n : Tree} {xs : List (Option Tree)} {ds : Values} → items n ≡ Some xs → ReadsFirst strict ss xs ds → ReadsVariant strict (tuple_kind ss) name n (Data.tuple_variant name ds)
-    as_struct : {fs : Fields} {name : List ℕ} {n : Tree} {ms : Members} → ReadsStruct strict fs (as_map n) ms → ReadsVariant strict (struct_kind fs) name n (Data.struct_variant name ms)
+  pub data ReadsVariant (reject_duplicates : Bool) : VariantKind → List ℕ → Tree → Data → Type 0 where
+    as_unit : {name : List ℕ} {n : Tree} → ReadsVariant reject_duplicates unit_kind name n (Data.unit_variant name)
+    as_newtype : {s : Shape} {name : List ℕ} {n : Tree} {d : Data} → Reads reject_duplicates s n d → ReadsVariant reject_duplicates (newtype_kind s) name n (Data.newtype_variant name d)
+    as_tuple : {ss : Shapes} {name : List ℕ} {n : Tree} {xs : List (Option Tree)} {ds : Values} → items n ≡ Some xs → ReadsFirst reject_duplicates ss xs ds → ReadsVariant reject_duplicates (tuple_kind ss) name n (Data.tuple_variant name ds)
+    as_struct : {u : UnknownKeys} {fs : Fields} {name : List ℕ} {n : Tree} {ms : Members} → ReadsStruct reject_duplicates u fs (as_map n) ms → ReadsVariant reject_duplicates (struct_kind u fs) name n (Data.struct_variant name ms)

@@ -12,6 +12,11 @@ pub data KeyShape : Type 0 where
   text : KeyShape
   variants : (names : List (List ℕ)) → KeyShape
 
+-- what becomes of a map's keys that no field of a struct has
+pub data UnknownKeys : Type 0 where
+  ignored : UnknownKeys
+  rejected : UnknownKeys
+
 -- A field may be optional: then it is left out where it isn't there.
 mutual
   pub data Shape : Type 0 where
@@ -26,7 +31,7 @@ mutual
     sequence : Shape → Shape
     tuple : Shapes → Shape
     mapping : KeyShape → Shape → Shape
-    struct : Fields → Shape
+    struct : UnknownKeys → Fields → Shape
     newtype : Shape → Shape
     enumeration : Variants → Shape
     any : Shape
@@ -48,7 +53,7 @@ mutual
     unit_kind : VariantKind
     newtype_kind : Shape → VariantKind
     tuple_kind : Shapes → VariantKind
-    struct_kind : Fields → VariantKind
+    struct_kind : UnknownKeys → Fields → VariantKind
 
 -- a field's name, shape, and whether it is optional
 abbrev pub Field : Type 0
@@ -68,6 +73,10 @@ fields_of (f ∷ fs) = one_field f.0 f.1 f.2 (fields_of fs)
 abbrev pub variants_of : List Variant → Variants
 variants_of [] = no_variants
 variants_of (v ∷ vs) = one_variant v.0 v.1 (variants_of vs)
+
+abbrev pub are_ignored : UnknownKeys → Bool
+are_ignored UnknownKeys.ignored = true
+are_ignored UnknownKeys.rejected = false
 
 abbrev pub is_option : Shape → Bool
 is_option (Shape.option s) = true
@@ -111,7 +120,7 @@ abbrev mutual
   is_distinct (Shape.sequence s) = is_distinct s
   is_distinct (Shape.tuple ss) = are_distinct ss
   is_distinct (Shape.mapping k s) = is_distinct_key k && is_distinct s
-  is_distinct (Shape.struct fs) = field_names_differ fs && are_distinct_fields fs
+  is_distinct (Shape.struct u fs) = field_names_differ fs && are_distinct_fields fs
   is_distinct (Shape.newtype s) = is_distinct s
   is_distinct (Shape.enumeration vs) = variant_names_differ vs && are_distinct_variants vs
   is_distinct Shape.any = true
@@ -133,4 +142,4 @@ abbrev mutual
   is_distinct_kind unit_kind = true
   is_distinct_kind (newtype_kind s) = is_distinct s
   is_distinct_kind (tuple_kind ss) = are_distinct ss
-  is_distinct_kind (struct_kind fs) = field_names_differ fs && are_distinct_fields fs
+  is_distinct_kind (struct_kind u fs) = field_names_differ fs && are_distinct_fields fs

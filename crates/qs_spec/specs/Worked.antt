@@ -4,7 +4,7 @@ use Rattle.qs_spec.specs.Config.{Config}
 use Rattle.qs_spec.specs.Segment.{Segment}
 use Rattle.qs_spec.specs.Leaf.{Leaf}
 use Rattle.qs_spec.specs.Tree.{Tree, Items, Entries, IsTree, IsRefused}
-use Rattle.qs_spec.specs.Shape.{Shape, no_fields, one_field}
+use Rattle.qs_spec.specs.Shape.{Shape, no_fields, one_field, UnknownKeys}
 use Rattle.qs_spec.specs.Data.{Data, pairs_of, members_of}
 use Rattle.qs_spec.specs.Read.{read_by}
 use Rattle.qs_spec.specs.Entry.{Refusal, entries}
@@ -33,7 +33,7 @@ only key t = Tree.mapping (at_text key t Entries.no_entries)
 
 -- a struct of one field, which must be there
 abbrev pub field : List ℕ → Shape → Shape
-field name s = Shape.struct (one_field name s false no_fields)
+field name s = Shape.struct UnknownKeys.ignored (one_field name s false no_fields)
 
 abbrev pub one_member : List ℕ → Data → Data
 one_member name d = Data.struct (members_of ((name, d) ∷ []))

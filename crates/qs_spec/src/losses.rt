@@ -11,6 +11,7 @@ ghost use Rattle.qs_spec.specs.Tree.Entries.{entry, no_entries};
 ghost use Rattle.qs_spec.specs.Stable.{is_stable};
 ghost use Rattle.qs_spec.specs.Entry.Refusal.{too_deep};
 ghost use Rattle.qs_spec.specs.Shape.{Shape, KeyShape, no_fields, one_field, fields_of, no_shapes, one_shape, no_variants, one_variant, unit_kind, tuple_kind, struct_kind};
+ghost use Rattle.qs_spec.specs.Shape.UnknownKeys.{ignored};
 ghost use Rattle.qs_spec.specs.Data.{Data, values_of, pairs_of, members_of};
 ghost use Rattle.qs_spec.specs.Worked.{field, one_member, one_pair, text, texts, at_text, only, IsRead, IsReadAs, IsWritten, IsUnstable};
 
@@ -20,8 +21,8 @@ ghost use Rattle.qs_spec.specs.Worked.{field, one_member, one_pair, text, texts,
 pub fn not_plain_is_lost()
     ensures option_in_option { IsReadAs default (field (codes "a") (Shape.option (Shape.option Shape.unit))) (one_member (codes "a") (Data.some Data.none)) (codes "a") (Some (one_member (codes "a") Data.none)) }
     ensures option_in_newtype { IsReadAs default (field (codes "a") (Shape.option (Shape.newtype (Shape.option Shape.unit)))) (one_member (codes "a") (Data.some (Data.newtype Data.none))) (codes "a") (Some (one_member (codes "a") Data.none)) }
-    ensures empty_struct { IsReadAs default (field (codes "a") (Shape.struct (one_field (codes "x") Shape.unit true no_fields))) (one_member (codes "a") (Data.struct (members_of []))) [] None }
-    ensures empty_variant { IsReadAs default (field (codes "e") (Shape.enumeration (one_variant (codes "v") (struct_kind no_fields) no_variants))) (one_member (codes "e") (Data.struct_variant (codes "v") (members_of []))) [] None }
+    ensures empty_struct { IsReadAs default (field (codes "a") (Shape.struct ignored (one_field (codes "x") Shape.unit true no_fields))) (one_member (codes "a") (Data.struct (members_of []))) [] None }
+    ensures empty_variant { IsReadAs default (field (codes "e") (Shape.enumeration (one_variant (codes "v") (struct_kind ignored no_fields) no_variants))) (one_member (codes "e") (Data.struct_variant (codes "v") (members_of []))) [] None }
     ensures empty_tuple_variant { IsReadAs default (field (codes "e") (Shape.enumeration (one_variant (codes "v") (tuple_kind no_shapes) no_variants))) (one_member (codes "e") (Data.tuple_variant (codes "v") (values_of []))) [] None }
     ensures leading_zero { IsReadAs default (Shape.mapping KeyShape.text Shape.unit) (Data.mapping (pairs_of ((Data.text (codes "01"), Data.unit) ∷ []))) (codes "01=") (Some (Data.mapping (pairs_of ((Data.text (codes "1"), Data.unit) ∷ [])))) }
     ensures leading_zero_of_a_field { IsReadAs default (field (codes "01") Shape.unit) (one_member (codes "01") Data.unit) (codes "01=") None }
@@ -37,7 +38,7 @@ pub fn not_plain_is_lost()
 /// Data that don't fit the shape are read as others, or not at all: the fields of a struct variant in the shape's order, a number
 /// as one with a sign, and one beyond the shape's bits as none.
 pub fn not_fitting_is_lost()
-    ensures order_of_fields { IsReadAs default (Shape.enumeration (one_variant (codes "c") (struct_kind (fields_of ((codes "x", Shape.unsigned 8, false) ∷ (codes "y", Shape.unsigned 8, false) ∷ []))) no_variants)) (Data.struct_variant (codes "c") (members_of ((codes "y", Data.unsigned 1) ∷ (codes "x", Data.unsigned 2) ∷ []))) (codes "c[y]=1&c[x]=2") (Some (Data.struct_variant (codes "c") (members_of ((codes "x", Data.unsigned 2) ∷ (codes "y", Data.unsigned 1) ∷ [])))) }
+    ensures order_of_fields { IsReadAs default (Shape.enumeration (one_variant (codes "c") (struct_kind ignored (fields_of ((codes "x", Shape.unsigned 8, false) ∷ (codes "y", Shape.unsigned 8, false) ∷ []))) no_variants)) (Data.struct_variant (codes "c") (members_of ((codes "y", Data.unsigned 1) ∷ (codes "x", Data.unsigned 2) ∷ []))) (codes "c[y]=1&c[x]=2") (Some (Data.struct_variant (codes "c") (members_of ((codes "x", Data.unsigned 2) ∷ (codes "y", Data.unsigned 1) ∷ [])))) }
     ensures sign { IsReadAs default (Shape.signed 8) (Data.unsigned 5) (codes "=5") (Some (Data.signed (pos 5))) }
     ensures bits { IsReadAs default (Shape.unsigned 8) (Data.unsigned 256) (codes "=256") None }
     ensures length { IsReadAs default (Shape.tuple (one_shape (Shape.unsigned 8) no_shapes)) (Data.tuple (values_of (Data.unsigned 1 ∷ Data.unsigned 2 ∷ []))) (codes "0=1&1=2") (Some (Data.tuple (values_of (Data.unsigned 1 ∷ [])))) }

@@ -7,6 +7,7 @@ ghost use Rattle.qs_spec.specs.Config.ArrayFormat.{indexed};
 ghost use Rattle.qs_spec.specs.Data.{Data, members_of, pairs_of, values_of};
 ghost use Rattle.qs_spec.specs.Plain.{is_plain};
 ghost use Rattle.qs_spec.specs.Shape.{Shape, KeyShape, newtype_kind, fields_of, variants_of, is_distinct};
+ghost use Rattle.qs_spec.specs.Shape.UnknownKeys.{ignored};
 ghost use Rattle.qs_spec.specs.Entry.{Entry, entries};
 ghost use Rattle.qs_spec.specs.Written.{written};
 ghost use Rattle.qs_spec.specs.Listed.{is_listed};
@@ -52,7 +53,7 @@ pub fn entries_are_apart()
 
 /// Data whose names and keys are digits, spaces and separators: plain, fitting, and written without an error.
 pub fn hostile_names_are_plain()
-    ensures { let shape = Shape.struct (fields_of ((codes "a b", Shape.mapping (KeyShape.unsigned 8) (Shape.option Shape.text), false)
+    ensures { let shape = Shape.struct ignored (fields_of ((codes "a b", Shape.mapping (KeyShape.unsigned 8) (Shape.option Shape.text), false)
         ∷ (codes "e", Shape.enumeration (variants_of ((codes "v=1", newtype_kind (Shape.sequence Shape.character)) ∷ [])), false)
         ∷ (codes "z", Shape.option Shape.boolean, false) ∷ (codes "7", Shape.unit, true) ∷ [])) in
         let d = Data.struct (members_of ((codes "a b", Data.mapping (pairs_of ((Data.unsigned 10, Data.some (Data.text (codes "x&y"))) ∷ (Data.unsigned 0, Data.some (Data.text [])) ∷ [])))

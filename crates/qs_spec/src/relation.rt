@@ -9,11 +9,11 @@ ghost use Rattle.qs_spec.specs.Relation.{Reads};
 
 /// For a distinct shape the relation holds exactly where the function answers that data.
 pub fn reads_is_the_relation()
-    ensures where_some { (strict : Bool) (shape : Shape) (node : Tree) (d : Data) → is_distinct shape ≡ true → (Reads strict shape node d ↔ (reads strict shape node ≡ Some d)) }
-    ensures where_none { (strict : Bool) (shape : Shape) (node : Tree) → is_distinct shape ≡ true → (((d : Data) → Reads strict shape node d → ⊥) ↔ (reads strict shape node ≡ None)) }
+    ensures where_some { (reject_duplicates : Bool) (shape : Shape) (node : Tree) (d : Data) → is_distinct shape ≡ true → (Reads reject_duplicates shape node d ↔ (reads reject_duplicates shape node ≡ Some d)) }
+    ensures where_none { (reject_duplicates : Bool) (shape : Shape) (node : Tree) → is_distinct shape ≡ true → (((d : Data) → Reads reject_duplicates shape node d → ⊥) ↔ (reads reject_duplicates shape node ≡ None)) }
 {}
 
 /// For a distinct shape at most one data is related to a node.
 pub fn one_data()
-    ensures { (strict : Bool) (shape : Shape) (node : Tree) (d e : Data) → is_distinct shape ≡ true → Reads strict shape node d → Reads strict shape node e → d ≡ e }
+    ensures { (reject_duplicates : Bool) (shape : Shape) (node : Tree) (d e : Data) → is_distinct shape ≡ true → Reads reject_duplicates shape node d → Reads reject_duplicates shape node e → d ≡ e }
 {}

@@ -3,6 +3,7 @@
 ghost use Rattle.std.specs.Prelude.{true, false, codes, [], ◌∷◌, Some, None, pos, neg_ℤ};
 ghost use Rattle.qs_spec.specs.Config.{default, refuse};
 ghost use Rattle.qs_spec.specs.Shape.{Shape, no_fields, one_field, no_shapes, one_shape, no_variants, one_variant, unit_kind, newtype_kind, tuple_kind, struct_kind, KeyShape};
+ghost use Rattle.qs_spec.specs.Shape.UnknownKeys.{ignored, rejected};
 ghost use Rattle.qs_spec.specs.Data.{Data, values_of, pairs_of, members_of};
 ghost use Rattle.qs_spec.specs.Worked.{field, one_member, IsRead};
 
@@ -31,15 +32,35 @@ pub fn fields_by_name()
     ensures index_and_text { IsRead default (field (codes "1") Shape.text) (codes "1=a&%31=b") None }
     ensures other_key { IsRead default (field (codes "a") Shape.text) (codes "b=%FF&a=x") (Some (one_member (codes "a") (Data.text (codes "x")))) }
     ensures other_key_is_no_text { IsRead default (field (codes "a") Shape.text) (codes "%FF=b&a=x") None }
-    ensures left_out { IsRead default (Shape.struct (one_field (codes "a") Shape.text true no_fields)) (codes "b=x") (Some (Data.struct (members_of []))) }
+    ensures left_out { IsRead default (Shape.struct ignored (one_field (codes "a") Shape.text true no_fields)) (codes "b=x") (Some (Data.struct (members_of []))) }
     ensures missing { IsRead default (field (codes "a") Shape.text) (codes "b=x") None }
-    ensures by_place { IsRead default (field (codes "p") (Shape.struct (one_field (codes "x") (Shape.unsigned 8) false (one_field (codes "y") (Shape.unsigned 8) false no_fields)))) (codes "p=1&p=2")
+    ensures by_place { IsRead default (field (codes "p") (Shape.struct ignored (one_field (codes "x") (Shape.unsigned 8) false (one_field (codes "y") (Shape.unsigned 8) false no_fields)))) (codes "p=1&p=2")
         (Some (one_member (codes "p") (Data.struct (members_of ((codes "x", Data.unsigned 1) ∷ (codes "y", Data.unsigned 2) ∷ []))))) }
-    ensures left_out_beyond_the_end { IsRead default (field (codes "p") (Shape.struct (one_field (codes "x") (Shape.unsigned 8) false (one_field (codes "y") (Shape.unsigned 8) true no_fields)))) (codes "p[]=1")
+    ensures left_out_beyond_the_end { IsRead default (field (codes "p") (Shape.struct ignored (one_field (codes "x") (Shape.unsigned 8) false (one_field (codes "y") (Shape.unsigned 8) true no_fields)))) (codes "p[]=1")
         (Some (one_member (codes "p") (Data.struct (members_of ((codes "x", Data.unsigned 1) ∷ []))))) }
-    ensures option_beyond_the_end { IsRead default (field (codes "p") (Shape.struct (one_field (codes "x") (Shape.unsigned 8) false (one_field (codes "y") (Shape.option Shape.text) false no_fields)))) (codes "p[]=1") None }
-    ensures fields_of_a_text { IsRead default (field (codes "p") (Shape.struct (one_field (codes "x") Shape.text true no_fields))) (codes "p=x") None }
-    ensures fields_of_nothing { IsRead default (field (codes "p") (Shape.struct (one_field (codes "x") Shape.text true no_fields))) (codes "p=") (Some (one_member (codes "p") (Data.struct (members_of [])))) }
+    ensures option_beyond_the_end { IsRead default (field (codes "p") (Shape.struct ignored (one_field (codes "x") (Shape.unsigned 8) false (one_field (codes "y") (Shape.option Shape.text) false no_fields)))) (codes "p[]=1") None }
+    ensures fields_of_a_text { IsRead default (field (codes "p") (Shape.struct ignored (one_field (codes "x") Shape.text true no_fields))) (codes "p=x") None }
+    ensures fields_of_nothing { IsRead default (field (codes "p") (Shape.struct ignored (one_field (codes "x") Shape.text true no_fields))) (codes "p=") (Some (one_member (codes "p") (Data.struct (members_of [])))) }
+{}
+
+/// Where unknown keys are rejected, each key of a map is a field's name, as the empty key is of a struct variant that a text stands
+/// for. No value has no key, and a sequence's further items are ignored all the same.
+pub fn unknown_keys()
+    ensures known { IsRead default (Shape.struct rejected (one_field (codes "a") Shape.text false no_fields)) (codes "a=x") (Some (one_member (codes "a") (Data.text (codes "x")))) }
+    ensures unknown { IsRead default (Shape.struct rejected (one_field (codes "a") Shape.text false no_fields)) (codes "a=x&b=y") None }
+    ensures ignored { IsRead default (Shape.struct ignored (one_field (codes "a") Shape.text false no_fields)) (codes "a=x&b=y") (Some (one_member (codes "a") (Data.text (codes "x")))) }
+    ensures as_many_as_fields { IsRead default (Shape.struct rejected (one_field (codes "a") Shape.text false (one_field (codes "b") Shape.text true no_fields))) (codes "a=x&c=y") None }
+    ensures left_out { IsRead default (Shape.struct rejected (one_field (codes "a") Shape.text false (one_field (codes "b") Shape.text true no_fields))) (codes "a=x") (Some (one_member (codes "a") (Data.text (codes "x")))) }
+    ensures index { IsRead default (Shape.struct rejected (one_field (codes "1") Shape.text false no_fields)) (codes "1=a") (Some (one_member (codes "1") (Data.text (codes "a")))) }
+    ensures inside { IsRead default (field (codes "p") (Shape.struct rejected (one_field (codes "x") (Shape.unsigned 8) false no_fields))) (codes "p[x]=1&p[y]=2") None }
+    ensures beside { IsRead default (field (codes "p") (Shape.struct rejected (one_field (codes "x") (Shape.unsigned 8) false no_fields))) (codes "p[x]=1&q=2")
+        (Some (one_member (codes "p") (one_member (codes "x") (Data.unsigned 1)))) }
+    ensures further_items { IsRead default (field (codes "a") (Shape.struct rejected (one_field (codes "u") (Shape.unsigned 8) false (one_field (codes "v") (Shape.unsigned 8) false no_fields)))) (codes "a[]=1&a[]=2&a[]=3")
+        (Some (one_member (codes "a") (Data.struct (members_of ((codes "u", Data.unsigned 1) ∷ (codes "v", Data.unsigned 2) ∷ []))))) }
+    ensures no_value { IsRead default (field (codes "t") (Shape.struct rejected no_fields)) (codes "t") (Some (one_member (codes "t") (Data.struct (members_of [])))) }
+    ensures variant_of_a_text { IsRead default (field (codes "e") (Shape.enumeration (one_variant (codes "c") (struct_kind rejected (one_field (codes "x") (Shape.unsigned 8) true no_fields)) no_variants))) (codes "e[c]=7") None }
+    ensures variant_with_the_empty_name { IsRead default (field (codes "e") (Shape.enumeration (one_variant (codes "c") (struct_kind rejected (one_field [] Shape.text false no_fields)) no_variants))) (codes "e[c]=v")
+        (Some (one_member (codes "e") (Data.struct_variant (codes "c") (members_of (([], Data.text (codes "v")) ∷ []))))) }
 {}
 
 /// A scalar is the last of several values, or they are refused.
@@ -127,8 +148,8 @@ pub fn kinds_of_variants()
     ensures unit_by_key { IsRead default (field (codes "e") (Shape.enumeration (one_variant (codes "a") unit_kind no_variants))) (codes "e[a][x]=y") (Some (one_member (codes "e") (Data.unit_variant (codes "a")))) }
     ensures tuple { IsRead default (field (codes "e") (Shape.enumeration (one_variant (codes "d") (tuple_kind (one_shape (Shape.unsigned 8) no_shapes)) no_variants))) (codes "e[d]=1&e[d]=2")
         (Some (one_member (codes "e") (Data.tuple_variant (codes "d") (values_of (Data.unsigned 1 ∷ []))))) }
-    ensures struct_of_a_text { IsRead default (field (codes "e") (Shape.enumeration (one_variant (codes "c") (struct_kind (one_field (codes "x") (Shape.unsigned 8) true no_fields)) no_variants))) (codes "e[c]=%FF")
+    ensures struct_of_a_text { IsRead default (field (codes "e") (Shape.enumeration (one_variant (codes "c") (struct_kind ignored (one_field (codes "x") (Shape.unsigned 8) true no_fields)) no_variants))) (codes "e[c]=%FF")
         (Some (one_member (codes "e") (Data.struct_variant (codes "c") (members_of [])))) }
-    ensures struct_field_of_a_text { IsRead default (field (codes "e") (Shape.enumeration (one_variant (codes "c") (struct_kind (one_field [] Shape.text false no_fields)) no_variants))) (codes "e[c]=v")
+    ensures struct_field_of_a_text { IsRead default (field (codes "e") (Shape.enumeration (one_variant (codes "c") (struct_kind ignored (one_field [] Shape.text false no_fields)) no_variants))) (codes "e[c]=v")
         (Some (one_member (codes "e") (Data.struct_variant (codes "c") (members_of (([], Data.text (codes "v")) ∷ []))))) }
 {}

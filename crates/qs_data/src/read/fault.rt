@@ -25,6 +25,8 @@ pub(crate) enum Fault<'a> {
     MissingField(&'a str),
     /// Two keys with this field's name.
     DuplicateField(&'a str),
+    /// A key with this text, which no field has.
+    UnknownField(&'a str),
     /// No variant of this name.
     UnknownVariant(&'a str),
     /// Too few items: this many are there.
@@ -150,6 +152,7 @@ impl fmt::Display for Fault<'_> {
             ),
             Fault::MissingField(name) => write!(f, "missing field `{name}`"),
             Fault::DuplicateField(name) => write!(f, "duplicate field `{name}`"),
+            Fault::UnknownField(name) => write!(f, "unknown field `{name}`"),
             Fault::UnknownVariant(name) => write!(f, "unknown variant `{name}`"),
             Fault::InvalidLength(length) => write!(f, "invalid length {length}"),
         }

@@ -2,12 +2,12 @@
 
 ghost use Rattle.std.specs.Prelude.{Some, None, cond, drop, map, option_map, option_and_then};
 ghost use Rattle.qs_spec.specs.Shape.{is_option as is_option_shape};
-ghost use Rattle.qs_spec.specs.Read.{struct_members, reads, reads_names, reads_places, read_field, read_place, found, keys_are_text};
+ghost use Rattle.qs_spec.specs.Read.{struct_members, reads, reads_names, reads_places, read_field, read_place, found, keys_are_allowed};
 ghost use Rattle.qs_tree.specs.Views.{tree_of, items_from};
 ghost use Rattle.qs_data.specs.Views.{data_of, field_of, fields_in, named, shape_of};
 ghost use Rattle.qs_data.specs.Text.{is_text, items_are_text, entries_are_text};
 ghost use Rattle.qs_data.specs.Gives.{Gives};
-ghost use Rattle.qs_data.specs.Keys.{NumbersFit, entries_of};
+ghost use Rattle.qs_data.specs.Keys.{NumbersFit, entries_of, unknown_of};
 ghost use Rattle.std.specs.Prelude.{◌≡◌};
 
 use crate::data::Data;
@@ -15,6 +15,7 @@ use crate::read::fault::{Expected, Fault};
 use crate::read::keys::{Entries, Found, find, test_keys};
 use crate::read::read;
 use crate::read::scalar::as_text;
+use crate::read::unknown::UnknownKeys;
 use crate::shape::{Field, Shape};
 use qs_tree::{ParsedValue, Result};
 use std::alloc::Global;
@@ -25,22 +26,31 @@ use std::alloc::Global;
 #[inline(always)]
 pub(crate) fn read_struct(
     alloc: Global,
-    strict: bool,
+    reject_duplicates: bool,
+    unknown: UnknownKeys,
     fields: &Vec<Field>,
     value: &ParsedValue<'_>,
 ) -> Result<Vec<(String, Data)>>
     ensures { Gives (λ v. map (named data_of) v.items) (is_text (tree_of value.now)) result
-        (struct_members (reads_names strict (fields_in fields.now.items)) (reads_places strict (fields_in fields.now.items)) (tree_of value.now)) }
+        (struct_members (keys_are_allowed (unknown_of unknown) (fields_in fields.now.items)) (reads_names reject_duplicates (fields_in fields.now.items))
+        (reads_places reject_duplicates (fields_in fields.now.items)) (tree_of value.now)) }
 {
     match value {
         ParsedValue::NoValue | ParsedValue::Null => read_entries(
             alloc,
-            strict,
+            reject_duplicates,
+            unknown,
             fields,
             Entries::Empty,
         ),
-        ParsedValue::Map(map) => read_entries(alloc, strict, fields, Entries::Map(map)),
-        ParsedValue::Sequence(items) => read_places(alloc, strict, fields, items),
+        ParsedValue::Map(map) => read_entries(
+            alloc,
+            reject_duplicates,
+            unknown,
+            fields,
+            Entries::Map(map),
+        ),
+        ParsedValue::Sequence(items) => read_places(alloc, reject_duplicates, fields, items),
         ParsedValue::String(text) => {
             as_text(text.as_slice())?;
             Err(Fault::mismatch(alloc, value, Expected::Struct))
@@ -49,20 +59,23 @@ pub(crate) fn read_struct(
     }
 }
 
-/// The fields by their names, and then a test of all keys.
+/// The fields by their names, and then a test of all keys: for one that no field has, where such are rejected, and for one that isn't
+/// a text.
 #[cycle(read)]
 pub(crate) fn read_entries(
     alloc: Global,
-    strict: bool,
+    reject_duplicates: bool,
+    unknown: UnknownKeys,
     fields: &Vec<Field>,
     entries: Entries<'_, '_>,
 ) -> Result<Vec<(String, Data)>>
     ensures { Gives (λ v. map (named data_of) v.items) (entries_are_text (entries_of entries.entry)) result
-        (option_and_then (λ ms. cond (keys_are_text (entries_of entries.entry)) (Some ms) None)
-        (reads_names strict (fields_in fields.now.items) (entries_of entries.entry))) }
+        (option_and_then (λ ms. cond (keys_are_allowed (unknown_of unknown) (fields_in fields.now.items) (entries_of entries.entry)) (Some ms) None)
+        (reads_names reject_duplicates (fields_in fields.now.items) (entries_of entries.entry))) }
 {
     let tested = test_keys(entries);
-    let members = read_names(alloc, strict, fields, entries)?;
+    let members = read_names(alloc, reject_duplicates, fields, entries)?;
+    unknown.test(alloc, fields, entries)?;
     match tested {
         Ok(()) => Ok(members),
         Err(key) => Err(key.error(alloc)),
@@ -74,17 +87,17 @@ pub(crate) fn read_entries(
 #[tactic(auto, unfolding(qs_spec::specs::Read::reads))]
 fn read_names(
     alloc: Global,
-    strict: bool,
+    reject_duplicates: bool,
     fields: &Vec<Field>,
     entries: Entries<'_, '_>,
 ) -> Result<Vec<(String, Data)>>
     requires { NumbersFit (entries_of entries) }
     ensures { Gives (λ v. map (named data_of) v.items) (entries_are_text (entries_of entries.entry)) result
-        (reads_names strict (fields_in fields.now.items) (entries_of entries.entry)) }
+        (reads_names reject_duplicates (fields_in fields.now.items) (entries_of entries.entry)) }
 {
     let mut members = Vec::with_capacity(alloc, fields.len())?;
     for field in fields {
-        let Some(value) = read_field(alloc, strict, field, entries)? else {
+        let Some(value) = read_field(alloc, reject_duplicates, field, entries)? else {
             continue;
         };
         let name = field.name.clone()?;
@@ -97,14 +110,14 @@ fn read_names(
 #[cycle(read)]
 fn read_field(
     alloc: Global,
-    strict: bool,
+    reject_duplicates: bool,
     field: &Field,
     entries: Entries<'_, '_>,
 ) -> Result<Option<Data>>
     requires { NumbersFit (entries_of entries) }
     ensures { let f = field_of field.now in
         Gives (option_map data_of) (entries_are_text (entries_of entries.entry)) result
-        (read_field f.2 (is_option_shape f.1) (reads strict f.1) (found f.0 (entries_of entries.entry))) }
+        (read_field f.2 (is_option_shape f.1) (reads reject_duplicates f.1) (found f.0 (entries_of entries.entry))) }
 {
     match find(entries, &field.name) {
         Found::Missing => {
@@ -116,7 +129,7 @@ fn read_field(
                 Err(Fault::MissingField(&field.name).error(alloc))
             }
         }
-        Found::One(value) => Ok(Some(read(alloc, strict, &field.shape, value)?)),
+        Found::One(value) => Ok(Some(read(alloc, reject_duplicates, &field.shape, value)?)),
         Found::Several => Err(Fault::DuplicateField(&field.name).error(alloc)),
     }
 }
@@ -135,16 +148,16 @@ fn is_option(shape: &Shape) -> bool
 #[tactic(auto, unfolding(qs_spec::specs::Read::reads))]
 fn read_places(
     alloc: Global,
-    strict: bool,
+    reject_duplicates: bool,
     fields: &Vec<Field>,
     items: &[ParsedValue<'_>],
 ) -> Result<Vec<(String, Data)>>
     ensures { Gives (λ v. map (named data_of) v.items) (items_are_text (items_from (map tree_of items.now))) result
-        (reads_places strict (fields_in fields.now.items) (items_from (map tree_of items.now))) }
+        (reads_places reject_duplicates (fields_in fields.now.items) (items_from (map tree_of items.now))) }
 {
     let mut members = Vec::new(alloc);
     for (i, field) in fields.iter().enumerate() {
-        let Some(value) = read_place(alloc, strict, field, items, i)? else {
+        let Some(value) = read_place(alloc, reject_duplicates, field, items, i)? else {
             continue;
         };
         let name = field.name.clone()?;
@@ -157,17 +170,17 @@ fn read_places(
 #[cycle(read)]
 fn read_place(
     alloc: Global,
-    strict: bool,
+    reject_duplicates: bool,
     field: &Field,
     items: &[ParsedValue<'_>],
     place: usize,
 ) -> Result<Option<Data>>
     ensures { let f = field_of field.now in
         Gives (option_map data_of) (items_are_text (items_from (map tree_of items.now))) result
-        (read_place f.2 (reads strict f.1) (items_from (map tree_of (drop place items.now)))) }
+        (read_place f.2 (reads reject_duplicates f.1) (items_from (map tree_of (drop place items.now)))) }
 {
     match items.get(place) {
-        Some(item) => Ok(Some(read(alloc, strict, &field.shape, item)?)),
+        Some(item) => Ok(Some(read(alloc, reject_duplicates, &field.shape, item)?)),
         None => {
             if field.optional {
                 Ok(None)

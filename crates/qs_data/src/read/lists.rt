@@ -21,34 +21,34 @@ use std::alloc::Global;
 #[tactic(auto, unfolding(qs_spec::specs::Read::read_list))]
 pub(crate) fn read_list(
     alloc: Global,
-    strict: bool,
+    reject_duplicates: bool,
     part: &Shape,
     value: &ParsedValue<'_>,
 ) -> Result<Vec<Data>>
     ensures { Gives (λ v. map data_of v.items) (is_text (tree_of value.now)) result
-        (read_list (reads strict (shape_of part.now)) (tree_of value.now)) }
+        (read_list (reads reject_duplicates (shape_of part.now)) (tree_of value.now)) }
 {
     let items = items_of(alloc, value, Expected::Sequence)?;
-    read_each(alloc, strict, part, items)
+    read_each(alloc, reject_duplicates, part, items)
 }
 
 /// Each item, by one shape.
 #[cycle(read)]
 pub(crate) fn read_each(
     alloc: Global,
-    strict: bool,
+    reject_duplicates: bool,
     part: &Shape,
     items: Items<'_, '_>,
 ) -> Result<Vec<Data>>
     ensures { Gives (λ v. map data_of v.items) (are_text (items_in items.entry)) result
-        (read_each (reads strict (shape_of part.now)) (items_in items.entry)) }
+        (read_each (reads reject_duplicates (shape_of part.now)) (items_in items.entry)) }
 {
     let mut values = Vec::with_capacity(alloc, items.len())?;
     for i in 0..items.len() {
         let Some(item) = items.at(alloc, i)? else {
             break;
         };
-        values.push(read(alloc, strict, part, item)?)?;
+        values.push(read(alloc, reject_duplicates, part, item)?)?;
     }
     Ok(values)
 }
@@ -58,16 +58,16 @@ pub(crate) fn read_each(
 #[inline(always)]
 pub(crate) fn read_tuple(
     alloc: Global,
-    strict: bool,
+    reject_duplicates: bool,
     parts: &Vec<Shape>,
     value: &ParsedValue<'_>,
     expected: Expected,
 ) -> Result<Vec<Data>>
     ensures { Gives (λ v. map data_of v.items) (is_text (tree_of value.now)) result
-        (option_and_then (reads_tuple strict (shapes_in parts.now.items)) (items (tree_of value.now))) }
+        (option_and_then (reads_tuple reject_duplicates (shapes_in parts.now.items)) (items (tree_of value.now))) }
 {
     let items = items_of(alloc, value, expected)?;
-    read_parts(alloc, strict, parts, items)
+    read_parts(alloc, reject_duplicates, parts, items)
 }
 
 // The first items, each by its own shape.
@@ -75,19 +75,19 @@ pub(crate) fn read_tuple(
 #[tactic(auto, unfolding(qs_spec::specs::Read::reads))]
 fn read_parts(
     alloc: Global,
-    strict: bool,
+    reject_duplicates: bool,
     parts: &Vec<Shape>,
     items: Items<'_, '_>,
 ) -> Result<Vec<Data>>
     ensures { Gives (λ v. map data_of v.items) (are_text (items_in items.entry)) result
-        (reads_tuple strict (shapes_in parts.now.items) (items_in items.entry)) }
+        (reads_tuple reject_duplicates (shapes_in parts.now.items) (items_in items.entry)) }
 {
     let mut values = Vec::with_capacity(alloc, parts.len())?;
     for (i, part) in parts.iter().enumerate() {
         let Some(item) = items.at(alloc, i)? else {
             return Err(Fault::InvalidLength(i).error(alloc));
         };
-        values.push(read(alloc, strict, part, item)?)?;
+        values.push(read(alloc, reject_duplicates, part, item)?)?;
     }
     Ok(values)
 }

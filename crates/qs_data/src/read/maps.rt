@@ -20,18 +20,24 @@ use std::alloc::Global;
 #[tactic(auto, unfolding(qs_spec::specs::Read::read_map))]
 pub(crate) fn read_map(
     alloc: Global,
-    strict: bool,
+    reject_duplicates: bool,
     key_shape: &KeyShape,
     part: &Shape,
     value: &ParsedValue<'_>,
 ) -> Result<Vec<(Data, Data)>>
     ensures { Gives (λ v. map pair_of v.items) (is_text (tree_of value.now)) result
-        (read_map (key_shape_of key_shape.now) (reads strict (shape_of part.now)) (tree_of value.now)) }
+        (read_map (key_shape_of key_shape.now) (reads reject_duplicates (shape_of part.now)) (tree_of value.now)) }
 {
     match value {
         ParsedValue::NoValue | ParsedValue::Null => Ok(Vec::new(alloc)),
-        ParsedValue::String(_) => read_under_empty(alloc, strict, key_shape, part, value),
-        ParsedValue::Map(entries) => read_pairs(alloc, strict, key_shape, part, entries),
+        ParsedValue::String(_) => read_under_empty(
+            alloc,
+            reject_duplicates,
+            key_shape,
+            part,
+            value,
+        ),
+        ParsedValue::Map(entries) => read_pairs(alloc, reject_duplicates, key_shape, part, entries),
         ParsedValue::Sequence(_) | ParsedValue::Uninitialized => Err(Fault::mismatch(
             alloc,
             value,
@@ -44,13 +50,13 @@ pub(crate) fn read_map(
 #[cycle(read)]
 pub(crate) fn read_pairs(
     alloc: Global,
-    strict: bool,
+    reject_duplicates: bool,
     key_shape: &KeyShape,
     part: &Shape,
     entries: &ParsedMap<'_>,
 ) -> Result<Vec<(Data, Data)>>
     ensures { Gives (λ v. map pair_of v.items) (entries_are_text (entries_of_map entries.now)) result
-        (read_pairs (key_shape_of key_shape.now) (reads strict (shape_of part.now)) (entries_of_map entries.now)) }
+        (read_pairs (key_shape_of key_shape.now) (reads reject_duplicates (shape_of part.now)) (entries_of_map entries.now)) }
 {
     let mut pairs = Vec::with_capacity(alloc, entries.len())?;
     for i in 0..entries.len() {
@@ -58,7 +64,7 @@ pub(crate) fn read_pairs(
             break;
         };
         let key = read_key(alloc, key_shape, key)?;
-        let value = read(alloc, strict, part, value)?;
+        let value = read(alloc, reject_duplicates, part, value)?;
         pairs.push((key, value))?;
     }
     Ok(pairs)
@@ -68,16 +74,16 @@ pub(crate) fn read_pairs(
 #[cycle(read)]
 fn read_under_empty(
     alloc: Global,
-    strict: bool,
+    reject_duplicates: bool,
     key_shape: &KeyShape,
     part: &Shape,
     value: &ParsedValue<'_>,
 ) -> Result<Vec<(Data, Data)>>
     ensures { Gives (λ v. map pair_of v.items) (is_text (tree_of value.now)) result
-        (read_pairs (key_shape_of key_shape.now) (reads strict (shape_of part.now)) (under_empty (tree_of value.now))) }
+        (read_pairs (key_shape_of key_shape.now) (reads reject_duplicates (shape_of part.now)) (under_empty (tree_of value.now))) }
 {
     let key = key_data(alloc, key_shape, &[])?;
-    let value = read(alloc, strict, part, value)?;
+    let value = read(alloc, reject_duplicates, part, value)?;
     let mut pairs = Vec::new(alloc);
     pairs.push((key, value))?;
     Ok(pairs)

@@ -36,12 +36,16 @@ pub(crate) fn read_unit(alloc: Global, value: &ParsedValue<'_>) -> Result<Data>
 }
 
 /// A boolean: the last text, and true where there is none.
-pub(crate) fn read_bool(alloc: Global, strict: bool, value: &ParsedValue<'_>) -> Result<Data>
+pub(crate) fn read_bool(
+    alloc: Global,
+    reject_duplicates: bool,
+    value: &ParsedValue<'_>,
+) -> Result<Data>
     ensures gives { Gives data_of (is_text (tree_of value.now)) result
-        (read_scalar strict (Some (d.boolean true)) boolean_data (tree_of value.now)) }
-    ensures frugal { IsFrugal result (read_scalar strict (Some (d.boolean true)) boolean_data (tree_of value.now)) }
+        (read_scalar reject_duplicates (Some (d.boolean true)) boolean_data (tree_of value.now)) }
+    ensures frugal { IsFrugal result (read_scalar reject_duplicates (Some (d.boolean true)) boolean_data (tree_of value.now)) }
 {
-    match scalar_text(alloc, strict, value, Expected::Bool)? {
+    match scalar_text(alloc, reject_duplicates, value, Expected::Bool)? {
         Some(bytes) => bool_data(alloc, bytes),
         None => Ok(Data::Bool(true)),
     }
@@ -51,16 +55,16 @@ pub(crate) fn read_bool(alloc: Global, strict: bool, value: &ParsedValue<'_>) ->
 #[inline(always)]
 pub(crate) fn read_unsigned(
     alloc: Global,
-    strict: bool,
+    reject_duplicates: bool,
     width: Width,
     value: &ParsedValue<'_>,
 ) -> Result<Data>
     ensures gives { Gives data_of (is_text (tree_of value.now)) result
-        (read_scalar strict None (unsigned_data (bits_of width)) (tree_of value.now)) }
-    ensures frugal { IsFrugal result (read_scalar strict None (unsigned_data (bits_of width)) (tree_of value.now)) }
+        (read_scalar reject_duplicates None (unsigned_data (bits_of width)) (tree_of value.now)) }
+    ensures frugal { IsFrugal result (read_scalar reject_duplicates None (unsigned_data (bits_of width)) (tree_of value.now)) }
 {
     let expected = Expected::Unsigned(width);
-    match scalar_text(alloc, strict, value, expected)? {
+    match scalar_text(alloc, reject_duplicates, value, expected)? {
         Some(bytes) => unsigned_data(alloc, width, bytes),
         None => Err(Fault::mismatch(alloc, value, expected)),
     }
@@ -70,16 +74,16 @@ pub(crate) fn read_unsigned(
 #[inline(always)]
 pub(crate) fn read_signed(
     alloc: Global,
-    strict: bool,
+    reject_duplicates: bool,
     width: Width,
     value: &ParsedValue<'_>,
 ) -> Result<Data>
     ensures gives { Gives data_of (is_text (tree_of value.now)) result
-        (read_scalar strict None (signed_data (bits_of width)) (tree_of value.now)) }
-    ensures frugal { IsFrugal result (read_scalar strict None (signed_data (bits_of width)) (tree_of value.now)) }
+        (read_scalar reject_duplicates None (signed_data (bits_of width)) (tree_of value.now)) }
+    ensures frugal { IsFrugal result (read_scalar reject_duplicates None (signed_data (bits_of width)) (tree_of value.now)) }
 {
     let expected = Expected::Signed(width);
-    match scalar_text(alloc, strict, value, expected)? {
+    match scalar_text(alloc, reject_duplicates, value, expected)? {
         Some(bytes) => signed_data(alloc, width, bytes),
         None => Err(Fault::mismatch(alloc, value, expected)),
     }
@@ -97,21 +101,29 @@ pub(crate) fn read_char(alloc: Global, value: &ParsedValue<'_>) -> Result<Data>
 }
 
 /// A text: the last one, and the empty one where there is none.
-pub(crate) fn read_text(alloc: Global, strict: bool, value: &ParsedValue<'_>) -> Result<Data>
-    ensures { Gives data_of (is_text (tree_of value.now)) result (read_scalar strict (Some (d.text [])) text_data (tree_of value.now)) }
+pub(crate) fn read_text(
+    alloc: Global,
+    reject_duplicates: bool,
+    value: &ParsedValue<'_>,
+) -> Result<Data>
+    ensures { Gives data_of (is_text (tree_of value.now)) result (read_scalar reject_duplicates (Some (d.text [])) text_data (tree_of value.now)) }
 {
-    match scalar_text(alloc, strict, value, Expected::Text)? {
+    match scalar_text(alloc, reject_duplicates, value, Expected::Text)? {
         Some(bytes) => text_data(alloc, bytes),
         None => Ok(Data::Text(String::new(alloc))),
     }
 }
 
 /// Bytes: those of the last text, and none where there is none.
-pub(crate) fn read_bytes(alloc: Global, strict: bool, value: &ParsedValue<'_>) -> Result<Data>
+pub(crate) fn read_bytes(
+    alloc: Global,
+    reject_duplicates: bool,
+    value: &ParsedValue<'_>,
+) -> Result<Data>
     ensures { Gives data_of (is_text (tree_of value.now)) result
-        (read_scalar strict (Some (d.bytes [])) (λ b. Some (d.bytes b)) (tree_of value.now)) }
+        (read_scalar reject_duplicates (Some (d.bytes [])) (λ b. Some (d.bytes b)) (tree_of value.now)) }
 {
-    match scalar_text(alloc, strict, value, Expected::Bytes)? {
+    match scalar_text(alloc, reject_duplicates, value, Expected::Bytes)? {
         Some(bytes) => Ok(Data::Bytes(Vec::from_slice(alloc, bytes)?)),
         None => Ok(Data::Bytes(Vec::new(alloc))),
     }
@@ -121,38 +133,43 @@ pub(crate) fn read_bytes(alloc: Global, strict: bool, value: &ParsedValue<'_>) -
 #[inline(always)]
 fn scalar_text<'t>(
     alloc: Global,
-    strict: bool,
+    reject_duplicates: bool,
     value: &'t ParsedValue<'_>,
     expected: Expected,
 ) -> Result<Option<&'t [u8]>>
-    ensures gives { Gives (option_map (λ b. b.now)) true result (scalar_text strict (tree_of value.now)) }
-    ensures frugal { IsFrugal result (scalar_text strict (tree_of value.now)) }
+    ensures gives { Gives (option_map (λ b. b.now)) true result (scalar_text reject_duplicates (tree_of value.now)) }
+    ensures frugal { IsFrugal result (scalar_text reject_duplicates (tree_of value.now)) }
 {
     match value {
         ParsedValue::NoValue | ParsedValue::Null => Ok(None),
         ParsedValue::String(text) => Ok(Some(text.as_slice())),
-        ParsedValue::Sequence(items) => Ok(Some(last_text(alloc, strict, items, expected)?)),
+        ParsedValue::Sequence(items) => Ok(Some(last_text(
+            alloc,
+            reject_duplicates,
+            items,
+            expected,
+        )?)),
         ParsedValue::Map(_) | ParsedValue::Uninitialized => Err(Fault::mismatch(
             alloc, value, expected,
         )),
     }
 }
 
-// The text of the last item; several items are refused under `strict`.
+// The text of the last item; several items are refused under `reject_duplicates`.
 fn last_text<'t>(
     alloc: Global,
-    strict: bool,
+    reject_duplicates: bool,
     items: &'t [ParsedValue<'_>],
     expected: Expected,
 ) -> Result<&'t [u8]>
-    ensures gives { Gives (λ b. b.now) true result (last_item strict (items_from (map tree_of items.now))) }
-    ensures frugal { IsFrugal result (last_item strict (items_from (map tree_of items.now))) }
+    ensures gives { Gives (λ b. b.now) true result (last_item reject_duplicates (items_from (map tree_of items.now))) }
+    ensures frugal { IsFrugal result (last_item reject_duplicates (items_from (map tree_of items.now))) }
 {
     let Some(last) = items.last() else {
         let found = Kind::Sequence;
         return Err(Fault::InvalidType { found, expected }.error(alloc));
     };
-    if strict && items.len() > 1 {
+    if reject_duplicates && items.len() > 1 {
         return Err(Fault::SeveralValues.error(alloc));
     }
     item_text(alloc, last, expected)

@@ -1,14 +1,16 @@
 //! Reading an enum.
 
-ghost use Rattle.std.specs.Prelude.{◌<◌, Some, IfOk, length, map, option_map, slice_get};
+ghost use Rattle.std.specs.Prelude.{◌<◌, Some, IfOk, length, map, option_map, slice_get, string_bytes};
 ghost use Rattle.std.specs.Str.{is_utf8};
 ghost use Rattle.qs_spec.specs.Segment.{segment_text};
+ghost use Rattle.qs_spec.specs.Shape.{struct_kind};
 ghost use Rattle.qs_spec.specs.Tree.Tree.{mapping};
-ghost use Rattle.qs_spec.specs.Read.{read_enum, reads_names, reads_places, reads_variant, reads_kind, struct_members, as_map, unit_variant_data};
+ghost use Rattle.qs_spec.specs.Read.{read_enum, reads_names, reads_places, reads_variant, reads_kind, struct_members, keys_are_allowed, as_map, unit_variant_data};
 ghost use Rattle.qs_tree.specs.Views.{tree_of, entries_of_map, segment_of_key};
 ghost use Rattle.qs_data.specs.Views.{data_of, fields_in, named, variant_of, variants_in};
 ghost use Rattle.qs_data.specs.Text.{is_text, entries_are_text};
 ghost use Rattle.qs_data.specs.Gives.{Gives};
+ghost use Rattle.qs_data.specs.Keys.{unknown_of};
 ghost use Rattle.qs_data.specs.Variants.{variant_named};
 
 use crate::data::Data;
@@ -18,6 +20,7 @@ use crate::read::keys::Entries;
 use crate::read::lists::read_tuple;
 use crate::read::read;
 use crate::read::scalar::as_text;
+use crate::read::unknown::UnknownKeys;
 use crate::shape::{Field, Variant, VariantKind};
 use itoa::Buffer;
 use qs_tree::{Key, ParsedMap, ParsedValue, Result};
@@ -28,16 +31,16 @@ use std::alloc::Global;
 #[tactic(auto, unfolding(qs_spec::specs::Read::read_enum))]
 pub(crate) fn read_enum(
     alloc: Global,
-    strict: bool,
+    reject_duplicates: bool,
     variants: &Vec<Variant>,
     value: &ParsedValue<'_>,
 ) -> Result<Data>
     ensures { let vs = variants_in variants.now.items in
-        Gives data_of (is_text (tree_of value.now)) result (read_enum vs (reads_variant strict vs) (tree_of value.now)) }
+        Gives data_of (is_text (tree_of value.now)) result (read_enum vs (reads_variant reject_duplicates vs) (tree_of value.now)) }
 {
     match value {
         ParsedValue::String(text) => read_name(alloc, variants, text.as_slice()),
-        ParsedValue::Map(map) => read_least(alloc, strict, variants, map),
+        ParsedValue::Map(map) => read_least(alloc, reject_duplicates, variants, map),
         _ => Err(Fault::mismatch(alloc, value, Expected::Enum)),
     }
 }
@@ -53,6 +56,7 @@ fn read_name(alloc: Global, variants: &[Variant], name: &[u8]) -> Result<Data>
         VariantKind::Newtype(_) => Expected::NewtypeVariant,
         VariantKind::Tuple(_) => Expected::TupleVariant,
         VariantKind::Struct(_) => Expected::StructVariant,
+        VariantKind::StrictStruct(_) => Expected::StructVariant,
     };
     let found = Kind::UnitVariant;
     Err(Fault::InvalidType { found, expected }.error(alloc))
@@ -63,12 +67,12 @@ fn read_name(alloc: Global, variants: &[Variant], name: &[u8]) -> Result<Data>
 #[tactic(auto, unfolding(qs_spec::specs::Read::read_enum))]
 fn read_least(
     alloc: Global,
-    strict: bool,
+    reject_duplicates: bool,
     variants: &Vec<Variant>,
     map: &ParsedMap<'_>,
 ) -> Result<Data>
     ensures { let vs = variants_in variants.now.items in let es = entries_of_map map.now in
-        Gives data_of (entries_are_text es) result (read_enum vs (reads_variant strict vs) (mapping es)) }
+        Gives data_of (entries_are_text es) result (read_enum vs (reads_variant reject_duplicates vs) (mapping es)) }
 {
     let Some((key, value)) = map.at(0) else {
         let found = Kind::Map;
@@ -76,7 +80,7 @@ fn read_least(
         return Err(Fault::InvalidType { found, expected }.error(alloc));
     };
     let place = place_of_key(alloc, variants, key)?;
-    read_variant(alloc, strict, &variants[place], value)
+    read_variant(alloc, reject_duplicates, &variants[place], value)
 }
 
 // The place of the variant that a key names.
@@ -114,29 +118,65 @@ fn place_of(alloc: Global, variants: &[Variant], name: &[u8]) -> Result<usize>
 #[tactic(auto, using(crate::proofs::Levels::levels), unfolding(qs_spec::specs::Read::reads))]
 fn read_variant(
     alloc: Global,
-    strict: bool,
+    reject_duplicates: bool,
     variant: &Variant,
     value: &ParsedValue<'_>,
 ) -> Result<Data>
     ensures { let v = variant_of variant.now in
-        Gives data_of (is_text (tree_of value.now)) result (reads_kind strict v.1 v.0 (tree_of value.now)) }
+        Gives data_of (is_text (tree_of value.now)) result (reads_kind reject_duplicates v.1 v.0 (tree_of value.now)) }
 {
     let name = variant.name.clone()?;
     match &variant.kind {
         VariantKind::Unit => Ok(Data::UnitVariant(name)),
         VariantKind::Newtype(part) => {
-            let held = read(alloc, strict, part, value)?;
+            let held = read(alloc, reject_duplicates, part, value)?;
             Ok(Data::NewtypeVariant(name, Box::new(alloc, held)?))
         }
         VariantKind::Tuple(parts) => {
-            let items = read_tuple(alloc, strict, parts, value, Expected::TupleVariant)?;
+            let items = read_tuple(
+                alloc,
+                reject_duplicates,
+                parts,
+                value,
+                Expected::TupleVariant,
+            )?;
             Ok(Data::TupleVariant(name, items))
         }
-        VariantKind::Struct(fields) => {
-            let members = read_variant_fields(alloc, strict, fields, value)?;
-            Ok(Data::StructVariant(name, members))
-        }
+        VariantKind::Struct(fields) => struct_variant_data(
+            alloc,
+            reject_duplicates,
+            UnknownKeys::Ignored,
+            name,
+            fields,
+            value,
+        ),
+        VariantKind::StrictStruct(fields) => struct_variant_data(
+            alloc,
+            reject_duplicates,
+            UnknownKeys::Rejected,
+            name,
+            fields,
+            value,
+        ),
     }
+}
+
+#[cycle(read)]
+#[inline(always)]
+#[tactic(auto, using(crate::proofs::Levels::levels), unfolding(qs_spec::specs::Read::reads))]
+fn struct_variant_data(
+    alloc: Global,
+    reject_duplicates: bool,
+    unknown: UnknownKeys,
+    name: String,
+    fields: &Vec<Field>,
+    value: &ParsedValue<'_>,
+) -> Result<Data>
+    ensures { Gives data_of (is_text (tree_of value.now)) result
+        (reads_kind reject_duplicates (struct_kind (unknown_of unknown) (fields_in fields.now.items)) (string_bytes name) (tree_of value.now)) }
+{
+    let members = read_variant_fields(alloc, reject_duplicates, unknown, fields, value)?;
+    Ok(Data::StructVariant(name, members))
 }
 
 // The fields of a struct variant: those of a struct, where a text counts as a map with that text under the empty key.
@@ -144,16 +184,23 @@ fn read_variant(
 #[tactic(auto, unfolding(qs_spec::specs::Read::struct_members))]
 fn read_variant_fields(
     alloc: Global,
-    strict: bool,
+    reject_duplicates: bool,
+    unknown: UnknownKeys,
     fields: &Vec<Field>,
     value: &ParsedValue<'_>,
 ) -> Result<Vec<(String, Data)>>
     ensures { let fs = fields_in fields.now.items in
         Gives (λ v. map (named data_of) v.items) (is_text (tree_of value.now)) result
-        (struct_members (reads_names strict fs) (reads_places strict fs) (as_map (tree_of value.now))) }
+        (struct_members (keys_are_allowed (unknown_of unknown) fs) (reads_names reject_duplicates fs) (reads_places reject_duplicates fs) (as_map (tree_of value.now))) }
 {
     match value {
-        ParsedValue::String(_) => read_entries(alloc, strict, fields, Entries::Leaf(value)),
-        _ => read_struct(alloc, strict, fields, value),
+        ParsedValue::String(_) => read_entries(
+            alloc,
+            reject_duplicates,
+            unknown,
+            fields,
+            Entries::Leaf(value),
+        ),
+        _ => read_struct(alloc, reject_duplicates, unknown, fields, value),
     }
 }

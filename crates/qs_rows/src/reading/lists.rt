@@ -34,7 +34,8 @@ fn in_a_field(rt: HostRuntime) {
     t.reads("v[1]=2&v[0]=1", &shape, b.one("v", two(b)));
     t.reads("v[]=1&v[]=2", &shape, b.one("v", two(b)));
     t.reads("v=1&v=2", &shape, b.one("v", two(b)));
-    t.strict().reads("v=1&v=2", &shape, b.one("v", two(b)));
+    t.reject_duplicates()
+        .reads("v=1&v=2", &shape, b.one("v", two(b)));
     t.reads("v=5", &shape, b.one("v", b.list([Data::Unsigned(5)])));
     t.reads("v=", &shape, b.one("v", b.list([])));
     t.reads("v", &shape, b.one("v", b.list([])));

@@ -1,27 +1,25 @@
-use Rattle.std.proofs.Common.{◌≡◌, ◌+◌, ◌<◌, ◌++◌, ◌∷◌, [], ap, sym, subst, ◌∙◌, length, slice_get, map, drop, true, false, Some, None, option_map, string_bytes, rules, arith}
+use Rattle.std.proofs.Common.{◌≡◌, ◌+◌, ◌<◌, ◌++◌, ◌||◌, ◌∷◌, [], ap, sym, subst, ◌∙◌, length, slice_get, map, drop, true, false, Some, None, option_map, string_bytes, rules, arith}
 use Rattle.std.proofs.lemmas.Grind.{common_steps}
 use Rattle.std.specs.Str.{is_utf8}
 use Rattle.qs_spec.specs.Segment.{segment_text, Step}
 use Rattle.qs_spec.specs.Tree.Tree.{mapping}
 use Rattle.qs_spec.specs.Tree.Entries.{entry}
 use Rattle.qs_spec.specs.Data as d
-use Rattle.qs_spec.specs.Shape.{is_option as is_option_shape, Shape, struct_kind}
+use Rattle.qs_spec.specs.Shape.{is_option as is_option_shape, are_ignored, Shape}
 use Rattle.qs_spec.specs.Tree.Items.{no_items}
-use Rattle.qs_spec.specs.Read.{reads, reads_names, reads_places, reads_variant, reads_kind, read_enum, read_option, read_field, read_place, found, struct_members, as_map, under_empty, keys_are_text, items, read_each, read_list, read_pairs, reads_tuple}
+use Rattle.qs_spec.specs.Read.{reads, reads_names, reads_places, reads_variant, reads_kind, read_enum, read_option, read_field, read_place, found, struct_members, as_map, under_empty, keys_are_text, keys_are_names, keys_are_allowed, items, read_each, read_list, read_pairs, reads_tuple}
 use Rattle.qs_tree.specs.Views.{tree_of, items_from, entries_of_map, step_of_key}
 use Rattle.qs_data.specs.declared.shape.Shape as shape
 use Rattle.qs_data.specs.declared.shape.Field.{out-Field}
-use Rattle.qs_data.specs.declared.shape.VariantKind as kind
-use Rattle.qs_data.specs.declared.shape.Variant.{out-Variant}
-use Rattle.qs_data.specs.Views.{data_of, named, shape_of, field_of, fields_in, kind_of, variant_of, variants_in, key_shape_of, pair_of, shapes_in}
+use Rattle.qs_data.specs.Views.{data_of, named, shape_of, field_of, fields_in, variant_of, variants_in, key_shape_of, pair_of, shapes_in}
 use Rattle.qs_data.specs.Text.{is_text, items_are_text, entries_are_text}
 use Rattle.qs_data.specs.Gives.{Gives}
-use Rattle.qs_data.specs.Keys.{entries_of, entries_after}
+use Rattle.qs_data.specs.Keys.{entries_of, entries_after, unknown_of}
 use Rattle.qs_data.specs.Variants.{variant_named}
 use Rattle.qs_data.proofs.Levels.{data_of_struct, data_of_struct_variant}
 use Rattle.qs_data.proofs.Entries.{after_some, keys_bad, untested}
-use Rattle.qs_data.proofs.Variants.{variant_name, variant_kind, named_is, enum_none, enum_some, least_key_bad, least_value_bad, text_as_map, under_bad}
-use Rattle.qs_data.proofs.Refusals.{gives_exit, gives_as, fault, told_of_key}
+use Rattle.qs_data.proofs.Variants.{named_is, enum_none, enum_some, least_key_bad, least_value_bad, text_as_map, under_bad}
+use Rattle.qs_data.proofs.Refusals.{and_left, gives_exit, gives_as, fault, told_of_key}
 use Rattle.qs_tree.specs.declared.error.Error.TheVariants.{Utf8}
 use Rattle.qs_spec.specs.Scalar.{key_data}
 use Rattle.qs_spec.specs.Tree.{Tree}
@@ -41,7 +39,9 @@ pub fields::read_entries-returns-in-Err : goal.fields::read_entries-returns-in-E
 fields::read_entries-returns-in-Err t c =
     let es = entries_of c.args.entries in
     let bad : keys_are_text es ≡ false = c.in-Err.ensures.text in
-    let none = untested (keys_are_text es) (reads_names c.args.strict (fields_in c.args.fields.now.items) es) bad in
+    let u = unknown_of c.args.unknown in
+    let fs = fields_in c.args.fields.now.items in
+    let none = untested (keys_are_allowed u fs es) (reads_names c.args.reject_duplicates fs es) (and_left (keys_are_text es) (keys_are_names fs es || are_ignored u) bad) in
     told_of_key (entries_are_text es) c.in-Err.key.text.now (Utf8 c.in-Err.key.cause) c.error.result _ c.error.ensures (none, keys_bad es bad)
 
 pub fields::read_field-returns-in_err-read-in-One : goal.fields::read_field-returns-in_err-read-in-One
@@ -50,11 +50,11 @@ fields::read_field-returns-in_err-read-in-One t c =
     let f = field_of d in
     let es = entries_of c.args.entries in
     let n = tree_of c.in-One.value.now in
-    let r = reads c.args.strict (shape_of (out-Field d).shape) in
+    let r = reads c.args.reject_duplicates (shape_of (out-Field d).shape) in
     let one : found f.0 es ≡ n ∷ [] = ap (λ name. found name es) (field_name d ∙ sym c.deref.ensures) ∙ c.in-One.ensures in
     let given = gives_exit (option_map data_of) (is_text n) (entries_are_text es) c.from_residual.result c.in_err-read-in-One.field-0.0 (r n) (read_field f.2 (is_option_shape f.1) r (found f.0 es))
     c.from_residual.ensures.1 c.in_err-read-in-One.ensures.gives (field_none f.2 (is_option_shape f.1) r (found f.0 es) n one) (found_bad f.0 es n [] one) in
-    subst (λ s. Gives (option_map data_of) (entries_are_text es) c.from_residual.result (read_field f.2 (is_option_shape f.1) (reads c.args.strict s) (found f.0 es))) (sym (field_shape d)) given
+    subst (λ s. Gives (option_map data_of) (entries_are_text es) c.from_residual.result (read_field f.2 (is_option_shape f.1) (reads c.args.reject_duplicates s) (found f.0 es))) (sym (field_shape d)) given
 
 pub fields::read_names-loop-field-preserved : goal.fields::read_names-loop-field-preserved
 fields::read_names-loop-field-preserved t c =
@@ -65,9 +65,9 @@ fields::read_names-loop-field-preserved t c =
     let ws = map (named data_of) l.members.items in
     let x = c.in-Some.value in
     let m = c.in_ok-name.name in
-    let rest = reads_names c.args.strict (fields_in (drop (l.field-index + 1) fs)) es in
+    let rest = reads_names c.args.reject_duplicates (fields_in (drop (l.field-index + 1) fs)) es in
     let got = c.in_ok-value.ensures ∙ ap (λ o. Some (option_map data_of o)) c.in-Some.is in
-    let turn = names_more c.args.strict fs l.field-index d es ws (omega arith) c.field-item.is (Some (data_of x)) got in
+    let turn = names_more c.args.reject_duplicates fs l.field-index d es ws (omega arith) c.field-item.is (Some (data_of x)) got in
     let copied : string_bytes m ≡ string_bytes (out-Field d).name = c.in_ok-name.ensures.cases in
     let name : (field_of d).0 ≡ string_bytes m = field_name d ∙ sym copied in
     let pushed : map (named data_of) c.push.new.self.items ≡ ws ++ (string_bytes m, data_of x) ∷ [] = grind (arith, common_steps) in
@@ -83,11 +83,11 @@ fields::read_place-returns-in_err-read-in-Some t c =
     let n = c.in-Some.item.now in
     let look = c.in-Some.ensures.lookup in
     let xs = items_from (map tree_of (drop i ts)) in
-    let r = reads c.args.strict (shape_of (out-Field d).shape) in
+    let r = reads c.args.reject_duplicates (shape_of (out-Field d).shape) in
     let here = item_at ts i n look.3.0 look.1 in
     let given = gives_exit (option_map data_of) (is_text (tree_of n)) (items_are_text (items_from (map tree_of ts))) c.from_residual.result c.in_err-read-in-Some.field-0.0 (r (tree_of n)) (read_place f.2 r xs)
     c.from_residual.ensures.1 c.in_err-read-in-Some.ensures.gives (λ e. place_some f.2 r xs _ (tree_of n) here ∙ ap (option_map Some) e) (item_bad ts i n look.3.0 look.1) in
-    subst (λ s. Gives (option_map data_of) (items_are_text (items_from (map tree_of ts))) c.from_residual.result (read_place f.2 (reads c.args.strict s) xs)) (sym (field_shape d)) given
+    subst (λ s. Gives (option_map data_of) (items_are_text (items_from (map tree_of ts))) c.from_residual.result (read_place f.2 (reads c.args.reject_duplicates s) xs)) (sym (field_shape d)) given
 
 pub fields::read_place-returns-in_ok-read-in-Some : goal.fields::read_place-returns-in_ok-read-in-Some
 fields::read_place-returns-in_ok-read-in-Some t c =
@@ -98,8 +98,8 @@ fields::read_place-returns-in_ok-read-in-Some t c =
     let n = c.in-Some.item.now in
     let look = c.in-Some.ensures.lookup in
     let xs = items_from (map tree_of (drop i ts)) in
-    ap (λ s. read_place f.2 (reads c.args.strict s) xs) (field_shape d)
-    ∙ place_some f.2 (reads c.args.strict (shape_of (out-Field d).shape)) xs _ (tree_of n) (item_at ts i n look.3.0 look.1)
+    ap (λ s. read_place f.2 (reads c.args.reject_duplicates s) xs) (field_shape d)
+    ∙ place_some f.2 (reads c.args.reject_duplicates (shape_of (out-Field d).shape)) xs _ (tree_of n) (item_at ts i n look.3.0 look.1)
     ∙ ap (option_map Some) c.in_ok-read-in-Some.ensures.gives
 
 pub fields::read_place-returns-then-field : goal.fields::read_place-returns-then-field
@@ -108,7 +108,7 @@ fields::read_place-returns-then-field t c =
     let f = field_of d in
     let none = no_item_at c.args.items.now c.args.place c.in-None.ensures.lookup.3 in
     let o : f.2 ≡ true = field_optional d ∙ c.if-field.true in
-    ap (read_place f.2 (reads c.args.strict f.1)) none ∙ ap (λ b. read_place b (reads c.args.strict f.1) no_items) o
+    ap (read_place f.2 (reads c.args.reject_duplicates f.1)) none ∙ ap (λ b. read_place b (reads c.args.reject_duplicates f.1) no_items) o
 
 pub fields::read_place-returns-else-field : goal.fields::read_place-returns-else-field
 fields::read_place-returns-else-field t c =
@@ -117,7 +117,7 @@ fields::read_place-returns-else-field t c =
     let none = no_item_at c.args.items.now c.args.place c.in-None.ensures.lookup.3 in
     let o : f.2 ≡ false = field_optional d ∙ c.if-field.false in
     fault (items_are_text (items_from (map tree_of c.args.items.now))) c.error.result _ c.error.ensures
-    (ap (read_place f.2 (reads c.args.strict f.1)) none ∙ ap (λ b. read_place b (reads c.args.strict f.1) no_items) o)
+    (ap (read_place f.2 (reads c.args.reject_duplicates f.1)) none ∙ ap (λ b. read_place b (reads c.args.reject_duplicates f.1) no_items) o)
 
 pub fields::read_places-loop-i-preserved-in_default : goal.fields::read_places-loop-i-preserved-in_default
 fields::read_places-loop-i-preserved-in_default t c =
@@ -127,7 +127,7 @@ fields::read_places-loop-i-preserved-in_default t c =
     let ts = c.args.items.now in
     let ws = map (named data_of) l.members.items in
     let got = c.in_ok-value.ensures ∙ ap (λ o. Some (option_map data_of o)) c.in_default.is in
-    l.invariant ∙ places_more c.args.strict fs l.i d ts ws (omega arith) c.field-item.is None got
+    l.invariant ∙ places_more c.args.reject_duplicates fs l.i d ts ws (omega arith) c.field-item.is None got
 
 pub fields::read_places-loop-i-preserved : goal.fields::read_places-loop-i-preserved
 fields::read_places-loop-i-preserved t c =
@@ -138,9 +138,9 @@ fields::read_places-loop-i-preserved t c =
     let ws = map (named data_of) l.members.items in
     let x = c.in-Some.value in
     let m = c.in_ok-name.name in
-    let rest = reads_places c.args.strict (fields_in (drop (l.i + 1) fs)) (items_from (map tree_of (drop (l.i + 1) ts))) in
+    let rest = reads_places c.args.reject_duplicates (fields_in (drop (l.i + 1) fs)) (items_from (map tree_of (drop (l.i + 1) ts))) in
     let got = c.in_ok-value.ensures ∙ ap (λ o. Some (option_map data_of o)) c.in-Some.is in
-    let turn = places_more c.args.strict fs l.i d ts ws (omega arith) c.field-item.is (Some (data_of x)) got in
+    let turn = places_more c.args.reject_duplicates fs l.i d ts ws (omega arith) c.field-item.is (Some (data_of x)) got in
     let copied : string_bytes m ≡ string_bytes (out-Field d).name = c.in_ok-name.ensures.cases in
     let name : (field_of d).0 ≡ string_bytes m = field_name d ∙ sym copied in
     let pushed : map (named data_of) c.push.new.self.items ≡ ws ++ (string_bytes m, data_of x) ∷ [] = grind (arith, common_steps) in
@@ -152,8 +152,8 @@ unfolding reads
 read-returns-in-Option-clause-gives t c =
     let n = tree_of c.args.value.now in
     let shaped : shape_of c.args.shape.now ≡ Shape.option (shape_of c.in-Option.part.value) = ap shape_of c.in-Option.is ∙ search (rules, shape.the_lemmas) in
-    let held = subst (λ x. Gives data_of (is_text n) c.read_option.result (read_option (reads c.args.strict (shape_of x)) n)) c.deref.ensures c.read_option.ensures in
-    subst (λ x. Gives data_of (is_text n) c.read_option.result (reads c.args.strict x n)) (sym shaped) held
+    let held = subst (λ x. Gives data_of (is_text n) c.read_option.result (read_option (reads c.args.reject_duplicates (shape_of x)) n)) c.deref.ensures c.read_option.ensures in
+    subst (λ x. Gives data_of (is_text n) c.read_option.result (reads c.args.reject_duplicates x n)) (sym shaped) held
 
 pub struct_data-returns : goal.struct_data-returns
 unfolding reads
@@ -170,9 +170,9 @@ variants::read_least-returns-in_err-place t c =
     let least : es ≡ entry key.seg key.mark n (entries_after 1 es) = after_some 0 es (key, n) (sym c.in-Some.ensures) in
     let name = segment_text key.seg in
     let exit = gives_exit data_of (is_utf8 name) (entries_are_text es) c.from_residual.result c.in_err-place.field-0.0 (option_map Some (variant_named name (variants_in ds)))
-    (read_enum (variants_in ds) (reads_variant c.args.strict (variants_in ds)) (mapping es)) c.from_residual.ensures.1 c.in_err-place.ensures.named
-    (enum_none c.args.strict (variants_in ds) es (entries_after 1 es) key.seg key.mark n least) (least_key_bad c.args.strict (variants_in ds) es (entries_after 1 es) key.seg key.mark n least) in
-    subst (λ ys. Gives data_of (entries_are_text es) c.from_residual.result (read_enum (variants_in ys) (reads_variant c.args.strict (variants_in ys)) (mapping es))) c.deref.ensures.value exit
+    (read_enum (variants_in ds) (reads_variant c.args.reject_duplicates (variants_in ds)) (mapping es)) c.from_residual.ensures.1 c.in_err-place.ensures.named
+    (enum_none c.args.reject_duplicates (variants_in ds) es (entries_after 1 es) key.seg key.mark n least) (least_key_bad c.args.reject_duplicates (variants_in ds) es (entries_after 1 es) key.seg key.mark n least) in
+    subst (λ ys. Gives data_of (entries_are_text es) c.from_residual.result (read_enum (variants_in ys) (reads_variant c.args.reject_duplicates (variants_in ys)) (mapping es))) c.deref.ensures.value exit
 
 pub variants::read_least-returns : goal.variants::read_least-returns
 variants::read_least-returns t c =
@@ -188,40 +188,33 @@ variants::read_least-returns t c =
     let found = subst (λ ys. option_map Some (variant_named name (variants_in ys)) ≡ Some (option_map variant_of (slice_get ys i))) c.deref.ensures.value c.in_ok-place.ensures.named in
     let inside = subst (λ ys. i < length ys) c.deref.ensures.value c.in_ok-place.ensures.place in
     let named = named_is name ds i v found inside c.index.ensures in
-    gives_as data_of (is_text n) (entries_are_text es) c.read_variant.result (reads_kind c.args.strict (variant_of v).1 (variant_of v).0 n) (read_enum vs (reads_variant c.args.strict vs) (mapping es))
-    c.read_variant.ensures (sym (enum_some c.args.strict vs es (entries_after 1 es) key.seg key.mark n least v named)) (least_value_bad c.args.strict vs es (entries_after 1 es) key.seg key.mark n least)
+    gives_as data_of (is_text n) (entries_are_text es) c.read_variant.result (reads_kind c.args.reject_duplicates (variant_of v).1 (variant_of v).0 n) (read_enum vs (reads_variant c.args.reject_duplicates vs) (mapping es))
+    c.read_variant.ensures (sym (enum_some c.args.reject_duplicates vs es (entries_after 1 es) key.seg key.mark n least v named)) (least_value_bad c.args.reject_duplicates vs es (entries_after 1 es) key.seg key.mark n least)
 
-pub variants::read_variant-returns-in_ok-members-in-Struct : goal.variants::read_variant-returns-in_ok-members-in-Struct
+pub variants::struct_variant_data-returns : goal.variants::struct_variant_data-returns
 unfolding reads
-variants::read_variant-returns-in_ok-members-in-Struct t c =
-    let v = c.args.variant.now in
-    let n = tree_of c.args.value.now in
-    let k = c.in_ok-members-in-Struct in
-    let fs = fields_in c.in-Struct.fields.items in
-    let name = c.in_ok-name.name in
-    let copied : string_bytes name ≡ string_bytes (out-Variant v).name = c.in_ok-name.ensures.cases in
-    let named : (variant_of v).0 ≡ string_bytes name = variant_name v ∙ sym copied in
-    let held : (variant_of v).1 ≡ struct_kind fs = variant_kind v ∙ ap kind_of c.in-Struct.is ∙ search (rules, kind.the_lemmas) in
-    ap (λ x. reads_kind c.args.strict x (variant_of v).0 n) held ∙ ap (λ x. reads_kind c.args.strict (struct_kind fs) x n) named
-    ∙ ap (option_map (λ ms. d.struct_variant (string_bytes name) (d.members_of ms))) k.ensures ∙ ap Some (sym (data_of_struct_variant name k.members))
+variants::struct_variant_data-returns t c =
+    let k = c.in_ok-members in
+    ap (option_map (λ ms. d.struct_variant (string_bytes c.args.name) (d.members_of ms))) k.ensures ∙ ap Some (sym (data_of_struct_variant c.args.name k.members))
 
 pub variants::read_variant_fields-returns-in-String : goal.variants::read_variant_fields-returns-in-String
 unfolding struct_members
 variants::read_variant_fields-returns-in-String t c =
     let fs = fields_in c.args.fields.now.items in
     let n = tree_of c.args.value.now in
-    let names = reads_names c.args.strict fs in
-    let places = reads_places c.args.strict fs in
+    let allowed = keys_are_allowed (unknown_of c.args.unknown) fs in
+    let names = reads_names c.args.reject_duplicates fs in
+    let places = reads_places c.args.reject_duplicates fs in
     let seen : as_map n ≡ mapping (under_empty n) = ap (λ x. as_map (tree_of x)) c.in-String.is ∙ text_as_map c.in-String.field-0 ∙ ap (λ x. mapping (under_empty (tree_of x))) (sym c.in-String.is) in
-    gives_as (λ x. map (named data_of) x.items) (entries_are_text (under_empty n)) (is_text n) c.read_entries.result _ (struct_members names places (as_map n))
-    c.read_entries.ensures (ap (struct_members names places) (sym seen)) (under_bad n)
+    gives_as (λ x. map (named data_of) x.items) (entries_are_text (under_empty n)) (is_text n) c.read_entries.result _ (struct_members allowed names places (as_map n))
+    c.read_entries.ensures (ap (struct_members allowed names places) (sym seen)) (under_bad n)
 
 pub lists::read_list-returns : goal.lists::read_list-returns
 unfolding read_list
 lists::read_list-returns t c =
     let n = tree_of c.args.value.now in
     let xs = items_in c.in_ok-items.items in
-    let r = reads c.args.strict (shape_of c.args.part.now) in
+    let r = reads c.args.reject_duplicates (shape_of c.args.part.now) in
     let h : items n ≡ Some xs = c.in_ok-items.ensures in
     gives_as (λ v. map data_of v.items) (are_text xs) (is_text n) c.read_each.result (read_each r xs) (read_list r n)
     c.read_each.ensures (sym (ap (option_and_then (read_each r)) h)) (items_bad n xs h)
@@ -231,7 +224,7 @@ lists::read_each-returns-in_err-read t c =
     let l = c.loop-i in
     let xs = items_in c.args.items in
     let n = tree_of c.in-Some.item.now in
-    let r = reads c.args.strict (shape_of c.args.part.now) in
+    let r = reads c.args.reject_duplicates (shape_of c.args.part.now) in
     let h : first_item (drop l.i xs) ≡ Some (Some n) = c.in_ok-item.ensures ∙ ap (λ o. Some (option_map (λ v. tree_of v.now) o)) c.in-Some.is in
     gives_exit (λ v. map data_of v.items) (is_text n) (are_text xs) c.from_residual-in_err-read.result c.in_err-read.field-0.0 (r n) (read_each r xs)
     c.from_residual-in_err-read.ensures.1 c.in_err-read.ensures.gives (λ e. l.invariant ∙ each_unread r xs l.i (map data_of l.values.items) n h e) (due_bad l.i xs n h)
@@ -241,7 +234,7 @@ lists::read_each-loop-i-preserved t c =
     let l = c.loop-i in
     let xs = items_in c.args.items in
     let n = tree_of c.in-Some.item.now in
-    let r = reads c.args.strict (shape_of c.args.part.now) in
+    let r = reads c.args.reject_duplicates (shape_of c.args.part.now) in
     let ws = map data_of l.values.items in
     let d = data_of c.in_ok-read.field-0 in
     let h : first_item (drop l.i xs) ≡ Some (Some n) = c.in_ok-item.ensures ∙ ap (λ o. Some (option_map (λ v. tree_of v.now) o)) c.in-Some.is in
@@ -252,7 +245,7 @@ pub lists::read_each-returns : goal.lists::read_each-returns
 lists::read_each-returns t c =
     let l = c.loop-i in
     let xs = items_in c.args.items in
-    let r = reads c.args.strict (shape_of c.args.part.now) in
+    let r = reads c.args.reject_duplicates (shape_of c.args.part.now) in
     let ws = map data_of l.values.items in
     elim c.loop-i-test.branch [
       | lists::read_each-else-loop-i-test w ↦ l.invariant ∙ each_all r xs l.i ws (omega (arith, c.len-i-end.ensures, w.loop-i-test.false))
@@ -265,7 +258,7 @@ pub lists::read_tuple-returns : goal.lists::read_tuple-returns
 lists::read_tuple-returns t c =
     let n = tree_of c.args.value.now in
     let xs = items_in c.in_ok-items.items in
-    let r = reads_tuple c.args.strict (shapes_in c.args.parts.now.items) in
+    let r = reads_tuple c.args.reject_duplicates (shapes_in c.args.parts.now.items) in
     let h : items n ≡ Some xs = c.in_ok-items.ensures in
     gives_as (λ v. map data_of v.items) (are_text xs) (is_text n) c.read_parts.result (r xs) (option_and_then r (items n))
     c.read_parts.ensures (sym (ap (option_and_then r) h)) (items_bad n xs h)
@@ -279,9 +272,9 @@ lists::read_parts-returns-in_err-read t c =
     let n = tree_of c.in-Some.item.now in
     let h : first_item (drop l.i xs) ≡ Some (Some n) = c.in_ok-item.ensures ∙ ap (λ o. Some (option_map (λ v. tree_of v.now) o)) c.in-Some.is in
     gives_exit (λ v. map data_of v.items) (is_text n) (are_text xs) c.from_residual-in_err-read.result c.in_err-read.field-0.0
-    (reads c.args.strict (shape_of s) n) (reads_tuple c.args.strict (shapes_in c.args.parts.now.items) xs)
+    (reads c.args.reject_duplicates (shape_of s) n) (reads_tuple c.args.reject_duplicates (shapes_in c.args.parts.now.items) xs)
     c.from_residual-in_err-read.ensures.1 c.in_err-read.ensures.gives
-    (λ e. l.invariant ∙ parts_unread c.args.strict ss l.i s xs (map data_of l.values.items) (omega arith) c.part-item.is n h e) (due_bad l.i xs n h)
+    (λ e. l.invariant ∙ parts_unread c.args.reject_duplicates ss l.i s xs (map data_of l.values.items) (omega arith) c.part-item.is n h e) (due_bad l.i xs n h)
 
 pub lists::read_parts-loop-i-preserved : goal.lists::read_parts-loop-i-preserved
 lists::read_parts-loop-i-preserved t c =
@@ -294,15 +287,15 @@ lists::read_parts-loop-i-preserved t c =
     let d = data_of c.in_ok-read.field-0 in
     let h : first_item (drop l.i xs) ≡ Some (Some n) = c.in_ok-item.ensures ∙ ap (λ o. Some (option_map (λ v. tree_of v.now) o)) c.in-Some.is in
     let pushed : map data_of c.push.new.self.items ≡ ws ++ d ∷ [] = grind (arith, common_steps) in
-    l.invariant ∙ parts_more c.args.strict ss l.i s xs ws (omega arith) c.part-item.is n d h c.in_ok-read.ensures.gives
-    ∙ ap (λ ys. before ys (reads_tuple c.args.strict (shapes_in (drop (l.i + 1) ss)) (drop (l.i + 1) xs))) (sym pushed)
+    l.invariant ∙ parts_more c.args.reject_duplicates ss l.i s xs ws (omega arith) c.part-item.is n d h c.in_ok-read.ensures.gives
+    ∙ ap (λ ys. before ys (reads_tuple c.args.reject_duplicates (shapes_in (drop (l.i + 1) ss)) (drop (l.i + 1) xs))) (sym pushed)
 
 pub maps::read_pairs-returns-in_err-key : goal.maps::read_pairs-returns-in_err-key
 maps::read_pairs-returns-in_err-key t c =
     let l = c.loop-i in
     let es = entries_of_map c.args.entries.now in
     let k = key_shape_of c.args.key_shape.now in
-    let r = reads c.args.strict (shape_of c.args.part.now) in
+    let r = reads c.args.reject_duplicates (shape_of c.args.part.now) in
     let x : Step × Tree = (step_of_key c.in-Some.key.now, tree_of c.in-Some.value.now) in
     let here = sym c.in-Some.ensures in
     gives_exit (λ v. map pair_of v.items) (is_utf8 (segment_text x.0.seg)) (entries_are_text es) c.from_residual-in_err-key.result c.in_err-key.field-0.0 (key_data k (segment_text x.0.seg)) (read_pairs k r es)
@@ -313,7 +306,7 @@ maps::read_pairs-returns-in_err-value t c =
     let l = c.loop-i in
     let es = entries_of_map c.args.entries.now in
     let k = key_shape_of c.args.key_shape.now in
-    let r = reads c.args.strict (shape_of c.args.part.now) in
+    let r = reads c.args.reject_duplicates (shape_of c.args.part.now) in
     let x : Step × Tree = (step_of_key c.in-Some.key.now, tree_of c.in-Some.value.now) in
     let here = sym c.in-Some.ensures in
     gives_exit (λ v. map pair_of v.items) (is_text x.1) (entries_are_text es) c.from_residual-in_err-value.result c.in_err-value.field-0.0 (r x.1) (read_pairs k r es)
@@ -324,7 +317,7 @@ maps::read_pairs-loop-i-preserved t c =
     let l = c.loop-i in
     let es = entries_of_map c.args.entries.now in
     let k = key_shape_of c.args.key_shape.now in
-    let r = reads c.args.strict (shape_of c.args.part.now) in
+    let r = reads c.args.reject_duplicates (shape_of c.args.part.now) in
     let x : Step × Tree = (step_of_key c.in-Some.key.now, tree_of c.in-Some.value.now) in
     let ws = map pair_of l.pairs.items in
     let a = data_of c.in_ok-key.key in
@@ -338,7 +331,7 @@ maps::read_pairs-returns t c =
     let l = c.loop-i in
     let es = entries_of_map c.args.entries.now in
     let k = key_shape_of c.args.key_shape.now in
-    let r = reads c.args.strict (shape_of c.args.part.now) in
+    let r = reads c.args.reject_duplicates (shape_of c.args.part.now) in
     let ws = map pair_of l.pairs.items in
     elim c.loop-i-test.branch [
       | maps::read_pairs-else-loop-i-test w ↦ l.invariant ∙ pairs_all k r es l.i ws (omega (arith, c.len-i-end.ensures, w.loop-i-test.false))
@@ -349,6 +342,6 @@ pub maps::read_under_empty-returns-in_err-key : goal.maps::read_under_empty-retu
 maps::read_under_empty-returns-in_err-key t c =
     let n = tree_of c.args.value.now in
     let k = key_shape_of c.args.key_shape.now in
-    let r = reads c.args.strict (shape_of c.args.part.now) in
+    let r = reads c.args.reject_duplicates (shape_of c.args.part.now) in
     gives_exit (λ v. map pair_of v.items) (is_utf8 []) (is_text n) c.from_residual.result c.in_err-key.field-0.0 (key_data k []) (read_pairs k r (under_empty n))
     c.from_residual.ensures.1 c.in_err-key.ensures (lone_no_key k r n) (λ f. absurd (false≢true (sym f ∙ empty_text)))

@@ -12,7 +12,7 @@ use Rattle.qs_data.specs.Variants.{variant_named}
 use Rattle.qs_data.proofs.Refusals.{gives_exit, fault}
 use Rattle.qs_data.proofs.Variants.{named_is, unit_at, no_unit}
 use Rattle.qs_data.proofs.read.variants.read_name.Goals as goal
-use Rattle.qs_data.proofs.read.variants.read_name.Goals.{in-Newtype, in-Tuple, in-Struct}
+use Rattle.qs_data.proofs.read.variants.read_name.Goals.{in-Newtype, in-Tuple, in-Struct, in-StrictStruct}
 
 pub returns-in_err-place : goal.returns-in_err-place
 returns-in_err-place c =
@@ -44,6 +44,7 @@ returns c =
       | in-Newtype w ↦ ap (λ k. is_unit_kind (kind_of k)) w.in-Newtype.is ∙ search (rules, kind.the_lemmas)
       | in-Tuple w ↦ ap (λ k. is_unit_kind (kind_of k)) w.in-Tuple.is ∙ search (rules, kind.the_lemmas)
       | in-Struct w ↦ ap (λ k. is_unit_kind (kind_of k)) w.in-Struct.is ∙ search (rules, kind.the_lemmas)
+      | in-StrictStruct w ↦ ap (λ k. is_unit_kind (kind_of k)) w.in-StrictStruct.is ∙ search (rules, kind.the_lemmas)
     ] in
     fault (is_utf8 b) c.error.result _ c.error.ensures
     (unit_at b vs v here ∙ ap (λ k. cond k (Some (d.unit_variant (string_bytes (out-Variant v).name))) None) other)

@@ -1,0 +1,43 @@
+use Rattle.std.proofs.Common.{ap, sym, ◌∙◌, arith}
+use Rattle.std.specs.Str.{is_utf8}
+use Rattle.qs_spec.specs.Segment.{segment_text}
+use Rattle.qs_spec.specs.Shape.{is_field_name}
+use Rattle.qs_spec.specs.Read.{keys_are_names}
+use Rattle.qs_tree.specs.Views.{entries_of_map, step_of_key, tree_of}
+use Rattle.qs_data.specs.Views.{fields_in}
+use Rattle.qs_data.specs.Text.{entries_are_text}
+use Rattle.qs_data.specs.Gives.{when}
+use Rattle.qs_data.proofs.Pairs.{key_bad}
+use Rattle.qs_data.proofs.Refusals.{gives_exit}
+use Rattle.qs_data.proofs.Unknown.{passes, fails, name_more, name_fails, names_all, names_end}
+use Rattle.qs_data.proofs.read.unknown.test_map.Goals as goal
+use Rattle.qs_data.proofs.read.unknown.test_map.Goals.{else-loop-i-test, then-loop-i-test+in_default}
+
+pub returns-in_err-test_key : goal.returns-in_err-test_key
+returns-in_err-test_key c =
+    let es = entries_of_map c.args.map.now in
+    let fs = fields_in c.args.fields.now in
+    let key = step_of_key c.in-Some.key.now in
+    let t = tree_of c.in-Some.field-0-1.now in
+    let name = segment_text key.seg in
+    gives_exit (λ (x : Unit {0}). tt {0}) (is_utf8 name) (entries_are_text es) c.from_residual.result c.in_err-test_key.field-0.0 (when (is_field_name name fs)) (when (keys_are_names fs es))
+    c.from_residual.ensures.1 c.in_err-test_key.ensures
+    (λ n. ap when (c.loop-i.invariant ∙ name_fails fs es c.loop-i.i (key, t) (sym c.in-Some.ensures) (fails (is_field_name name fs) n)))
+    (key_bad c.loop-i.i es (key, t) (sym c.in-Some.ensures))
+
+pub loop-i-preserved : goal.loop-i-preserved
+loop-i-preserved c =
+    let es = entries_of_map c.args.map.now in
+    let fs = fields_in c.args.fields.now in
+    let key = step_of_key c.in-Some.key.now in
+    let t = tree_of c.in-Some.field-0-1.now in
+    c.loop-i.invariant ∙ name_more fs es c.loop-i.i (key, t) (sym c.in-Some.ensures) (passes (is_field_name (segment_text key.seg) fs) c.in_ok-test_key.ensures)
+
+pub returns : goal.returns
+returns c =
+    let es = entries_of_map c.args.map.now in
+    let fs = fields_in c.args.fields.now in
+    elim c.loop-i-test.branch [
+      | else-loop-i-test w ↦ ap when (c.loop-i.invariant ∙ names_all fs es c.loop-i.i (omega (arith, c.len-i-end.ensures, w.loop-i-test.false)))
+      | then-loop-i-test+in_default w ↦ ap when (c.loop-i.invariant ∙ names_end fs es c.loop-i.i (sym w.in_default.ensures))
+    ]

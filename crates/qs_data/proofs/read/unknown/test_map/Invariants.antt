@@ -1,0 +1,11 @@
+use Rattle.std.proofs.Common.{◌≡◌}
+use Rattle.qs_spec.specs.Read.{keys_are_names}
+use Rattle.qs_tree.specs.Views.{entries_of_map}
+use Rattle.qs_data.specs.Keys.{entries_after}
+use Rattle.qs_data.specs.Views.{fields_in}
+use Rattle.qs_data.proofs.read.unknown.test_map.Given as goal
+
+abbrev pub invariant-loop-i : goal.invariant-loop-i
+invariant-loop-i l =
+    let es = entries_of_map l.map in
+    keys_are_names (fields_in l.fields) es ≡ keys_are_names (fields_in l.fields) (entries_after l.i es)

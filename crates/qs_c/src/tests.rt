@@ -68,6 +68,9 @@ fn read(rt: HostRuntime) -> Result<(), Fail> {
         ("text text", "", 7, "the shape has ended here"),
         ("{age: u8}", "age=x", 5, ""),
         ("{a: text}", "a=%FF", 6, ""),
+        ("strict {a: u8}", "a=1", 0, "{\"a\":1}"),
+        ("strict {a: u8}", "a=1&b=2", 5, ""),
+        ("enum(at strict {a: u8})", "at[a]=1&at[b]=2", 5, ""),
         ("any", "a[", 4, ""),
     ];
     for (shape, input, status, text) in rows {

@@ -63,6 +63,16 @@ impl<'t> Cursor<'t> {
         word
     }
 
+    /// Takes the word, if it comes next.
+    pub(crate) fn take_word(&mut self, word: &[u8]) -> bool {
+        let before = self.rest;
+        if self.word() == word {
+            return true;
+        }
+        self.rest = before;
+        false
+    }
+
     /// The name that comes next: a word, or what stands between two `"`, decoded as in a querystring.
     pub(crate) fn name(&mut self, alloc: Global) -> Result<String, Failure> {
         if self.take(b'"') {

@@ -55,6 +55,10 @@ fn named(alloc: Global, cursor: &mut Cursor<'_>, levels: usize) -> Result<Shape,
             cursor.expect(alloc, b')', "`)` is wanted")?;
             Ok(Shape::Newtype(Box::new(alloc, inner)?))
         }
+        b"strict" => {
+            cursor.expect(alloc, b'{', "`{` is wanted")?;
+            Ok(Shape::StrictStruct(fields(alloc, cursor, levels)?))
+        }
         b"enum" => {
             cursor.expect(alloc, b'(', "`(` is wanted")?;
             Ok(Shape::Enum(variants(alloc, cursor, levels)?))

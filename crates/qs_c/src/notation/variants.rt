@@ -26,11 +26,15 @@ pub(crate) fn variants(
     Ok(variants)
 }
 
-/// What a variant holds: nothing, a value, `(shape, ..)` or `{name: shape, ..}`.
+/// What a variant holds: nothing, a value, `(shape, ..)`, `{name: shape, ..}` or `strict {name: shape, ..}`.
 #[cycle(shape)]
 fn kind(alloc: Global, cursor: &mut Cursor<'_>, levels: usize) -> Result<VariantKind, Failure> {
     if cursor.take(b'{') {
         return Ok(VariantKind::Struct(fields(alloc, cursor, levels)?));
+    }
+    if cursor.take_word(b"strict") {
+        cursor.expect(alloc, b'{', "`{` is wanted")?;
+        return Ok(VariantKind::StrictStruct(fields(alloc, cursor, levels)?));
     }
     if !cursor.take(b'(') {
         return Ok(VariantKind::Unit);

@@ -1,10 +1,8 @@
 //! Data of JSON.
 
 ghost use Rattle.std.specs.Prelude.{◌≡◌, ◌⊎◌, map, IfOk};
-ghost use Rattle.json.specs.Json.{document};
-ghost use Rattle.json.specs.Value.{value_view};
 ghost use Rattle.qs_data.specs.Views.{data_of, pair_of};
-ghost use Rattle.qs_c.specs.Taken.{data_from, item_data, member_data, IsJsonOf};
+ghost use Rattle.qs_c.specs.Taken.{item_data, member_data, IsJsonOf};
 ghost use Rattle.qs_c.specs.declared.failure.Kind.TheVariants as kind;
 
 use crate::failure::{Failure, Kind};

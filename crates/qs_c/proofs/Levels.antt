@@ -1,11 +1,14 @@
--- JSON values, level by level.
-use Rattle.std.proofs.Common.{◌≡◌, ℕ, List, [], ◌∷◌, map, refl, ap, ◌∙◌, Vec}
+-- JSON values and lists of data, level by level.
+use Rattle.std.proofs.Common.{◌≡◌, ℕ, List, [], ◌∷◌, map, refl, ap, ◌∙◌, rules, Vec}
 use Rattle.std.specs.Borrow.{Bor}
 use Rattle.std.specs.declared.alloc.Global.{Global}
 use Rattle.json.specs.Value.{items_view, members_view}
 use Rattle.json.specs.declared.value.Value.{Value, Array, Object}
 use Rattle.json.proofs.Trees.{view-Array, view-Object}
 use Rattle.qs_spec.specs.Data as d
+use Rattle.qs_data.specs.Views.{data_of}
+use Rattle.qs_data.specs.declared.data.Data as r
+use Rattle.qs_data.specs.declared.data.Data.{Data}
 use Rattle.qs_c.specs.Taken.{data_from, values_from, pairs_from, item_data, member_data}
 
 values_of_items : (vs : List (Value Global)) → values_from (items_view vs) ≡ d.values_of (map item_data vs)
@@ -22,4 +25,5 @@ data_of_array vs = ap data_from (view-Array vs) ∙ ap d.sequence (values_of_ite
 pub data_of_object : (ms : Vec (Bor (List ℕ) × Value Global) Global) → item_data (Object ms) ≡ d.mapping (d.pairs_of (map member_data ms.items))
 data_of_object ms = ap data_from (view-Object ms) ∙ ap d.mapping (pairs_of_members ms.items)
 
-pub ruleset json_levels = (data_of_array, data_of_object)
+pub data_of_list : (xs : Vec Data Global) → data_of (r.Seq xs) ≡ d.sequence (d.values_of (map data_of xs.items))
+data_of_list xs = search (rules, r.the_lemmas)

@@ -1,6 +1,6 @@
 //! What a call leaves with its caller.
 
-ghost use Rattle.std.specs.Prelude.{◌≡◌, ◌<◌, ◌≤◌, ◌++◌, ⊥, length, drop, IfOk, IfErr, IsErr, IsTrue, IsFalse};
+ghost use Rattle.std.specs.Prelude.{◌≡◌, ◌<◌, ◌≤◌, ◌++◌, length, drop, IfOk, IfErr, IsErr, IsTrue, IsFalse};
 ghost use Rattle.qs_c.specs.Answer.{IsHandedOut};
 ghost use Rattle.qs_c.specs.Status.{code_of, IsDone};
 

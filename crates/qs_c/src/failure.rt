@@ -1,6 +1,6 @@
 //! Why a call failed.
 
-ghost use Rattle.std.specs.Prelude.{◌≡◌, ⊥};
+ghost use Rattle.std.specs.Prelude.{◌≡◌};
 ghost use Rattle.qs_c.specs.Status.{code_of, IsDone};
 
 use std::alloc::{AllocError, AllocFailed};

@@ -79,5 +79,7 @@ fn read_data(alloc: Global, config: Config, shape: &Shape, input: &[u8]) -> qs_d
     requires { is_distinct (shape_of shape.now) ≡ true }
     ensures { IfOk result (λ datum. IsReadBy config (shape_of shape.now) input.now (data_of datum)) }
 {
-    Deserializer::with_config(alloc, config, input)?.read(alloc, shape)
+    let deserializer = Deserializer::with_config(alloc, config, input)?;
+    let datum = deserializer.read(alloc, shape)?;
+    Ok(datum)
 }

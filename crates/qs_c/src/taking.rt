@@ -37,7 +37,7 @@ fn fault_in(alloc: Global, text: &str) -> usize {
 
 /// The data that the value is. It calls itself for each level.
 #[cycle(take)]
-#[tactic(auto, using(qs_data::proofs::Levels::levels, crate::proofs::Levels::json_levels))]
+#[tactic(auto, using(qs_data::proofs::Levels::levels))]
 fn take(alloc: Global, value: &Value<'_>) -> Result<Data, AllocError>
     ensures { IfOk result (λ datum. data_of datum ≡ item_data value.now) }
 {

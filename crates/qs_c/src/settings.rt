@@ -36,11 +36,13 @@ impl Settings {
             return Err(bad(alloc, "max_depth is more than 100"));
         }
         let array_format = self.elements(alloc)?;
-        Ok(Config::new()
-            .max_depth(self.max_depth)
-            .use_form_encoding(self.form)
-            .array_format(array_format)
-            .duplicate_key_behavior(self.duplicates()))
+        Ok(
+            Config::new()
+                .max_depth(self.max_depth)
+                .use_form_encoding(self.form)
+                .array_format(array_format)
+                .duplicate_key_behavior(self.duplicates()),
+        )
     }
 
     fn elements(&self, alloc: Global) -> Result<ArrayFormat, Failure>

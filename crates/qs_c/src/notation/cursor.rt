@@ -131,7 +131,8 @@ impl Class {
     fn has(self, byte: u8) -> bool {
         match self {
             Class::Blank => matches!(byte, b' ' | b'\t' | b'\n' | b'\r'),
-            Class::Word => matches!(byte, b'a'..=b'z' | b'A'..=b'Z' | b'0'..=b'9' | b'_' | b'-' | 0x80..=0xFF),
+            Class::Word =>
+                matches!(byte, b'a'..=b'z' | b'A'..=b'Z' | b'0'..=b'9' | b'_' | b'-' | 0x80..=0xFF),
             Class::NoQuote => byte != b'"',
         }
     }

@@ -14,6 +14,6 @@ show-returns-in_ok-show_members-in-StructVariant-clause-tokens t c =
     let shown : c.show_members-in-StructVariant.new.writer.tokens ≡ (before ++ opening) ++ inner = search rules in
     let datum = ap data_of c.in-StructVariant.is ∙ data_of_struct_variant c.in-StructVariant.name c.in-StructVariant.members in
     let whole : c.show_members-in-StructVariant.new.writer.tokens ++ end_object ∷ [] ≡ before ++ json_tokens (json_of (data_of c.args.datum.now)) =
-        ap (λ ts. ts ++ end_object ∷ []) shown ∙ append_assoc (before ++ opening) inner (end_object ∷ []) ∙ append_assoc before opening (inner ++ end_object ∷ [])
-        ∙ ap (λ x. before ++ json_tokens (json_of x)) (sym datum) in
+    ap (λ ts. ts ++ end_object ∷ []) shown ∙ append_assoc (before ++ opening) inner (end_object ∷ []) ∙ append_assoc before opening (inner ++ end_object ∷ [])
+    ∙ ap (λ x. before ++ json_tokens (json_of x)) (sym datum) in
     subst (λ ts. OnOk c.end_object-in-StructVariant.result (c.end_object-in-StructVariant.new.self.tokens ≡ ts)) whole c.end_object-in-StructVariant.ensures.ok

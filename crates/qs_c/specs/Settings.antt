@@ -1,0 +1,24 @@
+-- The configuration that a caller's settings are.
+use Rattle.std.specs.Prelude.{ℕ, ◌==◌, cond, Bool, true, false}
+use Rattle.qs_spec.specs.Config.{Config, ArrayFormat, indexed, empty_indexed, unindexed, Duplicates, take_last, refuse}
+use Rattle.qs_c.specs.declared.settings.Settings.{Settings}
+
+-- no caller may ask for deeper nesting
+abbrev pub most_levels : ℕ
+most_levels = 100
+
+-- 0 and 1 are these, and each other number is the last
+abbrev pub format_of : ℕ → ArrayFormat
+format_of n = cond (n == 0) indexed (cond (n == 1) empty_indexed unindexed)
+
+abbrev pub duplicates_of : Bool → Duplicates
+duplicates_of true = refuse
+duplicates_of false = take_last
+
+abbrev pub config_of : Settings → Config
+config_of s = record {
+  max_depth = s.max_depth;
+  form = s.form;
+  array_format = format_of s.array_format;
+  duplicates = duplicates_of s.reject_duplicates;
+}

@@ -1,0 +1,72 @@
+-- Data as JSON, as serde_json writes the same data: fields, maps and variants with a value are objects, bytes an array of numbers.
+use Rattle.std.specs.Prelude.{ℕ, List, [], ◌∷◌, decimal}
+use Rattle.std.specs.Fmt.{signed_decimal}
+use Rattle.std.specs.Char.{encode_utf8}
+use Rattle.qs_spec.specs.Entry.{boolean_text}
+use Rattle.qs_spec.specs.Data as d
+use Rattle.json.specs.Json.{Json, Items, Members, no_items, item, no_members, member}
+use Rattle.json.specs.Json.Json.{null, boolean, number, string, array, object}
+use Rattle.json.specs.Print.{print}
+use Rattle.json.specs.Token.{Token}
+use Rattle.json.specs.Tree.{json_tokens}
+
+abbrev pub byte_items : List ℕ → Items
+byte_items [] = no_items
+byte_items (b ∷ bs) = item (number (decimal b)) (byte_items bs)
+
+-- the text that the key of a map is read from; nothing else is ever a key
+abbrev pub key_of : d.Data → List ℕ
+key_of (d.boolean b) = boolean_text b
+key_of (d.unsigned n) = decimal n
+key_of (d.signed n) = signed_decimal n
+key_of (d.character c) = encode_utf8 c
+key_of (d.text t) = t
+key_of (d.unit_variant name) = name
+key_of _ = []
+
+-- an object with one member
+abbrev pub alone : List ℕ → Json → Json
+alone name j = object (member name j no_members)
+
+abbrev mutual
+  pub json_of : d.Data → Json
+  json_of d.unit = null
+  json_of d.none = null
+  json_of (d.some x) = json_of x
+  json_of (d.boolean b) = boolean b
+  json_of (d.unsigned n) = number (decimal n)
+  json_of (d.signed n) = number (signed_decimal n)
+  json_of (d.character c) = string (encode_utf8 c)
+  json_of (d.text t) = string t
+  json_of (d.bytes b) = array (byte_items b)
+  json_of (d.sequence xs) = array (items_of xs)
+  json_of (d.tuple xs) = array (items_of xs)
+  json_of (d.mapping ps) = object (pairs_of ps)
+  json_of (d.struct ms) = object (members_of ms)
+  json_of (d.newtype x) = json_of x
+  json_of (d.unit_variant name) = string name
+  json_of (d.newtype_variant name x) = alone name (json_of x)
+  json_of (d.tuple_variant name xs) = alone name (array (items_of xs))
+  json_of (d.struct_variant name ms) = alone name (object (members_of ms))
+
+  pub items_of : d.Values → Items
+  items_of d.no_values = no_items
+  items_of (d.one_value x xs) = item (json_of x) (items_of xs)
+
+  pub pairs_of : d.Pairs → Members
+  pairs_of d.no_pairs = no_members
+  pairs_of (d.one_pair k x ps) = member (key_of k) (json_of x) (pairs_of ps)
+
+  pub members_of : d.Members → Members
+  members_of d.no_members = no_members
+  members_of (d.one_member name x ms) = member name (json_of x) (members_of ms)
+
+abbrev pub array_tokens : Items → List Token
+array_tokens js = json_tokens (array js)
+
+abbrev pub object_tokens : Members → List Token
+object_tokens ms = json_tokens (object ms)
+
+-- without blanks
+abbrev pub json_text : d.Data → List ℕ
+json_text x = print (json_tokens (json_of x))

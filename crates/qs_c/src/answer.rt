@@ -1,0 +1,77 @@
+//! What a call leaves with its caller.
+
+ghost use Rattle.std.specs.Prelude.{◌≡◌, ◌<◌, ◌≤◌, ◌++◌, length, drop, IfOk, IfErr, IsErr, IsTrue, IsFalse};
+ghost use Rattle.qs_c.specs.Answer.{IsHandedOut};
+ghost use Rattle.qs_c.specs.Status.{code_of, IsDone};
+
+use crate::failure::Failure;
+
+/// What a call says beside its status.
+#[repr(C)]
+#[derive(Drop)]
+pub struct Answer {
+    /// How many bytes the result has, or the text of an error.
+    pub len: usize,
+    /// Where the error is in the input.
+    pub position: usize,
+}
+
+/// Hands out what a call found, or why it failed.
+pub(crate) fn hand_out(
+    outcome: Result<Vec<u8>, Failure>,
+    out: &mut [u8],
+    answer: &mut Answer,
+) -> u32
+    ensures done { IfOk outcome (λ text. IsHandedOut text.items out.old out.new result answer.new.len) }
+    ensures failed { IfErr outcome (λ failure. result ≡ code_of failure.kind) }
+    ensures fails { IsErr outcome → IsDone result → ⊥ }
+{
+    match outcome {
+        Ok(text) => give(&text, out, answer),
+        Err(failure) => fail(failure, out, answer),
+    }
+}
+
+/// Copies the bytes to the front of `out`, where they fit there, and returns the status.
+pub(crate) fn give(text: &[u8], out: &mut [u8], answer: &mut Answer) -> u32
+    ensures text { IsHandedOut text.now out.old out.new result answer.new.len }
+    ensures done { IsDone result }
+{
+    answer.len = text.len();
+    answer.position = 0;
+    if put(text, out) { 0 } else { 1 }
+}
+
+/// Copies the error's text to the front of `out`, where it fits there, and returns the error's status.
+pub(crate) fn fail(failure: Failure, out: &mut [u8], answer: &mut Answer) -> u32
+    ensures failed { result ≡ code_of failure.kind }
+    ensures fails { IsDone result → ⊥ }
+    ensures position { answer.new.position ≡ failure.position }
+{
+    answer.position = failure.position;
+    answer.len = say(&failure, out);
+    failure.kind.code()
+}
+
+/// Copies the error's text to the front of `out`, where it fits there, and returns its length.
+fn say(failure: &Failure, out: &mut [u8]) -> usize {
+    match &failure.text {
+        Some(text) => {
+            put(text.as_bytes(), out);
+            text.len()
+        }
+        None => 0,
+    }
+}
+
+/// Copies the bytes to the front of `out`, if they fit there.
+fn put(text: &[u8], out: &mut [u8]) -> bool
+    ensures fits { IsTrue result → (length text.now ≤ length out.old) × (out.new ≡ text.now ++ drop (length text.now) out.old) }
+    ensures too_long { IsFalse result → (length out.old < length text.now) × (out.new ≡ out.old) }
+{
+    if text.len() > out.len() {
+        return false;
+    }
+    out[..text.len()].copy_from_slice(text);
+    true
+}

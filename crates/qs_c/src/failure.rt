@@ -1,0 +1,104 @@
+//! Why a call failed.
+
+ghost use Rattle.std.specs.Prelude.{◌≡◌};
+ghost use Rattle.qs_c.specs.Status.{code_of, IsDone};
+
+use std::alloc::{AllocError, AllocFailed};
+
+/// The kinds of errors, each a status of the header.
+#[derive(Clone, Copy, Debug, PartialEq, Eq)]
+pub(crate) enum Kind {
+    /// An allocation failed.
+    OutOfMemory,
+    /// The settings are none.
+    Settings,
+    /// The querystring isn't one.
+    Parse,
+    /// The querystring doesn't fit the shape.
+    Mismatch,
+    /// A string that is read isn't UTF-8.
+    NotUtf8,
+    /// The text of the shape isn't one.
+    Shape,
+    /// The JSON isn't any.
+    Json,
+    /// A value nests deeper than the settings allow.
+    TooDeep,
+}
+
+impl Kind {
+    /// The number that a call returns.
+    pub(crate) fn code(self) -> u32
+        ensures code { result ≡ code_of self }
+        ensures failed { IsDone result → ⊥ }
+    {
+        match self {
+            Kind::OutOfMemory => 2,
+            Kind::Settings => 3,
+            Kind::Parse => 4,
+            Kind::Mismatch => 5,
+            Kind::NotUtf8 => 6,
+            Kind::Shape => 7,
+            Kind::Json => 8,
+            Kind::TooDeep => 9,
+        }
+    }
+}
+
+/// An error: its kind, its text, and where in the input it is.
+#[derive(Debug, Drop)]
+pub(crate) struct Failure {
+    pub(crate) kind: Kind,
+    /// The text for a user; an allocation that failed has none.
+    pub(crate) text: Option<String>,
+    /// Of an input that can't be parsed, the number of bytes before the fault; else 0.
+    pub(crate) position: usize,
+}
+
+impl Failure {
+    ghost use Rattle.qs_c.specs.declared.failure.Kind.TheVariants.{OutOfMemory};
+
+    /// The error that an allocation failed.
+    pub(crate) fn out_of_memory() -> Failure
+        ensures { result.kind ≡ OutOfMemory }
+    {
+        Failure {
+            kind: Kind::OutOfMemory,
+            text: None,
+            position: 0,
+        }
+    }
+
+    /// The error of this kind, with this text, at this place.
+    pub(crate) fn new(kind: Kind, text: String, position: usize) -> Failure
+        ensures { result.kind ≡ kind }
+    {
+        Failure {
+            kind,
+            text: Some(text),
+            position,
+        }
+    }
+}
+
+impl From<AllocError> for Failure {
+    ghost use Rattle.std.specs.Prelude.{◌≡◌};
+    ghost use Rattle.qs_c.specs.declared.failure.Kind.TheVariants.{OutOfMemory};
+
+    ghost from_gives = { λ _ failure. failure.kind ≡ OutOfMemory };
+
+    fn from(_refused: AllocError) -> Failure {
+        Failure::out_of_memory()
+    }
+}
+
+impl<T: Drop> From<AllocFailed<T>> for Failure {
+    ghost use Rattle.std.specs.Prelude.{◌≡◌};
+    ghost use Rattle.qs_c.specs.declared.failure.Kind.TheVariants.{OutOfMemory};
+
+    ghost from_gives = { λ _ failure. failure.kind ≡ OutOfMemory };
+
+    fn from(_refused: AllocFailed<T>) -> Failure {
+        Failure::out_of_memory()
+    }
+}

@@ -1,0 +1,35 @@
+//! The errors of the other crates, as failures.
+
+ghost use Rattle.std.specs.Prelude.{◌≡◌};
+ghost use Rattle.qs_c.specs.Faults.{kind_of, IsFailureOf};
+
+use crate::failure::{Failure, Kind};
+use qs_data::Error;
+use std::alloc::Global;
+
+/// The failure that the error is, with its text.
+pub(crate) fn failure_of(alloc: Global, error: Error) -> Failure
+    ensures { IsFailureOf result.kind error }
+{
+    let kind = kind_of(&error);
+    let position = match &error {
+        Error::Parse(_, position) => *position,
+        _ => 0,
+    };
+    match String::format(alloc, error) {
+        Ok(text) => Failure::new(kind, text, position),
+        Err(_) => Failure::out_of_memory(),
+    }
+}
+
+fn kind_of(error: &Error) -> Kind
+    ensures { result ≡ kind_of error.now }
+{
+    match error {
+        Error::Parse(_, _) => Kind::Parse,
+        Error::Utf8(_) => Kind::NotUtf8,
+        Error::MaxSerializationDepthExceeded(_) => Kind::TooDeep,
+        Error::OutOfMemory => Kind::OutOfMemory,
+        _ => Kind::Mismatch,
+    }
+}

@@ -1,0 +1,21 @@
+//! Querystrings for programs in other languages: a static library of calls over bytes.
+//!
+//! `include/serde_qs.h` declares the calls, and docs/LIBRARY.md describes them. Each call puts what it returns into the caller's
+//! buffer, and keeps no memory.
+#![tactic(auto)]
+
+mod answer;
+pub mod escaping;
+mod failure;
+mod faults;
+mod notation;
+pub mod reading;
+mod settings;
+mod showing;
+mod taking;
+#[cfg(test)]
+mod tests;
+pub mod writing;
+
+pub use answer::Answer;
+pub use settings::Settings;

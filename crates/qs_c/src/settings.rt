@@ -1,0 +1,76 @@
+//! How a querystring is read and written, as a caller says it.
+
+ghost use Rattle.std.specs.Prelude.{◌≡◌, ◌≤◌, ◌⊎◌, IfOk};
+ghost use Rattle.qs_tree.specs.Settings.{array_format_of, duplicates_of as behavior_of};
+ghost use Rattle.qs_c.specs.Settings.{config_of, format_of, duplicates_of, most_levels};
+ghost use Rattle.qs_c.specs.declared.failure.Kind.TheVariants.{OutOfMemory, Settings as BadSettings};
+
+use crate::failure::{Failure, Kind};
+use qs_data::{ArrayFormat, Config, DuplicateKeyBehavior};
+use std::alloc::Global;
+
+/// The deepest nesting that may be asked for. So a call takes little stack, and what is read nests as deep as JSON may be.
+const MOST_LEVELS: usize = 100;
+
+/// How a querystring is read and written.
+#[repr(C)]
+#[derive(Drop)]
+pub struct Settings {
+    /// How many levels of brackets may follow the first key, 100 at most.
+    pub max_depth: usize,
+    /// Form mode, or else query mode.
+    pub form: bool,
+    /// How the place of a list's element is written: 0 by its number, 1 by empty brackets, 2 not at all.
+    pub array_format: u8,
+    /// Whether several values where one is asked for are an error; else the last one is taken.
+    pub reject_duplicates: bool,
+}
+
+impl Settings {
+    /// The configuration, unless a number in the settings is too large.
+    pub(crate) fn config(&self, alloc: Global) -> Result<Config, Failure>
+        ensures config { IfOk result (λ config. config ≡ config_of self.now) }
+        ensures limit { IfOk result (λ config. config.max_depth ≤ most_levels) }
+    {
+        if self.max_depth > MOST_LEVELS {
+            return Err(bad(alloc, "max_depth is more than 100"));
+        }
+        let array_format = self.elements(alloc)?;
+        Ok(
+            Config::new()
+                .max_depth(self.max_depth)
+                .use_form_encoding(self.form)
+                .array_format(array_format)
+                .duplicate_key_behavior(self.duplicates()),
+        )
+    }
+
+    fn elements(&self, alloc: Global) -> Result<ArrayFormat, Failure>
+        ensures { IfOk result (λ format. array_format_of format ≡ format_of self.now.array_format) }
+    {
+        match self.array_format {
+            0 => Ok(ArrayFormat::Indexed),
+            1 => Ok(ArrayFormat::EmptyIndexed),
+            2 => Ok(ArrayFormat::Unindexed),
+            _ => Err(bad(alloc, "array_format is none of 0, 1 and 2")),
+        }
+    }
+
+    fn duplicates(&self) -> DuplicateKeyBehavior
+        ensures { behavior_of result ≡ duplicates_of self.now.reject_duplicates }
+    {
+        if self.reject_duplicates {
+            DuplicateKeyBehavior::Error
+        } else {
+            DuplicateKeyBehavior::TakeLast
+        }
+    }
+}
+
+/// The error of settings that are none.
+fn bad(alloc: Global, text: &str) -> Failure {
+    match String::from_str(alloc, text) {
+        Ok(text) => Failure::new(Kind::Settings, text, 0),
+        Err(_) => Failure::out_of_memory(),
+    }
+}

@@ -1,0 +1,86 @@
+//! Data of JSON.
+
+ghost use Rattle.std.specs.Prelude.{◌≡◌, ◌⊎◌, map, IfOk};
+ghost use Rattle.qs_data.specs.Views.{data_of, pair_of};
+ghost use Rattle.qs_c.specs.Taken.{item_data, member_data, IsJsonOf};
+ghost use Rattle.qs_c.specs.declared.failure.Kind.TheVariants as kind;
+
+use crate::failure::{Failure, Kind};
+use json::{MAX_DEPTH, Reader, Scratch, Value};
+use qs_data::Data;
+use std::alloc::{AllocError, Global};
+
+/// The data that the JSON is.
+pub(crate) fn taken(alloc: Global, text: &[u8]) -> Result<Data, Failure>
+    ensures { IfOk result (λ datum. IsJsonOf text.now (data_of datum)) }
+{
+    let Ok(text) = std::str::from_utf8(text) else {
+        return Err(bad(alloc, "the JSON isn't UTF-8", 0));
+    };
+    let mut scratch = Scratch::new(alloc);
+    match Value::parse(alloc, text, &mut scratch) {
+        Ok(value) => Ok(take(alloc, &value)?),
+        Err(json::Error::OutOfMemory) => Err(Failure::out_of_memory()),
+        Err(_) => Err(bad(alloc, "the JSON is invalid", fault_in(alloc, text))),
+    }
+}
+
+/// Where the JSON can't be read on.
+fn fault_in(alloc: Global, text: &str) -> usize {
+    let mut scratch = Scratch::new(alloc);
+    let Ok(mut reader) = Reader::new(text, &mut scratch) else {
+        return 0;
+    };
+    let _ = Value::read(alloc, &mut reader, MAX_DEPTH);
+    reader.offset()
+}
+
+/// The data that the value is. It calls itself for each level.
+#[cycle(take)]
+#[tactic(auto, using(qs_data::proofs::Levels::levels))]
+fn take(alloc: Global, value: &Value<'_>) -> Result<Data, AllocError>
+    ensures { IfOk result (λ datum. data_of datum ≡ item_data value.now) }
+{
+    match value {
+        Value::Null => Ok(Data::None),
+        Value::Bool(value) => Ok(Data::Bool(*value)),
+        Value::Number(text) | Value::String(text) => Ok(Data::Text(String::from_str(alloc, text)?)),
+        Value::Array(items) => Ok(Data::Seq(take_items(alloc, items)?)),
+        Value::Object(members) => Ok(Data::Map(take_members(alloc, members)?)),
+    }
+}
+
+#[cycle(take)]
+fn take_items(alloc: Global, items: &Vec<Value<'_>>) -> Result<Vec<Data>, AllocError>
+    ensures { IfOk result (λ taken. map data_of taken.items ≡ map item_data items.now.items) }
+{
+    let mut taken = Vec::new(alloc);
+    for item in items {
+        taken.push(take(alloc, item)?)?;
+    }
+    Ok(taken)
+}
+
+#[cycle(take)]
+fn take_members(
+    alloc: Global,
+    members: &Vec<(&str, Value<'_>)>,
+) -> Result<Vec<(Data, Data)>, AllocError>
+    ensures { IfOk result (λ taken. map pair_of taken.items ≡ map member_data members.now.items) }
+{
+    let mut taken = Vec::new(alloc);
+    for member in members {
+        let key = Data::Text(String::from_str(alloc, member.0)?);
+        taken.push((key, take(alloc, &member.1)?))?;
+    }
+    Ok(taken)
+}
+
+fn bad(alloc: Global, text: &str, position: usize) -> Failure
+    ensures { (result.kind ≡ kind.Json) ⊎ (result.kind ≡ kind.OutOfMemory) }
+{
+    match String::from_str(alloc, text) {
+        Ok(text) => Failure::new(Kind::Json, text, position),
+        Err(_) => Failure::out_of_memory(),
+    }
+}

@@ -1,0 +1,55 @@
+//! Writing.
+
+ghost use Rattle.std.specs.Prelude.{◌≡◌, None, false, List, ℕ, IfOk};
+ghost use Rattle.qs_spec.specs.Entry.{entries};
+ghost use Rattle.qs_spec.specs.Written.{written};
+ghost use Rattle.qs_data.specs.Views.{data_of};
+ghost use Rattle.qs_c.specs.Answer.{IsHandedOut};
+ghost use Rattle.qs_c.specs.Outcomes.{IsWritten};
+ghost use Rattle.qs_c.specs.Settings.{config_of};
+ghost use Rattle.qs_c.specs.Status.{IsDone};
+
+use crate::answer::{Answer, hand_out};
+use crate::failure::Failure;
+use crate::faults::failure_of;
+use crate::settings::Settings;
+use crate::taking::taken;
+use qs_data::{Config, Data, Serializer};
+use std::alloc::Global;
+
+/// The querystring that the JSON is written as.
+#[unsafe(no_mangle)]
+pub extern "C" fn qs_write(
+    alloc: Global,
+    settings: &Settings,
+    json: &[u8],
+    out: &mut [u8],
+    answer: &mut Answer,
+) -> u32
+    ensures done { IsDone result → (text : List ℕ) × IsWritten (config_of settings.now) json.now text
+        × IsHandedOut text out.old out.new result answer.new.len }
+{
+    hand_out(written(alloc, settings, json), out, answer)
+}
+
+fn written(alloc: Global, settings: &Settings, json: &[u8]) -> Result<Vec<u8>, Failure>
+    ensures { IfOk result (λ text. IsWritten (config_of settings.now) json.now text.items) }
+{
+    let config = settings.config(alloc)?;
+    let datum = taken(alloc, json)?;
+    match text_of(alloc, config, &datum) {
+        Ok(text) => Ok(text),
+        Err(error) => Err(failure_of(alloc, error)),
+    }
+}
+
+/// The text that the data are written as.
+fn text_of(alloc: Global, config: Config, datum: &Data) -> qs_data::Result<Vec<u8>>
+    ensures whole { IfOk result (λ text. (entries config (data_of datum.now)).refusal ≡ None) }
+    ensures text { IfOk result (λ text. text.items ≡ written config.form false (entries config (data_of datum.now)).entries) }
+{
+    let text = Vec::with_capacity(alloc, 128)?;
+    let mut serializer = Serializer::new(text, config);
+    serializer.serialize(alloc, datum)?;
+    Ok(serializer.into_sink().into_writer())
+}

@@ -1,0 +1,85 @@
+/* Nested querystrings for C: read as JSON, written of JSON, encoded and decoded. docs/LIBRARY.md has the whole.
+ *
+ * Each call is given its input, a buffer for its result, and a place for the answer, and returns a status. It keeps no memory and no
+ * pointer, so there is nothing to free, and calls in several threads at once don't meet.
+ *
+ * QS_OK          the first `len` bytes of `out` are the result
+ * QS_TOO_SMALL   the result has `len` bytes, which is more than `out_size`; `out` is unchanged
+ * any other      an error: `len` is the length of its text, which stands at the front of `out` if it fits there
+ *
+ * No pointer may be null, not even beside a size of 0, and `out` may overlap nothing else that the call is given. */
+#ifndef SERDE_QS_H
+#define SERDE_QS_H
+
+#include <stdbool.h>
+#include <stddef.h>
+#include <stdint.h>
+
+#ifdef __cplusplus
+extern "C" {
+#endif
+
+/* The statuses. */
+enum {
+    QS_OK = 0,
+    QS_TOO_SMALL = 1,
+    QS_OUT_OF_MEMORY = 2, /* an allocation failed; this error has no text */
+    QS_BAD_SETTINGS = 3,
+    QS_PARSE_ERROR = 4, /* the querystring is rejected, at `position` */
+    QS_MISMATCH = 5,    /* the querystring doesn't fit the shape */
+    QS_NOT_UTF8 = 6,    /* a string that is read isn't UTF-8 */
+    QS_BAD_SHAPE = 7,   /* the text of the shape is rejected, at `position` */
+    QS_BAD_JSON = 8,    /* the JSON is rejected, at `position` */
+    QS_TOO_DEEP = 9     /* a value nests deeper than `max_depth` */
+};
+
+/* How the place of a list's element is written. */
+enum {
+    QS_INDEXED = 0,       /* a[0]=x&a[1]=y */
+    QS_EMPTY_INDEXED = 1, /* a[]=x&a[]=y */
+    QS_UNINDEXED = 2      /* a=x&a=y */
+};
+
+/* How a querystring is read and written. */
+typedef struct {
+    size_t max_depth;       /* levels of brackets after the first key, 100 at most */
+    bool form;              /* form mode, where brackets may be encoded; else query mode */
+    uint8_t array_format;   /* QS_INDEXED, QS_EMPTY_INDEXED or QS_UNINDEXED */
+    bool reject_duplicates; /* several values where one is asked for are an error; else the last is taken */
+} qs_settings;
+
+static const qs_settings qs_default = {5, false, QS_INDEXED, false};
+
+/* What a call says beside its status. */
+typedef struct {
+    size_t len;      /* the length of the result, or of an error's text */
+    size_t position; /* where the error is in what was given */
+} qs_answer;
+
+/* The querystring as JSON, read as whatever is there: strings, lists and maps. */
+uint32_t qs_parse(const qs_settings *settings, const uint8_t *input, size_t input_size, uint8_t *out, size_t out_size,
+                  qs_answer *answer);
+
+/* The querystring as JSON, read by a shape, such as {user: {name: text}}. */
+uint32_t qs_read(const qs_settings *settings, const uint8_t *shape, size_t shape_size, const uint8_t *input, size_t input_size,
+                 uint8_t *out, size_t out_size, qs_answer *answer);
+
+/* The querystring that the JSON is written as. */
+uint32_t qs_write(const qs_settings *settings, const uint8_t *json, size_t json_size, uint8_t *out, size_t out_size,
+                  qs_answer *answer);
+
+/* The bytes, encoded for form mode or query mode. */
+uint32_t qs_encode(bool form, const uint8_t *bytes, size_t bytes_size, uint8_t *out, size_t out_size, qs_answer *answer);
+
+/* The bytes, decoded. */
+uint32_t qs_decode(const uint8_t *bytes, size_t bytes_size, uint8_t *out, size_t out_size, qs_answer *answer);
+
+/* A string literal, and an array of characters, as a call takes them. */
+#define QS_TEXT(text) (const uint8_t *)(text), sizeof(text) - 1
+#define QS_ROOM(array) (uint8_t *)(array), sizeof(array)
+
+#ifdef __cplusplus
+}
+#endif
+
+#endif

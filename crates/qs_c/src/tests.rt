@@ -15,6 +15,15 @@ fn settings() -> Settings {
     }
 }
 
+// The first `len` bytes, or all.
+fn front(bytes: &[u8], len: usize) -> &[u8] {
+    if len <= bytes.len() {
+        &bytes[..len]
+    } else {
+        bytes
+    }
+}
+
 #[test]
 fn read(rt: HostRuntime) -> Result<(), Fail> {
     let rows = [
@@ -89,7 +98,7 @@ fn read(rt: HostRuntime) -> Result<(), Fail> {
         );
         assert_eq!(rt; found, status, "{shape} {input}");
         if !text.is_empty() {
-            assert_eq!(rt; &out[..answer.len], text.as_bytes(), "{shape} {input}");
+            assert_eq!(rt; front(&out, answer.len), text.as_bytes(), "{shape} {input}");
         }
     }
     Ok(())
@@ -126,7 +135,7 @@ fn written(rt: HostRuntime) -> Result<(), Fail> {
             &mut answer,
         );
         assert_eq!(rt; found, status, "{json}");
-        assert_eq!(rt; &out[..answer.len], text.as_bytes(), "{json}");
+        assert_eq!(rt; front(&out, answer.len), text.as_bytes(), "{json}");
     }
     Ok(())
 }

@@ -10,27 +10,27 @@ for count in 100000 300000; do
     numbers $count 'in order' | sed "s/.*/'k&':'v'/" | joined , | between { } >"$room/wanted"
     for order in 'in order' reversed shuffled; do
         numbers $count "$order" | sed 's/.*/k&=v/' | joined '&' >"$room/input"
-        load "$count keys, $order" 0 pairs any
+        load "$count keys, $order" 0 pairs=$count any
     done
 done
 
 numbers 100000 'in order' | sed "s/.*/'k&':'v'/" | joined , | between "{'m':{" '}}' >"$room/wanted"
 for order in 'in order' reversed shuffled; do
     numbers 100000 "$order" | sed 's/.*/m[k&]=v/' | joined '&' >"$room/input"
-    load "a map of 100000 keys, $order" 0 pairs any
+    load "a map of 100000 keys, $order" 0 pairs=100000 any
 done
 
 numbers 100000 'in order' | sed "s/.*/'v&'/" | joined , | between "{'a':[" ']}' >"$room/wanted"
 for order in 'in order' reversed shuffled; do
     numbers 100000 "$order" | awk '{ printf "a[%d]=v%s\n", $1, $1 }' | joined '&' >"$room/input"
-    load "a list of 100000, $order" 0 pairs any
+    load "a list of 100000, $order" 0 pairs=100000 any
 done
 
 times 100000 "'v'," | sed 's/,$//' | between "{'a':[" ']}' >"$room/wanted"
 times 100000 'a[]=v&' >"$room/input"
-load '100000 pushes' 0 pairs any
+load '100000 pushes' 0 pairs=100000 any
 times 100000 'a=v&' >"$room/input"
-load '100000 values of one key' 0 pairs any
+load '100000 values of one key' 0 pairs=100000 any
 
 conflict='invalid input: the same key is used for both a value and a nested map'
 times 100000 'a=1&a[b]=2&' >"$room/input"
@@ -39,14 +39,16 @@ rejected '100000 conflicts' 7 "$conflict"
 rejected 'a conflict at the front of 10 MB' 7 "$conflict"
 
 million=1000000
+# A shorter input takes no more memory than what starts the program, so that its peak says nothing.
+long=$((4 * million))
 times $((9 * million)) v | between "{'a':'" "'}" >"$room/wanted"
 { printf 'a='; times $((9 * million)) v; } >"$room/input"
 tree 'a value of 9 MB'
 unclosed='unexpected end of input while parsing nested key'
-times $million '[' >"$room/input"
-rejected 'opening brackets' $((million + 1)) "$unclosed"
-times $million '%5B' >"$room/input"
-rejected 'escaped opening brackets, form mode' $((3 * million + 1)) "$unclosed" --form
+times $long '[' >"$room/input"
+rejected 'opening brackets' $((long + 1)) "$unclosed"
+times $long '%5B' >"$room/input"
+rejected 'escaped opening brackets, form mode' $((3 * long + 1)) "$unclosed" --form
 
 # A key that is never closed runs over the separators that follow, up to the end.
 for text in letters + %41; do
@@ -58,10 +60,10 @@ for text in letters + %41; do
     done
 done
 
-# shown NAME BYTE ESCAPE BEFORE END: a million times the byte is shown as so many escapes between two texts.
+# shown NAME BYTE ESCAPE BEFORE END: a long run of the byte is shown as so many escapes between two texts.
 shown() {
-    times $million "$2" >"$room/input"
-    times $million "$3" | between "$4" "$5" >"$room/wanted"
+    times $long "$2" >"$room/input"
+    times $long "$3" | between "$4" "$5" >"$room/wanted"
     tree "$1"
 }
 
@@ -70,13 +72,13 @@ shown 'percent signs' % %25 "{'" "':()}"
 shown 'plus signs' + %20 "{'" "':()}"
 shown 'escaped opening brackets' %5B %5B "{'" "':()}"
 
-times $million '=' >"$room/input"
-times $((million - 1)) %3D | between "'" "'" >"$room/wanted"
+times $long '=' >"$room/input"
+times $((long - 1)) %3D | between "'" "'" >"$room/wanted"
 tree 'equals signs'
 
-times $million '&' >"$room/input"
+times $long '&' >"$room/input"
 echo 'error: internal error: attempted to deserialize unitialised value' >"$room/wanted"
-load 'ampersands' 1 texts any
+load 'ampersands' 1 plain any
 
 # nested_text COUNT VALUE: a pair whose key has so many brackets.
 nested_text() {
@@ -87,29 +89,29 @@ nested_text() {
 
 nested_text $deepest 1 >"$room/input"
 { printf "{'a':"; times $deepest "{'b':"; printf "'1'"; times $((deepest + 1)) '}'; echo; } >"$room/wanted"
-load "$deepest brackets" 0 maps any --depth $deepest
+load "$deepest brackets" 0 maps=$deepest any --depth $deepest
 
 { nested_text $deepest 1; printf '&a[c]=%%FF'; } >"$room/input"
 echo 'error: invalid utf-8 sequence of 1 bytes from index 0' >"$room/wanted"
-load "$deepest brackets beside a value that isn't UTF-8" 1 maps any --depth $deepest
+load "$deepest brackets beside a value that isn't UTF-8" 1 maps=$deepest any --depth $deepest
 
 { nested_text $deepest 1; printf '&'; nested_text $deepest 2; } >"$room/input"
 { printf "{'a':"; times $deepest "{'b':"; printf "['1','2']"; times $((deepest + 1)) '}'; echo; } >"$room/wanted"
-load "$deepest brackets, twice" 0 maps any --depth $deepest
+load "$deepest brackets, twice" 0 maps=$deepest any --depth $deepest
 
 { nested_text $deepest 1; printf '&a[]=2'; } >"$room/input"
-parts=maps rejected "$deepest brackets and a conflict" $((3 * deepest + 7)) \
+against=maps=$deepest rejected "$deepest brackets and a conflict" $((3 * deepest + 7)) \
     'invalid input: the key `a` appears in the input as both a sequence and a map (with keys "b")' --depth $deepest
 
 nested_text $million 1 >"$room/input"
 { printf "{'a':{'b':{'b':{'b':{'b':{'b':{'"; times $((million - 5)) %5Bb%5D; printf "':'1'}}}}}}}\n"; } >"$room/wanted"
 tree "$million brackets, the default depth"
 
-times $million k | between "{'" "':['1','2']}" >"$room/wanted"
-{ times $million k; printf '=1&'; times $million k; printf '=2'; } >"$room/input"
-tree 'a key of a million bytes, twice'
-times $million k | between "{'a':{'" "':['1','2']}}" >"$room/wanted"
-{ printf 'a['; times $million k; printf ']=1&a['; times $million k; printf ']=2'; } >"$room/input"
-tree 'a key of a million bytes in brackets, twice'
+times $long k | between "{'" "':['1','2']}" >"$room/wanted"
+{ times $long k; printf '=1&'; times $long k; printf '=2'; } >"$room/input"
+tree 'a key of four million bytes, twice'
+times $long k | between "{'a':{'" "':['1','2']}}" >"$room/wanted"
+{ printf 'a['; times $long k; printf ']=1&a['; times $long k; printf ']=2'; } >"$room/input"
+tree 'a key of four million bytes in brackets, twice'
 
 report_loads

@@ -13,7 +13,7 @@ entries() {
 
 # reads NAME: they are read as the line $room/wanted.
 reads() {
-    load "$1" 0 pairs params
+    load "$1" 0 pairs=$count params
 }
 
 numbers $count 'in order' | awk '{ printf "user_ids[%d]=%d\n", $1, $1 % 200 }' | joined '&' | between "$others&" '' >"$room/wanted"

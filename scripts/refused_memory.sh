@@ -33,16 +33,16 @@ refuse_each() {
         elif [ "$status" -eq 3 ] && [ -s "$room/refused" ] && { [ ! -s "$room/output" ] || cmp -s "$room/output" "$room/memory"; }; then
             pass
         else
-            fail "qs_tool $* with allocation $at refused: status $status, wrote '$(head -c 200 "$room/output")'"
+            fail "$(basename "$program") $* with allocation $at refused: status $status, wrote '$(head -c 200 "$room/output")'"
         fi
         if [ ! -s "$room/refused" ]; then
             if [ "$at" -lt 3 ]; then
-                fail "qs_tool $*: no allocation was refused"
+                fail "$(basename "$program") $*: no allocation was refused"
             fi
             return
         fi
     done
-    fail "qs_tool $*: no end of its allocations"
+    fail "$(basename "$program") $*: no end of its allocations"
 }
 
 long=$(printf '%*s' 20000 '' | tr ' ' x)
@@ -95,5 +95,23 @@ refuse_each '01=x' 1 'error: missing index, expected: 0 got 1' any
 fails '=1&a=2' 7 "$value_and_map"
 refuse_each 'a[4294967296]=p&a[4294967295]=q' 0 "{'a':{'4294967295':'q','4294967296':'p'}}" any
 refuse_each '' 2 'usage: qs_tool flat|params|any [--form] [--strict] [--depth N] [--format indexed|empty|unindexed] [--duplicates last|error]' round
+
+# Typed calls, over structs, maps, lists and enums of users, and lists in one text.
+program=${2:-$root/crates/qs_answers/out/qs_answers}
+[ -x "$program" ] || fail "there is no program $program: run 'rt run' in crates/qs_answers once"
+refuse_each 'items=7&items=8&name=A%63me&address[city]=Carrot+City&address[street]=S' 0 \
+    'name=Acme&address[street]=S&address[city]=Carrot+City&items[0]=7&items[1]=8' order
+refuse_each 'text=a%20b&page=2&ranges[0][]=1&ranges[0][]=-2&labels[b]=%20&labels[a]=x' 0 \
+    'text=a+b&page=2&ranges[0][0]=1&ranges[0][1]=-2&labels[a]=x&labels[b]=+' search
+refuse_each 'b[1][from]=3&b[1][to]=4&b[0][to]=2&b[0][from]=1&a[k][from]=5&a[k][to]=6' 0 \
+    'a[k][from]=5&a[k][to]=6&b[0][from]=1&b[0][to]=2&b[1][from]=3&b[1][to]=4' ranges
+refuse_each 'x=Relevance&y[By]=p&z[Between][from]=1&z[Between][to]=2' 0 \
+    'x=Relevance&y[By]=p&z[Between][from]=1&z[Between][to]=2' sorts
+refuse_each 'a=10,20&b[a]=1|2&b[b]=-3+4' 0 'a=10,20&b[a]=1|2&b[b]=-3+4' lists
+refuse_each 'a=10,x&b[a]=&b[b]=' 1 'error: invalid item `x`' lists
+refuse_each 'a=1,2,3&b=' 0 'a=1,2,3&b=' values
+refuse_each 'a=1,,3' 1 'error: invalid item ``' values
+refuse_each 'name=a' 1 'error: missing field `address`' order
+refuse_each 'a=1&a[b' 1 "error: parsing failed with error: '$value_and_map' at position: 7" map
 
 report

@@ -53,6 +53,8 @@ row 'abc%5Bdef%5D=ghi' 0 "{'abc':{'def':'ghi'}}" any --form
 row 'a[b][=1' 0 "{'a':{'b':{'%5B%3D1':()}}}" any --depth 1
 row 'a=1&a=2' 0 "{'a':['1','2']}" any --duplicates error --format empty
 row 'a[0]=x&a[2]=y' 1 'error: missing index, expected: 1 got 2' any
+row "a[$(printf '%01000d' 1)]=x" 1 'error: missing index, expected: 0 got 1' any
+row 'x[%FF]=1' 1 'error: invalid utf-8 sequence of 1 bytes from index 0' any
 row 'abc&abc[]=1' 1 "error: parsing failed with error: 'invalid input: the same key is used for both a value and a sequence' at position: 9" any
 
 # options in any order

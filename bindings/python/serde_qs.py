@@ -74,9 +74,9 @@ def _sized(text):
 
 
 def _result(call, *arguments):
-    """What a call returns. It is made again with enough room where that was too little."""
+    """What a call returns, whose last argument is the length of its text. It is made again with enough room where that was too little."""
     answer = _Answer()
-    size = 256
+    size = 256 + 2 * arguments[-1]
     while True:
         out = ctypes.create_string_buffer(size)
         status = call(*arguments, out, size, ctypes.byref(answer))

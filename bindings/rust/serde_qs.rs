@@ -66,13 +66,13 @@ impl std::error::Error for Error {}
 /// The querystring as JSON, read as whatever is there: strings, lists and maps.
 pub fn parse(settings: &Settings, input: &[u8]) -> Result<String, Error> {
     // SAFETY: each pointer is that of a borrow that lasts for the call.
-    text(|out, answer| unsafe { qs_parse(settings, input.as_ptr(), input.len(), out.as_mut_ptr(), out.len(), answer) })
+    text(input.len(), |out, answer| unsafe { qs_parse(settings, input.as_ptr(), input.len(), out.as_mut_ptr(), out.len(), answer) })
 }
 
 /// The querystring as JSON, read by a shape in the notation of docs/LIBRARY.md.
 pub fn read(settings: &Settings, shape: &str, input: &[u8]) -> Result<String, Error> {
     // SAFETY: each pointer is that of a borrow that lasts for the call.
-    text(|out, answer| unsafe {
+    text(input.len(), |out, answer| unsafe {
         qs_read(settings, shape.as_ptr(), shape.len(), input.as_ptr(), input.len(), out.as_mut_ptr(), out.len(), answer)
     })
 }
@@ -80,19 +80,19 @@ pub fn read(settings: &Settings, shape: &str, input: &[u8]) -> Result<String, Er
 /// The querystring that the JSON is written as.
 pub fn write(settings: &Settings, json: &str) -> Result<String, Error> {
     // SAFETY: each pointer is that of a borrow that lasts for the call.
-    text(|out, answer| unsafe { qs_write(settings, json.as_ptr(), json.len(), out.as_mut_ptr(), out.len(), answer) })
+    text(json.len(), |out, answer| unsafe { qs_write(settings, json.as_ptr(), json.len(), out.as_mut_ptr(), out.len(), answer) })
 }
 
 /// The bytes, encoded for form mode (`form`) or query mode.
 pub fn encode(form: bool, bytes: &[u8]) -> Result<String, Error> {
     // SAFETY: each pointer is that of a borrow that lasts for the call.
-    text(|out, answer| unsafe { qs_encode(form, bytes.as_ptr(), bytes.len(), out.as_mut_ptr(), out.len(), answer) })
+    text(bytes.len(), |out, answer| unsafe { qs_encode(form, bytes.as_ptr(), bytes.len(), out.as_mut_ptr(), out.len(), answer) })
 }
 
 /// The bytes, decoded.
 pub fn decode(bytes: &[u8]) -> Result<Vec<u8>, Error> {
     // SAFETY: each pointer is that of a borrow that lasts for the call.
-    result(|out, answer| unsafe { qs_decode(bytes.as_ptr(), bytes.len(), out.as_mut_ptr(), out.len(), answer) })
+    result(bytes.len(), |out, answer| unsafe { qs_decode(bytes.as_ptr(), bytes.len(), out.as_mut_ptr(), out.len(), answer) })
 }
 
 const OK: u32 = 0;
@@ -124,9 +124,9 @@ unsafe extern "C" {
     fn qs_decode(bytes: *const u8, bytes_size: usize, out: *mut u8, out_size: usize, answer: *mut Answer) -> u32;
 }
 
-/// The result of a call. It is made again with enough room where that was too little.
-fn result(mut call: impl FnMut(&mut [u8], &mut Answer) -> u32) -> Result<Vec<u8>, Error> {
-    let mut out = vec![0; 256];
+/// The result of a call that is given so many bytes. It is made again with enough room where that was too little.
+fn result(given: usize, mut call: impl FnMut(&mut [u8], &mut Answer) -> u32) -> Result<Vec<u8>, Error> {
+    let mut out = vec![0; 256 + 2 * given];
     let mut answer = Answer::default();
     let mut status = call(&mut out, &mut answer);
     if status == TOO_SMALL || answer.len > out.len() {
@@ -145,6 +145,6 @@ fn result(mut call: impl FnMut(&mut [u8], &mut Answer) -> u32) -> Result<Vec<u8>
 }
 
 /// The result of a call that returns UTF-8.
-fn text(call: impl FnMut(&mut [u8], &mut Answer) -> u32) -> Result<String, Error> {
-    Ok(String::from_utf8(result(call)?).expect("the library returns UTF-8"))
+fn text(given: usize, call: impl FnMut(&mut [u8], &mut Answer) -> u32) -> Result<String, Error> {
+    Ok(String::from_utf8(result(given, call)?).expect("the library returns UTF-8"))
 }

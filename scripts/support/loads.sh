@@ -1,40 +1,34 @@
 # Inputs that were made to cost much, on the built program. Each has to print the line that it stands for, and may take at most so many
-# times the time of a processor and the peak memory that a plain input of the same length takes: one value of letters. How many depends on
-# what the input is mostly made of.
+# times the time of a processor and the peak memory of another input, its measure:
+# - plain: one value of letters, as long as the input, which makes few nodes;
+# - pairs=N: so many pairs in order, each with a key of its own, where the input makes a tree of so many nodes;
+# - maps=N: so many pairs in order, each of them a map of its own, as each bracket of a deep key makes one.
+# Those trees are larger than their bytes. They may take so much more than a plain input.
 # A script sources this first and ends with `report_loads`.
 source "$(dirname "${BASH_SOURCE[0]}")/counting.sh"
 support=$(dirname "${BASH_SOURCE[0]}")
 
-# A short pair takes more as a node than as bytes, and so does a bracket, as a map of its own. Both grow with the length alone.
-declare -A most_time=([texts]=4 [pairs]=120 [maps]=60)
-declare -A most_memory=([texts]=2 [pairs]=12 [maps]=10)
+declare -A most_time=([plain]=4 [pairs]=8 [maps]=8)
+most_memory=2
+# The trees in order: so many times the time of a plain input, and so many bytes more for each pair or map.
+most_tree_time=60
+declare -A most_bytes=([pairs]=320 [maps]=1200)
 # A shorter run counts as one of so many seconds: the program's start is most of it.
 least_seconds=0.01
 # A run that took longer is tried again, so often in all: another process may have been in the way.
 most_runs=3
-declare -A plain_runs=()
-slowest=0
-slowest_name=
-widest=0
-widest_name=
+# The command that the measures are run by.
+measure=any
+declare -A measures=()
+declare -A below=([pairs]= [maps]='[b]')
+declare -A slowest=([plain]=0 [pairs]=0 [maps]=0) widest=([plain]=0 [pairs]=0 [maps]=0)
+declare -A slowest_name=() widest_name=()
 
 # measured INPUT ARGUMENT..: runs the program: its status, seconds and KiB.
 measured() {
     local input=$1
     shift
     python3 "$support/measure.py" "$input" "$room/output" "$program" "$@"
-}
-
-# plain_run: the seconds and KiB of a plain input as long as $room/input, in $plain_seconds and $plain_memory.
-plain_run() {
-    local bytes status
-    bytes=$(wc -c <"$room/input")
-    if [ -z "${plain_runs[$bytes]:-}" ]; then
-        { printf 'a='; times "$bytes" v; } | head -c "$bytes" >"$room/plain"
-        plain_runs[$bytes]=$(measured "$room/plain" any)
-    fi
-    read -r status plain_seconds plain_memory <<<"${plain_runs[$bytes]}"
-    is_over "$plain_seconds" "$least_seconds" || plain_seconds=$least_seconds
 }
 
 # quotient NUMBER OTHER: with two digits after the point.
@@ -47,56 +41,99 @@ is_over() {
     awk -v left="$1" -v right="$2" 'BEGIN { exit !(left > right) }'
 }
 
-# load NAME STATUS PARTS COMMAND OPTION..: what the command prints for $room/input, which is made of texts, pairs or maps, has to be the
-# line $room/wanted.
+# taken_by MEASURE: what the input $room/measure took, in seconds and KiB: $least_time and $least_memory. It is run once for each measure.
+taken_by() {
+    local status
+    [ -n "${measures[$1]:-}" ] || measures[$1]=$(measured "$room/measure" "$measure")
+    read -r status least_time least_memory <<<"${measures[$1]}"
+    is_over "$least_time" "$least_seconds" || least_time=$least_seconds
+}
+
+# plain_taken INPUT: what a plain input takes that is as long.
+plain_taken() {
+    local bytes
+    bytes=$(wc -c <"$1")
+    [ -n "${measures[plain=$bytes]:-}" ] || { printf 'a='; times "$bytes" v; } | head -c "$bytes" >"$room/measure"
+    taken_by "plain=$bytes"
+}
+
+# tree_taken MEASURE: what a tree in order takes, `pairs=N` or `maps=N`. The first time it is held against its plain input.
+tree_taken() {
+    local kind=${1%=*} count=${1#*=} time memory bytes
+    if [ -n "${measures[$1]:-}" ]; then
+        taken_by "$1"
+        return
+    fi
+    numbers "$count" 'in order' | sed "s/.*/k&${below[$kind]}=v/" | joined '&' >"$room/measure"
+    taken_by "$1"
+    time=$least_time memory=$least_memory
+    plain_taken "$room/measure"
+    time=$(quotient "$time" "$least_time")
+    bytes=$(((memory - least_memory) * 1024 / count))
+    if is_over "$time" $most_tree_time; then
+        fail "$count $kind in order: $time times the time of a plain input, and not $most_tree_time"
+    elif [ "$bytes" -gt "${most_bytes[$kind]}" ]; then
+        fail "$count $kind in order: $bytes bytes for each, and not ${most_bytes[$kind]}"
+    else
+        pass
+    fi
+    [ -z "${SHOW_LOADS:-}" ] || echo "$count $kind in order: $time times the time of a plain input, and $bytes bytes more for each"
+    taken_by "$1"
+}
+
+# load NAME STATUS MEASURE COMMAND OPTION..: what the command prints for $room/input has to be the line $room/wanted.
 load() {
-    local name=$1 wanted=$2 parts=$3 runs=0 status seconds memory time room_of
+    local name=$1 wanted=$2 kind=${3%=*} runs=0 status seconds memory time wide
+    if [ "$kind" = plain ]; then
+        plain_taken "$room/input"
+    else
+        tree_taken "$3"
+    fi
     shift 3
-    plain_run
     while :; do
         read -r status seconds memory <<<"$(measured "$room/input" "$@")"
         runs=$((runs + 1))
-        time=$(quotient "$seconds" "$plain_seconds")
-        if [ "$runs" -eq "$most_runs" ] || ! is_over "$time" "${most_time[$parts]}"; then
+        time=$(quotient "$seconds" "$least_time")
+        if [ "$runs" -eq "$most_runs" ] || ! is_over "$time" "${most_time[$kind]}"; then
             break
         fi
     done
-    room_of=$(quotient "$memory" "$plain_memory")
+    wide=$(quotient "$memory" "$least_memory")
     if [ "$status" -ne "$wanted" ]; then
         fail "$name: status $status, and not $wanted"
     elif ! cmp -s "$room/output" "$room/wanted"; then
         fail "$name: wrote '$(head -c 100 "$room/output")', and not '$(head -c 100 "$room/wanted")'"
-    elif is_over "$time" "${most_time[$parts]}"; then
-        fail "$name: $seconds s, $time times the time of a plain input, and not ${most_time[$parts]}"
-    elif is_over "$room_of" "${most_memory[$parts]}"; then
-        fail "$name: $room_of times the memory of a plain input, and not ${most_memory[$parts]}"
+    elif is_over "$time" "${most_time[$kind]}"; then
+        fail "$name: $seconds s, $time times the time of its measure, and not ${most_time[$kind]}"
+    elif is_over "$wide" "$most_memory"; then
+        fail "$name: $wide times the memory of its measure, and not $most_memory"
     else
         pass
     fi
-    if is_over "$time" "$slowest"; then
-        slowest=$time
-        slowest_name=$name
+    if is_over "$time" "${slowest[$kind]}"; then
+        slowest[$kind]=$time
+        slowest_name[$kind]=$name
     fi
-    if is_over "$room_of" "$widest"; then
-        widest=$room_of
-        widest_name=$name
+    if is_over "$wide" "${widest[$kind]}"; then
+        widest[$kind]=$wide
+        widest_name[$kind]=$name
     fi
-    [ -z "${SHOW_LOADS:-}" ] || echo "| $name | $(awk -v s="$seconds" 'BEGIN { printf "%.0f", s * 1000 }') | $time | $room_of |"
+    [ -z "${SHOW_LOADS:-}" ] || echo "| $name | $kind | $(awk -v s="$seconds" 'BEGIN { printf "%.0f", s * 1000 }') | $time | $wide |"
 }
 
 # tree NAME OPTION..: the input has the tree $room/wanted, which is mostly made of long texts.
 tree() {
     local name=$1
     shift
-    load "$name" 0 texts any "$@"
+    load "$name" 0 plain any "$@"
 }
 
-# rejected NAME POSITION MESSAGE OPTION..: the input is rejected there. It is made of texts, or of $parts.
+# rejected NAME POSITION MESSAGE OPTION..: the input is rejected there. The measure is plain, or $against.
 rejected() {
     local name=$1 position=$2 message=$3
     shift 3
     echo "error: parsing failed with error: '$message' at position: $position" >"$room/wanted"
-    load "$name" 1 "${parts:-texts}" any "$@"
+    load "$name" 1 "${against:-plain}" any "$@"
 }
 
 # numbers COUNT ORDER: the numbers below COUNT, with six digits at least, in an order, a line each.
@@ -127,7 +164,12 @@ between() {
 }
 
 report_loads() {
-    echo "the longest took $slowest times the time of a plain input: $slowest_name"
-    echo "the widest took $widest times its memory: $widest_name"
+    local kind
+    for kind in plain pairs maps; do
+        if [ -n "${slowest_name[$kind]:-}" ]; then
+            echo "measured by $kind, the longest took ${slowest[$kind]} times the time: ${slowest_name[$kind]}"
+            echo "measured by $kind, the widest took ${widest[$kind]} times the memory: ${widest_name[$kind]}"
+        fi
+    done
     report
 }

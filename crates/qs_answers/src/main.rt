@@ -1,65 +1,24 @@
-//! Answers of the parser to the cases of a table.
+//! Answers for scripts: the trees of a table's cases, and querystrings that are read by a user's type and written again.
 //!
-//! Each line of standard input is a case: form mode (0 or 1), the depth limit, and the input in hexadecimal, with tabs between. A
-//! line is printed for each: `ok` and the tree, or `refused`, the position, and the refusal's text in hexadecimal.
+//! Without a word each line of standard input is a case: form mode (0 or 1), the depth limit, and the input in hexadecimal, with
+//! tabs between. A line is printed for each: `ok` and the tree, or `refused`, the position, and the refusal's text in hexadecimal.
+//!
+//! With the name of a type all of standard input is one querystring. It is read by that type, and the querystring of its value is
+//! printed.
 #![tactic(auto)]
 
-use qs_notation::{Texts, line};
-use qs_tree::{Config, Error, parse};
-use std::alloc::{AllocError, Global};
-use std::io;
-use std::io::BufRead;
+mod cases;
+mod typed;
+
+use std::env;
 use std::process::ExitCode;
 
-/// An input, and how it is read.
-#[derive(Drop)]
-struct Case {
-    config: Config,
-    input: Vec<u8>,
-}
-
-impl Case {
-    /// The case that the line writes.
-    fn parse(alloc: Global, line: &str) -> Option<Case> {
-        let (form, rest) = line.split_once('\t')?;
-        let (max_depth, input) = rest.split_once('\t')?;
-        let config = Config::new()
-            .use_form_encoding(form == "1")
-            .max_depth(max_depth.parse().ok()?);
-        let input = hex::decode(alloc, input).ok()?;
-        Some(Case { config, input })
-    }
-
-    /// The parser's answer.
-    fn answer(&self, alloc: Global) -> Result<String, AllocError> {
-        match parse(alloc, self.input.as_slice(), self.config) {
-            Ok(tree) => {
-                let tree = line(alloc, &tree, Texts::Hexadecimal)?;
-                format!(in alloc; "ok\t{tree}")
-            }
-            Err(Error::Parse(text, position)) => {
-                let text = hex::encode(alloc, text.as_bytes())?;
-                format!(in alloc; "refused\t{position}\t{text}")
-            }
-            Err(_) => Err(AllocError),
-        }
-    }
-}
-
-/// Prints the answer to each line of standard input.
-fn answer_all(rt: &HostRuntime) -> io::Result<()> {
-    for line in rt.lines(rt.alloc()) {
-        match Case::parse(rt.alloc(), line?.as_str()) {
-            Some(case) => println!(rt; "{}", case.answer(rt.alloc())?)?,
-            None => println!(rt; "no case")?,
-        }
-    }
-    Ok(())
-}
-
 fn main(rt: HostRuntime) -> ExitCode {
-    match answer_all(&rt) {
-        Ok(()) => ExitCode::SUCCESS,
-        Err(_) => ExitCode::FAILURE,
+    let Ok(mut words) = env::args(&rt) else {
+        return ExitCode::from(3);
+    };
+    match words.nth(1) {
+        Some(name) => typed::answer(&rt, name.as_str()),
+        None => cases::answer(&rt),
     }
 }

@@ -16,7 +16,7 @@ abbrev pub keys_of_first : List (Step × Tree) → ℕ
 keys_of_first [] = 0
 keys_of_first (p ∷ ps) = root_keys p.1
 
--- behind its first key
+-- after its first key
 abbrev pub first_keys : Tree → ℕ
 first_keys (mapping es) = keys_of_first (pairs_of es)
 first_keys (leaf l) = 0

@@ -2,7 +2,7 @@
 use Rattle.std.specs.Prelude.{◌≡◌, ℕ, List, Some, slice_get}
 use Rattle.qs_spec.specs.Config.{default}
 use Rattle.qs_spec.specs.Data.{Data}
-use Rattle.qs_spec.specs.Read.{read_by}
+use Rattle.qs_spec.specs.Relation.{ReadsBy}
 use Rattle.qs_spec.specs.Shape.{Shape}
 use Rattle.qs_spec.specs.Tree.{Tree, IsTree}
 use Rattle.qs_bench.specs.Loads.{loads}
@@ -10,7 +10,7 @@ use Rattle.qs_bench.specs.Sizes.{size_of}
 
 -- the input has a tree, from which the shape reads the data
 abbrev pub IsReadBy : Shape → List ℕ → Data → Type 0
-IsReadBy shape input d = (tree : Tree) × IsTree default.form default.max_depth input tree × (read_by default shape tree ≡ Some d)
+IsReadBy shape input d = (tree : Tree) × IsTree default.form default.max_depth input tree × ReadsBy default shape tree d
 
 -- there is a load with the number, by which so much is read of the input
 abbrev pub IsRead : ℕ → List ℕ → ℕ → Type 0

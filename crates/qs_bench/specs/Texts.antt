@@ -9,7 +9,7 @@ use Rattle.qs_spec.specs.Written.{written}
 abbrev pub text_of : Data → List ℕ
 text_of d = written default.form false (entries default d).entries
 
--- the text's length was told, and it stands at the front of what was handed in, where it fits there
+-- the text's length was returned, and it stands at the front of what was handed in, where it fits there
 abbrev pub IsHandedOut : List ℕ → List ℕ → List ℕ → ℕ → Type 0
 IsHandedOut text before after len = (len ≡ length text) × (length text ≤ length before → after ≡ text ++ drop (length text) before)
 

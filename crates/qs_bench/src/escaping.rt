@@ -8,7 +8,7 @@ use crate::text::hand_out;
 use qs_tree::{decode, encode};
 use std::alloc::Global;
 
-/// Decodes the bytes. Answers whether memory was there: the text's length is then in `len`, and the text at the front
+/// Decodes the bytes. Returns whether memory was there: the text's length is then in `len`, and the text at the front
 /// of `out`, where it fits there. Else nothing is changed.
 #[unsafe(no_mangle)]
 pub extern "C" fn qs_bench_decode(
@@ -27,7 +27,7 @@ pub extern "C" fn qs_bench_decode(
     true
 }
 
-/// Encodes the bytes for form mode (`form`), or query mode. Answers as decoding does.
+/// Encodes the bytes for form mode (`form`), or query mode. Returns what decoding does.
 #[unsafe(no_mangle)]
 pub extern "C" fn qs_bench_encode(
     alloc: Global,

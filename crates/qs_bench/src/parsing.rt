@@ -15,11 +15,11 @@ use std::alloc::Global;
 pub struct Keys {
     /// At its root.
     pub root: usize,
-    /// Behind its first key.
+    /// After its first key.
     pub first: usize,
 }
 
-/// Parses the input, counts keys, and drops the tree. Answers whether there was one; else nothing is changed.
+/// Parses the input, counts keys, and drops the tree. Returns whether there was one; else nothing is changed.
 #[unsafe(no_mangle)]
 pub extern "C" fn qs_bench_parse(alloc: Global, input: &[u8], keys: &mut Keys) -> bool
     ensures counted { IsTrue result → (tree : Tree) × IsTree default.form default.max_depth input.now tree

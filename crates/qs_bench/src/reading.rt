@@ -9,7 +9,7 @@ use crate::loads::numbered_load;
 use qs_data::{Data, Deserializer, Result, Shape};
 use std::alloc::Global;
 
-/// Reads the input by the shape with this number (`loads.rt`) so many times, once at least, each time from its bytes. Answers
+/// Reads the input by the shape with this number (`loads.rt`) so many times, once at least, each time from its bytes. Returns
 /// whether all went well: `size` is then how much was read last. Else nothing is changed.
 #[unsafe(no_mangle)]
 pub extern "C" fn qs_bench_read(

@@ -13,7 +13,7 @@ use crate::text::hand_out;
 use qs_data::{Config, Data, Result, Serializer};
 use std::alloc::{AllocError, Global};
 
-/// Makes a record of ten entries, and writes it so many times, each time to fresh memory. Answers whether all went
+/// Makes a record of ten entries, and writes it so many times, each time to fresh memory. Returns whether all went
 /// well: the text's length is then in `len`, and the text at the front of `out`, where it fits there. Else nothing is
 /// changed.
 #[unsafe(no_mangle)]

@@ -5,10 +5,12 @@ use Rattle.qs_tree.specs.declared.error.Error.TheVariants as e
 use Rattle.qs_c.specs.declared.failure.Kind.{Kind}
 use Rattle.qs_c.specs.declared.failure.Kind.TheVariants.{OutOfMemory, Parse, Mismatch, NotUtf8, TooDeep}
 
+-- a write to memory fails only where an allocation does
 abbrev pub kind_of : Error → Kind
 kind_of (e.Parse message position) = Parse
 kind_of (e.Utf8 cause) = NotUtf8
 kind_of (e.MaxSerializationDepthExceeded depth) = TooDeep
+kind_of (e.Io cause) = OutOfMemory
 kind_of e.OutOfMemory = OutOfMemory
 kind_of _ = Mismatch
 

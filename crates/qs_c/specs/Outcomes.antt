@@ -3,7 +3,7 @@ use Rattle.std.specs.Prelude.{◌≡◌, ℕ, List, false, true, Some, None}
 use Rattle.qs_spec.specs.Config.{Config}
 use Rattle.qs_spec.specs.Data.{Data}
 use Rattle.qs_spec.specs.Entry.{entries}
-use Rattle.qs_spec.specs.Read.{read_by}
+use Rattle.qs_spec.specs.Relation.{ReadsBy}
 use Rattle.qs_spec.specs.Shape.{Shape, is_distinct}
 use Rattle.qs_spec.specs.Tree.{Tree, IsTree}
 use Rattle.qs_spec.specs.Written.{written}
@@ -12,7 +12,7 @@ use Rattle.qs_c.specs.Taken.{IsJsonOf}
 
 -- the input has a tree, from which the shape reads the data
 abbrev pub IsReadBy : Config → Shape → List ℕ → Data → Type 0
-IsReadBy config shape input x = (tree : Tree) × IsTree config.form config.max_depth input tree × (read_by config shape tree ≡ Some x)
+IsReadBy config shape input x = (tree : Tree) × IsTree config.form config.max_depth input tree × ReadsBy config shape tree x
 
 -- the text is the JSON of the data that the shape reads
 abbrev pub IsRead : Config → Shape → List ℕ → List ℕ → Type 0

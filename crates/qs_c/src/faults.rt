@@ -7,11 +7,14 @@ use crate::failure::{Failure, Kind};
 use qs_data::Error;
 use std::alloc::Global;
 
-/// The failure that the error is, with its text.
+/// The failure that the error is, with its text. That an allocation failed has none.
 pub(crate) fn failure_of(alloc: Global, error: Error) -> Failure
     ensures { IsFailureOf result.kind error }
 {
     let kind = kind_of(&error);
+    if let Kind::OutOfMemory = kind {
+        return Failure::out_of_memory();
+    }
     let position = match &error {
         Error::Parse(_, position) => *position,
         _ => 0,
@@ -29,7 +32,7 @@ fn kind_of(error: &Error) -> Kind
         Error::Parse(_, _) => Kind::Parse,
         Error::Utf8(_) => Kind::NotUtf8,
         Error::MaxSerializationDepthExceeded(_) => Kind::TooDeep,
-        Error::OutOfMemory => Kind::OutOfMemory,
+        Error::OutOfMemory | Error::Io(_) => Kind::OutOfMemory,
         _ => Kind::Mismatch,
     }
 }

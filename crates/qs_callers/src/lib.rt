@@ -52,7 +52,7 @@ pub use sort::Sort;
 pub use span::Span;
 pub use values::Values;
 pub use wrappers::{
-    copied_form, copied_query, form_inside, is_same_form, is_same_query, order_of_forms,
-    order_of_queries, partial_order_of_forms, partial_order_of_queries, query_inside, set_form,
-    set_query,
+    copied_form, copied_query, form_inside, form_text, is_same_form, is_same_query, order_of_forms,
+    order_of_queries, partial_order_of_forms, partial_order_of_queries, query_inside, query_text,
+    set_form, set_query,
 };

@@ -1,10 +1,11 @@
 //! Wrapped values, compared, copied and changed as the values inside.
 
-ghost use Rattle.std.specs.Prelude.{◌≡◌, IfOk};
+ghost use Rattle.std.specs.Prelude.{◌≡◌, IfOk, IfSome, string_bytes};
 
 use serde_qs::web::{QsForm, QsQuery};
-use std::alloc::AllocError;
+use std::alloc::{AllocError, Global};
 use std::cmp::Ordering;
+use std::fmt::Display;
 use std::ops::{Deref, DerefMut};
 
 /// Whether two queries are equal.
@@ -89,4 +90,18 @@ pub fn form_inside<T>(form: &QsForm<T>) -> &T
     ensures { result.now ≡ form.now.0 }
 {
     form.deref()
+}
+
+/// The text of a query, as that of the value inside.
+pub fn query_text<T: Display>(alloc: Global, query: &QsQuery<T>) -> Result<String, AllocError>
+    ensures { IfOk result (λ text. IfSome (T.output query.now.0) (λ bytes. string_bytes text ≡ bytes)) }
+{
+    query.to_string(alloc)
+}
+
+/// The text of a form, as that of the value inside.
+pub fn form_text<T: Display>(alloc: Global, form: &QsForm<T>) -> Result<String, AllocError>
+    ensures { IfOk result (λ text. IfSome (T.output form.now.0) (λ bytes. string_bytes text ≡ bytes)) }
+{
+    form.to_string(alloc)
 }

@@ -10,7 +10,8 @@ use Rattle.qs_spec.specs.Tree.{Tree, Items, Entries}
 use Rattle.qs_spec.specs.Tree.Tree.{leaf, sequence, mapping, uninitialized}
 use Rattle.qs_spec.specs.Tree.Items.{no_items, item}
 use Rattle.qs_spec.specs.Tree.Entries.{no_entries, entry}
-use Rattle.qs_spec.specs.Read.{items, are_ints, any_data, any_items, any_places, any_pairs, each_item, placed, is_place, read_each, read_pairs, with_front}
+use Rattle.qs_spec.specs.Node.{items, are_ints, each_item, placed, is_place}
+use Rattle.qs_spec.specs.toward.ReadFunction.{any_data, any_items, any_places, any_pairs, read_each, read_pairs, with_front}
 
 front_value : (d : Data) (r : Option (List Data)) → option_map (one_value d) (option_map values_of r) ≡ option_map values_of (with_front d r)
 front_value d None = refl

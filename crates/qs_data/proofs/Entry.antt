@@ -61,7 +61,7 @@ led form false [] value = refl
 led form true (x ∷ path) value = refl
 led form false (x ∷ path) value = ap (λ b. drop (cond b 0 1) (path_behind form (x ∷ path) ++ value_text form value)) (some_text form x path)
 
--- the entry begins with the path's `&`, or behind it
+-- the entry begins with the path's `&`, or after it
 pub entry_is : (form started : Bool) (path : Path) (value : Option (List ℕ)) (walk : Walk) (all : List ℕ) (len start : ℕ) → IsAt form path walk → all ≡ walk.text.items ++ value_text form value
     → len ≡ length walk.text.items → start ≡ cond (started || eqb len 0) 0 1 → drop start all ≡ entry_text form started path value
 entry_is form started path value walk all len start at is l n =

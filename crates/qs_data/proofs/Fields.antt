@@ -10,7 +10,8 @@ use Rattle.qs_spec.specs.Shape.{is_option}
 use Rattle.qs_spec.specs.Tree.{Tree, Items, Entries}
 use Rattle.qs_spec.specs.Tree.Items.{no_items, item}
 use Rattle.qs_spec.specs.Tree.Entries.{no_entries, entry}
-use Rattle.qs_spec.specs.Read.{Reader, reads, reads_names, reads_places, read_field, read_place, found, with_field, items_after}
+use Rattle.qs_spec.specs.Node.{found}
+use Rattle.qs_spec.specs.toward.ReadFunction.{Reader, reads, reads_names, reads_places, read_field, read_place, with_field, items_after}
 use Rattle.qs_tree.specs.Views.{tree_of, items_from}
 use Rattle.qs_tree.specs.declared.value.ParsedValue.{ParsedValue}
 use Rattle.qs_data.specs.declared.shape.Field as f
@@ -55,7 +56,7 @@ module _ (st : Bool) (fs : List Field) (i : ℕ) (d : Field) (es : Entries) (ws 
   pub names_none : reads_field st d es ≡ None → before ws (reads_names st (fields_in (drop i fs)) es) ≡ None
   names_none r = names_at ∙ ap (λ x. before ws (option_and_then (λ y. with_field (field_of d).0 y (reads_names st (fields_in (drop (i + 1) fs)) es)) x)) r
 
--- the items behind the first
+-- the items after the first
 pub items_behind : (i : ℕ) (ts : List ParsedValue) → items_after (items_from (map tree_of (drop i ts))) ≡ items_from (map tree_of (drop (i + 1) ts))
 items_behind zero [] = refl
 items_behind zero (t ∷ ts) = refl

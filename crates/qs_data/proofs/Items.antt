@@ -6,7 +6,7 @@ use Rattle.qs_spec.specs.Segment.{Step}
 use Rattle.qs_spec.specs.Tree.{Tree, Items, Entries}
 use Rattle.qs_spec.specs.Tree.Items.{no_items, item}
 use Rattle.qs_spec.specs.Tree.Entries.{no_entries, entry}
-use Rattle.qs_spec.specs.Read.{each_item, placed, is_place, is_int, are_ints}
+use Rattle.qs_spec.specs.Node.{each_item, placed, is_place, is_int, are_ints}
 use Rattle.std.specs.declared.alloc.Global.{Global}
 use Rattle.std.specs.declared.borrow.CowSlice.{CowSlice}
 use Rattle.std.specs.declared.borrow.CowSlice.TheVariants.{Borrowed, Owned}
@@ -18,7 +18,8 @@ use Rattle.std.specs.Borrow.{Bor}
 use Rattle.std.specs.Slice.{IsItemAt}
 use Rattle.std.specs.Option.{option_map, option_and_then}
 use Rattle.qs_spec.specs.Data.{Data}
-use Rattle.qs_spec.specs.Read.{Reader, items, read_each, with_front}
+use Rattle.qs_spec.specs.Node.{items}
+use Rattle.qs_spec.specs.toward.ReadFunction.{Reader, read_each, with_front}
 use Rattle.qs_spec.specs.Leaf.Leaf.{NoValue, Null, Text}
 use Rattle.qs_spec.specs.Tree.Tree.{leaf, sequence, mapping, uninitialized}
 use Rattle.std.specs.Str.{is_utf8}

@@ -7,9 +7,10 @@ pub mod Entry
 pub mod Walk
 pub mod Weights
 pub mod Refusals
+pub mod ReadErrors
 pub mod Numbers
 pub mod Scalars
-pub mod Found
+pub mod Lookups
 pub mod Entries
 pub mod Unknown
 pub mod Steps
@@ -23,6 +24,8 @@ pub mod Sizes
 pub mod Nesting
 pub mod Anything
 pub mod Counts
+pub mod Filled
 pub mod Fitting
 pub mod FieldsFit
+pub mod Related
 pub mod ReadBack

@@ -14,8 +14,9 @@ use Rattle.qs_spec.specs.Shape.{KeyShape}
 use Rattle.qs_spec.specs.Tree.{Tree, Entries}
 use Rattle.qs_spec.specs.Tree.Tree.{leaf, sequence, mapping, uninitialized}
 use Rattle.qs_spec.specs.Tree.Entries.{entry}
-use Rattle.qs_spec.specs.Read.{items, are_ints, placed, each_item, any_data, read_each, read_pairs, with_front}
-use Rattle.qs_tree.specs.declared.error.Error.{Error}
+use Rattle.qs_spec.specs.Node.{items, are_ints, placed, each_item}
+use Rattle.qs_spec.specs.toward.ReadFunction.{any_data, read_each, read_pairs, with_front}
+use Rattle.qs_data.specs.declared.read.error.ReadError.{ReadError}
 use Rattle.qs_tree.specs.Views.{entries_of_map, pairs_of as steps_of}
 use Rattle.qs_data.specs.declared.data.Data as r
 use Rattle.qs_data.specs.declared.read.items.Items.{Items as Node}
@@ -23,7 +24,7 @@ use Rattle.qs_data.specs.declared.read.nested.MapLevel.{MapLevel}
 use Rattle.qs_data.specs.declared.read.nested.Level.{Level}
 use Rattle.qs_data.specs.declared.read.nested.Level.TheVariants as level
 use Rattle.qs_data.specs.Nesting.{Begins, Enters, Advances, Adds, entries_left, level_data, level_after, level_size, level_is_text, list_with, map_with}
-use Rattle.qs_data.specs.Gives.{Refuses}
+use Rattle.qs_data.specs.ReadError.{Refuses}
 use Rattle.qs_data.specs.Items.{items_in, first_item, are_text}
 use Rattle.qs_data.specs.Keys.{entries_after}
 use Rattle.qs_data.specs.Sizes.{tree_size, list_size, entries_size}
@@ -32,7 +33,8 @@ use Rattle.qs_data.specs.Text.{is_text, entries_are_text}
 use Rattle.qs_data.proofs.Anything.{is_list, any_list, any_map}
 use Rattle.qs_data.proofs.Entries.{after_some}
 use Rattle.qs_data.proofs.Items.{first_some, items_bad}
-use Rattle.qs_data.proofs.Refusals.{and_left, and_right, refused}
+use Rattle.qs_data.proofs.Refusals.{and_left, and_right}
+use Rattle.qs_data.proofs.ReadErrors.{refused}
 use Rattle.qs_data.proofs.Sizes.{each_size, placed_size}
 
 -- what levels give, the outermost first, where the node that is being read gives this
@@ -153,7 +155,7 @@ begins_map l t es is not value text size = record {
   size = let s : tree_size t ≡ suc (entries_size es) = ap tree_size is in omega arith;
 }
 
--- behind some leaves of a list a further level begins
+-- after some leaves of a list a further level begins
 pub enters_list : (old inner : Level) (node : Node) (values : Vec r.Data Global) (i : ℕ) (t : Tree) → first_item (drop i (items_in node)) ≡ Some (Some t)
     → level_data old ≡ list_with (map data_of values.items) (read_each any_data (drop i (items_in node))) → (are_text (drop i (items_in node)) ≡ false → level_is_text old ≡ false)
     → list_size (drop i (items_in node)) ≤ level_size old → Begins inner t → Enters inner old (level.List record { items = node; next = i + 1; values = values })
@@ -166,7 +168,7 @@ enters_list old inner node values i t here value text size b =
       size = let parts = list_parts xs i t here in let within = b.size in omega arith;
     }
 
--- behind some leaves of a map a further level begins
+-- after some leaves of a map a further level begins
 pub enters_map : (old inner : Level) (new : MapLevel) (es : Entries) (i : ℕ) (x : Step × Tree) → slice_get (steps_of es) i ≡ Some x
     → entries_of_map new.entries.now ≡ es → new.next ≡ i + 1 → key_data KeyShape.text (segment_text x.0.seg) ≡ Some (data_of new.key)
     → level_data old ≡ map_with (map pair_of new.pairs.items) (read_pairs KeyShape.text any_data (entries_after i es)) → (entries_are_text (entries_after i es) ≡ false → level_is_text old ≡ false)
@@ -187,11 +189,11 @@ enters_map old inner new es i x here among next key value text size b =
     }
 
 -- an error of a part as the error of a level
-pub advance_exit : {Y : Type 0} (t : Bool) (x : Result (Option Level) Error) (e : Error) (r : Option Y) (old new : Level)
+pub advance_exit : {Y : Type 0} (t : Bool) (x : Result (Option Level) ReadError) (e : ReadError) (r : Option Y) (old new : Level)
     → IsErrAnd x (λ y. y ≡ e) → Refuses t e r → (r ≡ None → level_data old ≡ None) → (t ≡ false → level_is_text old ≡ false) → Advances x old new
 advance_exit t (Ok o) e r old new h f n g = absurd h
 advance_exit t (Err y) e r old new h f n g =
-    let P : Error → Type 0 = λ z. Refuses (level_is_text old) z (level_data old) in
+    let P : ReadError → Type 0 = λ z. Refuses (level_is_text old) z (level_data old) in
     subst P (sym h) (refused t (level_is_text old) e r (level_data old) f n g)
 
 -- what the innermost level gives, the levels round it make what the outermost gives

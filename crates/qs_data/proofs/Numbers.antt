@@ -92,7 +92,7 @@ word_text bs h = is_utf8-from_IsUtf8 bs (IsUtf8-from_ascii bs (all_ascii bs h))
 ascii_text : (bs : List ℕ) → IsAscii bs → is_utf8 bs ≡ true
 ascii_text bs h = is_utf8-from_IsUtf8 bs (IsUtf8-from_ascii bs h)
 
--- and so they are behind a sign
+-- and so they are after a sign
 sign_text : (b : ℕ) (ds : List ℕ) → b < 128 → is_numeral ds ≡ true → is_utf8 (b ∷ ds) ≡ true
 sign_text b ds lt h = ascii_text (b ∷ ds) by_place where
   by_place : IsAscii (b ∷ ds)

@@ -1,4 +1,4 @@
--- What is read as a boolean, a number or a character of a text, and of the text behind a scalar.
+-- What is read as a boolean, a number or a character of a text, and of the text that a scalar is read from.
 use Rattle.std.proofs.Common.{◌≡◌, ℕ, suc, ◌-◌, ◌≤◌, ◌⊎◌, inl, inr, Bool, true, false, ◌&&◌, cond, List, [], ◌∷◌, ◌++◌, append-nil, length, slice_get, map, codes, Option, Some, None, Result, refl, sym, ap, ◌∙◌, arith, rules}
 use Rattle.std.specs.Option.{option_map, option_and_then}
 use Rattle.std.specs.Str.{is_utf8, bytes_eq, chars, all_scalars, encode_utf8_all}
@@ -12,13 +12,15 @@ use Rattle.qs_spec.specs.Tree.Tree.{leaf, sequence, mapping, uninitialized}
 use Rattle.qs_spec.specs.Tree.Items.{no_items, item}
 use Rattle.qs_spec.specs.Data.{Data}
 use Rattle.qs_spec.specs.Scalar.{boolean_data, unsigned_data, signed_data, character_data, only_character}
-use Rattle.qs_spec.specs.Read.{read_scalar, last_item, item_text}
+use Rattle.qs_spec.specs.Node.{last_item, item_text}
+use Rattle.qs_spec.specs.toward.ReadFunction.{read_scalar}
 use Rattle.qs_tree.specs.Views.{tree_of, items_from}
 use Rattle.qs_tree.specs.declared.value.ParsedValue.{ParsedValue}
 use Rattle.qs_data.proofs.Numbers.{word_text, unsigned_text, signed_text}
-use Rattle.qs_tree.specs.declared.error.Error.{Error}
-use Rattle.qs_data.specs.Gives.{Gives}
-use Rattle.qs_data.proofs.Refusals.{and_left, and_right, gives_as}
+use Rattle.qs_data.specs.declared.read.error.ReadError.{ReadError}
+use Rattle.qs_data.specs.ReadError.{Gives}
+use Rattle.qs_data.proofs.Refusals.{and_left, and_right}
+use Rattle.qs_data.proofs.ReadErrors.{gives_as}
 use Rattle.qs_spec.specs.Leaf.{leaf_text}
 use Rattle.qs_data.specs.Views.{data_of}
 use Rattle.qs_data.specs.declared.data.Data as v
@@ -37,7 +39,7 @@ utf8_some b c h = elim (cases_Bool (is_utf8 b)) [
   | inr bad ↦ absurd (let e : None ≡ Some c = sym (rw bad) ∙ h in cc)
 ]
 
--- the text behind a scalar says what is read
+-- the text that a scalar is read from says what is read
 pub scalar_is : (reject_duplicates : Bool) (empty : Option Data) (get : List ℕ → Option Data) (t : Tree) (o : Option (List ℕ)) → scalar_text reject_duplicates t ≡ Some o → read_scalar reject_duplicates empty get t ≡ data_by_text empty get o
 scalar_is reject_duplicates empty get (leaf NoValue) o h = let e : None ≡ o = cc in ap (data_by_text empty get) e
 scalar_is reject_duplicates empty get (leaf Null) o h = let e : None ≡ o = cc in ap (data_by_text empty get) e
@@ -72,8 +74,8 @@ scalar_bad reject_duplicates (sequence xs) b h n = by_last (last_item reject_dup
 scalar_bad reject_duplicates (mapping es) b h n = absurd cc
 scalar_bad reject_duplicates uninitialized b h n = absurd cc
 
--- what is read of the text behind a scalar is read of the scalar
-pub scalar_gives : {X : Type 0} (view : X → Data) (reject_duplicates : Bool) (empty : Option Data) (get : List ℕ → Option Data) (t : Tree) (b : List ℕ) (x : Result X Error)
+-- what is read of the text that a scalar is read from is read of the scalar
+pub scalar_gives : {X : Type 0} (view : X → Data) (reject_duplicates : Bool) (empty : Option Data) (get : List ℕ → Option Data) (t : Tree) (b : List ℕ) (x : Result X ReadError)
     → scalar_text reject_duplicates t ≡ Some (Some b) → Gives view (is_utf8 b) x (get b) → Gives view (is_text t) x (read_scalar reject_duplicates empty get t)
 scalar_gives view reject_duplicates empty get t b x h g = gives_as view (is_utf8 b) (is_text t) x (get b) (read_scalar reject_duplicates empty get t) g (sym (scalar_is reject_duplicates empty get t (Some b) h)) (scalar_bad reject_duplicates t b h)
 

@@ -3,7 +3,7 @@ use Rattle.std.proofs.Common.{◌≡◌, ℕ, ◌+◌, ◌≤◌, Bool, true, fa
 use Rattle.qs_spec.specs.Tree.{Items, Entries}
 use Rattle.qs_spec.specs.Tree.Items.{no_items, item}
 use Rattle.qs_spec.specs.Tree.Entries.{no_entries, entry}
-use Rattle.qs_spec.specs.Read.{each_item, placed, is_place}
+use Rattle.qs_spec.specs.Node.{each_item, placed, is_place}
 use Rattle.qs_data.specs.Sizes.{tree_size, items_size, list_size, entries_size}
 
 pub each_size : (xs : Items) → list_size (each_item xs) ≡ items_size xs

@@ -1,4 +1,4 @@
--- What a reader of the code answers, against what the definitions give.
+-- What a reader of the code returns, against what the definitions give.
 use Rattle.std.specs.Prelude.{◌≡◌, ⊤, Bool, true, false, Result, Ok, Err, Option, Some, None}
 use Rattle.qs_spec.specs.Shape.{Shape}
 use Rattle.qs_tree.specs.declared.error.Error.{Error}
@@ -10,7 +10,7 @@ IsFault (Custom message) = ⊤
 IsFault OutOfMemory = ⊤
 IsFault _ = ⊥
 
--- The error says that there is nothing to answer, unless it says that memory ran out; and `Utf8` comes only where not all
+-- The error says that there is nothing to return, unless it says that memory ran out; and `Utf8` comes only where not all
 -- that was read is text.
 abbrev pub Refuses : {Y : Type 0} → Bool → Error → Option Y → Type 0
 Refuses all_text (Custom message) r = r ≡ None
@@ -18,7 +18,7 @@ Refuses all_text (Utf8 cause) r = (r ≡ None) × (all_text ≡ false)
 Refuses all_text OutOfMemory r = ⊤
 Refuses all_text _ r = ⊥
 
--- seen by view, what was answered is what there is to answer
+-- seen by view, what was returned is what there is to return
 abbrev pub Gives : {X Y : Type 0} → (X → Y) → Bool → Result X Error → Option Y → Type 0
 Gives view all_text (Ok x) r = r ≡ Some (view x)
 Gives view all_text (Err e) r = Refuses all_text e r
@@ -36,17 +36,17 @@ OnlyCustomUtf8OrOutOfMemory (Err (Utf8 cause)) = ⊤
 OnlyCustomUtf8OrOutOfMemory (Err OutOfMemory) = ⊤
 OnlyCustomUtf8OrOutOfMemory _ = ⊥
 
--- the error says that memory ran out only where there is nothing to answer
+-- the error says that memory ran out only where there is nothing to return
 abbrev pub Spares : {Y : Type 0} → Error → Option Y → Type 0
 Spares OutOfMemory r = r ≡ None
 Spares _ r = ⊤
 
--- memory runs out only where there is nothing to answer
+-- memory runs out only where there is nothing to return
 abbrev pub IsFrugal : {X Y : Type 0} → Result X Error → Option Y → Type 0
 IsFrugal (Ok x) r = ⊤
 IsFrugal (Err e) r = Spares e r
 
--- data of the shape take no memory
+-- reading data of the shape doesn't allocate
 abbrev pub takes_no_memory : Shape → Bool
 takes_no_memory Shape.unit = true
 takes_no_memory Shape.boolean = true

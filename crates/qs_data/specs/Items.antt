@@ -1,7 +1,7 @@
 -- The items of a node, place by place.
 use Rattle.std.specs.Prelude.{Bool, true, cond, ◌&&◌, List, [], ◌∷◌, map, Option, Some, None}
 use Rattle.qs_spec.specs.Tree.{Tree}
-use Rattle.qs_spec.specs.Read.{each_item, placed}
+use Rattle.qs_spec.specs.Node.{each_item, placed}
 use Rattle.qs_tree.specs.Views.{tree_of, items_from, entries_of_map}
 use Rattle.qs_data.specs.declared.read.items.Items.{Items}
 use Rattle.qs_data.specs.declared.read.items.Items.TheVariants.{Empty, One, Sequence, Places}
@@ -14,7 +14,7 @@ items_in (One value) = Some (tree_of value.now) ∷ []
 items_in (Sequence values) = each_item (items_from (map tree_of values.now))
 items_in (Places map) = placed 0 (entries_of_map map.now)
 
--- the first item, if there is one; an entry elsewhere is refused
+-- the first item, if there is one; an entry elsewhere is rejected
 abbrev pub first_item : List (Option Tree) → Option (Option Tree)
 first_item [] = Some None
 first_item (None ∷ xs) = None

@@ -6,7 +6,7 @@ use Rattle.qs_spec.specs.Segment.{Segment}
 use Rattle.qs_spec.specs.Segment.Segment.{Int, Str}
 use Rattle.qs_spec.specs.Tree as t
 use Rattle.qs_spec.specs.Tree.Entries.{no_entries, entry}
-use Rattle.qs_spec.specs.Read.{under_empty}
+use Rattle.qs_spec.specs.Node.{under_empty}
 use Rattle.qs_tree.specs.Views.{tree_of, entries_of_map}
 use Rattle.qs_data.specs.declared.read.keys.Found.{Found}
 use Rattle.qs_data.specs.declared.read.keys.Found.TheVariants.{Missing, One, Several}

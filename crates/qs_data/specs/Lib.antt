@@ -6,6 +6,7 @@ pub mod Scalars
 pub mod State
 pub mod Text
 pub mod Gives
+pub mod ReadError
 pub mod Hint
 pub mod Widths
 pub mod ScalarText

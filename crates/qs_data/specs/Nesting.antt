@@ -3,9 +3,9 @@ use Rattle.std.specs.Prelude.{◌≡◌, ℕ, suc, ◌+◌, ◌≤◌, Bool, fal
 use Rattle.qs_spec.specs.Data.{Data, values_of, pairs_of}
 use Rattle.qs_spec.specs.Shape.{KeyShape}
 use Rattle.qs_spec.specs.Tree.{Tree, Entries}
-use Rattle.qs_spec.specs.Read.{any_data, read_each, read_pairs, with_front}
+use Rattle.qs_spec.specs.toward.ReadFunction.{any_data, read_each, read_pairs, with_front}
 use Rattle.qs_tree.specs.Views.{entries_of_map}
-use Rattle.qs_tree.specs.declared.error.Error.{Error}
+use Rattle.qs_data.specs.declared.read.error.ReadError.{ReadError}
 use Rattle.qs_data.specs.declared.read.nested.Level.{Level}
 use Rattle.qs_data.specs.declared.read.nested.Level.TheVariants as level
 use Rattle.qs_data.specs.declared.read.nested.ListLevel.{ListLevel}
@@ -13,7 +13,7 @@ use Rattle.qs_data.specs.declared.read.nested.MapLevel.{MapLevel}
 use Rattle.qs_data.specs.declared.read.nested.Node.{Node}
 use Rattle.qs_data.specs.declared.read.nested.Node.TheVariants.{Leaf, Inner}
 use Rattle.qs_data.specs.Views.{data_of, pair_of}
-use Rattle.qs_data.specs.Gives.{Refuses}
+use Rattle.qs_data.specs.ReadError.{Refuses}
 use Rattle.qs_data.specs.Items.{items_in, are_text}
 use Rattle.qs_data.specs.Keys.{entries_after}
 use Rattle.qs_data.specs.Sizes.{tree_size, list_size, entries_size}
@@ -68,12 +68,12 @@ pub record Begins (l : Level) (t : Tree) : Type 0 where
   pub size : suc (level_size l) ≤ tree_size t
 
 -- a leaf was read, or the level is all of the node
-abbrev pub Visits : Result Node Error → Tree → Type 0
+abbrev pub Visits : Result Node ReadError → Tree → Type 0
 Visits (Ok (Leaf d)) t = any_data t ≡ Some (data_of d)
 Visits (Ok (Inner l)) t = Begins l t
 Visits (Err e) t = Refuses (is_text t) e (any_data t)
 
--- behind some leaves a further level begins
+-- after some leaves a further level begins
 pub record Enters (inner old new : Level) : Type 0 where
   pub value : level_data old ≡ level_after new (level_data inner)
   pub inner_text : level_is_text inner ≡ false → level_is_text old ≡ false
@@ -81,7 +81,7 @@ pub record Enters (inner old new : Level) : Type 0 where
   pub size : suc (level_size inner + level_size new) ≤ level_size old
 
 -- a further level begins, or all is read
-abbrev pub Advances : Result (Option Level) Error → Level → Level → Type 0
+abbrev pub Advances : Result (Option Level) ReadError → Level → Level → Type 0
 Advances (Ok (Some inner)) old new = Enters inner old new
 Advances (Ok None) old new = level_data old ≡ Some (done_of new)
 Advances (Err e) old new = Refuses (level_is_text old) e (level_data old)

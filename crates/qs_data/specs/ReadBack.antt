@@ -1,4 +1,4 @@
--- What a reader answers to an input that was written.
+-- What a reader returns to an input that was written.
 use Rattle.std.specs.Prelude.{◌≡◌, ⊤, true, false, ◌⊎◌, List, Result, Ok, Err}
 use Rattle.std.specs.List.Sorted.{IsPermutation}
 use Rattle.qs_spec.specs.Config.{Config}
@@ -28,7 +28,7 @@ IsSame x (Ok y) = Same x (data_of y)
 IsSame x (Err OutOfMemory) = ⊤
 IsSame x (Err _) = ⊥
 
--- whatever plain data the input was written of, they are what is answered
+-- whatever plain data the input was written of, they are what is returned
 abbrev pub ReadsBack : Parsed → s.Shape → Result Data Error → Type 0
 ReadsBack parsed shape result = (x : d.Data) (es : List Entry) → IsPlainFor parsed.config shape x → IsOrder parsed.config x es
     → IsTree parsed.config.form parsed.config.max_depth (written parsed.config.form false es) parsed.tree → IsSame x result

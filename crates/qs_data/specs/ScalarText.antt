@@ -1,11 +1,11 @@
--- The text behind a scalar.
+-- The text that a scalar is read from.
 use Rattle.std.specs.Prelude.{ℕ, Bool, List, Option, Some, None, option_map, if◌then◌else◌}
 use Rattle.std.specs.Str.{is_utf8}
 use Rattle.qs_spec.specs.Leaf.Leaf.{NoValue, Null, Text}
 use Rattle.qs_spec.specs.Tree.{Tree}
 use Rattle.qs_spec.specs.Tree.Tree.{leaf, sequence, mapping, uninitialized}
 use Rattle.qs_spec.specs.Data.{Data}
-use Rattle.qs_spec.specs.Read.{last_item}
+use Rattle.qs_spec.specs.Node.{last_item}
 
 -- none where there is no value or an empty one, and else the last text
 abbrev pub scalar_text : Bool → Tree → Option (Option (List ℕ))

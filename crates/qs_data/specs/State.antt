@@ -5,7 +5,7 @@ use Rattle.qs_spec.specs.Data.{Data}
 use Rattle.qs_spec.specs.Entry.{Output, entries}
 use Rattle.qs_spec.specs.Written.{written}
 
--- how it writes, where to, whether it answered an error, and whether an entry with a key was written
+-- how it writes, where to, whether it returned an error, and whether an entry with a key was written
 pub record State (S : Type 0) : Type 0 where
   pub config : Config
   pub sink : S
@@ -16,6 +16,6 @@ pub record State (S : Type 0) : Type 0 where
 abbrev pub output_of : {S : Type 0} → State S → Data → Output
 output_of s d = entries s.config d
 
--- the text that those entries are, behind what was written before
+-- the text that those entries are, after what was written before
 abbrev pub text_of : {S : Type 0} → State S → Data → List ℕ
 text_of s d = written s.config.form s.started (output_of s d).entries

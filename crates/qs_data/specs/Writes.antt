@@ -18,7 +18,7 @@ use Rattle.qs_data.specs.declared.write.stop.Stop.TheVariants as stop
 abbrev pub IsVisible : ℕ → Type 0
 IsVisible b = (33 ≤ b) × (b ≤ 126)
 
--- what is known of a sink and of the text in it: the bytes where the sink tells them, whether a put was refused, the name of a
+-- what is known of a sink and of the text in it: the bytes where the sink reports them, whether a put failed, the name of a
 -- lent writer, and whether an entry with a key was written
 pub record Text : Type 0 where
   pub taken : Option (List ℕ)
@@ -41,7 +41,7 @@ pub record AddsSome (form : Bool) (old new : Text) (es : List Entry) : Type 0 wh
   pub parts : es ≡ front ++ rest
   pub adds : Adds form old new front
 
--- a proper beginning of the text was added, and then a put was refused
+-- a proper beginning of the text was added, and then a put failed
 pub record AddsPart (form : Bool) (old new : Text) (es : List Entry) : Type 0 where
   pub count : ℕ
   pub proper : count < length (written form old.started es)
@@ -57,7 +57,7 @@ Stops stop.BadKey config old new o = (o.refusal ≡ Some bad_key) × Adds config
 Stops stop.Io config old new o = AddsPart config.form old new o.entries
 Stops stop.OutOfMemory config old new o = AddsSome config.form old new o.entries
 
--- a path behind `&`
+-- a path after `&`
 abbrev pub path_behind : Bool → Path → List ℕ
 path_behind form [] = []
 path_behind form (s ∷ path) = 38 ∷ (encoded form s ++ brackets_text form path)
@@ -78,7 +78,7 @@ abbrev pub Writes : Result (Unit {0}) Stop → Config → Path → Text → Text
 Writes (Ok x) config path old new walk o = (o.refusal ≡ None) × Adds config.form old new o.entries × IsAt config.form path walk
 Writes (Err e) config path old new walk o = Stops e config old new o
 
--- a stream and the text in it, by what its sink tells
+-- a stream and the text in it, by what its sink reports
 abbrev pub text_in : {S : Type 0} → (S → Option (List ℕ)) → (S → Bool) → (S → ℕ) → Stream S → Text
 text_in taken failed name stream = record { taken = taken stream.sink; failed = failed stream.sink; writer = name stream.sink; started = stream.started }
 
@@ -87,7 +87,7 @@ abbrev pub WritesTo : {S : Type 0} → (S → Option (List ℕ)) → (S → Bool
 WritesTo taken failed name result config old new from to part =
     (path : Path) → IsAt config.form path from → Writes result config path (text_in taken failed name old) (text_in taken failed name new) to (part path)
 
--- no value or nothing, also in options and types of their own: what takes no memory where it stands alone
+-- no value or nothing, also in options and types of their own: what doesn't allocate where it stands alone
 abbrev pub IsBare : Data → Type 0
 IsBare Data.unit = Unit {0}
 IsBare Data.none = Unit {0}

@@ -10,10 +10,9 @@ ghost use Rattle.qs_spec.specs.Shape.{is_distinct};
 ghost use Rattle.qs_spec.specs.Tree.{Tree, IsTree, IsRefused};
 ghost use Rattle.qs_tree.specs.Error.{IsParse, IfParse, IsOutOfMemory, OnlyOutOfMemory, OnlyParseOrOutOfMemory};
 ghost use Rattle.qs_tree.specs.Small.{TakesNoMemory};
-ghost use Rattle.qs_data.specs.Views.{data_of, shape_of};
-ghost use Rattle.qs_data.specs.Text.{is_text};
-ghost use Rattle.qs_data.specs.Gives.{Gives, IsFrugal, OnlyCustomUtf8OrOutOfMemory, takes_no_memory};
-ghost use Rattle.qs_data.specs.Parsed.{owned_by, parsed_of, reading};
+ghost use Rattle.qs_data.specs.Views.{shape_of};
+ghost use Rattle.qs_data.specs.Gives.{OnlyCustomUtf8OrOutOfMemory, takes_no_memory};
+ghost use Rattle.qs_data.specs.Parsed.{ReturnsData, SparesMemory, owned_by, parsed_of};
 ghost use Rattle.qs_data.specs.ReadBack.{ReadsBack};
 
 use crate::data::Data;
@@ -49,7 +48,7 @@ impl<'qs> Deserializer<'qs> {
 
     /// The querystring, parsed.
     ///
-    /// It is refused, with [`Parse`](Error::Parse) and the position of the first fault, exactly where it has no tree. Texts and
+    /// It is rejected, with [`Parse`](Error::Parse) and the position of the first fault, exactly where it has no tree. Texts and
     /// keys that hold neither `+` nor `%` are borrowed from it. The time grows with the input's length and the depth of its keys.
     ///
     /// The clauses are those of [`parse`](qs_tree::parse) about the tree. Pairs in another order that keeps those with overlapping
@@ -82,19 +81,20 @@ impl<'qs> Deserializer<'qs> {
     /// UTF-8. Fields are read in the shape's order, then the other keys are looked at.
     ///
     /// The items of a list are read in their order, and the pairs of a map in the order of its keys, of each the key first. The
-    /// fault of a key that holds `[` is told with a hint at form encoding.
+    /// fault of a key that holds `[` is reported with a hint at form encoding.
     ///
     /// Where the querystring was written of [plain](Data::is_plain) data that [fit](Shape::fits) the shape, under the same
-    /// configuration, these data are read back: in the indexed format from their entries in any order. A map has its pairs in the
-    /// order of its keys.
+    /// configuration, these data are read back: in the indexed format from their entries in any order, and in each format where
+    /// their [lists can be](Data::is_listed) from an order that keeps entries with one path as they were. A map has its pairs in
+    /// the order of its keys.
     ///
-    /// Memory is taken for what the data keep, for a struct with room for each field of its shape, and for a fault's message; data
+    /// Memory is allocated for what the data keep, for a struct with room for each field of its shape, and for a fault's message; data
     /// of a scalar without bytes take none.
     pub fn read(self, alloc: Global, shape: &Shape) -> Result<Data>
         requires { is_distinct (shape_of shape.now) ≡ true }
-        ensures exact { Gives data_of (is_text (parsed_of self.entry).tree) result (reading (parsed_of self.entry) (shape_of shape.now)) }
+        ensures exact { ReturnsData (parsed_of self.entry) (shape_of shape.now) result }
         ensures back { ReadsBack (parsed_of self.entry) (shape_of shape.now) result }
-        ensures no_memory { takes_no_memory (shape_of shape.now) ≡ true → IsFrugal result (reading (parsed_of self.entry) (shape_of shape.now)) }
+        ensures no_memory { takes_no_memory (shape_of shape.now) ≡ true → SparesMemory (parsed_of self.entry) (shape_of shape.now) result }
         ensures errors { OnlyCustomUtf8OrOutOfMemory result }
     {
         let reject_duplicates = self.config.get_duplicates() == DuplicateKeyBehavior::Error;

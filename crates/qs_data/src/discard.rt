@@ -23,7 +23,7 @@ impl Data {
     /// Drops the data by a loop over a pile on the heap, so they may be nested as deep as they like. A plain drop calls itself once
     /// for each level.
     ///
-    /// Takes memory for the pile, which holds lists, maps and the like, and no leaves. What the pile finds no memory for is
+    /// Allocates the pile, which holds lists, maps and the like, and no leaves. What the pile finds no memory for is
     /// dropped plainly.
     pub fn discard(self) {
         let Some((alloc, parts)) = self.into_parts() else {

@@ -7,6 +7,8 @@ mod deserializer;
 mod discard;
 mod distinct;
 mod fits;
+mod listed;
+mod node;
 mod plain;
 mod read;
 mod sameness;
@@ -17,6 +19,8 @@ mod write;
 
 pub use data::Data;
 pub use deserializer::Deserializer;
+pub use node::{find_value, read_value};
+pub use read::keys::Found;
 pub use qs_tree::{ArrayFormat, Config, DuplicateKeyBehavior, Error, Result};
 pub use serializer::Serializer;
 pub use shape::{Field, KeyShape, Shape, Variant, VariantKind};

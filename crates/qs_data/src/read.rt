@@ -1,11 +1,12 @@
 //! Reading a tree by a shape.
 
 mod any;
+mod error;
 mod fault;
 mod fields;
 mod items;
 mod key;
-mod keys;
+pub(crate) mod keys;
 mod lists;
 mod maps;
 mod nested;
@@ -15,16 +16,19 @@ mod variants;
 pub(crate) mod width;
 
 ghost use Rattle.std.specs.Prelude.{IsTrue, true};
-ghost use Rattle.qs_spec.specs.Read.{reads, read_ignored, read_option};
+ghost use Rattle.qs_spec.specs.toward.ReadFunction.{reads, read_ignored, read_option};
 ghost use Rattle.qs_spec.specs.Shape as s;
 ghost use Rattle.qs_tree.specs.Views.{tree_of};
 ghost use Rattle.qs_data.specs.Views.{data_of, fields_in, key_shape_of, shape_of, shapes_in};
 ghost use Rattle.qs_data.specs.Text.{is_text};
-ghost use Rattle.qs_data.specs.Gives.{Gives, IsFrugal, takes_no_memory};
+ghost use Rattle.qs_data.specs.Gives.{takes_no_memory};
+ghost use Rattle.qs_data.specs.Gives as caller;
+ghost use Rattle.qs_data.specs.ReadError.{Gives, IsFrugal};
 ghost use Rattle.qs_data.specs.Keys.{unknown_of};
 
 use crate::data::Data;
 use crate::read::any::read_any;
+use crate::read::error::Result;
 use crate::read::fault::{Expected, Fault};
 use crate::read::fields::read_struct;
 use crate::read::lists::{read_list, read_tuple};
@@ -36,13 +40,26 @@ use crate::read::unknown::UnknownKeys;
 use crate::read::variants::read_enum;
 use crate::read::width::Width;
 use crate::shape::{Field, KeyShape, Shape};
-use qs_tree::{ParsedValue, Result};
+use qs_tree::{Error, ParsedValue};
 use std::alloc::Global;
 
-/// Reads a value by a shape. Several values for one are refused under `reject_duplicates`.
-#[cycle(read)]
-#[tactic(auto, using(crate::proofs::Levels::levels), unfolding(qs_spec::specs::Read::reads))]
+/// Reads a value by a shape. Several values for one are rejected under `reject_duplicates`.
 pub(crate) fn read(
+    alloc: Global,
+    reject_duplicates: bool,
+    shape: &Shape,
+    value: &ParsedValue<'_>,
+) -> Result<Data, Error>
+    ensures gives { caller.Gives data_of (is_text (tree_of value.now)) result (reads reject_duplicates (shape_of shape.now) (tree_of value.now)) }
+    ensures frugal { IsTrue (takes_no_memory (shape_of shape.now)) → caller.IsFrugal result (reads reject_duplicates (shape_of shape.now) (tree_of value.now)) }
+{
+    Ok(read_node(alloc, reject_duplicates, shape, value)?)
+}
+
+// The same, on the way through the levels of a tree.
+#[cycle(read)]
+#[tactic(auto, using(crate::proofs::Levels::levels), unfolding(qs_spec::specs::toward::ReadFunction::reads))]
+fn read_node(
     alloc: Global,
     reject_duplicates: bool,
     shape: &Shape,
@@ -92,7 +109,7 @@ pub(crate) fn read(
 
 #[cycle(read)]
 #[inline(always)]
-#[tactic(auto, unfolding(qs_spec::specs::Read::reads))]
+#[tactic(auto, unfolding(qs_spec::specs::toward::ReadFunction::reads))]
 fn seq_data(
     alloc: Global,
     reject_duplicates: bool,
@@ -106,7 +123,7 @@ fn seq_data(
 
 #[cycle(read)]
 #[inline(always)]
-#[tactic(auto, unfolding(qs_spec::specs::Read::reads))]
+#[tactic(auto, unfolding(qs_spec::specs::toward::ReadFunction::reads))]
 fn tuple_data(
     alloc: Global,
     reject_duplicates: bool,
@@ -121,7 +138,7 @@ fn tuple_data(
 
 #[cycle(read)]
 #[inline(always)]
-#[tactic(auto, using(crate::proofs::Levels::levels), unfolding(qs_spec::specs::Read::reads))]
+#[tactic(auto, using(crate::proofs::Levels::levels), unfolding(qs_spec::specs::toward::ReadFunction::reads))]
 fn map_data(
     alloc: Global,
     reject_duplicates: bool,
@@ -137,7 +154,7 @@ fn map_data(
 
 #[cycle(read)]
 #[inline(always)]
-#[tactic(auto, using(crate::proofs::Levels::levels), unfolding(qs_spec::specs::Read::reads))]
+#[tactic(auto, using(crate::proofs::Levels::levels), unfolding(qs_spec::specs::toward::ReadFunction::reads))]
 fn struct_data(
     alloc: Global,
     reject_duplicates: bool,
@@ -153,7 +170,7 @@ fn struct_data(
 
 #[cycle(read)]
 #[inline(always)]
-#[tactic(auto, unfolding(qs_spec::specs::Read::reads))]
+#[tactic(auto, unfolding(qs_spec::specs::toward::ReadFunction::reads))]
 fn newtype_data(
     alloc: Global,
     reject_duplicates: bool,
@@ -162,7 +179,7 @@ fn newtype_data(
 ) -> Result<Data>
     ensures { Gives data_of (is_text (tree_of value.now)) result (reads reject_duplicates (s.Shape.newtype (shape_of part.now)) (tree_of value.now)) }
 {
-    let held = read(alloc, reject_duplicates, part, value)?;
+    let held = read_node(alloc, reject_duplicates, part, value)?;
     Ok(Data::Newtype(Box::new(alloc, held)?))
 }
 
@@ -180,11 +197,11 @@ fn read_option(
         ParsedValue::Uninitialized => Err(Fault::Uninitialized.error(alloc)),
         ParsedValue::NoValue => Ok(Data::None),
         ParsedValue::Null => {
-            let held = read(alloc, reject_duplicates, part, &ParsedValue::NoValue)?;
+            let held = read_node(alloc, reject_duplicates, part, &ParsedValue::NoValue)?;
             Ok(Data::Some(Box::new(alloc, held)?))
         }
         ParsedValue::String(_) | ParsedValue::Sequence(_) | ParsedValue::Map(_) => {
-            let held = read(alloc, reject_duplicates, part, value)?;
+            let held = read_node(alloc, reject_duplicates, part, value)?;
             Ok(Data::Some(Box::new(alloc, held)?))
         }
     }

@@ -59,7 +59,7 @@ impl<S: Sink> Serializer<S> {
     ghost use Rattle.qs_data.specs.State.{output_of, text_of};
     ghost use Rattle.qs_data.specs.Writes.{IsVisible, IsBare, IsWriteError};
 
-    /// A serializer over a sink that has not failed. Nothing is put yet, and no memory is taken.
+    /// A serializer over a sink that has not failed. Nothing is put yet, and nothing is allocated.
     pub fn over(sink: S, config: Config) -> Serializer<S>
         requires { S.failed sink ≡ false }
         ensures config { result.config ≡ config }
@@ -89,22 +89,22 @@ impl<S: Sink> Serializer<S> {
         sink
     }
 
-    /// Writes the entries of the data behind what was written before.
+    /// Writes the entries of the data after what was written before.
     ///
     /// An entry stands for each scalar in the data, under the names, keys and places that lead to it; `&` stands
     /// before each that has a key, but the first. What is written holds only bytes from 0x21 to 0x7E.
     ///
     /// The walk stops at the first error:
-    /// - [`Failed`](Error::Failed): an earlier call answered an error. Nothing is written.
+    /// - [`Failed`](Error::Failed): an earlier call returned an error. Nothing is written.
     /// - [`MaxSerializationDepthExceeded`](Error::MaxSerializationDepthExceeded): a path is longer than the
     ///   configuration's `max_depth` allows; [`Unsupported`](Error::Unsupported): a map's key is no scalar, which is
-    ///   told whatever the depth. The entries before it stand.
+    ///   reported whatever the depth. The entries before it stand.
     /// - [`Io`](Error::Io): the sink failed in this call: a put took nothing, was interrupted or failed. It is not
     ///   repeated. A proper beginning of the text stands.
-    /// - [`OutOfMemory`](Error::OutOfMemory): a growth was refused. Some first entries stand, each whole: an entry is
+    /// - [`OutOfMemory`](Error::OutOfMemory): an allocation failed. Some first entries stand, each whole: an entry is
     ///   made before its first byte is put.
     ///
-    /// It takes memory for the path and for the longest entry, and none for `Unit` or `None` alone (also within
+    /// It allocates for the path and for the longest entry, and not at all for `Unit` or `None` alone (also within
     /// `Some` or `Newtype`). Its time grows with the data and the length of what is written.
     pub fn serialize(&mut self, alloc: Global, datum: &Data) -> Result<()>
         ensures whole { OnOk result ((output_of self.old (data_of datum.now)).refusal ≡ None) }

@@ -4,9 +4,9 @@
 #[cycle(shape)]
 #[derive(Debug, PartialEq, Eq, Drop)]
 pub enum Shape {
-    /// No value: a key alone, or one with nothing behind `=`.
+    /// No value: a key alone, or one with nothing after `=`.
     Unit,
-    /// `true` or `false`; a key alone, or one with nothing behind `=`, is true.
+    /// `true` or `false`; a key alone, or one with nothing after `=`, is true.
     Bool,
     /// A whole number of 8 bits.
     U8,

@@ -14,20 +14,20 @@ use std::io::Write;
 /// Takes bytes, and remembers whether it ever failed to.
 ///
 /// [`ByWrite`] makes a sink of any writer. A type of its own may be one too, such as a buffer with a
-/// limit; it answers [`put`](Sink::put) as a writer answers `write`.
+/// limit; its [`put`](Sink::put) returns what a writer's `write` returns.
 pub trait Sink {
-    // The bytes that it took so far, where the sink tells them.
+    // The bytes that it took so far, where the sink reports them.
     ghost taken: { Self → Option (List ℕ) };
 
-    // Whether a put was refused.
+    // Whether a put failed.
     ghost failed: { Self → Bool };
 
     // Which writer of a caller's it writes to, where it holds one by reference.
     ghost writer_name: { Self → ℕ } = { λ _. 0 };
 
-    /// Takes the first bytes of `bytes`, and answers how many; with an error it takes none.
+    /// Takes the first bytes of `bytes`, and returns how many; with an error it takes none.
     ///
-    /// A put of some bytes that takes none, or that answers an error of any kind, is refused: from then
+    /// A put of some bytes that takes none, or that returns an error of any kind, fails: from then
     /// on the sink has failed.
     fn put(&mut self, bytes: &[u8]) -> io::Result<usize>
         ensures bound { WritesAtMost result bytes.now }
@@ -35,7 +35,7 @@ pub trait Sink {
         ensures fails { failed self.new ≡ (failed self.old || is_refused result bytes.now) }
         ensures same_writer { writer_name self.new ≡ writer_name self.old };
 
-    /// Whether a put was ever refused.
+    /// Whether a put ever failed.
     fn has_failed(&self) -> bool
         ensures { result ≡ failed self.now };
 }
@@ -48,7 +48,7 @@ pub struct ByWrite<W: Write + Drop> {
 }
 
 impl<W: Write + Drop> ByWrite<W> {
-    /// The sink of this writer. Nothing is written yet, and no memory is taken.
+    /// The sink of this writer. Nothing is written yet, and nothing is allocated.
     pub fn new(writer: W) -> ByWrite<W>
         ensures writer { result.writer ≡ writer }
         ensures fresh { result.failed ≡ false }
@@ -89,7 +89,7 @@ impl<W: Write + Drop> Sink for ByWrite<W> {
     }
 }
 
-/// Puts all of these bytes, one put after another, until one is refused; `cause` then says why.
+/// Puts all of these bytes, one put after another, until one fails; `cause` then says why.
 pub(crate) fn put_all<S: Sink>(
     sink: &mut S,
     bytes: &[u8],

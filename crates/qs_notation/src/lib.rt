@@ -1,7 +1,7 @@
 //! Trees written as one line, for tests and for answered cases.
 //!
 //! A map is `{key:value,..}`, a sequence `[value,..]`, and keys that are numbers stand bare. Other values are `NoValue`, `Null` and
-//! `Uninit`. Behind a text or a key, `*` says that its bytes are its own, and not borrowed from the input.
+//! `Uninit`. After a text or a key, `*` says that its bytes are its own, and not borrowed from the input.
 #![tactic(auto)]
 
 use qs_tree::{Key, ParsedMap, ParsedValue};
@@ -89,7 +89,7 @@ fn stack_entries<'t, 'qs>(
     Ok(())
 }
 
-/// Writes a text behind the line.
+/// Writes a text after the line.
 fn push_text(line: &mut String, text: &CowSlice<'_, u8>, texts: Texts) -> Result<(), AllocError> {
     match texts {
         Texts::Quoted => push_quoted(line, text.as_slice())?,

@@ -9,7 +9,7 @@ const COMPARED: usize = 2_000;
 
 const DISCARDED: usize = 200_000;
 
-// Each kind of data that holds others, in turn. A leaf stands before or behind what goes on.
+// Each kind of data that holds others, in turn. A leaf stands before or after what goes on.
 fn deeper<R: Abort>(b: &Build<'_, R>, level: usize, inner: Data) -> Data {
     match level % 10 {
         0 => b.some(inner),

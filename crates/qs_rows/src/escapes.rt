@@ -111,7 +111,7 @@ fn hexadecimal_digit(byte: u8) -> Option<u8>
 }
 
 /// What `%` and these two bytes stand for.
-fn decoded(alloc: Global, first: u8, second: u8) -> Result<Vec<u8>, AllocError> {
+pub fn decoded(alloc: Global, first: u8, second: u8) -> Result<Vec<u8>, AllocError> {
     match (hexadecimal_digit(first), hexadecimal_digit(second)) {
         (Some(high), Some(low)) => Vec::from_slice(alloc, &[high * 16 + low]),
         (Some(_), None) => Vec::from_slice(alloc, &[b'%', first, second]),

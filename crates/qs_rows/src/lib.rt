@@ -28,4 +28,6 @@ mod searches;
 #[cfg(test)]
 mod trees;
 #[cfg(test)]
+mod typed;
+#[cfg(test)]
 mod writing;

@@ -1,7 +1,7 @@
 //! Shapes and data as words with spaces between, each before its parts: `Seq Option U8` and `Seq:2 None Some Unsigned:7`.
 //!
-//! Behind a colon stand a scalar's text, the count of parts, or names. They are escaped as in form mode. Behind the name of an
-//! optional field stands `?`. The variants of an enum stand behind its count: `Enum:2 unit:a struct:b:x:y? U8 Text`.
+//! After a colon stand a scalar's text, the count of parts, or names. They are escaped as in form mode. After the name of an
+//! optional field stands `?`. The variants of an enum stand after its count: `Enum:2 unit:a struct:b:x:y? U8 Text`.
 
 use crate::build::Build;
 use qs_tree::decode;

@@ -8,3 +8,4 @@ mod losses;
 mod orders;
 mod premises;
 mod random;
+mod random_lists;

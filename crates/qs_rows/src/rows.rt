@@ -5,7 +5,7 @@ use serde_qs::{Config, Data, Deserializer, DuplicateKeyBehavior, Error, Result, 
 use std::alloc::Global;
 use std::process::Abort;
 
-/// What is said behind the fault of a key that holds a bracket.
+/// What is said after the fault of a key that holds a bracket.
 const HINT: &str =
     "\nInvalid field contains an encoded bracket -- consider using form encoding mode\n  https://docs.rs/serde_qs/latest/serde_qs/#query-string-vs-form-encoding";
 
@@ -46,7 +46,7 @@ impl<'r, R: Abort> Rows<'r, R> {
         self.with(config)
     }
 
-    /// The same where several values for one are refused.
+    /// The same where several values for one are rejected.
     pub fn reject_duplicates(&self) -> Self {
         let config = self
             .config

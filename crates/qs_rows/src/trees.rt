@@ -13,7 +13,9 @@ mod values;
 
 use qs_notation::{Texts, line};
 use qs_tree::{Config, Error, ParsedValue, parse};
+use serde_qs::ConfigExt;
 use std::alloc::{AllocError, Global};
+use std::collections::BTreeMap;
 use std::process::Abort;
 use std::test::Fail;
 
@@ -48,10 +50,28 @@ fn form(max_depth: usize) -> Config {
     query(max_depth).use_form_encoding(true)
 }
 
+/// The text so many times.
+pub fn repeated(alloc: Global, text: &str, times: usize) -> Result<String, AllocError> {
+    let mut all = String::new(alloc);
+    for _ in 0..times {
+        all.push_str(text)?;
+    }
+    Ok(all)
+}
+
 /// The tree of an input as a line, or its refusal.
 fn tree(alloc: Global, config: Config, input: &[u8]) -> Result<String, Error> {
     let tree = parse(alloc, input, config)?;
     Ok(line(alloc, &tree, Texts::Quoted)?)
+}
+
+/// Where a typed call finds that an input has no tree.
+fn typed_position(alloc: Global, config: Config, input: &[u8]) -> Option<usize> {
+    let read: Result<BTreeMap<String, String>, Error> = config.deserialize_bytes(alloc, input);
+    match read {
+        Err(Error::Parse(_, position)) => Some(position),
+        _ => None,
+    }
 }
 
 /// Each input has its tree.
@@ -64,11 +84,16 @@ fn accept(
     for (input, wanted) in rows {
         let found = tree(alloc, config, input.as_bytes())?;
         assert_eq!(rt; found.as_str(), *wanted, "{input}");
+        assert_eq!(rt;
+            typed_position(alloc, config, input.as_bytes()),
+            None,
+            "{input}"
+        );
     }
     Ok(())
 }
 
-/// Each input is refused at its position with its text.
+/// Each input is rejected at its position with its text.
 fn refuse(
     rt: &impl Abort,
     alloc: Global,
@@ -81,7 +106,7 @@ fn refuse(
     Ok(())
 }
 
-/// The input is refused at the position with the text.
+/// The input is rejected at the position with the text.
 fn refuse_bytes(
     rt: &impl Abort,
     alloc: Global,
@@ -95,5 +120,10 @@ fn refuse_bytes(
     };
     assert_eq!(rt; said.as_str(), text, "{input:?}");
     assert_eq!(rt; at, position, "{input:?}");
+    assert_eq!(rt;
+        typed_position(alloc, config, input),
+        Some(position),
+        "{input:?}"
+    );
     Ok(())
 }

@@ -6,13 +6,16 @@ use Rattle.qs_spec.specs.Token.{tokens}
 use Rattle.qs_spec.specs.Grammar.{Pair, ArePairs}
 use Rattle.qs_spec.specs.Tree.{node, longest, Tree, IsTree}
 use Rattle.qs_spec.specs.History.{events, permitted}
-use Rattle.qs_spec.specs.Order.{IsReordering, AreReordered, AreAlike, unmarked}
+use Rattle.qs_spec.specs.Permutation.{IsReordering}
+use Rattle.qs_spec.specs.Order.{meet, AreReordered, AreAlike, unmarked}
 use Rattle.qs_spec.specs.Holds.{leaf_count, nesting}
 use Rattle.qs_spec.proofs.RelatedIsRead.{one_list, found_pairs}
 use Rattle.qs_spec.proofs.Reorder.{node_reordered, permitted_reordered}
 use Rattle.qs_spec.proofs.Places.{by_places}
 use Rattle.qs_spec.proofs.Marks.{bare, permitted_bare, node_bare}
-use Rattle.qs_spec.proofs.Leaves.{leaves_of_node, nesting_within, pairs_short}
+use Rattle.qs_spec.proofs.Leaves.{nesting_within, pairs_short}
+use Rattle.qs_spec.proofs.LeafCount.{leaves_of_node}
+use Rattle.qs_spec.proofs.Empty.{none_empty}
 
 -- an input with a pair has a tree where its pairs have one, and that one
 of_pairs : (form : Bool) (depth : ℕ) (a : List ℕ) (p : Pair) (ps : List Pair) → ArePairs depth (tokens form a) (p ∷ ps) → ((path : List Segment) → permitted (events (p ∷ ps) path) ≡ true) → IsTree form depth a (node (p ∷ ps))
@@ -35,14 +38,14 @@ alike_by form depth a b p q ps qs g i same nodes = record {
       (node (p ∷ ps), of_pairs form depth a p ps g (λ path. same path ∙ of.0 path), nodes ∙ ap unmarked (sym of.1));
 }
 
-no_order_of_none : (p : Pair) (ps : List Pair) → IsReordering (p ∷ ps) [] → ⊥
+no_order_of_none : (p : Pair) (ps : List Pair) → IsReordering meet (p ∷ ps) [] → ⊥
 no_order_of_none p ps h = by h.0 h.2
   where
     by : (front : List Pair) → [] ≡ front ++ p ∷ h.1 → ⊥
     by [] e = cc
     by (q ∷ front) e = cc
 
-pub alike : (form : Bool) (depth : ℕ) (a b : List ℕ) (p : Pair) (ps qs : List Pair) → ArePairs depth (tokens form a) (p ∷ ps) → ArePairs depth (tokens form b) qs → IsReordering (bare (p ∷ ps)) (bare qs) → AreAlike form depth a b
+pub alike : (form : Bool) (depth : ℕ) (a b : List ℕ) (p : Pair) (ps qs : List Pair) → ArePairs depth (tokens form a) (p ∷ ps) → ArePairs depth (tokens form b) qs → IsReordering meet (bare (p ∷ ps)) (bare qs) → AreAlike form depth a b
 alike form depth a b p ps [] g i h = absurd (no_order_of_none _ (bare ps) h)
 alike form depth a b p ps (q ∷ qs) g i h = alike_by form depth a b p q ps qs g i
     (λ path. sym (permitted_bare (p ∷ ps) path) ∙ permitted_reordered (bare (p ∷ ps)) (bare (q ∷ qs)) h path ∙ permitted_bare (q ∷ qs) path)
@@ -50,10 +53,10 @@ alike form depth a b p ps (q ∷ qs) g i h = alike_by form depth a b p q ps qs g
 
 -- the same by places
 pub alike_by_places : (form : Bool) (depth : ℕ) (a b : List ℕ) (p : Pair) (ps qs : List Pair) → ArePairs depth (tokens form a) (p ∷ ps) → ArePairs depth (tokens form b) qs → AreReordered (p ∷ ps) qs → AreAlike form depth a b
-alike_by_places form depth a b p ps qs g i h = alike form depth a b p ps qs g i (by_places (bare (p ∷ ps)) (bare qs) h)
+alike_by_places form depth a b p ps qs g i h = alike form depth a b p ps qs g i (by_places meet (bare (p ∷ ps)) (bare qs) h)
 
 pub leaves : (form : Bool) (depth b : ℕ) (bytes : List ℕ) (ps : List Pair) (t : Tree) → ArePairs depth (tokens form (b ∷ bytes)) ps → IsTree form depth (b ∷ bytes) t → leaf_count t ≡ length ps
-leaves form depth b bytes ps t g h = ap leaf_count h.2 ∙ leaves_of_node h.0 ∙ ap length (one_list depth (tokens form (b ∷ bytes)) h.0 ps h.1.grammar g)
+leaves form depth b bytes ps t g h = ap leaf_count h.2 ∙ leaves_of_node h.0 (none_empty form depth (b ∷ bytes) h.0 h.1.grammar) h.1.histories ∙ ap length (one_list depth (tokens form (b ∷ bytes)) h.0 ps h.1.grammar g)
 
 pub nests : (form : Bool) (depth : ℕ) (bytes : List ℕ) (t : Tree) → IsTree form depth bytes t → nesting t ≤ depth + 2
 nests form depth [] t h = omega (arith, ap nesting h)

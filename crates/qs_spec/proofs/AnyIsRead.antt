@@ -9,7 +9,8 @@ use Rattle.qs_spec.specs.Tree.Entries.{entry, no_entries}
 use Rattle.qs_spec.specs.Data.{Data, one_value, one_pair, values_of, pairs_of}
 use Rattle.qs_spec.specs.Shape.{Shape, KeyShape}
 use Rattle.qs_spec.specs.Scalar.{text_data}
-use Rattle.qs_spec.specs.Read.{are_ints, is_place, placed, each_item, read_each, read_list, with_front, read_pairs, read_map, any_data, any_items, any_places, any_pairs, reads}
+use Rattle.qs_spec.specs.Node.{are_ints, is_place, placed, each_item}
+use Rattle.qs_spec.specs.toward.ReadFunction.{read_each, read_list, with_front, read_pairs, read_map, any_data, any_items, any_places, any_pairs, reads}
 
 value_step : (o : Option Data) (r : Option (List Data)) → option_and_then (λ d. option_map (one_value d) (option_map values_of r)) o ≡ option_map values_of (option_and_then (λ d. with_front d r) o)
 value_step None r = refl

@@ -11,7 +11,8 @@ use Rattle.qs_spec.specs.Tree.Entries.{entry, no_entries}
 use Rattle.qs_spec.specs.Data.{Data, Values, no_values, one_value, Pairs, no_pairs, one_pair}
 use Rattle.qs_spec.specs.Shape.{Shape, KeyShape}
 use Rattle.qs_spec.specs.Scalar.{text_data}
-use Rattle.qs_spec.specs.Read.{are_ints, is_place, placed, each_item, any_data, any_items, any_places, any_pairs}
+use Rattle.qs_spec.specs.Node.{are_ints, is_place, placed, each_item}
+use Rattle.qs_spec.specs.toward.ReadFunction.{any_data, any_items, any_places, any_pairs}
 use Rattle.qs_spec.specs.Relation.{Reads, ReadsEach, ReadsPairs}
 use Rattle.qs_spec.proofs.SomeAnswers.{mapped, chained, guarded}
 use Rattle.qs_spec.proofs.DataReadIsRelated.{text_related}

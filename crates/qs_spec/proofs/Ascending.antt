@@ -40,11 +40,12 @@ heads_in_range (p ∷ ps) h = by p.path h.0 (heads_in_range ps h.1)
 
 filled_in_range : (ps : List Pair) → AllSegments IsInRange ps → AllSegments IsInRange (filled ps)
 filled_in_range [] h = tt
-filled_in_range (p ∷ ps) h = (by p.path h.0, filled_in_range ps h.1)
+filled_in_range (p ∷ ps) h = (by p.path p.push h.0, filled_in_range ps h.1)
   where
-    by : (path : List Step) → AllSteps IsInRange path → AllSteps IsInRange (filled_path path)
-    by [] r = (tt, tt)
-    by (s ∷ path) r = r
+    by : (path : List Step) (b : Bool) → AllSteps IsInRange path → AllSteps IsInRange (filled_path path b)
+    by [] true r = tt
+    by [] false r = (tt, tt)
+    by (s ∷ path) b r = r
 
 under_in_range : (k : Segment) (ps : List Pair) → AllSegments IsInRange ps → AllSegments IsInRange (under k ps)
 under_in_range k [] h = tt

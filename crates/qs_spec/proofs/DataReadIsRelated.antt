@@ -12,8 +12,10 @@ use Rattle.qs_spec.specs.Tree.Entries.{entry, no_entries}
 use Rattle.qs_spec.specs.Data.{Data, Members, one_member, values_of, pairs_of, members_of, Named}
 use Rattle.qs_spec.specs.Shape.{Shape, Fields, one_field, Variants, no_variants, one_variant, VariantKind, unit_kind, newtype_kind, tuple_kind, struct_kind, UnknownKeys, KeyShape, is_option}
 use Rattle.qs_spec.specs.Scalar.{text_data, key_data}
-use Rattle.qs_spec.specs.Read.{read_scalar, read_option, read_unit, read_character, read_ignored, last_item, read_each, with_front, found, keys_are_allowed, read_field, read_place, items_after, with_field, struct_members, read_pairs, under_empty, read_map, is_unit_kind, unit_variant_data, reads, reads_names, reads_places}
-use Rattle.qs_spec.specs.Relation.{last, IsFull, HasVariant, Reads, ReadsEach, ReadsPairs, ReadsStruct, ReadsNames, ReadsPlaces}
+use Rattle.qs_spec.specs.Node.{last_item, found, keys_are_allowed, under_empty}
+use Rattle.qs_spec.specs.toward.ReadFunction.{read_scalar, read_option, read_unit, read_character, read_ignored, read_each, with_front, read_field, read_place, items_after, with_field, struct_members, read_pairs, read_map, is_unit_kind, unit_variant_data, reads, reads_names, reads_places}
+use Rattle.qs_spec.specs.Node.{last, IsFull}
+use Rattle.qs_spec.specs.Relation.{HasVariant, Reads, ReadsEach, ReadsPairs, ReadsStruct, ReadsNames, ReadsPlaces}
 use Rattle.qs_spec.proofs.SomeAnswers.{mapped, chained, tested}
 use Rattle.qs_spec.proofs.VariantNames.{bytes_equal}
 

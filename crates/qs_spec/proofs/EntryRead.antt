@@ -165,7 +165,7 @@ has_key_of : (path : Path) → HasSegments path → has_key path ≡ true
 has_key_of [] h = absurd h
 has_key_of (s ∷ path) h = refl
 
--- entries with paths, behind nothing and behind another one
+-- entries with paths, after nothing and after another one
 pub text_of_first : (form : Bool) (e : Entry) (es : List Entry) → HasPath e → written form false (e ∷ es) ≡ (path_text form e.path ++ value_text form e.value) ++ written form true es
 unfolding written entry_text
 text_of_first form e es k = ap (λ b. (cond b [] [] ++ (path_text form e.path ++ value_text form e.value)) ++ written form b es) (has_key_of e.path k)

@@ -104,7 +104,7 @@ plains [] n e = tt
 plains (p ∷ ps) n e = by p.path p.push n.0 e (plains ps n.1)
   where
     by : (path : List Step) (b : Bool) → NoEmpty path → (is_push (event_of path b p.leaf) || list_any is_push (map event ps)) ≡ false → (list_any is_push (map event ps) ≡ false → AllPlain (map event (under (Str []) (filled ps))))
-        → AllPlain (map event (under_one (Str []) (filled_path path) (record p { path = filled_path path; push = b }) (under (Str []) (filled ps))))
+        → AllPlain (map event (under_one (Str []) (filled_path path b) (record p { path = filled_path path b; push = b }) (under (Str []) (filled ps))))
     by [] true n e h = cc
     by [] false n e h = h e
     by (s ∷ path) b n e h = subst (λ x. AllPlain (map event (cond x (record p { path = path; push = b } ∷ under (Str []) (filled ps)) (under (Str []) (filled ps))))) (sym n.0) (h e)

@@ -83,15 +83,16 @@ adds_map n ps false l m p e =
       ap (λ (qs : List Pair). mapping (entries_within n qs)) (sym (filled_push ps (pair [] false l))) ∙ sym (node_mapping n (ps ++ pair [] false l ∷ []) (any_after ps (pair [] false l) e)),
     )
 
-under_filled : (k : Segment) (ps : List Pair) → is_same_segment (Str []) k ≡ false → under k (filled ps) ≡ under k ps
+pub under_filled : (k : Segment) (ps : List Pair) → is_same_segment (Str []) k ≡ false → under k (filled ps) ≡ under k ps
 under_filled k [] e = refl
-under_filled k (p ∷ ps) e = by p.path (under_filled k ps e)
+under_filled k (p ∷ ps) e = by p.path p.push (under_filled k ps e)
   where
-    by : (path : List Step) → under k (filled ps) ≡ under k ps → under_one k (filled_path path) (record p { path = filled_path path }) (under k (filled ps)) ≡ under_one k path p (under k ps)
-    by [] h = ap (λ x. cond x (record p { path = [] } ∷ under k (filled ps)) (under k (filled ps))) (same_turned k (Str []) ∙ e) ∙ h
-    by (s ∷ path) h = ap (λ (l : List Pair). cond (is_same_segment k s.seg) (record p { path = path } ∷ l) l) h
+    by : (path : List Step) (b : Bool) → under k (filled ps) ≡ under k ps → under_one k (filled_path path b) (record p { path = filled_path path b }) (under k (filled ps)) ≡ under_one k path p (under k ps)
+    by [] true h = h
+    by [] false h = ap (λ x. cond x (record p { path = [] } ∷ under k (filled ps)) (under k (filled ps))) (same_turned k (Str []) ∙ e) ∙ h
+    by (s ∷ path) b h = ap (λ (l : List Pair). cond (is_same_segment k s.seg) (record p { path = path } ∷ l) l) h
 
-none_empty_under : (k : Segment) (ps : List Pair) → NoneEmpty ps → NoneEmpty (under k ps)
+pub none_empty_under : (k : Segment) (ps : List Pair) → NoneEmpty ps → NoneEmpty (under k ps)
 none_empty_under k [] h = tt
 none_empty_under k (p ∷ ps) h = by p.path h.0 (none_empty_under k ps h.1)
   where
@@ -103,7 +104,7 @@ none_empty_under k (p ∷ ps) h = by p.path h.0 (none_empty_under k ps h.1)
         each true = (n.1, h)
         each false = h
 
-permitted_under : (ps : List Pair) (k : Segment) → Permitted ps → Permitted (under k ps)
+pub permitted_under : (ps : List Pair) (k : Segment) → Permitted ps → Permitted (under k ps)
 permitted_under ps k p path = p (k ∷ path)
 
 -- a pair that goes on below s concerns the histories there, and the root's

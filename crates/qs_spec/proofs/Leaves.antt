@@ -1,19 +1,18 @@
--- A tree has as many leaves as there are pairs, and its maps nest no deeper than the paths are long.
-use Rattle.std.proofs.Common.{◌≡◌, ℕ, zero, suc, max, ◌+◌, ◌≤◌, ◌<◌, Bool, true, false, cond, ◌||◌, List, [], ◌∷◌, length, refl, sym, ap, ap₂, ◌∙◌, subst, arith, Ordering, Less, Equal, Greater, is_eq, le_refl, length-append, suc-le-suc}
+-- How many leaves there are at the keys of a node, and how deep maps nest: no deeper than the paths are long.
+use Rattle.std.proofs.Common.{◌≡◌, ℕ, zero, suc, max, ◌+◌, ◌≤◌, ◌<◌, Bool, true, false, cond, ◌||◌, List, [], ◌∷◌, length, refl, sym, ap, ap₂, ◌∙◌, subst, arith, Ordering, Less, Equal, Greater, is_eq, length-append, suc-le-suc}
 use Rattle.std.specs.List.{list_any, AllByRecursion}
-use Rattle.std.proofs.lemmas.List.{length-map}
 use Rattle.std.specs.Ordering.{ordering_reverse}
 use Rattle.qs_spec.specs.Segment.{Segment, Step}
 use Rattle.qs_spec.specs.Leaf.{Leaf}
 use Rattle.qs_spec.specs.Token.{Token}
 use Rattle.qs_spec.specs.Grammar.{Pair, IsPair, IsBrackets, ArePairs, root}
-use Rattle.qs_spec.specs.History.{Event, event, event_of, events, is_below, under, under_one}
-use Rattle.qs_spec.specs.Tree.{leaves_in, leaf_items, flat, heads, put_head, put, filled, filled_path, head_mark, entries_of, node_within, node, longest, Tree}
+use Rattle.qs_spec.specs.History.{Event, event_of, events, is_below, is_push, under, under_one}
+use Rattle.qs_spec.specs.Tree.{leaves_in, leaf_items, flat, heads, put_head, put, filled, filled_path, head_mark, entries_of, node_within, longest, Tree}
 use Rattle.qs_spec.specs.Segment.{compare_segments, is_same_segment}
 use Rattle.qs_spec.specs.History.Event.{plain, push, below}
 use Rattle.qs_spec.specs.Holds.{leaf_count, items_leaf_count, entries_leaf_count, nesting, items_nesting, entries_nesting}
 use Rattle.qs_spec.proofs.Order.{exact_segment, segments_total, put_lt, put_eq, put_gt}
-use Rattle.qs_spec.proofs.TreeOf.{none_under, longest_under}
+use Rattle.qs_spec.proofs.TreeOf.{none_under}
 
 -- each key is below those after it
 abbrev pub Ascends : List Segment → Type 0
@@ -101,29 +100,31 @@ module _ (x : Segment) (f g : Segment → ℕ) (one : (k : Segment) → f k ≡ 
           ap (total f) (put_gt x y ks e) ∙ omega (arith, lower y e, more (λ n. none (ap₂ (λ a b. a || b) (ap is_eq e) n)))
 
 -- the pairs all go on below
-abbrev AllLonger : List Pair → Type 0
+abbrev pub AllLonger : List Pair → Type 0
 AllLonger [] = Unit {0}
 AllLonger (p ∷ ps) = (0 < length p.path) × AllLonger ps
 
-longer_filled : (ps : List Pair) → AllLonger (filled ps)
-longer_filled [] = tt
-longer_filled (p ∷ ps) = (by p.path, longer_filled ps)
+pub longer_filled : (ps : List Pair) → list_any is_push (events ps []) ≡ false → AllLonger (filled ps)
+longer_filled [] e = tt
+longer_filled (p ∷ ps) e = by p.path p.push e (longer_filled ps)
   where
-    by : (path : List Step) → 0 < length (filled_path path)
-    by [] = omega arith
-    by (s ∷ path) = omega arith
+    by : (path : List Step) (b : Bool) → (is_push (event_of path b p.leaf) || list_any is_push (events ps [])) ≡ false → (list_any is_push (events ps []) ≡ false → AllLonger (filled ps)) → (0 < length (filled_path path b)) × AllLonger (filled ps)
+    by [] true e h = cc
+    by [] false e h = (omega arith, h e)
+    by (s ∷ path) b e h = (omega arith, h e)
 
-length_filled : (ps : List Pair) → length (filled ps) ≡ length ps
+pub length_filled : (ps : List Pair) → length (filled ps) ≡ length ps
 length_filled [] = refl
 length_filled (p ∷ ps) = ap suc (length_filled ps)
 
 pub longest_filled : (n : ℕ) (ps : List Pair) → longest ps ≤ suc n → longest (filled ps) ≤ suc n
 longest_filled n [] l = l
-longest_filled n (p ∷ ps) l = by p.path l (longest_filled n ps)
+longest_filled n (p ∷ ps) l = by p.path p.push l (longest_filled n ps)
   where
-    by : (path : List Step) → max (length path) (longest ps) ≤ suc n → (longest ps ≤ suc n → longest (filled ps) ≤ suc n) → max (length (filled_path path)) (longest (filled ps)) ≤ suc n
-    by [] l h = let m : longest (filled ps) ≤ suc n = h (omega arith) in omega arith
-    by (s ∷ path) l h = let m : longest (filled ps) ≤ suc n = h (omega arith) in omega arith
+    by : (path : List Step) (b : Bool) → max (length path) (longest ps) ≤ suc n → (longest ps ≤ suc n → longest (filled ps) ≤ suc n) → max (length (filled_path path b)) (longest (filled ps)) ≤ suc n
+    by [] true l h = let m : longest (filled ps) ≤ suc n = h (omega arith) in omega arith
+    by [] false l h = let m : longest (filled ps) ≤ suc n = h (omega arith) in omega arith
+    by (s ∷ path) b l h = let m : longest (filled ps) ≤ suc n = h (omega arith) in omega arith
 
 -- the pairs under each key together are all pairs
 pub counted : (ps : List Pair) → AllLonger ps → total (λ k. length (under k ps)) (heads ps) ≡ length ps
@@ -143,7 +144,7 @@ counted (p ∷ ps) h = by p.path h.0 (counted ps h.1)
         one_more s.seg (λ k. length (under_one k (s ∷ path) p (under k ps))) (λ k. length (under k ps)) (at_key s path) (heads ps) (ascends_heads ps) (λ n. ap length (none_under s.seg ps n))
         ∙ ap suc e
 
-entries_counted : (m : Segment → Bool) (f : Segment → Tree) (g : Segment → ℕ) → ((k : Segment) → leaf_count (f k) ≡ g k) → (ks : List Segment) → entries_leaf_count (entries_of m f ks) ≡ total g ks
+pub entries_counted : (m : Segment → Bool) (f : Segment → Tree) (g : Segment → ℕ) → ((k : Segment) → leaf_count (f k) ≡ g k) → (ks : List Segment) → entries_leaf_count (entries_of m f ks) ≡ total g ks
 entries_counted m f g h [] = refl
 entries_counted m f g h (k ∷ ks) = ap₂ (λ a b. a + b) (h k) (entries_counted m f g h ks)
 
@@ -157,7 +158,7 @@ items_counted : (ls : List Leaf) → items_leaf_count (leaf_items ls) ≡ length
 items_counted [] = refl
 items_counted (l ∷ ls) = omega (arith, items_counted ls)
 
-flat_counted : (h : List Event) → list_any is_below h ≡ false → leaf_count (flat h) ≡ length h
+pub flat_counted : (h : List Event) → list_any is_below h ≡ false → leaf_count (flat h) ≡ length h
 flat_counted [] e = refl
 flat_counted (plain l ∷ []) e = refl
 flat_counted (plain l ∷ d ∷ h) e = items_counted (leaves_in (plain l ∷ d ∷ h)) ∙ leaves_counted (plain l ∷ d ∷ h) e
@@ -172,20 +173,6 @@ none_below (p ∷ ps) l = by p.path p.push l (none_below ps)
     by [] true l h = h (omega arith)
     by [] false l h = h (omega arith)
     by (s ∷ path) b l h = absurd (omega arith)
-
--- nothing is lost: as many leaves as pairs
-pub leaves_within : (n : ℕ) (ps : List Pair) → longest ps ≤ n → leaf_count (node_within n ps) ≡ length ps
-leaves_within zero ps l = flat_counted (events ps []) (none_below ps l) ∙ length-map ps event
-leaves_within (suc n) ps l = by (leaves_within n) (list_any is_below (events ps [])) refl
-  where
-    by : ((qs : List Pair) → longest qs ≤ n → leaf_count (node_within n qs) ≡ length qs) → (b : Bool) → list_any is_below (events ps []) ≡ b
-        → leaf_count (cond b (Tree.mapping (entries_of (λ k. head_mark k (filled ps)) (λ k. node_within n (under k (filled ps))) (heads (filled ps)))) (flat (events ps []))) ≡ length ps
-    by h true e = entries_counted _ (λ k. node_within n (under k (filled ps))) (λ k. length (under k (filled ps))) (λ k. h (under k (filled ps)) (longest_under k n (filled ps) (longest_filled n ps l))) (heads (filled ps))
-        ∙ counted (filled ps) (longer_filled ps) ∙ length_filled ps
-    by h false e = flat_counted (events ps []) e ∙ length-map ps event
-
-pub leaves_of_node : (ps : List Pair) → leaf_count (node ps) ≡ length ps
-leaves_of_node ps = leaves_within (longest ps) ps (le_refl (longest ps))
 
 -- maps nest no deeper than paths are long
 entries_nest : (n : ℕ) (m : Segment → Bool) (f : Segment → Tree) → ((k : Segment) → nesting (f k) ≤ n) → (ks : List Segment) → entries_nesting (entries_of m f ks) ≤ n

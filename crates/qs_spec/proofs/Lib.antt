@@ -10,6 +10,7 @@ pub mod OneMore
 pub mod Update
 pub mod Flat
 pub mod Insert
+pub mod LeafCount
 pub mod Segments
 pub mod Empty
 pub mod Scan
@@ -47,6 +48,5 @@ pub mod ReadBack
 pub mod Fitting
 pub mod PartOrders
 pub mod WrittenBack
-pub mod EntryPlaces
 pub mod SameAsOne
 pub mod StableBack

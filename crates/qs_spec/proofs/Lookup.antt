@@ -6,7 +6,7 @@ use Rattle.qs_spec.specs.Segment.{Segment, number, is_index, compare_segments, i
 use Rattle.qs_spec.specs.Segment.Segment.{Int, Str}
 use Rattle.qs_spec.specs.Tree.{Tree, Entries}
 use Rattle.qs_spec.specs.Tree.Entries.{entry, no_entries}
-use Rattle.qs_spec.specs.Read.{found}
+use Rattle.qs_spec.specs.Node.{found}
 use Rattle.qs_spec.specs.toward.Keys.{has_leading_zero, printed_index, lookup, lookup_index, list_of, AreAbove, AreAscending}
 use Rattle.qs_spec.proofs.Booleans.{and_both, not_of}
 use Rattle.qs_spec.proofs.Order.{segments_total, is_itself}

@@ -86,11 +86,12 @@ permitted_bare ps path = ap permitted (events_bare path ps) ∙ permitted_events
 
 filled_bare : (ps : List Pair) → filled (bare ps) ≡ bare (filled ps)
 filled_bare [] = refl
-filled_bare (p ∷ ps) = ap₂ (λ (path : List Step) (l : List Pair). record p { path = path; leaf = unmarked_leaf p.leaf } ∷ l) (by p.path) (filled_bare ps)
+filled_bare (p ∷ ps) = ap₂ (λ (path : List Step) (l : List Pair). record p { path = path; leaf = unmarked_leaf p.leaf } ∷ l) (by p.path p.push) (filled_bare ps)
   where
-    by : (path : List Step) → filled_path (map unmarked_step path) ≡ map unmarked_step (filled_path path)
-    by [] = refl
-    by (s ∷ path) = refl
+    by : (path : List Step) (b : Bool) → filled_path (map unmarked_step path) b ≡ map unmarked_step (filled_path path b)
+    by [] true = refl
+    by [] false = refl
+    by (s ∷ path) b = refl
 
 heads_bare : (ps : List Pair) → heads (bare ps) ≡ heads ps
 heads_bare [] = refl

@@ -44,7 +44,7 @@ history_push (q ∷ ps) p = ap (λ h. event q ∷ h) (history_push ps p)
 
 pub filled_push : (ps : List Pair) (p : Pair) → filled (ps ++ p ∷ []) ≡ filled ps ++ filled (p ∷ [])
 filled_push [] p = refl
-filled_push (q ∷ ps) p = ap (λ l. record q { path = filled_path q.path } ∷ l) (filled_push ps p)
+filled_push (q ∷ ps) p = ap (λ l. record q { path = filled_path q.path q.push } ∷ l) (filled_push ps p)
 
 pub heads_push : (ps : List Pair) (s : Step) (path : List Step) (b : Bool) (l : Leaf) → heads (ps ++ pair (s ∷ path) b l ∷ []) ≡ put s.seg (heads ps)
 heads_push [] s path b l = refl

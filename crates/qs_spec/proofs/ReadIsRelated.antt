@@ -79,7 +79,7 @@ value_reads (t ∷ ts) = by t.kind refl
     by Close e = tt
     by Other e = tt
 
--- behind some tokens a reader reads what it reads
+-- after some tokens a reader reads what it reads
 module _ {A B : Type 0} (Is : List Token → A → Type 0) (Are : List Token → B → Type 0) (pre : List Token → List Token) (law : (f r : List Token) → pre (f ++ r) ≡ pre f ++ r) where
   pub behind : (of : A → B) → ((front : List Token) (a : A) → Is front a → Are (pre front) (of a)) → (ts : List Token) (a : A) (rest : List Token) → Reads Is ts a rest → Reads Are (pre ts) (of a) rest
   behind of f ts a rest h = record { front = pre h.front; is = f h.front a h.is; end = h.end; whole = ap pre h.whole ∙ law h.front rest }

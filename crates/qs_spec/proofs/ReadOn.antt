@@ -1,4 +1,4 @@
--- The reader goes on behind what it read, whatever the number of turns that it is given.
+-- The reader goes on after what it read, whatever the number of turns that it is given.
 use Rattle.std.proofs.Common.{◌≡◌, ℕ, ◌≤◌, false, List, ◌∷◌, length, refl, sym, ap, ◌∙◌, subst, arith, Option, Some, None, option_map, length-append}
 use Rattle.qs_spec.specs.Token.{Token}
 use Rattle.qs_spec.specs.Token.Kind.{Amp}

@@ -8,8 +8,9 @@ use Rattle.qs_spec.specs.Tree.{Tree}
 use Rattle.qs_spec.specs.Tree.Tree.{leaf, sequence, mapping, uninitialized}
 use Rattle.qs_spec.specs.Data.{Data, Values, no_values, one_value, Pairs, no_pairs, one_pair, Members, no_members, one_member, values_of, pairs_of, members_of, Named}
 use Rattle.qs_spec.specs.Scalar.{text_data}
-use Rattle.qs_spec.specs.Read.{Reader, read_scalar, read_option, items, read_each, read_list}
-use Rattle.qs_spec.specs.Relation.{last, IsFull}
+use Rattle.qs_spec.specs.Node.{items}
+use Rattle.qs_spec.specs.toward.ReadFunction.{Reader, read_scalar, read_option, read_each, read_list}
+use Rattle.qs_spec.specs.Node.{last, IsFull}
 
 -- the lists that own list families are made of
 abbrev pub value_list : Values → List Data

@@ -29,7 +29,7 @@ push_found : (room : ℕ) (path : List Step) (bracket : List ℕ) (t : Token) (t
 push_found zero path bracket t ts e = ap (λ b. in_last b path bracket t ts) (close_at t.kind e)
 push_found (suc room) path bracket t ts e = ap (λ b. in_segment b (read_brackets room) path t ts) (close_at t.kind e)
 
--- a value behind a segment doesn't begin with a bracket
+-- a value after a segment doesn't begin with a bracket
 after_value : (deeper : Deeper) (q : List Step) (value rest : List Token) (leaf : Leaf) → IsValue value leaf → IsEnd rest → after_close deeper q (value ++ rest) ≡ Some (plain q leaf, rest)
 after_value deeper q _ [] _ IsValue.none h = refl
 after_value deeper q _ (t ∷ rest) _ IsValue.none h = ap (λ k. after_close_at k deeper q t rest) h

@@ -7,7 +7,8 @@ use Rattle.qs_spec.specs.Grammar.{Pair}
 use Rattle.qs_spec.specs.History.{Event, event, event_of, under, under_one, events, is_below, permitted}
 use Rattle.qs_spec.specs.Tree.{Tree, Entries, flat, filled, filled_path, put_head, heads, entries_of, node_within, longest, node}
 use Rattle.qs_spec.specs.Segment.{is_same_segment}
-use Rattle.qs_spec.specs.Order.{is_front, meet, IsReordering, unmarked, unmarked_entries}
+use Rattle.qs_spec.specs.Permutation.{IsReordering}
+use Rattle.qs_spec.specs.Order.{is_front, meet, unmarked, unmarked_entries}
 use Rattle.qs_spec.proofs.Order.{same_as_both, put_twice}
 
 -- neighbours that don't meet change places, any number of times
@@ -21,7 +22,7 @@ to_place : (p : Pair) (front back : List Pair) → AllByRecursion (λ q. IsFalse
 to_place p [] back h = same (p ∷ back)
 to_place p (q ∷ front) back h = both (swap p q (front ++ back) h.0) (keep q (to_place p front back h.1))
 
-pub swaps_of : (ps qs : List Pair) → IsReordering ps qs → Swaps ps qs
+pub swaps_of : (ps qs : List Pair) → IsReordering meet ps qs → Swaps ps qs
 swaps_of [] qs h = subst (λ l. Swaps [] l) (sym h) (same [])
 swaps_of (p ∷ ps) qs h = subst (λ l. Swaps (p ∷ ps) l) (sym h.2) (both (keep p (swaps_of ps (h.0 ++ h.1) h.4)) (to_place p h.0 h.1 h.3))
 
@@ -76,15 +77,15 @@ pub events_swaps : (path : List Segment) {ps qs : List Pair} → Swaps ps qs →
 events_swaps [] w = history_swaps w
 events_swaps (k ∷ path) w = events_swaps path (swaps_under k w)
 
-apart_filled : (a b : List Step) → Apart a b → Apart (filled_path a) (filled_path b)
-apart_filled [] b e = cc
-apart_filled (s ∷ a) [] e = cc
-apart_filled (s ∷ a) (t ∷ b) e = e
+apart_filled : (a b : List Step) (x y : Bool) → Apart a b → Apart (filled_path a x) (filled_path b y)
+apart_filled [] b x y e = cc
+apart_filled (s ∷ a) [] x y e = cc
+apart_filled (s ∷ a) (t ∷ b) x y e = e
 
 swaps_filled : {ps qs : List Pair} → Swaps ps qs → Swaps (filled ps) (filled qs)
 swaps_filled (same ps) = same (filled ps)
-swaps_filled (keep p w) = keep (record p { path = filled_path p.path }) (swaps_filled w)
-swaps_filled (swap p q ps h) = swap (record p { path = filled_path p.path }) (record q { path = filled_path q.path }) (filled ps) (apart_filled p.path q.path h)
+swaps_filled (keep p w) = keep (record p { path = filled_path p.path p.push }) (swaps_filled w)
+swaps_filled (swap p q ps h) = swap (record p { path = filled_path p.path p.push }) (record q { path = filled_path q.path q.push }) (filled ps) (apart_filled p.path q.path p.push q.push h)
 swaps_filled (both w v) = both (swaps_filled w) (swaps_filled v)
 
 heads_swap : (a b : List Step) (ks : List Segment) → put_head a (put_head b ks) ≡ put_head b (put_head a ks)
@@ -125,10 +126,10 @@ node_within_swaps (suc n) {ps} {qs} w = either _ _ _ _ _ _
     (ap Tree.mapping (entries_same _ _ (λ k. node_within n (under k (filled ps))) (λ k. node_within n (under k (filled qs))) (λ k. node_within_swaps n (swaps_under k (swaps_filled w))) _ _ (heads_swaps (swaps_filled w))))
     (ap (λ h. unmarked (flat h)) (history_swaps w))
 
-pub node_reordered : (ps qs : List Pair) → IsReordering ps qs → unmarked (node ps) ≡ unmarked (node qs)
+pub node_reordered : (ps qs : List Pair) → IsReordering meet ps qs → unmarked (node ps) ≡ unmarked (node qs)
 node_reordered ps qs h =
     let w = swaps_of ps qs h in
     node_within_swaps (longest ps) w ∙ ap (λ n. unmarked (node_within n qs)) (longest_swaps w)
 
-pub permitted_reordered : (ps qs : List Pair) → IsReordering ps qs → (path : List Segment) → permitted (events ps path) ≡ permitted (events qs path)
+pub permitted_reordered : (ps qs : List Pair) → IsReordering meet ps qs → (path : List Segment) → permitted (events ps path) ≡ permitted (events qs path)
 permitted_reordered ps qs h path = ap permitted (events_swaps path (swaps_of ps qs h))

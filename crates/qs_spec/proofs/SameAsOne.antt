@@ -1,12 +1,11 @@
 -- Data that are the same as one are the same, so data that are read from one input are.
-use Rattle.std.proofs.Common.{◌≡◌, ℕ, false, true, List, [], ◌∷◌, refl, sym, ap, ◌∙◌, subst}
+use Rattle.std.proofs.Common.{◌≡◌, ℕ, false, true, List, [], ◌∷◌, refl, subst}
 use Rattle.std.specs.List.Sorted.{IsPermutation}
 use Rattle.std.proofs.lemmas.List.Sorted.{IsPermutation-refl}
-use Rattle.std.proofs.lemmas.Option.{same_Some}
-use Rattle.qs_spec.specs.Config.{Config, indexed}
+use Rattle.qs_spec.specs.Config.{Config, are_refused, indexed}
 use Rattle.qs_spec.specs.Data.{Data, Values, Pairs, one_pair, Members}
 use Rattle.qs_spec.specs.Shape.{Shape, is_distinct}
-use Rattle.qs_spec.specs.Read.{read_by}
+use Rattle.qs_spec.specs.Relation.{ReadsBy}
 use Rattle.qs_spec.specs.Entry.{Entry, entries}
 use Rattle.qs_spec.specs.Written.{written}
 use Rattle.qs_spec.specs.Listed.{is_listed}
@@ -14,6 +13,7 @@ use Rattle.qs_spec.specs.Same.{IsWith, Same, SameValues, SamePairs, SameMembers}
 use Rattle.qs_spec.specs.ReadBack.{IsPlainFor, IsReadBack, KeepsPaths}
 use Rattle.qs_spec.proofs.TreeOf.{one_tree}
 use Rattle.qs_spec.proofs.WrittenBack.{read_back, lists_back}
+use Rattle.qs_spec.proofs.DataRelatedIsRead.{one_data}
 
 -- of two pairs among others, either both are one, or each is among those beside the other
 data AreAmong : Data → Data → Data → Data → Pairs → Pairs → Type 0 where
@@ -82,17 +82,17 @@ mutual
   members_as_one (SameMembers.members_more x xs) (SameMembers.members_more y ys) = SameMembers.members_more (as_one x y) (members_as_one xs ys)
 
 -- an input is read as one data
-one_answer : (config : Config) (shape : Shape) (d e : Data) (input : List ℕ) → IsReadBack config shape d input → IsReadBack config shape e input → Same d e
-one_answer config shape d e input x y =
+one_answer : (config : Config) (shape : Shape) (d e : Data) (input : List ℕ) → is_distinct shape ≡ true → IsReadBack config shape d input → IsReadBack config shape e input → Same d e
+one_answer config shape d e input dist x y =
     let tree = one_tree config.form config.max_depth input x.tree y.tree x.is_tree y.is_tree in
-    let answer = same_Some x.answer y.answer (sym x.reads ∙ ap (read_by config shape) tree ∙ y.reads) in
+    let answer = one_data (are_refused config.duplicates) shape y.tree x.answer y.answer dist (subst (λ t. ReadsBy config shape t x.answer) tree x.reads) y.reads in
     as_one (subst (Same d) answer x.same) y.same
 
 pub same_entries : (config : Config) (shape : Shape) (d e : Data) → config.array_format ≡ indexed → is_distinct shape ≡ true → IsPlainFor config shape d → IsPlainFor config shape e
     → IsPermutation (entries config d).entries (entries config e).entries → Same d e
 same_entries config shape d e f dist p q w =
     let es = (entries config e).entries in
-    one_answer config shape d e (written config.form false es) (read_back config shape d es f dist p w) (read_back config shape e es f dist q (IsPermutation-refl es))
+    one_answer config shape d e (written config.form false es) dist (read_back config shape d es f dist p w) (read_back config shape e es f dist q (IsPermutation-refl es))
 
 keeps_itself : (es : List Entry) → KeepsPaths es es
 keeps_itself [] = refl
@@ -102,4 +102,4 @@ pub same_lists : (config : Config) (shape : Shape) (d e : Data) → is_distinct 
     → is_listed config.array_format false d ≡ true → is_listed config.array_format false e ≡ true → KeepsPaths (entries config d).entries (entries config e).entries → Same d e
 same_lists config shape d e dist p q x y w =
     let es = (entries config e).entries in
-    one_answer config shape d e (written config.form false es) (lists_back config shape d es dist p x w) (lists_back config shape e es dist q y (keeps_itself es))
+    one_answer config shape d e (written config.form false es) dist (lists_back config shape d es dist p x w) (lists_back config shape e es dist q y (keeps_itself es))

@@ -5,7 +5,7 @@ use Rattle.qs_spec.specs.Segment.{Segment, Step}
 use Rattle.qs_spec.specs.Leaf.{Leaf}
 use Rattle.qs_spec.specs.Segment.Segment.{Int, Str}
 use Rattle.qs_spec.specs.Grammar.{Pair}
-use Rattle.qs_spec.specs.History.{Event, event, events, under, under_one, is_below}
+use Rattle.qs_spec.specs.History.{Event, event, event_of, events, under, under_one, is_below}
 use Rattle.qs_spec.specs.Tree.{node_within, longest, Tree, IsTree, heads, put, put_head, entries_of, filled, filled_path, flat, leaves_in, leaf_items}
 use Rattle.qs_spec.specs.Segment.{is_same_segment}
 use Rattle.qs_spec.specs.History.Event.{plain, push, below}
@@ -54,15 +54,16 @@ some_under k (p ∷ ps) e = by p.path e (some_under k ps)
 
 none_empty_filled : (k : Segment) (ps : List Pair) → NoneEmpty ps → NoneEmpty (under k (filled ps))
 none_empty_filled k [] m = tt
-none_empty_filled k (p ∷ ps) m = by p.path m.0 (none_empty_filled k ps m.1)
+none_empty_filled k (p ∷ ps) m = by p.path p.push m.0 (none_empty_filled k ps m.1)
   where
-    by : (path : List Step) → NoEmpty path → NoneEmpty (under k (filled ps)) → NoneEmpty (under_one k (filled_path path) (record p { path = filled_path path }) (under k (filled ps)))
-    by [] n h = each (is_same_segment k (Str []))
+    by : (path : List Step) (b : Bool) → NoEmpty path → NoneEmpty (under k (filled ps)) → NoneEmpty (under_one k (filled_path path b) (record p { path = filled_path path b }) (under k (filled ps)))
+    by [] true n h = h
+    by [] false n h = each (is_same_segment k (Str []))
       where
         each : (b : Bool) → NoneEmpty (cond b (record p { path = [] } ∷ under k (filled ps)) (under k (filled ps)))
         each true = (tt, h)
         each false = h
-    by (s ∷ path) n h = each (is_same_segment k s.seg)
+    by (s ∷ path) b n h = each (is_same_segment k s.seg)
       where
         each : (b : Bool) → NoneEmpty (cond b (record p { path = path } ∷ under k (filled ps)) (under k (filled ps)))
         each true = (n.1, h)
@@ -72,7 +73,7 @@ own_flat : (ps : List Pair) → NoneEmpty ps → list_any is_below (map event (u
 own_flat [] m = refl
 own_flat (p ∷ ps) m = by p.path p.push m.0 (own_flat ps m.1)
   where
-    by : (path : List Step) (b : Bool) → NoEmpty path → list_any is_below (map event (under (Str []) (filled ps))) ≡ false → list_any is_below (map event (under_one (Str []) (filled_path path) (record p { path = filled_path path; push = b }) (under (Str []) (filled ps)))) ≡ false
+    by : (path : List Step) (b : Bool) → NoEmpty path → list_any is_below (map event (under (Str []) (filled ps))) ≡ false → list_any is_below (map event (under_one (Str []) (filled_path path b) (record p { path = filled_path path b; push = b }) (under (Str []) (filled ps)))) ≡ false
     by [] true n h = h
     by [] false n h = h
     by (s ∷ path) b n h = ap (λ x. list_any is_below (map event (cond x (record p { path = path; push = b } ∷ under (Str []) (filled ps)) (under (Str []) (filled ps))))) n.0 ∙ h
@@ -100,11 +101,12 @@ some_entries g f (k ∷ ks) n = λ w. cc
 
 some_heads : (ps : List Pair) → list_any is_below (map event ps) ≡ true → heads (filled ps) ≢ []
 some_heads [] e = cc
-some_heads (p ∷ ps) e = by p.path
+some_heads (p ∷ ps) e = by p.path p.push e (some_heads ps)
   where
-    by : (path : List Step) → put_head (filled_path path) (heads (filled ps)) ≢ []
-    by [] = some_put (Str []) (heads (filled ps))
-    by (s ∷ path) = some_put s.seg (heads (filled ps))
+    by : (path : List Step) (b : Bool) → (is_below (event_of path b p.leaf) || list_any is_below (map event ps)) ≡ true → (list_any is_below (map event ps) ≡ true → heads (filled ps) ≢ []) → put_head (filled_path path b) (heads (filled ps)) ≢ []
+    by [] true e h = h e
+    by [] false e h = some_put (Str []) (heads (filled ps))
+    by (s ∷ path) b e h = some_put s.seg (heads (filled ps))
 
 sound_within : (n : ℕ) (ps : List Pair) → longest ps ≤ n → NoneEmpty ps → IsSound (node_within n ps)
 sound_within zero ps l m = flat_sound (events ps []) (none_below ps l)

@@ -6,7 +6,7 @@ use Rattle.std.specs.List.Sorted.{IsPermutation}
 use Rattle.std.specs.Ordering.{is_eq}
 use Rattle.std.proofs.lemmas.Bool.Decides.{nat_tests}
 use Rattle.std.proofs.lemmas.Option.{same_Some}
-use Rattle.qs_spec.specs.Config.{Config, indexed}
+use Rattle.qs_spec.specs.Config.{Config, indexed, are_refused}
 use Rattle.qs_spec.specs.Segment.{Segment, segment_text, is_index, number, is_same_segment}
 use Rattle.qs_spec.specs.Segment.Segment.{Int, Str}
 use Rattle.qs_spec.specs.Leaf.{Leaf}
@@ -20,7 +20,9 @@ use Rattle.qs_spec.specs.Order.{unmarked_leaf, unmarked, unmarked_entries, AreAl
 use Rattle.qs_spec.specs.Data.{Data, Values, no_values, one_value, Pairs, no_pairs, one_pair}
 use Rattle.qs_spec.specs.Shape.{Shape}
 use Rattle.qs_spec.specs.Scalar.{text_data}
-use Rattle.qs_spec.specs.Read.{read_by, reads, is_place, are_ints, any_data, any_places, any_pairs}
+use Rattle.qs_spec.specs.Node.{is_place, are_ints}
+use Rattle.qs_spec.specs.Relation.{ReadsBy}
+use Rattle.qs_spec.specs.toward.ReadFunction.{reads, any_data, any_places, any_pairs}
 use Rattle.qs_spec.specs.Entry.{Entry, entries}
 use Rattle.qs_spec.specs.Written.{written}
 use Rattle.qs_spec.specs.Plain.{has_bytes}
@@ -39,6 +41,7 @@ use Rattle.qs_spec.proofs.KeysBack.{segment_back, place_back, leaf_back}
 use Rattle.qs_spec.proofs.GoodParts.{AreBytes, IsByteValue, IsGood, AreGood, good_leaf, good_branches, are_full, place_name, is_segment, utf8_bytes}
 use Rattle.qs_spec.proofs.SomeAnswers.{mapped, chained, guarded}
 use Rattle.qs_spec.proofs.DataReadIsRelated.{text_related}
+use Rattle.qs_spec.proofs.DataRelatedIsRead.{sound}
 use Rattle.qs_spec.proofs.Ascending.{tree_ascends}
 use Rattle.qs_spec.proofs.TreeOf.{one_tree}
 use Rattle.qs_spec.proofs.PartOrders.{perm_tidy, perm_swaps, lifted}
@@ -186,7 +189,7 @@ module _ (form : Bool) where
         (of_more s.0 s.1 (any_is t q.1 h.0 d.0 d.1) (pairs_are es p.1 a.2 h.1 m.0 m.1))
 
 pub stable_back : (config : Config) (input : List ℕ) (t : Tree) (d : Data) (es : List Entry) → config.array_format ≡ indexed → IsTree config.form config.max_depth input t → is_stable config.form t ≡ true
-    → read_by config Shape.any t ≡ Some d → (entries config d).refusal ≡ None → IsPermutation (entries config d).entries es → AreAlike config.form config.max_depth input (written config.form false es)
+    → ReadsBy config Shape.any t d → (entries config d).refusal ≡ None → IsPermutation (entries config d).entries es → AreAlike config.form config.max_depth input (written config.form false es)
 unfolding reads
 stable_back config input t d es f i e r whole p =
     let fm = config.array_format in
@@ -195,7 +198,7 @@ stable_back config input t d es f i e r whole p =
     let li = in_format config d f in
     let x = parts_of depth fm d li whole in
     let o = lifted (parts fm d) es (subst (λ (l : List Entry). Perm l es) x.0 (Perm-from (entries config d).entries es p)) in
-    let of = any_is form t e (tree_ascends form depth input t i) d r in
+    let of = any_is form t e (tree_ascends form depth input t i) d (sound (are_refused config.duplicates) {s = Shape.any} refl r) in
     let g = subst (λ m. IsGood m form (parts m d)) (sym f) (good form of) in
     let ps = pairs form o.0 in
     let s = perm_swaps form o.2 (subst (λ m. AllTidy m form (parts fm d)) f g.tidy) in

@@ -4,7 +4,7 @@ use Rattle.std.specs.Str.{bytes_eq}
 use Rattle.qs_spec.specs.Tree.{Tree}
 use Rattle.qs_spec.specs.Data.{Data}
 use Rattle.qs_spec.specs.Shape.{Variants, VariantKind, unit_kind, is_variant_name, variant_names_differ, are_distinct_variants, is_distinct_kind}
-use Rattle.qs_spec.specs.Read.{is_unit_kind, unit_variant_data, reads_variant, reads_kind}
+use Rattle.qs_spec.specs.toward.ReadFunction.{is_unit_kind, unit_variant_data, reads_variant, reads_kind}
 use Rattle.qs_spec.specs.Relation.{HasVariant}
 use Rattle.qs_spec.proofs.Booleans.{and_both, not_of}
 use Rattle.std.proofs.lemmas.Slice.Eq.{bytes_eq-Decides}
@@ -24,7 +24,7 @@ name_there {name} (HasVariant.later {n} {k} {vs} h) = ap (λ b. bytes_eq n name 
     or_true true = refl
     or_true false = refl
 
--- where names differ, the first variant has another name than one behind it
+-- where names differ, the first variant has another name than one after it
 other_name : (n name : List ℕ) (kind : VariantKind) (vs : Variants) → is_variant_name n vs ≡ false → HasVariant name kind vs → bytes_eq n name ≡ false
 other_name n name kind vs e h = by (bytes_eq n name) refl
   where

@@ -22,7 +22,6 @@ use Rattle.qs_spec.proofs.Booleans.{and_both, or_both}
 use Rattle.qs_spec.proofs.VariantNames.{bytes_equal}
 use Rattle.qs_spec.proofs.RelatedIsRead.{found_pairs}
 use Rattle.qs_spec.proofs.EntryRead.{written_pair}
-use Rattle.qs_spec.proofs.ReadingIsRelation.{is_the_relation}
 use Rattle.qs_spec.specs.Listed.{is_placed, is_list, is_listed, are_listed, are_listed_pairs, are_listed_members}
 use Rattle.qs_spec.specs.toward.Parts.{Part, entry_of, part_pair, end_segment, leaf_part, under_segment, Branch, branches, parts, value_parts, value_branches, pair_branches, member_branches}
 use Rattle.qs_spec.specs.ReadBack.{IsPlainFor, IsReadBack, is_prefix, ArePathsApart, KeepsPaths}
@@ -151,7 +150,7 @@ parts_back config shape d qs dist w li q s =
       tree = node ps;
       is_tree = written_tree fm form depth (parts fm d) qs (rooted fm d li) g.fine r.1 q (some_pairs form (parts fm d) ps g.full (perm_map (part_pair form) q)) (pairs_alike fm form qs (perm_tidy fm form q g.tidy));
       answer = b.answer;
-      reads = (is_the_relation (are_refused config.duplicates) shape (node ps) b.answer dist).0 b.reads;
+      reads = b.reads;
       same = b.same;
     }
 

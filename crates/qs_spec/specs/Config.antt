@@ -7,7 +7,7 @@ pub data ArrayFormat : Type 0 where
   empty_indexed : ArrayFormat
   unindexed : ArrayFormat
 
--- several values where one is asked for: the last one is taken, or they are refused
+-- several values where one is asked for: the last one is taken, or they are rejected
 pub data Duplicates : Type 0 where
   take_last : Duplicates
   refuse : Duplicates

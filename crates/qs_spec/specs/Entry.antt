@@ -8,7 +8,7 @@ use Rattle.qs_spec.specs.Data.{Data, Values, no_values, one_value, Pairs, no_pai
 abbrev pub Path : Type 0
 Path = List (List ℕ)
 
--- a path, and the bytes behind `=`, if there is one
+-- a path, and the bytes after `=`, if there is one
 pub record Entry : Type 0 where
   pub path : Path
   pub value : Option (List ℕ)
@@ -36,7 +36,7 @@ abbrev pub follow : List Entry → Option Refusal → Output → Output
 follow es None o = record { entries = es ++ o.entries; refusal = o.refusal }
 follow es (Some r) o = record { entries = es; refusal = Some r }
 
--- one output and then another, unless the first one is refused
+-- one output and then another, unless the first one is rejected
 abbrev pub and_then : Output → Output → Output
 and_then a b = follow a.entries a.refusal b
 

@@ -61,7 +61,7 @@ pub data IsValue : List Token → Leaf → Type 0 where
   none : IsValue [] NoValue
   some : {t : Token} {v : List Token} → t.kind ≡ Equals → IsRun is_amp v → IsValue (t ∷ v) (value_leaf (raw_of v))
 
--- What follows an opening bracket with these bytes behind a path, with room for so many segments: a push, a segment where there is room, or else the last key.
+-- What follows an opening bracket with these bytes after a path, with room for so many segments: a push, a segment where there is room, or else the last key.
 pub data IsBrackets : ℕ → List Step → List ℕ → List Token → Pair → Type 0 where
   push : {room : ℕ} {path : List Step} {bracket : List ℕ} {t : Token} {value : List Token} {leaf : Leaf}
       → t.kind ≡ Close → IsValue value leaf

@@ -1,14 +1,14 @@
--- Leaves: what stands behind a key.
+-- Leaves: what follows a key.
 use Rattle.std.specs.Prelude.{ℕ, Bool, List, [], ◌∷◌}
 use Rattle.qs_spec.specs.Escape.{decoded, is_marked}
 
--- no `=`, nothing behind it, or a text, with a mark where its raw bytes hold `+` or `%`
+-- no `=`, nothing after it, or a text, with a mark where its raw bytes hold `+` or `%`
 pub data Leaf : Type 0 where
   NoValue : Leaf
   Null : Leaf
   Text : (bytes : List ℕ) → (mark : Bool) → Leaf
 
--- the leaf of the raw bytes behind `=`
+-- the leaf of the raw bytes after `=`
 abbrev pub value_leaf : List ℕ → Leaf
 value_leaf [] = Null
 value_leaf (b ∷ raw) = Text (decoded (b ∷ raw)) (is_marked (b ∷ raw))

@@ -7,13 +7,14 @@ pub mod Grammar
 pub mod History
 pub mod Tree
 pub mod Holds
+pub mod Permutation
 pub mod Order
 pub mod Input
 pub mod Marks
 pub mod Data
 pub mod Shape
 pub mod Scalar
-pub mod Read
+pub mod Node
 pub mod Relation
 pub mod Entry
 pub mod Written

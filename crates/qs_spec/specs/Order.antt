@@ -1,10 +1,10 @@
 -- Orders of pairs, and inputs with the same tree. Marks are no part of what is compared.
-use Rattle.std.specs.Prelude.{Some, slice_get, ◌<◌, IsTrue, ◌≡◌, ℕ, Bool, true, false, ◌||◌, ◌&&◌, List, [], ◌∷◌, ◌++◌, map, IsFalse}
-use Rattle.std.specs.List.{AllByRecursion}
+use Rattle.std.specs.Prelude.{◌≡◌, ℕ, Bool, true, false, ◌||◌, ◌&&◌, List, [], ◌∷◌, map}
 use Rattle.qs_spec.specs.Segment.{Step, is_same_segment}
 use Rattle.qs_spec.specs.Leaf.{Leaf}
 use Rattle.qs_spec.specs.Leaf.Leaf.{NoValue, Null, Text}
 use Rattle.qs_spec.specs.Grammar.{Pair}
+use Rattle.qs_spec.specs.Permutation.{KeepsOrder}
 use Rattle.qs_spec.specs.Tree.{Tree, Items, Entries, IsTree}
 use Rattle.qs_spec.specs.Tree.Tree.{leaf, sequence, mapping, uninitialized}
 use Rattle.qs_spec.specs.Tree.Items.{no_items, item}
@@ -47,27 +47,9 @@ abbrev mutual
   unmarked_entries no_entries = no_entries
   unmarked_entries (entry k mark t es) = entry k false (unmarked t) (unmarked_entries es)
 
--- The second list has the pairs of the first, and keeps the order of every two that meet: the first pair stands behind pairs
--- that it doesn't meet, and without it the rest is such an order of the rest.
-abbrev pub IsReordering : List Pair → List Pair → Type 0
-IsReordering [] qs = qs ≡ []
-IsReordering (p ∷ ps) qs = (front : List Pair) × (back : List Pair) × (qs ≡ front ++ p ∷ back)
-    × AllByRecursion (λ q. IsFalse (meet p q)) front × IsReordering ps (front ++ back)
-
--- The same said by places: each pair of the first list has a place of its own in the second, each place of the second is
--- one's, and of two that meet the one that stood before still does.
-pub record KeepsOrder (ps qs : List Pair) : Type 0 where
-  pub to : ℕ → ℕ
-  pub from : ℕ → ℕ
-  pub there : (i : ℕ) (p : Pair) → slice_get ps i ≡ Some p → slice_get qs (to i) ≡ Some p
-  pub back : (j : ℕ) (q : Pair) → slice_get qs j ≡ Some q → slice_get ps (from j) ≡ Some q
-  pub from_to : (i : ℕ) (p : Pair) → slice_get ps i ≡ Some p → from (to i) ≡ i
-  pub to_from : (j : ℕ) (q : Pair) → slice_get qs j ≡ Some q → to (from j) ≡ j
-  pub keeps : (i j : ℕ) (p q : Pair) → i < j → slice_get ps i ≡ Some p → slice_get ps j ≡ Some q → IsTrue (meet p q) → to i < to j
-
 -- the same pairs but for their marks, in an order that keeps every two that meet
 abbrev pub AreReordered : List Pair → List Pair → Type 0
-AreReordered ps qs = KeepsOrder (map unmarked_pair ps) (map unmarked_pair qs)
+AreReordered ps qs = KeepsOrder meet (map unmarked_pair ps) (map unmarked_pair qs)
 
 -- two inputs have trees that differ at most in marks, or neither has one
 pub record AreAlike (form : Bool) (depth : ℕ) (a b : List ℕ) : Type 0 where

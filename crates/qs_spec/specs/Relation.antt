@@ -1,38 +1,49 @@
--- What a shape reads from a node, as a relation: a rule for each row of the table in docs/QUERYSTRINGS.md, and nothing else.
-use Rattle.std.specs.Prelude.{◌≡◌, ℕ, Bool, true, false, List, [], ◌∷◌, Option, Some, None, IsTrue, IsFalse, ⊤}
+-- What a shape reads from a node: the table of docs/QUERYSTRINGS.md, and below a rule or more for each of its rows.
+--
+-- | shape | node | data |
+-- |---|---|---|
+-- | Unit | null, no value | unit |
+-- | Bool | null, no value | true |
+-- | | with a last text, `true` or `false` | that |
+-- | U8 to U64 | with a last text, of a number in range | the number |
+-- | I8 to I64 | the same, perhaps with a `-` | the number |
+-- | Char | a text of one character | the character |
+-- | Text | null, no value | the empty text |
+-- | | with a last text, in UTF-8 | that |
+-- | Bytes | null, no value | no bytes |
+-- | | with a last text | its bytes |
+-- | Option | no value | none |
+-- | | null | some of what the part reads from no value |
+-- | | any other | some of what the part reads |
+-- | Newtype | any | what the part reads |
+-- | Seq | with items, each at its place | what the part reads from every item |
+-- | Tuple | with as many items at their places, or more | what each part reads from its item |
+-- | Map | null, no value | no pairs |
+-- | | a text | the one pair of the empty key and the text |
+-- | | a map | what the key shape and the part read from each pair, in order |
+-- | Struct, StrictStruct | null, no value | its fields in a map without keys |
+-- | | a map whose keys are allowed | what each field reads from the one value of its name; without one it is left out, or none |
+-- | | a sequence | what each field reads from the item at its place; without one it is left out |
+-- | Enum | a map | what the variant that the first key names reads from its value |
+-- | | a text | the unit variant of that name |
+-- | Any | null | the empty text |
+-- | | no value | unit |
+-- | | a text in UTF-8 | that |
+-- | | a sequence, or a map whose keys are all integers | as Seq of Any |
+-- | | any other map | as Map of Text to Any |
+-- | Ignored | any | unit |
+--
+-- Nothing else is read, and nothing from the uninitialized tree.
+use Rattle.std.specs.Prelude.{◌≡◌, ℕ, Bool, true, false, List, [], ◌∷◌, Option, Some, IsTrue, IsFalse}
 use Rattle.std.specs.Str.{is_utf8}
+use Rattle.qs_spec.specs.Config.{Config, are_refused}
 use Rattle.qs_spec.specs.Segment.{Segment, segment_text}
 use Rattle.qs_spec.specs.Leaf.Leaf.{NoValue, Null, Text}
 use Rattle.qs_spec.specs.Tree.{Tree, Items, Entries}
+use Rattle.qs_spec.specs.Node.{IsThere, IsFull, last, are_ints, items, found, keys_are_allowed, under_empty, as_map}
 use Rattle.qs_spec.specs.Data.{Data, Values, no_values, one_value, Pairs, no_pairs, one_pair, Members, no_members, one_member}
 use Rattle.qs_spec.specs.Shape.{Shape, Shapes, no_shapes, one_shape, Fields, no_fields, one_field, Variants, one_variant, VariantKind, unit_kind, newtype_kind, tuple_kind, struct_kind, UnknownKeys, KeyShape}
 use Rattle.qs_spec.specs.Scalar.{boolean_data, unsigned_data, signed_data, character_data, key_data}
-use Rattle.qs_spec.specs.Read.{last_item, are_ints, items, found, keys_are_allowed, under_empty, as_map}
-
--- the last text of a node: that of a text, or of a sequence's last item, of which `reject_duplicates` allows one alone
-abbrev pub last : Bool → Tree → Option (List ℕ)
-last reject_duplicates (Tree.leaf NoValue) = None
-last reject_duplicates (Tree.leaf Null) = None
-last reject_duplicates (Tree.leaf (Text bytes mark)) = Some bytes
-last reject_duplicates (Tree.sequence xs) = last_item reject_duplicates xs
-last reject_duplicates (Tree.mapping es) = None
-last reject_duplicates Tree.uninitialized = None
-
--- a pair was there
-abbrev pub IsThere : Tree → Type 0
-IsThere (Tree.leaf l) = ⊤
-IsThere (Tree.sequence xs) = ⊤
-IsThere (Tree.mapping es) = ⊤
-IsThere Tree.uninitialized = ⊥
-
--- and it has a value that isn't empty
-abbrev pub IsFull : Tree → Type 0
-IsFull (Tree.leaf NoValue) = ⊥
-IsFull (Tree.leaf Null) = ⊥
-IsFull (Tree.leaf (Text bytes mark)) = ⊤
-IsFull (Tree.sequence xs) = ⊤
-IsFull (Tree.mapping es) = ⊤
-IsFull Tree.uninitialized = ⊥
 
 -- one of the variants has this name and this kind
 pub data HasVariant (name : List ℕ) (kind : VariantKind) : Variants → Type 0 where
@@ -41,41 +52,57 @@ pub data HasVariant (name : List ℕ) (kind : VariantKind) : Variants → Type 0
 
 mutual
   pub data Reads (reject_duplicates : Bool) : Shape → Tree → Data → Type 0 where
+    -- Unit
     unit_null : Reads reject_duplicates Shape.unit (Tree.leaf Null) Data.unit
     unit_no_value : Reads reject_duplicates Shape.unit (Tree.leaf NoValue) Data.unit
+    -- Bool
     boolean_null : Reads reject_duplicates Shape.boolean (Tree.leaf Null) (Data.boolean true)
     boolean_no_value : Reads reject_duplicates Shape.boolean (Tree.leaf NoValue) (Data.boolean true)
     boolean : {n : Tree} {d : Data} {t : List ℕ} → last reject_duplicates n ≡ Some t → boolean_data t ≡ Some d → Reads reject_duplicates Shape.boolean n d
+    -- U8 to U64
     unsigned : {bits : ℕ} {n : Tree} {d : Data} {t : List ℕ} → last reject_duplicates n ≡ Some t → unsigned_data bits t ≡ Some d → Reads reject_duplicates (Shape.unsigned bits) n d
+    -- I8 to I64
     signed : {bits : ℕ} {n : Tree} {d : Data} {t : List ℕ} → last reject_duplicates n ≡ Some t → signed_data bits t ≡ Some d → Reads reject_duplicates (Shape.signed bits) n d
+    -- Char
     character : {t : List ℕ} {mark : Bool} {d : Data} → character_data t ≡ Some d → Reads reject_duplicates Shape.character (Tree.leaf (Text t mark)) d
+    -- Text
     text_null : Reads reject_duplicates Shape.text (Tree.leaf Null) (Data.text [])
     text_no_value : Reads reject_duplicates Shape.text (Tree.leaf NoValue) (Data.text [])
     text : {n : Tree} {t : List ℕ} → last reject_duplicates n ≡ Some t → IsTrue (is_utf8 t) → Reads reject_duplicates Shape.text n (Data.text t)
+    -- Bytes
     bytes_null : Reads reject_duplicates Shape.bytes (Tree.leaf Null) (Data.bytes [])
     bytes_no_value : Reads reject_duplicates Shape.bytes (Tree.leaf NoValue) (Data.bytes [])
     bytes : {n : Tree} {t : List ℕ} → last reject_duplicates n ≡ Some t → Reads reject_duplicates Shape.bytes n (Data.bytes t)
+    -- Option
     option_no_value : {s : Shape} → Reads reject_duplicates (Shape.option s) (Tree.leaf NoValue) Data.none
     option_null : {s : Shape} {d : Data} → Reads reject_duplicates s (Tree.leaf NoValue) d → Reads reject_duplicates (Shape.option s) (Tree.leaf Null) (Data.some d)
     option_full : {s : Shape} {n : Tree} {d : Data} → IsFull n → Reads reject_duplicates s n d → Reads reject_duplicates (Shape.option s) n (Data.some d)
+    -- Newtype
     newtype : {s : Shape} {n : Tree} {d : Data} → Reads reject_duplicates s n d → Reads reject_duplicates (Shape.newtype s) n (Data.newtype d)
+    -- Seq
     sequence : {s : Shape} {n : Tree} {xs : List (Option Tree)} {ds : Values} → items n ≡ Some xs → ReadsEach reject_duplicates s xs ds → Reads reject_duplicates (Shape.sequence s) n (Data.sequence ds)
+    -- Tuple
     tuple : {ss : Shapes} {n : Tree} {xs : List (Option Tree)} {ds : Values} → items n ≡ Some xs → ReadsFirst reject_duplicates ss xs ds → Reads reject_duplicates (Shape.tuple ss) n (Data.tuple ds)
+    -- Map
     map_null : {k : KeyShape} {s : Shape} → Reads reject_duplicates (Shape.mapping k s) (Tree.leaf Null) (Data.mapping no_pairs)
     map_no_value : {k : KeyShape} {s : Shape} → Reads reject_duplicates (Shape.mapping k s) (Tree.leaf NoValue) (Data.mapping no_pairs)
     map_text : {k : KeyShape} {s : Shape} {t : List ℕ} {mark : Bool} {ps : Pairs} → ReadsPairs reject_duplicates k s (under_empty (Tree.leaf (Text t mark))) ps
         → Reads reject_duplicates (Shape.mapping k s) (Tree.leaf (Text t mark)) (Data.mapping ps)
     map : {k : KeyShape} {s : Shape} {es : Entries} {ps : Pairs} → ReadsPairs reject_duplicates k s es ps → Reads reject_duplicates (Shape.mapping k s) (Tree.mapping es) (Data.mapping ps)
+    -- Struct and StrictStruct, as ReadsStruct has it
     struct : {u : UnknownKeys} {fs : Fields} {n : Tree} {ms : Members} → ReadsStruct reject_duplicates u fs n ms → Reads reject_duplicates (Shape.struct u fs) n (Data.struct ms)
-    unit_variant : {vs : Variants} {name : List ℕ} {mark : Bool} → HasVariant name unit_kind vs → Reads reject_duplicates (Shape.enumeration vs) (Tree.leaf (Text name mark)) (Data.unit_variant name)
+    -- Enum
     variant : {vs : Variants} {kind : VariantKind} {key : Segment} {mark : Bool} {n : Tree} {es : Entries} {d : Data} → HasVariant (segment_text key) kind vs → ReadsVariant reject_duplicates kind (segment_text key) n d
         → Reads reject_duplicates (Shape.enumeration vs) (Tree.mapping (Entries.entry key mark n es)) d
+    unit_variant : {vs : Variants} {name : List ℕ} {mark : Bool} → HasVariant name unit_kind vs → Reads reject_duplicates (Shape.enumeration vs) (Tree.leaf (Text name mark)) (Data.unit_variant name)
+    -- Any
     any_null : Reads reject_duplicates Shape.any (Tree.leaf Null) (Data.text [])
     any_no_value : Reads reject_duplicates Shape.any (Tree.leaf NoValue) Data.unit
     any_text : {t : List ℕ} {mark : Bool} → IsTrue (is_utf8 t) → Reads reject_duplicates Shape.any (Tree.leaf (Text t mark)) (Data.text t)
     any_sequence : {xs : Items} {d : Data} → Reads reject_duplicates (Shape.sequence Shape.any) (Tree.sequence xs) d → Reads reject_duplicates Shape.any (Tree.sequence xs) d
     any_places : {es : Entries} {d : Data} → IsTrue (are_ints es) → Reads reject_duplicates (Shape.sequence Shape.any) (Tree.mapping es) d → Reads reject_duplicates Shape.any (Tree.mapping es) d
     any_map : {es : Entries} {d : Data} → IsFalse (are_ints es) → Reads reject_duplicates (Shape.mapping KeyShape.text Shape.any) (Tree.mapping es) d → Reads reject_duplicates Shape.any (Tree.mapping es) d
+    -- Ignored
     ignored : {n : Tree} → IsThere n → Reads reject_duplicates Shape.ignored n Data.unit
 
   -- every item, each of which stands at its place
@@ -123,3 +150,11 @@ mutual
     as_newtype : {s : Shape} {name : List ℕ} {n : Tree} {d : Data} → Reads reject_duplicates s n d → ReadsVariant reject_duplicates (newtype_kind s) name n (Data.newtype_variant name d)
     as_tuple : {ss : Shapes} {name : List ℕ} {n : Tree} {xs : List (Option Tree)} {ds : Values} → items n ≡ Some xs → ReadsFirst reject_duplicates ss xs ds → ReadsVariant reject_duplicates (tuple_kind ss) name n (Data.tuple_variant name ds)
     as_struct : {u : UnknownKeys} {fs : Fields} {name : List ℕ} {n : Tree} {ms : Members} → ReadsStruct reject_duplicates u fs (as_map n) ms → ReadsVariant reject_duplicates (struct_kind u fs) name n (Data.struct_variant name ms)
+
+-- the same under a configuration
+abbrev pub ReadsBy : Config → Shape → Tree → Data → Type 0
+ReadsBy config shape tree d = Reads (are_refused config.duplicates) shape tree d
+
+-- no data is read
+abbrev pub ReadsNothing : Config → Shape → Tree → Type 0
+ReadsNothing config shape tree = (d : Data) → ReadsBy config shape tree d → ⊥

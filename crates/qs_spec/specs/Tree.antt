@@ -1,5 +1,5 @@
 -- The tree of an input: each node by the history of its own path.
-use Rattle.std.specs.Prelude.{◌≡◌, ℕ, zero, suc, max, Bool, false, List, [], ◌∷◌, ◌++◌, length, IsTrue, if◌then◌else◌}
+use Rattle.std.specs.Prelude.{◌≡◌, ℕ, zero, suc, max, Bool, true, false, List, [], ◌∷◌, ◌++◌, length, IsTrue, if◌then◌else◌}
 use Rattle.std.specs.List.{list_any}
 use Rattle.std.specs.declared.cmp.Ordering.{Ordering}
 use Rattle.std.specs.declared.cmp.Ordering.TheVariants.{Less, Equal, Greater}
@@ -47,17 +47,19 @@ flat [] = uninitialized
 flat (plain l ∷ []) = leaf l
 flat h = sequence (leaf_items (leaves_in h))
 
--- a plain leaf at a map stands under the empty text
+-- A plain leaf at a map stands under the empty text, where nothing else does, since no path of an input holds that text. A push is permitted
+-- at no map.
 abbrev pub empty_step : Step
 empty_step = record { seg = Str []; mark = false }
 
-abbrev pub filled_path : List Step → List Step
-filled_path [] = empty_step ∷ []
-filled_path (s ∷ path) = s ∷ path
+abbrev pub filled_path : List Step → (pushed : Bool) → List Step
+filled_path (s ∷ path) pushed = s ∷ path
+filled_path [] true = []
+filled_path [] false = empty_step ∷ []
 
 abbrev pub filled : List Pair → List Pair
 filled [] = []
-filled (p ∷ ps) = record p { path = filled_path p.path } ∷ filled ps
+filled (p ∷ ps) = record p { path = filled_path p.path p.push } ∷ filled ps
 
 -- the segments that come first, each once, in order
 abbrev pub put_by : Ordering → Segment → Segment → List Segment → List Segment → List Segment
@@ -111,7 +113,7 @@ pub record Splits (form : Bool) (depth : ℕ) (bytes : List ℕ) (pairs : List P
   pub grammar : ArePairs depth (tokens form bytes) pairs
   pub histories : (path : List Segment) → IsTrue (permitted (events pairs path))
 
--- the tree of an input; an input that no tree stands for is refused
+-- the tree of an input; an input that no tree stands for is rejected
 abbrev pub IsTree : Bool → ℕ → List ℕ → Tree → Type 0
 IsTree form depth [] tree = tree ≡ leaf NoValue
 IsTree form depth (b ∷ bytes) tree = (pairs : List Pair) × Splits form depth (b ∷ bytes) pairs × (tree ≡ node pairs)

@@ -6,7 +6,7 @@ use Rattle.qs_spec.specs.Leaf.{Leaf}
 use Rattle.qs_spec.specs.Tree.{Tree, Items, Entries, IsTree, IsRefused}
 use Rattle.qs_spec.specs.Shape.{Shape, no_fields, one_field, UnknownKeys}
 use Rattle.qs_spec.specs.Data.{Data, pairs_of, members_of}
-use Rattle.qs_spec.specs.Read.{read_by}
+use Rattle.qs_spec.specs.Relation.{ReadsBy, ReadsNothing}
 use Rattle.qs_spec.specs.Entry.{Refusal, entries}
 use Rattle.qs_spec.specs.Written.{written}
 use Rattle.qs_spec.specs.Stable.{is_stable}
@@ -42,11 +42,16 @@ one_member name d = Data.struct (members_of ((name, d) ∷ []))
 abbrev pub one_pair : List ℕ → Data → Data
 one_pair key d = Data.mapping (pairs_of ((Data.text key, d) ∷ []))
 
+-- this is what the shape reads from the tree, or it reads nothing
+abbrev pub ReadsOrNothing : Config → Shape → Tree → Option Data → Type 0
+ReadsOrNothing config shape tree None = ReadsNothing config shape tree
+ReadsOrNothing config shape tree (Some d) = ReadsBy config shape tree d
+
 -- the input has a tree, and this is what the shape reads from it
 pub record IsRead (config : Config) (shape : Shape) (input : List ℕ) (answer : Option Data) : Type 0 where
   pub tree : Tree
   pub is_tree : IsTree config.form config.max_depth input tree
-  pub reads : read_by config shape tree ≡ answer
+  pub reads : ReadsOrNothing config shape tree answer
 
 -- the text of the entries up to the first refusal, and that refusal if there is one
 pub record IsWritten (config : Config) (d : Data) (text : List ℕ) (refusal : Option Refusal) : Type 0 where
@@ -67,6 +72,6 @@ IsTreeOrNone config input (Some tree) = IsTree config.form config.max_depth inpu
 pub record IsUnstable (config : Config) (input : List ℕ) (tree : Tree) (d : Data) (text : List ℕ) (other : Option Tree) : Type 0 where
   pub is_tree : IsTree config.form config.max_depth input tree
   pub unstable : is_stable config.form tree ≡ false
-  pub reads : read_by config Shape.any tree ≡ Some d
+  pub reads : ReadsBy config Shape.any tree d
   pub written : IsWritten config d text None
   pub again : IsTreeOrNone config text other

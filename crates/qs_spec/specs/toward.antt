@@ -1,4 +1,5 @@
 pub mod InPlace
+pub mod ReadFunction
 pub mod Reading
 pub mod Entries
 pub mod Keys

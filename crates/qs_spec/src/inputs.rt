@@ -8,7 +8,7 @@ ghost use Rattle.qs_spec.specs.Tree.Tree.{leaf, mapping, uninitialized};
 ghost use Rattle.qs_spec.specs.Tree.Entries.{entry, no_entries};
 ghost use Rattle.qs_spec.specs.Worked.{text, texts, at_text, only};
 
-/// Segments nest up to the limit; behind it all brackets are one last key.
+/// Segments nest up to the limit; after it all brackets are one last key.
 pub fn deep_keys()
     ensures last_key { IsTree false 5 (codes "a[b][c][d][e][f][g][h]=i")
         (only (codes "a") (only (codes "b") (only (codes "c") (only (codes "d") (only (codes "e") (only (codes "f") (only (codes "[g][h]") (text (codes "i"))))))))) }

@@ -9,7 +9,7 @@ ghost use Rattle.qs_spec.specs.Leaf.{value_leaf, leaf_text};
 ghost use Rattle.qs_spec.specs.Leaf.Leaf.{Text};
 ghost use Rattle.qs_spec.specs.Escape.{is_marked};
 ghost use Rattle.qs_spec.specs.Tree.{Tree, Entries, IsTree};
-ghost use Rattle.qs_spec.specs.Read.{found};
+ghost use Rattle.qs_spec.specs.Node.{found};
 ghost use Rattle.qs_spec.specs.Scalar.{is_numeral};
 ghost use Rattle.qs_spec.specs.toward.Keys.{written_segment, has_leading_zero, printed_index, lookup, lookup_index, list_of, AreAscending, IsAscending};
 

@@ -1,11 +1,12 @@
 // Worked losses: data that are read back as others, each for want of one premise.
 
 ghost use Rattle.std.specs.Prelude.{◌≡◌, codes, decimal, [], ◌∷◌, Some, None, true, false, pos};
-ghost use Rattle.qs_spec.specs.Config.{default, unindexed};
+ghost use Rattle.qs_spec.specs.Config.{default, empty_indexed, unindexed};
 ghost use Rattle.qs_spec.specs.Escape.{encoded};
 ghost use Rattle.qs_spec.specs.Segment.{segment_of};
 ghost use Rattle.qs_spec.specs.Segment.Segment.{Int, Str};
 ghost use Rattle.qs_spec.specs.Leaf.Leaf.{NoValue, Null};
+ghost use Rattle.qs_spec.specs.Tree.{IsRefused};
 ghost use Rattle.qs_spec.specs.Tree.Tree.{leaf, mapping};
 ghost use Rattle.qs_spec.specs.Tree.Entries.{entry, no_entries};
 ghost use Rattle.qs_spec.specs.Stable.{is_stable};
@@ -45,12 +46,17 @@ pub fn not_fitting_is_lost()
     ensures any { IsReadAs default Shape.any (Data.unsigned 1) (codes "=1") (Some (Data.text (codes "1"))) }
 {}
 
-/// Where no index is written, a list without a path is read as other data, a list of lists loses how they were grouped, and without
-/// brackets a list of one empty text is an empty one.
+/// Where no index is written, a list without a path is read as other data, a list of lists loses how they were grouped or has no
+/// tree, the elements of a list come in the order of their entries, and without brackets a list of one empty text is an empty one.
 pub fn lists_without_indices()
     ensures at_the_top { IsReadAs (record default { array_format = unindexed }) (Shape.sequence (Shape.unsigned 8)) (Data.sequence (values_of (Data.unsigned 1 ∷ Data.unsigned 2 ∷ []))) (codes "=1=2") None }
     ensures lists_in_a_list { IsReadAs (record default { array_format = unindexed }) (field (codes "v") (Shape.sequence (Shape.sequence (Shape.unsigned 8)))) (one_member (codes "v") (Data.sequence (values_of (Data.sequence (values_of (Data.unsigned 1 ∷ Data.unsigned 2 ∷ [])) ∷ [])))) (codes "v=1&v=2") (Some (one_member (codes "v") (Data.sequence (values_of (Data.sequence (values_of (Data.unsigned 1 ∷ [])) ∷ Data.sequence (values_of (Data.unsigned 2 ∷ [])) ∷ []))))) }
     ensures one_empty_text { IsReadAs (record default { array_format = unindexed }) (field (codes "v") (Shape.sequence Shape.text)) (one_member (codes "v") (Data.sequence (values_of (Data.text [] ∷ [])))) (codes "v=") (Some (one_member (codes "v") (Data.sequence (values_of [])))) }
+    ensures one_empty_byte_string { IsReadAs (record default { array_format = unindexed }) (field (codes "v") (Shape.sequence Shape.bytes)) (one_member (codes "v") (Data.sequence (values_of (Data.bytes [] ∷ [])))) (codes "v=") (Some (one_member (codes "v") (Data.sequence (values_of [])))) }
+    ensures at_the_top_in_brackets { IsReadAs (record default { array_format = empty_indexed }) (Shape.sequence Shape.text) (Data.sequence (values_of (Data.text [] ∷ []))) (codes "=") (Some (Data.sequence (values_of []))) }
+    ensures lists_in_brackets { IsWritten (record default { array_format = empty_indexed }) (one_member (codes "v") (Data.sequence (values_of (Data.sequence (values_of (Data.unsigned 1 ∷ Data.unsigned 2 ∷ [])) ∷ [])))) (codes "v[][]=1&v[][]=2") None
+        × IsRefused false 5 (codes "v[][]=1&v[][]=2") }
+    ensures other_order { IsRead default (field (codes "v") (Shape.sequence (Shape.unsigned 8))) (codes "v[]=2&v[]=1") (Some (one_member (codes "v") (Data.sequence (values_of (Data.unsigned 2 ∷ Data.unsigned 1 ∷ []))))) }
 {}
 
 /// What `any` reads from a tree that isn't stable is written as another: a key without `=` has one; several values of a key have

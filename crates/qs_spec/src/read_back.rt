@@ -1,6 +1,6 @@
 // Laws of reading back what was written.
 
-ghost use Rattle.std.specs.Prelude.{codes, [], ◌∷◌, ◌≡◌, ℕ, List, true, false, Some, None};
+ghost use Rattle.std.specs.Prelude.{codes, [], ◌∷◌, ◌≡◌, ℕ, List, true, false, None};
 ghost use Rattle.std.specs.List.Sorted.{IsPermutation};
 ghost use Rattle.qs_spec.specs.Config.{Config, default};
 ghost use Rattle.qs_spec.specs.Config.ArrayFormat.{indexed};
@@ -14,7 +14,7 @@ ghost use Rattle.qs_spec.specs.Listed.{is_listed};
 ghost use Rattle.qs_spec.specs.Same.{Same};
 ghost use Rattle.qs_spec.specs.Tree.{Tree, IsTree};
 ghost use Rattle.qs_spec.specs.Stable.{is_stable};
-ghost use Rattle.qs_spec.specs.Read.{read_by};
+ghost use Rattle.qs_spec.specs.Relation.{ReadsBy};
 ghost use Rattle.qs_spec.specs.Order.{AreAlike};
 ghost use Rattle.qs_spec.specs.ReadBack.{IsPlainFor, IsReadBack, ArePathsApart, KeepsPaths, KeepsPlaces};
 
@@ -43,7 +43,7 @@ pub fn writing_loses_nothing()
 /// marks aside, from its entries in any order.
 pub fn stable_trees_come_back()
     ensures { (config : Config) (input : List ℕ) (t : Tree) (d : Data) (es : List Entry) → config.array_format ≡ indexed → IsTree config.form config.max_depth input t → is_stable config.form t ≡ true
-        → read_by config Shape.any t ≡ Some d → (entries config d).refusal ≡ None → IsPermutation (entries config d).entries es → AreAlike config.form config.max_depth input (written config.form false es) }
+        → ReadsBy config Shape.any t d → (entries config d).refusal ≡ None → IsPermutation (entries config d).entries es → AreAlike config.form config.max_depth input (written config.form false es) }
 {}
 
 /// In the indexed format no entry of such data has the path of another, or one that begins it.

@@ -16,7 +16,7 @@ pub fn flags()
     ensures twice_where_refused { IsRead (record default { duplicates = refuse }) (field (codes "flag") Shape.boolean) (codes "flag&flag") None }
 {}
 
-/// An option is none where its key stands alone or is missing, and some of the empty text where nothing stands behind `=`.
+/// An option is none where its key stands alone or is missing, and some of the empty text where nothing follows `=`.
 pub fn options()
     ensures key_alone { IsRead default (field (codes "a") (Shape.option Shape.text)) (codes "a") (Some (one_member (codes "a") Data.none)) }
     ensures nothing_behind { IsRead default (field (codes "a") (Shape.option Shape.text)) (codes "a=") (Some (one_member (codes "a") (Data.some (Data.text [])))) }
@@ -26,7 +26,7 @@ pub fn options()
     ensures some_of_a_sequence { IsRead default (field (codes "a") (Shape.option Shape.text)) (codes "a&a=x") (Some (one_member (codes "a") (Data.some (Data.text (codes "x"))))) }
 {}
 
-/// A field is found by the text of its key: twice is refused, other keys are ignored where they are texts, and an optional field is left out.
+/// A field is found by the text of its key: twice is rejected, other keys are ignored where they are texts, and an optional field is left out.
 pub fn fields_by_name()
     ensures index { IsRead default (field (codes "1") Shape.text) (codes "1=a") (Some (one_member (codes "1") (Data.text (codes "a")))) }
     ensures index_and_text { IsRead default (field (codes "1") Shape.text) (codes "1=a&%31=b") None }
@@ -63,7 +63,7 @@ pub fn unknown_keys()
         (Some (one_member (codes "e") (Data.struct_variant (codes "c") (members_of (([], Data.text (codes "v")) ∷ []))))) }
 {}
 
-/// A scalar is the last of several values, or they are refused.
+/// A scalar is the last of several values, or they are rejected.
 pub fn last_of_several()
     ensures last { IsRead default (field (codes "f") Shape.text) (codes "f=a&f=b") (Some (one_member (codes "f") (Data.text (codes "b")))) }
     ensures refused { IsRead (record default { duplicates = refuse }) (field (codes "f") Shape.text) (codes "f=a&f=b") None }
@@ -83,7 +83,7 @@ pub fn items_by_place()
     ensures a_text { IsRead default (field (codes "v") (Shape.sequence (Shape.unsigned 8))) (codes "v=7") (Some (one_member (codes "v") (Data.sequence (values_of (Data.unsigned 7 ∷ []))))) }
 {}
 
-/// The least key of a map names the variant, whatever stands first in the input.
+/// The smallest key of a map names the variant, whatever stands first in the input.
 pub fn least_key_names_the_variant()
     ensures { IsRead default (field (codes "e") (Shape.enumeration (one_variant (codes "A") (newtype_kind Shape.text) (one_variant (codes "B") (newtype_kind (Shape.unsigned 8)) no_variants)))) (codes "e[B]=1&e[A]=x")
         (Some (one_member (codes "e") (Data.newtype_variant (codes "A") (Data.text (codes "x"))))) }

@@ -6,7 +6,7 @@ ghost use Rattle.qs_spec.specs.Data.{Data, values_of, pairs_of, members_of};
 ghost use Rattle.qs_spec.specs.Entry.{too_deep, bad_key};
 ghost use Rattle.qs_spec.specs.Worked.{one_member, IsWritten};
 
-/// What is nested deeper than the limit is refused, and the entries before it are written.
+/// What is nested deeper than the limit is rejected, and the entries before it are written.
 pub fn depth_limit()
     ensures within { IsWritten (record default { max_depth = 2 })
         (Data.struct (members_of ((codes "a", Data.unsigned 1) ∷ (codes "b", Data.sequence (values_of (Data.unsigned 2 ∷ Data.unsigned 3 ∷ []))) ∷ (codes "c", Data.sequence (values_of (Data.sequence (values_of (Data.unsigned 4 ∷ [])) ∷ []))) ∷ [])))
@@ -35,7 +35,7 @@ pub fn variants()
     ensures struct_variant { IsWritten default (one_member (codes "e") (Data.struct_variant (codes "c") (members_of ((codes "x", Data.unsigned 2) ∷ (codes "y", Data.unsigned 3) ∷ [])))) (codes "e[c][x]=2&e[c][y]=3") None }
 {}
 
-/// None is a key without a value, and an empty list one with nothing behind `=`.
+/// None is a key without a value, and an empty list one with nothing after `=`.
 pub fn optional_values()
     ensures none { IsWritten default (one_member (codes "vec") Data.none) (codes "vec") None }
     ensures some { IsWritten default (one_member (codes "vec") (Data.some (Data.sequence (values_of (Data.unsigned 1 ∷ Data.unsigned 2 ∷ []))))) (codes "vec[0]=1&vec[1]=2") None }

@@ -14,7 +14,7 @@ pub fn one_reading()
     ensures tree { (form : Bool) (depth : ℕ) (bytes : List ℕ) (t u : Tree) → IsTree form depth bytes t → IsTree form depth bytes u → t ≡ u }
 {}
 
-/// Adding the pairs to one tree in place, one after another, gives the tree by histories, and is refused where there is none.
+/// Adding the pairs to one tree in place, one after another, gives the tree by histories, and is rejected where there is none.
 pub fn in_place()
     ensures { (form : Bool) (depth b : ℕ) (bytes : List ℕ) (ps : List Pair) (t : Tree) → ArePairs depth (tokens form (b ∷ bytes)) ps
         → ((add_all ps uninitialized ≡ Some t) ↔ IsTree form depth (b ∷ bytes) t) }

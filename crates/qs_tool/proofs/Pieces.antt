@@ -11,7 +11,7 @@ use Rattle.qs_tool.specs.declared.showing.Piece.{Piece}
 use Rattle.qs_tool.specs.Shown.{listed}
 use Rattle.qs_tool.specs.Pieces.{behind_commas, before, piece_text, text_of_pile, Begins}
 
--- the first text stands behind no comma
+-- the first text follows no comma
 listed_first : (t : List ℕ) (ts : List (List ℕ)) → listed (t ∷ ts) ≡ t ++ behind_commas ts
 listed_first t [] = search (rules)
 listed_first t (u ∷ ts) = ap (λ rest. t ++ (codes "," ++ rest)) (listed_first u ts)

@@ -1,15 +1,16 @@
 -- Which error tells of which refusal.
-use Rattle.std.proofs.Common.{◌≡◌, ℕ, Bool, false, Option, None, Some, Result, Ok, Err, refl}
-use Rattle.qs_spec.specs.Data.{Data}
+use Rattle.std.proofs.Common.{◌≡◌, ℕ, false, Option, Some, Result, Ok, Err, refl}
+use Rattle.qs_spec.specs.Shape.{Shape}
+use Rattle.qs_spec.specs.Relation.{ReadsNothing}
 use Rattle.qs_spec.specs.Entry.{Refusal, too_deep, bad_key}
 use Rattle.qs_tree.specs.declared.error.Error.{Error}
 use Rattle.qs_tree.specs.declared.error.Error.TheVariants.{Custom, MaxSerializationDepthExceeded, Parse, Unsupported, FromUtf8, Io, ParseInt, Utf8, OutOfMemory, Failed}
 use Rattle.qs_tree.specs.Error.{IsFailed, IsTooDeep, IsUnsupported, OnlyOutOfMemory}
 use Rattle.qs_data.specs.Writes.{IsWriteError}
-use Rattle.qs_data.specs.Gives.{Refuses}
+use Rattle.qs_data.specs.Parsed.{Parsed, ReturnsData}
 use Rattle.qs_tool.specs.Fault.{is_memory, IfFault}
 
--- a serializer that hadn't failed tells of a refusal, or that memory was refused
+-- a serializer that hadn't failed tells of a refusal, or that memory ran out
 pub refusal_told : (e : Error) (depth : ℕ) (r : Option Refusal) → IsWriteError {T = Unit {0}} (Err e) → (IsFailed {T = Unit {0}} (Err e) → ⊥)
     → ((n : ℕ) → IsTooDeep {T = Unit {0}} (Err e) n → (n ≡ depth) × (r ≡ Some too_deep)) → (IsUnsupported {T = Unit {0}} (Err e) → r ≡ Some bad_key)
     → is_memory e ≡ false → (refusal : Refusal) × (r ≡ Some refusal)
@@ -24,25 +25,25 @@ refusal_told (Utf8 cause) depth r told fresh deep key other = absurd told
 refusal_told OutOfMemory depth r told fresh deep key other = cc
 refusal_told Failed depth r told fresh deep key other = absurd (fresh tt)
 
--- a reader that answered an error has nothing to answer, or memory was refused
-pub reading_told : (e : Error) (all_text : Bool) (r : Option Data) → Refuses all_text e r → is_memory e ≡ false → r ≡ None
-reading_told (Custom message) all_text r told other = told
-reading_told (MaxSerializationDepthExceeded n) all_text r told other = absurd told
-reading_told (Parse message position) all_text r told other = absurd told
-reading_told Unsupported all_text r told other = absurd told
-reading_told (FromUtf8 cause) all_text r told other = absurd told
-reading_told (Io cause) all_text r told other = absurd told
-reading_told (ParseInt cause) all_text r told other = absurd told
-reading_told (Utf8 cause) all_text r told other = told.0
-reading_told OutOfMemory all_text r told other = cc
-reading_told Failed all_text r told other = absurd told
+-- a reader that returned an error reads nothing, or memory ran out
+pub reading_told : (parsed : Parsed) (shape : Shape) (e : Error) → ReturnsData parsed shape (Err e) → is_memory e ≡ false → ReadsNothing parsed.config shape parsed.tree
+reading_told parsed shape (Custom message) told other = told
+reading_told parsed shape (MaxSerializationDepthExceeded n) told other = absurd told
+reading_told parsed shape (Parse message position) told other = absurd told
+reading_told parsed shape Unsupported told other = absurd told
+reading_told parsed shape (FromUtf8 cause) told other = absurd told
+reading_told parsed shape (Io cause) told other = absurd told
+reading_told parsed shape (ParseInt cause) told other = absurd told
+reading_told parsed shape (Utf8 cause) told other = told.0
+reading_told parsed shape OutOfMemory told other = cc
+reading_told parsed shape Failed told other = absurd told
 
--- what holds where a fault was answered may be put in other words
+-- what holds where a fault was returned may be put in other words
 pub fault_is : {T : Type 0} (r : Result T Error) {P Q : Type 0} → (P → Q) → IfFault r P → IfFault r Q
 fault_is (Ok x) f h = tt
 fault_is (Err e) f h = λ other. f (h other)
 
--- an error that is only that memory was refused tells of no fault
+-- an error that is only that memory ran out tells of no fault
 pub no_fault : {T : Type 0} (r : Result T Error) (P : Type 0) → OnlyOutOfMemory r → IfFault r P
 no_fault (Ok x) P only = tt
 no_fault (Err (Custom message)) P only = absurd only

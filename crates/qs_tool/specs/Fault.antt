@@ -3,13 +3,13 @@ use Rattle.std.specs.Prelude.{◌≡◌, Bool, true, false, ⊤, Result, Ok, Err
 use Rattle.qs_tree.specs.declared.error.Error.{Error}
 use Rattle.qs_tree.specs.declared.error.Error.TheVariants.{Io, OutOfMemory}
 
--- the error is that memory was refused, a growth or a write to memory, which tells nothing of the input
+-- the error is that memory ran out, on an allocation or a write to memory, which says nothing of the input
 abbrev pub is_memory : Error → Bool
 is_memory (Io cause) = true
 is_memory OutOfMemory = true
 is_memory _ = false
 
--- where the call answered another error, this holds
+-- where the call returned another error, this holds
 abbrev pub IfFault : {T : Type 0} → Result T Error → Type 0 → Type 0
 IfFault (Ok x) P = ⊤
 IfFault (Err e) P = is_memory e ≡ false → P

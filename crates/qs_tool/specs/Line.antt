@@ -4,7 +4,7 @@ use Rattle.std.specs.Io.KnownBytes.{IsAtEnd}
 use Rattle.qs_spec.specs.Config.{Config}
 use Rattle.qs_spec.specs.Data.{Data}
 use Rattle.qs_spec.specs.Tree.{Tree, IsTree, IsRefused}
-use Rattle.qs_spec.specs.Read.{read_by}
+use Rattle.qs_spec.specs.Relation.{ReadsBy, ReadsNothing}
 use Rattle.qs_spec.specs.Entry.{Refusal, entries}
 use Rattle.qs_spec.specs.Written.{written}
 use Rattle.qs_tree.specs.declared.error.Error.{Error}
@@ -41,7 +41,7 @@ abbrev pub unless_refused : Option Refusal → List ℕ → Option (List ℕ)
 unless_refused None text = Some text
 unless_refused (Some refusal) text = None
 
--- the querystring that the data are written as, unless they are refused
+-- the querystring that the data are written as, unless they are rejected
 abbrev pub rewritten : Config → Data → Option (List ℕ)
 rewritten config value = unless_refused (entries config value).refusal (written config.form false (entries config value).entries)
 
@@ -56,16 +56,16 @@ pub record IsPrinted (request : Request) (input text : List ℕ) : Type 0 where
   pub tree : Tree
   pub value : Data
   pub has_tree : IsTree request.config.form request.config.max_depth input tree
-  pub is_read : read_by request.config (shape_for request.command request.strict) tree ≡ Some value
+  pub is_read : ReadsBy request.config (shape_for request.command request.strict) tree value
   pub is_text : printed request.command request.config value ≡ Some text
 
 -- the input has no tree, or the command's shape reads nothing from it, or what it reads isn't printed
 pub data IsFaulty (request : Request) (input : List ℕ) : Type 0 where
   no_tree : IsRefused request.config.form request.config.max_depth input → IsFaulty request input
   not_read : (tree : Tree) → IsTree request.config.form request.config.max_depth input tree
-      → read_by request.config (shape_for request.command request.strict) tree ≡ None → IsFaulty request input
+      → ReadsNothing request.config (shape_for request.command request.strict) tree → IsFaulty request input
   not_printed : (tree : Tree) (value : Data) → IsTree request.config.form request.config.max_depth input tree
-      → read_by request.config (shape_for request.command request.strict) tree ≡ Some value
+      → ReadsBy request.config (shape_for request.command request.strict) tree value
       → printed request.command request.config value ≡ None → IsFaulty request input
 
 -- what is printed, with status 0, or an error, with status 1
@@ -83,7 +83,7 @@ IsLineOf (Some request) input line status = IsAnswer request (without_newline in
 abbrev pub IsLine : List Word → List ℕ → List ℕ → ℕ → Type 0
 IsLine words input line status = IsLineOf (asked words) input line status
 
--- so many bytes of a line that a run writes and then ends with status 3: of the line that says that memory was refused, or of the right one, which isn't
+-- so many bytes of a line that a run writes and then ends with status 3: of the line that says that memory ran out, or of the right one, which isn't
 -- written whole, and is only begun where the input was read to its end or not asked for
 abbrev pub IsBegun : List Word → List ℕ → Option (List ℕ) → List ℕ → ℕ → Type 0
 IsBegun words input left line n =

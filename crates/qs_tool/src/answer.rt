@@ -48,7 +48,7 @@ fn answer_to(alloc: Global, request: Request, input: &[u8]) -> Result<Answer, Al
     }
 }
 
-/// Whether the error is that memory was refused: a growth, or a write to memory, which fails for no other reason.
+/// Whether the error is that memory ran out: an allocation failed, or a write to memory, which fails for no other reason.
 fn is_memory(error: &Error) -> bool
     ensures { result ≡ is_memory error.now }
 {

@@ -4,9 +4,8 @@ ghost use Rattle.std.specs.Prelude.{◌≡◌, Some, None, IfOk, true};
 ghost use Rattle.qs_spec.specs.Shape.{is_distinct};
 ghost use Rattle.qs_spec.specs.Tree.{IsTree, IsRefused};
 ghost use Rattle.qs_tree.specs.Error.{IsParse, OnlyOutOfMemory, OnlyParseOrOutOfMemory};
-ghost use Rattle.qs_data.specs.Gives.{Gives, OnlyCustomUtf8OrOutOfMemory};
-ghost use Rattle.qs_data.specs.Parsed.{parsed_of, reading};
-ghost use Rattle.qs_data.specs.Text.{is_text};
+ghost use Rattle.qs_data.specs.Gives.{OnlyCustomUtf8OrOutOfMemory};
+ghost use Rattle.qs_data.specs.Parsed.{ReturnsData, parsed_of};
 ghost use Rattle.qs_data.specs.Views.{data_of, shape_of};
 ghost use Rattle.qs_tool.specs.Fault.{IfFault};
 ghost use Rattle.qs_tool.specs.Line.{IsFaulty, IsPrinted, printed, rewritten};
@@ -18,7 +17,7 @@ use crate::showing::show;
 use serde_qs::{Config, Data, Deserializer, Result, Serializer, Shape};
 use std::alloc::Global;
 
-/// What is printed of the input, or why it is refused.
+/// What is printed of the input, or why it is rejected.
 pub fn printed(alloc: Global, request: Request, input: &[u8]) -> Result<Vec<u8>>
     ensures text { IfOk result (λ text. IsPrinted request input.now text.items) }
     ensures fault { IfFault result (IsFaulty request input.now) }
@@ -44,7 +43,7 @@ fn parsed<'qs>(alloc: Global, config: Config, input: &'qs [u8]) -> Result<Deseri
 // The data that a shape reads, with what is asked of that here.
 fn read_data(alloc: Global, deserializer: Deserializer<'_>, shape: &Shape) -> Result<Data>
     requires { is_distinct (shape_of shape.now) ≡ true }
-    ensures exact { Gives data_of (is_text (parsed_of deserializer.entry).tree) result (reading (parsed_of deserializer.entry) (shape_of shape.now)) }
+    ensures exact { ReturnsData (parsed_of deserializer.entry) (shape_of shape.now) result }
     ensures errors { OnlyCustomUtf8OrOutOfMemory result }
 {
     deserializer.read(alloc, shape)

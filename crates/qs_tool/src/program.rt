@@ -15,17 +15,17 @@ use std::io::{Read, Write};
 const USAGE: &str =
     "usage: qs_tool flat|params|any [--form] [--strict] [--depth N] [--format indexed|empty|unindexed] [--duplicates last|error]\n";
 
-/// What is written where a growth was refused.
+/// What is written where an allocation failed.
 const NO_MEMORY: &str = "error: out of memory\n";
 
-/// Runs the program with these arguments: reads the input to its end, writes one line, and answers the status.
+/// Runs the program with these arguments: reads the input to its end, writes one line, and returns the status.
 ///
 /// | status | line |
 /// |---|---|
 /// | 0 | what was read, written again, or shown by the command `any` |
-/// | 1 | `error: ` and why the input was refused |
+/// | 1 | `error: ` and why the input was rejected |
 /// | 2 | how the program is called; nothing was read |
-/// | 3 | memory was refused, with a line that says so where it can be written, or a read or a write failed |
+/// | 3 | memory ran out, with a line that says so where it can be written, or a read or a write failed |
 ///
 /// The input is read by at most 1,000,000 reads of 8,192 bytes; where none of them was the end, that is a failed read. One final
 /// newline is no part of it. The line is written by one `write` after another, and none is repeated: one that fails, is
@@ -52,7 +52,7 @@ pub fn run<R: Read, W: Write>(alloc: Global, args: &[String], reader: &mut R, wr
     }
 }
 
-/// Writes the line, and answers the status, or 3 where the line was not taken whole.
+/// Writes the line, and returns the status, or 3 where the line was not taken whole.
 pub fn finish<W: Write>(writer: &mut W, line: &[u8], status: u8) -> u8
     ensures done { result ≢ 3 → (result ≡ status) × Appends (W.contents writer.old) (W.contents writer.new) line.now }
     ensures cut { status ≢ 3 → result ≡ 3 → (n : ℕ) × (n < length line.now) × Appends (W.contents writer.old) (W.contents writer.new) (take n line.now) }

@@ -17,11 +17,11 @@ use std::alloc::Global;
 enum Piece<'d> {
     /// The data.
     Datum(&'d Data),
-    /// The items that are left of a list, each behind a comma, and the bracket that closes it.
+    /// The items that are left of a list, each after a comma, and the bracket that closes it.
     Items(&'d [Data]),
-    /// The value of a pair, behind a colon.
+    /// The value of a pair, after a colon.
     Value(&'d Data),
-    /// The pairs that are left of a map, each behind a comma, and the brace that closes it.
+    /// The pairs that are left of a map, each after a comma, and the brace that closes it.
     Pairs(&'d [(Data, Data)]),
 }
 

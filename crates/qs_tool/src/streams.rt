@@ -15,7 +15,7 @@ const READ_SIZE: usize = 8192;
 /// Why a run ends without its line.
 #[derive(Debug, PartialEq, Eq, Drop)]
 pub enum Stop {
-    /// A growth was refused.
+    /// An allocation failed.
     OutOfMemory,
     /// A read or a write failed or was interrupted, a write took nothing, or no read was the end.
     Stream,

@@ -1,4 +1,4 @@
--- What stands behind a key, by the raw bytes of runs.
+-- What follows a key, by the raw bytes of runs.
 use Rattle.std.proofs.Common.{◌≡◌, ℕ, zero, suc, ◌-◌, Bool, true, false, cond, ◌&&◌, List, [], ◌∷◌, ◌++◌, length, take, drop, refl, sym, ap, ap₂, ◌∙◌, subst, arith, Option, Some, None, Result, length-append, ◌==◌, ◌<◌, ◌⊎◌, ⊎_elim}
 use Rattle.std.proofs.Math.Seq.{take-append_seam}
 use Rattle.std.proofs.lemmas.List.{drop_at, map-append}
@@ -19,7 +19,7 @@ use Rattle.qs_tree.specs.Pairs.{path_of}
 use Rattle.qs_tree.specs.Cursor.{kind_of_token, token_of, behind, left, taken, IsLeft, IsPast}
 use Rattle.qs_tree.specs.Reading.{IsClosing, StandsBehind, ReadsPair, root_path, behind_root, behind_root_at}
 
--- what is left behind some bytes
+-- what is left after some bytes
 pub left_behind : (start front rest : List ℕ) → start ≡ front ++ rest → IsLeft start rest
 left_behind start front rest e =
     let n : length start - length rest ≡ length front = omega (arith, ap length e, length-append front rest) in
@@ -73,7 +73,7 @@ pub last_found : (path : List Step) (bracket raw : List ℕ) (t : Token) (ts sto
 last_found path bracket raw t ts stop other e s =
     ap (λ x. in_last x path bracket t ts) other ∙ ap₂ (λ r u. with_leaf (plain (longer path r)) (read_value u)) (sym e) s
 
--- behind a bracket: the end, a push, or a segment
+-- after a bracket: the end, a push, or a segment
 pub end_found : (room : ℕ) (path : List Step) (bracket : List ℕ) → read_brackets room path bracket [] ≡ None
 end_found zero path bracket = refl
 end_found (suc room) path bracket = refl
@@ -101,7 +101,7 @@ segment_read room keys new key bracket raw t ts stop h e run token items k =
     segment_found room (path_of keys) bracket t ts h e
     ∙ ap₂ (after_run (read_brackets (room - 1))) (ap (longer (path_of keys)) (sym run) ∙ sym (path_more keys new key raw items k)) token
 
--- behind a closed segment
+-- after a closed segment
 module _ (room : ℕ) (path : List Step) (t : code.Token) (rest : List Token) where
   pub behind_closing : (k : Kind) → kind_of_token t.kind ≡ k → ends_last k ≡ true → after_close (read_brackets room) path (token_of t ∷ rest) ≡ with_leaf (plain path) (read_value (token_of t ∷ rest))
   behind_closing Amp d h = ap (λ k. after_close_at k (read_brackets room) path (token_of t) rest) d ∙ sym (ap (λ k. with_leaf (plain path) (value_at k (token_of t) rest)) d)
@@ -123,7 +123,7 @@ module _ (room : ℕ) (path : List Step) (t : code.Token) (rest : List Token) wh
 pub pair_as : {A : Type 0} (found same : Rest Pair) (r : Result A fault.Fault) (new : cursor.Cursor) (p : code_pair.Pair) → found ≡ same → ReadsPair same r new p → ReadsPair found r new p
 pair_as found same r new p e h = subst (λ f. ReadsPair f r new p) (sym e) h
 
--- behind a root key and an opening bracket
+-- after a root key and an opening bracket
 pub root_open : (depth : ℕ) (key : List ℕ) (stop : Option code.Token) (t : code.Token) (ts us : List Token) (path : List Step) → stop ≡ Some t → is_open (kind_of_token t.kind) ≡ true → ts ≡ us → path ≡ root_path key
     → behind_root depth key (behind stop ts) ≡ read_brackets depth path t.raw.now us
 root_open depth key stop t ts us path is opens same p =

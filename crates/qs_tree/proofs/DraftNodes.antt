@@ -1,4 +1,4 @@
--- How many nodes a tree in the making has, when a child is changed or taken out.
+-- How many nodes a tree under construction has, when a child is changed or taken out.
 use Rattle.std.proofs.Common.{◌≡◌, ℕ, zero, suc, ◌+◌, ◌≤◌, List, [], ◌∷◌, ◌++◌, slice_get, Some, option_map, ap, ◌∙◌, arith}
 use Rattle.std.proofs.lemmas.Option.{none-some, same_Some}
 use Rattle.qs_tree.specs.declared.key.Key.{Key}

@@ -1,5 +1,5 @@
--- What a map in the making holds after a step.
-use Rattle.std.proofs.Common.{◌≡◌, ℕ, List, [], ◌∷◌, ◌++◌, length, slice_get, Option, Some, None, option_map, unwrap_or, Result, Ok, Err, Ordering, Less, Equal, Greater, refl, sym, ap, ◌∙◌, arith, rules, Global}
+-- What a map under construction holds after a step.
+use Rattle.std.proofs.Common.{◌≡◌, ℕ, Bool, true, false, not, true≢false, List, [], ◌∷◌, ◌++◌, length, slice_get, Option, Some, None, option_map, unwrap_or, Result, Ok, Err, Ordering, Less, Equal, Greater, refl, sym, ap, ◌∙◌, arith, rules, Global}
 use Rattle.std.specs.List.{AllByRecursion}
 use Rattle.std.specs.List.Sorted.{IsStrictlySortedBy}
 use Rattle.std.specs.Map.{keys_of, lookup, set_value}
@@ -8,23 +8,26 @@ use Rattle.std.specs.BTreeMap.{is_at, insert_entry}
 use Rattle.std.specs.declared.collections.BTreeMap.{BTreeMap}
 use Rattle.qs_spec.specs.Tree.{Tree, Entries}
 use Rattle.qs_spec.specs.Tree.Tree.{uninitialized}
-use Rattle.qs_spec.specs.toward.InPlace.{update}
+use Rattle.qs_spec.specs.Segment.{Step, compare_segments}
+use Rattle.qs_spec.specs.toward.InPlace.{update, add}
 use Rattle.qs_tree.specs.declared.key.Key.{Key}
 use Rattle.qs_tree.specs.declared.draft.Draft.{Draft, Fresh, the_lemmas}
+use Rattle.qs_tree.specs.declared.draft.Draft.TheVariants as draft
 use Rattle.qs_tree.specs.declared.draft.DraftMap.TheVariants as form
+use Rattle.qs_tree.specs.declared.pair.Leaf.{Leaf}
+use Rattle.qs_tree.specs.Pairs.{leaf_of}
 use Rattle.qs_tree.specs.contracts.key.KeyOrd.TheImpl.Laws.{total-law}
 use Rattle.qs_tree.specs.declared.conflict.Refusal.{Refusal}
 use Rattle.qs_tree.specs.Keys.{key_cmp}
-use Rattle.qs_tree.specs.Conflict.{Conflict, child}
 use Rattle.qs_tree.specs.Adding.{Gives}
 use Rattle.qs_tree.specs.Places.{IsHit, IsGap, put_value}
 use Rattle.qs_tree.specs.Views.{segment_of_key, step_of_key, find}
-use Rattle.qs_tree.specs.Draft.{draft_tree, draft_entries, entries_seen, Takes}
+use Rattle.qs_tree.specs.Draft.{draft_tree, draft_entries, entries_seen, child, Takes}
 use Rattle.qs_tree.proofs.Keys.{seen_view, seen-lookup, key_cmp-segments}
 use Rattle.qs_tree.proofs.Ordered.{ordered_seen}
 use Rattle.qs_tree.proofs.Places.{hit_lookup, gap_lookup, hit_set}
-use Rattle.qs_tree.proofs.Turns.{refused_too, put_there, refused_there}
-use Rattle.qs_tree.proofs.Views.{draft_tree-Fresh}
+use Rattle.qs_tree.proofs.Turns.{rejected_too, put_there, refused_there}
+use Rattle.qs_tree.proofs.Views.{draft_tree-Fresh, draft_tree-Leaf}
 
 abbrev Drafts : Type 0
 Drafts = List (Key × Draft)
@@ -66,9 +69,9 @@ module _ {X : Type 0} (seen : X → Tree) (k : Key) where
     where
       by : update (step_of_key k) (λ _. Some u) (seen_view seen (set_value (is_at (key_cmp k)) es w)) ≡ update (step_of_key k) (λ _. Some u) (seen_view seen es) → (o : Ordering) → key_cmp k e.0 ≡ o
           → update (step_of_key k) (λ _. Some u) (seen_view seen (set_value (is_at (key_cmp k)) (e ∷ es) w)) ≡ update (step_of_key k) (λ _. Some u) (seen_view seen (e ∷ es))
-      by more Less d = rw (d, none_set es w (all_above e.0 (keys_of es) d h.0))
-      by more Equal d = rw (d, ← key_cmp-segments k e.0, d)
-      by more Greater d = rw (d, ← key_cmp-segments k e.0, d, more)
+      by more Less d = let before : compare_segments (step_of_key k).seg (segment_of_key e.0) ≡ Less = d in rw (d, before, none_set es w (all_above e.0 (keys_of es) d h.0))
+      by more Equal d = let same : compare_segments (step_of_key k).seg (segment_of_key e.0) ≡ Equal = d in rw (d, same)
+      by more Greater d = let after : compare_segments (step_of_key k).seg (segment_of_key e.0) ≡ Greater = d in rw (d, after, more)
 
 -- the node at a key is taken out of a vector
 module _ (k : Key) (es : Drafts) (i : ℕ) where
@@ -96,12 +99,24 @@ module _ (k : Key) (es : Drafts) (sorted : IsStrictlySortedBy key_cmp (keys_of e
   there : draft_tree old ≡ child (segment_of_key k) (entries_seen es)
   there = ap draft_tree lent ∙ or_fresh _ ∙ ap (λ o. unwrap_or o uninitialized) (seen-lookup draft_tree k es)
 
-  pub at_key : {A : Type 0} (before seen : Entries) → entries_seen es ≡ before → (f : Tree → Option Tree) (conflict : Tree → Option Conflict) (new : Draft) → entries_seen (insert_entry key_cmp es k new) ≡ seen
-      → (r : Result A Refusal) → Gives (λ _. draft_tree new) (f (draft_tree old)) (conflict (draft_tree old)) r → Gives (λ _. seen) (update (step_of_key k) f before) (conflict (child (segment_of_key k) before)) r
-  at_key before seen was f conflict new is (Ok a) h = rw (← was)
+  pub at_key : {A : Type 0} (before seen : Entries) → entries_seen es ≡ before → (f : Tree → Option Tree) (new : Draft) → entries_seen (insert_entry key_cmp es k new) ≡ seen
+      → (r : Result A Refusal) → Gives (λ _. draft_tree new) (f (draft_tree old)) r → Gives (λ _. seen) (update (step_of_key k) f before) r
+  at_key before seen was f new is (Ok a) h = rw (← was)
       (put_there (step_of_key k) f (entries_seen es) (ordered_seen draft_tree es sorted) (draft_tree old) there (entries_seen es) seen (draft_tree new) h (λ u. refl) (inserted draft_tree k es new ∙ ap Some is))
-  at_key before seen was f conflict new is (Err e) h = rw (← was)
-      (refused_too (f (draft_tree old)) _ _ _ e (refused_there (step_of_key k) f (entries_seen es) (ordered_seen draft_tree es sorted) (draft_tree old) there) (ap conflict there) h)
+  at_key before seen was f new is (Err e) h = rw (← was)
+      (rejected_too (f (draft_tree old)) _ e (refused_there (step_of_key k) f (entries_seen es) (ordered_seen draft_tree es sorted) (draft_tree old) there) h)
+
+pub not_push : (push : Bool) → not push ≡ true → push ≡ false
+not_push true e = absurd (true≢false (sym e))
+not_push false e = refl
+
+-- a plain leaf is put at a key that is missing
+module _ (k : Key) (es : Drafts) (sorted : IsStrictlySortedBy key_cmp (keys_of es)) (i : ℕ) (gap : IsGap key_cmp k es i) where
+  pub leaf_put : (path : List Step) (push : Bool) (l : Leaf) → path ≡ [] → push ≡ false → update (step_of_key k) (add path push (leaf_of l)) (entries_seen es) ≡ Some (entries_seen (insert_entry key_cmp es k (draft.Leaf l)))
+  leaf_put path push l end plain =
+      let made : add [] false (leaf_of l) (draft_tree Fresh) ≡ Some (draft_tree (draft.Leaf l)) = rw (draft_tree-Fresh, draft_tree-Leaf l) in
+      rw (end, plain) (at_key k es sorted Fresh (sym (ap (λ o. unwrap_or o Fresh) (gap_lookup key_cmp k es i gap))) (entries_seen es) (entries_seen (insert_entry key_cmp es k (draft.Leaf l))) refl
+      (add [] false (leaf_of l)) (draft.Leaf l) refl (Ok (tt {0})) made)
 
 -- a key above all of some entries goes to their end
 module _ (k : Key) (ks : List Key) where

@@ -1,4 +1,4 @@
--- One item of what is left, and the pairs behind it.
+-- One item of what is left, and the pairs after it.
 use Rattle.std.proofs.Common.{◌≡◌, ℕ, zero, suc, Bool, true, false, ◌&&◌, ◌==◌, List, [], ◌∷◌, ◌++◌, length, refl, sym, ap, ◌∙◌, subst, arith, Option, Some, None, Result, Ok, Err, option_map, eqb-true, length-append}
 use Rattle.std.specs.Result.{IsErrAnd}
 use Rattle.qs_spec.specs.Token.{Kind, Token, tokens, raw_of}
@@ -79,7 +79,7 @@ module _ (depth : ℕ) where
       by true = tt
       by false = h
 
-  -- behind a root key that isn't nothing
+  -- after a root key that isn't nothing
   after_key : (key : List Token) (stop : Option code.Token) (rest : List Token) → HasBytes key → is_nothing (raw_of key) stop ≡ false → after_root depth key (behind stop rest) ≡ behind_root depth (raw_of key) (behind stop rest)
   after_key [] None rest h e = cc
   after_key (t ∷ key) None rest h e = ap (λ p. Some (plain p NoValue, [])) (root_is (t ∷ key) h)

@@ -24,15 +24,7 @@ abbrev pub entries_view : Held → Entries
 entries_view es = seen_view tree_of es
 
 pub key_cmp-segments : (a b : Key) → key_cmp a b ≡ compare_segments (segment_of_key a) (segment_of_key b)
-key_cmp-segments (key.Int m) (key.Int n) = refl
-key_cmp-segments (key.Int m) (key.String (Borrowed b)) = refl
-key_cmp-segments (key.Int m) (key.String (Owned b)) = refl
-key_cmp-segments (key.String (Borrowed a)) (key.Int n) = refl
-key_cmp-segments (key.String (Owned a)) (key.Int n) = refl
-key_cmp-segments (key.String (Borrowed a)) (key.String (Borrowed b)) = refl
-key_cmp-segments (key.String (Borrowed a)) (key.String (Owned b)) = refl
-key_cmp-segments (key.String (Owned a)) (key.String (Borrowed b)) = refl
-key_cmp-segments (key.String (Owned a)) (key.String (Owned b)) = refl
+key_cmp-segments a b = refl
 
 pub entries_of_map-map : (m : ParsedMap) → entries_of_map m ≡ entries_view m.map
 entries_of_map-map m = search (rules, the_lemmas)

@@ -1,4 +1,5 @@
 pub mod LaneLemmas
+pub mod ByteOrder
 pub mod Copied
 pub mod Spaces
 pub mod FirstPlace

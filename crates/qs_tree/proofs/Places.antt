@@ -1,4 +1,4 @@
--- What a search by halves finds among entries in order, and what an edit at its place does.
+-- What a binary search finds among entries in order, and what an edit at its place does.
 use Rattle.std.proofs.Common.{◌≡◌, ℕ, zero, suc, ◌+◌, ◌<◌, ◌≤◌, ◌/◌, List, [], ◌∷◌, ◌++◌, length, get_or, slice_get, slice_set, Some, None, unwrap_or, option_map, Ordering, Less, Equal, Greater, refl, sym, ap, subst, ◌∙◌, inl, inr, ◌⊎◌, arith}
 use Rattle.std.proofs.lemmas.Int.Digits.{length-digits_of_step}
 use Rattle.std.specs.Cmp.{IsTotalOrder}
@@ -182,7 +182,7 @@ module _ {K : Type 0} (cmp : K → K → Ordering) where
     sorted_front [] fs s = sorted_none
     sorted_front (e ∷ es) fs s = sorted_cons e.0 (keys_of es) (all_front (λ y. cmp e.0 y ≡ Less) es fs (sorted_head e.0 (keys_of (es ++ fs)) s)) (sorted_front es fs (sorted_tail e.0 (keys_of (es ++ fs)) s))
 
--- a search by halves
+-- a binary search
 digits_grow : (fuel m n : ℕ) → n ≤ fuel → m ≤ n → binary_digits m ≤ binary_digits n
 digits_grow zero m n small le = let z : n ≡ m = omega arith in rw z (omega arith)
 digits_grow (suc fuel) zero n small le = omega arith

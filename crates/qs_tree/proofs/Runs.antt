@@ -71,7 +71,7 @@ module _ (ends : Kind → Bool) (form : Bool) (bytes : List ℕ) where
       ∙ ap (λ l. record { kind = Kind.Other; raw = take 1 (drop at bytes) } ∷ tokens form l) (sym (ap (drop 1) front)))
       other
 
--- what stands behind a run ends it
+-- what follows a run ends it
 pub stop_kind : (ends : Kind → Bool) (ts : List Token) (stop : Option code.Token) (us : List Token) → (cut ends ts).1 ≡ behind stop us → IfSome stop (λ t. ends (kind_of_token t.kind) ≡ true)
 stop_kind ends ts None us e = tt
 stop_kind ends ts (Some t) us e = stop_ends ends ts (token_of t) us e

@@ -1,4 +1,4 @@
--- Items of inputs for which no memory is taken.
+-- Items of inputs for which nothing is allocated.
 use Rattle.std.proofs.Common.{◌≡◌, ℕ, zero, suc, Bool, true, false, cond, ◌&&◌, ◌||◌, ◌==◌, List, [], ◌∷◌, ◌++◌, length, refl, sym, ap, ap₂, ◌∙◌, subst, Option, Some, None, Result, eqb-true, ◌<◌, arith, inl, inr}
 use Rattle.std.proofs.lemmas.List.Folds.{list_all-append}
 use Rattle.qs_spec.specs.Token.{Kind, Token, tokens, byte_token, kind_of, raw_of}

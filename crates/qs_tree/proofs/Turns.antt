@@ -1,31 +1,27 @@
 -- What a step of adding a pair leaves.
-use Rattle.std.proofs.Common.{◌≡◌, ℕ, ◌+◌, Bool, false, List, [], ◌∷◌, Option, Some, None, option_map, option_and_then, Result, Ok, Err, Ordering, Less, Equal, Greater, refl, sym, ap, subst, ◌∙◌}
+use Rattle.std.proofs.Common.{◌≡◌, Bool, false, List, [], ◌∷◌, Option, Some, None, option_map, option_and_then, Result, Ok, Err, Ordering, Less, Equal, Greater, refl, sym, ap, subst, ◌∙◌}
 use Rattle.std.proofs.lemmas.Option.{same_Some}
 use Rattle.std.specs.Result.{IsErrAnd}
 use Rattle.qs_spec.specs.Segment.{Segment, Step, compare_segments}
 use Rattle.qs_spec.specs.Leaf.{Leaf}
-use Rattle.qs_spec.specs.Segment.Segment.{Str}
 use Rattle.qs_spec.specs.Tree.{Tree, Entries, empty_step}
 use Rattle.qs_spec.specs.Tree.Tree.{leaf, sequence, mapping, uninitialized}
 use Rattle.qs_spec.specs.Tree.Entries.{no_entries, entry}
 use Rattle.qs_spec.specs.toward.InPlace.{update, update_by, add_below, add_flat, add_here, add}
 use Rattle.qs_spec.proofs.Order.{segments_total}
 use Rattle.qs_tree.specs.declared.conflict.Refusal.{Refusal}
-use Rattle.qs_tree.specs.declared.conflict.Refusal.TheVariants as refusal
 use Rattle.qs_tree.specs.Views.{find}
 use Rattle.qs_tree.specs.Ordered.{IsBefore, AreOrdered}
-use Rattle.qs_tree.specs.Conflict.{Conflict, child, node_below, clash_below, clash_flat, clash_here, conflict_at, conflict_along}
-use Rattle.qs_tree.specs.Adding.{Gives, IsRefusal, entries_below}
+use Rattle.qs_tree.specs.Draft.{child}
+use Rattle.qs_tree.specs.Adding.{Gives, IsRejected, entries_below}
 
-pub gives_err : {A B : Type 0} (view : A → B) (expected : Option B) (conflict : Option Conflict) (r : Result A Refusal) (e : Refusal) (Q : Refusal → Type 0)
-    → IsErrAnd r Q → ((y : Refusal) → Q y → y ≡ e) → IsRefusal expected conflict e → Gives view expected conflict r
-gives_err view expected conflict (Ok a) e Q h same refused = absurd h
-gives_err view expected conflict (Err y) e Q h same refused = subst (IsRefusal expected conflict) (sym (same y h)) refused
+pub gives_err : {A B : Type 0} (view : A → B) (expected : Option B) (r : Result A Refusal) (e : Refusal) (Q : Refusal → Type 0)
+    → IsErrAnd r Q → ((y : Refusal) → Q y → y ≡ e) → IsRejected expected e → Gives view expected r
+gives_err view expected (Ok a) e Q h same rejected = absurd h
+gives_err view expected (Err y) e Q h same rejected = subst (IsRejected expected) (sym (same y h)) rejected
 
-pub refused_too : {B C : Type 0} (expected : Option B) (expected' : Option C) (conflict conflict' : Option Conflict) (e : Refusal)
-    → (expected ≡ None → expected' ≡ None) → conflict ≡ conflict' → IsRefusal expected conflict e → IsRefusal expected' conflict' e
-refused_too expected expected' conflict conflict' (refusal.Conflict c) none same h = (none h.0, sym same ∙ h.1)
-refused_too expected expected' conflict conflict' refusal.OutOfMemory none same h = tt
+pub rejected_too : {B C : Type 0} (expected : Option B) (expected' : Option C) (e : Refusal) → (expected ≡ None → expected' ≡ None) → IsRejected expected e → IsRejected expected' e
+rejected_too expected expected' e none h = λ other. none (h other)
 
 -- what is done at a segment is done to the node that is there, which is put back
 module _ (s : Step) (f : Tree → Option Tree) where
@@ -72,28 +68,13 @@ one_below s f (sequence xs) es is = cc
 one_below s f (mapping ms) es is = rw (same_Some ms es is)
 one_below s f uninitialized es is = rw (← same_Some no_entries es is) (fresh_below s (f uninitialized))
 
-pub none_clash : (t : Tree) (es : Entries) → entries_below t ≡ Some es → clash_below t ≡ None
-none_clash (leaf l) es is = cc
-none_clash (sequence xs) es is = cc
-none_clash (mapping ms) es is = refl
-none_clash uninitialized es is = refl
-
-pub child_below : (s : Segment) (t : Tree) (es : Entries) → entries_below t ≡ Some es → node_below s t ≡ child s es
-child_below s (leaf l) es is = cc
-child_below s (sequence xs) es is = cc
-child_below s (mapping ms) es is = rw (same_Some ms es is)
-child_below s uninitialized es is = rw (← same_Some no_entries es is)
-
 -- what is done below a map
-pub below_map : (s : Step) (rest : List Step) (push : Bool) (l : Leaf) (level : ℕ) (es new : Entries) (r : Result (Unit {0}) Refusal)
-    → Gives (λ _. new) (update s (add rest push l) es) (conflict_along (level + 1) rest (clash_here push) (child s.seg es)) r
-    → Gives (λ _. mapping new) (add (s ∷ rest) push l (mapping es)) (conflict_along level (s ∷ rest) (clash_here push) (mapping es)) r
-below_map s rest push l level es new (Ok a) h = ap (option_map mapping) h
-below_map s rest push l level es new (Err e) h = refused_too _ _ _ _ e (λ none. ap (option_map mapping) none) refl h
+pub below_map : (s : Step) (rest : List Step) (push : Bool) (l : Leaf) (es new : Entries) (r : Result (Unit {0}) Refusal)
+    → Gives (λ _. new) (update s (add rest push l) es) r → Gives (λ _. mapping new) (add (s ∷ rest) push l (mapping es)) r
+below_map s rest push l es new (Ok a) h = ap (option_map mapping) h
+below_map s rest push l es new (Err e) h = rejected_too _ _ e (λ none. ap (option_map mapping) none) h
 
 -- what is done at a map's empty text
-pub at_map : (l : Leaf) (level : ℕ) (es new : Entries) (r : Result (Unit {0}) Refusal)
-    → Gives (λ _. new) (update empty_step (add_flat false l) es) (conflict_at level (clash_flat false (child (Str []) es))) r
-    → Gives (λ _. mapping new) (add_here false l (mapping es)) (conflict_at level (clash_here false (mapping es))) r
-at_map l level es new (Ok a) h = ap (option_map mapping) h
-at_map l level es new (Err e) h = refused_too _ _ _ _ e (λ none. ap (option_map mapping) none) refl h
+pub at_map : (l : Leaf) (es new : Entries) (r : Result (Unit {0}) Refusal) → Gives (λ _. new) (update empty_step (add_flat false l) es) r → Gives (λ _. mapping new) (add_here false l (mapping es)) r
+at_map l es new (Ok a) h = ap (option_map mapping) h
+at_map l es new (Err e) h = rejected_too _ _ e (λ none. ap (option_map mapping) none) h

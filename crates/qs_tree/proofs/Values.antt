@@ -22,7 +22,7 @@ use Rattle.qs_tree.proofs.FirstPlace.{position_some_is, position_none_is}
 abbrev pub value_end : List ℕ → ℕ
 value_end bytes = position_or_len is_ampersand bytes
 
--- the run of some tokens is the bytes up to that place, and behind it stand the tokens of the others
+-- the run of some tokens is the bytes up to that place, and after it stand the tokens of the others
 pub record IsValueCut (form : Bool) (bytes : List ℕ) (ts : List Token) : Type 0 where
   pub run : raw_of (cut is_amp ts).0 ≡ take (value_end bytes) bytes
   pub rest : (cut is_amp ts).1 ≡ tokens form (drop (value_end bytes) bytes)
@@ -105,7 +105,7 @@ value_cut form (b ∷ c ∷ e ∷ rest) = by form (is_escaped_bracket b c e) ref
         let plain : tokens true (b ∷ c ∷ e ∷ rest) ≡ byte_token b ∷ tokens true (c ∷ e ∷ rest) = ap (λ y. cond y (record { kind = cond (e == 66) Open Close; raw = b ∷ c ∷ e ∷ [] } ∷ tokens true rest) (byte_token b ∷ tokens true (c ∷ e ∷ rest))) i in
         subst (IsValueCut true (b ∷ c ∷ e ∷ rest)) (sym plain) (byte_before true b (c ∷ e ∷ rest) (λ _. plain) g)
 
--- what stands behind a run ends it
+-- what follows a run ends it
 pub stop_ends : (ends : Kind → Bool) (ts : List Token) (t : Token) (rest : List Token) → (cut ends ts).1 ≡ t ∷ rest → ends t.kind ≡ true
 stop_ends ends [] t rest e = cc
 stop_ends ends (u ∷ ts) t rest e = by (ends u.kind) refl e (stop_ends ends ts t rest)

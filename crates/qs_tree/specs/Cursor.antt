@@ -45,7 +45,7 @@ abbrev pub looks : Option token.Token → ℕ
 looks None = 1
 looks (Some t) = 0
 
--- a token that was taken, and those behind it; at the end there are none
+-- a token that was taken, and those after it; at the end there are none
 abbrev pub behind : Option token.Token → List Token → List Token
 behind None ts = []
 behind (Some t) ts = token_of t ∷ ts
@@ -63,7 +63,7 @@ taken start rest = take (length start - length rest) start
 abbrev pub IsLeft : List ℕ → List ℕ → Type 0
 IsLeft start rest = rest ≡ drop (length start - length rest) start
 
--- some tokens begin with the `&` that the cursor stands behind; or there are none, and it met the end
+-- some tokens begin with the `&` that the cursor follows; or there are none, and it met the end
 abbrev pub IsPast : List Token → cursor.Cursor → Type 0
 IsPast [] c = c.rest.now ≡ []
 IsPast (t ∷ ts) c = (t.kind ≡ Kind.Amp) × (ts ≡ left c)

@@ -1,15 +1,15 @@
--- What a tree in the making stands for.
-use Rattle.std.specs.Prelude.{◌≡◌, List, map, Some}
+-- What a tree under construction stands for.
+use Rattle.std.specs.Prelude.{◌≡◌, List, map, Some, unwrap_or}
+use Rattle.qs_spec.specs.Segment.{Segment}
 use Rattle.qs_spec.specs.Tree.{Tree, Entries}
 use Rattle.qs_spec.specs.Tree.Tree.{leaf, sequence, mapping, uninitialized}
 use Rattle.qs_tree.specs.declared.draft.Draft.{Draft, fold-Draft}
 use Rattle.qs_tree.specs.declared.draft.Draft.TheOpen.{Draft-F, DraftMap-F}
 use Rattle.qs_tree.specs.declared.draft.DraftMap.{DraftMap, fold-DraftMap}
 use Rattle.qs_tree.specs.declared.key.Key.{Key}
-use Rattle.qs_tree.specs.Views.{segment_of_key, step_of_key, items_of, entries_from}
+use Rattle.qs_tree.specs.Views.{segment_of_key, step_of_key, items_of, entries_from, find}
 use Rattle.qs_tree.specs.Pairs.{leaf_tree}
 use Rattle.qs_tree.specs.Ordered.{AreOrdered}
-use Rattle.qs_tree.specs.Conflict.{child}
 use Rattle.qs_spec.specs.toward.InPlace.{update}
 
 -- one level of a node, with what is inside already seen as trees
@@ -33,6 +33,10 @@ draft_entries = fold-DraftMap Tree Entries draft_step draft_map_step
 -- the entries of a map of either form
 abbrev pub entries_seen : List (Key × Draft) → Entries
 entries_seen es = entries_from (map (λ p. (p.0, draft_tree p.1)) es)
+
+-- the node at a segment of a map, where nothing may be yet
+abbrev pub child : Segment → Entries → Tree
+child s es = unwrap_or (find s es) uninitialized
 
 -- the node at a key is taken out, and the entries stay the same but for the node at that key
 pub record Takes (k : Key) (old : Entries) (taken : Tree) (new : Entries) : Type 0 where

@@ -1,4 +1,4 @@
--- What an error says, and which error a call answered.
+-- What an error says, and which error a call returned.
 use Rattle.std.specs.Prelude.{◌≡◌, ℕ, ◌++◌, ⊤, Result, Ok, Err, List, Option, Some, None, IfSome, codes, decimal, string_bytes}
 use Rattle.qs_tree.specs.declared.error.Error.{Error}
 use Rattle.qs_tree.specs.declared.error.Error.TheVariants.{Custom, MaxSerializationDepthExceeded, Parse, Unsupported, FromUtf8, Io, ParseInt, Utf8, OutOfMemory, Failed}
@@ -17,58 +17,58 @@ error_text (Utf8 cause) = None
 error_text OutOfMemory = Some (codes "out of memory")
 error_text Failed = Some (codes "serializer has failed")
 
--- the call answered that the tree doesn't fit what is read from it
+-- the call returned that the tree doesn't fit what is read from it
 abbrev pub IsCustom : {T : Type 0} → Result T Error → Type 0
 IsCustom (Err (Custom message)) = ⊤
 IsCustom _ = ⊥
 
--- the call answered that a value nests deeper than this number
+-- the call returned that a value nests deeper than this number
 abbrev pub IsTooDeep : {T : Type 0} → Result T Error → ℕ → Type 0
 IsTooDeep (Err (MaxSerializationDepthExceeded depth)) n = depth ≡ n
 IsTooDeep _ n = ⊥
 
--- the call answered that the querystring is refused
+-- the call returned that the querystring is rejected
 abbrev pub IsParse : {T : Type 0} → Result T Error → Type 0
 IsParse (Err (Parse message position)) = ⊤
 IsParse _ = ⊥
 
--- where the call answered that the querystring is refused, this holds of the position
+-- where the call returned that the querystring is rejected, this holds of the position
 abbrev pub IfParse : {T : Type 0} → Result T Error → (ℕ → Type 0) → Type 0
 IfParse (Err (Parse message position)) P = P position
 IfParse _ P = ⊤
 
--- the call answered that a map's key is of a kind that can't be written
+-- the call returned that a map's key is of a kind that can't be written
 abbrev pub IsUnsupported : {T : Type 0} → Result T Error → Type 0
 IsUnsupported (Err Unsupported) = ⊤
 IsUnsupported _ = ⊥
 
--- the call answered that a write failed
+-- the call returned that a write failed
 abbrev pub IsIo : {T : Type 0} → Result T Error → Type 0
 IsIo (Err (Io cause)) = ⊤
 IsIo _ = ⊥
 
--- the call answered that bytes aren't UTF-8
+-- the call returned that bytes aren't UTF-8
 abbrev pub IsNotUtf8 : {T : Type 0} → Result T Error → Type 0
 IsNotUtf8 (Err (Utf8 cause)) = ⊤
 IsNotUtf8 _ = ⊥
 
--- the call answered that a growth was refused
+-- the call returned that an allocation failed
 abbrev pub IsOutOfMemory : {T : Type 0} → Result T Error → Type 0
 IsOutOfMemory (Err OutOfMemory) = ⊤
 IsOutOfMemory _ = ⊥
 
--- the call answered that the serializer had failed before
+-- the call returned that the serializer had failed before
 abbrev pub IsFailed : {T : Type 0} → Result T Error → Type 0
 IsFailed (Err Failed) = ⊤
 IsFailed _ = ⊥
 
--- an error, if the call answered one, is that a growth was refused
+-- an error, if the call returned one, is that an allocation failed
 abbrev pub OnlyOutOfMemory : {T : Type 0} → Result T Error → Type 0
 OnlyOutOfMemory (Ok x) = ⊤
 OnlyOutOfMemory (Err OutOfMemory) = ⊤
 OnlyOutOfMemory _ = ⊥
 
--- an error, if the call answered one, is that the querystring is refused or that a growth was
+-- an error, if the call returned one, is that the querystring is rejected or that an allocation failed
 abbrev pub OnlyParseOrOutOfMemory : {T : Type 0} → Result T Error → Type 0
 OnlyParseOrOutOfMemory (Ok x) = ⊤
 OnlyParseOrOutOfMemory (Err (Parse message position)) = ⊤

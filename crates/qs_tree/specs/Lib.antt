@@ -13,7 +13,6 @@ pub mod Owned
 pub mod Pairs
 pub mod Raw
 pub mod Reading
-pub mod Conflict
 pub mod Adding
 pub mod Parsing
 pub mod Small

@@ -1,4 +1,4 @@
--- What the scan answers.
+-- What the scan returns.
 use Rattle.std.specs.Prelude.{◌≡◌, ◌≢◌, ℕ, ◌≤◌, Bool, List, Option, Some, None, option_and_then, Result, Ok, Err, ⊤}
 use Rattle.qs_spec.specs.Token.{Token}
 use Rattle.qs_spec.specs.Tree.{Tree, IsTree, IsRefused}
@@ -16,12 +16,12 @@ use Rattle.qs_tree.specs.Views.{tree_of}
 abbrev pub grown : ℕ → List Token → Tree → Option Tree
 grown depth ts t = option_and_then (λ ps. add_all ps t) (pairs_of depth ts)
 
--- where a tree is expected, it is this one, and where none is, the scan tells so; or memory ran out
+-- where a tree is expected, it is this one, and where none is, the scan says so; or memory ran out
 abbrev pub Finds : {A : Type 0} → (A → Tree) → Option Tree → Result A ScanError → Type 0
 Finds view expected (Ok a) = expected ≡ Some (view a)
 Finds view expected (Err e) = e ≢ scan_error.OutOfMemory → expected ≡ None
 
--- the same of the error that is told, which has a position up to this one
+-- the same of the error that is reported, which has a position up to this one
 abbrev pub Answers : {A : Type 0} → (A → Tree) → Option Tree → ℕ → Result A Error → Type 0
 Answers view expected bound (Ok a) = expected ≡ Some (view a)
 Answers view expected bound (Err (Parse message position)) = (expected ≡ None) × (position ≤ bound)
@@ -34,7 +34,7 @@ Tells e bound (Parse message position) = (e ≢ scan_error.OutOfMemory) × (posi
 Tells e bound OutOfMemory = Unit {0}
 Tells e bound _ = ⊥
 
--- the answer holds of this input too, marks aside: it has that tree, or none where the answer is that there is none
+-- the result holds of this input too, marks aside: it has that tree, or none where the result is that there is none
 abbrev pub HoldsOf : Bool → ℕ → List ℕ → Result ParsedValue Error → Type 0
 HoldsOf form depth bytes (Ok value) = (t : Tree) × IsTree form depth bytes t × (unmarked t ≡ unmarked (tree_of value))
 HoldsOf form depth bytes (Err (Parse message position)) = IsRefused form depth bytes

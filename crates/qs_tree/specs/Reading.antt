@@ -1,4 +1,4 @@
--- What the calls that read a pair answer.
+-- What the calls that read a pair return.
 use Rattle.std.specs.Prelude.{◌≡◌, ℕ, List, [], ◌∷◌, ◌++◌, Option, Some, None, Result, Ok, Err, option_map, IsTrue, Bool, true, false, ◌&&◌, ◌==◌, length}
 use Rattle.qs_spec.specs.Token.{Kind, Token}
 use Rattle.qs_spec.specs.Token.Kind.{Amp, Equals, Open, Close, Other}
@@ -26,7 +26,7 @@ abbrev pub IsRootStop : Option token.Token → Type 0
 IsRootStop None = Unit {0}
 IsRootStop (Some t) = IsTrue (ends_root 1 (kind_of_token t.kind))
 
--- the cursor stands behind a token, and hasn't met the end
+-- the cursor follows a token, and hasn't met the end
 abbrev pub IsBehind : token.Token → cursor.Cursor → Type 0
 IsBehind t c = (t.place.rest.now ≡ t.raw.now ++ c.rest.now) × (c.ended ≡ false)
 
@@ -81,7 +81,7 @@ abbrev pub root_path : List ℕ → List Step
 root_path [] = []
 root_path (b ∷ raw) = step_of (b ∷ raw) ∷ []
 
--- what is found behind a root key with these raw bytes
+-- what is found after a root key with these raw bytes
 abbrev pub behind_root_at : Kind → ℕ → List Step → Token → List Token → Rest Pair
 behind_root_at Open depth path t rest = read_brackets depth path t.raw rest
 behind_root_at Amp depth path t rest = with_leaf (plain path) (read_value (t ∷ rest))

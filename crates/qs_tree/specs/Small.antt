@@ -1,4 +1,4 @@
--- Inputs for which no memory is taken.
+-- Inputs for which nothing is allocated.
 use Rattle.std.specs.Prelude.{◌≡◌, ℕ, Bool, false, not, ◌&&◌, ◌||◌, ◌==◌, List, [], ◌∷◌, Option, Some, None, Result, Ok, Err, IsTrue, ◌⊎◌}
 use Rattle.std.specs.List.{list_all}
 use Rattle.qs_spec.specs.Grammar.{is_equals}
@@ -22,7 +22,7 @@ is_ampersands bytes = list_all is_ampersand bytes
 abbrev pub is_plain : List ℕ → Bool
 is_plain bytes = list_all (λ b. not (b == 38 || b == 43 || b == 37)) bytes
 
--- such bytes behind `=`
+-- such bytes after `=`
 abbrev pub is_plain_value : List ℕ → Bool
 is_plain_value [] = false
 is_plain_value (b ∷ value) = b == 61 && is_plain value

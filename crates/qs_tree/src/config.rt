@@ -24,7 +24,7 @@ pub enum DuplicateKeyBehavior {
     /// The last one is taken.
     #[default]
     TakeLast,
-    /// They are refused.
+    /// They are rejected.
     Error,
 }
 

@@ -5,13 +5,24 @@ ghost use Rattle.qs_tree.specs.declared.conflict.Refusal.TheVariants.{OutOfMemor
 use crate::draft::Draft;
 use crate::key::Key;
 use crate::pair::Leaf;
-use std::alloc::{AllocError, AllocFailed};
+use std::alloc::{AllocError, AllocFailed, Global};
 
-/// Why a pair could not be added.
+/// Why a pair could not be added. A conflict is boxed, so that a call that succeeds moves little.
 #[derive(Debug, Drop)]
 pub(crate) enum Refusal {
-    Conflict(Conflict),
+    Conflict(Box<Conflict>),
     OutOfMemory,
+}
+
+impl Refusal {
+    /// The conflict of a pair with a node that so many keys lead to.
+    #[inline(never)]
+    pub fn of_clash(alloc: Global, level: usize, clash: Clash) -> Refusal {
+        match Box::new(alloc, Conflict { level, clash }) {
+            Ok(conflict) => Refusal::Conflict(conflict),
+            Err(_) => Refusal::OutOfMemory,
+        }
+    }
 }
 
 /// Where a pair met a node that it can't be added to.
@@ -56,7 +67,10 @@ impl<T: Drop> From<AllocFailed<T>> for Refusal {
 
 /// The first conflict that a pair meets on its way below a tree along some keys, whatever it would add at their end. Takes no
 /// memory.
-pub(crate) fn conflict_below<'t, 'qs>(tree: &'t Draft<'qs>, path: &[Key<'qs>]) -> Option<Conflict> {
+pub(crate) fn conflict_below<'t, 'qs>(
+    tree: &'t Draft<'qs>,
+    path: &[Key<'qs>],
+) -> Option<(usize, Clash)> {
     let mut node = Some(tree);
     for (level, key) in path.iter().enumerate() {
         let Some(here) = node else {
@@ -64,7 +78,7 @@ pub(crate) fn conflict_below<'t, 'qs>(tree: &'t Draft<'qs>, path: &[Key<'qs>]) -
         };
         match node_below(here, key) {
             Ok(child) => node = child,
-            Err(clash) => return Some(Conflict { level, clash }),
+            Err(clash) => return Some((level, clash)),
         }
     }
     None

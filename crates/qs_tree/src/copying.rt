@@ -17,7 +17,7 @@ pub(crate) fn put(bytes: &[u8], room: &mut [u8], at: usize)
 }
 
 /// Writes bytes before the first of the class to `room` from `at` on, with `to` in place of `from`, and
-/// returns how many: 32 bytes at once where there are as many, or else one. What it writes behind those is of
+/// returns how many: 32 bytes at once where there are as many, or else one. What it writes after those is of
 /// no account.
 #[inline(always)]
 pub(crate) fn copy_run<C: Class>(

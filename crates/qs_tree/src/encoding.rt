@@ -13,7 +13,7 @@ use std::alloc::AllocError;
 /// Appends the bytes as form mode (`form`), or query mode, writes them: some as they are, a space as `+` in
 /// query mode, and the rest as `%` and two upper case hexadecimal digits.
 ///
-/// It makes its growth first. Where that is refused the answer is `OutOfMemory` and `out` stays as it was;
+/// It allocates first. Where that fails the result is `OutOfMemory` and `out` stays as it was;
 /// there is no other error. It goes over the bytes twice, 32 at once where no escape is written; over fewer
 /// than 32 bytes once.
 ///

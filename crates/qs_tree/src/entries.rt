@@ -102,7 +102,7 @@ impl<K: Ord, V> Entries<K, V> {
         &mut item.1
     }
 
-    /// Puts a value in the place of the one that is there, and answers that one.
+    /// Puts a value in the place of the one that is there, and returns that one.
     pub fn replace(&mut self, at: usize, value: V) -> V
         requires { at < length self.old }
         ensures old { option_map (λ e. e.1) (slice_get self.old at) ≡ Some result }
@@ -132,7 +132,7 @@ impl<K: Ord + Drop, V: Drop> Entries<K, V> {
     ghost use Rattle.qs_tree.specs.Lending.{LendsChild};
 
     /// The value at a key, to be changed, which is fresh where the key was missing. The place is where the key is, or would go.
-    /// On an error nothing is told of the entries.
+    /// On an error nothing is known of the entries.
     pub fn child(
         &mut self,
         place: Result<usize, usize>,
@@ -147,7 +147,7 @@ impl<K: Ord + Drop, V: Drop> Entries<K, V> {
         Ok(self.at_mut(at))
     }
 
-    // Puts the fresh value at the key where it is missing, and answers where the key is.
+    // Puts the fresh value at the key where it is missing, and returns where the key is.
     fn filled(&mut self, place: Result<usize, usize>, key: K, fresh: V) -> Result<usize, AllocError>
         requires { IsPlaced K.cmp key self.old place }
         ensures in_range { IfOk result (λ at. at < length self.new) }
@@ -172,7 +172,7 @@ impl<K: Ord + Drop, V: Drop> Entries<K, V> {
         Ok(self.items.insert(at, (key, value))?)
     }
 
-    /// Puts an entry behind the others, where its key belongs. On an error nothing is changed.
+    /// Puts an entry after the others, where its key belongs. On an error nothing is changed.
     pub fn push(&mut self, key: K, value: V) -> Result<(), AllocError>
         requires { IsStrictlySortedBy K.cmp (keys_of self.old ++ key ∷ []) }
         ensures ok { OnOk result (self.new ≡ self.old ++ (key, value) ∷ []) }

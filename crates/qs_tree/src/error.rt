@@ -4,7 +4,7 @@ use std::alloc::{AllocError, AllocFailed, Global};
 use std::fmt::Display;
 use std::{fmt, io, num, str, string};
 
-/// What calls of this crate answer: a value, or why there is none.
+/// What calls of this crate return: a value, or why there is none.
 pub type Result<T, E = Error> = std::result::Result<T, E>;
 
 /// Why a call failed.
@@ -17,20 +17,20 @@ pub enum Error {
     Custom(String),
     /// A value nests deeper than the configuration's `max_depth`, which is the number here.
     MaxSerializationDepthExceeded(usize),
-    /// The querystring is refused, with this message, at this position: the number of bytes that were
+    /// The querystring is rejected, with this message, at this position: the number of bytes that were
     /// read, and one more where the end was read.
     Parse(String, usize),
     /// A map's key is of a kind that a querystring can't show.
     Unsupported,
-    /// An owned text isn't UTF-8. No call answers it; it is there for callers' own conversions.
+    /// An owned text isn't UTF-8. No call returns it; it is there for callers' own conversions.
     FromUtf8(string::FromUtf8Error),
     /// A write failed.
     Io(io::Error),
-    /// A text isn't a number. No call answers it; it is there for callers' own conversions.
+    /// A text isn't a number. No call returns it; it is there for callers' own conversions.
     ParseInt(num::ParseIntError),
     /// Bytes that are read as text aren't UTF-8.
     Utf8(str::Utf8Error),
-    /// A growth was refused.
+    /// An allocation failed.
     OutOfMemory,
     /// A serializer was used after an error.
     Failed,
@@ -42,7 +42,7 @@ impl Error {
 
     /// The error of a kind of value that doesn't stand at the top of a querystring.
     ///
-    /// Takes memory for the text, and answers [`OutOfMemory`](Error::OutOfMemory) where there is none.
+    /// Allocates the text, and returns [`OutOfMemory`](Error::OutOfMemory) where there is none.
     pub fn top_level(alloc: Global, object: &'static str) -> Error
         ensures { IsCustomSaying result (Some (codes "cannot deserialize " ++ (object.now
             ++ codes " at the top level.Try deserializing into a struct."))) }
@@ -56,9 +56,9 @@ impl Error {
         )
     }
 
-    /// The error of a querystring that is refused with this message at this position.
+    /// The error of a querystring that is rejected with this message at this position.
     ///
-    /// Takes memory for the text, and answers [`OutOfMemory`](Error::OutOfMemory) where there is none, or
+    /// Allocates the text, and returns [`OutOfMemory`](Error::OutOfMemory) where there is none, or
     /// where the message's own `fmt` fails.
     pub fn parse_err<T: Display + Drop>(alloc: Global, msg: T, position: usize) -> Error
         ensures { IsParseSaying result (T.output msg) position }
@@ -71,7 +71,7 @@ impl Error {
 
     /// The error of a tree that doesn't fit, with this message. What was parsed is not used.
     ///
-    /// Takes memory for the text, and answers [`OutOfMemory`](Error::OutOfMemory) where there is none, or
+    /// Allocates the text, and returns [`OutOfMemory`](Error::OutOfMemory) where there is none, or
     /// where the message's own `fmt` fails.
     pub fn custom<T: Display + Drop, D>(alloc: Global, msg: T, _parsed: &D) -> Error
         ensures { IsCustomSaying result (T.output msg) }

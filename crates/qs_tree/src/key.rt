@@ -1,11 +1,15 @@
 //! Keys of maps.
 ghost use Rattle.std.specs.Prelude.{◌≡◌, false, Some};
+ghost use mathlib.Core.Path.{refl};
 ghost use Rattle.qs_spec.specs.Segment.Segment.{Int, Str};
-ghost use Rattle.qs_tree.specs.Keys.{key_cmp};
+ghost use Rattle.std.specs.Cmp.{on_per, on_equiv, on_po, on_total, partial_equiv_from_equiv, eq_by_cmp_equiv, partial_order_from_agreeing_total};
+ghost use Rattle.qs_spec.specs.Segment.{compare_segments, is_same_segment};
+ghost use Rattle.qs_spec.proofs.Order.{segments_total};
 ghost use Rattle.std.specs.Fmt.{WritesOnOk};
 ghost use Rattle.std.specs.Str.Lossy.{utf8_lossy};
 ghost use Rattle.qs_tree.specs.Views.{segment_of_key, step_of_key, shown};
 
+use crate::byte_order::compare_bytes;
 use std::borrow::CowSlice;
 use std::cmp::Ordering;
 use std::fmt;
@@ -14,7 +18,7 @@ use std::fmt;
 ///
 /// Numbers come before texts; numbers are ordered by value, texts by their bytes. A borrowed text and an owned one with the
 /// same bytes are equal.
-#[derive(PartialEq, Eq, PartialOrd, Ord, Debug, Drop)]
+#[derive(Debug, Drop)]
 pub enum Key<'a> {
     /// Digits alone, as the place of an element.
     Int(u32),
@@ -25,14 +29,52 @@ pub enum Key<'a> {
 impl<'a> Key<'a> {
     /// How this key stands to another one, of any lifetime.
     pub(crate) fn compare<'b>(&self, other: &Key<'b>) -> Ordering
-        ensures { result ≡ key_cmp self.now other.now }
+        ensures { result ≡ compare_segments (segment_of_key self.now) (segment_of_key other.now) }
     {
         match (self, other) {
             (Key::Int(m), Key::Int(n)) => m.cmp(n),
             (Key::Int(_), Key::String(_)) => Ordering::Less,
             (Key::String(_), Key::Int(_)) => Ordering::Greater,
-            (Key::String(s), Key::String(t)) => s.as_slice().cmp(&t.as_slice()),
+            (Key::String(s), Key::String(t)) => compare_bytes(s.as_slice(), t.as_slice()),
         }
+    }
+}
+
+impl<'a> PartialEq for Key<'a> {
+    ghost eq = { λ a b. is_same_segment (segment_of_key a) (segment_of_key b) };
+
+    ghost laws = { on_per segment_of_key (partial_equiv_from_equiv (eq_by_cmp_equiv segments_total)) };
+
+    fn eq(&self, other: &Key<'a>) -> bool {
+        self.compare(other).is_eq()
+    }
+}
+
+impl<'a> Eq for Key<'a> {
+    ghost laws = { on_equiv segment_of_key (eq_by_cmp_equiv segments_total) };
+}
+
+impl<'a> PartialOrd for Key<'a> {
+    ghost partial_cmp = { λ a b. Some (compare_segments (segment_of_key a) (segment_of_key b)) };
+
+    ghost laws = { on_po segment_of_key (partial_order_from_agreeing_total compare_segments segments_total (λ a b. refl) (λ a b. refl)) };
+
+    fn partial_cmp(&self, other: &Key<'a>) -> Option<Ordering> {
+        Some(self.compare(other))
+    }
+}
+
+impl<'a> Ord for Key<'a> {
+    ghost cmp = { λ a b. compare_segments (segment_of_key a) (segment_of_key b) };
+
+    ghost total = { on_total segment_of_key segments_total };
+
+    ghost matches_partial_cmp = { λ a b. refl };
+
+    ghost matches_eq = { λ a b. refl };
+
+    fn cmp(&self, other: &Key<'a>) -> Ordering {
+        self.compare(other)
     }
 }
 

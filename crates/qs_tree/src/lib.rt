@@ -2,6 +2,7 @@
 #![tactic(auto)]
 
 mod add;
+mod byte_order;
 mod config;
 mod conflict;
 mod copying;

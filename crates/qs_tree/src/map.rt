@@ -24,7 +24,7 @@ use std::cmp::Ordering;
 
 /// The keys of a map with their values, in the order of the keys, each key once.
 ///
-/// Keys are looked up by halves. A key may be borrowed from anywhere:
+/// Keys are looked up by binary search. A key may be borrowed from anywhere:
 ///
 /// ```text
 /// map.get(&Key::from("name"))
@@ -62,7 +62,7 @@ impl<'qs> ParsedMap<'qs> {
         self.len() == 0
     }
 
-    /// The value at a key, if there is one. Takes no memory, and compares as few keys as [`get_with`](ParsedMap::get_with).
+    /// The value at a key, if there is one. Doesn't allocate, and compares as few keys as [`get_with`](ParsedMap::get_with).
     #[must_use]
     pub fn get<'k>(&self, key: &Key<'k>) -> Option<&ParsedValue<'qs>>
         ensures value { option_map (λ v. tree_of v.now) result ≡ view.find (segment_of_key key.now) (entries_of_map self.now) }
@@ -92,9 +92,9 @@ impl<'qs> ParsedMap<'qs> {
         self.entry_at(at)
     }
 
-    /// Takes the entry at a key out, and answers its value. Where the key is missing nothing is changed.
+    /// Takes the entry at a key out, and returns its value. Where the key is missing nothing is changed.
     ///
-    /// Compares at most as many keys as the length has binary digits, and moves the entries behind. Takes no memory.
+    /// Compares at most as many keys as the length has binary digits, and moves the entries after it. Doesn't allocate.
     pub fn remove<'k>(&mut self, key: &Key<'k>) -> Option<ParsedValue<'qs>>
         ensures value { option_map tree_of result ≡ view.find (segment_of_key key.now) (entries_of_map self.old) }
         ensures rest { entries_of_map self.new ≡ take_out (segment_of_key key.now) (entries_of_map self.old) }
@@ -105,7 +105,7 @@ impl<'qs> ParsedMap<'qs> {
         }
     }
 
-    /// Takes the entry with the first key out. An empty map stays empty. Moves the other entries, and takes no memory.
+    /// Takes the entry with the first key out. An empty map stays empty. Moves the other entries, and doesn't allocate.
     pub fn pop_first(&mut self) -> Option<(Key<'qs>, ParsedValue<'qs>)>
         ensures { MatchOption result ((map_pairs self.old ≡ []) × (map_pairs self.new ≡ [])) (λ p. map_pairs self.old ≡ (step_of_key p.0, tree_of p.1) ∷ map_pairs self.new) }
     {
@@ -142,7 +142,7 @@ impl<'qs> PartialEq for ParsedMap<'qs> {
     }
 }
 
-/// Takes no memory, and no more stack for a deep tree than for a flat one.
+/// Allocates nothing, and takes no more stack for a deep tree than for a flat one.
 impl<'qs> Drop for ParsedMap<'qs> {
     fn drop(self) {
         drop_tree(ParsedValue::Map(self));
@@ -167,7 +167,7 @@ pub(crate) fn find<'e, 'k, 'qs, V>(
     }
 }
 
-/// Where a key is among entries in the order of their keys, or else where it would go, by halves.
+/// Where a key is among entries in the order of their keys, or else where it would go, by binary search.
 pub(crate) fn search<'k, 'qs, V>(
     entries: &[(Key<'qs>, V)],
     key: &Key<'k>,

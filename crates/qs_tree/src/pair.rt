@@ -1,8 +1,8 @@
 //! The pairs of a querystring.
-ghost use Rattle.std.specs.Prelude.{◌≡◌, ◌+◌, ◌<◌, ◌∷◌, length, drop};
+ghost use Rattle.std.specs.Prelude.{◌≡◌, ◌+◌, ◌<◌, ◌∷◌, length, drop, not};
 ghost use Rattle.qs_spec.specs.Tree.Tree.{leaf};
 ghost use Rattle.qs_tree.specs.Views.{tree_of};
-ghost use Rattle.qs_tree.specs.Pairs.{leaf_of};
+ghost use Rattle.qs_tree.specs.Pairs.{leaf_of, is_push};
 
 use crate::key::Key;
 use crate::value::ParsedValue;
@@ -10,12 +10,12 @@ use std::alloc::Global;
 use std::borrow::CowSlice;
 use std::mem;
 
-/// What stands behind a key.
+/// What follows a key.
 #[derive(Debug, Drop)]
 pub(crate) enum Leaf<'qs> {
     /// No `=`.
     NoValue,
-    /// Nothing behind `=`.
+    /// Nothing after `=`.
     Null,
     /// A text that is not empty.
     Text(CowSlice<'qs, u8>),
@@ -27,6 +27,14 @@ pub(crate) enum Manner {
     Plain,
     /// Onto a sequence.
     Push,
+}
+
+impl Manner {
+    pub fn is_plain(self) -> bool
+        ensures { result ≡ not (is_push self) }
+    {
+        matches!(self, Manner::Plain)
+    }
 }
 
 /// One pair of a querystring: a path of keys, and a leaf.

@@ -37,10 +37,10 @@ use std::mem;
 /// pushes it onto a sequence, and a key that comes again makes a sequence of its values. The empty input is `NoValue`, and
 /// one of `&` alone `Uninitialized`.
 ///
-/// The first fault is answered: [`Error::Parse`] for a pair that can't be read to its end, or that is in conflict with those
-/// before it, as `a=1&a[b]=2` is; [`Error::OutOfMemory`] where a growth is refused. Nothing is left of the tree then.
+/// The first error is returned: [`Error::Parse`] for a pair that can't be read to its end, or that is in conflict with those
+/// before it, as `a=1&a[b]=2` is; [`Error::OutOfMemory`] where an allocation fails. Nothing is left of the tree then.
 ///
-/// Texts and keys without `+` and `%` are borrowed. Memory is taken for the others, for each path, map and sequence, and for an
+/// Texts and keys without `+` and `%` are borrowed. Memory is allocated for the others, for each path, map and sequence, and for an
 /// error's text; none for the empty input, for `&` alone, and for `=` with a value that holds no `&`, `+` or `%`. Each byte is
 /// read once, and each key is looked up in the map that it stands in, in comparisons that grow as the logarithm of its length.
 ///

@@ -24,7 +24,7 @@ pub(crate) fn read_key(alloc: Global, raw: &[u8]) -> Result<Key<'_>, AllocError>
     }
 }
 
-/// The leaf of the raw bytes behind `=`.
+/// The leaf of the raw bytes after `=`.
 pub(crate) fn read_leaf(alloc: Global, raw: &[u8]) -> Result<Leaf<'_>, AllocError>
     ensures leaf { IfOk result (λ leaf. leaf_of leaf ≡ value_leaf raw.now) }
     ensures no_memory { is_marked raw.now ≡ false → IsOk result }

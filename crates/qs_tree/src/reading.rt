@@ -36,15 +36,15 @@ pub(crate) enum Fault {
 /// What stands where a pair can't go on so.
 #[derive(Clone, Copy)]
 pub(crate) enum Reason {
-    /// The end directly behind an opening bracket.
+    /// The end directly after an opening bracket.
     EndBehindOpen,
     /// The end inside a segment.
     EndInSegment,
-    /// This character behind a closed segment.
+    /// This character after a closed segment.
     BehindSegment(char),
-    /// An opening bracket behind `[]`.
+    /// An opening bracket after `[]`.
     OpenBehindPush,
-    /// Another token behind `[]`.
+    /// Another token after `[]`.
     BehindPush,
 }
 
@@ -70,7 +70,7 @@ impl<T: Drop> From<AllocFailed<T>> for Fault {
     }
 }
 
-/// Reads up to the next `&` or the end: a pair, which is put in place of the one before, or nothing. The end is looked at once: behind it nothing is read.
+/// Reads up to the next `&` or the end: a pair, which is put in place of the one before, or nothing. The end is looked at once: after it nothing is read.
 pub(crate) fn read_item<'qs>(
     alloc: Global,
     cursor: &mut Cursor<'qs>,
@@ -121,7 +121,7 @@ fn root_end(max_depth: usize) -> Until
     }
 }
 
-/// Reads a pair behind its root key and the token behind that. No key is in its path yet.
+/// Reads a pair after its root key and the token after that. No key is in its path yet.
 fn read_behind_root<'qs>(
     alloc: Global,
     cursor: &mut Cursor<'qs>,
@@ -159,7 +159,8 @@ fn read_root<'qs>(alloc: Global, key: &'qs [u8], path: &mut Vec<Key<'qs>>) -> Re
     Ok(())
 }
 
-/// Reads what follows a key: nothing, or, behind `=`, a value.
+/// Reads what follows a key: nothing, or, after `=`, a value.
+#[inline(always)]
 fn read_value<'qs>(
     alloc: Global,
     cursor: &mut Cursor<'qs>,
@@ -177,7 +178,8 @@ fn read_value<'qs>(
     }
 }
 
-/// Reads a plain pair behind its path and the token behind that.
+/// Reads a plain pair after its path and the token after that.
+#[inline(always)]
 fn read_plain<'qs>(
     alloc: Global,
     cursor: &mut Cursor<'qs>,
@@ -195,7 +197,7 @@ fn read_plain<'qs>(
     Ok(())
 }
 
-/// Reads a push behind its `[]`.
+/// Reads a push after its `[]`.
 fn read_push<'qs>(
     alloc: Global,
     cursor: &mut Cursor<'qs>,
@@ -228,7 +230,7 @@ fn read_push<'qs>(
     Err(Fault::Unread(reason))
 }
 
-/// Reads what follows an opening bracket behind a path, with room for so many segments.
+/// Reads what follows an opening bracket after a path, with room for so many segments.
 fn read_brackets<'qs>(
     alloc: Global,
     cursor: &mut Cursor<'qs>,
@@ -275,7 +277,7 @@ fn read_brackets<'qs>(
     }
 }
 
-/// Reads a last key, which begins with a bracket at the limit, behind its first token.
+/// Reads a last key, which begins with a bracket at the limit, after its first token.
 fn read_last_key<'qs>(
     alloc: Global,
     cursor: &mut Cursor<'qs>,

@@ -1,4 +1,4 @@
-//! Why an input has no tree, and what is told of it.
+//! Why an input has no tree, and what is reported of it.
 
 ghost use Rattle.std.specs.Prelude.{◌≡◌, None};
 ghost use Rattle.qs_tree.specs.declared.conflict.Refusal.TheVariants as no_memory;
@@ -21,7 +21,7 @@ use std::{fmt, str};
 pub(crate) enum ScanError<'qs> {
     /// A pair that can't be read to its end, where so many steps are to come.
     Unread(Reason, usize),
-    Conflict(Clash, Site<'qs>),
+    Conflict(Box<Conflict>, Site<'qs>),
     OutOfMemory,
 }
 
@@ -33,7 +33,7 @@ impl<'qs> From<AllocError> for ScanError<'qs> {
     }
 }
 
-/// Why a pair that can't be read to its end isn't added. A conflict with the tree that the pair meets before is told first.
+/// Why a pair that can't be read to its end isn't added. A conflict with the tree that the pair meets before is reported first.
 #[inline(never)]
 pub(crate) fn unread_error<'qs>(
     alloc: Global,
@@ -54,8 +54,9 @@ pub(crate) fn add_error<'qs>(refusal: Refusal, cursor: &Cursor<'qs>) -> ScanErro
     ensures { refusal ≡ no_memory.OutOfMemory → result ≡ OutOfMemory }
 {
     match refusal {
-        Refusal::Conflict(Conflict { level, clash }) => {
-            ScanError::Conflict(clash, cursor.site(level))
+        Refusal::Conflict(conflict) => {
+            let site = cursor.site(conflict.level);
+            ScanError::Conflict(conflict, site)
         }
         Refusal::OutOfMemory => ScanError::OutOfMemory,
     }
@@ -75,14 +76,14 @@ fn conflict_before<'qs>(
             add_pair(alloc, tree, pair)
         }
         _ => match conflict_below(tree, &pair.path) {
-            Some(conflict) => Err(Refusal::Conflict(conflict)),
+            Some((level, clash)) => Err(Refusal::of_clash(alloc, level, clash)),
             None => Ok(()),
         },
     }
 }
 
 impl<'qs> ScanError<'qs> {
-    /// What is told of an input that takes so many steps.
+    /// What is reported of an input that takes so many steps.
     #[inline(never)]
     pub fn into_error(self, alloc: Global, all: usize) -> Error
         ensures { Tells self.entry all result }
@@ -91,7 +92,8 @@ impl<'qs> ScanError<'qs> {
             ScanError::Unread(reason, to_come) => {
                 Error::parse_err(alloc, reason, all.saturating_sub(to_come))
             }
-            ScanError::Conflict(clash, site) => {
+            ScanError::Conflict(conflict, site) => {
+                let clash = Box::into_inner(conflict).clash;
                 conflict_error(alloc, clash, site.key, all.saturating_sub(site.to_come))
             }
             ScanError::OutOfMemory => Error::OutOfMemory,
@@ -99,7 +101,7 @@ impl<'qs> ScanError<'qs> {
     }
 }
 
-// What is told of a conflict behind these bytes of a pair.
+// What is reported of a conflict after these bytes of a pair.
 fn conflict_error(alloc: Global, clash: Clash, key: &[u8], position: usize) -> Error
     ensures { IsParseSaying result None position }
 {
@@ -115,7 +117,7 @@ fn conflict_error(alloc: Global, clash: Clash, key: &[u8], position: usize) -> E
     Error::parse_err(alloc, text, position)
 }
 
-// What is told of a leaf that is pushed onto a map with these keys.
+// What is reported of a leaf that is pushed onto a map with these keys.
 fn leaf_on_map(alloc: Global, key: &[u8], keys: String, position: usize) -> Error
     ensures { IsParseSaying result None position }
 {

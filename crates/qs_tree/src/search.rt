@@ -16,7 +16,7 @@ use self::marks::Escape;
 
 /// The first place of `+` or `%`.
 ///
-/// Takes no memory and looks at each byte up to that place once, 32 of them at a time.
+/// Doesn't allocate and looks at each byte up to that place once, 32 of them at a time.
 pub fn find_escape(bytes: &[u8]) -> Option<usize>
     ensures first { result ≡ position is_escape bytes.now }
     ensures within { IfSome result (λ at. at < length bytes.now) }
@@ -27,7 +27,7 @@ pub fn find_escape(bytes: &[u8]) -> Option<usize>
 
 /// The first place of `&`.
 ///
-/// Takes no memory and looks at each byte up to that place once, 32 of them at a time.
+/// Doesn't allocate and looks at each byte up to that place once, 32 of them at a time.
 pub fn find_ampersand(bytes: &[u8]) -> Option<usize>
     ensures first { result ≡ position is_ampersand bytes.now }
     ensures within { IfSome result (λ at. at < length bytes.now) }
@@ -38,7 +38,7 @@ pub fn find_ampersand(bytes: &[u8]) -> Option<usize>
 /// The first place of a byte that form mode (`form`), or query mode, doesn't write as itself: a space too,
 /// for which query mode writes `+`.
 ///
-/// Takes no memory and looks at each byte up to that place once, 32 of them at a time.
+/// Doesn't allocate and looks at each byte up to that place once, 32 of them at a time.
 pub fn find_encoded(bytes: &[u8], form: bool) -> Option<usize>
     ensures first { result ≡ position (is_encoded form) bytes.now }
     ensures within { IfSome result (λ at. at < length bytes.now) }

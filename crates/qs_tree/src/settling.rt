@@ -33,7 +33,7 @@ struct Waiting<'qs> {
 }
 
 impl<'qs> Draft<'qs> {
-    /// The node with its maps laid out. A node without a map takes no memory, and a map without maps in it only its own. The maps
+    /// The node with its maps laid out. A node without a map needs no allocation, and a map without maps in it only its own. The maps
     /// that wait for those in them stand in a vector, so that no depth is too much for the stack.
     pub fn settled(self, alloc: Global) -> Result<ParsedValue<'qs>, AllocError>
         ensures tree { IfOk result (λ value. tree_of value ≡ draft_tree self.entry) }
@@ -100,7 +100,7 @@ impl<'qs> Level<'qs> {
 }
 
 impl<'qs> Waiting<'qs> {
-    /// Goes on behind the map that was waited for.
+    /// Goes on after the map that was waited for.
     fn resumed(self, map: ParsedMap<'qs>) -> Result<Level<'qs>, AllocError>
         requires { IsStrictlySortedBy key_cmp (keys_of (with_node self (mapping (entries_of_map map)))) }
         ensures pairs { IfOk result (λ level. level_pairs level ≡ with_node self.entry (mapping (entries_of_map map.entry))) }

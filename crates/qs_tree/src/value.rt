@@ -14,13 +14,13 @@ use std::borrow::CowSlice;
 #[cycle(tree)]
 #[derive(Debug, Drop)]
 pub enum ParsedValue<'qs> {
-    /// What stands behind each key, as `a[b]=1` makes under `a`.
+    /// What follows each key, as `a[b]=1` makes under `a`.
     Map(ParsedMap<'qs>),
     /// Several leaves at one path, as `a=1&a=2` and `a[]=1` make under `a`. Keys that are numbers, as in `a[0]=1`, make a map.
     Sequence(Vec<ParsedValue<'qs>>),
-    /// The bytes behind `=`, unescaped; there is at least one.
+    /// The bytes after `=`, unescaped; there is at least one.
     String(CowSlice<'qs, u8>),
-    /// Nothing behind `=`, as in `a=`.
+    /// Nothing after `=`, as in `a=`.
     Null,
     /// No `=`, as in `a`.
     NoValue,

@@ -9,7 +9,7 @@ use Rattle.serde_qs.specs.declared.limits.Limits.{Limits}
 abbrev pub lifted : Limits
 lifted = record { max_length = 18446744073709551615; max_pairs = 18446744073709551615 }
 
--- where the pieces between `&` begin: the first at the front, and each other behind an `&`; the empty input has none
+-- where the pieces between `&` begin: the first at the front, and each other after an `&`; the empty input has none
 abbrev pub starts : List ℕ → List ℕ
 starts [] = []
 starts (b ∷ bytes) = 0 ∷ map (λ at. at + 1) (places (is_byte 38) (b ∷ bytes))

@@ -1,5 +1,5 @@
--- What calls answer.
-use Rattle.std.specs.Prelude.{◌≡◌, true, false, ℕ, List, ⊤, option_and_then, Result, Ok, Err, Option, Some, None}
+-- What calls return.
+use Rattle.std.specs.Prelude.{◌≡◌, true, false, ℕ, List, ⊤, Result, Ok, Err, Option, Some, None}
 use Rattle.qs_tree.specs.declared.error.Error.{Error}
 use Rattle.qs_data.specs.Gives.{Gives}
 use Rattle.qs_tree.specs.declared.error.Error.TheVariants.{Custom, Parse, Utf8, OutOfMemory}
@@ -7,14 +7,14 @@ use Rattle.qs_spec.specs.Config.{Config}
 use Rattle.qs_spec.specs.Shape.{Shape}
 use Rattle.qs_spec.specs.Data.{Data}
 use Rattle.qs_spec.specs.Tree.{Tree, IsTree, IsRefused}
-use Rattle.qs_spec.specs.Read.{read_by}
+use Rattle.qs_spec.specs.Relation.{ReadsBy}
 use Rattle.qs_spec.specs.Entry.{Entry}
 use Rattle.qs_spec.specs.Written.{written}
 use Rattle.qs_spec.specs.ReadBack.{IsPlainFor}
 use Rattle.qs_data.specs.ReadBack.{IsOrder}
 use Rattle.qs_spec.specs.Same.{Same}
 
--- Seen by view, the answer is the value that the data mean; a fault comes exactly where they mean none, and any other error is want
+-- Seen by view, the result is the value that the data mean; a fault comes exactly where they mean none, and any other error is want
 -- of memory.
 abbrev pub Means : {X Y : Type 0} → (X → Y) → Result X Error → Option Y → Type 0
 Means view result r = Gives view true result r
@@ -24,16 +24,16 @@ pub record IsRead {V : Type 0} (config : Config) (form : Shape) (meaning : Data 
   pub tree : Tree
   pub datum : Data
   pub has_tree : IsTree config.form config.max_depth input tree
-  pub is_read : read_by config form tree ≡ Some datum
+  pub is_read : ReadsBy config form tree datum
   pub is_meant : meaning datum ≡ Some value
 
--- it has a tree, from which the form reads nothing, or data that mean nothing
+-- it has a tree, and no data that the form reads from it mean a value
 pub record IsUnread {V : Type 0} (config : Config) (form : Shape) (meaning : Data → Option V) (input : List ℕ) : Type 0 where
   pub tree : Tree
   pub has_tree : IsTree config.form config.max_depth input tree
-  pub is_unread : option_and_then meaning (read_by config form tree) ≡ None
+  pub is_unread : (d : Data) → ReadsBy config form tree d → meaning d ≡ None
 
--- what a typed call answers: the value that the input stands for, a refusal exactly where it has no tree, a fault exactly where it
+-- what a typed call returns: the value that the input stands for, a refusal exactly where it has no tree, a fault exactly where it
 -- stands for no value, or want of memory
 abbrev pub ReturnsValue : {X V : Type 0} → (X → V) → Config → Shape → (Data → Option V) → List ℕ → Result X Error → Type 0
 ReturnsValue view config form meaning input (Ok x) = IsRead config form meaning input (view x)
@@ -43,7 +43,7 @@ ReturnsValue view config form meaning input (Err (Parse m n)) = IsRefused config
 ReturnsValue view config form meaning input (Err OutOfMemory) = ⊤
 ReturnsValue view config form meaning input (Err _) = ⊥
 
--- data that are the same as these, but for the order of maps, mean the value, or mean none and the answer is a fault; or memory ran
+-- data that are the same as these, but for the order of maps, mean the value, or mean none and the result is a fault; or memory ran
 -- out
 abbrev pub ReturnsSame : {X V : Type 0} → (X → V) → (Data → Option V) → Data → Result X Error → Type 0
 ReturnsSame view meaning x (Ok y) = (e : Data) × Same x e × (meaning e ≡ Some (view y))
@@ -52,6 +52,6 @@ ReturnsSame view meaning x (Err (Utf8 m)) = (e : Data) × Same x e × (meaning e
 ReturnsSame view meaning x (Err OutOfMemory) = ⊤
 ReturnsSame view meaning x (Err _) = ⊥
 
--- what a typed call answers to an input that was written of plain data which fit, from their entries in any order
+-- what a typed call returns to an input that was written of plain data which fit, from their entries in any order
 pub record ReturnsWritten {X V : Type 0} (view : X → V) (config : Config) (form : Shape) (meaning : Data → Option V) (input : List ℕ) (result : Result X Error) : Type 0 where
   pub returns : (x : Data) (es : List Entry) → IsPlainFor config form x → IsOrder config x es → input ≡ written config.form false es → ReturnsSame view meaning x result

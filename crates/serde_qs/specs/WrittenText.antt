@@ -21,7 +21,7 @@ text_of config x = written config.form false (entries config x).entries
 abbrev pub text_of_first : ℕ → Config → Data → List ℕ
 text_of_first k config x = written config.form false (take k (entries config x).entries)
 
--- the whole text, of visible bytes, exactly where nothing is refused; otherwise the refusal, or want of memory
+-- the whole text, of visible bytes, exactly where nothing is rejected; otherwise the refusal, or want of memory
 abbrev pub ReturnsText : Config → Data → Result (String Global) Error → Type 0
 ReturnsText config x (Ok text) = ((entries config x).refusal ≡ None) × (string_bytes text ≡ text_of config x) × All IsVisible (string_bytes text)
 ReturnsText config x (Err (MaxSerializationDepthExceeded n)) = (n ≡ config.max_depth) × ((entries config x).refusal ≡ Some too_deep)
@@ -53,7 +53,7 @@ pub record WritesValue {T : Type 0} (config : Config) (x : Data) (old new : Opti
   pub visible : (added : List ℕ) × Appends old new added × All IsVisible added
   pub errors : IsValueWriteError result
 
--- a write to memory fails only where memory is refused
+-- a write to memory fails only where memory runs out
 abbrev pub memory_for_io : Error → Error
 memory_for_io (Io e) = OutOfMemory
 memory_for_io (Custom m) = Custom m

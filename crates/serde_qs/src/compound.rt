@@ -50,7 +50,7 @@ use std::alloc::Global;
 pub trait Compound: Sized {
     /// The types of the fields, as nested pairs: `Struct<(String, (u8, ()))>`. Or the variants of an enum:
     /// `Enum<OneOf<(), Last<Newtype<String>>>>`. Or the one value of a newtype: `Newtype<String>`.
-    type Parts: Parts + Drop;
+    type Parts: Parts;
 
     // The names, as bytes, and the parts.
     ghost names: { List (List ℕ) };

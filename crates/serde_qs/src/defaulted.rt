@@ -44,7 +44,7 @@ pub trait OrDefault: Deserialize {
 #[derive(Debug, PartialEq, Drop)]
 pub struct Defaulted<T, R>(pub T, pub R);
 
-impl<T: RoundTrip + OrDefault + Drop, R: Fields + Drop> Fields for Defaulted<T, R> {
+impl<T: RoundTrip + OrDefault + Drop, R: Fields> Fields for Defaulted<T, R> {
     ghost Value = { T.Value × R.Value };
 
     ghost value = { λ x. (T.value x.0, R.value x.1) };

@@ -106,7 +106,7 @@ impl Fields for () {
     }
 }
 
-impl<T: RoundTrip + Drop, R: Fields + Drop> Fields for (T, R) {
+impl<T: RoundTrip + Drop, R: Fields> Fields for (T, R) {
     ghost Value = { T.Value × R.Value };
 
     ghost value = { λ x. (T.value x.0, R.value x.1) };

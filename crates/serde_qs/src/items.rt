@@ -71,7 +71,7 @@ impl Items for () {
     }
 }
 
-impl<T: RoundTrip + Drop, R: Items + Drop> Items for (T, R) {
+impl<T: RoundTrip + Drop, R: Items> Items for (T, R) {
     ghost Value = { T.Value × R.Value };
 
     ghost value = { λ x. (T.value x.0, R.value x.1) };

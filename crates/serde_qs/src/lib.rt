@@ -44,7 +44,7 @@
 //!
 //! # Keys that come again
 //!
-//! Where one value is asked for, the last of several is taken, or they are refused: [`DuplicateKeyBehavior`].
+//! Where one value is asked for, the last of several is taken, or they are rejected: [`DuplicateKeyBehavior`].
 //!
 //! # Lists
 //!
@@ -52,7 +52,7 @@
 //!
 //! # Memory
 //!
-//! A call that takes memory is passed the allocator, and answers [`Error::OutOfMemory`] where it was refused a growth, and
+//! A call that allocates is passed the allocator, and returns [`Error::OutOfMemory`] where an allocation failed, and
 //! only there.
 #![tactic(auto)]
 

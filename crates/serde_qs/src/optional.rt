@@ -17,7 +17,7 @@ use std::alloc::Global;
 #[derive(Debug, PartialEq, Drop)]
 pub struct Optional<T, R>(pub Option<T>, pub R);
 
-impl<T: RoundTrip + Drop, R: Fields + Drop> Fields for Optional<T, R> {
+impl<T: RoundTrip + Drop, R: Fields> Fields for Optional<T, R> {
     ghost Value = { Option T.Value × R.Value };
 
     ghost value = { λ x. (option_map T.value x.0, R.value x.1) };

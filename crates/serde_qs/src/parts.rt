@@ -60,7 +60,7 @@ pub trait Parts: Sized {
     ghost distinct: { (names : List (List ℕ)) → are_named names ≡ true → is_distinct (form names) ≡ true };
 }
 
-impl<F: Fields + Drop> Parts for Struct<F> {
+impl<F: Fields> Parts for Struct<F> {
     ghost Value = { F.Value };
 
     ghost value = { λ x. F.value x.0 };
@@ -89,7 +89,7 @@ impl<F: Fields + Drop> Parts for Struct<F> {
 
 /// Returns the fields that the data of a struct mean.
 #[tactic(auto, using(crate::proofs::Levels::levels))]
-pub(crate) fn struct_fields<F: Fields + Drop>(
+pub(crate) fn struct_fields<F: Fields>(
     alloc: Global,
     names: &[&'static str],
     datum: Data,
@@ -103,7 +103,7 @@ pub(crate) fn struct_fields<F: Fields + Drop>(
     F::from_members(alloc, names, members)
 }
 
-impl<V: Variants + Drop> Parts for Enum<V> {
+impl<V: Variants> Parts for Enum<V> {
     ghost Value = { V.Value };
 
     ghost value = { λ x. V.value x.0 };
@@ -130,7 +130,7 @@ impl<V: Variants + Drop> Parts for Enum<V> {
     }
 }
 
-impl<T: RoundTrip + Drop> Parts for Newtype<T> {
+impl<T: RoundTrip> Parts for Newtype<T> {
     ghost Value = { T.Value };
 
     ghost value = { λ x. T.value x.0 };
@@ -159,7 +159,7 @@ impl<T: RoundTrip + Drop> Parts for Newtype<T> {
     }
 }
 
-impl<I: Items + Drop> Parts for Tuple<I> {
+impl<I: Items> Parts for Tuple<I> {
     ghost Value = { I.Value };
 
     ghost value = { λ x. I.value x.0 };

@@ -109,7 +109,7 @@ impl Payload for () {
     }
 }
 
-impl<T: RoundTrip + Drop> Payload for Newtype<T> {
+impl<T: RoundTrip> Payload for Newtype<T> {
     ghost Value = { T.Value };
 
     ghost value = { λ x. T.value x.0 };
@@ -150,7 +150,7 @@ impl<T: RoundTrip + Drop> Payload for Newtype<T> {
     }
 }
 
-impl<F: Fields + Drop> Payload for Struct<F> {
+impl<F: Fields> Payload for Struct<F> {
     ghost Value = { F.Value };
 
     ghost value = { λ x. F.value x.0 };
@@ -184,7 +184,7 @@ impl<F: Fields + Drop> Payload for Struct<F> {
     }
 }
 
-impl<I: Items + Drop> Payload for Tuple<I> {
+impl<I: Items> Payload for Tuple<I> {
     ghost Value = { I.Value };
 
     ghost value = { λ x. I.value x.0 };
@@ -225,7 +225,7 @@ impl<I: Items + Drop> Payload for Tuple<I> {
 
 /// Returns the fields that the data of a struct variant mean.
 #[tactic(auto, using(crate::proofs::Levels::levels))]
-pub(crate) fn variant_fields<F: Fields + Drop>(
+pub(crate) fn variant_fields<F: Fields>(
     alloc: Global,
     names: &[&'static str],
     datum: Data,

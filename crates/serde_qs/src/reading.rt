@@ -5,10 +5,9 @@ ghost use Rattle.qs_spec.specs.Config.{default};
 ghost use Rattle.qs_spec.specs.Shape.{is_distinct};
 ghost use Rattle.qs_spec.specs.Tree.{IsTree, IsRefused};
 ghost use Rattle.qs_tree.specs.Error.{IsParse, OnlyParseOrOutOfMemory};
-ghost use Rattle.qs_data.specs.Gives.{Gives, OnlyCustomUtf8OrOutOfMemory};
-ghost use Rattle.qs_data.specs.Parsed.{parsed_of, reading};
-ghost use Rattle.qs_data.specs.Text.{is_text};
-ghost use Rattle.qs_data.specs.Views.{data_of, shape_of};
+ghost use Rattle.qs_data.specs.Gives.{OnlyCustomUtf8OrOutOfMemory};
+ghost use Rattle.qs_data.specs.Parsed.{ReturnsData, parsed_of};
+ghost use Rattle.qs_data.specs.Views.{shape_of};
 ghost use Rattle.serde_qs.specs.Typed.{ReturnsValue, ReturnsWritten};
 
 use crate::traits::Deserialize;
@@ -101,7 +100,7 @@ fn parsed<'qs>(alloc: Global, config: Config, input: &'qs [u8]) -> Result<Deseri
 // The data that a shape reads, with what a typed call asks of that.
 fn read_data(alloc: Global, deserializer: Deserializer<'_>, shape: &Shape) -> Result<Data>
     requires { is_distinct (shape_of shape.now) ≡ true }
-    ensures exact { Gives data_of (is_text (parsed_of deserializer.entry).tree) result (reading (parsed_of deserializer.entry) (shape_of shape.now)) }
+    ensures exact { ReturnsData (parsed_of deserializer.entry) (shape_of shape.now) result }
     ensures errors { OnlyCustomUtf8OrOutOfMemory result }
 {
     deserializer.read(alloc, shape)

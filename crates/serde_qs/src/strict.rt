@@ -22,7 +22,7 @@ use std::alloc::Global;
 #[derive(Debug, PartialEq, Drop)]
 pub struct StrictStruct<F>(pub F);
 
-impl<F: Fields + Drop> Parts for StrictStruct<F> {
+impl<F: Fields> Parts for StrictStruct<F> {
     ghost Value = { F.Value };
 
     ghost value = { λ x. F.value x.0 };
@@ -49,7 +49,7 @@ impl<F: Fields + Drop> Parts for StrictStruct<F> {
     }
 }
 
-impl<F: Fields + Drop> Payload for StrictStruct<F> {
+impl<F: Fields> Payload for StrictStruct<F> {
     ghost Value = { F.Value };
 
     ghost value = { λ x. F.value x.0 };

@@ -73,7 +73,7 @@ pub trait Variants: Sized {
     ghost are_distinct: { AreDistinct form };
 }
 
-impl<V: Payload + Drop> Variants for Last<V> {
+impl<V: Payload> Variants for Last<V> {
     ghost Value = { V.Value };
 
     ghost value = { λ x. V.value x.0 };
@@ -113,7 +113,7 @@ impl<V: Payload + Drop> Variants for Last<V> {
     }
 }
 
-impl<V: Payload + Drop, R: Variants + Drop> Variants for OneOf<V, R> {
+impl<V: Payload, R: Variants> Variants for OneOf<V, R> {
     ghost use Rattle.serde_qs.specs.declared.variants.OneOf.{OneOf};
 
     ghost Value = { OneOf V.Value R.Value };

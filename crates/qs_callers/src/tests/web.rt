@@ -2,9 +2,9 @@
 
 use super::text;
 use crate::{
-    Query, copied_form, copied_query, form_inside, is_same_form, is_same_query, order_of_forms,
-    order_of_queries, partial_order_of_forms, partial_order_of_queries, query_inside, set_form,
-    set_query,
+    Query, copied_form, copied_query, form_inside, form_text, is_same_form, is_same_query,
+    order_of_forms, order_of_queries, partial_order_of_forms, partial_order_of_queries,
+    query_inside, query_text, set_form, set_query,
 };
 use serde_qs::web::{QsForm, QsQuery};
 use serde_qs::{Config, ConfigExt, Error, from_str};
@@ -59,6 +59,10 @@ fn shown_as_the_value_inside(rt: HostRuntime) {
     let form = QsForm(text(&rt, alloc, "c"));
     let shown = format!(in alloc; "{query} {query:?} {form} {form:?}").expect(&rt, "memory");
     assert!(rt; shown.as_str() == "a b \"a b\" c \"c\"", "{shown}");
+    let number = query_text(alloc, &QsQuery(7u8)).expect(&rt, "memory");
+    assert!(rt; number.as_str() == "7", "{number}");
+    let number = form_text(alloc, &QsForm(7u8)).expect(&rt, "memory");
+    assert!(rt; number.as_str() == "7", "{number}");
 }
 
 #[test]

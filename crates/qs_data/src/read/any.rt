@@ -1,19 +1,20 @@
 //! Reading whatever is there.
 
-ghost use Rattle.qs_spec.specs.Read.{any_data};
+ghost use Rattle.qs_spec.specs.toward.ReadFunction.{any_data};
 ghost use Rattle.qs_tree.specs.Views.{tree_of};
 ghost use Rattle.qs_data.specs.Views.{data_of};
 ghost use Rattle.qs_data.specs.Text.{is_text};
-ghost use Rattle.qs_data.specs.Gives.{Gives};
+ghost use Rattle.qs_data.specs.ReadError.{Gives};
 ghost use Rattle.qs_data.specs.Nesting.{level_data, level_is_text};
 
 use crate::data::Data;
+use crate::read::error::Result;
 use crate::read::nested::{Level, Node, visit};
-use qs_tree::{ParsedValue, Result};
+use qs_tree::ParsedValue;
 use std::alloc::Global;
 use std::mem;
 
-/// Whatever is there: a text as a text, and an empty one where nothing stands behind `=`. A sequence is a list, and so is a map
+/// Whatever is there: a text as a text, and an empty one where nothing follows `=`. A sequence is a list, and so is a map
 /// whose keys are all numbers; another map keeps its keys as texts.
 ///
 /// Takes the same stack at any depth: lists and maps that hold others wait on the heap.

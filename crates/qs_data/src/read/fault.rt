@@ -1,8 +1,9 @@
 //! What a tree can lack of a shape, and what is said of it.
 
-ghost use Rattle.qs_data.specs.Gives.{IsFault};
+ghost use Rattle.qs_data.specs.ReadError.{IsFault};
 ghost use Rattle.qs_data.specs.Hint.{IsToldOfKey};
 
+use crate::read::error::ReadError;
 use crate::read::width::Width;
 use qs_tree::{Error, ParsedValue};
 use std::alloc::Global;
@@ -70,14 +71,14 @@ pub(crate) enum Expected {
 
 impl Fault<'_> {
     /// The error that says so, or that its message found no memory.
-    pub(crate) fn error(self, alloc: Global) -> Error
+    pub(crate) fn error(self, alloc: Global) -> ReadError
         ensures { IsFault result }
     {
-        Error::custom(alloc, self, &())
+        ReadError::saying(alloc, self)
     }
 
     /// The error of a node of another kind than the one that is asked for.
-    pub(crate) fn mismatch(alloc: Global, value: &ParsedValue<'_>, expected: Expected) -> Error
+    pub(crate) fn mismatch(alloc: Global, value: &ParsedValue<'_>, expected: Expected) -> ReadError
         ensures { IsFault result }
     {
         let found = match value {
@@ -91,7 +92,7 @@ impl Fault<'_> {
     }
 
     /// The error of a text that stands for no value of the kind that is asked for.
-    pub(crate) fn unreadable(alloc: Global, expected: Expected) -> Error
+    pub(crate) fn unreadable(alloc: Global, expected: Expected) -> ReadError
         ensures { IsFault result }
     {
         let found = Kind::Text;
@@ -99,20 +100,20 @@ impl Fault<'_> {
     }
 }
 
-/// The error of a key that can't be read, from why it can't: a hint stands behind it where the key holds a bracket.
-pub(crate) fn of_key(alloc: Global, key: &[u8], error: Error) -> Error
+/// The error of a key that can't be read, from why it can't: a hint follows it where the key holds a bracket.
+pub(crate) fn of_key(alloc: Global, key: &[u8], error: ReadError) -> ReadError
     ensures { IsToldOfKey key.now error result }
 {
     if !key.contains(&b'[') {
         return error;
     }
-    match error {
-        Error::OutOfMemory => Error::OutOfMemory,
-        error => Error::custom(alloc, Hinted { error }, &()),
+    match Error::from(error) {
+        Error::OutOfMemory => ReadError::OutOfMemory,
+        error => ReadError::saying(alloc, Hinted { error }),
     }
 }
 
-/// An error, and a hint behind it.
+/// An error, and a hint after it.
 #[derive(Drop)]
 struct Hinted {
     error: Error,

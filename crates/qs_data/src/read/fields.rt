@@ -2,27 +2,29 @@
 
 ghost use Rattle.std.specs.Prelude.{Some, None, cond, drop, map, option_map, option_and_then};
 ghost use Rattle.qs_spec.specs.Shape.{is_option as is_option_shape};
-ghost use Rattle.qs_spec.specs.Read.{struct_members, reads, reads_names, reads_places, read_field, read_place, found, keys_are_allowed};
+ghost use Rattle.qs_spec.specs.Node.{found, keys_are_allowed};
+ghost use Rattle.qs_spec.specs.toward.ReadFunction.{struct_members, reads, reads_names, reads_places, read_field, read_place};
 ghost use Rattle.qs_tree.specs.Views.{tree_of, items_from};
 ghost use Rattle.qs_data.specs.Views.{data_of, field_of, fields_in, named, shape_of};
 ghost use Rattle.qs_data.specs.Text.{is_text, items_are_text, entries_are_text};
-ghost use Rattle.qs_data.specs.Gives.{Gives};
+ghost use Rattle.qs_data.specs.ReadError.{Gives};
 ghost use Rattle.qs_data.specs.Keys.{NumbersFit, entries_of, unknown_of};
 ghost use Rattle.std.specs.Prelude.{◌≡◌};
 
 use crate::data::Data;
+use crate::read::error::Result;
 use crate::read::fault::{Expected, Fault};
 use crate::read::keys::{Entries, Found, find, test_keys};
-use crate::read::read;
+use crate::read::read_node;
 use crate::read::scalar::as_text;
 use crate::read::unknown::UnknownKeys;
 use crate::shape::{Field, Shape};
-use qs_tree::{ParsedValue, Result};
+use qs_tree::ParsedValue;
 use std::alloc::Global;
 
 /// The fields of a node: by their names among keys, and by their places among items.
 #[cycle(read)]
-#[tactic(auto, unfolding(qs_spec::specs::Read::struct_members))]
+#[tactic(auto, unfolding(qs_spec::specs::toward::ReadFunction::struct_members))]
 #[inline(always)]
 pub(crate) fn read_struct(
     alloc: Global,
@@ -84,7 +86,7 @@ pub(crate) fn read_entries(
 
 // The fields by their names, in their order.
 #[cycle(read)]
-#[tactic(auto, unfolding(qs_spec::specs::Read::reads))]
+#[tactic(auto, unfolding(qs_spec::specs::toward::ReadFunction::reads))]
 fn read_names(
     alloc: Global,
     reject_duplicates: bool,
@@ -129,7 +131,7 @@ fn read_field(
                 Err(Fault::MissingField(&field.name).error(alloc))
             }
         }
-        Found::One(value) => Ok(Some(read(alloc, reject_duplicates, &field.shape, value)?)),
+        Found::One(value) => Ok(Some(read_node(alloc, reject_duplicates, &field.shape, value)?)),
         Found::Several => Err(Fault::DuplicateField(&field.name).error(alloc)),
     }
 }
@@ -145,7 +147,7 @@ fn is_option(shape: &Shape) -> bool
 
 // The fields by their places.
 #[cycle(read)]
-#[tactic(auto, unfolding(qs_spec::specs::Read::reads))]
+#[tactic(auto, unfolding(qs_spec::specs::toward::ReadFunction::reads))]
 fn read_places(
     alloc: Global,
     reject_duplicates: bool,
@@ -180,7 +182,7 @@ fn read_place(
         (read_place f.2 (reads reject_duplicates f.1) (items_from (map tree_of (drop place items.now)))) }
 {
     match items.get(place) {
-        Some(item) => Ok(Some(read(alloc, reject_duplicates, &field.shape, item)?)),
+        Some(item) => Ok(Some(read_node(alloc, reject_duplicates, &field.shape, item)?)),
         None => {
             if field.optional {
                 Ok(None)

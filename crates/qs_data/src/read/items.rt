@@ -1,14 +1,15 @@
 //! The items of a node.
 
 ghost use Rattle.std.specs.Prelude.{◌≡◌, length, drop, option_map, true};
-ghost use Rattle.qs_spec.specs.Read.{items, are_ints, is_place};
+ghost use Rattle.qs_spec.specs.Node.{items, are_ints, is_place};
 ghost use Rattle.qs_tree.specs.Views.{tree_of, entries_of_map, segment_of_key};
-ghost use Rattle.qs_data.specs.Gives.{Gives};
+ghost use Rattle.qs_data.specs.ReadError.{Gives};
 ghost use Rattle.qs_data.specs.Items.{items_in, first_item, passed};
-ghost use Rattle.qs_spec.specs.Read.{placed};
+ghost use Rattle.qs_spec.specs.Node.{placed};
 
+use crate::read::error::Result;
 use crate::read::fault::{Expected, Fault, Kind};
-use qs_tree::{Key, ParsedMap, ParsedValue, Result};
+use qs_tree::{Key, ParsedMap, ParsedValue};
 use std::alloc::Global;
 
 /// The items of a node.
@@ -75,7 +76,7 @@ impl<'t, 'qs> Items<'t, 'qs> {
         }
     }
 
-    /// The item at a place, if there are so many; refused where a map has another key there.
+    /// The item at a place, if there are so many; rejected where a map has another key there.
     #[inline(always)]
     pub(crate) fn at(self, alloc: Global, place: usize) -> Result<Option<&'t ParsedValue<'qs>>>
         ensures { Gives (option_map (λ v. tree_of v.now)) true result (first_item (drop place (items_in self.entry))) }

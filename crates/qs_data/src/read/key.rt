@@ -6,18 +6,19 @@ ghost use Rattle.qs_spec.specs.Segment.{segment_text};
 ghost use Rattle.qs_spec.specs.Scalar.{key_data, name_data};
 ghost use Rattle.qs_tree.specs.Views.{segment_of_key};
 ghost use Rattle.qs_data.specs.Views.{data_of, key_shape_of};
-ghost use Rattle.qs_data.specs.Gives.{Gives};
+ghost use Rattle.qs_data.specs.ReadError.{Gives};
 
 use crate::data::Data;
+use crate::read::error::Result;
 use crate::read::fault::{Fault, of_key};
 use crate::read::scalar::{as_text, bool_data, char_data, signed_data, text_data, unsigned_data};
 use crate::read::width::Width;
 use crate::shape::KeyShape;
 use itoa::Buffer;
-use qs_tree::{Key, Result};
+use qs_tree::Key;
 use std::alloc::Global;
 
-/// Reads a key by its text; that of a number is its digits. The fault of a key that holds a bracket is told with a hint.
+/// Reads a key by its text; that of a number is its digits. The fault of a key that holds a bracket is reported with a hint.
 #[inline(always)]
 pub(crate) fn read_key(alloc: Global, shape: &KeyShape, key: &Key<'_>) -> Result<Data>
     ensures { Gives data_of (is_utf8 (segment_text (segment_of_key key.now))) result

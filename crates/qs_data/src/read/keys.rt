@@ -3,15 +3,16 @@
 ghost use Rattle.std.specs.Prelude.{◌++◌};
 ghost use Rattle.std.specs.Str.{is_utf8};
 ghost use Rattle.qs_spec.specs.Segment.{segment_text};
-ghost use Rattle.qs_spec.specs.Read.{found, keys_are_text};
+ghost use Rattle.qs_spec.specs.Node.{found, keys_are_text};
 ghost use Rattle.qs_tree.specs.Views.{entries_of_map, segment_of_key};
-ghost use Rattle.qs_tree.specs.declared.error.Error.TheVariants.{Utf8};
+ghost use Rattle.qs_data.specs.declared.read.error.ReadError.TheVariants.{Utf8};
 ghost use Rattle.qs_data.specs.Hint.{IsToldOfKey};
 ghost use Rattle.qs_data.specs.Keys.{Finds, NumbersFit, TellsNumber, KeyFits, Tells, entries_of, value_in};
 
+use crate::read::error::{ReadError, Result};
 use crate::read::fault::of_key;
 use itoa::Buffer;
-use qs_tree::{Error, Key, ParsedMap, ParsedValue, Result};
+use qs_tree::{Key, ParsedMap, ParsedValue};
 use std::alloc::Global;
 use std::str;
 use std::str::Utf8Error;
@@ -29,7 +30,7 @@ pub(crate) enum Entries<'t, 'qs> {
 
 /// What stands under a name.
 #[derive(Clone, Copy)]
-pub(crate) enum Found<'t, 'qs> {
+pub enum Found<'t, 'qs> {
     /// Nothing.
     Missing,
     /// This value.
@@ -107,11 +108,11 @@ pub(crate) struct BrokenKey<'t> {
 }
 
 impl BrokenKey<'_> {
-    /// The error that tells it.
-    pub(crate) fn error(self, alloc: Global) -> Error
+    /// The error that says so.
+    pub(crate) fn error(self, alloc: Global) -> ReadError
         ensures { IsToldOfKey self.entry.text.now (Utf8 self.entry.cause) result }
     {
-        of_key(alloc, self.text, Error::Utf8(self.cause))
+        of_key(alloc, self.text, ReadError::Utf8(self.cause))
     }
 }
 

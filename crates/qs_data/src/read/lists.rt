@@ -1,24 +1,26 @@
 //! Reading lists and tuples.
 
 ghost use Rattle.std.specs.Prelude.{map, option_and_then, option_map};
-ghost use Rattle.qs_spec.specs.Read.{items, read_each, read_list, reads, reads_tuple};
+ghost use Rattle.qs_spec.specs.Node.{items};
+ghost use Rattle.qs_spec.specs.toward.ReadFunction.{read_each, read_list, reads, reads_tuple};
 ghost use Rattle.qs_tree.specs.Views.{tree_of};
 ghost use Rattle.qs_data.specs.Views.{data_of, shape_of, shapes_in};
 ghost use Rattle.qs_data.specs.Text.{is_text};
 ghost use Rattle.qs_data.specs.Items.{items_in, are_text};
-ghost use Rattle.qs_data.specs.Gives.{Gives};
+ghost use Rattle.qs_data.specs.ReadError.{Gives};
 
 use crate::data::Data;
+use crate::read::error::Result;
 use crate::read::fault::{Expected, Fault};
 use crate::read::items::{Items, items_of};
-use crate::read::read;
+use crate::read::read_node;
 use crate::shape::Shape;
-use qs_tree::{ParsedValue, Result};
+use qs_tree::ParsedValue;
 use std::alloc::Global;
 
 /// A list: the items of a node, all by one shape.
 #[cycle(read)]
-#[tactic(auto, unfolding(qs_spec::specs::Read::read_list))]
+#[tactic(auto, unfolding(qs_spec::specs::toward::ReadFunction::read_list))]
 pub(crate) fn read_list(
     alloc: Global,
     reject_duplicates: bool,
@@ -48,7 +50,7 @@ pub(crate) fn read_each(
         let Some(item) = items.at(alloc, i)? else {
             break;
         };
-        values.push(read(alloc, reject_duplicates, part, item)?)?;
+        values.push(read_node(alloc, reject_duplicates, part, item)?)?;
     }
     Ok(values)
 }
@@ -72,7 +74,7 @@ pub(crate) fn read_tuple(
 
 // The first items, each by its own shape.
 #[cycle(read)]
-#[tactic(auto, unfolding(qs_spec::specs::Read::reads))]
+#[tactic(auto, unfolding(qs_spec::specs::toward::ReadFunction::reads))]
 fn read_parts(
     alloc: Global,
     reject_duplicates: bool,
@@ -87,7 +89,7 @@ fn read_parts(
         let Some(item) = items.at(alloc, i)? else {
             return Err(Fault::InvalidLength(i).error(alloc));
         };
-        values.push(read(alloc, reject_duplicates, part, item)?)?;
+        values.push(read_node(alloc, reject_duplicates, part, item)?)?;
     }
     Ok(values)
 }

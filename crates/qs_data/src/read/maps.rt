@@ -1,23 +1,25 @@
 //! Reading maps.
 
 ghost use Rattle.std.specs.Prelude.{map};
-ghost use Rattle.qs_spec.specs.Read.{read_map, read_pairs, reads, under_empty};
+ghost use Rattle.qs_spec.specs.Node.{under_empty};
+ghost use Rattle.qs_spec.specs.toward.ReadFunction.{read_map, read_pairs, reads};
 ghost use Rattle.qs_tree.specs.Views.{tree_of, entries_of_map};
 ghost use Rattle.qs_data.specs.Views.{key_shape_of, pair_of, shape_of};
 ghost use Rattle.qs_data.specs.Text.{is_text, entries_are_text};
-ghost use Rattle.qs_data.specs.Gives.{Gives};
+ghost use Rattle.qs_data.specs.ReadError.{Gives};
 
 use crate::data::Data;
+use crate::read::error::Result;
 use crate::read::fault::{Expected, Fault};
 use crate::read::key::{key_data, read_key};
-use crate::read::read;
+use crate::read::read_node;
 use crate::shape::{KeyShape, Shape};
-use qs_tree::{ParsedMap, ParsedValue, Result};
+use qs_tree::{ParsedMap, ParsedValue};
 use std::alloc::Global;
 
 /// The pairs of a node: those of a map, and a text under the empty key.
 #[cycle(read)]
-#[tactic(auto, unfolding(qs_spec::specs::Read::read_map))]
+#[tactic(auto, unfolding(qs_spec::specs::toward::ReadFunction::read_map))]
 pub(crate) fn read_map(
     alloc: Global,
     reject_duplicates: bool,
@@ -64,7 +66,7 @@ pub(crate) fn read_pairs(
             break;
         };
         let key = read_key(alloc, key_shape, key)?;
-        let value = read(alloc, reject_duplicates, part, value)?;
+        let value = read_node(alloc, reject_duplicates, part, value)?;
         pairs.push((key, value))?;
     }
     Ok(pairs)
@@ -83,7 +85,7 @@ fn read_under_empty(
         (read_pairs (key_shape_of key_shape.now) (reads reject_duplicates (shape_of part.now)) (under_empty (tree_of value.now))) }
 {
     let key = key_data(alloc, key_shape, &[])?;
-    let value = read(alloc, reject_duplicates, part, value)?;
+    let value = read_node(alloc, reject_duplicates, part, value)?;
     let mut pairs = Vec::new(alloc);
     pairs.push((key, value))?;
     Ok(pairs)

@@ -4,9 +4,9 @@ ghost use Rattle.std.specs.Prelude.{◌≡◌, OnOk, IfErr, option_map};
 ghost use Rattle.qs_spec.specs.Data.{values_of, pairs_of};
 ghost use Rattle.qs_spec.specs.Data.Data.{sequence, mapping};
 ghost use Rattle.qs_spec.specs.Shape.KeyShape.{text};
-ghost use Rattle.qs_spec.specs.Read.{any_data, read_each, read_pairs};
+ghost use Rattle.qs_spec.specs.toward.ReadFunction.{any_data, read_each, read_pairs};
 ghost use Rattle.qs_tree.specs.Views.{tree_of, entries_of_map};
-ghost use Rattle.qs_tree.specs.declared.error.Error.TheVariants.{OutOfMemory};
+ghost use Rattle.qs_data.specs.declared.read.error.ReadError.TheVariants.{OutOfMemory};
 ghost use Rattle.qs_data.specs.Views.{data_of};
 ghost use Rattle.qs_data.specs.Items.{items_in, are_text};
 ghost use Rattle.qs_data.specs.Text.{entries_are_text};
@@ -15,12 +15,13 @@ ghost use Rattle.qs_data.specs.Nesting.{Visits, Advances, Adds, done_of, level_d
 ghost use Rattle.qs_data.specs.declared.read.nested.Level.TheVariants as level;
 
 use crate::data::Data;
+use crate::read::error::Result;
 use crate::read::fault::Fault;
 use crate::read::items::{Items, are_numbers};
 use crate::read::key::read_key;
 use crate::read::scalar::text_data;
 use crate::shape::KeyShape;
-use qs_tree::{ParsedMap, ParsedValue, Result};
+use qs_tree::{ParsedMap, ParsedValue};
 use std::alloc::Global;
 use std::mem;
 
@@ -58,8 +59,8 @@ pub(crate) struct MapLevel<'t, 'qs> {
     pairs: Vec<(Data, Data)>,
 }
 
-/// Reads a leaf, or begins a list or a map. A text is copied, which takes memory, as the message of a fault does; nothing else does.
-#[tactic(auto, unfolding(qs_spec::specs::Read::any_data))]
+/// Reads a leaf, or begins a list or a map. A text is copied, which allocates, as the message of a fault does; nothing else does.
+#[tactic(auto, unfolding(qs_spec::specs::toward::ReadFunction::any_data))]
 pub(crate) fn visit<'t, 'qs>(alloc: Global, value: &'t ParsedValue<'qs>) -> Result<Node<'t, 'qs>>
     ensures { Visits result (tree_of value.now) }
 {
@@ -110,7 +111,7 @@ impl<'t, 'qs> Level<'t, 'qs> {
         })
     }
 
-    /// Reads leaves up to the next list or map, and answers that; nothing where the level ends.
+    /// Reads leaves up to the next list or map, and returns that; nothing where the level ends.
     pub fn advance(&mut self, alloc: Global) -> Result<Option<Level<'t, 'qs>>>
         ensures { Advances result self.old self.new }
     {
@@ -143,7 +144,7 @@ impl<'t, 'qs> Level<'t, 'qs> {
 }
 
 impl Drop for ListLevel<'_, '_> {
-    // What is dropped behind a fault may be nested deep.
+    // What is dropped after a fault may be nested deep.
     fn drop(self) {
         for value in self.into_values() {
             value.discard();
@@ -235,7 +236,7 @@ impl<'t, 'qs> MapLevel<'t, 'qs> {
         Ok(None)
     }
 
-    // Keeps the key of a list or map until that is read, and the place behind it.
+    // Keeps the key of a list or map until that is read, and the place after it.
     fn wait(&mut self, next: usize, key: Data)
         ensures entries { self.new.entries ≡ self.old.entries }
         ensures next { self.new.next ≡ next }

@@ -4,19 +4,21 @@ ghost use Rattle.std.specs.Prelude.{◌≡◌, [], Some, None, true, option_map}
 ghost use Rattle.std.specs.Str.{is_utf8};
 ghost use Rattle.qs_spec.specs.Data as d;
 ghost use Rattle.qs_spec.specs.Scalar.{boolean_data, unsigned_data, signed_data, character_data, text_data, unsigned_number, signed_number};
-ghost use Rattle.qs_spec.specs.Read.{read_scalar, read_unit, read_character, last_item, item_text};
+ghost use Rattle.qs_spec.specs.Node.{last_item, item_text};
+ghost use Rattle.qs_spec.specs.toward.ReadFunction.{read_scalar, read_unit, read_character};
 ghost use Rattle.qs_tree.specs.Views.{tree_of, items_from};
 ghost use Rattle.qs_data.specs.Views.{data_of};
 ghost use Rattle.qs_data.specs.Text.{is_text};
-ghost use Rattle.qs_data.specs.Gives.{Gives, IsFrugal};
+ghost use Rattle.qs_data.specs.ReadError.{Gives, IsFrugal};
 ghost use Rattle.qs_data.specs.Widths.{bits_of};
 ghost use Rattle.qs_data.specs.ScalarText.{scalar_text, utf8_text};
 ghost use Rattle.std.specs.Prelude.{map};
 
 use crate::data::Data;
+use crate::read::error::{ReadError, Result};
 use crate::read::fault::{Expected, Fault, Kind};
 use crate::read::width::Width;
-use qs_tree::{ParsedValue, Result};
+use qs_tree::ParsedValue;
 use std::alloc::Global;
 use std::str;
 
@@ -155,7 +157,7 @@ fn scalar_text<'t>(
     }
 }
 
-// The text of the last item; several items are refused under `reject_duplicates`.
+// The text of the last item; several items are rejected under `reject_duplicates`.
 fn last_text<'t>(
     alloc: Global,
     reject_duplicates: bool,
@@ -193,7 +195,10 @@ pub(crate) fn as_text(bytes: &[u8]) -> Result<&str>
     ensures gives { Gives (λ s. s.now) (is_utf8 bytes.now) result (utf8_text bytes.now) }
     ensures frugal { IsFrugal result (utf8_text bytes.now) }
 {
-    Ok(str::from_utf8(bytes)?)
+    match str::from_utf8(bytes) {
+        Ok(text) => Ok(text),
+        Err(cause) => Err(ReadError::Utf8(cause)),
+    }
 }
 
 /// The boolean that a text stands for.

@@ -4,20 +4,22 @@ ghost use Rattle.std.specs.Prelude.{◌||◌};
 ghost use Rattle.std.specs.Str.{is_utf8};
 ghost use Rattle.qs_spec.specs.Segment.{segment_text};
 ghost use Rattle.qs_spec.specs.Shape.{are_ignored, is_field_name};
-ghost use Rattle.qs_spec.specs.Read.{keys_are_names};
+ghost use Rattle.qs_spec.specs.Node.{keys_are_names};
 ghost use Rattle.qs_tree.specs.Views.{entries_of_map, segment_of_key};
 ghost use Rattle.qs_data.specs.Views.{fields_in};
 ghost use Rattle.qs_data.specs.Text.{entries_are_text};
-ghost use Rattle.qs_data.specs.Gives.{Gives, when};
+ghost use Rattle.qs_data.specs.Gives.{when};
+ghost use Rattle.qs_data.specs.ReadError.{Gives};
 ghost use Rattle.qs_data.specs.Keys.{entries_of, unknown_of};
 
 use crate::distinct::is_field_name;
+use crate::read::error::Result;
 use crate::read::fault::{Fault, of_key};
 use crate::read::keys::Entries;
 use crate::read::scalar::as_text;
 use crate::shape::Field;
 use itoa::Buffer;
-use qs_tree::{Error, Key, ParsedMap, Result};
+use qs_tree::{Key, ParsedMap};
 use std::alloc::Global;
 
 /// What becomes of a key that no field has.

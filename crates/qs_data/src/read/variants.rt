@@ -5,30 +5,32 @@ ghost use Rattle.std.specs.Str.{is_utf8};
 ghost use Rattle.qs_spec.specs.Segment.{segment_text};
 ghost use Rattle.qs_spec.specs.Shape.{struct_kind};
 ghost use Rattle.qs_spec.specs.Tree.Tree.{mapping};
-ghost use Rattle.qs_spec.specs.Read.{read_enum, reads_names, reads_places, reads_variant, reads_kind, struct_members, keys_are_allowed, as_map, unit_variant_data};
+ghost use Rattle.qs_spec.specs.Node.{keys_are_allowed, as_map};
+ghost use Rattle.qs_spec.specs.toward.ReadFunction.{read_enum, reads_names, reads_places, reads_variant, reads_kind, struct_members, unit_variant_data};
 ghost use Rattle.qs_tree.specs.Views.{tree_of, entries_of_map, segment_of_key};
 ghost use Rattle.qs_data.specs.Views.{data_of, fields_in, named, variant_of, variants_in};
 ghost use Rattle.qs_data.specs.Text.{is_text, entries_are_text};
-ghost use Rattle.qs_data.specs.Gives.{Gives};
+ghost use Rattle.qs_data.specs.ReadError.{Gives};
 ghost use Rattle.qs_data.specs.Keys.{unknown_of};
 ghost use Rattle.qs_data.specs.Variants.{variant_named};
 
 use crate::data::Data;
+use crate::read::error::Result;
 use crate::read::fault::{Expected, Fault, Kind};
 use crate::read::fields::{read_entries, read_struct};
 use crate::read::keys::Entries;
 use crate::read::lists::read_tuple;
-use crate::read::read;
+use crate::read::read_node;
 use crate::read::scalar::as_text;
 use crate::read::unknown::UnknownKeys;
 use crate::shape::{Field, Variant, VariantKind};
 use itoa::Buffer;
-use qs_tree::{Key, ParsedMap, ParsedValue, Result};
+use qs_tree::{Key, ParsedMap, ParsedValue};
 use std::alloc::Global;
 
-/// One of the variants: the one that the least key of a map names, or the unit variant that a text names.
+/// One of the variants: the one that the smallest key of a map names, or the unit variant that a text names.
 #[cycle(read)]
-#[tactic(auto, unfolding(qs_spec::specs::Read::read_enum))]
+#[tactic(auto, unfolding(qs_spec::specs::toward::ReadFunction::read_enum))]
 pub(crate) fn read_enum(
     alloc: Global,
     reject_duplicates: bool,
@@ -62,9 +64,9 @@ fn read_name(alloc: Global, variants: &[Variant], name: &[u8]) -> Result<Data>
     Err(Fault::InvalidType { found, expected }.error(alloc))
 }
 
-// The variant that the least key of a map names, of the value there. The other keys are passed over.
+// The variant that the smallest key of a map names, of the value there. The other keys are passed over.
 #[cycle(read)]
-#[tactic(auto, unfolding(qs_spec::specs::Read::read_enum))]
+#[tactic(auto, unfolding(qs_spec::specs::toward::ReadFunction::read_enum))]
 fn read_least(
     alloc: Global,
     reject_duplicates: bool,
@@ -115,7 +117,7 @@ fn place_of(alloc: Global, variants: &[Variant], name: &[u8]) -> Result<usize>
 
 // What a variant holds, of the value under its name.
 #[cycle(read)]
-#[tactic(auto, using(crate::proofs::Levels::levels), unfolding(qs_spec::specs::Read::reads))]
+#[tactic(auto, using(crate::proofs::Levels::levels), unfolding(qs_spec::specs::toward::ReadFunction::reads))]
 fn read_variant(
     alloc: Global,
     reject_duplicates: bool,
@@ -129,7 +131,7 @@ fn read_variant(
     match &variant.kind {
         VariantKind::Unit => Ok(Data::UnitVariant(name)),
         VariantKind::Newtype(part) => {
-            let held = read(alloc, reject_duplicates, part, value)?;
+            let held = read_node(alloc, reject_duplicates, part, value)?;
             Ok(Data::NewtypeVariant(name, Box::new(alloc, held)?))
         }
         VariantKind::Tuple(parts) => {
@@ -163,7 +165,7 @@ fn read_variant(
 
 #[cycle(read)]
 #[inline(always)]
-#[tactic(auto, using(crate::proofs::Levels::levels), unfolding(qs_spec::specs::Read::reads))]
+#[tactic(auto, using(crate::proofs::Levels::levels), unfolding(qs_spec::specs::toward::ReadFunction::reads))]
 fn struct_variant_data(
     alloc: Global,
     reject_duplicates: bool,
@@ -181,7 +183,7 @@ fn struct_variant_data(
 
 // The fields of a struct variant: those of a struct, where a text counts as a map with that text under the empty key.
 #[cycle(read)]
-#[tactic(auto, unfolding(qs_spec::specs::Read::struct_members))]
+#[tactic(auto, unfolding(qs_spec::specs::toward::ReadFunction::struct_members))]
 fn read_variant_fields(
     alloc: Global,
     reject_duplicates: bool,

@@ -27,7 +27,7 @@ pub(crate) struct Stream<S> {
 pub(crate) struct Walk {
     /// How many segments lead there.
     depth: usize,
-    /// Their text behind an `&`. Going in appends, leaving truncates.
+    /// Their text after an `&`. Going in appends, leaving truncates.
     text: Vec<u8>,
     /// Why the sink failed, where it did.
     pub(crate) cause: io::Error,
@@ -77,7 +77,7 @@ impl Walk {
     }
 }
 
-/// Appends one more segment: the first behind an `&`, and the others in brackets.
+/// Appends one more segment: the first after an `&`, and the others in brackets.
 fn append_segment(out: &mut Vec<u8>, form: bool, segment: Scalar<'_>) -> Result<(), AllocError>
     ensures ok { OnOk result (out.new.items ≡ grown form out.old.items (scalar_text segment.entry)) }
     ensures visible { All IsVisible out.old.items → OnOk result (All IsVisible out.new.items) }
@@ -102,7 +102,7 @@ fn brackets(form: bool) -> (&'static str, &'static str)
     if form { ("%5B", "%5D") } else { ("[", "]") }
 }
 
-/// Appends the value behind `=`, where there is one.
+/// Appends the value after `=`, where there is one.
 fn append_value(out: &mut Vec<u8>, form: bool, value: Option<Scalar<'_>>) -> Result<(), AllocError>
     ensures ok { OnOk result (out.new.items ≡ out.old.items ++ value_text form (option_map scalar_text value.entry)) }
     ensures visible { All IsVisible out.old.items → OnOk result (All IsVisible out.new.items) }

@@ -1,10 +1,11 @@
 //! Scalars: data that are written as one text.
 
-ghost use Rattle.std.specs.Prelude.{◌≡◌, ◌++◌, Bool, OnOk, decimal, option_map};
+ghost use Rattle.std.specs.Prelude.{◌≡◌, ◌++◌, Bool, OnOk, Some, decimal, option_map};
 ghost use Rattle.std.specs.Fmt.{signed_decimal};
 ghost use Rattle.std.specs.List.{All};
 ghost use Rattle.qs_spec.specs.Escape.{encoded};
 ghost use Rattle.qs_spec.specs.Entry.{boolean_text, key_text};
+ghost use Rattle.qs_spec.specs.Listed.{is_empty_text};
 ghost use Rattle.qs_data.specs.Views.{data_of};
 ghost use Rattle.qs_data.specs.Scalars.{scalar_text};
 ghost use Rattle.qs_data.specs.Writes.{IsVisible};
@@ -46,6 +47,19 @@ impl<'a> Scalar<'a> {
         }
     }
 
+    /// Whether its text is empty. Digits, words and characters aren't.
+    pub(crate) fn is_empty(self) -> bool
+        ensures { result ≡ is_empty_text (Some (scalar_text self.entry)) }
+    {
+        match self {
+            Scalar::Bytes(bytes) => bytes.is_empty(),
+            Scalar::Bool(_) => false,
+            Scalar::Unsigned(_) => false,
+            Scalar::Signed(_) => false,
+            Scalar::Char(_) => false,
+        }
+    }
+
     /// Appends its text, encoded. Digits and words hold nothing to encode.
     #[inline(always)]
     pub(crate) fn append(self, form: bool, out: &mut Vec<u8>) -> Result<(), AllocError>
@@ -77,7 +91,7 @@ fn append_unsigned(n: u64, out: &mut Vec<u8>) -> Result<(), AllocError>
     out.extend_from_slice(Buffer::new().format(n).as_bytes())
 }
 
-/// Appends the digits of the number, behind `-` where it is negative.
+/// Appends the digits of the number, after `-` where it is negative.
 fn append_signed(n: i64, out: &mut Vec<u8>) -> Result<(), AllocError>
     ensures ok { (form : Bool) → OnOk result (out.new.items ≡ out.old.items ++ encoded form (signed_decimal n)) }
     ensures visible { (form : Bool) → All IsVisible (encoded form (signed_decimal n)) }

@@ -31,7 +31,7 @@ fn fails<R: Abort, T: Drop>(rt: &R, alloc: Global, read: Result<T>, wanted: &str
     assert!(rt; text.as_str() == wanted, "{text}");
 }
 
-/// The parameters are 100, 50 and true behind these two.
+/// The parameters are 100, 50 and true after these two.
 fn holds<R: Abort>(rt: &R, params: &Params, foo: u64, bars: &[u64]) {
     assert!(rt; params.foo == foo, "foo");
     assert!(rt; params.bars.as_slice() == bars, "bars");

@@ -52,6 +52,18 @@ fn in_another_order(rt: HostRuntime) {
     t.reads(text, &shape_of_lists(b), lists(b));
 }
 
+/// Entries with one path are elements in their order.
+#[test]
+fn in_the_order_of_entries(rt: HostRuntime) {
+    let t = Rows::new(&rt, rt.alloc());
+    let b = &t.build;
+    let shape = b.field("v", b.seq(Shape::U8));
+    let list = |first, second| b.list([Data::Unsigned(first), Data::Unsigned(second)]);
+    t.reads("v[]=2&v[]=1", &shape, b.one("v", list(2, 1)));
+    t.reads("v=2&v=1", &shape, b.one("v", list(2, 1)));
+    t.reads("v[1]=2&v[0]=1", &shape, b.one("v", list(1, 2)));
+}
+
 #[test]
 fn structs_in_a_list(rt: HostRuntime) {
     let t = Rows::new(&rt, rt.alloc());
@@ -91,4 +103,46 @@ fn one_empty_text(rt: HostRuntime) {
     // brackets tell it from the empty list
     writes(b, config(ArrayFormat::EmptyIndexed), &data, "a[]=");
     t.reads("a[]=", &shape, data);
+    // but not at the top, where neither has a key
+    let top = b.list([b.text("")]);
+    writes(b, config(ArrayFormat::EmptyIndexed), &top, "=");
+    t.reads("=", &b.seq(Shape::Text), b.list([]));
+}
+
+/// Whether the lists come back with empty brackets, and without brackets.
+#[test]
+fn premises(rt: HostRuntime) {
+    let t = Rows::new(&rt, rt.alloc());
+    let b = &t.build;
+    let list = |item| b.list([item]);
+    let rows = [
+        (lists(b), true, true),
+        (b.text(""), true, true),
+        (b.list([]), false, false),
+        (b.some(b.items([])), false, false),
+        (b.one("a", b.list([])), true, true),
+        (b.one("a", b.some(b.wrapped(b.list([])))), true, true),
+        (b.one("a", list(b.text(""))), true, false),
+        (b.one("a", list(b.bytes(b""))), true, false),
+        (b.one("a", b.list([b.text(""), b.text("")])), true, true),
+        (b.one("a", list(Data::Unit)), false, false),
+        (b.one("a", list(b.list([]))), false, false),
+        (
+            b.one("a", b.items([b.some(Data::Bool(true))])),
+            false,
+            false,
+        ),
+        (b.one("a", list(b.one("b", Data::Char('c')))), false, false),
+        (b.holding("v", list(b.bare("u"))), true, true),
+        (b.holding_items("v", [Data::Unsigned(1)]), true, true),
+        (b.holding_items("v", [b.text("")]), true, false),
+        (b.pairs([(b.text("k"), list(Data::None))]), false, false),
+    ];
+    for (data, brackets, nothing) in rows {
+        assert!(&rt; data.is_listed(config(ArrayFormat::Indexed)), "{data:?}");
+        let empty = data.is_listed(config(ArrayFormat::EmptyIndexed));
+        assert_eq!(&rt; empty, brackets, "{data:?}");
+        let unindexed = data.is_listed(config(ArrayFormat::Unindexed));
+        assert_eq!(&rt; unindexed, nothing, "{data:?}");
+    }
 }

@@ -9,13 +9,18 @@ use std::process::Abort;
 
 /// Pseudo-random numbers.
 #[derive(Drop)]
-struct Random {
+pub struct Random {
     state: u64,
 }
 
 impl Random {
+    /// The numbers from this seed.
+    pub fn new(seed: u64) -> Random {
+        Random { state: seed }
+    }
+
     /// A number below the bound, and 0 where the bound is 0.
-    fn below(&mut self, bound: usize) -> usize {
+    pub fn below(&mut self, bound: usize) -> usize {
         self.state = self
             .state
             .wrapping_mul(6_364_136_223_846_793_005)
@@ -88,9 +93,14 @@ const WHOLES: [(&str, &str); 13] = [
 
 /// The words of a shape and of data that fit it.
 #[derive(Drop)]
-struct Words {
-    shape: String,
-    data: String,
+pub struct Words {
+    pub shape: String,
+    pub data: String,
+}
+
+/// How many of the names are plain.
+pub fn plain_names(form: bool) -> usize {
+    if form { NAMES.len() - 1 } else { NAMES.len() }
 }
 
 /// The words with these names and parts.
@@ -145,8 +155,8 @@ fn scalars<R: Abort>(b: &Build<'_, R>, random: &mut Random) -> Vec<Words> {
     scalars
 }
 
-/// Wholes of wholes, so deep.
-fn nested<R: Abort>(b: &Build<'_, R>, random: &mut Random, names: usize, depth: u32) -> Words {
+/// Wholes of wholes, so deep, with two of the first so many names.
+pub fn nested<R: Abort>(b: &Build<'_, R>, random: &mut Random, names: usize, depth: u32) -> Words {
     let mut parts = scalars(b, random);
     for _ in 0..depth {
         parts = wholes(b, random, names, parts);
@@ -171,7 +181,8 @@ fn wholes<R: Abort>(
     wholes
 }
 
-fn written<R: Abort>(b: &Build<'_, R>, config: Config, data: &Data) -> String {
+/// The data as they are written.
+pub fn written<R: Abort>(b: &Build<'_, R>, config: Config, data: &Data) -> String {
     let mut serializer = Serializer::new(Vec::new(b.alloc), config);
     let written = serializer.serialize(b.alloc, data);
     assert!(b.rt; written.is_ok(), "{data:?}");
@@ -192,18 +203,20 @@ fn shuffled<R: Abort>(b: &Build<'_, R>, random: &mut Random, text: &str) -> Stri
     shuffled
 }
 
+/// Rows in this encoding, for what is nested deep.
+pub fn rows<R: Abort>(rt: &R, alloc: Global, form: bool) -> Rows<'_, R> {
+    let rows = Rows::new(rt, alloc).deep(10);
+    if form { rows.form() } else { rows }
+}
+
 /// Data from each of some seeds come back, so deep.
 fn come_back<R: Abort>(rt: &R, alloc: Global, form: bool, depth: u32) {
     let config = Config::new().max_depth(10).use_form_encoding(form);
-    let rows = Rows::new(rt, alloc).deep(10);
-    let (t, names) = match form {
-        true => (rows.form(), NAMES.len() - 1),
-        false => (rows, NAMES.len()),
-    };
+    let t = rows(rt, alloc, form);
     let b = &t.build;
     for seed in 0..20 {
-        let mut random = Random { state: seed };
-        let words = nested(b, &mut random, names, depth);
+        let mut random = Random::new(seed);
+        let words = nested(b, &mut random, plain_names(form), depth);
         let shape = notation::shape(b, words.shape.as_str());
         let data = notation::data(b, words.data.as_str());
         assert!(b.rt; data.is_plain(config), "{data:?}");

@@ -2,7 +2,7 @@
 
 use super::{
     AllocError, Config, Error, Fail, Global, SEQUENCE_AND_MAP, UNIT_AND_MAP, VALUE_AND_MAP,
-    VALUE_AND_SEQUENCE, query, refuse, refuse_bytes,
+    VALUE_AND_SEQUENCE, query, refuse, refuse_bytes, typed_position,
 };
 use qs_tree::parse;
 
@@ -23,17 +23,17 @@ fn below_a_leaf(rt: HostRuntime) -> Result<(), Fail> {
 #[test]
 fn below_the_root(rt: HostRuntime) -> Result<(), Fail> {
     let rows = [
-        // behind the end of the value
+        // after the end of the value
         ("=1&a=2", 7, VALUE_AND_MAP),
         ("=1&a=2&b", 7, VALUE_AND_MAP),
         ("=&a=2", 6, UNIT_AND_MAP),
         ("[]=1&a=2", 9, SEQUENCE_AND_MAP),
-        // behind the end of the key
+        // after the end of the key
         ("=1&a", 5, VALUE_AND_MAP),
         ("=1&a&b", 5, VALUE_AND_MAP),
-        // behind the bracket
+        // after the bracket
         ("=1&a[b]=2", 5, VALUE_AND_MAP),
-        // behind the first byte in the bracket
+        // after the first byte in the bracket
         ("=1&[b]=2", 5, VALUE_AND_MAP),
     ];
     refuse(&rt, rt.alloc(), Config::new(), &rows)
@@ -116,16 +116,17 @@ impl Act {
 
 const ACTS: [Act; 3] = [Act::Plain, Act::Push, Act::Below];
 
-/// Whether the pairs with these acts have a tree.
+/// Whether the pairs with these acts have a tree, where a typed call finds the same.
 fn have_tree(alloc: Global, acts: &[Act]) -> Result<bool, AllocError> {
     let mut input = String::new(alloc);
     for act in acts {
         input.push_str(act.text())?;
         input.push('&')?;
     }
+    let typed = typed_position(alloc, Config::new(), input.as_bytes());
     match parse(alloc, input.as_bytes(), Config::new()) {
-        Ok(_) => Ok(true),
-        Err(Error::Parse(..)) => Ok(false),
+        Ok(_) => Ok(typed.is_none()),
+        Err(Error::Parse(_, position)) => Ok(typed != Some(position)),
         Err(_) => Err(AllocError),
     }
 }

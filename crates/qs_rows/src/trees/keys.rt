@@ -1,6 +1,6 @@
 //! Keys that are numbers, escaped keys, and how a key is kept.
 
-use super::{Config, Fail, accept, tree};
+use super::{Config, Fail, accept, repeated, tree};
 
 #[test]
 fn numbers_and_texts(rt: HostRuntime) -> Result<(), Fail> {
@@ -45,12 +45,21 @@ fn the_first_spelling_is_kept(rt: HostRuntime) -> Result<(), Fail> {
 
 #[test]
 fn a_number_with_a_thousand_zeros(rt: HostRuntime) -> Result<(), Fail> {
-    let mut input = String::from_str(rt.alloc(), "a[")?;
-    for _ in 0..1000 {
-        input.push('0')?;
-    }
-    input.push_str("1]=x")?;
-    let found = tree(rt.alloc(), Config::new(), input.as_bytes())?;
+    let alloc = rt.alloc();
+    let zeros = repeated(alloc, "0", 1000)?;
+    let input = format!(in alloc; "a[{zeros}1]=x")?;
+    let found = tree(alloc, Config::new(), input.as_bytes())?;
     assert_eq!(rt; found.as_str(), "{'a':{1:'x'}}");
+    Ok(())
+}
+
+#[test]
+fn a_thousand_nines(rt: HostRuntime) -> Result<(), Fail> {
+    let alloc = rt.alloc();
+    let nines = repeated(alloc, "9", 1000)?;
+    let input = format!(in alloc; "a[{nines}]=x&{nines}=y")?;
+    let wanted = format!(in alloc; "{{'{nines}':'y','a':{{'{nines}':'x'}}}}")?;
+    let found = tree(alloc, Config::new(), input.as_bytes())?;
+    assert_eq!(rt; found, wanted);
     Ok(())
 }

@@ -1,18 +1,8 @@
 //! Keys below keys, and the limit of depth.
 
-use super::{Config, Fail, accept, query, tree};
-use std::alloc::{AllocError, Global};
+use super::{Config, Fail, accept, query, repeated, tree};
 
 const SEVEN_MAPS: &str = "{'a':{'b':{'c':{'d':{'e':{'f':{'[g][h]':'i'}}}}}}}";
-
-/// The text so many times.
-fn repeated(alloc: Global, text: &str, times: usize) -> Result<String, AllocError> {
-    let mut all = String::new(alloc);
-    for _ in 0..times {
-        all.push_str(text)?;
-    }
-    Ok(all)
-}
 
 /// How many maps stand inside one another at most.
 fn nesting(tree: &str) -> usize {

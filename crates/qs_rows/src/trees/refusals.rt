@@ -1,8 +1,8 @@
-//! What is told of a pair that can't be read, and where.
+//! What is reported of a pair that can't be read, and where.
 
 use super::{
     Config, ENDED, ENDED_IN_KEY, Error, Fail, MAP_IN_SEQUENCE, MIXED_SEQUENCE, VALUE_AND_MAP, form,
-    query, refuse, refuse_bytes,
+    query, refuse, refuse_bytes, typed_position,
 };
 use qs_tree::parse;
 
@@ -48,7 +48,7 @@ fn behind_a_push(rt: HostRuntime) -> Result<(), Fail> {
     refuse(&rt, rt.alloc(), Config::new(), &rows)
 }
 
-// Of the fronts of a line those that end inside brackets are refused, each where its end was read.
+// Of the fronts of a line those that end inside brackets are rejected, each where its end was read.
 #[test]
 fn fronts(rt: HostRuntime) -> Result<(), Fail> {
     let line =
@@ -56,10 +56,15 @@ fn fronts(rt: HostRuntime) -> Result<(), Fail> {
     let mut refused = 0u32;
     let mut accepted = 0u32;
     for end in 0..=line.len() {
+        let typed = typed_position(rt.alloc(), Config::new(), &line[..end]);
         match parse(rt.alloc(), &line[..end], Config::new()) {
-            Ok(_) => accepted = accepted.saturating_add(1),
+            Ok(_) => {
+                assert_eq!(rt; typed, None);
+                accepted = accepted.saturating_add(1);
+            }
             Err(Error::Parse(_, position)) => {
                 assert_eq!(rt; position, end.saturating_add(1));
+                assert_eq!(rt; typed, Some(position));
                 refused = refused.saturating_add(1);
             }
             Err(_) => return Err(Fail::from("another error")),

@@ -1,4 +1,4 @@
-//! Data that are refused, and the entries that stand before.
+//! Data that are rejected, and the entries that stand before.
 
 use super::{query, stops, writes};
 use crate::build::Build;
@@ -38,7 +38,7 @@ fn too_deep_at_once(rt: HostRuntime) {
     assert!(rt; matches!(error, Error::MaxSerializationDepthExceeded(0)));
 }
 
-// This is told whatever the depth.
+// This is reported whatever the depth.
 #[test]
 fn a_key_that_is_no_scalar(rt: HostRuntime) {
     let build = Build {

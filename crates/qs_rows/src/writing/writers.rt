@@ -2,12 +2,17 @@
 
 use super::query;
 use crate::build::Build;
-use serde_qs::{ByWrite, Data, Error, Serializer, Sink};
+use serde_qs::{ByWrite, ConfigExt, Data, Error, Result, Serializer, Sink, from_str, to_writer};
+use std::alloc::Global;
+use std::collections::BTreeMap;
 use std::io;
 use std::io::Write;
 use std::process::Abort;
 
 const WHOLE: &[u8; 10] = b"a=1&b[0]=2";
+
+const ADDRESS: &str =
+    "address[city]=Carrot+City&address[postcode]=12345&address[street]=Special-Street*+No.+11";
 
 /// How a write ends that finds no room.
 #[derive(Clone, Copy, Debug)]
@@ -112,6 +117,70 @@ fn takes_all_in_small_steps(rt: HostRuntime) {
         assert!(rt; serializer.serialize(b.alloc, &datum).is_ok());
         assert!(rt; !serializer.into_sink().has_failed());
         assert_eq!(rt; writer.held.as_slice(), WHOLE.as_slice(), "{step}");
+    }
+}
+
+type Addresses = BTreeMap<String, BTreeMap<String, String>>;
+
+/// How a typed call writes to a writer.
+#[derive(Clone, Copy, Debug)]
+enum Call {
+    Writer,
+    Configured,
+}
+
+impl Call {
+    fn write(self, alloc: Global, addresses: &Addresses, writer: &mut Narrow) -> Result<()> {
+        match self {
+            Call::Writer => to_writer(alloc, addresses, writer),
+            Call::Configured => query().serialize_to_writer(alloc, addresses, writer),
+        }
+    }
+}
+
+/// Each front of the line is what a writer holds that has room for it.
+fn fronts<R: Abort>(
+    rt: &R,
+    alloc: Global,
+    addresses: &Addresses,
+    call: Call,
+    step: usize,
+    stop: Stop,
+) {
+    for room in 0..=ADDRESS.len() {
+        let held = Vec::new(alloc);
+        let mut writer = Narrow {
+            held,
+            step,
+            room,
+            stop,
+        };
+        let result = call.write(alloc, addresses, &mut writer);
+        assert_eq!(rt;
+            writer.held.as_slice(),
+            &ADDRESS.as_bytes()[..room],
+            "{call:?} {stop:?} {step}"
+        );
+        if room < ADDRESS.len() {
+            assert!(rt;
+                matches!(result, Err(Error::Io(_))),
+                "{call:?} {stop:?} {step} {room}"
+            );
+        } else {
+            assert!(rt; result.is_ok(), "{call:?} {stop:?} {step}");
+        }
+    }
+}
+
+#[test]
+fn typed_calls_stop_in_mid_stream(rt: HostRuntime) {
+    let addresses: Addresses = from_str(rt.alloc(), ADDRESS).expect(&rt, "addresses");
+    for stop in [Stop::Fails, Stop::IsInterrupted, Stop::TakesNothing] {
+        for step in [1, 7, ADDRESS.len()] {
+            for call in [Call::Writer, Call::Configured] {
+                fronts(&rt, rt.alloc(), &addresses, call, step, stop);
+            }
+        }
     }
 }
 

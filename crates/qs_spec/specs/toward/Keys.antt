@@ -10,7 +10,7 @@ use Rattle.qs_spec.specs.Tree.Entries.{entry, no_entries}
 abbrev pub written_segment : List ℕ → Segment
 written_segment s = if is_index s then Int (number s) else Str s
 
--- a zero, and bytes behind it
+-- a zero, and bytes after it
 abbrev pub has_leading_zero : List ℕ → Bool
 has_leading_zero [] = false
 has_leading_zero (b ∷ []) = false

@@ -1,4 +1,4 @@
--- The grammar as a function: it reads the pairs of some tokens from the left, one after the other, and answers what it read and what is left.
+-- The grammar as a function: it reads the pairs of some tokens from the left, one after the other, and returns what it read and what is left.
 use Rattle.std.specs.Prelude.{ℕ, zero, suc, Bool, true, false, List, [], ◌∷◌, ◌++◌, length, Option, Some, None, option_map}
 use Rattle.qs_spec.specs.Token.{Kind, Token, raw_of}
 use Rattle.qs_spec.specs.Segment.{Step}

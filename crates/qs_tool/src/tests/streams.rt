@@ -7,9 +7,9 @@ use std::io;
 use std::io::{Read, Write};
 use std::test::Fail;
 
-const INPUT: &[u8] = b"name=a&age=1&occupation=b";
+const INPUT: &[u8] = b"age=24&occupation=Student&name=Alice+B.";
 
-const LINE: &[u8] = b"name=a&age=1&occupation=b&note\n";
+const LINE: &[u8] = b"name=Alice+B.&age=24&occupation=Student&note\n";
 
 /// What a stream does when it has no room or no bytes left.
 #[derive(Clone, Copy)]
@@ -94,18 +94,20 @@ impl Write for Target {
 #[test]
 fn reads_that_fail(rt: HostRuntime) -> Result<(), Fail> {
     let words = words(rt.alloc(), "flat")?;
-    for (end, line, status) in [
-        (End::Fails, b"".as_slice(), 3),
-        (End::IsInterrupted, b"".as_slice(), 3),
-        (End::TakesNothing, LINE, 0),
-    ] {
-        let mut reader = Source { rest: INPUT, end };
-        let mut writer = Vec::new(rt.alloc());
-        assert_eq!(rt;
-            run(rt.alloc(), words.as_slice(), &mut reader, &mut writer),
-            status
-        );
-        assert_eq!(rt; writer.as_slice(), line);
+    for end in [End::Fails, End::IsInterrupted] {
+        for count in 0..=INPUT.len() {
+            let mut reader = Source {
+                rest: &INPUT[..count],
+                end,
+            };
+            let mut writer = Vec::new(rt.alloc());
+            assert_eq!(rt;
+                run(rt.alloc(), words.as_slice(), &mut reader, &mut writer),
+                3,
+                "{count}"
+            );
+            assert_eq!(rt; writer.len(), 0, "{count}");
+        }
     }
     Ok(())
 }
@@ -170,7 +172,10 @@ fn writes_that_fail(rt: HostRuntime) -> Result<(), Fail> {
 #[test]
 fn a_byte_at_a_time(rt: HostRuntime) -> Result<(), Fail> {
     let words = words(rt.alloc(), "flat")?;
-    let mut reader = INPUT;
+    let mut reader = Source {
+        rest: INPUT,
+        end: End::TakesNothing,
+    };
     let mut writer = Target {
         held: Vec::new(rt.alloc()),
         step: 1,

@@ -7,20 +7,22 @@ use Rattle.qs_spec.specs.Tree.Entries.{entry}
 use Rattle.qs_spec.specs.Data as d
 use Rattle.qs_spec.specs.Shape.{is_option as is_option_shape, are_ignored, Shape}
 use Rattle.qs_spec.specs.Tree.Items.{no_items}
-use Rattle.qs_spec.specs.Read.{reads, reads_names, reads_places, reads_variant, reads_kind, read_enum, read_option, read_field, read_place, found, struct_members, as_map, under_empty, keys_are_text, keys_are_names, keys_are_allowed, items, read_each, read_list, read_pairs, reads_tuple}
+use Rattle.qs_spec.specs.Node.{found, as_map, under_empty, keys_are_text, keys_are_names, keys_are_allowed, items}
+use Rattle.qs_spec.specs.toward.ReadFunction.{reads, reads_names, reads_places, reads_variant, reads_kind, read_enum, read_option, read_field, read_place, struct_members, read_each, read_list, read_pairs, reads_tuple}
 use Rattle.qs_tree.specs.Views.{tree_of, items_from, entries_of_map, step_of_key}
 use Rattle.qs_data.specs.declared.shape.Shape as shape
 use Rattle.qs_data.specs.declared.shape.Field.{out-Field}
 use Rattle.qs_data.specs.Views.{data_of, named, shape_of, field_of, fields_in, variant_of, variants_in, key_shape_of, pair_of, shapes_in}
 use Rattle.qs_data.specs.Text.{is_text, items_are_text, entries_are_text}
-use Rattle.qs_data.specs.Gives.{Gives}
+use Rattle.qs_data.specs.ReadError.{Gives}
 use Rattle.qs_data.specs.Keys.{entries_of, entries_after, unknown_of}
 use Rattle.qs_data.specs.Variants.{variant_named}
 use Rattle.qs_data.proofs.Levels.{data_of_struct, data_of_struct_variant}
 use Rattle.qs_data.proofs.Entries.{after_some, keys_bad, untested}
 use Rattle.qs_data.proofs.Variants.{named_is, enum_none, enum_some, least_key_bad, least_value_bad, text_as_map, under_bad}
-use Rattle.qs_data.proofs.Refusals.{and_left, gives_exit, gives_as, fault, told_of_key}
-use Rattle.qs_tree.specs.declared.error.Error.TheVariants.{Utf8}
+use Rattle.qs_data.proofs.Refusals.{and_left}
+use Rattle.qs_data.proofs.ReadErrors.{gives_exit, gives_as, fault, told_of_key}
+use Rattle.qs_data.specs.declared.read.error.ReadError.TheVariants.{Utf8}
 use Rattle.qs_spec.specs.Scalar.{key_data}
 use Rattle.qs_spec.specs.Tree.{Tree}
 use Rattle.std.proofs.lemmas.Bool.{false≢true}
@@ -44,16 +46,16 @@ fields::read_entries-returns-in-Err t c =
     let none = untested (keys_are_allowed u fs es) (reads_names c.args.reject_duplicates fs es) (and_left (keys_are_text es) (keys_are_names fs es || are_ignored u) bad) in
     told_of_key (entries_are_text es) c.in-Err.key.text.now (Utf8 c.in-Err.key.cause) c.error.result _ c.error.ensures (none, keys_bad es bad)
 
-pub fields::read_field-returns-in_err-read-in-One : goal.fields::read_field-returns-in_err-read-in-One
-fields::read_field-returns-in_err-read-in-One t c =
+pub fields::read_field-returns-in_err-read_node-in-One : goal.fields::read_field-returns-in_err-read_node-in-One
+fields::read_field-returns-in_err-read_node-in-One t c =
     let d = c.args.field.now in
     let f = field_of d in
     let es = entries_of c.args.entries in
     let n = tree_of c.in-One.value.now in
     let r = reads c.args.reject_duplicates (shape_of (out-Field d).shape) in
     let one : found f.0 es ≡ n ∷ [] = ap (λ name. found name es) (field_name d ∙ sym c.deref.ensures) ∙ c.in-One.ensures in
-    let given = gives_exit (option_map data_of) (is_text n) (entries_are_text es) c.from_residual.result c.in_err-read-in-One.field-0.0 (r n) (read_field f.2 (is_option_shape f.1) r (found f.0 es))
-    c.from_residual.ensures.1 c.in_err-read-in-One.ensures.gives (field_none f.2 (is_option_shape f.1) r (found f.0 es) n one) (found_bad f.0 es n [] one) in
+    let given = gives_exit (option_map data_of) (is_text n) (entries_are_text es) c.from_residual.result c.in_err-read_node-in-One.field-0.0 (r n) (read_field f.2 (is_option_shape f.1) r (found f.0 es))
+    c.from_residual.ensures.1 c.in_err-read_node-in-One.ensures.gives (field_none f.2 (is_option_shape f.1) r (found f.0 es) n one) (found_bad f.0 es n [] one) in
     subst (λ s. Gives (option_map data_of) (entries_are_text es) c.from_residual.result (read_field f.2 (is_option_shape f.1) (reads c.args.reject_duplicates s) (found f.0 es))) (sym (field_shape d)) given
 
 pub fields::read_names-loop-field-preserved : goal.fields::read_names-loop-field-preserved
@@ -74,8 +76,8 @@ fields::read_names-loop-field-preserved t c =
     l.invariant ∙ turn ∙ before-front ws ((field_of d).0, data_of x) rest
     ∙ ap (λ b. before (ws ++ (b, data_of x) ∷ []) rest) name ∙ ap (λ ys. before ys rest) (sym pushed)
 
-pub fields::read_place-returns-in_err-read-in-Some : goal.fields::read_place-returns-in_err-read-in-Some
-fields::read_place-returns-in_err-read-in-Some t c =
+pub fields::read_place-returns-in_err-read_node-in-Some : goal.fields::read_place-returns-in_err-read_node-in-Some
+fields::read_place-returns-in_err-read_node-in-Some t c =
     let d = c.args.field.now in
     let f = field_of d in
     let ts = c.args.items.now in
@@ -85,12 +87,12 @@ fields::read_place-returns-in_err-read-in-Some t c =
     let xs = items_from (map tree_of (drop i ts)) in
     let r = reads c.args.reject_duplicates (shape_of (out-Field d).shape) in
     let here = item_at ts i n look.3.0 look.1 in
-    let given = gives_exit (option_map data_of) (is_text (tree_of n)) (items_are_text (items_from (map tree_of ts))) c.from_residual.result c.in_err-read-in-Some.field-0.0 (r (tree_of n)) (read_place f.2 r xs)
-    c.from_residual.ensures.1 c.in_err-read-in-Some.ensures.gives (λ e. place_some f.2 r xs _ (tree_of n) here ∙ ap (option_map Some) e) (item_bad ts i n look.3.0 look.1) in
+    let given = gives_exit (option_map data_of) (is_text (tree_of n)) (items_are_text (items_from (map tree_of ts))) c.from_residual.result c.in_err-read_node-in-Some.field-0.0 (r (tree_of n)) (read_place f.2 r xs)
+    c.from_residual.ensures.1 c.in_err-read_node-in-Some.ensures.gives (λ e. place_some f.2 r xs _ (tree_of n) here ∙ ap (option_map Some) e) (item_bad ts i n look.3.0 look.1) in
     subst (λ s. Gives (option_map data_of) (items_are_text (items_from (map tree_of ts))) c.from_residual.result (read_place f.2 (reads c.args.reject_duplicates s) xs)) (sym (field_shape d)) given
 
-pub fields::read_place-returns-in_ok-read-in-Some : goal.fields::read_place-returns-in_ok-read-in-Some
-fields::read_place-returns-in_ok-read-in-Some t c =
+pub fields::read_place-returns-in_ok-read_node-in-Some : goal.fields::read_place-returns-in_ok-read_node-in-Some
+fields::read_place-returns-in_ok-read_node-in-Some t c =
     let d = c.args.field.now in
     let f = field_of d in
     let ts = c.args.items.now in
@@ -100,7 +102,7 @@ fields::read_place-returns-in_ok-read-in-Some t c =
     let xs = items_from (map tree_of (drop i ts)) in
     ap (λ s. read_place f.2 (reads c.args.reject_duplicates s) xs) (field_shape d)
     ∙ place_some f.2 (reads c.args.reject_duplicates (shape_of (out-Field d).shape)) xs _ (tree_of n) (item_at ts i n look.3.0 look.1)
-    ∙ ap (option_map Some) c.in_ok-read-in-Some.ensures.gives
+    ∙ ap (option_map Some) c.in_ok-read_node-in-Some.ensures.gives
 
 pub fields::read_place-returns-then-field : goal.fields::read_place-returns-then-field
 fields::read_place-returns-then-field t c =
@@ -147,9 +149,9 @@ fields::read_places-loop-i-preserved t c =
     l.invariant ∙ turn ∙ before-front ws ((field_of d).0, data_of x) rest
     ∙ ap (λ b. before (ws ++ (b, data_of x) ∷ []) rest) name ∙ ap (λ ys. before ys rest) (sym pushed)
 
-pub read-returns-in-Option-clause-gives : goal.read-returns-in-Option-clause-gives
+pub read_node-returns-in-Option-clause-gives : goal.read_node-returns-in-Option-clause-gives
 unfolding reads
-read-returns-in-Option-clause-gives t c =
+read_node-returns-in-Option-clause-gives t c =
     let n = tree_of c.args.value.now in
     let shaped : shape_of c.args.shape.now ≡ Shape.option (shape_of c.in-Option.part.value) = ap shape_of c.in-Option.is ∙ search (rules, shape.the_lemmas) in
     let held = subst (λ x. Gives data_of (is_text n) c.read_option.result (read_option (reads c.args.reject_duplicates (shape_of x)) n)) c.deref.ensures c.read_option.ensures in
@@ -219,15 +221,15 @@ lists::read_list-returns t c =
     gives_as (λ v. map data_of v.items) (are_text xs) (is_text n) c.read_each.result (read_each r xs) (read_list r n)
     c.read_each.ensures (sym (ap (option_and_then (read_each r)) h)) (items_bad n xs h)
 
-pub lists::read_each-returns-in_err-read : goal.lists::read_each-returns-in_err-read
-lists::read_each-returns-in_err-read t c =
+pub lists::read_each-returns-in_err-read_node : goal.lists::read_each-returns-in_err-read_node
+lists::read_each-returns-in_err-read_node t c =
     let l = c.loop-i in
     let xs = items_in c.args.items in
     let n = tree_of c.in-Some.item.now in
     let r = reads c.args.reject_duplicates (shape_of c.args.part.now) in
     let h : first_item (drop l.i xs) ≡ Some (Some n) = c.in_ok-item.ensures ∙ ap (λ o. Some (option_map (λ v. tree_of v.now) o)) c.in-Some.is in
-    gives_exit (λ v. map data_of v.items) (is_text n) (are_text xs) c.from_residual-in_err-read.result c.in_err-read.field-0.0 (r n) (read_each r xs)
-    c.from_residual-in_err-read.ensures.1 c.in_err-read.ensures.gives (λ e. l.invariant ∙ each_unread r xs l.i (map data_of l.values.items) n h e) (due_bad l.i xs n h)
+    gives_exit (λ v. map data_of v.items) (is_text n) (are_text xs) c.from_residual-in_err-read_node.result c.in_err-read_node.field-0.0 (r n) (read_each r xs)
+    c.from_residual-in_err-read_node.ensures.1 c.in_err-read_node.ensures.gives (λ e. l.invariant ∙ each_unread r xs l.i (map data_of l.values.items) n h e) (due_bad l.i xs n h)
 
 pub lists::read_each-loop-i-preserved : goal.lists::read_each-loop-i-preserved
 lists::read_each-loop-i-preserved t c =
@@ -236,10 +238,10 @@ lists::read_each-loop-i-preserved t c =
     let n = tree_of c.in-Some.item.now in
     let r = reads c.args.reject_duplicates (shape_of c.args.part.now) in
     let ws = map data_of l.values.items in
-    let d = data_of c.in_ok-read.field-0 in
+    let d = data_of c.in_ok-read_node.field-0 in
     let h : first_item (drop l.i xs) ≡ Some (Some n) = c.in_ok-item.ensures ∙ ap (λ o. Some (option_map (λ v. tree_of v.now) o)) c.in-Some.is in
     let pushed : map data_of c.push.new.self.items ≡ ws ++ d ∷ [] = grind (arith, common_steps) in
-    l.invariant ∙ each_more r xs l.i ws n d h c.in_ok-read.ensures.gives ∙ ap (λ ys. before ys (read_each r (drop (l.i + 1) xs))) (sym pushed)
+    l.invariant ∙ each_more r xs l.i ws n d h c.in_ok-read_node.ensures.gives ∙ ap (λ ys. before ys (read_each r (drop (l.i + 1) xs))) (sym pushed)
 
 pub lists::read_each-returns : goal.lists::read_each-returns
 lists::read_each-returns t c =
@@ -263,17 +265,17 @@ lists::read_tuple-returns t c =
     gives_as (λ v. map data_of v.items) (are_text xs) (is_text n) c.read_parts.result (r xs) (option_and_then r (items n))
     c.read_parts.ensures (sym (ap (option_and_then r) h)) (items_bad n xs h)
 
-pub lists::read_parts-returns-in_err-read : goal.lists::read_parts-returns-in_err-read
-lists::read_parts-returns-in_err-read t c =
+pub lists::read_parts-returns-in_err-read_node : goal.lists::read_parts-returns-in_err-read_node
+lists::read_parts-returns-in_err-read_node t c =
     let l = c.loop-i in
     let s = c.part-item.result in
     let ss = c.deref-part-items.result.now in
     let xs = items_in c.args.items in
     let n = tree_of c.in-Some.item.now in
     let h : first_item (drop l.i xs) ≡ Some (Some n) = c.in_ok-item.ensures ∙ ap (λ o. Some (option_map (λ v. tree_of v.now) o)) c.in-Some.is in
-    gives_exit (λ v. map data_of v.items) (is_text n) (are_text xs) c.from_residual-in_err-read.result c.in_err-read.field-0.0
+    gives_exit (λ v. map data_of v.items) (is_text n) (are_text xs) c.from_residual-in_err-read_node.result c.in_err-read_node.field-0.0
     (reads c.args.reject_duplicates (shape_of s) n) (reads_tuple c.args.reject_duplicates (shapes_in c.args.parts.now.items) xs)
-    c.from_residual-in_err-read.ensures.1 c.in_err-read.ensures.gives
+    c.from_residual-in_err-read_node.ensures.1 c.in_err-read_node.ensures.gives
     (λ e. l.invariant ∙ parts_unread c.args.reject_duplicates ss l.i s xs (map data_of l.values.items) (omega arith) c.part-item.is n h e) (due_bad l.i xs n h)
 
 pub lists::read_parts-loop-i-preserved : goal.lists::read_parts-loop-i-preserved
@@ -284,10 +286,10 @@ lists::read_parts-loop-i-preserved t c =
     let xs = items_in c.args.items in
     let n = tree_of c.in-Some.item.now in
     let ws = map data_of l.values.items in
-    let d = data_of c.in_ok-read.field-0 in
+    let d = data_of c.in_ok-read_node.field-0 in
     let h : first_item (drop l.i xs) ≡ Some (Some n) = c.in_ok-item.ensures ∙ ap (λ o. Some (option_map (λ v. tree_of v.now) o)) c.in-Some.is in
     let pushed : map data_of c.push.new.self.items ≡ ws ++ d ∷ [] = grind (arith, common_steps) in
-    l.invariant ∙ parts_more c.args.reject_duplicates ss l.i s xs ws (omega arith) c.part-item.is n d h c.in_ok-read.ensures.gives
+    l.invariant ∙ parts_more c.args.reject_duplicates ss l.i s xs ws (omega arith) c.part-item.is n d h c.in_ok-read_node.ensures.gives
     ∙ ap (λ ys. before ys (reads_tuple c.args.reject_duplicates (shapes_in (drop (l.i + 1) ss)) (drop (l.i + 1) xs))) (sym pushed)
 
 pub maps::read_pairs-returns-in_err-key : goal.maps::read_pairs-returns-in_err-key

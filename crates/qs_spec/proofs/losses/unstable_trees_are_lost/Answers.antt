@@ -29,7 +29,7 @@ returns-clause-empty_key c = is_unstable _ _ _ _ _ _ refl refl refl (record { te
 
 pub returns-clause-beyond_the_limit : goal.returns-clause-beyond_the_limit
 unfolding on_literals
-returns-clause-beyond_the_limit c = is_read _ _ _ _ refl
+returns-clause-beyond_the_limit c = is_read _ _ _ _ refl refl
 
 pub returns-clause-too_deep : goal.returns-clause-too_deep
 unfolding on_literals
@@ -37,4 +37,4 @@ returns-clause-too_deep c = record { text_is = refl; refusal_is = refl }
 
 pub returns-clause-key_not_utf8 : goal.returns-clause-key_not_utf8
 unfolding on_literals
-returns-clause-key_not_utf8 c = is_read _ _ _ _ refl
+returns-clause-key_not_utf8 c = is_read _ _ _ _ refl refl

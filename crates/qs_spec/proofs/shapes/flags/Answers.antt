@@ -5,20 +5,20 @@ use Rattle.qs_spec.proofs.shapes.flags.Goals as goal
 
 pub returns-clause-key_alone : goal.returns-clause-key_alone
 unfolding on_literals
-returns-clause-key_alone c = is_read _ _ _ _ refl
+returns-clause-key_alone c = is_read _ _ _ _ refl refl
 
 pub returns-clause-nothing_behind : goal.returns-clause-nothing_behind
 unfolding on_literals
-returns-clause-nothing_behind c = is_read _ _ _ _ refl
+returns-clause-nothing_behind c = is_read _ _ _ _ refl refl
 
 pub returns-clause-text : goal.returns-clause-text
 unfolding on_literals
-returns-clause-text c = is_read _ _ _ _ refl
+returns-clause-text c = is_read _ _ _ _ refl refl
 
 pub returns-clause-twice : goal.returns-clause-twice
 unfolding on_literals
-returns-clause-twice c = is_read _ _ _ _ refl
+returns-clause-twice c = is_read _ _ _ _ refl refl
 
 pub returns-clause-twice_where_refused : goal.returns-clause-twice_where_refused
 unfolding on_literals
-returns-clause-twice_where_refused c = is_read _ _ _ _ refl
+returns-clause-twice_where_refused c = is_read _ _ _ _ refl refl

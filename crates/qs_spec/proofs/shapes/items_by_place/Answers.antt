@@ -5,20 +5,20 @@ use Rattle.qs_spec.proofs.shapes.items_by_place.Goals as goal
 
 pub returns-clause-gap : goal.returns-clause-gap
 unfolding on_literals
-returns-clause-gap c = is_read _ _ _ _ refl
+returns-clause-gap c = is_read _ _ _ _ refl refl
 
 pub returns-clause-behind_the_first : goal.returns-clause-behind_the_first
 unfolding on_literals
-returns-clause-behind_the_first c = is_read _ _ _ _ refl
+returns-clause-behind_the_first c = is_read _ _ _ _ refl refl
 
 pub returns-clause-any_order : goal.returns-clause-any_order
 unfolding on_literals
-returns-clause-any_order c = is_read _ _ _ _ refl
+returns-clause-any_order c = is_read _ _ _ _ refl refl
 
 pub returns-clause-nothing : goal.returns-clause-nothing
 unfolding on_literals
-returns-clause-nothing c = is_read _ _ _ _ refl
+returns-clause-nothing c = is_read _ _ _ _ refl refl
 
 pub returns-clause-a_text : goal.returns-clause-a_text
 unfolding on_literals
-returns-clause-a_text c = is_read _ _ _ _ refl
+returns-clause-a_text c = is_read _ _ _ _ refl refl

@@ -5,4 +5,4 @@ use Rattle.qs_spec.proofs.shapes.least_key_names_the_variant.Goals as goal
 
 pub returns : goal.returns
 unfolding on_literals
-returns c = is_read _ _ _ _ refl
+returns c = is_read _ _ _ _ refl refl

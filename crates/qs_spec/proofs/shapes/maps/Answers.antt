@@ -5,28 +5,28 @@ use Rattle.qs_spec.proofs.shapes.maps.Goals as goal
 
 pub returns-clause-entries : goal.returns-clause-entries
 unfolding on_literals
-returns-clause-entries c = is_read _ _ _ _ refl
+returns-clause-entries c = is_read _ _ _ _ refl refl
 
 pub returns-clause-a_text : goal.returns-clause-a_text
 unfolding on_literals
-returns-clause-a_text c = is_read _ _ _ _ refl
+returns-clause-a_text c = is_read _ _ _ _ refl refl
 
 pub returns-clause-no_value : goal.returns-clause-no_value
 unfolding on_literals
-returns-clause-no_value c = is_read _ _ _ _ refl
+returns-clause-no_value c = is_read _ _ _ _ refl refl
 
 pub returns-clause-several : goal.returns-clause-several
 unfolding on_literals
-returns-clause-several c = is_read _ _ _ _ refl
+returns-clause-several c = is_read _ _ _ _ refl refl
 
 pub returns-clause-another_key : goal.returns-clause-another_key
 unfolding on_literals
-returns-clause-another_key c = is_read _ _ _ _ refl
+returns-clause-another_key c = is_read _ _ _ _ refl refl
 
 pub returns-clause-listed_key : goal.returns-clause-listed_key
 unfolding on_literals
-returns-clause-listed_key c = is_read _ _ _ _ refl
+returns-clause-listed_key c = is_read _ _ _ _ refl refl
 
 pub returns-clause-key_is_no_text : goal.returns-clause-key_is_no_text
 unfolding on_literals
-returns-clause-key_is_no_text c = is_read _ _ _ _ refl
+returns-clause-key_is_no_text c = is_read _ _ _ _ refl refl

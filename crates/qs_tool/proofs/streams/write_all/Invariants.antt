@@ -2,7 +2,7 @@ use Rattle.std.proofs.Common.{◌≡◌, ◌-◌, ◌≤◌, length, take, drop}
 use Rattle.std.specs.Io.KnownBytes.{Appends}
 use Rattle.qs_tool.proofs.streams.write_all.Given as goal
 
--- the rest stands behind what was taken
+-- the rest follows what was taken
 abbrev pub invariant-loop-rest : goal.invariant-loop-rest
 invariant-loop-rest g l = record {
   left : length l.rest ≤ length l.bytes;

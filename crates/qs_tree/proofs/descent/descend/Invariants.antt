@@ -7,7 +7,7 @@ use Rattle.qs_tree.proofs.descent.descend.Given as goal
 
 abbrev pub invariant-loop-level : goal.invariant-loop-level
 invariant-loop-level l = record {
-  way : Leads l.fn.level (path_of (drop l.fn.level l.fn.pair.path.items)) (draft_tree l.fn.node) l.maps.items l.level (path_of (drop l.level l.pair.path.items)) (draft_tree l.node);
+  way : Leads (path_of (drop l.fn.level l.fn.pair.path.items)) (draft_tree l.fn.node) l.maps.items (path_of (drop l.level l.pair.path.items)) (draft_tree l.node);
   count : l.level ≤ length l.pair.path.items;
   manner : l.pair.manner ≡ l.fn.pair.manner;
   leaf : l.pair.leaf ≡ l.fn.pair.leaf;

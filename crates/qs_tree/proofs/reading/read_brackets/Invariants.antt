@@ -5,7 +5,7 @@ use Rattle.qs_tree.specs.Pairs.{path_of}
 use Rattle.qs_tree.specs.Reading.{IsBehind}
 use Rattle.qs_tree.proofs.reading.read_brackets.Given as goal
 
--- what is found behind the last bracket is what is found behind the first
+-- what is found after the last bracket is what is found after the first
 abbrev pub invariant-loop-first : goal.invariant-loop-first
 invariant-loop-first l = record {
   found : read_brackets l.fn.max_depth (path_of l.fn.pair.path.items) l.fn.bracket.raw.now (left l.fn.cursor) ≡ read_brackets l.room (path_of l.pair.path.items) l.bracket.raw.now (left l.cursor);

@@ -1,5 +1,5 @@
 use Rattle.std.proofs.Common.{◌≡◌}
-use Rattle.qs_spec.specs.Read.{are_ints}
+use Rattle.qs_spec.specs.Node.{are_ints}
 use Rattle.qs_tree.specs.Views.{entries_of_map}
 use Rattle.qs_data.specs.Keys.{entries_after}
 use Rattle.qs_data.proofs.read.items.are_numbers.Given as goal

@@ -1,6 +1,6 @@
 use Rattle.std.proofs.Common.{◌≡◌, ap, sym, ◌∙◌, map, cond, Some, None, rules}
 use Rattle.qs_spec.specs.Tree.Tree.{sequence, mapping}
-use Rattle.qs_spec.specs.Read.{items, each_item, placed}
+use Rattle.qs_spec.specs.Node.{items, each_item, placed}
 use Rattle.qs_tree.specs.Views.{tree_of, items_from, entries_of_map}
 use Rattle.qs_tree.specs.declared.value.ParsedValue as value
 use Rattle.qs_data.proofs.Anything.{is_list}

@@ -3,7 +3,7 @@ use Rattle.qs_spec.specs.Scalar.{unsigned_data}
 use Rattle.qs_data.specs.Views.{data_of}
 use Rattle.qs_data.specs.Widths.{bits_of}
 use Rattle.qs_data.specs.ScalarText.{utf8_text}
-use Rattle.qs_data.proofs.Refusals.{gives_exit, frugal_exit}
+use Rattle.qs_data.proofs.ReadErrors.{gives_exit, frugal_exit}
 use Rattle.qs_data.proofs.Scalars.{unsigned_none}
 use Rattle.qs_data.proofs.read.scalar.unsigned_data.Goals as goal
 

@@ -1,5 +1,5 @@
 use Rattle.std.proofs.Common.{◌≡◌}
-use Rattle.qs_spec.specs.Read.{keys_are_names}
+use Rattle.qs_spec.specs.Node.{keys_are_names}
 use Rattle.qs_tree.specs.Views.{entries_of_map}
 use Rattle.qs_data.specs.Keys.{entries_after}
 use Rattle.qs_data.specs.Views.{fields_in}

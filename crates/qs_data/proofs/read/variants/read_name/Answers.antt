@@ -3,13 +3,13 @@ use Rattle.std.specs.Option.{option_map}
 use Rattle.std.specs.Str.{is_utf8}
 use Rattle.qs_spec.specs.Data as d
 use Rattle.qs_spec.specs.Shape.{unit_kind}
-use Rattle.qs_spec.specs.Read.{unit_variant_data, is_unit_kind}
+use Rattle.qs_spec.specs.toward.ReadFunction.{unit_variant_data, is_unit_kind}
 use Rattle.qs_data.specs.declared.data.Data as data_type
 use Rattle.qs_data.specs.declared.shape.VariantKind as kind
 use Rattle.qs_data.specs.declared.shape.Variant.{out-Variant}
 use Rattle.qs_data.specs.Views.{data_of, kind_of, variants_in}
 use Rattle.qs_data.specs.Variants.{variant_named}
-use Rattle.qs_data.proofs.Refusals.{gives_exit, fault}
+use Rattle.qs_data.proofs.ReadErrors.{gives_exit, fault}
 use Rattle.qs_data.proofs.Variants.{named_is, unit_at, no_unit}
 use Rattle.qs_data.proofs.read.variants.read_name.Goals as goal
 use Rattle.qs_data.proofs.read.variants.read_name.Goals.{in-Newtype, in-Tuple, in-Struct, in-StrictStruct}

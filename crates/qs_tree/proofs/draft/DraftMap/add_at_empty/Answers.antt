@@ -1,26 +1,19 @@
-use Rattle.std.proofs.Common.{◌≡◌, [], false, Option, ap}
-use Rattle.qs_spec.specs.Segment.Segment.{Str}
+use Rattle.std.proofs.Common.{false, Option}
 use Rattle.qs_spec.specs.Tree.{Tree}
 use Rattle.qs_spec.specs.toward.InPlace.{add_flat}
 use Rattle.qs_tree.specs.Pairs.{leaf_of}
-use Rattle.qs_tree.specs.Views.{segment_of_key, step_of_key}
+use Rattle.qs_tree.specs.Views.{step_of_key}
 use Rattle.qs_tree.specs.Draft.{draft_tree, draft_entries}
-use Rattle.qs_tree.specs.Conflict.{child, conflict_at, clash_flat}
-use Rattle.qs_tree.proofs.Turns.{gives_err, refused_too, put_there, refused_there}
+use Rattle.qs_tree.proofs.Turns.{gives_err, rejected_too, put_there, refused_there}
 use Rattle.qs_tree.proofs.draft.DraftMap.add_at_empty.Goals as goal
 
 pub returns-in_err-add_plain : goal.returns-in_err-add_plain
 returns-in_err-add_plain c =
     let f : Tree → Option Tree = add_flat false (leaf_of c.args.leaf) in
-    let key = c.from-key.result in
-    let es = draft_entries c.args.self.now in
     let old = draft_tree c.take-node.result in
-    let empty : segment_of_key key ≡ Str [] = ap (λ s. s.seg) c.from-key.ensures in
-    let there : old ≡ child (Str []) es = rw (← empty) c.take-node.ensures.node in
-    gives_err _ _ _ c.from_residual.result c.in_err-add_plain.field-0.0 _ c.from_residual.ensures.1 (λ y p. p)
-    (refused_too (f old) _ _ _ c.in_err-add_plain.field-0.0
-    (λ none. rw (← c.from-key.ensures) (refused_there (step_of_key key) f es c.take-node.ensures.ordered old c.take-node.ensures.node none))
-    (ap (λ t. conflict_at c.args.level (clash_flat false t)) there)
+    gives_err _ _ c.from_residual.result c.in_err-add_plain.field-0.0 _ c.from_residual.ensures.1 (λ y p. p)
+    (rejected_too (f old) _ c.in_err-add_plain.field-0.0
+    (λ none. rw (← c.from-key.ensures) (refused_there (step_of_key c.from-key.result) f (draft_entries c.args.self.now) c.take-node.ensures.ordered old c.take-node.ensures.node none))
     c.in_err-add_plain.ensures.added)
 
 pub returns : goal.returns

@@ -1,0 +1,65 @@
+//! Why reading fails, on the way to the caller.
+
+ghost use Rattle.std.specs.Prelude.{◌≡◌};
+ghost use Rattle.qs_tree.specs.Error.{IsCustomSaying};
+ghost use Rattle.qs_data.specs.ReadError.{error_of};
+ghost use Rattle.qs_data.specs.declared.read.error.ReadError.TheVariants.{OutOfMemory};
+
+use qs_tree::Error;
+use std::alloc::{AllocError, AllocFailed, Global};
+use std::fmt::Display;
+use std::str::Utf8Error;
+
+/// What a function that reads returns: a value, or why there is none.
+pub(crate) type Result<T, E = ReadError> = std::result::Result<T, E>;
+
+/// Those errors that reading has. Each level of a tree hands them on, so they are a third as long as an [`Error`].
+#[derive(Drop)]
+pub(crate) enum ReadError {
+    /// The tree doesn't fit what is read from it; the message says why.
+    Custom(String),
+    /// Bytes that are read as text aren't UTF-8.
+    Utf8(Utf8Error),
+    /// An allocation failed.
+    OutOfMemory,
+}
+
+impl ReadError {
+    /// The error with this message, or that it found no memory.
+    pub(crate) fn saying<T: Display + Drop>(alloc: Global, message: T) -> ReadError
+        ensures { IsCustomSaying (error_of result) (T.output message) }
+    {
+        match String::format(alloc, message) {
+            Ok(message) => ReadError::Custom(message),
+            Err(_) => ReadError::OutOfMemory,
+        }
+    }
+}
+
+impl From<ReadError> for Error {
+    ghost from_gives = { λ cause e. e ≡ error_of cause };
+
+    fn from(cause: ReadError) -> Error {
+        match cause {
+            ReadError::Custom(message) => Error::Custom(message),
+            ReadError::Utf8(cause) => Error::Utf8(cause),
+            ReadError::OutOfMemory => Error::OutOfMemory,
+        }
+    }
+}
+
+impl From<AllocError> for ReadError {
+    ghost from_gives = { λ _ e. e ≡ OutOfMemory };
+
+    fn from(_refused: AllocError) -> ReadError {
+        ReadError::OutOfMemory
+    }
+}
+
+impl<T: Drop> From<AllocFailed<T>> for ReadError {
+    ghost from_gives = { λ _ e. e ≡ OutOfMemory };
+
+    fn from(_refused: AllocFailed<T>) -> ReadError {
+        ReadError::OutOfMemory
+    }
+}

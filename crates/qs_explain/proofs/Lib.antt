@@ -1,0 +1,2 @@
+pub mod FieldsRead
+pub mod Parts

@@ -1,0 +1,97 @@
+-- What an explanation says of an input.
+use Rattle.std.specs.Prelude.{◌≡◌, ⊤, ℕ, Bool, true, false, List, [], ◌∷◌, map, Option, Some, None, Result, Ok, Err}
+use Rattle.qs_spec.specs.Config.{Config, are_refused}
+use Rattle.qs_spec.specs.Segment as segments
+use Rattle.qs_spec.specs.Shape.{Shape, Field}
+use Rattle.qs_spec.specs.Tree.{Tree, Entries, IsTree, IsRefused}
+use Rattle.qs_spec.specs.Node.{found}
+use Rattle.qs_spec.specs.toward.ReadFunction.{reads}
+use Rattle.qs_tree.specs.declared.error.Error.{Error}
+use Rattle.qs_tree.specs.declared.error.Error.TheVariants.{Parse}
+use Rattle.qs_explain.specs.declared.segment.Segment.{Segment}
+use Rattle.qs_explain.specs.declared.segment.Segment.TheVariants.{Index, Key}
+use Rattle.qs_explain.specs.declared.explanation.Explanation.{Explanation}
+use Rattle.qs_explain.specs.declared.explanation.Explanation.TheVariants as e
+use Rattle.qs_explain.specs.declared.explanation.Mismatch.{Mismatch}
+use Rattle.qs_explain.specs.declared.explanation.Problem.{Problem}
+use Rattle.qs_explain.specs.declared.explanation.Problem.TheVariants.{Unfit}
+use Rattle.qs_explain.specs.Expected.{expected_of, Stands}
+use Rattle.qs_explain.specs.Parts.{IsRead, Part, Leads, OneIsRead}
+
+abbrev pub segment_of : Segment → segments.Segment
+segment_of (Index i) = segments.Segment.Int i
+segment_of (Key bytes) = segments.Segment.Str bytes.items
+
+abbrev pub path_of : Mismatch → List segments.Segment
+path_of m = map segment_of m.path.items
+
+-- what is said to be wrong with a part is so
+abbrev pub IsProblem : Problem → Shape → Tree → Type 0
+IsProblem (Unfit expected found) s n = (expected ≡ expected_of s) × Stands found n
+
+-- every part of the node is read by its shape
+abbrev pub PartsAreRead : Bool → Shape → Tree → Type 0
+PartsAreRead reject_duplicates s n = (front : List segments.Segment) (part : Shape) (node : Tree) → Part front s n part node → IsRead reject_duplicates part node
+
+-- The path leads to a part that isn't read, though every part of it is, and the problem is one of that part.
+pub record IsMismatch (reject_duplicates : Bool) (s : Shape) (n : Tree) (m : Mismatch) : Type 0 where
+  pub part : Shape
+  pub node : Tree
+  pub leads : Leads (path_of m) s n part node
+  pub unread : reads reject_duplicates part node ≡ None
+  pub innermost : PartsAreRead reject_duplicates part node
+  pub problem : IsProblem m.problem part node
+
+-- whether the shape reads something from the node
+abbrev pub Tests : Bool → Shape → Tree → Bool → Type 0
+Tests reject_duplicates s n true = IsRead reject_duplicates s n
+Tests reject_duplicates s n false = reads reject_duplicates s n ≡ None
+
+-- a mismatch is found exactly where the node isn't read; memory may run out before
+abbrev pub Finds : {E : Type 0} → Bool → Shape → Tree → Result (Option Mismatch) E → Type 0
+Finds reject_duplicates s n (Ok None) = IsRead reject_duplicates s n
+Finds reject_duplicates s n (Ok (Some m)) = (reads reject_duplicates s n ≡ None) × IsMismatch reject_duplicates s n m
+Finds reject_duplicates s n (Err e) = ⊤
+
+-- a mismatch is found inside the node, or every part of it is read
+abbrev pub FindsInside : {E : Type 0} → Bool → Shape → Tree → Result (Option Mismatch) E → Type 0
+FindsInside reject_duplicates s n (Ok None) = PartsAreRead reject_duplicates s n
+FindsInside reject_duplicates s n (Ok (Some m)) = IsMismatch reject_duplicates s n m
+FindsInside reject_duplicates s n (Err e) = ⊤
+
+-- a mismatch of the part that this segment leads to
+pub record IsBelow (reject_duplicates : Bool) (key : segments.Segment) (s : Shape) (n : Tree) (m : Mismatch) : Type 0 where
+  pub inner : Mismatch
+  pub mismatch : IsMismatch reject_duplicates s n inner
+  pub path : path_of m ≡ key ∷ path_of inner
+  pub problem : m.problem ≡ inner.problem
+
+-- such a mismatch is found, or the part is read
+abbrev pub FindsBelow : {E : Type 0} → Bool → segments.Segment → Shape → Tree → Result (Option Mismatch) E → Type 0
+FindsBelow reject_duplicates key s n (Ok None) = IsRead reject_duplicates s n
+FindsBelow reject_duplicates key s n (Ok (Some m)) = IsBelow reject_duplicates key s n m
+FindsBelow reject_duplicates key s n (Err e) = ⊤
+
+-- one of some nodes stands alone, and a mismatch is found below it
+abbrev pub OneFails : Bool → segments.Segment → Shape → List Tree → Mismatch → Type 0
+OneFails reject_duplicates key s [] m = ⊥
+OneFails reject_duplicates key s (n ∷ []) m = IsBelow reject_duplicates key s n m
+OneFails reject_duplicates key s (n ∷ o ∷ ns) m = ⊥
+
+-- a mismatch of the field is found, or it is read if one key has its name
+abbrev pub FindsInField : {E : Type 0} → Bool → Field → Entries → Result (Option Mismatch) E → Type 0
+FindsInField reject_duplicates f es (Ok None) = OneIsRead reject_duplicates f.1 (found f.0 es)
+FindsInField reject_duplicates f es (Ok (Some m)) = OneFails reject_duplicates (segments.Segment.Str f.0) f.1 (found f.0 es) m
+FindsInField reject_duplicates f es (Err e) = ⊤
+
+-- the error is the one of an input without a tree
+abbrev pub IsParseError : Error → Type 0
+IsParseError (Parse message position) = ⊤
+IsParseError _ = ⊥
+
+-- There is an explanation exactly where the input isn't read: it has no tree, or the shape reads nothing from its tree.
+abbrev pub Explains : {E : Type 0} → Config → Shape → List ℕ → Result (Option Explanation) E → Type 0
+Explains config s input (Ok None) = (n : Tree) × IsTree config.form config.max_depth input n × IsRead (are_refused config.duplicates) s n
+Explains config s input (Ok (Some (e.Syntax error))) = IsRefused config.form config.max_depth input × IsParseError error
+Explains config s input (Ok (Some (e.Mismatch m))) = (n : Tree) × IsTree config.form config.max_depth input n × (reads (are_refused config.duplicates) s n ≡ None) × IsMismatch (are_refused config.duplicates) s n m
+Explains config s input (Err e) = ⊤

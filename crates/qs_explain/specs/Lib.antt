@@ -1,0 +1,5 @@
+pub mod Expected
+pub mod Explains
+pub mod Hint
+pub mod PairRange
+pub mod Parts

@@ -1,0 +1,84 @@
+//! Explanations.
+
+ghost use Rattle.std.specs.Prelude.{◌≡◌, ◌∷◌, IfOk};
+ghost use Rattle.qs_explain.specs.Explains.{path_of, segment_of};
+
+use crate::expected::Expected;
+use crate::found::Found;
+use crate::segment::Segment;
+use qs_data::Error;
+use std::alloc::AllocError;
+use std::fmt;
+
+/// Why an input isn't read.
+#[derive(Debug, Drop)]
+pub enum Explanation {
+    /// It has no tree, by this error, which is [`Parse`](Error::Parse).
+    Syntax(Error),
+    /// A part of its tree isn't read by its shape.
+    Mismatch(Mismatch),
+}
+
+/// A part of a tree that its shape doesn't read.
+#[derive(Debug, Drop)]
+pub struct Mismatch {
+    /// The path to the part: the segments of its key in the input. It is empty where the whole isn't read.
+    pub path: Vec<Segment>,
+    /// What is wrong with it.
+    pub problem: Problem,
+}
+
+/// What is wrong with a part.
+#[derive(Debug, Drop)]
+pub enum Problem {
+    /// This is expected, and that stands there.
+    Unfit(Expected, Found),
+}
+
+impl Mismatch {
+    /// The same mismatch, seen from where a segment leads to the part.
+    pub(crate) fn under(self, segment: Segment) -> Result<Mismatch, AllocError>
+        ensures path { IfOk result (λ m. path_of m ≡ segment_of segment ∷ path_of self) }
+        ensures problem { IfOk result (λ m. m.problem ≡ self.problem) }
+    {
+        let Mismatch { mut path, problem } = self;
+        path.insert(0, segment)?;
+        Ok(Mismatch { path, problem })
+    }
+}
+
+/// One line: the error of an input without a tree, or the path and the problem, as `age: expected u8, found the text "300"`.
+impl fmt::Display for Explanation {
+    fn fmt<W: fmt::Write>(&self, f: &mut fmt::Formatter<W>) -> fmt::Result {
+        match self {
+            Explanation::Syntax(error) => write!(f, "{error}"),
+            Explanation::Mismatch(mismatch) => write!(f, "{mismatch}"),
+        }
+    }
+}
+
+/// The path as a key spells it, `user[address][zip]`, and the problem. Where the path is empty, the problem alone.
+impl fmt::Display for Mismatch {
+    fn fmt<W: fmt::Write>(&self, f: &mut fmt::Formatter<W>) -> fmt::Result {
+        for (i, segment) in self.path.iter().enumerate() {
+            if i == 0 {
+                write!(f, "{segment}")?;
+            } else {
+                write!(f, "[{segment}]")?;
+            }
+        }
+        if !self.path.is_empty() {
+            f.write_str(": ")?;
+        }
+        let problem = &self.problem;
+        write!(f, "{problem}")
+    }
+}
+
+impl fmt::Display for Problem {
+    fn fmt<W: fmt::Write>(&self, f: &mut fmt::Formatter<W>) -> fmt::Result {
+        match self {
+            Problem::Unfit(expected, found) => write!(f, "expected {expected}, found {found}"),
+        }
+    }
+}

@@ -1,0 +1,60 @@
+//! What stands at a part.
+
+ghost use Rattle.std.specs.Prelude.{IfOk};
+ghost use Rattle.qs_tree.specs.Views.{tree_of};
+ghost use Rattle.qs_explain.specs.Expected.{Stands};
+
+use qs_tree::{Key, ParsedValue};
+use std::alloc::{AllocError, Global};
+use std::fmt;
+
+/// What stands at a part.
+#[derive(Debug, PartialEq, Eq, Drop)]
+pub enum Found {
+    /// A key without `=`.
+    NoValue,
+    /// A key with nothing after `=`.
+    Empty,
+    /// A text, decoded. It need not be UTF-8.
+    Text(Vec<u8>),
+    /// Several values of one key.
+    List,
+    /// Keys below this one.
+    Map,
+    /// No pair at all.
+    Nothing,
+}
+
+impl Found {
+    /// What stands at a node. It allocates for a text.
+    pub(crate) fn at(alloc: Global, node: &ParsedValue<'_>) -> Result<Found, AllocError>
+        ensures { IfOk result (λ found. Stands found (tree_of node.now)) }
+    {
+        Ok(match node {
+            ParsedValue::NoValue => Found::NoValue,
+            ParsedValue::Null => Found::Empty,
+            ParsedValue::String(text) => Found::Text(text.as_slice().to_vec(alloc)?),
+            ParsedValue::Sequence(_) => Found::List,
+            ParsedValue::Map(_) => Found::Map,
+            ParsedValue::Uninitialized => Found::Nothing,
+        })
+    }
+}
+
+/// A text stands between double quotes, with U+FFFD for what is no UTF-8.
+impl fmt::Display for Found {
+    fn fmt<W: fmt::Write>(&self, f: &mut fmt::Formatter<W>) -> fmt::Result {
+        let name = match self {
+            Found::Text(bytes) => {
+                let text = Key::from(bytes.as_slice());
+                return write!(f, "the text {text}");
+            }
+            Found::NoValue => "no value",
+            Found::Empty => "an empty value",
+            Found::List => "several values",
+            Found::Map => "nested keys",
+            Found::Nothing => "nothing",
+        };
+        f.write_str(name)
+    }
+}

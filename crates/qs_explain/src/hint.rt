@@ -1,0 +1,86 @@
+//! What is probably meant where brackets stand escaped.
+
+ghost use Rattle.std.specs.Prelude.{◌≡◌, option_map};
+ghost use Rattle.qs_explain.specs.Hint.{hint_of, is_key_after, is_unread_bracket, unread_bracket};
+
+use qs_data::Config;
+use std::fmt;
+
+/// What is probably meant by an input that isn't read as its sender meant it.
+#[derive(Debug, Clone, Copy, PartialEq, Eq)]
+pub enum Hint {
+    /// A key holds a bracket that is escaped, `%5B` or `%5D` in either case, which ends at this position. In query mode it is part of
+    /// the key.
+    Escaped(usize),
+    /// A key holds a bracket that is escaped in lower case, `%5b` or `%5d`, which ends at this position. In form mode it is part of
+    /// the key.
+    LowerCase(usize),
+}
+
+/// Returns a hint exactly where a bracket stands escaped in a key and the mode of the configuration doesn't read it as one: in form
+/// mode `%5b` and `%5d`, in query mode `%5B` and `%5D` too. It names the position after the first of them.
+///
+/// A key is what stands before the first `=` of a pair. Doesn't allocate, and looks at each byte once.
+///
+/// ```
+/// let hint = find_hint(Config::new(), b"user%5Bage%5D=7"); // Some(Hint::Escaped(7))
+/// ```
+pub fn find_hint(config: Config, input: &[u8]) -> Option<Hint>
+    ensures { result ≡ option_map (hint_of config.form) (unread_bracket config.form input.now) }
+{
+    let position = find_unread_bracket(config.get_form(), input)?;
+    Some(if config.get_form() {
+        Hint::LowerCase(position)
+    } else {
+        Hint::Escaped(position)
+    })
+}
+
+// The position after the first bracket in a key that the mode doesn't read.
+fn find_unread_bracket(form: bool, input: &[u8]) -> Option<usize>
+    ensures { result ≡ unread_bracket form input.now }
+{
+    let mut in_key = true;
+    let mut before = (0u8, 0u8);
+    for (at, byte) in input.iter().enumerate() {
+        if in_key && is_unread(form, before.0, before.1, *byte) {
+            return Some(at + 1);
+        }
+        in_key = is_in_key(in_key, *byte);
+        before = (before.1, *byte);
+    }
+    None
+}
+
+// Whether three bytes are an escaped bracket that the mode doesn't read.
+fn is_unread(form: bool, percent: u8, five: u8, letter: u8) -> bool
+    ensures { result ≡ is_unread_bracket form percent five letter }
+{
+    let is_escape = percent == b'%' && five == b'5';
+    let is_lower = letter == b'b' || letter == b'd';
+    let is_upper = letter == b'B' || letter == b'D';
+    is_escape && (is_lower || !form && is_upper)
+}
+
+// Whether the byte after this one stands in a key.
+fn is_in_key(in_key: bool, byte: u8) -> bool
+    ensures { result ≡ is_key_after in_key byte }
+{
+    byte == b'&' || in_key && byte != b'='
+}
+
+/// One line, as `the escaped bracket before position 7 is part of the key; form mode reads it as a bracket`.
+impl fmt::Display for Hint {
+    fn fmt<W: fmt::Write>(&self, f: &mut fmt::Formatter<W>) -> fmt::Result {
+        match self {
+            Hint::Escaped(position) => write!(
+                f,
+                "the escaped bracket before position {position} is part of the key: write `[` and `]` as they are, or read in form mode"
+            ),
+            Hint::LowerCase(position) => write!(
+                f,
+                "the escaped bracket before position {position} is part of the key: form mode reads `%5B` and `%5D` in upper case"
+            ),
+        }
+    }
+}

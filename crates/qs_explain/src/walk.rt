@@ -1,0 +1,129 @@
+//! The way to the first part that isn't read.
+
+ghost use Rattle.std.specs.Prelude.{IfOk};
+ghost use Rattle.qs_spec.specs.Config.{are_refused};
+ghost use Rattle.qs_tree.specs.Views.{tree_of};
+ghost use Rattle.qs_spec.specs.Shape as s;
+ghost use Rattle.qs_data.specs.Views.{shape_of};
+ghost use Rattle.qs_explain.specs.Explains.{Finds, FindsInside, IsMismatch, PartsAreRead, Tests};
+ghost use Rattle.qs_spec.specs.toward.ReadFunction.{reads};
+ghost use Rattle.std.specs.Prelude.{◌≡◌, None};
+
+use crate::expected::Expected;
+use crate::explanation::{Mismatch, Problem};
+use crate::fields::find_in_struct;
+use crate::found::Found;
+use qs_data::{Config, Error, Shape, read_value};
+use qs_tree::ParsedValue;
+use std::alloc::{AllocError, Global};
+
+/// Finds the first part of a node that its shape doesn't read, if the node isn't read.
+#[cycle(walk)]
+pub(crate) fn find_mismatch(
+    alloc: Global,
+    config: Config,
+    shape: &Shape,
+    node: &ParsedValue<'_>,
+) -> Result<Option<Mismatch>, AllocError>
+    ensures { Finds (are_refused config.duplicates) (shape_of shape.now) (tree_of node.now) result }
+{
+    if is_read(alloc, config, shape, node)? {
+        return Ok(None);
+    }
+    match find_inside(alloc, config, shape, node)? {
+        Some(mismatch) => Ok(Some(mismatch)),
+        None => Ok(Some(mismatch_here(alloc, config, shape, node)?)),
+    }
+}
+
+// Whether a shape reads a node.
+fn is_read(
+    alloc: Global,
+    config: Config,
+    shape: &Shape,
+    node: &ParsedValue<'_>,
+) -> Result<bool, AllocError>
+    ensures { IfOk result (Tests (are_refused config.duplicates) (shape_of shape.now) (tree_of node.now)) }
+{
+    match read_value(alloc, config, shape, node) {
+        Ok(_) => Ok(true),
+        Err(Error::OutOfMemory) => Err(AllocError),
+        Err(_) => Ok(false),
+    }
+}
+
+// The first part inside a node that isn't read.
+#[cycle(walk)]
+#[tactic(auto, using(crate::proofs::Parts::parts))]
+fn find_inside(
+    alloc: Global,
+    config: Config,
+    shape: &Shape,
+    node: &ParsedValue<'_>,
+) -> Result<Option<Mismatch>, AllocError>
+    ensures { FindsInside (are_refused config.duplicates) (shape_of shape.now) (tree_of node.now) result }
+{
+    match shape {
+        Shape::Option(part) => find_in_option(alloc, config, part, node),
+        Shape::Newtype(part) => find_mismatch(alloc, config, part, node),
+        Shape::Struct(fields) => find_in_struct(alloc, config, fields, node),
+        Shape::StrictStruct(fields) => find_in_struct(alloc, config, fields, node),
+        Shape::Unit
+        | Shape::Bool
+        | Shape::U8
+        | Shape::U16
+        | Shape::U32
+        | Shape::U64
+        | Shape::I8
+        | Shape::I16
+        | Shape::I32
+        | Shape::I64
+        | Shape::Char
+        | Shape::Text
+        | Shape::Bytes
+        | Shape::Any
+        | Shape::Ignored
+        | Shape::Seq(_)
+        | Shape::Tuple(_)
+        | Shape::Map(_, _)
+        | Shape::Enum(_) => Ok(None),
+    }
+}
+
+// The same inside an option.
+#[cycle(walk)]
+#[tactic(auto, using(crate::proofs::Parts::parts))]
+fn find_in_option(
+    alloc: Global,
+    config: Config,
+    part: &Shape,
+    node: &ParsedValue<'_>,
+) -> Result<Option<Mismatch>, AllocError>
+    ensures { FindsInside (are_refused config.duplicates) (s.Shape.option (shape_of part.now)) (tree_of node.now) result }
+{
+    match node {
+        ParsedValue::Uninitialized | ParsedValue::NoValue => Ok(None),
+        ParsedValue::Null => find_mismatch(alloc, config, part, &ParsedValue::NoValue),
+        ParsedValue::String(_) => find_mismatch(alloc, config, part, node),
+        ParsedValue::Sequence(_) => find_mismatch(alloc, config, part, node),
+        ParsedValue::Map(_) => find_mismatch(alloc, config, part, node),
+    }
+}
+
+// The mismatch of a node that isn't read, though every part of it is.
+fn mismatch_here(
+    alloc: Global,
+    config: Config,
+    shape: &Shape,
+    node: &ParsedValue<'_>,
+) -> Result<Mismatch, AllocError>
+    requires unread { reads (are_refused config.duplicates) (shape_of shape.now) (tree_of node.now) ≡ None }
+    requires innermost { PartsAreRead (are_refused config.duplicates) (shape_of shape.now) (tree_of node.now) }
+    ensures { IfOk result (IsMismatch (are_refused config.duplicates) (shape_of shape.now) (tree_of node.now)) }
+{
+    let found = Found::at(alloc, node)?;
+    Ok(Mismatch {
+        path: Vec::new(alloc),
+        problem: Problem::Unfit(Expected::of(shape), found),
+    })
+}

@@ -1,0 +1,90 @@
+//! Random plain data in the formats without indices, read back where their lists can be.
+
+use super::random::{Random, nested, plain_names, rows, written};
+use crate::build::Build;
+use crate::notation;
+use serde_qs::{ArrayFormat, Config};
+use std::alloc::Global;
+use std::process::Abort;
+
+fn key_of(entry: &str) -> &str {
+    match entry.split_once('=') {
+        Some((key, _)) => key,
+        None => entry,
+    }
+}
+
+fn has_key(text: &str, key: &str) -> bool {
+    for entry in text.split('&') {
+        if key_of(entry) == key {
+            return true;
+        }
+    }
+    false
+}
+
+/// The text with its entries in another order, but those with one key as they were: each is put behind those so far, or before
+/// them where none has its key.
+fn shuffled<R: Abort>(b: &Build<'_, R>, random: &mut Random, text: &str) -> String {
+    let mut shuffled = String::new(b.alloc);
+    for (place, entry) in text.split('&').enumerate() {
+        let both = if place == 0 {
+            format!(in b.alloc; "{entry}")
+        } else if random.below(2) == 0 && !has_key(shuffled.as_str(), key_of(entry)) {
+            format!(in b.alloc; "{entry}&{shuffled}")
+        } else {
+            format!(in b.alloc; "{shuffled}&{entry}")
+        };
+        shuffled = both.expect(b.rt, "memory");
+    }
+    shuffled
+}
+
+/// Of the data from each of some seeds, so deep, those come back whose lists can. Returns how many these are.
+fn come_back<R: Abort>(
+    rt: &R,
+    alloc: Global,
+    format: ArrayFormat,
+    form: bool,
+    depth: u32,
+) -> usize {
+    let config = Config::new()
+        .max_depth(10)
+        .use_form_encoding(form)
+        .array_format(format);
+    let t = rows(rt, alloc, form);
+    let b = &t.build;
+    let mut count: usize = 0;
+    for seed in 0..40 {
+        let mut random = Random::new(seed);
+        let words = nested(b, &mut random, plain_names(form), depth);
+        let shape = notation::shape(b, words.shape.as_str());
+        let data = notation::data(b, words.data.as_str());
+        assert!(b.rt; data.is_plain(config), "{data:?}");
+        assert!(b.rt; shape.fits(&data), "{data:?}");
+        if data.is_listed(config) {
+            let text = shuffled(b, &mut random, written(b, config, &data).as_str());
+            t.reads(text.as_str(), &shape, data);
+            count = count.saturating_add(1);
+        }
+    }
+    count
+}
+
+#[test]
+fn with_empty_brackets(rt: HostRuntime) {
+    for depth in 1..5 {
+        let query = come_back(&rt, rt.alloc(), ArrayFormat::EmptyIndexed, false, depth);
+        let form = come_back(&rt, rt.alloc(), ArrayFormat::EmptyIndexed, true, depth);
+        assert!(&rt; query > 4 && form > 4, "{depth}: {query} {form}");
+    }
+}
+
+#[test]
+fn without_brackets(rt: HostRuntime) {
+    for depth in 1..5 {
+        let query = come_back(&rt, rt.alloc(), ArrayFormat::Unindexed, false, depth);
+        let form = come_back(&rt, rt.alloc(), ArrayFormat::Unindexed, true, depth);
+        assert!(&rt; query > 4 && form > 4, "{depth}: {query} {form}");
+    }
+}

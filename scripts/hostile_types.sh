@@ -1,0 +1,73 @@
+#!/usr/bin/env bash
+# Inputs of 300,000 pairs, read by users' types and written again: a map, lists and structs in each order, keys that no field has, and a
+# list in one text.
+crate=qs_answers
+source "$(dirname "${BASH_SOURCE[0]}")/support/loads.sh"
+measure=map
+# A map of strings of its own stands beside the tree.
+most_bytes[pairs]=400
+
+count=300000
+others='name=a&address[street]=s&address[city]=c'
+
+numbers $count 'in order' | sed 's/.*/k&=v/' | joined '&' | between '' '' >"$room/wanted"
+for order in 'in order' reversed shuffled; do
+    numbers $count "$order" | sed 's/.*/k&=v/' | joined '&' >"$room/input"
+    load "a map of $count, $order" 0 pairs=$count map
+done
+numbers $count shuffled | sed 's/.*/%6b&=v/' | joined '&' >"$room/input"
+load "a map of $count, each key with an escape" 0 pairs=$count map
+
+numbers $count 'in order' | sed 's/.*/labels[k&]=v/' | joined '&' | between 'text=a&page&ranges=&' '' >"$room/wanted"
+numbers $count shuffled | sed 's/.*/labels[k&]=v/; 1s/^/text=a\&/; $s/$/\&ranges=/' | joined '&' >"$room/input"
+load "a map of $count in a struct, shuffled" 0 pairs=$count search
+
+# items ORDER: `items[0]=1` and so on.
+items() {
+    numbers $count "$1" | awk '{ printf "items[%d]=%d\n", $1, $1 % 200 }' | joined '&'
+}
+
+items 'in order' | between "$others&" '' >"$room/wanted"
+for order in 'in order' reversed shuffled; do
+    { printf '%s&' "$others"; items "$order"; } >"$room/input"
+    load "a list of $count, $order" 0 pairs=$count order
+done
+for key in 'items[]' items; do
+    { printf '%s&' "$others"; numbers $count 'in order' | awk -v key="$key" '{ print key "=" $1 % 200 }' | joined '&'; } >"$room/input"
+    load "a list of $count, each by $key" 0 pairs=$count order
+done
+
+# ranges KEY ORDER: half as many structs of two fields.
+ranges() {
+    numbers $((count / 2)) "$2" | awk -v key="$1" '{ printf key "[from]=%d&" key "[to]=%d\n", $1, $1 % 200, $1, $1 }' | joined '&'
+}
+
+ranges 'a[k%06d]' 'in order' | between '' '&b=' >"$room/wanted"
+for order in 'in order' shuffled; do
+    { ranges 'a[k%06d]' "$order"; printf '&b='; } >"$room/input"
+    load "a map of $((count / 2)) structs, $order" 0 pairs=$count ranges
+done
+ranges 'b[%d]' 'in order' | between 'a=&' '' >"$room/wanted"
+for order in 'in order' shuffled; do
+    { printf 'a=&'; ranges 'b[%d]' "$order"; } >"$room/input"
+    load "a list of $((count / 2)) structs, $order" 0 pairs=$count ranges
+done
+
+printf '%s&items[0]=7\n' "$others" >"$room/wanted"
+
+# unknown NAME KEY: shuffled keys that no field has. In KEY the number of each is an `&`.
+unknown() {
+    { printf '%s&' "$others"; numbers $count shuffled | sed "s/.*/$2=v/; \$a items=7" | joined '&'; } >"$room/input"
+    load "$count $1" 0 pairs=$count order
+}
+
+unknown 'unknown keys' 'key&'
+unknown 'unknown keys in a struct' 'address[key&]'
+unknown 'unknown keys with one front' "$(times 40 n)&"
+unknown 'unknown keys, each with an escape' '%6bey&'
+
+numbers $count 'in order' | sed 's/^0*\(.\)/\1/' | joined , | between 'a=' '&b[a]=1&b[b]=2' >"$room/wanted"
+tr -d '\n' <"$room/wanted" >"$room/input"
+load "$count numbers in one text" 0 plain lists
+
+report_loads

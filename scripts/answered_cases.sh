@@ -1,5 +1,5 @@
 #!/usr/bin/env bash
-# The answered cases of scripts/answered/program.tsv and strict.tsv, on the built program.
+# The golden cases of scripts/answered/program.tsv and strict.tsv, on the built program.
 source "$(dirname "${BASH_SOURCE[0]}")/support/counting.sh"
 
 # bytes HEX: the bytes that the hexadecimal digits write, none for `-`.

@@ -1,5 +1,5 @@
 #!/usr/bin/env bash
-# Holds the definitions of qs_spec against the answered cases: each is an equation that the prover accepts by computing both
+# Compares the definitions of qs_spec with the golden cases: each is an equation that the prover accepts by computing both
 # sides. One case of each table is also put wrongly, and has to be rejected.
 set -u
 root=$(cd "$(dirname "${BASH_SOURCE[0]}")/.." && pwd) || exit 1

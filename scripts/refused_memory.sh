@@ -1,5 +1,5 @@
 #!/usr/bin/env bash
-# Each allocation of a run is refused in turn: the right line comes, or status 3 with the line that says so or with nothing.
+# Each allocation of a run fails in turn: the right line is printed, or the status is 3, with the line that says so or with nothing.
 source "$(dirname "${BASH_SOURCE[0]}")/support/counting.sh"
 
 refuse=$room/refuse_memory.so

@@ -1,4 +1,4 @@
-"""Writes the answered cases as equations over the definitions of qs_spec, each to be proved by computing both sides.
+"""Writes the golden cases as equations over the definitions of qs_spec, each to be proved by computing both sides.
 
 usage: definitions.py program|strict|trees|reads|writes TABLE [wrong]     with `wrong` one case alone, with another answer, which is to be rejected
 """

@@ -1,4 +1,4 @@
-# Inputs that were made to cost much, on the built program. Each has to print the line that it stands for, and may take at most so many
+# Inputs that were made to cost much, on the built program. Each has to print the right line, and may take at most so many
 # times the time of a processor and the peak memory of another input, its measure:
 # - plain: one value of letters, as long as the input, which makes few nodes;
 # - pairs=N: so many pairs in order, each with a key of its own, where the input makes a tree of so many nodes;

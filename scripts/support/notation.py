@@ -1,4 +1,4 @@
-"""Reads shapes and data as the answered cases write them, and gives them as terms of qs_spec.
+"""Reads shapes and data as the golden cases write them, and gives them as terms of qs_spec.
 
 A part is a word and, in parentheses, its parts: `Struct(a=Option(U8),b?=Text)`. Names and texts are escaped as in form mode; `?` stands after
 the name of an optional field.

@@ -1,7 +1,7 @@
 #!/usr/bin/env bash
 # Inputs of 300,000 pairs, read by users' types and written again: a map, lists and structs in each order, keys that no field has, and a
 # list in one text.
-crate=qs_answers
+crate=qs_tests
 source "$(dirname "${BASH_SOURCE[0]}")/support/loads.sh"
 measure=map
 # A map of strings of its own stands beside the tree.

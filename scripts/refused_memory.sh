@@ -97,8 +97,8 @@ refuse_each 'a[4294967296]=p&a[4294967295]=q' 0 "{'a':{'4294967295':'q','4294967
 refuse_each '' 2 'usage: qs_tool flat|params|any [--form] [--strict] [--depth N] [--format indexed|empty|unindexed] [--duplicates last|error]' round
 
 # Typed calls, over structs, maps, lists and enums of users, and lists in one text.
-program=${2:-$root/crates/qs_answers/out/qs_answers}
-[ -x "$program" ] || fail "there is no program $program: run 'rt run' in crates/qs_answers once"
+program=${2:-$root/crates/qs_tests/out/qs_tests}
+[ -x "$program" ] || fail "there is no program $program: run 'rt run' in crates/qs_tests once"
 refuse_each 'items=7&items=8&name=A%63me&address[city]=Carrot+City&address[street]=S' 0 \
     'name=Acme&address[street]=S&address[city]=Carrot+City&items[0]=7&items[1]=8' order
 refuse_each 'text=a%20b&page=2&ranges[0][]=1&ranges[0][]=-2&labels[b]=%20&labels[a]=x' 0 \

@@ -12,10 +12,7 @@ fn two<R: Abort>(b: &Build<'_, R>) -> Data {
 
 #[test]
 fn at_the_top(rt: HostRuntime) {
-    let build = Build {
-        rt: &rt,
-        alloc: rt.alloc(),
-    };
+    let build = Build::new(&rt, rt.alloc());
     let b = &build;
     let rows = [
         (ArrayFormat::Indexed, "0=1&1=2"),
@@ -29,10 +26,7 @@ fn at_the_top(rt: HostRuntime) {
 
 #[test]
 fn in_a_field(rt: HostRuntime) {
-    let build = Build {
-        rt: &rt,
-        alloc: rt.alloc(),
-    };
+    let build = Build::new(&rt, rt.alloc());
     let b = &build;
     let tuple = b.items([Data::Unsigned(1), Data::Unsigned(2)]);
     let data = [b.one("a", two(b)), b.one("a", tuple)];
@@ -52,10 +46,7 @@ fn in_a_field(rt: HostRuntime) {
 
 #[test]
 fn empty(rt: HostRuntime) {
-    let build = Build {
-        rt: &rt,
-        alloc: rt.alloc(),
-    };
+    let build = Build::new(&rt, rt.alloc());
     let b = &build;
     let rows = [
         (b.list([]), "values="),
@@ -73,10 +64,7 @@ fn empty(rt: HostRuntime) {
 
 #[test]
 fn that_may_be_absent(rt: HostRuntime) {
-    let build = Build {
-        rt: &rt,
-        alloc: rt.alloc(),
-    };
+    let build = Build::new(&rt, rt.alloc());
     let b = &build;
     writes(b, query(), &b.one("vec", Data::None), "vec");
     writes(
@@ -89,10 +77,7 @@ fn that_may_be_absent(rt: HostRuntime) {
 
 #[test]
 fn beside_other_fields(rt: HostRuntime) {
-    let build = Build {
-        rt: &rt,
-        alloc: rt.alloc(),
-    };
+    let build = Build::new(&rt, rt.alloc());
     let b = &build;
     let list = b.list([Data::Unsigned(0), Data::Unsigned(1)]);
     let datum = b.record([b.member("a", list), b.member("b", b.text("b"))]);
@@ -104,10 +89,7 @@ fn beside_other_fields(rt: HostRuntime) {
 
 #[test]
 fn a_customer(rt: HostRuntime) {
-    let build = Build {
-        rt: &rt,
-        alloc: rt.alloc(),
-    };
+    let build = Build::new(&rt, rt.alloc());
     let b = &build;
     let address = b.record([
         b.member("city", b.text("Carrot City")),
@@ -134,10 +116,7 @@ fn a_customer(rt: HostRuntime) {
 
 #[test]
 fn structs_in_a_list(rt: HostRuntime) {
-    let build = Build {
-        rt: &rt,
-        alloc: rt.alloc(),
-    };
+    let build = Build::new(&rt, rt.alloc());
     let b = &build;
     let first = b.record([
         b.member("a", Data::Unsigned(1)),

@@ -62,10 +62,7 @@ fn number_and_list<R: Abort>(b: &Build<'_, R>) -> Data {
 // The bytes that were taken stand, no write is repeated, and the serializer has failed for good.
 #[test]
 fn stops_in_mid_stream(rt: HostRuntime) {
-    let build = Build {
-        rt: &rt,
-        alloc: rt.alloc(),
-    };
+    let build = Build::new(&rt, rt.alloc());
     let b = &build;
     let datum = number_and_list(b);
     for stop in [Stop::Fails, Stop::IsInterrupted, Stop::TakesNothing] {
@@ -98,10 +95,7 @@ fn stops_in_mid_stream(rt: HostRuntime) {
 
 #[test]
 fn takes_all_in_small_steps(rt: HostRuntime) {
-    let build = Build {
-        rt: &rt,
-        alloc: rt.alloc(),
-    };
+    let build = Build::new(&rt, rt.alloc());
     let b = &build;
     let datum = number_and_list(b);
     for step in [1, 3, 5, 10] {
@@ -186,10 +180,7 @@ fn typed_calls_stop_in_mid_stream(rt: HostRuntime) {
 
 #[test]
 fn a_second_value_continues(rt: HostRuntime) {
-    let build = Build {
-        rt: &rt,
-        alloc: rt.alloc(),
-    };
+    let build = Build::new(&rt, rt.alloc());
     let b = &build;
     let mut serializer = Serializer::over(ByWrite::new(Vec::new(b.alloc)), query());
     for (name, number) in [("a", 1), ("b", 2)] {

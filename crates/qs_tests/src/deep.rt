@@ -61,10 +61,7 @@ fn compared<R: Abort>(rt: &R, datum: Data, same: Data, other: Data) {
 
 #[test]
 fn deep_data_of_each_kind(rt: HostRuntime) {
-    let b = Build {
-        rt: &rt,
-        alloc: rt.alloc(),
-    };
+    let b = Build::new(&rt, rt.alloc());
     let datum = deep(&b, COMPARED, b.text("a"));
     let same = deep(&b, COMPARED, b.text("a"));
     let other = deep(&b, COMPARED, b.text("b"));
@@ -73,10 +70,7 @@ fn deep_data_of_each_kind(rt: HostRuntime) {
 
 #[test]
 fn deep_options(rt: HostRuntime) {
-    let b = Build {
-        rt: &rt,
-        alloc: rt.alloc(),
-    };
+    let b = Build::new(&rt, rt.alloc());
     let datum = deep_option(&b, COMPARED, Data::Unit);
     let same = deep_option(&b, COMPARED, Data::Unit);
     let other = deep_option(&b, COMPARED, Data::None);
@@ -85,10 +79,7 @@ fn deep_options(rt: HostRuntime) {
 
 #[test]
 fn deep_lists(rt: HostRuntime) {
-    let b = Build {
-        rt: &rt,
-        alloc: rt.alloc(),
-    };
+    let b = Build::new(&rt, rt.alloc());
     let datum = deep_list(&b, COMPARED, Data::Bool(true));
     let same = deep_list(&b, COMPARED, Data::Bool(true));
     let other = deep_list(&b, COMPARED, Data::Bool(false));
@@ -97,10 +88,7 @@ fn deep_lists(rt: HostRuntime) {
 
 #[test]
 fn deep_data_are_discarded(rt: HostRuntime) {
-    let b = Build {
-        rt: &rt,
-        alloc: rt.alloc(),
-    };
+    let b = Build::new(&rt, rt.alloc());
     deep(&b, DISCARDED, Data::Unit).discard();
     deep_option(&b, DISCARDED, Data::Unit).discard();
     deep_list(&b, DISCARDED, Data::Unit).discard();

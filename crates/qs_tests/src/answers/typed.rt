@@ -17,21 +17,21 @@ type Ranges = Pair<BTreeMap<String, Range>, Vec<Range>>;
 type Lists = Pair<Delimited<u32, Comma>, Pair<Delimited<u8, Pipe>, Delimited<i64, Space>>>;
 
 /// Returns the querystring of the value that the input stands for.
-fn rewritten<T: Serialize + Deserialize + Drop>(alloc: Global, input: &[u8]) -> Result<String> {
+fn rewrite<T: Serialize + Deserialize + Drop>(alloc: Global, input: &[u8]) -> Result<String> {
     let value: T = from_bytes(alloc, input)?;
     to_string(alloc, &value)
 }
 
 /// The same by the type of this name, if there is one.
-fn rewritten_by(alloc: Global, name: &str, input: &[u8]) -> Option<Result<String>> {
+fn rewrite_by(alloc: Global, name: &str, input: &[u8]) -> Option<Result<String>> {
     match name {
-        "map" => Some(rewritten::<BTreeMap<String, String>>(alloc, input)),
-        "order" => Some(rewritten::<Order>(alloc, input)),
-        "search" => Some(rewritten::<Search>(alloc, input)),
-        "ranges" => Some(rewritten::<Ranges>(alloc, input)),
-        "sorts" => Some(rewritten::<BTreeMap<String, Sort>>(alloc, input)),
-        "lists" => Some(rewritten::<Lists>(alloc, input)),
-        "values" => Some(rewritten::<BTreeMap<String, Values>>(alloc, input)),
+        "map" => Some(rewrite::<BTreeMap<String, String>>(alloc, input)),
+        "order" => Some(rewrite::<Order>(alloc, input)),
+        "search" => Some(rewrite::<Search>(alloc, input)),
+        "ranges" => Some(rewrite::<Ranges>(alloc, input)),
+        "sorts" => Some(rewrite::<BTreeMap<String, Sort>>(alloc, input)),
+        "lists" => Some(rewrite::<Lists>(alloc, input)),
+        "values" => Some(rewrite::<BTreeMap<String, Values>>(alloc, input)),
         _ => None,
     }
 }
@@ -52,12 +52,12 @@ fn status(written: io::Result<()>, status: u8) -> ExitCode {
 /// | 1 | `error: ` and why the input was rejected |
 /// | 2 | none: no type has this name |
 /// | 3 | `error: out of memory`, or what could be written |
-pub fn answer(rt: &HostRuntime, name: &str) -> ExitCode {
+pub fn rewritten(rt: &HostRuntime, name: &str) -> ExitCode {
     let mut input = Vec::new(rt.alloc());
     if rt.reader().read_to_end(&mut input).is_err() {
         return ExitCode::from(3);
     }
-    match rewritten_by(rt.alloc(), name, input.as_slice()) {
+    match rewrite_by(rt.alloc(), name, input.as_slice()) {
         Some(Ok(text)) => status(println!(rt; "{text}"), 0),
         Some(Err(Error::OutOfMemory)) => status(println!(rt; "error: out of memory"), 3),
         Some(Err(error)) => status(println!(rt; "error: {error}"), 1),

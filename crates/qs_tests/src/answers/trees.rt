@@ -1,6 +1,6 @@
 //! The parser's answers to the cases of a table.
 
-use qs_notation::{Texts, line};
+use crate::tree_line::{Texts, line};
 use qs_tree::{Config, Error, parse};
 use std::alloc::{AllocError, Global};
 use std::io;
@@ -54,7 +54,7 @@ fn answer_all(rt: &HostRuntime) -> io::Result<()> {
 }
 
 /// Prints the answer to each line of standard input, and returns the status.
-pub fn answer(rt: &HostRuntime) -> ExitCode {
+pub fn trees(rt: &HostRuntime) -> ExitCode {
     match answer_all(rt) {
         Ok(()) => ExitCode::SUCCESS,
         Err(_) => ExitCode::FAILURE,

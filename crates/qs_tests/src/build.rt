@@ -12,6 +12,10 @@ pub struct Build<'r, R: Abort> {
 }
 
 impl<'r, R: Abort> Build<'r, R> {
+    pub fn new(rt: &'r R, alloc: Global) -> Self {
+        Build { rt, alloc }
+    }
+
     fn boxed<T: Drop>(&self, value: T) -> Box<T> {
         Box::new(self.alloc, value).expect(self.rt, "memory")
     }

@@ -6,10 +6,7 @@ use serde_qs::{Data, Error};
 
 #[test]
 fn too_deep(rt: HostRuntime) {
-    let build = Build {
-        rt: &rt,
-        alloc: rt.alloc(),
-    };
+    let build = Build::new(&rt, rt.alloc());
     let b = &build;
     let datum = b.record([
         b.member("a", Data::Unsigned(1)),
@@ -28,10 +25,7 @@ fn too_deep(rt: HostRuntime) {
 
 #[test]
 fn too_deep_at_once(rt: HostRuntime) {
-    let build = Build {
-        rt: &rt,
-        alloc: rt.alloc(),
-    };
+    let build = Build::new(&rt, rt.alloc());
     let b = &build;
     let datum = b.one("a", b.list([Data::Unsigned(1), Data::Unsigned(2)]));
     let error = stops(b, query().max_depth(0), &datum, "");
@@ -41,10 +35,7 @@ fn too_deep_at_once(rt: HostRuntime) {
 // This is reported whatever the depth.
 #[test]
 fn a_key_that_is_no_scalar(rt: HostRuntime) {
-    let build = Build {
-        rt: &rt,
-        alloc: rt.alloc(),
-    };
+    let build = Build::new(&rt, rt.alloc());
     let b = &build;
     for max_depth in [0, 1, 5] {
         let map = b.pairs([(Data::Unit, Data::Unit)]);

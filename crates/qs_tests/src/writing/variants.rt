@@ -6,10 +6,7 @@ use serde_qs::{Data, Error};
 
 #[test]
 fn each_kind(rt: HostRuntime) {
-    let build = Build {
-        rt: &rt,
-        alloc: rt.alloc(),
-    };
+    let build = Build::new(&rt, rt.alloc());
     let b = &build;
     let members = [
         b.member("x", Data::Unsigned(2)),
@@ -30,10 +27,7 @@ fn each_kind(rt: HostRuntime) {
 // Nothing is written, and the name needs its depth all the same.
 #[test]
 fn without_fields(rt: HostRuntime) {
-    let build = Build {
-        rt: &rt,
-        alloc: rt.alloc(),
-    };
+    let build = Build::new(&rt, rt.alloc());
     let b = &build;
     for variant in [b.holding_items("v", []), b.holding_record("v", [])] {
         let datum = b.one("e", variant);

@@ -11,7 +11,7 @@ mod pushes;
 mod refusals;
 mod values;
 
-use qs_notation::{Texts, line};
+use crate::tree_line::{Texts, line};
 use qs_tree::{Config, Error, ParsedValue, parse};
 use serde_qs::ConfigExt;
 use std::alloc::{AllocError, Global};

@@ -6,10 +6,7 @@ use serde_qs::Data;
 
 #[test]
 fn texts(rt: HostRuntime) {
-    let build = Build {
-        rt: &rt,
-        alloc: rt.alloc(),
-    };
+    let build = Build::new(&rt, rt.alloc());
     let b = &build;
     let rows = [
         ("01", "m[01]=1", "m%5B01%5D=1"),
@@ -27,10 +24,7 @@ fn texts(rt: HostRuntime) {
 
 #[test]
 fn spaces(rt: HostRuntime) {
-    let build = Build {
-        rt: &rt,
-        alloc: rt.alloc(),
-    };
+    let build = Build::new(&rt, rt.alloc());
     let b = &build;
     let name = b.one("full name", b.text("John Doe"));
     writes(b, query(), &name, "full+name=John+Doe");
@@ -44,10 +38,7 @@ fn spaces(rt: HostRuntime) {
 
 #[test]
 fn other_scalars(rt: HostRuntime) {
-    let build = Build {
-        rt: &rt,
-        alloc: rt.alloc(),
-    };
+    let build = Build::new(&rt, rt.alloc());
     let b = &build;
     let rows = [
         (Data::Bool(true), "m[true]=1"),
@@ -64,10 +55,7 @@ fn other_scalars(rt: HostRuntime) {
 
 #[test]
 fn names_of_variants(rt: HostRuntime) {
-    let build = Build {
-        rt: &rt,
-        alloc: rt.alloc(),
-    };
+    let build = Build::new(&rt, rt.alloc());
     let b = &build;
     let point = b.pairs([
         (b.bare("Lt"), Data::Unsigned(321)),

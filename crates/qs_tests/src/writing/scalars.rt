@@ -6,10 +6,7 @@ use serde_qs::Data;
 
 #[test]
 fn texts(rt: HostRuntime) {
-    let build = Build {
-        rt: &rt,
-        alloc: rt.alloc(),
-    };
+    let build = Build::new(&rt, rt.alloc());
     let b = &build;
     let rows = [
         ("100% a+b", "a=100%25+a%2Bb", "a=100%25%20a%2Bb"),
@@ -33,10 +30,7 @@ fn texts(rt: HostRuntime) {
 
 #[test]
 fn bytes(rt: HostRuntime) {
-    let build = Build {
-        rt: &rt,
-        alloc: rt.alloc(),
-    };
+    let build = Build::new(&rt, rt.alloc());
     let b = &build;
     let datum = b.one("bytes", b.bytes(b"hello, world!"));
     writes(b, query(), &datum, "bytes=hello,+world!");
@@ -45,10 +39,7 @@ fn bytes(rt: HostRuntime) {
 
 #[test]
 fn other_scalars(rt: HostRuntime) {
-    let build = Build {
-        rt: &rt,
-        alloc: rt.alloc(),
-    };
+    let build = Build::new(&rt, rt.alloc());
     let b = &build;
     let rows = [
         (Data::Unit, "a="),
@@ -70,10 +61,7 @@ fn other_scalars(rt: HostRuntime) {
 // Nothing is above these, so there is no key.
 #[test]
 fn at_the_top(rt: HostRuntime) {
-    let build = Build {
-        rt: &rt,
-        alloc: rt.alloc(),
-    };
+    let build = Build::new(&rt, rt.alloc());
     let b = &build;
     writes(b, query(), &Data::Unit, "=");
     writes(b, query(), &Data::None, "");

@@ -1,0 +1,55 @@
+//! Tests that cross crates, and a program that answers for scripts: the trees of a table's cases, and querystrings that are read by a
+//! user's type and written again.
+//!
+//! Without a word each line of standard input is a case: form mode (0 or 1), the depth limit, and the input in hexadecimal, with
+//! tabs between. A line is printed for each: `ok` and the tree, or `refused`, the position, and the error's text in hexadecimal.
+//!
+//! With the name of a type all of standard input is one querystring. It is read by that type, and the querystring of its value is
+//! printed.
+#![tactic(auto)]
+
+mod answers;
+#[cfg(test)]
+mod build;
+#[cfg(test)]
+mod configurations;
+#[cfg(test)]
+mod deep;
+#[cfg(test)]
+mod errors;
+#[cfg(test)]
+mod escapes;
+#[cfg(test)]
+mod helpers;
+#[cfg(test)]
+mod maps;
+#[cfg(test)]
+mod notation;
+#[cfg(test)]
+mod read_back;
+#[cfg(test)]
+mod reading;
+#[cfg(test)]
+mod rows;
+#[cfg(test)]
+mod searches;
+mod tree_line;
+#[cfg(test)]
+mod trees;
+#[cfg(test)]
+mod typed;
+#[cfg(test)]
+mod writing;
+
+use std::env;
+use std::process::ExitCode;
+
+fn main(rt: HostRuntime) -> ExitCode {
+    let Ok(mut words) = env::args(&rt) else {
+        return ExitCode::from(3);
+    };
+    match words.nth(1) {
+        Some(name) => answers::rewritten(&rt, name.as_str()),
+        None => answers::trees(&rt),
+    }
+}

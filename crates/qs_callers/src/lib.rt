@@ -11,6 +11,7 @@ mod filter;
 mod guard;
 mod leaves;
 mod link;
+mod listing;
 mod order;
 mod paging;
 mod pair;
@@ -20,12 +21,14 @@ mod price;
 mod products;
 mod query;
 mod range;
+mod report;
 mod search;
 mod sort;
 mod span;
 #[cfg(test)]
 mod tests;
 mod values;
+mod visit;
 mod wrappers;
 
 pub use account::Account;
@@ -38,6 +41,7 @@ pub use filter::Filter;
 pub use guard::{Rejected, guarded};
 pub use leaves::leaf_paths;
 pub use link::Link;
+pub use listing::{Listing, ListingOf};
 pub use order::{Order, ordered};
 pub use paging::{Page, Paging};
 pub use pair::Pair;
@@ -47,10 +51,12 @@ pub use price::Price;
 pub use products::{Products, next_page};
 pub use query::Query;
 pub use range::Range;
+pub use report::Report;
 pub use search::Search;
 pub use sort::Sort;
 pub use span::Span;
 pub use values::Values;
+pub use visit::Visit;
 pub use wrappers::{
     copied_form, copied_query, form_inside, form_text, is_same_form, is_same_query, order_of_forms,
     order_of_queries, partial_order_of_forms, partial_order_of_queries, query_inside, query_text,

@@ -2,6 +2,7 @@
 
 mod fields;
 mod guard;
+mod halves;
 mod helpers;
 mod pages;
 mod reading;

@@ -33,6 +33,9 @@ pub struct Mismatch {
 pub enum Problem {
     /// This is expected, and that stands there.
     Unfit(Expected, Found),
+    /// The part has this key, which its shape doesn't allow: no field or variant has it, the key shape of a map doesn't read it,
+    /// or it isn't UTF-8.
+    UnexpectedKey(Segment),
 }
 
 impl Mismatch {
@@ -79,6 +82,7 @@ impl fmt::Display for Problem {
     fn fmt<W: fmt::Write>(&self, f: &mut fmt::Formatter<W>) -> fmt::Result {
         match self {
             Problem::Unfit(expected, found) => write!(f, "expected {expected}, found {found}"),
+            Problem::UnexpectedKey(key) => write!(f, "unexpected key \"{key}\""),
         }
     }
 }

@@ -5,6 +5,7 @@ mod guard;
 mod helpers;
 mod pages;
 mod reading;
+mod report;
 mod round_trips;
 mod strict;
 mod web;

@@ -22,7 +22,7 @@ pub enum Explanation {
 /// A part of a tree that its shape doesn't read.
 #[derive(Debug, Drop)]
 pub struct Mismatch {
-    /// The path to the part: the segments of its key in the input. It is empty where the whole isn't read.
+    /// The path to the part: the segments of a key that leads to it. It is empty where the whole isn't read.
     pub path: Vec<Segment>,
     /// What is wrong with it.
     pub problem: Problem,

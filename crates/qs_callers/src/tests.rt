@@ -1,6 +1,7 @@
 //! Each call once, rejected inputs, and values that come back.
 
 mod fields;
+mod form_page;
 mod guard;
 mod halves;
 mod helpers;

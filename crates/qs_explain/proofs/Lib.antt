@@ -1,2 +1,4 @@
-pub mod FieldsRead
+pub mod ItemsThere
+pub mod KeysAllowed
+pub mod OneByOne
 pub mod Parts

@@ -8,7 +8,6 @@ use Rattle.std.specs.declared.borrow.CowSlice.TheVariants.{Borrowed, Owned}
 use Rattle.qs_tree.specs.declared.value.ParsedValue as value
 use Rattle.qs_tree.specs.Views.{tree_of}
 use Rattle.qs_spec.specs.Segment.{Segment}
-use Rattle.qs_spec.specs.Leaf.{Leaf}
 use Rattle.qs_spec.specs.Leaf.Leaf.{NoValue, Null, Text}
 use Rattle.qs_spec.specs.Shape.{Shape}
 use Rattle.qs_spec.specs.Config.{Config, are_refused}
@@ -16,43 +15,61 @@ use Rattle.qs_spec.specs.toward.ReadFunction.{reads}
 use Rattle.qs_spec.specs.Tree.{Tree, IsTree}
 use Rattle.qs_explain.specs.declared.explanation.Explanation.TheVariants as e
 use Rattle.qs_spec.specs.Node.{IsFull}
-use Rattle.qs_explain.specs.Parts.{IsRead, Part, Leads}
-use Rattle.qs_explain.specs.Explains.{Explains, Finds, FindsInside, IsBelow, IsMismatch, PartsAreRead, path_of, segment_of, IsProblem}
+use Rattle.qs_explain.specs.Children.{Child, children}
+use Rattle.qs_explain.specs.Parts.{IsRead, IsChild, Part, Leads, AreRead}
+use Rattle.qs_explain.specs.Explains.{Explains, Finds, FindsAmong, FindsInside, IsBelow, IsHere, IsMismatch, PartsAreRead, path_of, segment_of, IsProblem, Says}
 use Rattle.qs_explain.specs.declared.explanation.Mismatch.{Mismatch}
+use Rattle.qs_explain.specs.declared.expected.Expected.{Expected}
+use Rattle.qs_explain.specs.Expected.{expected_of}
+use Rattle.qs_explain.specs.Unexpected.{unexpected_key}
 
--- shapes that have parts
-abbrev pub has_parts : Shape → Tree → Bool
-has_parts (Shape.option s) n = true
-has_parts (Shape.newtype s) n = true
-has_parts (Shape.struct u fs) (Tree.mapping es) = true
-has_parts _ _ = false
+no_child : (c : Child) (cs : List Child) → cs ≡ [] → IsChild c cs → ⊥
+no_child c _ e IsChild.first = absurd cc
+no_child c _ e (IsChild.later w) = absurd cc
 
-part_of : {front : List Segment} {s part : Shape} {n node : Tree} → Part front s n part node → has_parts s n ≡ true
-part_of Part.option_null = refl
-part_of (Part.option_full h) = refl
-part_of Part.newtype = refl
-part_of (Part.field w e) = refl
-
-pub no_parts : (rd : Bool) (s : Shape) (n : Tree) → has_parts s n ≡ false → PartsAreRead rd s n
-no_parts rd s n h front part node p = absurd (false≢true (sym h ∙ part_of p))
-
+-- an option's part, where there is one, and that of a newtype
 pub newtype_parts : (rd : Bool) (s : Shape) (n : Tree) → IsRead rd s n → PartsAreRead rd (Shape.newtype s) n
 newtype_parts rd s n h _ _ _ Part.newtype = h
+newtype_parts rd s n h _ _ _ (Part.child w) = absurd (no_child _ [] refl w)
 
--- an option's part, where there is one
 pub absent_parts : (rd : Bool) (s : Shape) → PartsAreRead rd (Shape.option s) (Tree.leaf NoValue)
 absent_parts rd s _ _ _ (Part.option_full h) = absurd h
+absent_parts rd s _ _ _ (Part.child w) = absurd (no_child _ [] refl w)
 
 pub uninitialized_parts : (rd : Bool) (s : Shape) → PartsAreRead rd (Shape.option s) Tree.uninitialized
 uninitialized_parts rd s _ _ _ (Part.option_full h) = absurd h
+uninitialized_parts rd s _ _ _ (Part.child w) = absurd (no_child _ [] refl w)
 
 pub null_parts : (rd : Bool) (s : Shape) → IsRead rd s (Tree.leaf NoValue) → PartsAreRead rd (Shape.option s) (Tree.leaf Null)
 null_parts rd s r _ _ _ Part.option_null = r
 null_parts rd s r _ _ _ (Part.option_full h) = absurd h
+null_parts rd s r _ _ _ (Part.child w) = absurd (no_child _ [] refl w)
 
 pub full_parts : (rd : Bool) (s : Shape) (n : Tree) → IsFull n → IsRead rd s n → PartsAreRead rd (Shape.option s) n
 full_parts rd s _ f r _ _ _ Part.option_null = absurd f
 full_parts rd s n f r _ _ _ (Part.option_full h) = r
+full_parts rd s n f r _ _ _ (Part.child w) = absurd (no_child _ [] refl w)
+
+-- shapes whose part no segment leads to
+abbrev pub is_wrapper : Shape → Bool
+is_wrapper (Shape.option s) = true
+is_wrapper (Shape.newtype s) = true
+is_wrapper _ = false
+
+child_read : (rd : Bool) (c : Child) (cs : List Child) → AreRead rd cs → IsChild c cs → IsRead rd c.1 c.2
+child_read rd c _ all IsChild.first = all.0
+child_read rd c _ all (IsChild.later w) = child_read rd c _ all.1 w
+
+-- the parts of any other shape are its children
+children_parts : (rd : Bool) (s : Shape) (n : Tree) → is_wrapper s ≡ false → AreRead rd (children s n) → PartsAreRead rd s n
+children_parts rd s n h all _ _ _ Part.option_null = absurd (false≢true (sym h))
+children_parts rd s n h all _ _ _ (Part.option_full f) = absurd (false≢true (sym h))
+children_parts rd s n h all _ _ _ Part.newtype = absurd (false≢true (sym h))
+children_parts rd s n h all _ _ _ (Part.child w) = child_read rd _ (children s n) all w
+
+-- shapes without parts
+pub no_parts : (rd : Bool) (s : Shape) (n : Tree) → is_wrapper s ≡ false → children s n ≡ [] → PartsAreRead rd s n
+no_parts rd s n h e = children_parts rd s n h (subst (AreRead rd) (sym e) tt)
 
 -- a mismatch of a part is one of the whole, where the segments that lead to the part stand in front of its path
 pub found_within : (rd : Bool) (s part : Shape) (n node : Tree) (front : List Segment) (m whole : Mismatch) → Part front s n part node → IsMismatch rd part node m
@@ -72,18 +89,25 @@ found_inside rd s part n node m p h = found_within rd s part n node [] m m p h r
 pub found_below : (rd : Bool) (s part : Shape) (n node : Tree) (key : Segment) (m : Mismatch) → Part (key ∷ []) s n part node → IsBelow rd key part node m → IsMismatch rd s n m
 found_below rd s part n node key m p b = found_within rd s part n node (key ∷ []) b.inner m p b.mismatch b.path b.problem
 
+-- what is found among the children is found in the node
+pub among : {E : Type 0} (rd : Bool) (s : Shape) (n : Tree) (r : Result (Option Mismatch) E) → is_wrapper s ≡ false → FindsAmong rd (children s n) r → FindsInside rd s n r
+among rd s n (Ok None) h f = children_parts rd s n h f
+among rd s n (Ok (Some m)) h f = found_below rd s f.part n f.node f.key m (Part.child f.child) f.below
+among rd s n (Err e) h f = tt
+
 pub below : (rd : Bool) (key first : Segment) (s : Shape) (n : Tree) (inner m : Mismatch) → IsMismatch rd s n inner → path_of m ≡ first ∷ path_of inner → first ≡ key → m.problem ≡ inner.problem → IsBelow rd key s n m
 below rd key first s n inner m mismatch path is problem = record { inner = inner; mismatch = mismatch; path = path ∙ ap (λ x. x ∷ path_of inner) is; problem = problem }
 
 -- the node itself is what is wrong
-pub mismatch_at : (rd : Bool) (s : Shape) (n : Tree) (m : Mismatch) → m.path.items ≡ [] → reads rd s n ≡ None → PartsAreRead rd s n → IsProblem m.problem s n → IsMismatch rd s n m
-mismatch_at rd s n m path unread innermost problem = record {
+pub mismatch_at : (rd : Bool) (unexpected : Option Segment) (expected : Expected) (s : Shape) (n : Tree) (m : Mismatch) → unexpected ≡ unexpected_key s n → expected ≡ expected_of s → reads rd s n ≡ None → PartsAreRead rd s n → IsHere unexpected expected n m
+    → IsMismatch rd s n m
+mismatch_at rd unexpected expected s n m key kind unread innermost here = record {
   part = s;
   node = n;
-  leads = subst (λ xs. Leads (map segment_of xs) s n s n) (sym path) Leads.here;
+  leads = subst (λ xs. Leads (map segment_of xs) s n s n) (sym here.0) Leads.here;
   unread = unread;
   innermost = innermost;
-  problem = problem;
+  problem = subst (λ x. Says x (expected_of s) n m.problem) key (subst (λ x. Says unexpected x n m.problem) kind here.1);
 }
 
 -- what is found in the part is found in the whole, where the part is all that the whole has

@@ -1,11 +1,14 @@
 -- What an explanation says of an input.
-use Rattle.std.specs.Prelude.{◌≡◌, ⊤, ℕ, Bool, true, false, List, [], ◌∷◌, map, Option, Some, None, Result, Ok, Err}
+use Rattle.std.specs.Prelude.{◌≡◌, ⊤, ℕ, Bool, true, false, List, [], ◌∷◌, map, Option, Some, None, option_map, Result, Ok, Err}
 use Rattle.qs_spec.specs.Config.{Config, are_refused}
 use Rattle.qs_spec.specs.Segment as segments
-use Rattle.qs_spec.specs.Shape.{Shape, Field}
+use Rattle.qs_spec.specs.Shape.{Shape}
 use Rattle.qs_spec.specs.Tree.{Tree, Entries, IsTree, IsRefused}
-use Rattle.qs_spec.specs.Node.{found}
 use Rattle.qs_spec.specs.toward.ReadFunction.{reads}
+use Rattle.std.specs.Borrow.{Bor}
+use Rattle.qs_tree.specs.declared.value.ParsedValue.{ParsedValue}
+use Rattle.qs_tree.specs.declared.map.ParsedMap.{ParsedMap}
+use Rattle.qs_tree.specs.Views.{tree_of, entries_of_map}
 use Rattle.qs_tree.specs.declared.error.Error.{Error}
 use Rattle.qs_tree.specs.declared.error.Error.TheVariants.{Parse}
 use Rattle.qs_explain.specs.declared.segment.Segment.{Segment}
@@ -14,9 +17,12 @@ use Rattle.qs_explain.specs.declared.explanation.Explanation.{Explanation}
 use Rattle.qs_explain.specs.declared.explanation.Explanation.TheVariants as e
 use Rattle.qs_explain.specs.declared.explanation.Mismatch.{Mismatch}
 use Rattle.qs_explain.specs.declared.explanation.Problem.{Problem}
-use Rattle.qs_explain.specs.declared.explanation.Problem.TheVariants.{Unfit}
+use Rattle.qs_explain.specs.declared.explanation.Problem.TheVariants.{Unfit, UnexpectedKey}
+use Rattle.qs_explain.specs.declared.expected.Expected.{Expected}
 use Rattle.qs_explain.specs.Expected.{expected_of, Stands}
-use Rattle.qs_explain.specs.Parts.{IsRead, Part, Leads, OneIsRead}
+use Rattle.qs_explain.specs.Unexpected.{unexpected_key}
+use Rattle.qs_explain.specs.Children.{Child}
+use Rattle.qs_explain.specs.Parts.{IsRead, IsChild, Part, Leads, AreRead}
 
 abbrev pub segment_of : Segment → segments.Segment
 segment_of (Index i) = segments.Segment.Int i
@@ -25,9 +31,15 @@ segment_of (Key bytes) = segments.Segment.Str bytes.items
 abbrev pub path_of : Mismatch → List segments.Segment
 path_of m = map segment_of m.path.items
 
--- what is said to be wrong with a part is so
+-- what is wrong with a part: a key that isn't expected, or else what is expected and what stands there
+abbrev pub Says : Option segments.Segment → Expected → Tree → Problem → Type 0
+Says None expected n (Unfit e found) = (e ≡ expected) × Stands found n
+Says None expected n (UnexpectedKey k) = ⊥
+Says (Some key) expected n (Unfit e found) = ⊥
+Says (Some key) expected n (UnexpectedKey k) = segment_of k ≡ key
+
 abbrev pub IsProblem : Problem → Shape → Tree → Type 0
-IsProblem (Unfit expected found) s n = (expected ≡ expected_of s) × Stands found n
+IsProblem p s n = Says (unexpected_key s n) (expected_of s) n p
 
 -- every part of the node is read by its shape
 abbrev pub PartsAreRead : Bool → Shape → Tree → Type 0
@@ -41,6 +53,10 @@ pub record IsMismatch (reject_duplicates : Bool) (s : Shape) (n : Tree) (m : Mis
   pub unread : reads reject_duplicates part node ≡ None
   pub innermost : PartsAreRead reject_duplicates part node
   pub problem : IsProblem m.problem part node
+
+-- the mismatch of the node itself
+abbrev pub IsHere : Option segments.Segment → Expected → Tree → Mismatch → Type 0
+IsHere unexpected expected n m = (m.path.items ≡ []) × Says unexpected expected n m.problem
 
 -- whether the shape reads something from the node
 abbrev pub Tests : Bool → Shape → Tree → Bool → Type 0
@@ -72,17 +88,28 @@ FindsBelow reject_duplicates key s n (Ok None) = IsRead reject_duplicates s n
 FindsBelow reject_duplicates key s n (Ok (Some m)) = IsBelow reject_duplicates key s n m
 FindsBelow reject_duplicates key s n (Err e) = ⊤
 
--- one of some nodes stands alone, and a mismatch is found below it
-abbrev pub OneFails : Bool → segments.Segment → Shape → List Tree → Mismatch → Type 0
-OneFails reject_duplicates key s [] m = ⊥
-OneFails reject_duplicates key s (n ∷ []) m = IsBelow reject_duplicates key s n m
-OneFails reject_duplicates key s (n ∷ o ∷ ns) m = ⊥
+-- a mismatch below one of the children
+pub record OneFails (reject_duplicates : Bool) (cs : List Child) (m : Mismatch) : Type 0 where
+  pub key : segments.Segment
+  pub part : Shape
+  pub node : Tree
+  pub child : IsChild (key, part, node) cs
+  pub below : IsBelow reject_duplicates key part node m
 
--- a mismatch of the field is found, or it is read if one key has its name
-abbrev pub FindsInField : {E : Type 0} → Bool → Field → Entries → Result (Option Mismatch) E → Type 0
-FindsInField reject_duplicates f es (Ok None) = OneIsRead reject_duplicates f.1 (found f.0 es)
-FindsInField reject_duplicates f es (Ok (Some m)) = OneFails reject_duplicates (segments.Segment.Str f.0) f.1 (found f.0 es) m
-FindsInField reject_duplicates f es (Err e) = ⊤
+-- such a mismatch is found, or each child is read
+abbrev pub FindsAmong : {E : Type 0} → Bool → List Child → Result (Option Mismatch) E → Type 0
+FindsAmong reject_duplicates cs (Ok None) = AreRead reject_duplicates cs
+FindsAmong reject_duplicates cs (Ok (Some m)) = OneFails reject_duplicates cs m
+FindsAmong reject_duplicates cs (Err e) = ⊤
+
+-- the node, if there is one
+abbrev pub node_of : Option (Bor ParsedValue) → Option Tree
+node_of value = option_map (λ v. tree_of v.now) value
+
+-- the keys of a map, if there is one, with their values
+abbrev pub keys_of : Option (Bor ParsedMap) → Entries
+keys_of None = Entries.no_entries
+keys_of (Some map) = entries_of_map map.now
 
 -- the error is the one of an input without a tree
 abbrev pub IsParseError : Error → Type 0

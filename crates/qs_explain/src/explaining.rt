@@ -10,6 +10,14 @@ use qs_tree::parse;
 use std::alloc::{AllocError, Global};
 
 /// Explains why an input isn't read by a shape under a configuration. It returns `None` exactly where the input is read.
+///
+/// The path of a [`Mismatch`](crate::Mismatch) leads to the innermost part that isn't read. The input is parsed once and read at
+/// most once for each level of the path, and once more. It allocates what that takes, and the explanation; the only error is that
+/// an allocation failed.
+///
+/// ```
+/// let explained = explain(alloc, Config::new(), &shape, b"ids[]=1&ids[]=x")?; // ids[1]: expected u8, found the text "x"
+/// ```
 #[tactic(auto, using(crate::proofs::Parts::explained))]
 pub fn explain(
     alloc: Global,

@@ -22,7 +22,7 @@ pub enum Explanation {
 /// A part of a tree that its shape doesn't read.
 #[derive(Debug, Drop)]
 pub struct Mismatch {
-    /// The path to the part: the segments of its key in the input. It is empty where the whole isn't read.
+    /// The path to the part: the segments of a key that leads to it. It is empty where the whole isn't read.
     pub path: Vec<Segment>,
     /// What is wrong with it.
     pub problem: Problem,
@@ -33,6 +33,9 @@ pub struct Mismatch {
 pub enum Problem {
     /// This is expected, and that stands there.
     Unfit(Expected, Found),
+    /// The part has this key, which its shape doesn't allow: no field or variant has it, the key shape of a map doesn't read it,
+    /// or it isn't UTF-8.
+    UnexpectedKey(Segment),
 }
 
 impl Mismatch {
@@ -79,6 +82,7 @@ impl fmt::Display for Problem {
     fn fmt<W: fmt::Write>(&self, f: &mut fmt::Formatter<W>) -> fmt::Result {
         match self {
             Problem::Unfit(expected, found) => write!(f, "expected {expected}, found {found}"),
+            Problem::UnexpectedKey(key) => write!(f, "unexpected key \"{key}\""),
         }
     }
 }

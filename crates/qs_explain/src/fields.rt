@@ -1,50 +1,48 @@
 //! The first field of a struct that isn't read.
 
+ghost use Rattle.std.specs.Prelude.{◌≡◌, []};
 ghost use Rattle.qs_spec.specs.Config.{are_refused};
-ghost use Rattle.qs_spec.specs.Segment.Segment.{Str};
-ghost use Rattle.qs_spec.specs.Shape as s;
-ghost use Rattle.qs_spec.specs.Tree.Tree.{mapping};
-ghost use Rattle.qs_tree.specs.Views.{tree_of, entries_of_map};
+ghost use Rattle.qs_tree.specs.Views.{tree_of};
 ghost use Rattle.qs_data.specs.Views.{field_of, fields_in, shape_of};
-ghost use Rattle.qs_explain.specs.Explains.{FindsBelow, FindsInside, FindsInField};
+ghost use Rattle.qs_data.specs.Keys as s;
+ghost use Rattle.qs_spec.specs.Node.{found};
+ghost use Rattle.qs_spec.specs.Shape.{is_option};
+ghost use Rattle.qs_explain.specs.Children.{name_child, name_children, struct_children};
+ghost use Rattle.qs_explain.specs.Explains.{FindsAmong, keys_of};
 
+use crate::children::find_under;
 use crate::explanation::Mismatch;
-use crate::segment::Segment;
-use crate::walk::find_mismatch;
 use qs_data::{Config, Field, Found, Shape, find_value};
-use qs_tree::{ParsedMap, ParsedValue};
+use qs_tree::{Key, ParsedMap, ParsedValue};
 use std::alloc::{AllocError, Global};
 
-/// Finds the first field of a struct, in the order of its shape, whose value isn't read.
+/// Finds the first field of a struct, in the order of its shape, that is missing or whose value isn't read.
 #[cycle(walk)]
-#[tactic(auto, using(crate::proofs::Parts::parts))]
 pub(crate) fn find_in_struct(
     alloc: Global,
     config: Config,
     fields: &Vec<Field>,
     node: &ParsedValue<'_>,
 ) -> Result<Option<Mismatch>, AllocError>
-    ensures { (u : s.UnknownKeys) → FindsInside (are_refused config.duplicates) (s.Shape.struct u (fields_in fields.now.items)) (tree_of node.now) result }
+    ensures { FindsAmong (are_refused config.duplicates) (struct_children (fields_in fields.now.items) (tree_of node.now)) result }
 {
     match node {
-        ParsedValue::Map(map) => find_in_fields(alloc, config, fields, map),
-        ParsedValue::Uninitialized
-        | ParsedValue::NoValue
-        | ParsedValue::Null
-        | ParsedValue::String(_)
-        | ParsedValue::Sequence(_) => Ok(None),
+        ParsedValue::Map(map) => find_in_fields(alloc, config, fields, Some(map)),
+        ParsedValue::NoValue => find_in_fields(alloc, config, fields, None),
+        ParsedValue::Null => find_in_fields(alloc, config, fields, None),
+        ParsedValue::Uninitialized | ParsedValue::String(_) | ParsedValue::Sequence(_) => Ok(None),
     }
 }
 
-// The same among the keys of a map.
+// The same among the keys of a map, or none.
 #[cycle(walk)]
 fn find_in_fields(
     alloc: Global,
     config: Config,
     fields: &Vec<Field>,
-    map: &ParsedMap<'_>,
+    map: Option<&ParsedMap<'_>>,
 ) -> Result<Option<Mismatch>, AllocError>
-    ensures { (u : s.UnknownKeys) → FindsInside (are_refused config.duplicates) (s.Shape.struct u (fields_in fields.now.items)) (mapping (entries_of_map map.now)) result }
+    ensures { FindsAmong (are_refused config.duplicates) (name_children (fields_in fields.now.items) (keys_of map.entry)) result }
 {
     for field in fields {
         let Some(mismatch) = find_in_field(alloc, config, field, map)? else {
@@ -55,41 +53,58 @@ fn find_in_fields(
     Ok(None)
 }
 
-// The mismatch of a field, if one key has its name.
+// The mismatch of a field, if at most one key has its name.
 #[cycle(walk)]
 fn find_in_field(
     alloc: Global,
     config: Config,
     field: &Field,
-    map: &ParsedMap<'_>,
+    map: Option<&ParsedMap<'_>>,
 ) -> Result<Option<Mismatch>, AllocError>
-    ensures { FindsInField (are_refused config.duplicates) (field_of field.now) (entries_of_map map.now) result }
+    ensures { let f = field_of field.now in FindsAmong (are_refused config.duplicates) (name_child f.0 f.1 f.2 (found f.0 (keys_of map.entry))) result }
 {
     let name: &str = &field.name;
-    match find_value(map, name) {
-        Found::Missing => Ok(None),
+    match find_name(map, name) {
+        Found::Missing => find_missing(alloc, config, field),
         Found::Several => Ok(None),
-        Found::One(value) => find_below(alloc, config, name, &field.shape, value),
+        Found::One(value) => {
+            find_under(alloc, config, &Key::from(name), &field.shape, Some(value))
+        }
     }
 }
 
-// The mismatch of a node below a name.
+// The mismatch of a field that no key names, if it must be there.
 #[cycle(walk)]
-#[tactic(auto, using(crate::proofs::Parts::below))]
-fn find_below(
+fn find_missing(
     alloc: Global,
     config: Config,
-    name: &str,
-    shape: &Shape,
-    node: &ParsedValue<'_>,
+    field: &Field,
 ) -> Result<Option<Mismatch>, AllocError>
-    ensures { FindsBelow (are_refused config.duplicates) (Str name.now) (shape_of shape.now) (tree_of node.now) result }
+    ensures { let f = field_of field.now in FindsAmong (are_refused config.duplicates) (name_child f.0 f.1 f.2 []) result }
 {
-    match find_mismatch(alloc, config, shape, node)? {
-        Some(mismatch) => {
-            let segment = Segment::named(alloc, name)?;
-            Ok(Some(mismatch.under(segment)?))
-        }
-        None => Ok(None),
+    if field.optional || may_be_absent(&field.shape) {
+        return Ok(None);
+    }
+    let name: &str = &field.name;
+    find_under(alloc, config, &Key::from(name), &field.shape, None)
+}
+
+// Whether a shape is an option.
+fn may_be_absent(shape: &Shape) -> bool
+    ensures { result ≡ is_option (shape_of shape.now) }
+{
+    match shape {
+        Shape::Option(_) => true,
+        _ => false,
+    }
+}
+
+// What stands under a name, among the keys of a map, or none.
+fn find_name<'t, 'qs>(map: Option<&'t ParsedMap<'qs>>, name: &str) -> Found<'t, 'qs>
+    ensures { s.Finds result (found name.now (keys_of map.entry)) }
+{
+    match map {
+        Some(map) => find_value(map, name),
+        None => Found::Missing,
     }
 }

@@ -11,16 +11,21 @@
 //! ```
 #![tactic(auto)]
 
+mod children;
 mod expected;
 mod explaining;
 mod explanation;
 mod fields;
 mod found;
 mod hint;
+mod items;
+mod keys;
 mod pair_range;
+mod pairs;
 mod segment;
 #[cfg(test)]
 mod tests;
+mod variants;
 mod walk;
 
 pub use expected::Expected;

@@ -1,9 +1,10 @@
 //! The segments of a path.
 
 ghost use Rattle.std.specs.Prelude.{◌≡◌, IfOk};
-ghost use Rattle.qs_spec.specs.Segment.Segment.{Str};
+ghost use Rattle.qs_tree.specs.Views.{segment_of_key};
 ghost use Rattle.qs_explain.specs.Explains.{segment_of};
 
+use qs_tree::Key;
 use std::alloc::{AllocError, Global};
 use std::fmt;
 
@@ -17,11 +18,14 @@ pub enum Segment {
 }
 
 impl Segment {
-    /// The segment of a name.
-    pub(crate) fn named(alloc: Global, name: &str) -> Result<Segment, AllocError>
-        ensures { IfOk result (λ segment. segment_of segment ≡ Str name.now) }
+    /// The segment that a key is.
+    pub(crate) fn of(alloc: Global, key: &Key<'_>) -> Result<Segment, AllocError>
+        ensures { IfOk result (λ segment. segment_of segment ≡ segment_of_key key.now) }
     {
-        Ok(Segment::Key(name.as_bytes().to_vec(alloc)?))
+        match key {
+            Key::Int(number) => Ok(Segment::Index(*number as usize)),
+            Key::String(text) => Ok(Segment::Key(text.as_slice().to_vec(alloc)?)),
+        }
     }
 }
 

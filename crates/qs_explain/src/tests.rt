@@ -1,7 +1,7 @@
 //! Explanations, as they are printed.
 
 use crate::{Explanation, Hint, explain, find_hint, find_pair};
-use qs_data::{Config, Error, Field, Shape};
+use qs_data::{Config, Error, Field, KeyShape, Shape, Variant, VariantKind};
 use std::alloc::Global;
 use std::process::Abort;
 
@@ -15,40 +15,188 @@ fn field<R: Abort>(rt: &R, alloc: Global, name: &str, shape: Shape) -> Field {
     }
 }
 
-/// A struct with a name, and an address that has a number.
-fn person<R: Abort>(rt: &R, alloc: Global) -> Shape {
-    let number = Shape::Option(Box::new(alloc, Shape::U8).expect(rt, "memory"));
-    let address = Vec::from_array(alloc, [field(rt, alloc, "number", number)]).expect(rt, "memory");
-    let name = field(rt, alloc, "name", Shape::Text);
-    let address = field(rt, alloc, "address", Shape::Struct(address));
-    Shape::Struct(Vec::from_array(alloc, [name, address]).expect(rt, "memory"))
+/// A shape in a box.
+fn boxed<R: Abort>(rt: &R, alloc: Global, shape: Shape) -> Box<Shape> {
+    Box::new(alloc, shape).expect(rt, "memory")
 }
 
-/// The explanation of an input under the default configuration, empty where it is read.
-fn told<R: Abort>(rt: &R, alloc: Global, input: &str) -> String {
-    let shape = person(rt, alloc);
-    let explained = explain(alloc, Config::new(), &shape, input.as_bytes()).expect(rt, "memory");
-    match explained {
+/// Two fields that must be there.
+fn two_fields<R: Abort>(rt: &R, alloc: Global, first: Field, second: Field) -> Vec<Field> {
+    Vec::from_array(alloc, [first, second]).expect(rt, "memory")
+}
+
+/// A struct with one field that must be there.
+fn only<R: Abort>(rt: &R, alloc: Global, name: &str, shape: Shape) -> Shape {
+    let field = field(rt, alloc, name, shape);
+    Shape::Struct(Vec::from_array(alloc, [field]).expect(rt, "memory"))
+}
+
+/// A struct with a name, and an address that has a number.
+fn person<R: Abort>(rt: &R, alloc: Global) -> Shape {
+    let number = Shape::Option(boxed(rt, alloc, Shape::U8));
+    let name = field(rt, alloc, "name", Shape::Text);
+    let address = field(rt, alloc, "address", only(rt, alloc, "number", number));
+    Shape::Struct(two_fields(rt, alloc, name, address))
+}
+
+/// Two coordinates.
+fn point<R: Abort>(rt: &R, alloc: Global) -> Vec<Shape> {
+    Vec::from_array(alloc, [Shape::I8, Shape::I8]).expect(rt, "memory")
+}
+
+/// A variant.
+fn variant<R: Abort>(rt: &R, alloc: Global, name: &str, kind: VariantKind) -> Variant {
+    let name = String::from_str(alloc, name).expect(rt, "memory");
+    Variant { name, kind }
+}
+
+/// Stops where the explanation of an input under the default configuration isn't this line, which is empty where it is read.
+fn says<R: Abort>(rt: &R, alloc: Global, shape: &Shape, input: &str, line: &str) {
+    let explained = explain(alloc, Config::new(), shape, input.as_bytes()).expect(rt, "memory");
+    let text = match explained {
         Some(explanation) => explanation.to_string(alloc).expect(rt, "a text"),
         None => String::new(alloc),
+    };
+    assert!(rt; text.as_str() == line, "{input}: {text}");
+}
+
+#[test]
+fn fields(rt: HostRuntime) {
+    let alloc = rt.alloc();
+    let shape = person(&rt, alloc);
+    let cases = [
+        ("name=Alice&address[number]=7", ""),
+        (
+            "name=Alice&address[number]=300",
+            "address[number]: expected u8, found the text \"300\"",
+        ),
+        (
+            "name=Alice&address=x",
+            "address: expected fields, found the text \"x\"",
+        ),
+        ("name=Alice", "address: expected fields, found nothing"),
+        ("address[number]=7", "name: expected a text, found nothing"),
+    ];
+    for (input, line) in cases.iter() {
+        says(&rt, alloc, &shape, input, line);
     }
 }
 
 #[test]
-fn paths_and_problems(rt: HostRuntime) {
+fn items_of_lists(rt: HostRuntime) {
     let alloc = rt.alloc();
-    let nothing = told(&rt, alloc, "name=Alice&address[number]=7");
-    assert!(rt; nothing.is_empty(), "{nothing}");
-    let number = told(&rt, alloc, "name=Alice&address[number]=300");
-    assert!(rt;
-        number.as_str() == "address[number]: expected u8, found the text \"300\"",
-        "{number}"
+    let numbers = Shape::Seq(boxed(&rt, alloc, Shape::U8));
+    let shape = only(&rt, alloc, "ids", numbers);
+    let cases = [
+        ("ids[]=1&ids[]=2", ""),
+        (
+            "ids[]=1&ids[]=x",
+            "ids[1]: expected u8, found the text \"x\"",
+        ),
+        (
+            "ids[0]=1&ids[1]=x&ids[2]=y",
+            "ids[1]: expected u8, found the text \"x\"",
+        ),
+        ("ids=x", "ids[0]: expected u8, found the text \"x\""),
+        ("ids[0]=1&ids[2]=3", "ids[1]: expected u8, found nothing"),
+        ("ids[a]=1", "ids: expected a list, found nested keys"),
+    ];
+    for (input, line) in cases.iter() {
+        says(&rt, alloc, &shape, input, line);
+    }
+}
+
+#[test]
+fn items_of_tuples_and_structs(rt: HostRuntime) {
+    let alloc = rt.alloc();
+    let at = only(&rt, alloc, "at", Shape::Tuple(point(&rt, alloc)));
+    says(&rt, alloc, &at, "at[]=1&at[]=2", "");
+    says(
+        &rt,
+        alloc,
+        &at,
+        "at[]=1",
+        "at[1]: expected i8, found nothing",
     );
-    let address = told(&rt, alloc, "name=Alice&address=x");
-    assert!(rt;
-        address.as_str() == "address: expected fields, found the text \"x\"",
-        "{address}"
+    says(
+        &rt,
+        alloc,
+        &at,
+        "at[]=1&at[]=x",
+        "at[1]: expected i8, found the text \"x\"",
     );
+    let name = field(&rt, alloc, "name", Shape::Text);
+    let age = field(&rt, alloc, "age", Shape::U8);
+    let user = Shape::Struct(two_fields(&rt, alloc, name, age));
+    let user = only(&rt, alloc, "user", user);
+    says(&rt, alloc, &user, "user[]=Alice&user[]=7", "");
+    says(
+        &rt,
+        alloc,
+        &user,
+        "user[]=Alice&user[]=x",
+        "user: expected fields, found several values",
+    );
+}
+
+#[test]
+fn unexpected_keys(rt: HostRuntime) {
+    let alloc = rt.alloc();
+    let name = field(&rt, alloc, "name", Shape::Text);
+    let age = field(&rt, alloc, "age", Shape::U8);
+    let user = Shape::StrictStruct(two_fields(&rt, alloc, name, age));
+    let user = only(&rt, alloc, "user", user);
+    says(&rt, alloc, &user, "user[name]=Alice&user[age]=7", "");
+    says(
+        &rt,
+        alloc,
+        &user,
+        "user[name]=Alice&user[age]=7&user[zip]=1",
+        "user: unexpected key \"zip\"",
+    );
+    let names = Shape::Map(KeyShape::U8, boxed(&rt, alloc, Shape::Text));
+    let names = only(&rt, alloc, "names", names);
+    says(&rt, alloc, &names, "names[7]=a&names[8]=b", "");
+    says(
+        &rt,
+        alloc,
+        &names,
+        "names[7]=a&names[x]=b",
+        "names: unexpected key \"x\"",
+    );
+}
+
+#[test]
+fn values_of_maps(rt: HostRuntime) {
+    let alloc = rt.alloc();
+    let prices = Shape::Map(KeyShape::Text, boxed(&rt, alloc, Shape::U8));
+    let shape = only(&rt, alloc, "prices", prices);
+    says(&rt, alloc, &shape, "prices[tea]=3", "");
+    says(
+        &rt,
+        alloc,
+        &shape,
+        "prices[milk]=1&prices[tea]=x",
+        "prices[tea]: expected u8, found the text \"x\"",
+    );
+}
+
+#[test]
+fn variants(rt: HostRuntime) {
+    let alloc = rt.alloc();
+    let card = VariantKind::Newtype(boxed(&rt, alloc, Shape::U8));
+    let card = variant(&rt, alloc, "Card", card);
+    let variants = Vec::from_array(alloc, [card]).expect(&rt, "memory");
+    let shape = only(&rt, alloc, "by", Shape::Enum(variants));
+    let cases = [
+        ("by[Card]=7", ""),
+        ("by[Card]=x", "by: expected a variant, found nested keys"),
+        ("by[Cash]=1", "by: unexpected key \"Cash\""),
+        ("by=Cash", "by: expected a variant, found the text \"Cash\""),
+    ];
+    for (input, line) in cases.iter() {
+        says(&rt, alloc, &shape, input, line);
+    }
 }
 
 #[test]

@@ -1,11 +1,11 @@
 //! The way to the first part that isn't read.
 
-ghost use Rattle.std.specs.Prelude.{IfOk};
+ghost use Rattle.std.specs.Prelude.{IfOk, option_map};
 ghost use Rattle.qs_spec.specs.Config.{are_refused};
 ghost use Rattle.qs_tree.specs.Views.{tree_of};
 ghost use Rattle.qs_spec.specs.Shape as s;
 ghost use Rattle.qs_data.specs.Views.{shape_of};
-ghost use Rattle.qs_explain.specs.Explains.{Finds, FindsInside, IsMismatch, PartsAreRead, Tests};
+ghost use Rattle.qs_explain.specs.Explains.{Finds, FindsInside, IsHere, Tests, segment_of};
 ghost use Rattle.qs_spec.specs.toward.ReadFunction.{reads};
 ghost use Rattle.std.specs.Prelude.{◌≡◌, None};
 
@@ -13,6 +13,10 @@ use crate::expected::Expected;
 use crate::explanation::{Mismatch, Problem};
 use crate::fields::find_in_struct;
 use crate::found::Found;
+use crate::items::{find_in_list, find_in_tuple};
+use crate::keys::find_unexpected_key;
+use crate::pairs::find_in_map;
+use crate::segment::Segment;
 use qs_data::{Config, Error, Shape, read_value};
 use qs_tree::ParsedValue;
 use std::alloc::{AllocError, Global};
@@ -32,12 +36,16 @@ pub(crate) fn find_mismatch(
     }
     match find_inside(alloc, config, shape, node)? {
         Some(mismatch) => Ok(Some(mismatch)),
-        None => Ok(Some(mismatch_here(alloc, config, shape, node)?)),
+        None => {
+            let unexpected = find_unexpected_key(alloc, config, shape, node)?;
+            let expected = Expected::of(shape);
+            Ok(Some(mismatch_here(alloc, unexpected, expected, node)?))
+        }
     }
 }
 
-// Whether a shape reads a node.
-fn is_read(
+/// Whether a shape reads a node.
+pub(crate) fn is_read(
     alloc: Global,
     config: Config,
     shape: &Shape,
@@ -66,6 +74,9 @@ fn find_inside(
     match shape {
         Shape::Option(part) => find_in_option(alloc, config, part, node),
         Shape::Newtype(part) => find_mismatch(alloc, config, part, node),
+        Shape::Seq(part) => find_in_list(alloc, config, part, node),
+        Shape::Tuple(parts) => find_in_tuple(alloc, config, parts, node),
+        Shape::Map(_, part) => find_in_map(alloc, config, part, node),
         Shape::Struct(fields) => find_in_struct(alloc, config, fields, node),
         Shape::StrictStruct(fields) => find_in_struct(alloc, config, fields, node),
         Shape::Unit
@@ -82,11 +93,8 @@ fn find_inside(
         | Shape::Text
         | Shape::Bytes
         | Shape::Any
-        | Shape::Ignored
-        | Shape::Seq(_)
-        | Shape::Tuple(_)
-        | Shape::Map(_, _)
-        | Shape::Enum(_) => Ok(None),
+        | Shape::Enum(_)
+        | Shape::Ignored => Ok(None),
     }
 }
 
@@ -110,20 +118,19 @@ fn find_in_option(
     }
 }
 
-// The mismatch of a node that isn't read, though every part of it is.
+// The mismatch of a node itself: an unexpected key, or else what is expected and what stands there.
 fn mismatch_here(
     alloc: Global,
-    config: Config,
-    shape: &Shape,
+    unexpected: Option<Segment>,
+    expected: Expected,
     node: &ParsedValue<'_>,
 ) -> Result<Mismatch, AllocError>
-    requires unread { reads (are_refused config.duplicates) (shape_of shape.now) (tree_of node.now) ≡ None }
-    requires innermost { PartsAreRead (are_refused config.duplicates) (shape_of shape.now) (tree_of node.now) }
-    ensures { IfOk result (IsMismatch (are_refused config.duplicates) (shape_of shape.now) (tree_of node.now)) }
+    ensures { IfOk result (IsHere (option_map segment_of unexpected) expected (tree_of node.now)) }
 {
-    let found = Found::at(alloc, node)?;
-    Ok(Mismatch {
-        path: Vec::new(alloc),
-        problem: Problem::Unfit(Expected::of(shape), found),
-    })
+    let problem = match unexpected {
+        Some(key) => Problem::UnexpectedKey(key),
+        None => Problem::Unfit(expected, Found::at(alloc, node)?),
+    };
+    let path = Vec::new(alloc);
+    Ok(Mismatch { path, problem })
 }

@@ -1,54 +1,125 @@
-use Rattle.std.proofs.Common.{◌≡◌, ◌∷◌, [], ap, sym, subst, ◌∙◌, Some, Ok, map, rules, arith}
+use Rattle.std.proofs.Common.{◌≡◌, ◌∷◌, [], ap, sym, subst, refl, ◌∙◌, false, cond, ◌||◌, Some, None, option_map, Ok, map, rules, arith}
 use Rattle.std.specs.declared.alloc.AllocError.{AllocError}
 use Rattle.qs_spec.specs.Config.{are_refused}
 use Rattle.qs_spec.specs.Leaf.Leaf.{NoValue, Null}
 use Rattle.qs_spec.specs.Node.{IsFull}
-use Rattle.qs_spec.specs.Node.{found}
-use Rattle.qs_spec.specs.Segment.Segment.{Str}
+use Rattle.qs_spec.specs.Node.{found, items}
+use Rattle.qs_spec.specs.Segment.{Step}
+use Rattle.qs_spec.specs.Segment.Segment.{Int, Str}
 use Rattle.qs_spec.specs.Shape as s
-use Rattle.qs_spec.specs.Tree.Tree.{leaf, sequence, mapping}
-use Rattle.qs_tree.specs.Views.{tree_of, items_from, entries_of_map}
+use Rattle.qs_spec.specs.Tree.{Tree}
+use Rattle.qs_spec.specs.Tree.Tree.{leaf, sequence, mapping, uninitialized}
+use Rattle.qs_tree.specs.Views.{tree_of, items_from, entries_of_map, segment_of_key, step_of_key}
 use Rattle.qs_tree.specs.declared.value.ParsedValue as value
 use Rattle.qs_data.specs.declared.shape.Shape as shape
 use Rattle.qs_data.specs.declared.shape.Field.{out-Field}
-use Rattle.qs_data.specs.Views.{field_of, fields_in, shape_of}
-use Rattle.qs_data.proofs.Fields.{field_name, field_shape}
-use Rattle.qs_explain.specs.Explains.{Finds, FindsBelow, FindsInside, FindsInField, IsMismatch, segment_of}
-use Rattle.qs_explain.proofs.Parts.{below, newtype_found, null_found, full_found, text_full}
-use Rattle.qs_explain.proofs.FieldsRead.{found_field, found_one, fields_parts, fields_end}
+use Rattle.qs_data.specs.Views.{field_of, fields_in, key_shape_of, shape_of, shapes_in}
+use Rattle.qs_data.proofs.Fields.{field_name, field_optional, field_shape}
+use Rattle.qs_explain.specs.Children.{or_missing, item_children, tuple_children, name_child, map_children, listed}
+use Rattle.qs_explain.specs.Parts.{IsRead}
+use Rattle.qs_explain.specs.Explains.{Finds, FindsAmong, FindsBelow, FindsInside, IsBelow, Tests, keys_of, node_of, segment_of}
+use Rattle.qs_explain.proofs.Parts.{below, among, mismatch_at, newtype_found, null_found, full_found, text_full}
+use Rattle.qs_explain.proofs.OneByOne as children
+use Rattle.qs_explain.proofs.+walk.Goals.{pairs::find_in_pairs-else-loop-i-test, pairs::find_in_pairs-then-loop-i-test+in_default}
 use Rattle.qs_explain.proofs.+walk.Goals as goal
 
-pub fields::find_in_fields-returns-in-loop-field : goal.fields::find_in_fields-returns-in-loop-field
-fields::find_in_fields-returns-in-loop-field t c u =
+pub items::find_in_items-returns-in-loop-i : goal.items::find_in_items-returns-in-loop-i
+items::find_in_items-returns-in-loop-i t c xs h len =
     let rd = are_refused c.args.config.duplicates in
-    let es = entries_of_map c.args.map.now in
+    let s = shape_of c.args.part.now in
+    let i = c.loop-i.i in
+    let m = c.in-Some.mismatch in
+    let below = subst (λ o. FindsBelow {E = AllocError} rd (Int i) s (or_missing (node_of c.item_at.result)) (Ok o)) c.in-Some.is c.in_ok-mismatch.ensures in
+    let here = subst (λ x. IsBelow rd (Int i) s (or_missing x) m) (c.item_at.ensures xs h) below in
+    c.loop-i.invariant xs h len (Ok (Some m)) (children.list_fails {E = AllocError} rd i (Ok (Some m)) s xs m (omega (arith, len)) here)
+
+pub items::find_in_items-loop-i-preserved : goal.items::find_in_items-loop-i-preserved
+items::find_in_items-loop-i-preserved t c xs h len r rest =
+    let rd = are_refused c.args.config.duplicates in
+    let s = shape_of c.args.part.now in
+    let i = c.loop-i.i in
+    let read = subst (λ o. FindsBelow {E = AllocError} rd (Int i) s (or_missing (node_of c.item_at.result)) (Ok o)) c.in_default.is c.in_ok-mismatch.ensures in
+    let here = subst (λ x. IsRead rd s (or_missing x)) (c.item_at.ensures xs h) read in
+    c.loop-i.invariant xs h len r (children.list_more rd i r s xs (omega (arith, len)) here rest)
+
+pub items::find_in_items-returns : goal.items::find_in_items-returns
+items::find_in_items-returns t c xs h len =
+    let rd = are_refused c.args.config.duplicates in
+    let s = shape_of c.args.part.now in
+    c.loop-i.invariant xs h len (Ok None) (children.list_end {E = AllocError} rd c.loop-i.i (Ok None) s xs (omega (arith, len, c.loop-i-test.false)))
+
+pub items::find_in_parts-returns-in-loop-i : goal.items::find_in_parts-returns-in-loop-i
+items::find_in_parts-returns-in-loop-i t c xs h =
+    let rd = are_refused c.args.config.duplicates in
+    let d = c.part-item.result in
+    let ss = c.deref-part-items.result.now in
+    let s = shape_of d in
+    let i = c.loop-i.i in
+    let m = c.in-Some.mismatch in
+    let below = subst (λ o. FindsBelow {E = AllocError} rd (Int i) s (or_missing (node_of c.item_at.result)) (Ok o)) c.in-Some.is c.in_ok-mismatch.ensures in
+    let here = subst (λ x. IsBelow rd (Int i) s (or_missing x) m) (c.item_at.ensures xs h) below in
+    c.loop-i.invariant xs h (Ok (Some m)) (children.parts_fails {E = AllocError} rd i (Ok (Some m)) ss d (omega arith) c.part-item.is xs m here)
+
+pub items::find_in_parts-loop-i-preserved : goal.items::find_in_parts-loop-i-preserved
+items::find_in_parts-loop-i-preserved t c xs h r rest =
+    let rd = are_refused c.args.config.duplicates in
+    let d = c.part-item.result in
+    let ss = c.deref-part-items.result.now in
+    let s = shape_of d in
+    let i = c.loop-i.i in
+    let read = subst (λ o. FindsBelow {E = AllocError} rd (Int i) s (or_missing (node_of c.item_at.result)) (Ok o)) c.in_default.is c.in_ok-mismatch.ensures in
+    let here = subst (λ x. IsRead rd s (or_missing x)) (c.item_at.ensures xs h) read in
+    c.loop-i.invariant xs h r (children.parts_more rd i r ss d (omega arith) c.part-item.is xs here rest)
+
+pub items::find_in_parts-returns : goal.items::find_in_parts-returns
+items::find_in_parts-returns t c xs h =
+    let rd = are_refused c.args.config.duplicates in
+    let ss = c.deref-part-items.result.now in
+    c.loop-i.invariant xs h (Ok None) (children.parts_end {E = AllocError} rd c.loop-i.i (Ok None) ss xs (omega (arith, c.loop-i-test.false)))
+
+pub fields::find_in_fields-returns-in-loop-field : goal.fields::find_in_fields-returns-in-loop-field
+fields::find_in_fields-returns-in-loop-field t c =
+    let rd = are_refused c.args.config.duplicates in
+    let es = keys_of c.args.map in
     let fs = c.deref-field-items.result.now in
     let d = c.field-item.result in
+    let f = field_of d in
     let m = c.in-Some.mismatch in
-    let fails = subst (λ o. FindsInField {E = AllocError} rd (field_of d) es (Ok o)) c.in-Some.is c.in_ok-mismatch.ensures in
-    let here = found_field rd u fs es c.loop-field.field-index d m (omega arith) c.field-item.is fails in
-    subst (λ xs. IsMismatch rd (s.Shape.struct u (fields_in xs)) (mapping es) m) c.deref-field-items.ensures.value here
+    let fails = subst (λ o. FindsAmong {E = AllocError} rd (name_child f.0 f.1 f.2 (found f.0 es)) (Ok o)) c.in-Some.is c.in_ok-mismatch.ensures in
+    c.loop-field.invariant (Ok (Some m)) (children.names_fails {E = AllocError} rd c.loop-field.field-index (Ok (Some m)) fs d (omega arith) c.field-item.is es m fails)
+
+pub fields::find_in_fields-loop-field-preserved : goal.fields::find_in_fields-loop-field-preserved
+fields::find_in_fields-loop-field-preserved t c r rest =
+    let rd = are_refused c.args.config.duplicates in
+    let es = keys_of c.args.map in
+    let fs = c.deref-field-items.result.now in
+    let d = c.field-item.result in
+    let f = field_of d in
+    let read = subst (λ o. FindsAmong {E = AllocError} rd (name_child f.0 f.1 f.2 (found f.0 es)) (Ok o)) c.in_default.is c.in_ok-mismatch.ensures in
+    c.loop-field.invariant r (children.names_more rd c.loop-field.field-index r fs d (omega arith) c.field-item.is es read rest)
 
 pub fields::find_in_fields-returns : goal.fields::find_in_fields-returns
-fields::find_in_fields-returns t c u =
+fields::find_in_fields-returns t c =
     let rd = are_refused c.args.config.duplicates in
-    let es = entries_of_map c.args.map.now in
+    let es = keys_of c.args.map in
     let fs = c.deref-field-items.result.now in
-    let all = c.loop-field.invariant (fields_end rd fs es c.loop-field.field-index (omega (arith, c.loop-field-test.false))) in
-    fields_parts rd u (fields_in c.args.fields.now.items) es all
+    c.loop-field.invariant (Ok None) (children.names_end {E = AllocError} rd c.loop-field.field-index (Ok None) fs es (omega (arith, c.loop-field-test.false)))
 
-pub fields::find_in_struct-returns-in-Map : goal.fields::find_in_struct-returns-in-Map
-fields::find_in_struct-returns-in-Map t c u =
+pub children::find_at-returns-in_ok-under-in-Some : goal.children::find_at-returns-in_ok-under-in-Some
+children::find_at-returns-in_ok-under-in-Some t c =
     let rd = are_refused c.args.config.duplicates in
-    let n = tree_of c.args.node.now in
-    let seen : n ≡ mapping (entries_of_map c.in-Map.map) = ap tree_of c.in-Map.is ∙ search (rules, value.the_lemmas) in
-    subst (λ x. FindsInside rd (s.Shape.struct u (fields_in c.args.fields.now.items)) x c.find_in_fields.result) (sym seen) (c.find_in_fields.ensures u)
+    let s = shape_of c.args.shape.now in
+    let n = or_missing (node_of c.args.node) in
+    let found = subst (λ o. Finds {E = AllocError} rd s n (Ok o)) c.in-Some.is c.in_ok-mismatch.ensures in
+    below rd (Int c.args.index) (Int c.args.index) s n c.in-Some.mismatch _ found.1 c.in_ok-under-in-Some.ensures.path refl c.in_ok-under-in-Some.ensures.problem
 
-pub fields::find_below-returns-in_ok-under-in-Some : goal.fields::find_below-returns-in_ok-under-in-Some
-fields::find_below-returns-in_ok-under-in-Some t c =
+pub children::find_under-returns-in_ok-under-in-Some : goal.children::find_under-returns-in_ok-under-in-Some
+children::find_under-returns-in_ok-under-in-Some t c =
     let rd = are_refused c.args.config.duplicates in
-    let found = subst (λ o. Finds {E = AllocError} rd (shape_of c.args.shape.now) (tree_of c.args.node.now) (Ok o)) c.in-Some.is c.in_ok-mismatch.ensures in
-    below rd (Str c.args.name.now) (segment_of c.in_ok-segment-in-Some.segment) (shape_of c.args.shape.now) (tree_of c.args.node.now) c.in-Some.mismatch _ found.1
+    let s = shape_of c.args.shape.now in
+    let n = or_missing (node_of c.args.node) in
+    let found = subst (λ o. Finds {E = AllocError} rd s n (Ok o)) c.in-Some.is c.in_ok-mismatch.ensures in
+    below rd (segment_of_key c.args.key.now) (segment_of c.in_ok-segment-in-Some.segment) s n c.in-Some.mismatch _ found.1
     c.in_ok-under-in-Some.ensures.path c.in_ok-segment-in-Some.ensures c.in_ok-under-in-Some.ensures.problem
 
 pub fields::find_in_field-returns-in-One : goal.fields::find_in_field-returns-in-One
@@ -56,13 +127,90 @@ fields::find_in_field-returns-in-One t c =
     let rd = are_refused c.args.config.duplicates in
     let d = c.args.field.now in
     let f = field_of d in
-    let es = entries_of_map c.args.map.now in
+    let es = keys_of c.args.map in
     let n = tree_of c.in-One.value.now in
-    let r = c.find_below.result in
+    let r = c.find_under.result in
     let name : c.deref-name.result.now ≡ f.0 = c.deref-name.ensures ∙ sym (field_name d) in
     let one : found f.0 es ≡ n ∷ [] = ap (λ x. found x es) (sym name) ∙ c.in-One.ensures in
-    let by_name = subst (λ x. FindsBelow rd (Str x) (shape_of (out-Field d).shape) n r) name c.find_below.ensures in
-    found_one rd f es n r one (subst (λ x. FindsBelow rd (Str f.0) x n r) (sym (field_shape d)) by_name)
+    let key : segment_of_key c.from.result ≡ Str f.0 = ap (λ (x : Step). x.seg) c.from.ensures ∙ ap Str name in
+    let by_key = subst (λ k. FindsBelow rd k (shape_of (out-Field d).shape) n r) key c.find_under.ensures in
+    let by_shape = subst (λ x. FindsBelow rd (Str f.0) x n r) (sym (field_shape d)) by_key in
+    subst (λ ts. FindsAmong rd (name_child f.0 f.1 f.2 ts) r) (sym one) (children.among_one rd (Str f.0) f.1 n r by_shape)
+
+pub fields::find_missing-returns : goal.fields::find_missing-returns
+fields::find_missing-returns t c =
+    let rd = are_refused c.args.config.duplicates in
+    let d = c.args.field.now in
+    let f = field_of d in
+    let r = c.find_under.result in
+    let name : c.deref-name.result.now ≡ f.0 = c.deref-name.ensures ∙ sym (field_name d) in
+    let key : segment_of_key c.from.result ≡ Str f.0 = ap (λ (x : Step). x.seg) c.from.ensures ∙ ap Str name in
+    let by_key = subst (λ k. FindsBelow rd k (shape_of (out-Field d).shape) uninitialized r) key c.find_under.ensures in
+    let by_shape = subst (λ x. FindsBelow rd (Str f.0) x uninitialized r) (sym (field_shape d)) by_key in
+    let optional : f.2 ≡ false = field_optional d ∙ c.if-field.false in
+    let present : s.is_option f.1 ≡ false = ap s.is_option (field_shape d) ∙ sym c.if-may_be_absent.ensures in
+    let must : (f.2 || s.is_option f.1) ≡ false = ap (λ b. b || s.is_option f.1) optional ∙ present in
+    subst (λ b. FindsAmong rd (cond b [] ((Str f.0, f.1, uninitialized) ∷ [])) r) (sym must) (children.among_one rd (Str f.0) f.1 uninitialized r by_shape)
+
+pub items::find_in_list-returns-in-Some : goal.items::find_in_list-returns-in-Some
+items::find_in_list-returns-in-Some t c =
+    children.listed_found (are_refused c.args.config.duplicates) (item_children 0 (shape_of c.args.part.now)) (items (tree_of c.args.node.now)) c.in-Some.count c.find_in_items.result c.in-Some.ensures c.find_in_items.ensures
+
+pub items::find_in_tuple-returns-in-Some : goal.items::find_in_tuple-returns-in-Some
+items::find_in_tuple-returns-in-Some t c =
+    children.listed_found (are_refused c.args.config.duplicates) (tuple_children 0 (shapes_in c.args.parts.now.items)) (items (tree_of c.args.node.now)) c.in-Some.field-0 c.find_in_parts.result c.in-Some.ensures (λ xs e len. c.find_in_parts.ensures xs e)
+
+pub pairs::find_in_map-returns-in-String : goal.pairs::find_in_map-returns-in-String
+pairs::find_in_map-returns-in-String t c =
+    let rd = are_refused c.args.config.duplicates in
+    let s = shape_of c.args.part.now in
+    let r = c.find_under.result in
+    let key : segment_of_key c.from.result ≡ Str [] = ap (λ (x : Step). x.seg) c.from.ensures in
+    let by_key = subst (λ k. FindsBelow rd k s (tree_of c.args.node.now) r) key c.find_under.ensures in
+    let by_text = subst (λ x. FindsBelow rd (Str []) s (tree_of x) r) c.in-String.is by_key in
+    subst (λ x. FindsAmong rd (map_children s (tree_of x)) r) (sym c.in-String.is) (children.text_found rd s c.in-String.field-0 r by_text)
+
+pub pairs::find_in_pairs-returns-in-loop-i : goal.pairs::find_in_pairs-returns-in-loop-i
+pairs::find_in_pairs-returns-in-loop-i t c =
+    let rd = are_refused c.args.config.duplicates in
+    let s = shape_of c.args.part.now in
+    let es = entries_of_map c.args.map.now in
+    let x : Step × Tree = (step_of_key c.in-Some.key.now, tree_of c.in-Some.value.now) in
+    let m = c.in-Some-2.mismatch in
+    let below = subst (λ o. FindsBelow {E = AllocError} rd x.0.seg s x.1 (Ok o)) c.in-Some-2.is c.in_ok-mismatch.ensures in
+    c.loop-i.invariant (Ok (Some m)) (children.pairs_fails {E = AllocError} rd c.loop-i.i (Ok (Some m)) s es x m (sym c.in-Some.ensures) below)
+
+pub pairs::find_in_pairs-loop-i-preserved : goal.pairs::find_in_pairs-loop-i-preserved
+pairs::find_in_pairs-loop-i-preserved t c r rest =
+    let rd = are_refused c.args.config.duplicates in
+    let s = shape_of c.args.part.now in
+    let es = entries_of_map c.args.map.now in
+    let x : Step × Tree = (step_of_key c.in-Some.key.now, tree_of c.in-Some.value.now) in
+    let read = subst (λ o. FindsBelow {E = AllocError} rd x.0.seg s x.1 (Ok o)) c.in_default-2.is c.in_ok-mismatch.ensures in
+    c.loop-i.invariant r (children.pairs_more rd c.loop-i.i r s es x (sym c.in-Some.ensures) read rest)
+
+pub pairs::find_in_pairs-returns : goal.pairs::find_in_pairs-returns
+pairs::find_in_pairs-returns t c =
+    let rd = are_refused c.args.config.duplicates in
+    let s = shape_of c.args.part.now in
+    let es = entries_of_map c.args.map.now in
+    let i = c.loop-i.i in
+    elim c.loop-i-test.branch [
+      | pairs::find_in_pairs-else-loop-i-test w ↦ c.loop-i.invariant (Ok None) (children.pairs_end {E = AllocError} rd i (Ok None) s es (omega (arith, c.len-i-end.ensures, w.loop-i-test.false)))
+      | pairs::find_in_pairs-then-loop-i-test+in_default w ↦ c.loop-i.invariant (Ok None) (children.pairs_none {E = AllocError} rd i (Ok None) s es (sym w.in_default.ensures))
+    ]
+
+pub walk::find_mismatch-returns-in_ok-mismatch_here-in-None : goal.walk::find_mismatch-returns-in_ok-mismatch_here-in-None
+walk::find_mismatch-returns-in_ok-mismatch_here-in-None t c =
+    let rd = are_refused c.args.config.duplicates in
+    let s = shape_of c.args.shape.now in
+    let n = tree_of c.args.node.now in
+    let unread = subst (λ b. Tests rd s n b) c.if-branch.false c.in_ok-is_read.ensures in
+    let innermost = subst (λ o. FindsInside {E = AllocError} rd s n (Ok o)) c.in-None.is c.in_ok-mismatch.ensures in (
+      unread,
+      mismatch_at rd (option_map segment_of c.in_ok-unexpected-in-None.unexpected) c.of-expected.result s n c.in_ok-mismatch_here-in-None.field-0
+          c.in_ok-unexpected-in-None.ensures c.of-expected.ensures unread innermost c.in_ok-mismatch_here-in-None.ensures,
+    )
 
 pub walk::find_in_option-returns-in-Null : goal.walk::find_in_option-returns-in-Null
 walk::find_in_option-returns-in-Null t c =
@@ -103,20 +251,47 @@ walk::find_inside-returns-in-Newtype t c =
     let held = subst (λ x. Finds rd (shape_of x) n r) c.deref-in-Newtype.ensures c.find_mismatch.ensures in
     subst (λ x. FindsInside rd x n r) (sym shaped) (newtype_found rd (shape_of part) n r held)
 
+pub walk::find_inside-returns-in-Tuple : goal.walk::find_inside-returns-in-Tuple
+walk::find_inside-returns-in-Tuple t c =
+    let rd = are_refused c.args.config.duplicates in
+    let n = tree_of c.args.node.now in
+    let r = c.find_in_tuple.result in
+    let shaped : shape_of c.args.shape.now ≡ s.Shape.tuple (shapes_in c.in-Tuple.parts.items) = ap shape_of c.in-Tuple.is ∙ search (rules, shape.the_lemmas) in
+    subst (λ x. FindsInside rd x n r) (sym shaped) (among rd (s.Shape.tuple (shapes_in c.in-Tuple.parts.items)) n r refl c.find_in_tuple.ensures)
+
 pub walk::find_inside-returns-in-Struct : goal.walk::find_inside-returns-in-Struct
 walk::find_inside-returns-in-Struct t c =
     let rd = are_refused c.args.config.duplicates in
     let n = tree_of c.args.node.now in
     let r = c.find_in_struct.result in
-    let fs = fields_in c.in-Struct.fields.items in
-    let shaped : shape_of c.args.shape.now ≡ s.Shape.struct s.UnknownKeys.ignored fs = ap shape_of c.in-Struct.is ∙ search (rules, shape.the_lemmas) in
-    subst (λ x. FindsInside rd x n r) (sym shaped) (c.find_in_struct.ensures s.UnknownKeys.ignored)
+    let shaped : shape_of c.args.shape.now ≡ s.Shape.struct s.UnknownKeys.ignored (fields_in c.in-Struct.fields.items) = ap shape_of c.in-Struct.is ∙ search (rules, shape.the_lemmas) in
+    subst (λ x. FindsInside rd x n r) (sym shaped) (among rd (s.Shape.struct s.UnknownKeys.ignored (fields_in c.in-Struct.fields.items)) n r refl c.find_in_struct.ensures)
 
 pub walk::find_inside-returns-in-StrictStruct : goal.walk::find_inside-returns-in-StrictStruct
 walk::find_inside-returns-in-StrictStruct t c =
     let rd = are_refused c.args.config.duplicates in
     let n = tree_of c.args.node.now in
     let r = c.find_in_struct-in-StrictStruct.result in
-    let fs = fields_in c.in-StrictStruct.fields.items in
-    let shaped : shape_of c.args.shape.now ≡ s.Shape.struct s.UnknownKeys.rejected fs = ap shape_of c.in-StrictStruct.is ∙ search (rules, shape.the_lemmas) in
-    subst (λ x. FindsInside rd x n r) (sym shaped) (c.find_in_struct-in-StrictStruct.ensures s.UnknownKeys.rejected)
+    let shaped : shape_of c.args.shape.now ≡ s.Shape.struct s.UnknownKeys.rejected (fields_in c.in-StrictStruct.fields.items) = ap shape_of c.in-StrictStruct.is ∙ search (rules, shape.the_lemmas) in
+    subst (λ x. FindsInside rd x n r) (sym shaped) (among rd (s.Shape.struct s.UnknownKeys.rejected (fields_in c.in-StrictStruct.fields.items)) n r refl c.find_in_struct-in-StrictStruct.ensures)
+
+pub walk::find_inside-returns-in-Seq : goal.walk::find_inside-returns-in-Seq
+walk::find_inside-returns-in-Seq t c =
+    let rd = are_refused c.args.config.duplicates in
+    let n = tree_of c.args.node.now in
+    let r = c.find_in_list.result in
+    let p = shape_of c.in-Seq.part.value in
+    let shaped : shape_of c.args.shape.now ≡ s.Shape.sequence p = ap shape_of c.in-Seq.is ∙ search (rules, shape.the_lemmas) in
+    let held = subst (λ x. FindsAmong rd (listed (item_children 0 (shape_of x)) (items n)) r) c.deref-in-Seq.ensures c.find_in_list.ensures in
+    subst (λ x. FindsInside rd x n r) (sym shaped) (among rd (s.Shape.sequence p) n r refl held)
+
+pub walk::find_inside-returns-in-Map : goal.walk::find_inside-returns-in-Map
+walk::find_inside-returns-in-Map t c =
+    let rd = are_refused c.args.config.duplicates in
+    let n = tree_of c.args.node.now in
+    let r = c.find_in_map.result in
+    let p = shape_of c.in-Map.part.value in
+    let k = key_shape_of c.in-Map.field-0 in
+    let shaped : shape_of c.args.shape.now ≡ s.Shape.mapping k p = ap shape_of c.in-Map.is ∙ search (rules, shape.the_lemmas) in
+    let held = subst (λ x. FindsAmong rd (map_children (shape_of x) n) r) c.deref-in-Map.ensures c.find_in_map.ensures in
+    subst (λ x. FindsInside rd x n r) (sym shaped) (among rd (s.Shape.mapping k p) n r refl held)

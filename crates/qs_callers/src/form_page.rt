@@ -1,0 +1,77 @@
+//! The answer of a web form: the value that was sent, or what its page says beside the field that is wrong.
+
+use qs_explain::{Explanation, Mismatch, explain, find_hint, find_pair};
+use serde_qs::{Config, ConfigExt, Deserialize, Error, Result};
+use std::alloc::Global;
+
+/// What the page of a form says beside a field.
+#[derive(Debug, PartialEq, Eq, Drop)]
+pub struct FieldError {
+    /// The field that is wrong, by the name that its input has on the page: `address[city]`. It is empty where that is the whole.
+    pub field: String,
+    /// What is wrong with it.
+    pub message: String,
+}
+
+/// Returns the value that a form stands for, or what its page says of the field that is wrong.
+///
+/// An error is one of the type itself, which rejects what its shape read, or that memory ran out.
+///
+/// ```
+/// let reply = submitted::<Person>(alloc, b"name=Alice&age=300")?; // of the field `age`: expected u8, found the text "300"
+/// ```
+pub fn submitted<T: Deserialize>(
+    alloc: Global,
+    form: &[u8],
+) -> Result<std::result::Result<T, FieldError>> {
+    let config = Config::new().use_form_encoding(true);
+    let error = match config.deserialize_bytes(alloc, form) {
+        Ok(value) => return Ok(Ok(value)),
+        Err(error) => error,
+    };
+    let wrong = match explain(alloc, config, &T::shape(alloc)?, form)? {
+        Some(Explanation::Mismatch(mismatch)) => of_mismatch(alloc, &mismatch)?,
+        Some(Explanation::Syntax(error)) => of_syntax(alloc, form, &error)?,
+        None => return Err(error),
+    };
+    Ok(Err(with_hint(alloc, config, form, wrong)?))
+}
+
+// Of a part that isn't read.
+fn of_mismatch(alloc: Global, mismatch: &Mismatch) -> Result<FieldError> {
+    let mut field = String::new(alloc);
+    for (i, segment) in mismatch.path.iter().enumerate() {
+        let name = segment.to_string(alloc)?;
+        if i == 0 {
+            field.push_str(&name)?;
+        } else {
+            field.push_str("[")?;
+            field.push_str(&name)?;
+            field.push_str("]")?;
+        }
+    }
+    let message = mismatch.problem.to_string(alloc)?;
+    Ok(FieldError { field, message })
+}
+
+// Of a key that can't be parsed, or that is in the way of another.
+fn of_syntax(alloc: Global, form: &[u8], error: &Error) -> Result<FieldError> {
+    let mut field = String::new(alloc);
+    if let Error::Parse(_, position) = error {
+        let pair = find_pair(form, *position);
+        field = String::from_utf8_lossy(alloc, &form[pair.start..pair.key_end])?;
+    }
+    let message = error.to_string(alloc)?;
+    Ok(FieldError { field, message })
+}
+
+// With what is probably meant, where a bracket stands escaped.
+fn with_hint(alloc: Global, config: Config, form: &[u8], wrong: FieldError) -> Result<FieldError> {
+    let Some(hint) = find_hint(config, form) else {
+        return Ok(wrong);
+    };
+    let FieldError { field, mut message } = wrong;
+    message.push_str("; ")?;
+    message.push_str(&hint.to_string(alloc)?)?;
+    Ok(FieldError { field, message })
+}

@@ -1,0 +1,34 @@
+-- The first key that isn't allowed, key by key.
+use Rattle.std.proofs.Common.{◌≡◌, ℕ, ◌+◌, ◌≤◌, Bool, true, false, cond, List, length, slice_get, Some, None, Result, Ok, Err, IfOk, sym, ap, ◌∙◌}
+use Rattle.std.specs.Option.{is_some}
+use Rattle.qs_spec.specs.Segment.{Step, segment_text}
+use Rattle.qs_spec.specs.Shape.{Shape}
+use Rattle.qs_spec.specs.Tree.{Tree, Entries}
+use Rattle.qs_spec.specs.toward.ReadFunction.{reads}
+use Rattle.qs_tree.specs.Views.{pairs_of}
+use Rattle.qs_data.specs.Keys.{entries_after}
+use Rattle.qs_data.proofs.Entries.{after_some, after_none, after_all}
+use Rattle.qs_explain.specs.Unexpected.{first_other}
+use Rattle.qs_explain.specs.Explains.{Tests}
+
+module _ (test : List ℕ → Bool) (i : ℕ) (es : Entries) where
+  pub other_here : (x : Step × Tree) → slice_get (pairs_of es) i ≡ Some x → test (segment_text x.0.seg) ≡ false → first_other test (entries_after i es) ≡ Some x.0.seg
+  other_here x h differs = ap (first_other test) (after_some i es x h) ∙ ap (λ b. cond b (first_other test (entries_after (i + 1) es)) (Some x.0.seg)) differs
+
+  pub other_later : (x : Step × Tree) → slice_get (pairs_of es) i ≡ Some x → test (segment_text x.0.seg) ≡ true → first_other test (entries_after i es) ≡ first_other test (entries_after (i + 1) es)
+  other_later x h same = ap (first_other test) (after_some i es x h) ∙ ap (λ b. cond b (first_other test (entries_after (i + 1) es)) (Some x.0.seg)) same
+
+  pub other_none : slice_get (pairs_of es) i ≡ None → first_other test (entries_after i es) ≡ None
+  other_none h = ap (first_other test) (after_none i es h)
+
+  pub other_end : length (pairs_of es) ≤ i → first_other test (entries_after i es) ≡ None
+  other_end h = ap (first_other test) (after_all i es h)
+
+-- whether a shape reads a node, as a boolean
+tests_some : (rd : Bool) (s : Shape) (n : Tree) (b : Bool) → Tests rd s n b → b ≡ is_some (reads rd s n)
+tests_some rd s n true h = sym (ap is_some h.1)
+tests_some rd s n false h = sym (ap is_some h)
+
+pub if_tests : {E : Type 0} (rd : Bool) (s : Shape) (n m : Tree) (r : Result Bool E) → n ≡ m → IfOk r (Tests rd s n) → IfOk r (λ b. b ≡ is_some (reads rd s m))
+if_tests rd s n m (Ok b) e h = tests_some rd s n b h ∙ ap (λ t. is_some (reads rd s t)) e
+if_tests rd s n m (Err x) e h = tt

@@ -1,0 +1,11 @@
+use Rattle.std.proofs.Common.{◌≡◌}
+use Rattle.qs_tree.specs.Views.{entries_of_map}
+use Rattle.qs_data.specs.Keys.{entries_after}
+use Rattle.qs_data.specs.Views.{fields_in}
+use Rattle.qs_explain.specs.Unexpected.{first_other, is_allowed, unknown_of}
+use Rattle.qs_explain.proofs.keys.find_unknown_field.Given as goal
+
+abbrev pub invariant-loop-i : goal.invariant-loop-i
+invariant-loop-i l =
+    let test = is_allowed (unknown_of l.unknown) (fields_in l.fields) in
+    first_other test (entries_of_map l.map) ≡ first_other test (entries_after l.i (entries_of_map l.map))

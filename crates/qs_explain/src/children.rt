@@ -1,0 +1,70 @@
+//! What is found in a node below another one.
+
+ghost use Rattle.qs_spec.specs.Config.{are_refused};
+ghost use Rattle.qs_spec.specs.Segment.Segment.{Int, Str};
+ghost use Rattle.qs_tree.specs.Views.{tree_of, segment_of_key};
+ghost use Rattle.qs_data.specs.Views.{shape_of};
+ghost use Rattle.qs_explain.specs.Children.{or_missing};
+ghost use Rattle.qs_explain.specs.Explains.{Finds, FindsBelow, node_of};
+
+use crate::explanation::Mismatch;
+use crate::segment::Segment;
+use crate::walk::find_mismatch;
+use qs_data::{Config, Shape};
+use qs_tree::{Key, ParsedValue};
+use std::alloc::{AllocError, Global};
+
+// The mismatch of a node, or of nothing where it is missing.
+#[cycle(walk)]
+fn find_in_node(
+    alloc: Global,
+    config: Config,
+    shape: &Shape,
+    node: Option<&ParsedValue<'_>>,
+) -> Result<Option<Mismatch>, AllocError>
+    ensures { Finds (are_refused config.duplicates) (shape_of shape.now) (or_missing (node_of node.entry)) result }
+{
+    match node {
+        Some(node) => find_mismatch(alloc, config, shape, node),
+        None => find_mismatch(alloc, config, shape, &ParsedValue::Uninitialized),
+    }
+}
+
+/// Finds the mismatch of the item at an index.
+#[cycle(walk)]
+#[tactic(auto, using(crate::proofs::Parts::below))]
+pub(crate) fn find_at(
+    alloc: Global,
+    config: Config,
+    index: usize,
+    shape: &Shape,
+    node: Option<&ParsedValue<'_>>,
+) -> Result<Option<Mismatch>, AllocError>
+    ensures { FindsBelow (are_refused config.duplicates) (Int index) (shape_of shape.now) (or_missing (node_of node.entry)) result }
+{
+    match find_in_node(alloc, config, shape, node)? {
+        Some(mismatch) => Ok(Some(mismatch.under(Segment::Index(index))?)),
+        None => Ok(None),
+    }
+}
+
+/// Finds the mismatch of the value under a key.
+#[cycle(walk)]
+#[tactic(auto, using(crate::proofs::Parts::below))]
+pub(crate) fn find_under(
+    alloc: Global,
+    config: Config,
+    key: &Key<'_>,
+    shape: &Shape,
+    node: Option<&ParsedValue<'_>>,
+) -> Result<Option<Mismatch>, AllocError>
+    ensures { FindsBelow (are_refused config.duplicates) (segment_of_key key.now) (shape_of shape.now) (or_missing (node_of node.entry)) result }
+{
+    match find_in_node(alloc, config, shape, node)? {
+        Some(mismatch) => {
+            let segment = Segment::of(alloc, key)?;
+            Ok(Some(mismatch.under(segment)?))
+        }
+        None => Ok(None),
+    }
+}

@@ -1,0 +1,272 @@
+//! The first key of a map that its shape doesn't allow.
+
+ghost use Rattle.std.specs.Prelude.{◌≡◌, false, ◌&&◌, ◌||◌, IfOk, map, option_map, string_bytes};
+ghost use Rattle.std.specs.List.{list_any};
+ghost use Rattle.std.specs.Str.{bytes_eq, is_utf8};
+ghost use Rattle.qs_spec.specs.Config.{are_refused};
+ghost use Rattle.std.specs.Option.{is_some};
+ghost use Rattle.qs_spec.specs.toward.ReadFunction.{reads};
+ghost use Rattle.qs_spec.specs.Leaf.Leaf.{Text};
+ghost use Rattle.qs_spec.specs.Segment.{segment_text};
+ghost use Rattle.qs_spec.specs.Shape.{are_ignored, is_field_name};
+ghost use Rattle.qs_spec.specs.Tree.Tree.{leaf};
+ghost use Rattle.qs_tree.specs.Views.{tree_of, entries_of_map, segment_of_key};
+ghost use Rattle.qs_data.specs.Views.{fields_in, key_shape_of, shape_of, variants_in};
+ghost use Rattle.qs_explain.specs.Explains.{segment_of, Tests};
+ghost use Rattle.qs_explain.specs.Unexpected.{first_entry, first_other, is_allowed, is_key, is_variant, unexpected_among, unexpected_key, unknown_of};
+
+use crate::segment::Segment;
+use crate::variants::find_variant;
+use crate::walk::is_read;
+use itoa::Buffer;
+use qs_data::{Config, Field, KeyShape, Shape, Variant};
+use qs_tree::{Key, ParsedMap, ParsedValue};
+use std::alloc::{AllocError, Global};
+use std::borrow::CowSlice;
+use std::str;
+
+/// What becomes of a key that no field has.
+#[derive(Clone, Copy)]
+enum UnknownKeys {
+    Ignored,
+    Rejected,
+}
+
+/// Finds the first key of a map that a shape doesn't allow.
+pub(crate) fn find_unexpected_key(
+    alloc: Global,
+    config: Config,
+    shape: &Shape,
+    node: &ParsedValue<'_>,
+) -> Result<Option<Segment>, AllocError>
+    ensures { IfOk result (λ found. option_map segment_of found ≡ unexpected_key (shape_of shape.now) (tree_of node.now)) }
+{
+    match node {
+        ParsedValue::Map(map) => find_among_keys(alloc, config, shape, map),
+        ParsedValue::Uninitialized
+        | ParsedValue::NoValue
+        | ParsedValue::Null
+        | ParsedValue::String(_)
+        | ParsedValue::Sequence(_) => Ok(None),
+    }
+}
+
+// The same among the keys of a map.
+fn find_among_keys(
+    alloc: Global,
+    config: Config,
+    shape: &Shape,
+    map: &ParsedMap<'_>,
+) -> Result<Option<Segment>, AllocError>
+    ensures { IfOk result (λ found. option_map segment_of found ≡ unexpected_among (shape_of shape.now) (entries_of_map map.now)) }
+{
+    match shape {
+        Shape::Map(key_shape, _) => find_unread_key(alloc, config, key_shape, map),
+        Shape::Struct(fields) => find_unknown_field(alloc, UnknownKeys::Ignored, fields, map),
+        Shape::StrictStruct(fields) => {
+            find_unknown_field(alloc, UnknownKeys::Rejected, fields, map)
+        }
+        Shape::Enum(variants) => find_unknown_variant(alloc, variants, map),
+        Shape::Unit
+        | Shape::Bool
+        | Shape::U8
+        | Shape::U16
+        | Shape::U32
+        | Shape::U64
+        | Shape::I8
+        | Shape::I16
+        | Shape::I32
+        | Shape::I64
+        | Shape::Char
+        | Shape::Text
+        | Shape::Bytes
+        | Shape::Option(_)
+        | Shape::Newtype(_)
+        | Shape::Seq(_)
+        | Shape::Tuple(_)
+        | Shape::Any
+        | Shape::Ignored => Ok(None),
+    }
+}
+
+// The first key that isn't UTF-8, or that no field has where unknown keys are rejected.
+fn find_unknown_field(
+    alloc: Global,
+    unknown: UnknownKeys,
+    fields: &[Field],
+    map: &ParsedMap<'_>,
+) -> Result<Option<Segment>, AllocError>
+    ensures { IfOk result (λ found. option_map segment_of found ≡ first_other (is_allowed (unknown_of unknown) (fields_in fields.now)) (entries_of_map map.now)) }
+{
+    for i in 0..map.len() {
+        let Some((key, _)) = map.at(i) else {
+            break;
+        };
+        if is_allowed_key(unknown, fields, key) {
+            continue;
+        }
+        return Ok(Some(Segment::of(alloc, key)?));
+    }
+    Ok(None)
+}
+
+// The first key that the key shape of a map doesn't read.
+fn find_unread_key(
+    alloc: Global,
+    config: Config,
+    shape: &KeyShape,
+    map: &ParsedMap<'_>,
+) -> Result<Option<Segment>, AllocError>
+    ensures { IfOk result (λ found. option_map segment_of found ≡ first_other (is_key (key_shape_of shape.now)) (entries_of_map map.now)) }
+{
+    for i in 0..map.len() {
+        let Some((key, _)) = map.at(i) else {
+            break;
+        };
+        let is_read = is_key_read(alloc, config, shape, key)?;
+        if is_read {
+            continue;
+        }
+        return Ok(Some(Segment::of(alloc, key)?));
+    }
+    Ok(None)
+}
+
+// The first key, if it names no variant.
+fn find_unknown_variant(
+    alloc: Global,
+    variants: &[Variant],
+    map: &ParsedMap<'_>,
+) -> Result<Option<Segment>, AllocError>
+    ensures { IfOk result (λ found. option_map segment_of found ≡ first_other (is_variant (variants_in variants.now)) (first_entry (entries_of_map map.now))) }
+{
+    let Some((key, _)) = map.at(0) else {
+        return Ok(None);
+    };
+    match find_variant(variants, key) {
+        Some(_) => Ok(None),
+        None => Ok(Some(Segment::of(alloc, key)?)),
+    }
+}
+
+// Whether a struct allows a key.
+fn is_allowed_key(unknown: UnknownKeys, fields: &[Field], key: &Key<'_>) -> bool
+    ensures { result ≡ is_allowed (unknown_of unknown) (fields_in fields.now) (segment_text (segment_of_key key.now)) }
+{
+    match key {
+        Key::Int(number) => {
+            let mut buffer = Buffer::new();
+            is_allowed_name(unknown, fields, buffer.format(*number).as_bytes())
+        }
+        Key::String(text) => is_allowed_name(unknown, fields, text.as_slice()),
+    }
+}
+
+// Whether a struct allows the text of a key.
+fn is_allowed_name(unknown: UnknownKeys, fields: &[Field], name: &[u8]) -> bool
+    ensures { result ≡ is_allowed (unknown_of unknown) (fields_in fields.now) name.now }
+{
+    is_text(name) && (is_field_name(fields, name) || is_ignored(unknown))
+}
+
+fn is_ignored(unknown: UnknownKeys) -> bool
+    ensures { result ≡ are_ignored (unknown_of unknown) }
+{
+    match unknown {
+        UnknownKeys::Ignored => true,
+        UnknownKeys::Rejected => false,
+    }
+}
+
+#[tactic(auto, using(qs_data::proofs::Refusals::utf8_tests))]
+fn is_text(bytes: &[u8]) -> bool
+    ensures { result ≡ is_utf8 bytes.now }
+{
+    match str::from_utf8(bytes) {
+        Ok(_) => true,
+        Err(_) => false,
+    }
+}
+
+fn is_field_name(fields: &[Field], name: &[u8]) -> bool
+    ensures { result ≡ is_field_name name.now (fields_in fields.now) }
+{
+    for field in fields {
+        if field.name.as_bytes() == name {
+            return true;
+        }
+    }
+    false
+}
+
+// Whether a key shape reads a key.
+fn is_key_read(
+    alloc: Global,
+    config: Config,
+    shape: &KeyShape,
+    key: &Key<'_>,
+) -> Result<bool, AllocError>
+    ensures { IfOk result (λ read. read ≡ is_key (key_shape_of shape.now) (segment_text (segment_of_key key.now))) }
+{
+    match key {
+        Key::Int(number) => {
+            let mut buffer = Buffer::new();
+            is_name_read(alloc, config, shape, buffer.format(*number).as_bytes())
+        }
+        Key::String(text) => is_name_read(alloc, config, shape, text.as_slice()),
+    }
+}
+
+// Whether a key shape reads the text of a key.
+#[tactic(auto, unfolding(qs_spec::specs::toward::ReadFunction::reads))]
+fn is_name_read(
+    alloc: Global,
+    config: Config,
+    shape: &KeyShape,
+    name: &[u8],
+) -> Result<bool, AllocError>
+    ensures { IfOk result (λ read. read ≡ is_key (key_shape_of shape.now) name.now) }
+{
+    match shape {
+        KeyShape::Bool => is_text_read(alloc, config, &Shape::Bool, name),
+        KeyShape::U8 => is_text_read(alloc, config, &Shape::U8, name),
+        KeyShape::U16 => is_text_read(alloc, config, &Shape::U16, name),
+        KeyShape::U32 => is_text_read(alloc, config, &Shape::U32, name),
+        KeyShape::U64 => is_text_read(alloc, config, &Shape::U64, name),
+        KeyShape::I8 => is_text_read(alloc, config, &Shape::I8, name),
+        KeyShape::I16 => is_text_read(alloc, config, &Shape::I16, name),
+        KeyShape::I32 => is_text_read(alloc, config, &Shape::I32, name),
+        KeyShape::I64 => is_text_read(alloc, config, &Shape::I64, name),
+        KeyShape::Char => is_text_read(alloc, config, &Shape::Char, name),
+        KeyShape::Text => is_text_read(alloc, config, &Shape::Text, name),
+        KeyShape::Variants(names) => Ok(is_one_of(names, name)),
+    }
+}
+
+// Whether a shape reads a text.
+fn is_text_read(
+    alloc: Global,
+    config: Config,
+    shape: &Shape,
+    text: &[u8],
+) -> Result<bool, AllocError>
+    ensures { IfOk result (λ read. read ≡ is_some (reads (are_refused config.duplicates) (shape_of shape.now) (leaf (Text text.now false)))) }
+{
+    is_read(
+        alloc,
+        config,
+        shape,
+        &ParsedValue::String(CowSlice::Borrowed(text)),
+    )
+}
+
+fn is_one_of(names: &[String], name: &[u8]) -> bool
+    ensures { result ≡ list_any (bytes_eq name.now) (map string_bytes names.now) }
+{
+    for other in names {
+        if name == other.as_bytes() {
+            return true;
+        }
+    }
+    false
+}

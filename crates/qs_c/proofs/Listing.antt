@@ -36,29 +36,6 @@ listed-last one sign reason (suc n) t a r s h e g =
     ap (λ x. and_then x (λ a rest. and_then (goes_on sign reason rest) (λ more rest. cond more (seen (λ xs. a ∷ xs) (listed one sign reason n rest)) (found (a ∷ []) rest)))) e
     ∙ ap (λ x. and_then x (λ more rest. cond more (seen (λ xs. a ∷ xs) (listed one sign reason n rest)) (found (a ∷ []) rest))) g
 
--- one that is none
-pub listed-none : {A : Type 0} (one : Parser A) (sign : ℕ) (reason : List ℕ) (n : ℕ) (t why r : List ℕ)
-    → 0 < n → one t ≡ fault why r → listed one sign reason n t ≡ fault why r
-unfolding listed and_then seen
-listed-none one sign reason zero t why r h e = let never : ⊥ = omega arith in absurd never
-listed-none one sign reason (suc n) t why r h e =
-    ap (λ x. and_then x (λ a rest. and_then (goes_on sign reason rest) (λ more rest. cond more (seen (λ xs. a ∷ xs) (listed one sign reason n rest)) (found (a ∷ []) rest)))) e
-
--- one that neither a comma nor the sign follows
-pub listed-open : {A : Type 0} (one : Parser A) (sign : ℕ) (reason : List ℕ) (n : ℕ) (t : List ℕ) (a : A) (r why s : List ℕ)
-    → 0 < n → one t ≡ found a r → goes_on sign reason r ≡ fault why s → listed one sign reason n t ≡ fault why s
-unfolding listed and_then seen
-listed-open one sign reason zero t a r why s h e g = let never : ⊥ = omega arith in absurd never
-listed-open one sign reason (suc n) t a r why s h e g =
-    ap (λ x. and_then x (λ a rest. and_then (goes_on sign reason rest) (λ more rest. cond more (seen (λ xs. a ∷ xs) (listed one sign reason n rest)) (found (a ∷ []) rest)))) e
-    ∙ ap (λ x. and_then x (λ more rest. cond more (seen (λ xs. a ∷ xs) (listed one sign reason n rest)) (found (a ∷ []) rest))) g
-
--- no more of them
-pub listed-end : {A : Type 0} (one : Parser A) (sign : ℕ) (reason : List ℕ) (n : ℕ) (t : List ℕ) → n ≡ 0 → listed one sign reason n t ≡ fault reason t
-unfolding listed and_then seen
-listed-end one sign reason zero t h = refl
-listed-end one sign reason (suc n) t h = let never : ⊥ = omega arith in absurd never
-
 -- behind what was found before: one more
 pub turn-more : {A : Type 0} (one : Parser A) (sign : ℕ) (reason : List ℕ) (front : List A) (n m : ℕ) (t : List ℕ) (a : A) (r s : List ℕ)
     → m + 1 ≡ n → one t ≡ found a r → goes_on sign reason r ≡ found true s

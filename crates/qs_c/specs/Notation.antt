@@ -1,5 +1,5 @@
 -- The notation of shapes, which docs/LIBRARY.md describes: what shape a text is, or where it stops being one, and why.
-use Rattle.std.specs.Prelude.{◌≡◌, ℕ, zero, suc, ◌-◌, Bool, true, false, not, ◌&&◌, ◌||◌, ◌==◌, nat_le, cond, List, [], ◌∷◌, length, take, drop, codes, Option, Some, None}
+use Rattle.std.specs.Prelude.{◌≡◌, ℕ, zero, suc, Bool, true, false, not, ◌||◌, ◌==◌, nat_le, cond, List, [], ◌∷◌, length, take, drop, codes, Option, Some, None}
 use Rattle.std.specs.List.{prefix_len}
 use Rattle.std.specs.Str.{bytes_eq, is_utf8}
 use Rattle.qs_spec.specs.Escape.{decoded, is_between}
@@ -223,7 +223,3 @@ notation text = and_then (shape 32 (trimmed text)) whole
 -- the text is this shape
 abbrev pub IsNotation : List ℕ → Shape → Type 0
 IsNotation text s = notation text ≡ found s []
-
--- the text is no shape, for this reason, which is seen after so many of its bytes
-abbrev pub IsNoNotation : List ℕ → List ℕ → ℕ → Type 0
-IsNoNotation text reason position = (rest : List ℕ) × (notation text ≡ fault reason rest) × (position ≡ length text - length rest)

@@ -20,6 +20,7 @@ pub struct Answer {
 pub(crate) fn give(text: &[u8], out: &mut [u8], answer: &mut Answer) -> u32
     ensures text { IsHandedOut text.now out.old out.new result answer.new.len }
     ensures done { IsDone result }
+    ensures position { answer.new.position ≡ 0 }
 {
     answer.len = text.len();
     answer.position = 0;

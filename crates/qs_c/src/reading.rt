@@ -31,6 +31,7 @@ pub extern "C" fn qs_parse(
 ) -> u32
     ensures done { IsDone result → (text : List ℕ) × IsRead (config_of settings.now) any input.now text
         × IsHandedOut text out.old out.new result answer.new.len }
+    ensures position { IsDone result → answer.new.position ≡ 0 }
     ensures failed { (IsDone result → ⊥) → (kind : KindOfError) × (result ≡ code_of kind) × WhyNotParsed kind answer.new.position settings.now input.now }
     ensures told { (IsDone result → ⊥) → (text : List ℕ) × IsLaidOut text out.old out.new answer.new.len }
 {
@@ -52,6 +53,7 @@ pub extern "C" fn qs_read(
 ) -> u32
     ensures done { IsDone result → (text : List ℕ) × IsReadByText (config_of settings.now) shape.now input.now text
         × IsHandedOut text out.old out.new result answer.new.len }
+    ensures position { IsDone result → answer.new.position ≡ 0 }
     ensures failed { (IsDone result → ⊥) → (kind : KindOfError) × (result ≡ code_of kind) × WhyNotRead kind answer.new.position settings.now shape.now input.now }
     ensures told { (IsDone result → ⊥) → (text : List ℕ) × IsLaidOut text out.old out.new answer.new.len }
 {

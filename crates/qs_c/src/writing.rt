@@ -30,6 +30,7 @@ pub extern "C" fn qs_write(
 ) -> u32
     ensures done { IsDone result → (text : List ℕ) × IsWritten (config_of settings.now) json.now text
         × IsHandedOut text out.old out.new result answer.new.len }
+    ensures position { IsDone result → answer.new.position ≡ 0 }
     ensures failed { (IsDone result → ⊥) → (kind : KindOfError) × (result ≡ code_of kind) × WhyNotWritten kind settings.now json.now }
     ensures told { (IsDone result → ⊥) → (text : List ℕ) × IsLaidOut text out.old out.new answer.new.len }
 {

@@ -1,1 +1,4 @@
+pub mod Found
 mod Levels
+pub mod Listing
+pub mod Unwritten

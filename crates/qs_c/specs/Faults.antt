@@ -1,7 +1,8 @@
--- The kind of an error of the other crates.
-use Rattle.std.specs.Prelude.{◌≡◌, ◌⊎◌}
+-- The kind and the position of an error of the other crates.
+use Rattle.std.specs.Prelude.{◌≡◌, ◌⊎◌, ℕ}
 use Rattle.qs_tree.specs.declared.error.Error.{Error}
 use Rattle.qs_tree.specs.declared.error.Error.TheVariants as e
+use Rattle.qs_c.specs.declared.failure.Failure.{Failure}
 use Rattle.qs_c.specs.declared.failure.Kind.{Kind}
 use Rattle.qs_c.specs.declared.failure.Kind.TheVariants.{OutOfMemory, Parse, Mismatch, NotUtf8, TooDeep}
 
@@ -14,6 +15,10 @@ kind_of (e.Io cause) = OutOfMemory
 kind_of e.OutOfMemory = OutOfMemory
 kind_of _ = Mismatch
 
+abbrev pub position_of : Error → ℕ
+position_of (e.Parse message position) = position
+position_of _ = 0
+
 -- it is the error's, unless there was no memory for the error's text
-abbrev pub IsFailureOf : Kind → Error → Type 0
-IsFailureOf kind error = (kind ≡ kind_of error) ⊎ (kind ≡ OutOfMemory)
+abbrev pub IsFailureOf : Failure → Error → Type 0
+IsFailureOf failure error = (failure.kind ≡ OutOfMemory) ⊎ ((failure.kind ≡ kind_of error) × (failure.position ≡ position_of error))

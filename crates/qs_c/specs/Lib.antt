@@ -1,6 +1,10 @@
 pub mod Answer
+pub mod Classes
 pub mod Faults
+pub mod Found
+pub mod Notation
 pub mod Outcomes
+pub mod Parses
 pub mod Settings
 pub mod Shown
 pub mod Status

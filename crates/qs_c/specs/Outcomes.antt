@@ -1,12 +1,20 @@
--- What is read as JSON, and what is written of JSON.
-use Rattle.std.specs.Prelude.{◌≡◌, ℕ, List, false, true, Some, None}
+-- What is read as JSON, what is written of JSON, and why not.
+use Rattle.std.specs.Prelude.{◌≡◌, ◌+◌, ◌≤◌, ⊤, ℕ, List, length, false, Some, None}
+use Rattle.std.specs.Str.{IsUtf8}
+use Rattle.json.specs.Json.{document}
 use Rattle.qs_spec.specs.Config.{Config}
 use Rattle.qs_spec.specs.Data.{Data}
-use Rattle.qs_spec.specs.Entry.{entries}
-use Rattle.qs_spec.specs.Relation.{ReadsBy}
-use Rattle.qs_spec.specs.Shape.{Shape, is_distinct}
-use Rattle.qs_spec.specs.Tree.{Tree, IsTree}
+use Rattle.qs_spec.specs.Entry.{entries, too_deep, bad_key}
+use Rattle.qs_spec.specs.Relation.{ReadsBy, ReadsNothing}
+use Rattle.qs_spec.specs.Shape.{Shape}
+use Rattle.qs_spec.specs.Shape.Shape.{any}
+use Rattle.qs_spec.specs.Tree.{Tree, IsTree, IsRefused}
 use Rattle.qs_spec.specs.Written.{written}
+use Rattle.qs_c.specs.declared.failure.Kind.{Kind}
+use Rattle.qs_c.specs.declared.failure.Kind.TheVariants as kind
+use Rattle.qs_c.specs.declared.settings.Settings.{Settings}
+use Rattle.qs_c.specs.Notation.{IsNotation}
+use Rattle.qs_c.specs.Settings.{config_of, AreNone}
 use Rattle.qs_c.specs.Shown.{json_text}
 use Rattle.qs_c.specs.Taken.{IsJsonOf}
 
@@ -18,9 +26,37 @@ IsReadBy config shape input x = (tree : Tree) × IsTree config.form config.max_d
 abbrev pub IsRead : Config → Shape → List ℕ → List ℕ → Type 0
 IsRead config shape input text = (x : Data) × IsReadBy config shape input x × (text ≡ json_text x)
 
--- the same of a shape whose names differ
-abbrev pub IsReadBySome : Config → List ℕ → List ℕ → Type 0
-IsReadBySome config input text = (shape : Shape) × (is_distinct shape ≡ true) × IsRead config shape input text
+-- the same of the shape that this text is
+abbrev pub IsReadByText : Config → List ℕ → List ℕ → List ℕ → Type 0
+IsReadByText config notation input text = (shape : Shape) × IsNotation notation shape × IsRead config shape input text
+
+-- the input has a tree, from which the shape reads nothing
+abbrev pub IsUnread : Config → Shape → List ℕ → Type 0
+IsUnread config shape input = (tree : Tree) × IsTree config.form config.max_depth input tree × ReadsNothing config shape tree
+
+-- the input has no tree, and the position is at most one beyond its end
+abbrev pub IsRejected : Config → List ℕ → ℕ → Type 0
+IsRejected config input position = IsRefused config.form config.max_depth input × (position ≤ length input + 1)
+
+-- what an error of this kind at this position says of an input that is read
+abbrev pub WhyUnread : Kind → ℕ → Config → Shape → List ℕ → Type 0
+WhyUnread kind.OutOfMemory position config shape input = ⊤
+WhyUnread kind.Parse position config shape input = IsRejected config input position
+WhyUnread kind.Mismatch position config shape input = IsUnread config shape input
+WhyUnread kind.NotUtf8 position config shape input = IsUnread config shape input
+WhyUnread _ position config shape input = ⊥
+
+-- the same where it is read as whatever is there
+abbrev pub WhyNotParsed : Kind → ℕ → Settings → List ℕ → Type 0
+WhyNotParsed kind.Settings position settings input = AreNone settings
+WhyNotParsed k position settings input = WhyUnread k position (config_of settings) any input
+
+-- the same where it is read by the shape that this text is
+abbrev pub WhyNotRead : Kind → ℕ → Settings → List ℕ → List ℕ → Type 0
+WhyNotRead kind.OutOfMemory position settings notation input = ⊤
+WhyNotRead kind.Settings position settings notation input = AreNone settings
+WhyNotRead kind.Shape position settings notation input = ⊤
+WhyNotRead k position settings notation input = (shape : Shape) × IsNotation notation shape × WhyUnread k position (config_of settings) shape input
 
 -- the JSON is data whose entries are written as the text
 pub record IsWritten (config : Config) (json text : List ℕ) : Type 0 where
@@ -28,3 +64,17 @@ pub record IsWritten (config : Config) (json text : List ℕ) : Type 0 where
   pub is_value : IsJsonOf json value
   pub is_whole : (entries config value).refusal ≡ None
   pub is_text : text ≡ written config.form false (entries config value).entries
+
+-- what an error of this kind says of data that are written
+abbrev pub WhyUnwritten : Kind → Config → Data → Type 0
+WhyUnwritten kind.OutOfMemory config x = ⊤
+WhyUnwritten kind.TooDeep config x = (entries config x).refusal ≡ Some too_deep
+WhyUnwritten kind.Mismatch config x = (entries config x).refusal ≡ Some bad_key
+WhyUnwritten _ config x = ⊥
+
+-- what an error of this kind says of JSON that is written
+abbrev pub WhyNotWritten : Kind → Settings → List ℕ → Type 0
+WhyNotWritten kind.OutOfMemory settings json = ⊤
+WhyNotWritten kind.Settings settings json = AreNone settings
+WhyNotWritten kind.Json settings json = IsUtf8 json → document json ≡ None
+WhyNotWritten k settings json = (x : Data) × IsJsonOf json x × WhyUnwritten k (config_of settings) x

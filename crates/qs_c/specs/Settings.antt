@@ -1,5 +1,5 @@
 -- The configuration that a caller's settings are.
-use Rattle.std.specs.Prelude.{ℕ, ◌==◌, cond, Bool, true, false}
+use Rattle.std.specs.Prelude.{ℕ, ◌<◌, ◌⊎◌, ◌==◌, cond, Bool, true, false}
 use Rattle.qs_spec.specs.Config.{Config, ArrayFormat, indexed, empty_indexed, unindexed, Duplicates, take_last, refuse}
 use Rattle.qs_c.specs.declared.settings.Settings.{Settings}
 
@@ -22,3 +22,7 @@ config_of s = record {
   array_format = format_of s.array_format;
   duplicates = duplicates_of s.reject_duplicates;
 }
+
+-- a number in the settings is too large
+abbrev pub AreNone : Settings → Type 0
+AreNone s = (most_levels < s.max_depth) ⊎ (2 < s.array_format)

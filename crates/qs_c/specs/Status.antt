@@ -1,5 +1,8 @@
 -- The numbers that calls return.
-use Rattle.std.specs.Prelude.{ℕ, ◌<◌}
+use Rattle.std.specs.Prelude.{ℕ, ◌<◌, List, [], Option, Some, None, string_bytes}
+use Rattle.std.specs.declared.alloc.Global.{Global}
+use Rattle.std.specs.declared.string.String.{String}
+use Rattle.qs_c.specs.declared.failure.Failure.{Failure}
 use Rattle.qs_c.specs.declared.failure.Kind.{Kind}
 use Rattle.qs_c.specs.declared.failure.Kind.TheVariants.{OutOfMemory, Settings, Parse, Mismatch, NotUtf8, Shape, Json, TooDeep}
 
@@ -17,3 +20,11 @@ code_of TooDeep = 9
 -- the call found what it was asked for, whether that fits in the caller's buffer (0) or not (1)
 abbrev pub IsDone : ℕ → Type 0
 IsDone status = status < 2
+
+-- an error's text, of which one has none
+abbrev pub text_or_none : Option (String Global) → List ℕ
+text_or_none (Some text) = string_bytes text
+text_or_none None = []
+
+abbrev pub text_of : Failure → List ℕ
+text_of failure = text_or_none failure.text

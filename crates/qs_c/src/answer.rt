@@ -1,8 +1,8 @@
 //! What a call leaves with its caller.
 
-ghost use Rattle.std.specs.Prelude.{◌≡◌, ◌<◌, ◌≤◌, ◌++◌, length, drop, IfOk, IfErr, IsErr, IsTrue, IsFalse};
-ghost use Rattle.qs_c.specs.Answer.{IsHandedOut};
-ghost use Rattle.qs_c.specs.Status.{code_of, IsDone};
+ghost use Rattle.std.specs.Prelude.{◌≡◌, ◌<◌, ◌≤◌, ◌++◌, length, drop, IsTrue, IsFalse};
+ghost use Rattle.qs_c.specs.Answer.{IsHandedOut, IsLaidOut};
+ghost use Rattle.qs_c.specs.Status.{code_of, text_of, IsDone};
 
 use crate::failure::Failure;
 
@@ -16,26 +16,11 @@ pub struct Answer {
     pub position: usize,
 }
 
-/// Hands out what a call found, or why it failed.
-pub(crate) fn hand_out(
-    outcome: Result<Vec<u8>, Failure>,
-    out: &mut [u8],
-    answer: &mut Answer,
-) -> u32
-    ensures done { IfOk outcome (λ text. IsHandedOut text.items out.old out.new result answer.new.len) }
-    ensures failed { IfErr outcome (λ failure. result ≡ code_of failure.kind) }
-    ensures fails { IsErr outcome → IsDone result → ⊥ }
-{
-    match outcome {
-        Ok(text) => give(&text, out, answer),
-        Err(failure) => fail(failure, out, answer),
-    }
-}
-
 /// Copies the bytes to the front of `out`, where they fit there, and returns the status.
 pub(crate) fn give(text: &[u8], out: &mut [u8], answer: &mut Answer) -> u32
     ensures text { IsHandedOut text.now out.old out.new result answer.new.len }
     ensures done { IsDone result }
+    ensures position { answer.new.position ≡ 0 }
 {
     answer.len = text.len();
     answer.position = 0;
@@ -46,6 +31,7 @@ pub(crate) fn give(text: &[u8], out: &mut [u8], answer: &mut Answer) -> u32
 pub(crate) fn fail(failure: Failure, out: &mut [u8], answer: &mut Answer) -> u32
     ensures failed { result ≡ code_of failure.kind }
     ensures fails { IsDone result → ⊥ }
+    ensures text { IsLaidOut (text_of failure) out.old out.new answer.new.len }
     ensures position { answer.new.position ≡ failure.position }
 {
     answer.position = failure.position;
@@ -54,7 +40,9 @@ pub(crate) fn fail(failure: Failure, out: &mut [u8], answer: &mut Answer) -> u32
 }
 
 /// Copies the error's text to the front of `out`, where it fits there, and returns its length.
-fn say(failure: &Failure, out: &mut [u8]) -> usize {
+fn say(failure: &Failure, out: &mut [u8]) -> usize
+    ensures { IsLaidOut (text_of failure.now) out.old out.new result }
+{
     match &failure.text {
         Some(text) => {
             put(text.as_bytes(), out);

@@ -16,6 +16,7 @@ use std::alloc::Global;
 #[unsafe(no_mangle)]
 pub extern "C" fn qs_decode(alloc: Global, bytes: &[u8], out: &mut [u8], answer: &mut Answer) -> u32
     ensures done { IsDone result → IsHandedOut (decoded bytes.now) out.old out.new result answer.new.len }
+    ensures position { IsDone result → answer.new.position ≡ 0 }
     ensures errors { IsDone result ⊎ (result ≡ 2) }
 {
     match decode(alloc, bytes) {
@@ -36,6 +37,7 @@ pub extern "C" fn qs_encode(
     answer: &mut Answer,
 ) -> u32
     ensures done { IsDone result → IsHandedOut (encoded form bytes.now) out.old out.new result answer.new.len }
+    ensures position { IsDone result → answer.new.position ≡ 0 }
     ensures errors { IsDone result ⊎ (result ≡ 2) }
 {
     let mut text = Vec::new(alloc);

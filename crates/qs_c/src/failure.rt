@@ -1,9 +1,10 @@
 //! Why a call failed.
 
-ghost use Rattle.std.specs.Prelude.{◌≡◌};
+ghost use Rattle.std.specs.Prelude.{◌≡◌, ◌⊎◌};
+ghost use Rattle.qs_c.specs.declared.failure.Kind.TheVariants.{OutOfMemory};
 ghost use Rattle.qs_c.specs.Status.{code_of, IsDone};
 
-use std::alloc::{AllocError, AllocFailed};
+use std::alloc::{AllocError, AllocFailed, Global};
 
 /// The kinds of errors, each a status of the header.
 #[derive(Clone, Copy, Debug, PartialEq, Eq)]
@@ -71,13 +72,24 @@ impl Failure {
 
     /// The error of this kind, with this text, at this place.
     pub(crate) fn new(kind: Kind, text: String, position: usize) -> Failure
-        ensures { result.kind ≡ kind }
+        ensures kind { result.kind ≡ kind }
+        ensures position { result.position ≡ position }
     {
         Failure {
             kind,
             text: Some(text),
             position,
         }
+    }
+}
+
+/// The error of this kind, with this text, at this place, or that there was no memory for the text.
+pub(crate) fn failure_at(alloc: Global, kind: Kind, text: &str, position: usize) -> Failure
+    ensures { (result.kind ≡ OutOfMemory) ⊎ ((result.kind ≡ kind) × (result.position ≡ position)) }
+{
+    match String::from_str(alloc, text) {
+        Ok(text) => Failure::new(kind, text, position),
+        Err(_) => Failure::out_of_memory(),
     }
 }
 

@@ -1,7 +1,7 @@
 //! The errors of the other crates, as failures.
 
 ghost use Rattle.std.specs.Prelude.{◌≡◌};
-ghost use Rattle.qs_c.specs.Faults.{kind_of, IsFailureOf};
+ghost use Rattle.qs_c.specs.Faults.{kind_of, position_of, IsFailureOf};
 
 use crate::failure::{Failure, Kind};
 use qs_data::Error;
@@ -9,16 +9,13 @@ use std::alloc::Global;
 
 /// The failure that the error is, with its text. That an allocation failed has none.
 pub(crate) fn failure_of(alloc: Global, error: Error) -> Failure
-    ensures { IsFailureOf result.kind error }
+    ensures { IsFailureOf result error }
 {
     let kind = kind_of(&error);
     if let Kind::OutOfMemory = kind {
         return Failure::out_of_memory();
     }
-    let position = match &error {
-        Error::Parse(_, position) => *position,
-        _ => 0,
-    };
+    let position = position_of(&error);
     match String::format(alloc, error) {
         Ok(text) => Failure::new(kind, text, position),
         Err(_) => Failure::out_of_memory(),
@@ -34,5 +31,14 @@ fn kind_of(error: &Error) -> Kind
         Error::MaxSerializationDepthExceeded(_) => Kind::TooDeep,
         Error::OutOfMemory | Error::Io(_) => Kind::OutOfMemory,
         _ => Kind::Mismatch,
+    }
+}
+
+fn position_of(error: &Error) -> usize
+    ensures { result ≡ position_of error.now }
+{
+    match error {
+        Error::Parse(_, position) => *position,
+        _ => 0,
     }
 }

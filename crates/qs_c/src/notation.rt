@@ -1,33 +1,59 @@
 //! Shapes as text.
 
+mod class;
 mod cursor;
 mod keys;
 mod shapes;
+mod stop;
 mod variants;
+mod words;
 
-ghost use Rattle.std.specs.Prelude.{◌≡◌, true, IfOk};
+ghost use Rattle.std.specs.Prelude.{◌≡◌, ◌⊎◌, [], true, IfOk, IfErr, OnOk};
 ghost use Rattle.qs_spec.specs.Shape.{is_distinct};
 ghost use Rattle.qs_data.specs.Views.{shape_of};
+ghost use Rattle.qs_c.specs.declared.failure.Kind.TheVariants as kind;
+ghost use Rattle.qs_c.specs.Notation.{IsNotation, shape, whole};
+ghost use Rattle.qs_c.specs.Found.{and_then};
+ghost use Rattle.qs_c.specs.Parses.{Parses};
 
-use crate::failure::Failure;
+use crate::failure::{Failure, Kind, failure_at};
 use cursor::Cursor;
 use qs_data::Shape;
 use std::alloc::Global;
+use stop::{Result, Stop};
 
 /// How deep a shape may nest. So a call takes little stack.
 const MOST_LEVELS: usize = 32;
 
 /// The shape that the text is, in the notation of docs/LIBRARY.md. The names in each struct and enum differ.
-pub(crate) fn shape_of_text(alloc: Global, text: &[u8]) -> Result<Shape, Failure>
+pub(crate) fn shape_of_text(alloc: Global, text: &[u8]) -> std::result::Result<Shape, Failure>
+    ensures shape { IfOk result (λ shape. IsNotation text.now (shape_of shape)) }
     ensures distinct { IfOk result (λ shape. is_distinct (shape_of shape) ≡ true) }
+    ensures none { IfErr result (λ failure. (failure.kind ≡ kind.OutOfMemory) ⊎ (failure.kind ≡ kind.Shape)) }
 {
     let mut cursor = Cursor::new(text);
-    let shape = shapes::shape(alloc, &mut cursor, MOST_LEVELS)?;
-    if !cursor.is_at_end() {
-        return Err(cursor.fault(alloc, "the shape has ended here"));
+    match whole_shape(alloc, &mut cursor) {
+        Ok(shape) => Ok(shape),
+        Err(Stop::Fault(reason)) => {
+            let position = text.len().saturating_sub(cursor.len());
+            Err(failure_at(alloc, Kind::Shape, reason, position))
+        }
+        Err(Stop::OutOfMemory) => Err(Failure::out_of_memory()),
+    }
+}
+
+/// A shape, and nothing after it.
+fn whole_shape(alloc: Global, cursor: &mut Cursor<'_>) -> Result<Shape>
+    ensures shape { Parses shape_of (and_then (shape 32 cursor.old.rest.now) whole) result cursor.new.rest.now }
+    ensures end { OnOk result (cursor.new.rest.now ≡ []) }
+    ensures distinct { IfOk result (λ shape. is_distinct (shape_of shape) ≡ true) }
+{
+    let shape = shapes::shape(alloc, cursor, MOST_LEVELS)?;
+    if cursor.len() > 0 {
+        return Err(Stop::Fault("the shape has ended here"));
     }
     if !shape.is_distinct() {
-        return Err(cursor.fault(alloc, "two fields or variants have the same name"));
+        return Err(Stop::Fault("two fields or variants have the same name"));
     }
     Ok(shape)
 }

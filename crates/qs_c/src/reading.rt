@@ -1,15 +1,17 @@
 //! Reading.
 
-ghost use Rattle.std.specs.Prelude.{◌≡◌, true, List, ℕ, IfOk};
+ghost use Rattle.std.specs.Prelude.{◌≡◌, true, List, ℕ, IfOk, IfErr};
 ghost use Rattle.qs_spec.specs.Shape.{is_distinct};
 ghost use Rattle.qs_spec.specs.Shape.Shape.{any};
 ghost use Rattle.qs_data.specs.Views.{data_of, shape_of};
-ghost use Rattle.qs_c.specs.Answer.{IsHandedOut};
-ghost use Rattle.qs_c.specs.Outcomes.{IsRead, IsReadBy, IsReadBySome};
+ghost use Rattle.qs_c.specs.Answer.{IsHandedOut, IsLaidOut};
+ghost use Rattle.qs_c.specs.Faults.{kind_of, position_of};
+ghost use Rattle.qs_c.specs.Outcomes.{IsRead, IsReadBy, IsReadByText, WhyNotParsed, WhyNotRead, WhyUnread};
 ghost use Rattle.qs_c.specs.Settings.{config_of};
-ghost use Rattle.qs_c.specs.Status.{IsDone};
+ghost use Rattle.qs_c.specs.Status.{code_of, IsDone};
+ghost use Rattle.qs_c.specs.declared.failure.Kind.{Kind as KindOfError};
 
-use crate::answer::{Answer, hand_out};
+use crate::answer::{Answer, fail, give};
 use crate::failure::Failure;
 use crate::faults::failure_of;
 use crate::notation::shape_of_text;
@@ -29,8 +31,14 @@ pub extern "C" fn qs_parse(
 ) -> u32
     ensures done { IsDone result → (text : List ℕ) × IsRead (config_of settings.now) any input.now text
         × IsHandedOut text out.old out.new result answer.new.len }
+    ensures position { IsDone result → answer.new.position ≡ 0 }
+    ensures failed { (IsDone result → ⊥) → (kind : KindOfError) × (result ≡ code_of kind) × WhyNotParsed kind answer.new.position settings.now input.now }
+    ensures told { (IsDone result → ⊥) → (text : List ℕ) × IsLaidOut text out.old out.new answer.new.len }
 {
-    hand_out(parsed(alloc, settings, input), out, answer)
+    match parsed(alloc, settings, input) {
+        Ok(text) => give(&text, out, answer),
+        Err(failure) => fail(failure, out, answer),
+    }
 }
 
 /// The querystring as JSON, read by a shape in the notation of docs/LIBRARY.md.
@@ -43,21 +51,29 @@ pub extern "C" fn qs_read(
     out: &mut [u8],
     answer: &mut Answer,
 ) -> u32
-    ensures done { IsDone result → (text : List ℕ) × IsReadBySome (config_of settings.now) input.now text
+    ensures done { IsDone result → (text : List ℕ) × IsReadByText (config_of settings.now) shape.now input.now text
         × IsHandedOut text out.old out.new result answer.new.len }
+    ensures position { IsDone result → answer.new.position ≡ 0 }
+    ensures failed { (IsDone result → ⊥) → (kind : KindOfError) × (result ≡ code_of kind) × WhyNotRead kind answer.new.position settings.now shape.now input.now }
+    ensures told { (IsDone result → ⊥) → (text : List ℕ) × IsLaidOut text out.old out.new answer.new.len }
 {
-    hand_out(read(alloc, settings, shape, input), out, answer)
+    match read(alloc, settings, shape, input) {
+        Ok(text) => give(&text, out, answer),
+        Err(failure) => fail(failure, out, answer),
+    }
 }
 
 fn parsed(alloc: Global, settings: &Settings, input: &[u8]) -> Result<Vec<u8>, Failure>
-    ensures { IfOk result (λ text. IsRead (config_of settings.now) any input.now text.items) }
+    ensures text { IfOk result (λ text. IsRead (config_of settings.now) any input.now text.items) }
+    ensures none { IfErr result (λ failure. WhyNotParsed failure.kind failure.position settings.now input.now) }
 {
     let config = settings.config(alloc)?;
     read_json(alloc, config, &Shape::Any, input)
 }
 
 fn read(alloc: Global, settings: &Settings, shape: &[u8], input: &[u8]) -> Result<Vec<u8>, Failure>
-    ensures { IfOk result (λ text. IsReadBySome (config_of settings.now) input.now text.items) }
+    ensures text { IfOk result (λ text. IsReadByText (config_of settings.now) shape.now input.now text.items) }
+    ensures none { IfErr result (λ failure. WhyNotRead failure.kind failure.position settings.now shape.now input.now) }
 {
     let config = settings.config(alloc)?;
     let shape = shape_of_text(alloc, shape)?;
@@ -67,7 +83,8 @@ fn read(alloc: Global, settings: &Settings, shape: &[u8], input: &[u8]) -> Resul
 /// The JSON of the data that the shape reads.
 fn read_json(alloc: Global, config: Config, shape: &Shape, input: &[u8]) -> Result<Vec<u8>, Failure>
     requires { is_distinct (shape_of shape.now) ≡ true }
-    ensures { IfOk result (λ text. IsRead config (shape_of shape.now) input.now text.items) }
+    ensures text { IfOk result (λ text. IsRead config (shape_of shape.now) input.now text.items) }
+    ensures none { IfErr result (λ failure. WhyUnread failure.kind failure.position config (shape_of shape.now) input.now) }
 {
     match read_data(alloc, config, shape, input) {
         Ok(datum) => Ok(shown(alloc, &datum)?),
@@ -77,7 +94,8 @@ fn read_json(alloc: Global, config: Config, shape: &Shape, input: &[u8]) -> Resu
 
 fn read_data(alloc: Global, config: Config, shape: &Shape, input: &[u8]) -> qs_data::Result<Data>
     requires { is_distinct (shape_of shape.now) ≡ true }
-    ensures { IfOk result (λ datum. IsReadBy config (shape_of shape.now) input.now (data_of datum)) }
+    ensures data { IfOk result (λ datum. IsReadBy config (shape_of shape.now) input.now (data_of datum)) }
+    ensures none { IfErr result (λ error. WhyUnread (kind_of error) (position_of error) config (shape_of shape.now) input.now) }
 {
     let deserializer = Deserializer::with_config(alloc, config, input)?;
     let datum = deserializer.read(alloc, shape)?;

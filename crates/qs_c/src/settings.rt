@@ -1,11 +1,11 @@
 //! How a querystring is read and written, as a caller says it.
 
-ghost use Rattle.std.specs.Prelude.{◌≡◌, ◌≤◌, ◌⊎◌, IfOk};
+ghost use Rattle.std.specs.Prelude.{◌≡◌, ◌<◌, ◌≤◌, ◌⊎◌, IfOk, IfErr};
 ghost use Rattle.qs_tree.specs.Settings.{array_format_of, duplicates_of as behavior_of};
-ghost use Rattle.qs_c.specs.Settings.{config_of, format_of, duplicates_of, most_levels};
+ghost use Rattle.qs_c.specs.Settings.{config_of, format_of, duplicates_of, most_levels, AreNone};
 ghost use Rattle.qs_c.specs.declared.failure.Kind.TheVariants.{OutOfMemory, Settings as BadSettings};
 
-use crate::failure::{Failure, Kind};
+use crate::failure::{Failure, Kind, failure_at};
 use qs_data::{ArrayFormat, Config, DuplicateKeyBehavior};
 use std::alloc::Global;
 
@@ -31,9 +31,10 @@ impl Settings {
     pub(crate) fn config(&self, alloc: Global) -> Result<Config, Failure>
         ensures config { IfOk result (λ config. config ≡ config_of self.now) }
         ensures limit { IfOk result (λ config. config.max_depth ≤ most_levels) }
+        ensures none { IfErr result (λ failure. (failure.kind ≡ OutOfMemory) ⊎ ((failure.kind ≡ BadSettings) × AreNone self.now)) }
     {
         if self.max_depth > MOST_LEVELS {
-            return Err(bad(alloc, "max_depth is more than 100"));
+            return Err(failure_at(alloc, Kind::Settings, "max_depth is more than 100", 0));
         }
         let array_format = self.elements(alloc)?;
         Ok(
@@ -46,13 +47,19 @@ impl Settings {
     }
 
     fn elements(&self, alloc: Global) -> Result<ArrayFormat, Failure>
-        ensures { IfOk result (λ format. array_format_of format ≡ format_of self.now.array_format) }
+        ensures format { IfOk result (λ format. array_format_of format ≡ format_of self.now.array_format) }
+        ensures none { IfErr result (λ failure. (failure.kind ≡ OutOfMemory) ⊎ ((failure.kind ≡ BadSettings) × (2 < self.now.array_format))) }
     {
         match self.array_format {
             0 => Ok(ArrayFormat::Indexed),
             1 => Ok(ArrayFormat::EmptyIndexed),
             2 => Ok(ArrayFormat::Unindexed),
-            _ => Err(bad(alloc, "array_format is none of 0, 1 and 2")),
+            _ => Err(failure_at(
+                alloc,
+                Kind::Settings,
+                "array_format is none of 0, 1 and 2",
+                0,
+            )),
         }
     }
 
@@ -64,13 +71,5 @@ impl Settings {
         } else {
             DuplicateKeyBehavior::TakeLast
         }
-    }
-}
-
-/// The error of settings that are none.
-fn bad(alloc: Global, text: &str) -> Failure {
-    match String::from_str(alloc, text) {
-        Ok(text) => Failure::new(Kind::Settings, text, 0),
-        Err(_) => Failure::out_of_memory(),
     }
 }

@@ -1,27 +1,33 @@
 //! Data of JSON.
 
-ghost use Rattle.std.specs.Prelude.{◌≡◌, ◌⊎◌, map, IfOk};
+ghost use Rattle.std.specs.Prelude.{◌≡◌, ◌⊎◌, map, None, IfOk, IfErr};
+ghost use Rattle.std.specs.Str.{IsUtf8};
+ghost use Rattle.json.specs.Json.{document};
 ghost use Rattle.qs_data.specs.Views.{data_of, pair_of};
 ghost use Rattle.qs_c.specs.Taken.{item_data, member_data, IsJsonOf};
 ghost use Rattle.qs_c.specs.declared.failure.Kind.TheVariants as kind;
 
-use crate::failure::{Failure, Kind};
+use crate::failure::{Failure, Kind, failure_at};
 use json::{MAX_DEPTH, Reader, Scratch, Value};
 use qs_data::Data;
 use std::alloc::{AllocError, Global};
 
 /// The data that the JSON is.
 pub(crate) fn taken(alloc: Global, text: &[u8]) -> Result<Data, Failure>
-    ensures { IfOk result (λ datum. IsJsonOf text.now (data_of datum)) }
+    ensures json { IfOk result (λ datum. IsJsonOf text.now (data_of datum)) }
+    ensures none { IfErr result (λ failure. (failure.kind ≡ kind.OutOfMemory) ⊎ ((failure.kind ≡ kind.Json) × (IsUtf8 text.now → document text.now ≡ None))) }
 {
     let Ok(text) = std::str::from_utf8(text) else {
-        return Err(bad(alloc, "the JSON isn't UTF-8", 0));
+        return Err(failure_at(alloc, Kind::Json, "the JSON isn't UTF-8", 0));
     };
     let mut scratch = Scratch::new(alloc);
     match Value::parse(alloc, text, &mut scratch) {
         Ok(value) => Ok(take(alloc, &value)?),
         Err(json::Error::OutOfMemory) => Err(Failure::out_of_memory()),
-        Err(_) => Err(bad(alloc, "the JSON is invalid", fault_in(alloc, text))),
+        Err(_) => {
+            let position = fault_in(alloc, text);
+            Err(failure_at(alloc, Kind::Json, "the JSON is invalid", position))
+        }
     }
 }
 
@@ -74,13 +80,4 @@ fn take_members(
         taken.push((key, take(alloc, &member.1)?))?;
     }
     Ok(taken)
-}
-
-fn bad(alloc: Global, text: &str, position: usize) -> Failure
-    ensures { (result.kind ≡ kind.Json) ⊎ (result.kind ≡ kind.OutOfMemory) }
-{
-    match String::from_str(alloc, text) {
-        Ok(text) => Failure::new(Kind::Json, text, position),
-        Err(_) => Failure::out_of_memory(),
-    }
 }

@@ -1,15 +1,17 @@
 //! Writing.
 
-ghost use Rattle.std.specs.Prelude.{◌≡◌, None, false, List, ℕ, IfOk};
+ghost use Rattle.std.specs.Prelude.{◌≡◌, None, false, List, ℕ, IfOk, IfErr};
 ghost use Rattle.qs_spec.specs.Entry.{entries};
 ghost use Rattle.qs_spec.specs.Written.{written};
 ghost use Rattle.qs_data.specs.Views.{data_of};
-ghost use Rattle.qs_c.specs.Answer.{IsHandedOut};
-ghost use Rattle.qs_c.specs.Outcomes.{IsWritten};
+ghost use Rattle.qs_c.specs.Answer.{IsHandedOut, IsLaidOut};
+ghost use Rattle.qs_c.specs.Faults.{kind_of};
+ghost use Rattle.qs_c.specs.Outcomes.{IsWritten, WhyNotWritten, WhyUnwritten};
 ghost use Rattle.qs_c.specs.Settings.{config_of};
-ghost use Rattle.qs_c.specs.Status.{IsDone};
+ghost use Rattle.qs_c.specs.Status.{code_of, IsDone};
+ghost use Rattle.qs_c.specs.declared.failure.Kind.{Kind as KindOfError};
 
-use crate::answer::{Answer, hand_out};
+use crate::answer::{Answer, fail, give};
 use crate::failure::Failure;
 use crate::faults::failure_of;
 use crate::settings::Settings;
@@ -28,12 +30,19 @@ pub extern "C" fn qs_write(
 ) -> u32
     ensures done { IsDone result → (text : List ℕ) × IsWritten (config_of settings.now) json.now text
         × IsHandedOut text out.old out.new result answer.new.len }
+    ensures position { IsDone result → answer.new.position ≡ 0 }
+    ensures failed { (IsDone result → ⊥) → (kind : KindOfError) × (result ≡ code_of kind) × WhyNotWritten kind settings.now json.now }
+    ensures told { (IsDone result → ⊥) → (text : List ℕ) × IsLaidOut text out.old out.new answer.new.len }
 {
-    hand_out(written(alloc, settings, json), out, answer)
+    match written(alloc, settings, json) {
+        Ok(text) => give(&text, out, answer),
+        Err(failure) => fail(failure, out, answer),
+    }
 }
 
 fn written(alloc: Global, settings: &Settings, json: &[u8]) -> Result<Vec<u8>, Failure>
-    ensures { IfOk result (λ text. IsWritten (config_of settings.now) json.now text.items) }
+    ensures text { IfOk result (λ text. IsWritten (config_of settings.now) json.now text.items) }
+    ensures none { IfErr result (λ failure. WhyNotWritten failure.kind settings.now json.now) }
 {
     let config = settings.config(alloc)?;
     let datum = taken(alloc, json)?;
@@ -47,6 +56,7 @@ fn written(alloc: Global, settings: &Settings, json: &[u8]) -> Result<Vec<u8>, F
 fn text_of(alloc: Global, config: Config, datum: &Data) -> qs_data::Result<Vec<u8>>
     ensures whole { IfOk result (λ text. (entries config (data_of datum.now)).refusal ≡ None) }
     ensures text { IfOk result (λ text. text.items ≡ written config.form false (entries config (data_of datum.now)).entries) }
+    ensures none { IfErr result (λ error. WhyUnwritten (kind_of error) config (data_of datum.now)) }
 {
     let text = Vec::with_capacity(alloc, 128)?;
     let mut serializer = Serializer::new(text, config);

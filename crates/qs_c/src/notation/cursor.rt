@@ -1,39 +1,46 @@
 //! Words, names and signs of a shape's text.
 
-ghost use Rattle.std.specs.Prelude.{◌≤◌, length};
+ghost use Rattle.std.specs.Prelude.{◌≡◌, ℕ, List, IsTrue, IsFalse, length, string_bytes};
+ghost use Rattle.qs_c.specs.Notation.{after_word, behind, comes, goes_on, name, name_of, quoted, trimmed, wanted, word, word as word_of, word_name};
+ghost use Rattle.std.specs.Str.{bytes_eq};
+ghost use Rattle.qs_c.specs.Parses.{Parses};
 
-use crate::failure::{Failure, Kind};
+use super::class::{Class, run};
+use super::stop::{Result, Stop};
 use qs_tree::decode;
 use std::alloc::Global;
 
-/// What is left of the text.
+/// What is left of the text, which begins with no blank.
 #[derive(Drop)]
 pub(crate) struct Cursor<'t> {
     rest: &'t [u8],
-    /// The length of the whole text.
-    len: usize,
 }
 
 impl<'t> Cursor<'t> {
-    pub(crate) fn new(text: &'t [u8]) -> Cursor<'t> {
+    pub(crate) fn new(text: &'t [u8]) -> Cursor<'t>
+        ensures { result.rest.now ≡ trimmed text.now }
+    {
         Cursor {
-            rest: text,
-            len: text.len(),
+            rest: without_blanks(text),
         }
     }
 
-    /// Whether only blanks are left.
-    pub(crate) fn is_at_end(&mut self) -> bool {
-        self.skip_blanks();
-        self.rest.is_empty()
+    /// How many bytes are left.
+    pub(crate) fn len(&self) -> usize
+        ensures { result ≡ length self.now.rest.now }
+    {
+        self.rest.len()
     }
 
     /// Takes the sign, if it comes next.
-    pub(crate) fn take(&mut self, sign: u8) -> bool {
-        self.skip_blanks();
+    pub(crate) fn take(&mut self, sign: u8) -> bool
+        ensures comes { result ≡ comes sign self.old.rest.now }
+        ensures taken { IsTrue result → self.new.rest.now ≡ behind self.old.rest.now }
+        ensures left { IsFalse result → self.new.rest.now ≡ self.old.rest.now }
+    {
         match self.rest {
             [first, rest @ ..] if *first == sign => {
-                self.rest = rest;
+                self.rest = without_blanks(rest);
                 true
             }
             _ => false,
@@ -41,30 +48,46 @@ impl<'t> Cursor<'t> {
     }
 
     /// Takes the sign, which has to come next.
-    pub(crate) fn expect(
-        &mut self,
-        alloc: Global,
-        sign: u8,
-        wanted: &'static str,
-    ) -> Result<(), Failure> {
+    pub(crate) fn expect(&mut self, sign: u8, reason: &'static str) -> Result<()>
+        ensures { Parses (λ u. tt) (wanted sign reason.now self.old.rest.now) result self.new.rest.now }
+    {
         if self.take(sign) {
             Ok(())
         } else {
-            Err(self.fault(alloc, wanted))
+            Err(Stop::Fault(reason))
         }
     }
 
+    /// Whether a list goes on, behind a comma; else the sign has to come next.
+    #[tactic(auto, using(crate::proofs::Found::steps), unfolding(crate::specs::Notation::goes_on))]
+    pub(crate) fn goes_on(&mut self, sign: u8, reason: &'static str) -> Result<bool>
+        ensures { Parses (λ more. more) (goes_on sign reason.now self.old.rest.now) result self.new.rest.now }
+    {
+        if self.take(b',') {
+            return Ok(true);
+        }
+        self.expect(sign, reason)?;
+        Ok(false)
+    }
+
     /// The letters, digits, `_` and `-` that come next.
-    pub(crate) fn word(&mut self) -> &'t [u8] {
-        self.skip_blanks();
+    #[tactic(auto, using(crate::proofs::Found::steps), unfolding(crate::specs::Notation::word, crate::specs::Notation::after_word))]
+    pub(crate) fn word(&mut self) -> &'t [u8]
+        ensures word { result.now ≡ word self.old.rest.now }
+        ensures rest { self.new.rest.now ≡ after_word self.old.rest.now }
+    {
         let len = run(Class::Word, self.rest);
         let (word, rest) = self.rest.split_at(len);
-        self.rest = rest;
+        self.rest = without_blanks(rest);
         word
     }
 
     /// Takes the word, if it comes next.
-    pub(crate) fn take_word(&mut self, word: &[u8]) -> bool {
+    pub(crate) fn take_word(&mut self, word: &[u8]) -> bool
+        ensures comes { result ≡ bytes_eq (word_of self.old.rest.now) word.now }
+        ensures taken { IsTrue result → self.new.rest.now ≡ after_word self.old.rest.now }
+        ensures left { IsFalse result → self.new.rest.now ≡ self.old.rest.now }
+    {
         let before = self.rest;
         if self.word() == word {
             return true;
@@ -74,76 +97,58 @@ impl<'t> Cursor<'t> {
     }
 
     /// The name that comes next: a word, or what stands between two `"`, decoded as in a querystring.
-    pub(crate) fn name(&mut self, alloc: Global) -> Result<String, Failure> {
-        if self.take(b'"') {
-            return self.quoted(alloc);
+    #[tactic(auto, using(crate::proofs::Found::steps), unfolding(crate::specs::Notation::name))]
+    pub(crate) fn name(&mut self, alloc: Global) -> Result<String>
+        ensures { Parses string_bytes (name self.old.rest.now) result self.new.rest.now }
+    {
+        match self.rest {
+            [b'"', rest @ ..] => {
+                self.rest = rest;
+                self.quoted(alloc)
+            }
+            _ => self.word_name(alloc),
         }
-        let word = self.word();
-        if word.is_empty() {
-            return Err(self.fault(alloc, "a name is wanted"));
-        }
-        self.text(alloc, word)
     }
 
-    fn quoted(&mut self, alloc: Global) -> Result<String, Failure> {
+    #[tactic(auto, using(crate::proofs::Found::steps), unfolding(crate::specs::Notation::quoted))]
+    fn quoted(&mut self, alloc: Global) -> Result<String>
+        ensures { Parses string_bytes (quoted self.old.rest.now) result self.new.rest.now }
+    {
         let len = run(Class::NoQuote, self.rest);
         let (name, rest) = self.rest.split_at(len);
         self.rest = rest;
-        self.expect(alloc, b'"', "a name has no closing quote")?;
+        self.expect(b'"', "a name has no closing quote")?;
         match decode(alloc, name) {
-            Ok(bytes) => self.text(alloc, bytes.as_slice()),
-            Err(_) => Err(Failure::out_of_memory()),
+            Ok(bytes) => name_of(alloc, bytes.as_slice()),
+            Err(_) => Err(Stop::OutOfMemory),
         }
     }
 
-    fn text(&mut self, alloc: Global, name: &[u8]) -> Result<String, Failure> {
-        match std::str::from_utf8(name) {
-            Ok(name) => Ok(String::from_str(alloc, name)?),
-            Err(_) => Err(self.fault(alloc, "a name isn't UTF-8")),
+    fn word_name(&mut self, alloc: Global) -> Result<String>
+        ensures { Parses string_bytes (word_name self.old.rest.now) result self.new.rest.now }
+    {
+        let word = self.word();
+        if word.is_empty() {
+            return Err(Stop::Fault("a name is wanted"));
         }
-    }
-
-    fn skip_blanks(&mut self) {
-        let blanks = run(Class::Blank, self.rest);
-        self.rest = &self.rest[blanks..];
-    }
-
-    /// The error that the text is no shape, for this reason, here.
-    pub(crate) fn fault(&self, alloc: Global, reason: &'static str) -> Failure {
-        let position = self.len.saturating_sub(self.rest.len());
-        match String::from_str(alloc, reason) {
-            Ok(text) => Failure::new(Kind::Shape, text, position),
-            Err(_) => Failure::out_of_memory(),
-        }
+        name_of(alloc, word)
     }
 }
 
-/// A class of bytes.
-#[derive(Clone, Copy)]
-enum Class {
-    Blank,
-    /// Letters, digits, `_`, `-` and all that isn't ASCII.
-    Word,
-    NoQuote,
-}
-
-impl Class {
-    fn has(self, byte: u8) -> bool {
-        match self {
-            Class::Blank => matches!(byte, b' ' | b'\t' | b'\n' | b'\r'),
-            Class::Word =>
-                matches!(byte, b'a'..=b'z' | b'A'..=b'Z' | b'0'..=b'9' | b'_' | b'-' | 0x80..=0xFF),
-            Class::NoQuote => byte != b'"',
-        }
-    }
-}
-
-/// How many bytes of the class stand at the front.
-fn run(class: Class, bytes: &[u8]) -> usize
-    ensures { result ≤ length bytes.now }
+/// The bytes as a name.
+fn name_of(alloc: Global, bytes: &[u8]) -> Result<String>
+    ensures { (rest : List ℕ) → Parses string_bytes (name_of bytes.now rest) result rest }
 {
-    match bytes.iter().position(|byte| !class.has(*byte)) {
-        Some(len) => len,
-        None => bytes.len(),
+    match std::str::from_utf8(bytes) {
+        Ok(name) => Ok(String::from_str(alloc, name)?),
+        Err(_) => Err(Stop::Fault("a name isn't UTF-8")),
     }
+}
+
+#[tactic(auto, using(crate::proofs::Found::steps), unfolding(crate::specs::Notation::trimmed))]
+fn without_blanks(text: &[u8]) -> &[u8]
+    ensures { result.now ≡ trimmed text.now }
+{
+    let blanks = run(Class::Blank, text);
+    &text[blanks..]
 }

@@ -1,50 +1,39 @@
 //! The keys of a map.
 
+ghost use Rattle.std.specs.Prelude.{map, string_bytes};
+ghost use Rattle.qs_data.specs.Views.{key_shape_of};
+ghost use Rattle.qs_c.specs.Notation.{comma_or_parenthesis, key, list_of, name};
+ghost use Rattle.qs_c.specs.Parses.{Parses};
+
 use super::cursor::Cursor;
-use crate::failure::Failure;
+use super::stop::{Result, Stop};
+use super::words::scalar_key;
 use qs_data::KeyShape;
 use std::alloc::Global;
 
 /// How the keys are read.
-pub(crate) fn map_key(alloc: Global, cursor: &mut Cursor<'_>) -> Result<KeyShape, Failure> {
-    match cursor.word() {
-        b"enum" => {
-            cursor.expect(alloc, b'(', "`(` is wanted")?;
-            Ok(KeyShape::Variants(names(alloc, cursor)?))
-        }
-        word => match scalar_key(word) {
-            Some(key) => Ok(key),
-            None => Err(cursor.fault(alloc, "the word before is no shape of a key")),
-        },
+#[tactic(auto, using(crate::proofs::Found::steps), unfolding(crate::specs::Notation::key))]
+pub(crate) fn map_key(alloc: Global, cursor: &mut Cursor<'_>) -> Result<KeyShape>
+    ensures { Parses key_shape_of (key cursor.old.rest.now) result cursor.new.rest.now }
+{
+    let word = cursor.word();
+    if word == b"enum".as_slice() {
+        cursor.expect(b'(', "`(` is wanted")?;
+        return Ok(KeyShape::Variants(names(alloc, cursor)?));
     }
-}
-
-fn scalar_key(word: &[u8]) -> Option<KeyShape> {
-    match word {
-        b"bool" => Some(KeyShape::Bool),
-        b"u8" => Some(KeyShape::U8),
-        b"u16" => Some(KeyShape::U16),
-        b"u32" => Some(KeyShape::U32),
-        b"u64" => Some(KeyShape::U64),
-        b"i8" => Some(KeyShape::I8),
-        b"i16" => Some(KeyShape::I16),
-        b"i32" => Some(KeyShape::I32),
-        b"i64" => Some(KeyShape::I64),
-        b"char" => Some(KeyShape::Char),
-        b"text" => Some(KeyShape::Text),
-        _ => None,
-    }
+    scalar_key(word).ok_or(Stop::Fault("the word before is no shape of a key"))
 }
 
 /// Names, up to the parenthesis that closes them.
-fn names(alloc: Global, cursor: &mut Cursor<'_>) -> Result<Vec<String>, Failure> {
+fn names(alloc: Global, cursor: &mut Cursor<'_>) -> Result<Vec<String>>
+    ensures { Parses (λ names. map string_bytes names.items) (list_of name 41 comma_or_parenthesis cursor.old.rest.now) result cursor.new.rest.now }
+{
     let mut names = Vec::new(alloc);
-    for _ in 0..u64::MAX {
+    for at in 0..cursor.len() {
         names.push(cursor.name(alloc)?)?;
-        if !cursor.take(b',') {
-            break;
+        if !cursor.goes_on(b')', "`,` or `)` is wanted")? {
+            return Ok(names);
         }
     }
-    cursor.expect(alloc, b')', "`,` or `)` is wanted")?;
-    Ok(names)
+    Err(Stop::Fault("`,` or `)` is wanted"))
 }

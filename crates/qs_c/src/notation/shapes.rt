@@ -1,26 +1,41 @@
 //! A shape, and what shapes hold.
 
+ghost use Rattle.std.specs.Prelude.{map, ◌++◌};
+ghost use Rattle.qs_data.specs.Views.{field_of, shape_of};
+ghost use Rattle.qs_c.specs.Found.{before};
+ghost use Rattle.qs_c.specs.Notation as n;
+ghost use Rattle.qs_c.specs.Parses.{Parses};
+
 use super::cursor::Cursor;
 use super::keys::map_key;
+use super::stop::{Result, Stop};
 use super::variants::variants;
-use crate::failure::Failure;
+use super::words::scalar;
 use qs_data::{Field, Shape};
 use std::alloc::Global;
 
 /// The shape that comes next, which may nest so deep.
 #[cycle(shape)]
-pub(crate) fn shape(
-    alloc: Global,
-    cursor: &mut Cursor<'_>,
-    levels: usize,
-) -> Result<Shape, Failure> {
+#[tactic(auto, using(crate::proofs::Found::steps), unfolding(crate::specs::Notation::shape))]
+pub(crate) fn shape(alloc: Global, cursor: &mut Cursor<'_>, levels: usize) -> Result<Shape>
+    ensures { Parses shape_of (n.shape levels cursor.old.rest.now) result cursor.new.rest.now }
+{
     if levels == 0 {
-        return Err(cursor.fault(alloc, "the shape nests more than 32 levels"));
+        return Err(Stop::Fault("the shape nests more than 32 levels"));
     }
-    let mut shape = plain(alloc, cursor, levels - 1)?;
-    for _ in 0..levels {
+    let shape = plain(alloc, cursor, levels - 1)?;
+    options(alloc, cursor, levels - 1, shape)
+}
+
+/// The shape with an option round it for each `?` that comes next, of which there are so many at most.
+#[tactic(auto, using(crate::proofs::Found::steps), unfolding(crate::specs::Notation::options))]
+fn options(alloc: Global, cursor: &mut Cursor<'_>, most: usize, shape: Shape) -> Result<Shape>
+    ensures { Parses shape_of (n.options most (shape_of shape) cursor.old.rest.now) result cursor.new.rest.now }
+{
+    let mut shape = shape;
+    for at in 0..most {
         if !cursor.take(b'?') {
-            break;
+            return Ok(shape);
         }
         shape = Shape::Option(Box::new(alloc, shape)?);
     }
@@ -29,106 +44,111 @@ pub(crate) fn shape(
 
 /// A shape before any `?`.
 #[cycle(shape)]
-fn plain(alloc: Global, cursor: &mut Cursor<'_>, levels: usize) -> Result<Shape, Failure> {
+#[tactic(auto, using(crate::proofs::Found::steps), unfolding(crate::specs::Notation::plain))]
+fn plain(alloc: Global, cursor: &mut Cursor<'_>, levels: usize) -> Result<Shape>
+    ensures { Parses shape_of (n.plain (n.shape levels) cursor.old.rest.now) result cursor.new.rest.now }
+{
     if cursor.take(b'[') {
-        let item = shape(alloc, cursor, levels)?;
-        cursor.expect(alloc, b']', "`]` is wanted")?;
-        return Ok(Shape::Seq(Box::new(alloc, item)?));
+        return list(alloc, cursor, levels);
     }
     if cursor.take(b'{') {
         return Ok(Shape::Struct(fields(alloc, cursor, levels)?));
     }
     if cursor.take(b'(') {
-        return Ok(Shape::Tuple(items(alloc, cursor, levels)?));
+        return Ok(Shape::Tuple(items(alloc, cursor, levels, Vec::new(alloc))?));
     }
-    named(alloc, cursor, levels)
+    let word = cursor.word();
+    named(alloc, cursor, levels, word)
 }
 
-/// A shape that begins with a word.
+/// A list, up to the bracket that closes it.
 #[cycle(shape)]
-fn named(alloc: Global, cursor: &mut Cursor<'_>, levels: usize) -> Result<Shape, Failure> {
-    match cursor.word() {
-        b"map" => map(alloc, cursor, levels),
-        b"newtype" => {
-            cursor.expect(alloc, b'(', "`(` is wanted")?;
-            let inner = shape(alloc, cursor, levels)?;
-            cursor.expect(alloc, b')', "`)` is wanted")?;
-            Ok(Shape::Newtype(Box::new(alloc, inner)?))
-        }
-        b"strict" => {
-            cursor.expect(alloc, b'{', "`{` is wanted")?;
-            Ok(Shape::StrictStruct(fields(alloc, cursor, levels)?))
-        }
-        b"enum" => {
-            cursor.expect(alloc, b'(', "`(` is wanted")?;
-            Ok(Shape::Enum(variants(alloc, cursor, levels)?))
-        }
-        word => match scalar(word) {
-            Some(shape) => Ok(shape),
-            None => Err(cursor.fault(alloc, "the word before is no shape")),
-        },
-    }
+#[tactic(auto, using(crate::proofs::Found::steps), unfolding(crate::specs::Notation::list))]
+fn list(alloc: Global, cursor: &mut Cursor<'_>, levels: usize) -> Result<Shape>
+    ensures { Parses shape_of (n.list (n.shape levels) cursor.old.rest.now) result cursor.new.rest.now }
+{
+    let item = shape(alloc, cursor, levels)?;
+    cursor.expect(b']', "`]` is wanted")?;
+    Ok(Shape::Seq(Box::new(alloc, item)?))
 }
 
-fn scalar(word: &[u8]) -> Option<Shape> {
-    match word {
-        b"unit" => Some(Shape::Unit),
-        b"bool" => Some(Shape::Bool),
-        b"u8" => Some(Shape::U8),
-        b"u16" => Some(Shape::U16),
-        b"u32" => Some(Shape::U32),
-        b"u64" => Some(Shape::U64),
-        b"i8" => Some(Shape::I8),
-        b"i16" => Some(Shape::I16),
-        b"i32" => Some(Shape::I32),
-        b"i64" => Some(Shape::I64),
-        b"char" => Some(Shape::Char),
-        b"text" => Some(Shape::Text),
-        b"bytes" => Some(Shape::Bytes),
-        b"any" => Some(Shape::Any),
-        b"ignored" => Some(Shape::Ignored),
-        _ => None,
+/// A shape that begins with this word.
+#[cycle(shape)]
+#[tactic(auto, using(crate::proofs::Found::steps), unfolding(crate::specs::Notation::named))]
+fn named(alloc: Global, cursor: &mut Cursor<'_>, levels: usize, word: &[u8]) -> Result<Shape>
+    ensures { Parses shape_of (n.named (n.shape levels) word.now cursor.old.rest.now) result cursor.new.rest.now }
+{
+    if word == b"map".as_slice() {
+        return map(alloc, cursor, levels);
     }
+    if word == b"newtype".as_slice() {
+        return newtype(alloc, cursor, levels);
+    }
+    if word == b"strict".as_slice() {
+        cursor.expect(b'{', "`{` is wanted")?;
+        return Ok(Shape::StrictStruct(fields(alloc, cursor, levels)?));
+    }
+    if word == b"enum".as_slice() {
+        cursor.expect(b'(', "`(` is wanted")?;
+        return Ok(Shape::Enum(variants(alloc, cursor, levels)?));
+    }
+    scalar(word).ok_or(Stop::Fault("the word before is no shape"))
+}
+
+/// A value in a type of its own.
+#[cycle(shape)]
+#[tactic(auto, using(crate::proofs::Found::steps), unfolding(crate::specs::Notation::newtype))]
+fn newtype(alloc: Global, cursor: &mut Cursor<'_>, levels: usize) -> Result<Shape>
+    ensures { Parses shape_of (n.newtype (n.shape levels) cursor.old.rest.now) result cursor.new.rest.now }
+{
+    cursor.expect(b'(', "`(` is wanted")?;
+    let inner = shape(alloc, cursor, levels)?;
+    cursor.expect(b')', "`)` is wanted")?;
+    Ok(Shape::Newtype(Box::new(alloc, inner)?))
 }
 
 /// The key and the value of a map.
 #[cycle(shape)]
-fn map(alloc: Global, cursor: &mut Cursor<'_>, levels: usize) -> Result<Shape, Failure> {
-    cursor.expect(alloc, b'(', "`(` is wanted")?;
+#[tactic(auto, using(crate::proofs::Found::steps), unfolding(crate::specs::Notation::map))]
+fn map(alloc: Global, cursor: &mut Cursor<'_>, levels: usize) -> Result<Shape>
+    ensures { Parses shape_of (n.map (n.shape levels) cursor.old.rest.now) result cursor.new.rest.now }
+{
+    cursor.expect(b'(', "`(` is wanted")?;
     let key = map_key(alloc, cursor)?;
-    cursor.expect(alloc, b',', "`,` is wanted")?;
+    cursor.expect(b',', "`,` is wanted")?;
     let value = shape(alloc, cursor, levels)?;
-    cursor.expect(alloc, b')', "`)` is wanted")?;
+    cursor.expect(b')', "`)` is wanted")?;
     Ok(Shape::Map(key, Box::new(alloc, value)?))
 }
 
 /// Fields, up to the brace that closes them.
 #[cycle(shape)]
-pub(crate) fn fields(
-    alloc: Global,
-    cursor: &mut Cursor<'_>,
-    levels: usize,
-) -> Result<Vec<Field>, Failure> {
+#[tactic(auto, using(crate::proofs::Found::steps), unfolding(crate::specs::Notation::fields))]
+pub(crate) fn fields(alloc: Global, cursor: &mut Cursor<'_>, levels: usize) -> Result<Vec<Field>>
+    ensures { Parses (λ fields. map field_of fields.items) (n.fields (n.shape levels) cursor.old.rest.now) result cursor.new.rest.now }
+{
     let mut fields = Vec::new(alloc);
     if cursor.take(b'}') {
         return Ok(fields);
     }
-    for _ in 0..u64::MAX {
+    for at in 0..cursor.len() {
         fields.push(field(alloc, cursor, levels)?)?;
-        if !cursor.take(b',') {
-            break;
+        if !cursor.goes_on(b'}', "`,` or `}` is wanted")? {
+            return Ok(fields);
         }
     }
-    cursor.expect(alloc, b'}', "`,` or `}` is wanted")?;
-    Ok(fields)
+    Err(Stop::Fault("`,` or `}` is wanted"))
 }
 
 /// A field: its name, `?` if it may be left out, and its shape.
 #[cycle(shape)]
-fn field(alloc: Global, cursor: &mut Cursor<'_>, levels: usize) -> Result<Field, Failure> {
+#[tactic(auto, using(crate::proofs::Found::steps), unfolding(crate::specs::Notation::field))]
+fn field(alloc: Global, cursor: &mut Cursor<'_>, levels: usize) -> Result<Field>
+    ensures { Parses field_of (n.field (n.shape levels) cursor.old.rest.now) result cursor.new.rest.now }
+{
     let name = cursor.name(alloc)?;
     let optional = cursor.take(b'?');
-    cursor.expect(alloc, b':', "`:` is wanted")?;
+    cursor.expect(b':', "`:` is wanted")?;
     let shape = shape(alloc, cursor, levels)?;
     Ok(Field {
         name,
@@ -137,19 +157,25 @@ fn field(alloc: Global, cursor: &mut Cursor<'_>, levels: usize) -> Result<Field,
     })
 }
 
-/// Shapes, up to the parenthesis that closes them.
+/// Shapes after these, up to the parenthesis that closes them.
 #[cycle(shape)]
-fn items(alloc: Global, cursor: &mut Cursor<'_>, levels: usize) -> Result<Vec<Shape>, Failure> {
-    let mut items = Vec::new(alloc);
+#[tactic(auto, using(crate::proofs::Found::steps), unfolding(crate::specs::Notation::items))]
+pub(crate) fn items(
+    alloc: Global,
+    cursor: &mut Cursor<'_>,
+    levels: usize,
+    mut items: Vec<Shape>,
+) -> Result<Vec<Shape>>
+    ensures { Parses (λ items. map shape_of items.items) (before (map shape_of items.items) (n.items (n.shape levels) cursor.old.rest.now)) result cursor.new.rest.now }
+{
     if cursor.take(b')') {
         return Ok(items);
     }
-    for _ in 0..u64::MAX {
+    for at in 0..cursor.len() {
         items.push(shape(alloc, cursor, levels)?)?;
-        if !cursor.take(b',') {
-            break;
+        if !cursor.goes_on(b')', "`,` or `)` is wanted")? {
+            return Ok(items);
         }
     }
-    cursor.expect(alloc, b')', "`,` or `)` is wanted")?;
-    Ok(items)
+    Err(Stop::Fault("`,` or `)` is wanted"))
 }

@@ -1,74 +1,80 @@
 //! The variants of an enum.
 
+ghost use Rattle.std.specs.Prelude.{map};
+ghost use Rattle.qs_data.specs.Views.{kind_of, variant_of};
+ghost use Rattle.qs_c.specs.Notation as n;
+ghost use Rattle.qs_c.specs.Parses.{Parses};
+
 use super::cursor::Cursor;
-use super::shapes::{fields, shape};
-use crate::failure::Failure;
+use super::shapes::{fields, items, shape};
+use super::stop::{Result, Stop};
 use qs_data::{Shape, Variant, VariantKind};
 use std::alloc::Global;
 
 /// Variants, up to the parenthesis that closes them.
 #[cycle(shape)]
+#[tactic(auto, using(crate::proofs::Found::steps), unfolding(crate::specs::Notation::variants))]
 pub(crate) fn variants(
     alloc: Global,
     cursor: &mut Cursor<'_>,
     levels: usize,
-) -> Result<Vec<Variant>, Failure> {
+) -> Result<Vec<Variant>>
+    ensures { Parses (λ variants. map variant_of variants.items) (n.variants (n.shape levels) cursor.old.rest.now) result cursor.new.rest.now }
+{
     let mut variants = Vec::new(alloc);
-    for _ in 0..u64::MAX {
-        let name = cursor.name(alloc)?;
-        let kind = kind(alloc, cursor, levels)?;
-        variants.push(Variant { name, kind })?;
-        if !cursor.take(b',') {
-            break;
+    for at in 0..cursor.len() {
+        variants.push(variant(alloc, cursor, levels)?)?;
+        if !cursor.goes_on(b')', "`,` or `)` is wanted")? {
+            return Ok(variants);
         }
     }
-    cursor.expect(alloc, b')', "`,` or `)` is wanted")?;
-    Ok(variants)
+    Err(Stop::Fault("`,` or `)` is wanted"))
+}
+
+#[cycle(shape)]
+#[tactic(auto, using(crate::proofs::Found::steps), unfolding(crate::specs::Notation::variant))]
+fn variant(alloc: Global, cursor: &mut Cursor<'_>, levels: usize) -> Result<Variant>
+    ensures { Parses variant_of (n.variant (n.shape levels) cursor.old.rest.now) result cursor.new.rest.now }
+{
+    let name = cursor.name(alloc)?;
+    let kind = kind(alloc, cursor, levels)?;
+    Ok(Variant { name, kind })
 }
 
 /// What a variant holds: nothing, a value, `(shape, ..)`, `{name: shape, ..}` or `strict {name: shape, ..}`.
 #[cycle(shape)]
-fn kind(alloc: Global, cursor: &mut Cursor<'_>, levels: usize) -> Result<VariantKind, Failure> {
+#[tactic(auto, using(crate::proofs::Found::steps), unfolding(crate::specs::Notation::kind))]
+fn kind(alloc: Global, cursor: &mut Cursor<'_>, levels: usize) -> Result<VariantKind>
+    ensures { Parses kind_of (n.kind (n.shape levels) cursor.old.rest.now) result cursor.new.rest.now }
+{
     if cursor.take(b'{') {
         return Ok(VariantKind::Struct(fields(alloc, cursor, levels)?));
     }
     if cursor.take_word(b"strict") {
-        cursor.expect(alloc, b'{', "`{` is wanted")?;
+        cursor.expect(b'{', "`{` is wanted")?;
         return Ok(VariantKind::StrictStruct(fields(alloc, cursor, levels)?));
     }
     if !cursor.take(b'(') {
         return Ok(VariantKind::Unit);
     }
-    let mut items = Vec::new(alloc);
+    held(alloc, cursor, levels)
+}
+
+/// What a variant holds in parentheses: a tuple, or a value, which has no comma after it.
+#[cycle(shape)]
+#[tactic(auto, using(crate::proofs::Found::steps), unfolding(crate::specs::Notation::held))]
+fn held(alloc: Global, cursor: &mut Cursor<'_>, levels: usize) -> Result<VariantKind>
+    ensures { Parses kind_of (n.held (n.shape levels) cursor.old.rest.now) result cursor.new.rest.now }
+{
+    let mut parts = Vec::new(alloc);
     if cursor.take(b')') {
-        return Ok(VariantKind::Tuple(items));
+        return Ok(VariantKind::Tuple(parts));
     }
     let first = shape(alloc, cursor, levels)?;
     if cursor.take(b')') {
         return Ok(VariantKind::Newtype(Box::new(alloc, first)?));
     }
-    items.push(first)?;
-    more_items(alloc, cursor, levels, &mut items)?;
-    Ok(VariantKind::Tuple(items))
-}
-
-/// The other items of a tuple, each after its comma, of which the last may stand alone.
-#[cycle(shape)]
-fn more_items(
-    alloc: Global,
-    cursor: &mut Cursor<'_>,
-    levels: usize,
-    items: &mut Vec<Shape>,
-) -> Result<(), Failure> {
-    for _ in 0..u64::MAX {
-        cursor.expect(alloc, b',', "`,` or `)` is wanted")?;
-        if cursor.take(b')') {
-            break;
-        }
-        items.push(shape(alloc, cursor, levels)?)?;
-        if cursor.take(b')') {
-            break;
-        }
-    }
-    Ok(())
+    cursor.expect(b',', "`,` or `)` is wanted")?;
+    parts.push(first)?;
+    Ok(VariantKind::Tuple(items(alloc, cursor, levels, parts)?))
 }

@@ -4,7 +4,7 @@ use Rattle.std.specs.List.{range_with_len}
 use Rattle.qs_spec.specs.Data.{Data, Named, values_of, members_of}
 use Rattle.qs_spec.specs.Data.Data.{unsigned, text, sequence, struct}
 
--- a field whose name and text tell its number
+-- a field whose name and text have its number
 abbrev pub numbered : ℕ → Named
 numbered n = (codes "key" ++ decimal n, text (codes "value " ++ decimal n))
 

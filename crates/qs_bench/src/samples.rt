@@ -37,7 +37,7 @@ fn address(alloc: Global) -> Result<Data, AllocError>
     Ok(Data::Struct(fields))
 }
 
-/// So many fields, whose names and texts tell their numbers, below so many keys.
+/// So many fields, whose names and texts have their numbers, below so many keys.
 #[tactic(auto, using(qs_data::proofs::Levels::levels))]
 pub(crate) fn fields_below(alloc: Global, keys: usize, count: usize) -> Result<Data, AllocError>
     ensures { IfOk result (λ d. data_of d ≡ spec.below keys (spec.fields count)) }

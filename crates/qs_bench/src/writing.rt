@@ -29,7 +29,7 @@ pub extern "C" fn qs_bench_write_record(
     write(alloc, times, samples::record(alloc), out, len)
 }
 
-/// The same for a struct of so many fields, whose names and texts tell their numbers, below so many keys.
+/// The same for a struct of so many fields, whose names and texts have their numbers, below so many keys.
 #[unsafe(no_mangle)]
 pub extern "C" fn qs_bench_write_fields(
     alloc: Global,

@@ -1,4 +1,4 @@
--- What a querystring of a query stands for, written out.
+-- The query that a querystring is read as, written out.
 use Rattle.std.specs.Prelude.{ℕ, List, [], ◌∷◌, Option, codes, string_bytes, false}
 use Rattle.qs_spec.specs.Data.{Data}
 use Rattle.qs_spec.specs.Shape.{Shape, UnknownKeys, fields_of}

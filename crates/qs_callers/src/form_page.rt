@@ -15,7 +15,7 @@ pub struct FieldError {
 
 /// Returns the value that a form stands for, or what its page says of the field that is wrong.
 ///
-/// An error is one of the type itself, which rejects what its shape read, or that memory ran out.
+/// An error is one of the type itself, which rejects what its shape read, or that an allocation failed.
 ///
 /// ```
 /// let reply = submitted::<Person>(alloc, b"name=Alice&age=300")?; // of the field `age`: expected u8, found the text "300"

@@ -11,12 +11,12 @@ use crate::query::Query;
 use serde_qs::{Error, LimitError, Limits, from_bytes};
 use std::alloc::Global;
 
-/// Why a service answers no query.
+/// Why a service rejects a query.
 #[derive(Debug, Drop)]
 pub enum Rejected {
     /// The input is too large, and wasn't parsed.
     TooLarge(LimitError),
-    /// The input stands for no query.
+    /// The input is no query.
     Unread(Error),
 }
 

@@ -8,7 +8,7 @@ use std::alloc::Global;
 
 /// Returns the value that a request's body stands for under a configuration.
 ///
-/// A body of the type `application/x-www-form-urlencoded` (URL Standard, section 5) wants
+/// A body of the type `application/x-www-form-urlencoded` (URL Standard, section 5) needs
 /// [`use_form_encoding`](Config::use_form_encoding), since a browser escapes the brackets of names.
 ///
 /// ```
@@ -16,7 +16,8 @@ use std::alloc::Global;
 /// let order: QsForm<Order> = form(alloc, b"item=7&tags%5B%5D=new", config)?;
 /// ```
 ///
-/// The errors are those of [`from_bytes`](serde_qs::from_bytes) with this configuration. It allocates as that call does.
+/// The errors are those of [`from_bytes`](serde_qs::from_bytes) with this configuration. It allocates, and takes time, as that call
+/// does.
 pub fn form<T: Deserialize>(alloc: Global, body: &[u8], config: Config) -> Result<QsForm<T>>
     ensures exact { ReturnsValue (λ form. T.value form.0) config T.form T.meaning body.now result }
     ensures back { ReturnsWritten (λ form. T.value form.0) config T.form T.meaning body.now result }

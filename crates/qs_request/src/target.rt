@@ -14,7 +14,7 @@ use std::alloc::Global;
 /// The query is what follows the first `?` (RFC 3986, section 3.4); a fragment is no part of it. Where there is none, the
 /// empty querystring is read, so that a type without required fields has a value.
 ///
-/// The default configuration takes brackets as they are. Clients that escape them need
+/// The default configuration reads brackets as they are. Clients that escape them need
 /// [`use_form_encoding`](Config::use_form_encoding), which reads both.
 ///
 /// ```
@@ -22,7 +22,8 @@ use std::alloc::Global;
 /// let filter: QsQuery<Filter> = query(alloc, &target, Config::new())?; // page 2
 /// ```
 ///
-/// The errors are those of [`from_str`](serde_qs::from_str) with this configuration. It allocates as that call does; the target stays as it was.
+/// The errors are those of [`from_str`](serde_qs::from_str) with this configuration. It allocates, and takes time, as that call does;
+/// the target is unchanged.
 pub fn query<T: Deserialize>(alloc: Global, uri: &Uri, config: Config) -> Result<QsQuery<T>>
     ensures exact { ReturnsValue (λ query. T.value query.0) config T.form T.meaning (query_of uri.now) result }
     ensures back { ReturnsWritten (λ query. T.value query.0) config T.form T.meaning (query_of uri.now) result }

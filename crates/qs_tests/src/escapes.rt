@@ -1,4 +1,4 @@
-//! Bytes escaped, and what escaped bytes stand for.
+//! Bytes escaped, and what escaped bytes are decoded to.
 ghost use Rattle.std.specs.Prelude.{◌<◌, IfSome};
 
 use qs_tree::{decode, encode};

@@ -26,7 +26,7 @@ right_line words request input line status e p = subst (λ asked. IsLineOf asked
 pub two_goes_on : ◌≢◌ {A = ℕ} 2 3
 two_goes_on e = absurd (omega (arith, e))
 
--- an answer ends with status 0 or 1
+-- a result has status 0 or 1
 pub never_stopped : (request : Request) (input line : List ℕ) (status : ℕ) → IsAnswer request input line status → status ≢ 3
 never_stopped request input line status (inl (text, printed, same, ended)) e = absurd (omega (arith, ended, e))
 never_stopped request input line status (inr (faulty, error, ended)) e = absurd (omega (arith, ended, e))

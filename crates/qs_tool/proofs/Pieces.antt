@@ -16,7 +16,7 @@ listed_first : (t : List ℕ) (ts : List (List ℕ)) → listed (t ∷ ts) ≡ t
 listed_first t [] = search (rules)
 listed_first t (u ∷ ts) = ap (λ rest. t ++ (codes "," ++ rest)) (listed_first u ts)
 
--- the last piece of a pile is written first
+-- the last piece of a stack is written first
 pub text_of_more : (pile pile_after : List Piece) (piece : Piece) → pile_after ≡ pile ++ piece ∷ [] → text_of_pile pile_after ≡ piece_text piece ++ text_of_pile pile
 text_of_more pile pile_after piece is = ap text_of_pile is ∙ fold-append before [] pile (piece ∷ [])
 
@@ -30,7 +30,7 @@ begins_whole text line pile line_after some is = record {
   grows = longer text line line_after some is;
 }
 
--- texts between marks: the first mark was written, the first text is on the pile, and what is left of them below it
+-- texts between marks: the first mark was written, the first text is on the stack, and what is left of them below it
 pub begins_listed : (opening closing t : List ℕ) (ts : List (List ℕ)) (line : List ℕ) (pile : List Piece) (line_after : List ℕ) (pile_after : List Piece)
     → 0 < length opening → line_after ≡ line ++ opening → text_of_pile pile_after ≡ t ++ ((behind_commas ts ++ closing) ++ text_of_pile pile)
     → Begins (opening ++ (listed (t ∷ ts) ++ closing)) line pile line_after pile_after

@@ -1,4 +1,4 @@
--- Which error tells of which refusal.
+-- Which error reports what.
 use Rattle.std.proofs.Common.{◌≡◌, ℕ, false, Option, Some, Result, Ok, Err, refl}
 use Rattle.qs_spec.specs.Shape.{Shape}
 use Rattle.qs_spec.specs.Relation.{ReadsNothing}
@@ -10,7 +10,7 @@ use Rattle.qs_data.specs.Writes.{IsWriteError}
 use Rattle.qs_data.specs.Parsed.{Parsed, ReturnsData}
 use Rattle.qs_tool.specs.Fault.{is_memory, IfFault}
 
--- a serializer that hadn't failed tells of a refusal, or that memory ran out
+-- a serializer that hadn't failed reports an error of the data, or that an allocation failed
 pub refusal_told : (e : Error) (depth : ℕ) (r : Option Refusal) → IsWriteError {T = Unit {0}} (Err e) → (IsFailed {T = Unit {0}} (Err e) → ⊥)
     → ((n : ℕ) → IsTooDeep {T = Unit {0}} (Err e) n → (n ≡ depth) × (r ≡ Some too_deep)) → (IsUnsupported {T = Unit {0}} (Err e) → r ≡ Some bad_key)
     → is_memory e ≡ false → (refusal : Refusal) × (r ≡ Some refusal)
@@ -25,7 +25,7 @@ refusal_told (Utf8 cause) depth r told fresh deep key other = absurd told
 refusal_told OutOfMemory depth r told fresh deep key other = cc
 refusal_told Failed depth r told fresh deep key other = absurd (fresh tt)
 
--- a reader that returned an error reads nothing, or memory ran out
+-- a reader that returned an error reads nothing, or an allocation failed
 pub reading_told : (parsed : Parsed) (shape : Shape) (e : Error) → ReturnsData parsed shape (Err e) → is_memory e ≡ false → ReadsNothing parsed.config shape parsed.tree
 reading_told parsed shape (Custom message) told other = told
 reading_told parsed shape (MaxSerializationDepthExceeded n) told other = absurd told
@@ -43,7 +43,7 @@ pub fault_is : {T : Type 0} (r : Result T Error) {P Q : Type 0} → (P → Q) �
 fault_is (Ok x) f h = tt
 fault_is (Err e) f h = λ other. f (h other)
 
--- an error that is only that memory ran out tells of no fault
+-- an error that is only that an allocation failed reports nothing of the input
 pub no_fault : {T : Type 0} (r : Result T Error) (P : Type 0) → OnlyOutOfMemory r → IfFault r P
 no_fault (Ok x) P only = tt
 no_fault (Err (Custom message)) P only = absurd only

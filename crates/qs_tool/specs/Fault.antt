@@ -1,9 +1,9 @@
--- Errors that tell of the input.
+-- Errors that report something of the input.
 use Rattle.std.specs.Prelude.{◌≡◌, Bool, true, false, ⊤, Result, Ok, Err}
 use Rattle.qs_tree.specs.declared.error.Error.{Error}
 use Rattle.qs_tree.specs.declared.error.Error.TheVariants.{Io, OutOfMemory}
 
--- the error is that memory ran out, on an allocation or a write to memory, which says nothing of the input
+-- the error is that an allocation failed, or a write to memory, which says nothing of the input
 abbrev pub is_memory : Error → Bool
 is_memory (Io cause) = true
 is_memory OutOfMemory = true

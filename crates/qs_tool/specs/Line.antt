@@ -74,7 +74,7 @@ IsAnswer request input line status =
     ((text : List ℕ) × IsPrinted request input text × (line ≡ ended text) × (status ≡ 0))
     ⊎ (IsFaulty request input × IsErrorLine line × (status ≡ 1))
 
--- the answer to what is asked for, or where that is nothing, the usage line with status 2
+-- the result of what is asked for, or where the arguments are wrong, the usage line with status 2
 abbrev pub IsLineOf : Option Request → List ℕ → List ℕ → ℕ → Type 0
 IsLineOf None input line status = (line ≡ usage_line) × (status ≡ 2)
 IsLineOf (Some request) input line status = IsAnswer request (without_newline input) line status
@@ -83,7 +83,7 @@ IsLineOf (Some request) input line status = IsAnswer request (without_newline in
 abbrev pub IsLine : List Word → List ℕ → List ℕ → ℕ → Type 0
 IsLine words input line status = IsLineOf (asked words) input line status
 
--- so many bytes of a line that a run writes and then ends with status 3: of the line that says that memory ran out, or of the right one, which isn't
+-- so many bytes of a line that a run writes and then ends with status 3: of the line that says that an allocation failed, or of the right one, which isn't
 -- written whole, and is only begun where the input was read to its end or not asked for
 abbrev pub IsBegun : List Word → List ℕ → Option (List ℕ) → List ℕ → ℕ → Type 0
 IsBegun words input left line n =

@@ -30,11 +30,11 @@ piece_text (Pairs pairs) = pairs_left (shown_pairs (pairs_in pairs.now))
 abbrev pub before : List ℕ → Piece → List ℕ
 before rest piece = piece_text piece ++ rest
 
--- what is written of a pile of pieces, the last one first
+-- what is written of a stack of pieces, the last one first
 abbrev pub text_of_pile : List Piece → List ℕ
 text_of_pile = fold before []
 
--- A text was begun: the line grew, and with what is left on the pile it has the text, and after it what was on the pile.
+-- A text was begun: the line grew, and with what is left on the stack it has the text, and after it what was on the stack.
 pub record Begins (text line : List ℕ) (pile : List Piece) (line_after : List ℕ) (pile_after : List Piece) : Type 0 where
   pub whole : line_after ++ text_of_pile pile_after ≡ line ++ (text ++ text_of_pile pile)
   pub grows : length line < length line_after

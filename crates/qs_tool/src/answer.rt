@@ -1,4 +1,4 @@
-//! The answer to an input: a line and a status.
+//! The result of an input: a line and a status.
 
 ghost use Rattle.std.specs.Prelude.{◌≡◌, IfOk, IfSome, OnOk};
 ghost use Rattle.std.specs.Io.KnownBytes.{IsAtEnd};
@@ -19,7 +19,7 @@ pub struct Answer {
     pub status: u8,
 }
 
-/// The answer to the reader's input.
+/// The result of the reader's input.
 pub fn respond<R: Read>(alloc: Global, request: Request, reader: &mut R) -> Result<Answer, Stop>
     ensures answer { IfOk result (λ answer. IfSome (R.remaining reader.old)
         (λ input. IsAnswer request (without_newline input) answer.line.items answer.status)) }
@@ -29,7 +29,7 @@ pub fn respond<R: Read>(alloc: Global, request: Request, reader: &mut R) -> Resu
     Ok(answer_to(alloc, request, before_newline(input.as_slice()))?)
 }
 
-/// The answer to this input.
+/// The result of this input.
 fn answer_to(alloc: Global, request: Request, input: &[u8]) -> Result<Answer, AllocError>
     ensures { IfOk result (λ answer. IsAnswer request input.now answer.line.items answer.status) }
 {
@@ -48,7 +48,7 @@ fn answer_to(alloc: Global, request: Request, input: &[u8]) -> Result<Answer, Al
     }
 }
 
-/// Whether the error is that memory ran out: an allocation failed, or a write to memory, which fails for no other reason.
+/// Whether the error is that an allocation failed, or a write to memory, which fails for no other reason.
 fn is_memory(error: &Error) -> bool
     ensures { result ≡ is_memory error.now }
 {

@@ -25,7 +25,7 @@ const NO_MEMORY: &str = "error: out of memory\n";
 /// | 0 | what was read, written again, or shown by the command `any` |
 /// | 1 | `error: ` and why the input was rejected |
 /// | 2 | how the program is called; nothing was read |
-/// | 3 | memory ran out, with a line that says so where it can be written, or a read or a write failed |
+/// | 3 | an allocation failed, with a line that says so where it can be written, or a read or a write failed |
 ///
 /// The input is read by at most 1,000,000 reads of 8,192 bytes; where none of them was the end, that is a failed read. One final
 /// newline is no part of it. The line is written by one `write` after another, and none is repeated: one that fails, is

@@ -1,6 +1,6 @@
 //! Data as the command `any` shows them.
 //!
-//! What is still to be written stands on a pile on the heap, so data may be nested as deep as they like.
+//! What is still to be written is on a stack on the heap, so data may be nested as deep as they like.
 
 ghost use Rattle.std.specs.Prelude.{◌≡◌, ◌<◌, ◌++◌, length, OnOk};
 ghost use Rattle.qs_tree.specs.Error.{OnlyOutOfMemory};
@@ -39,7 +39,7 @@ pub fn show(alloc: Global, line: &mut Vec<u8>, datum: &Data) -> Result<()>
     Ok(())
 }
 
-/// Appends what the piece begins with, and puts on the pile what is left of it.
+/// Appends what the piece begins with, and puts on the stack what is left of it.
 fn proceed<'d>(line: &mut Vec<u8>, pile: &mut Vec<Piece<'d>>, piece: Piece<'d>) -> Result<()>
     ensures ok { OnOk result (Begins (piece_text piece.entry) line.old.items pile.old.items line.new.items pile.new.items) }
     ensures errors { OnlyOutOfMemory result }
@@ -55,7 +55,7 @@ fn proceed<'d>(line: &mut Vec<u8>, pile: &mut Vec<Piece<'d>>, piece: Piece<'d>) 
     }
 }
 
-/// Appends what the data begin with, and puts on the pile what is left of them.
+/// Appends what the data begin with, and puts on the stack what is left of them.
 #[tactic(auto, using(qs_data::proofs::Levels::levels, crate::proofs::Pieces::begins_whole))]
 fn begin<'d>(line: &mut Vec<u8>, pile: &mut Vec<Piece<'d>>, datum: &'d Data) -> Result<()>
     ensures ok { OnOk result (Begins (shown (data_of datum.now)) line.old.items pile.old.items line.new.items pile.new.items) }
@@ -89,7 +89,7 @@ fn show_text(line: &mut Vec<u8>, text: &str) -> Result<()>
     Ok(line.push(b'\'')?)
 }
 
-/// Appends the bracket that opens a list, and puts its items on the pile.
+/// Appends the bracket that opens a list, and puts its items on the stack.
 fn begin_list<'d>(line: &mut Vec<u8>, pile: &mut Vec<Piece<'d>>, items: &'d [Data]) -> Result<()>
     ensures ok { OnOk result (Begins (in_brackets (shown_values (values_in items.now))) line.old.items pile.old.items line.new.items pile.new.items) }
     ensures errors { OnlyOutOfMemory result }
@@ -119,7 +119,7 @@ fn next_item<'d>(line: &mut Vec<u8>, pile: &mut Vec<Piece<'d>>, items: &'d [Data
     }
 }
 
-/// Appends the brace that opens a map, and puts its pairs on the pile.
+/// Appends the brace that opens a map, and puts its pairs on the stack.
 fn begin_map<'d>(
     line: &mut Vec<u8>,
     pile: &mut Vec<Piece<'d>>,

@@ -1,4 +1,4 @@
-//! Answered cases: data of every kind, read back from their entries in a shuffled order. They were made by a model that was
+//! Golden cases: data of every kind, read back from their entries in a shuffled order. They were made by a model that was
 //! written from the documents alone, and agree with the Rust original.
 
 use super::cases::CASES;

@@ -4,7 +4,7 @@ use Rattle.qs_tool.specs.Shown.{shown}
 use Rattle.qs_tool.specs.Pieces.{text_of_pile}
 use Rattle.qs_tool.proofs.showing.show.Given as goal
 
--- the line so far, and what is on the pile
+-- the line so far, and what is on the stack
 abbrev pub invariant-loop-piece : goal.invariant-loop-piece
 invariant-loop-piece l = l.line.items ++ text_of_pile l.pile.items ≡ l.fn.line.items ++ shown (data_of l.datum)
 

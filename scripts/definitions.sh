@@ -15,22 +15,22 @@ library() {
 }
 
 # The laws are left out, since nothing here looks at them: without their proofs the definitions are there in no time.
-library qs_spec && library answered && cp "$root/HANDLES" "$room/" || exit 1
+library qs_spec && library golden && cp "$root/HANDLES" "$room/" || exit 1
 cp -r "$root/crates/qs_spec/specs" "$room/crates/qs_spec/" && cp "$root"/crates/qs_spec/proofs/*.antt "$room/crates/qs_spec/proofs/" || exit 1
-printf 'qs_spec:\nanswered: qs_spec\n' >"$room/crates.txt"
-printf 'pub mod Cases\n' >"$room/crates/answered/proofs/Lib.antt"
-: >"$room/crates/answered/specs/Lib.antt"
+printf 'qs_spec:\ngolden: qs_spec\n' >"$room/crates.txt"
+printf 'pub mod Cases\n' >"$room/crates/golden/proofs/Lib.antt"
+: >"$room/crates/golden/specs/Lib.antt"
 
 # proves KIND [wrong]: whether the equations of that table are accepted
 proves() {
-    python3 "$root/scripts/support/definitions.py" "$1" "$root/scripts/answered/$1.tsv" "${@:2}" \
-        >"$room/crates/answered/proofs/Cases.antt" || return 2
-    (cd "$room/crates/answered" && rt check) >"$room/said" 2>&1 </dev/null
+    python3 "$root/scripts/support/definitions.py" "$1" "$root/scripts/golden/$1.tsv" "${@:2}" \
+        >"$room/crates/golden/proofs/Cases.antt" || return 2
+    (cd "$room/crates/golden" && rt check) >"$room/said" 2>&1 </dev/null
 }
 
 for kind in trees program strict reads writes; do
     if proves "$kind"; then
-        passed=$((passed + $(grep -c '= refl' "$room/crates/answered/proofs/Cases.antt")))
+        passed=$((passed + $(grep -c '= refl' "$room/crates/golden/proofs/Cases.antt")))
     else
         failed=$((failed + 1))
         printf '  FAILED: the definitions disagree with %s.tsv\n' "$kind"

@@ -1,5 +1,5 @@
 #!/usr/bin/env bash
-# The golden cases of scripts/answered/program.tsv and strict.tsv, on the built program.
+# The golden cases of scripts/golden/program.tsv and strict.tsv, on the built program.
 source "$(dirname "${BASH_SOURCE[0]}")/support/counting.sh"
 
 # bytes HEX: the bytes that the hexadecimal digits write, none for `-`.
@@ -38,7 +38,7 @@ cases() {
             pass
         fi
     done < <(# an empty field would be lost between tabs
-        sed 's/\t\t/\t-\t/' "$root/scripts/answered/$1.tsv")
+        sed 's/\t\t/\t-\t/' "$root/scripts/golden/$1.tsv")
 }
 
 cases program

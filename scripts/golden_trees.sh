@@ -1,9 +1,9 @@
 #!/usr/bin/env bash
-# The golden cases of scripts/answered/trees.tsv on the built program qs_tests: trees with their marks, and errors with position
+# The golden cases of scripts/golden/trees.tsv on the built program qs_tests: trees with their marks, and errors with position
 # and text. The steps of a case have to be what `parse_with` is proved to take on an input that it accepts: its length and one.
 crate=qs_tests
 source "$(dirname "${BASH_SOURCE[0]}")/support/counting.sh"
-table=${2:-$root/scripts/answered/trees.tsv}
+table=${2:-$root/scripts/golden/trees.tsv}
 
 # An empty field would be lost between tabs.
 sed 's/\t\t/\t-\t/' "$table" >"$room/cases"
@@ -22,7 +22,7 @@ while IFS=$'\t' read -r form depth input outcome first second && IFS= read -r an
     wanted=$outcome$'\t'$first
     [ "$outcome" = ok ] || wanted+=$'\t'$second
     if [ "$answer" != "$wanted" ]; then
-        fail "$case: answered '${answer:0:200}', and not '${wanted:0:200}'"
+        fail "$case: returned '${answer:0:200}', and not '${wanted:0:200}'"
     elif [ "$outcome" = ok ] && [ "$second" -ne $((length + 1)) ]; then
         fail "$case: $second steps, where $((length + 1)) are proved"
     else

@@ -25,7 +25,7 @@ use Rattle.qs_spec.specs.Config.{ArrayFormat, indexed, empty_indexed, unindexed}
 use Rattle.qs_spec.specs.Data.{Data, no_values, one_value, no_pairs, one_pair, no_members, one_member}
 use Rattle.qs_spec.specs.Shape.{Shape, KeyShape, UnknownKeys, no_shapes, one_shape, no_fields, one_field, no_variants, one_variant, unit_kind, newtype_kind, tuple_kind, struct_kind}
 use Rattle.qs_spec.specs.Shape.UnknownKeys.{ignored, rejected}
-use Rattle.qs_spec.specs.toward.ReadFunction.{read_list, struct_members, read_map, read_enum, any_data, any_items, any_places, any_pairs, reads, reads_tuple, reads_names, reads_places, reads_variant, reads_kind}
+use Rattle.qs_spec.specs.internal.ReadFunction.{read_list, struct_members, read_map, read_enum, any_data, any_items, any_places, any_pairs, reads, reads_tuple, reads_names, reads_places, reads_variant, reads_kind}
 use Rattle.qs_spec.specs.Entry.{deeper, entries_at, elements_from, pair_entries, member_entries, Output, Refusal, too_deep, bad_key}
 use Rattle.qs_spec.specs.Written.{path_text, entry_text, written}
 use Rattle.qs_spec.proofs.TreeOf.{tree_of}

@@ -1,6 +1,6 @@
 -- The configuration that a caller's settings are.
 use Rattle.std.specs.Prelude.{ℕ, ◌<◌, ◌⊎◌, ◌==◌, cond, Bool, true, false}
-use Rattle.qs_spec.specs.Config.{Config, ArrayFormat, indexed, empty_indexed, unindexed, Duplicates, take_last, refuse}
+use Rattle.qs_spec.specs.Config.{Config, ArrayFormat, indexed, empty_indexed, unindexed, Duplicates, take_last, reject}
 use Rattle.qs_c.specs.declared.settings.Settings.{Settings}
 
 -- no caller may ask for deeper nesting
@@ -12,7 +12,7 @@ abbrev pub format_of : ℕ → ArrayFormat
 format_of n = cond (n == 0) indexed (cond (n == 1) empty_indexed unindexed)
 
 abbrev pub duplicates_of : Bool → Duplicates
-duplicates_of true = refuse
+duplicates_of true = reject
 duplicates_of false = take_last
 
 abbrev pub config_of : Settings → Config

@@ -10,8 +10,8 @@ use Rattle.qs_spec.specs.Tree.{Tree, Items, Entries}
 use Rattle.qs_spec.specs.Tree.Tree.{leaf, sequence, mapping, uninitialized}
 use Rattle.qs_spec.specs.Tree.Items.{no_items, item}
 use Rattle.qs_spec.specs.Tree.Entries.{no_entries, entry}
-use Rattle.qs_spec.specs.Node.{items, are_ints, each_item, placed, is_place}
-use Rattle.qs_spec.specs.toward.ReadFunction.{any_data, any_items, any_places, any_pairs, read_each, read_pairs, with_front}
+use Rattle.qs_spec.specs.Node.{items, are_ints, sequence_items, placed, is_place}
+use Rattle.qs_spec.specs.internal.ReadFunction.{any_data, any_items, any_places, any_pairs, read_each, read_pairs, with_front}
 
 front_value : (d : Data) (r : Option (List Data)) → option_map (one_value d) (option_map values_of r) ≡ option_map values_of (with_front d r)
 front_value d None = refl
@@ -26,10 +26,10 @@ one_more : (vs : Option Values) (ds : Option (List Data)) → vs ≡ option_map 
 one_more vs ds h None = refl
 one_more vs ds h (Some d) = ap (option_map (one_value d)) h ∙ front_value d ds
 
-pub anything_each : (xs : Items) → any_items xs ≡ option_map values_of (read_each any_data (each_item xs))
+pub anything_each : (xs : Items) → any_items xs ≡ option_map values_of (read_each any_data (sequence_items xs))
 unfolding any_data
 anything_each no_items = refl
-anything_each (item t xs) = one_more (any_items xs) (read_each any_data (each_item xs)) (anything_each xs) (any_data t)
+anything_each (item t xs) = one_more (any_items xs) (read_each any_data (sequence_items xs)) (anything_each xs) (any_data t)
 
 pub anything_placed : (i : ℕ) (es : Entries) → any_places i es ≡ option_map values_of (read_each any_data (placed i es))
 unfolding any_data
@@ -67,8 +67,8 @@ pub any_list : (t : Tree) (xs : List (Option Tree)) → is_list t ≡ true → i
 unfolding any_data
 any_list (leaf l) xs w h = absurd cc
 any_list (sequence ys) xs w h =
-    let e : each_item ys ≡ xs = some_same (each_item ys) xs h in
-    ap (option_map Data.sequence) (anything_each ys) ∙ twice Data.sequence values_of (read_each any_data (each_item ys)) ∙ ap (λ zs. option_map (λ ds. Data.sequence (values_of ds)) (read_each any_data zs)) e
+    let e : sequence_items ys ≡ xs = some_same (sequence_items ys) xs h in
+    ap (option_map Data.sequence) (anything_each ys) ∙ twice Data.sequence values_of (read_each any_data (sequence_items ys)) ∙ ap (λ zs. option_map (λ ds. Data.sequence (values_of ds)) (read_each any_data zs)) e
 any_list (mapping es) xs w h = elim (cases_Bool (are_ints es)) [
   | inl ints ↦
       let e : placed 0 es ≡ xs = some_same (placed 0 es) xs (sym (rw ints) ∙ h) in

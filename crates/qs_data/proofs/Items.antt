@@ -6,7 +6,7 @@ use Rattle.qs_spec.specs.Segment.{Step}
 use Rattle.qs_spec.specs.Tree.{Tree, Items, Entries}
 use Rattle.qs_spec.specs.Tree.Items.{no_items, item}
 use Rattle.qs_spec.specs.Tree.Entries.{no_entries, entry}
-use Rattle.qs_spec.specs.Node.{each_item, placed, is_place, is_int, are_ints}
+use Rattle.qs_spec.specs.Node.{sequence_items, placed, is_place, is_int, are_ints}
 use Rattle.std.specs.declared.alloc.Global.{Global}
 use Rattle.std.specs.declared.borrow.CowSlice.{CowSlice}
 use Rattle.std.specs.declared.borrow.CowSlice.TheVariants.{Borrowed, Owned}
@@ -19,7 +19,7 @@ use Rattle.std.specs.Slice.{IsItemAt}
 use Rattle.std.specs.Option.{option_map, option_and_then}
 use Rattle.qs_spec.specs.Data.{Data}
 use Rattle.qs_spec.specs.Node.{items}
-use Rattle.qs_spec.specs.toward.ReadFunction.{Reader, read_each, with_front}
+use Rattle.qs_spec.specs.internal.ReadFunction.{Reader, read_each, with_front}
 use Rattle.qs_spec.specs.Leaf.Leaf.{NoValue, Null, Text}
 use Rattle.qs_spec.specs.Tree.Tree.{leaf, sequence, mapping, uninitialized}
 use Rattle.std.specs.Str.{is_utf8}
@@ -72,7 +72,7 @@ first_given i es x h y =
     ap first_item (place_here i es x h ∙ ap (λ b. cond b (Some x.1) None ∷ rest) (is_passed (is_place i x.0.seg) y))
 
 -- one of several is as long as the list
-pub each_length : (ts : List ParsedValue) → length (each_item (items_from (map tree_of ts))) ≡ length ts
+pub each_length : (ts : List ParsedValue) → length (sequence_items (items_from (map tree_of ts))) ≡ length ts
 each_length [] = refl
 each_length (t ∷ ts) = ap suc (each_length ts)
 
@@ -81,7 +81,7 @@ places_length j no_entries = refl
 places_length j (entry k m t es) = ap suc (places_length (j + 1) es)
 
 -- the items of a sequence
-pub each_at : (i : ℕ) (ts : List ParsedValue) → drop i (each_item (items_from (map tree_of ts))) ≡ each_item (items_from (map tree_of (drop i ts)))
+pub each_at : (i : ℕ) (ts : List ParsedValue) → drop i (sequence_items (items_from (map tree_of ts))) ≡ sequence_items (items_from (map tree_of (drop i ts)))
 each_at zero ts = refl
 each_at (suc i) [] = refl
 each_at (suc i) (t ∷ ts) = each_at i ts
@@ -97,9 +97,9 @@ pub text_key : (k : Key) (t : CowSlice ℕ Global) → k ≡ key.String t → is
 text_key k (Borrowed r) h = ap (λ x. is_int (segment_of_key x)) h
 text_key k (Owned v) h = ap (λ x. is_int (segment_of_key x)) h
 
-pub item_first : (ts : List ParsedValue) (i : ℕ) (r : Option (Bor ParsedValue)) → IsItemAt ts i r → first_item (drop i (each_item (items_from (map tree_of ts)))) ≡ Some (option_map (λ v. tree_of v.now) r)
-item_first ts i None h = ap first_item (each_at i ts ∙ ap each_item (no_item_at ts i h.3))
-item_first ts i (Some v) h = ap first_item (each_at i ts ∙ ap each_item (item_at ts i v.now h.3.0 h.1))
+pub item_first : (ts : List ParsedValue) (i : ℕ) (r : Option (Bor ParsedValue)) → IsItemAt ts i r → first_item (drop i (sequence_items (items_from (map tree_of ts)))) ≡ Some (option_map (λ v. tree_of v.now) r)
+item_first ts i None h = ap first_item (each_at i ts ∙ ap sequence_items (no_item_at ts i h.3))
+item_first ts i (Some v) h = ap first_item (each_at i ts ∙ ap sequence_items (item_at ts i v.now h.3.0 h.1))
 
 -- an item that isn't all text stands among items that aren't
 pub due_bad : (i : ℕ) (xs : List (Option Tree)) (t : Tree) → first_item (drop i xs) ≡ Some (Some t) → is_text t ≡ false → are_text xs ≡ false
@@ -111,11 +111,11 @@ due_bad (suc i) (None ∷ xs) t h n = due_bad i xs t h n
 due_bad (suc i) (Some u ∷ xs) t h n = and_right (is_text u) (are_text xs) (due_bad i xs t h n)
 
 -- items that aren't all text stand in a node that isn't
-each_bad : (xs : Items) → are_text (each_item xs) ≡ false → items_are_text xs ≡ false
+each_bad : (xs : Items) → are_text (sequence_items xs) ≡ false → items_are_text xs ≡ false
 each_bad no_items n = n
 each_bad (item t xs) n = elim (cases_Bool (is_text t)) [
   | inl good ↦
-      let rest : are_text (each_item xs) ≡ false = sym (rw good) ∙ n in
+      let rest : are_text (sequence_items xs) ≡ false = sym (rw good) ∙ n in
       and_right (is_text t) (items_are_text xs) (each_bad xs rest)
   | inr bad ↦ and_left (is_text t) (items_are_text xs) bad
 ]
@@ -148,7 +148,7 @@ items_bad (leaf (Text b m)) xs h n =
     let one : Some (leaf (Text b m)) ∷ [] ≡ xs = some_same _ xs h in
     let both : (is_utf8 b && true) ≡ false = ap are_text one ∙ n in
     not_both (is_utf8 b) both
-items_bad (sequence ys) xs h n = let e : each_item ys ≡ xs = some_same _ xs h in each_bad ys (ap are_text e ∙ n)
+items_bad (sequence ys) xs h n = let e : sequence_items ys ≡ xs = some_same _ xs h in each_bad ys (ap are_text e ∙ n)
 items_bad (mapping es) xs h n = elim (cases_Bool (are_ints es)) [
   | inl ints ↦ let e : placed 0 es ≡ xs = some_same _ xs (sym (rw ints) ∙ h) in placed_bad 0 es (ap are_text e ∙ n)
   | inr not ↦ absurd (let e : None ≡ Some xs = sym (rw not) ∙ h in cc)

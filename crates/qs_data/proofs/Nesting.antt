@@ -14,8 +14,8 @@ use Rattle.qs_spec.specs.Shape.{KeyShape}
 use Rattle.qs_spec.specs.Tree.{Tree, Entries}
 use Rattle.qs_spec.specs.Tree.Tree.{leaf, sequence, mapping, uninitialized}
 use Rattle.qs_spec.specs.Tree.Entries.{entry}
-use Rattle.qs_spec.specs.Node.{items, are_ints, placed, each_item}
-use Rattle.qs_spec.specs.toward.ReadFunction.{any_data, read_each, read_pairs, with_front}
+use Rattle.qs_spec.specs.Node.{items, are_ints, placed, sequence_items}
+use Rattle.qs_spec.specs.internal.ReadFunction.{any_data, read_each, read_pairs, with_front}
 use Rattle.qs_data.specs.declared.read.error.ReadError.{ReadError}
 use Rattle.qs_tree.specs.Views.{entries_of_map, pairs_of as steps_of}
 use Rattle.qs_data.specs.declared.data.Data as r
@@ -125,7 +125,7 @@ some_same a b h = cc
 pub listed_size : (t : Tree) (xs : List (Option Tree)) → is_list t ≡ true → items t ≡ Some xs → suc (list_size xs) ≤ tree_size t
 listed_size (leaf l) xs w h = absurd cc
 listed_size (sequence ys) xs w h =
-    let e : list_size (each_item ys) ≡ list_size xs = ap list_size (some_same (each_item ys) xs h) in
+    let e : list_size (sequence_items ys) ≡ list_size xs = ap list_size (some_same (sequence_items ys) xs h) in
     let s = each_size ys in
     omega arith
 listed_size (mapping es) xs w h = elim (cases_Bool (are_ints es)) [

@@ -1,6 +1,6 @@
 -- A reader returns data that are those of which the input was written.
 use Rattle.std.proofs.Common.{◌≡◌, true, false, inl, inr, List, Result, Ok, Err, subst}
-use Rattle.qs_spec.specs.Config.{Config, are_refused}
+use Rattle.qs_spec.specs.Config.{Config, are_rejected}
 use Rattle.qs_spec.specs.Data as d
 use Rattle.qs_spec.specs.Shape as s
 use Rattle.qs_spec.specs.Relation.{ReadsBy}
@@ -29,7 +29,7 @@ reads_back parsed shape result dist g x es w o t =
     by b.answer b.same (subst (λ t. ReadsBy parsed.config shape t b.answer) one b.reads) result g
   where
     by : (a : d.Data) → Same x a → ReadsBy parsed.config shape parsed.tree a → (result : Result Data Error) → ReturnsData parsed shape result → IsSame x result
-    by a same r (Ok y) g = subst (Same x) (one_data (are_refused parsed.config.duplicates) shape parsed.tree a (data_of y) dist r g) same
+    by a same r (Ok y) g = subst (Same x) (one_data (are_rejected parsed.config.duplicates) shape parsed.tree a (data_of y) dist r g) same
     by a same r (Err (Custom message)) g = g a r
     by a same r (Err (Utf8 cause)) g = g.0 a r
     by a same r (Err OutOfMemory) g = tt

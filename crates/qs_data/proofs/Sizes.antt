@@ -3,10 +3,10 @@ use Rattle.std.proofs.Common.{◌≡◌, ℕ, ◌+◌, ◌≤◌, Bool, true, fa
 use Rattle.qs_spec.specs.Tree.{Items, Entries}
 use Rattle.qs_spec.specs.Tree.Items.{no_items, item}
 use Rattle.qs_spec.specs.Tree.Entries.{no_entries, entry}
-use Rattle.qs_spec.specs.Node.{each_item, placed, is_place}
+use Rattle.qs_spec.specs.Node.{sequence_items, placed, is_place}
 use Rattle.qs_data.specs.Sizes.{tree_size, items_size, list_size, entries_size}
 
-pub each_size : (xs : Items) → list_size (each_item xs) ≡ items_size xs
+pub each_size : (xs : Items) → list_size (sequence_items xs) ≡ items_size xs
 each_size no_items = refl
 each_size (item t xs) = ap (λ n. tree_size t + n) (each_size xs)
 

@@ -4,7 +4,7 @@ use Rattle.std.proofs.lemmas.List.{drop_more}
 use Rattle.std.specs.Option.{option_and_then}
 use Rattle.qs_spec.specs.Data.{Data}
 use Rattle.qs_spec.specs.Tree.{Tree}
-use Rattle.qs_spec.specs.toward.ReadFunction.{reads, reads_tuple, with_front}
+use Rattle.qs_spec.specs.internal.ReadFunction.{reads, reads_tuple, with_front}
 use Rattle.qs_data.specs.declared.shape.Shape.{Shape}
 use Rattle.qs_data.specs.Views.{shape_of, shapes_in}
 use Rattle.qs_data.specs.Items.{first_item}

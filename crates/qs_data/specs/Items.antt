@@ -1,7 +1,7 @@
 -- The items of a node, place by place.
 use Rattle.std.specs.Prelude.{Bool, true, cond, ◌&&◌, List, [], ◌∷◌, map, Option, Some, None}
 use Rattle.qs_spec.specs.Tree.{Tree}
-use Rattle.qs_spec.specs.Node.{each_item, placed}
+use Rattle.qs_spec.specs.Node.{sequence_items, placed}
 use Rattle.qs_tree.specs.Views.{tree_of, items_from, entries_of_map}
 use Rattle.qs_data.specs.declared.read.items.Items.{Items}
 use Rattle.qs_data.specs.declared.read.items.Items.TheVariants.{Empty, One, Sequence, Places}
@@ -11,7 +11,7 @@ use Rattle.qs_data.specs.Text.{is_text}
 abbrev pub items_in : Items → List (Option Tree)
 items_in Empty = []
 items_in (One value) = Some (tree_of value.now) ∷ []
-items_in (Sequence values) = each_item (items_from (map tree_of values.now))
+items_in (Sequence values) = sequence_items (items_from (map tree_of values.now))
 items_in (Places map) = placed 0 (entries_of_map map.now)
 
 -- the first item, if there is one; an entry elsewhere is rejected

@@ -4,7 +4,7 @@ mod scalar;
 
 ghost use Rattle.std.specs.Prelude.{◌≡◌, ◌≤◌, Some, drop, length, IfSome};
 ghost use Rattle.qs_spec.specs.Shape as s;
-ghost use Rattle.qs_spec.specs.Fits.{fits, each_fits, fits_tuple, fits_pairs, fits_fields, kind_of};
+ghost use Rattle.qs_spec.specs.Fits.{fits, each_fits, fits_tuple, fits_pairs, fits_fields, variant_kind};
 ghost use Rattle.qs_data.specs.Views.{data_of, shape_of, key_shape_of, field_of, values_in, pairs_in, members_in, shapes_in, fields_in, variants_in};
 ghost use Rattle.qs_data.specs.Views as view;
 ghost use Rattle.qs_data.specs.Fitting.{fits_variant, is_next, FitsField};
@@ -230,7 +230,7 @@ fn fits_enum(variants: &Vec<Variant>, datum: &Data) -> bool
 #[cycle(fits)]
 #[tactic(auto, using(crate::proofs::Fitting::no_kind))]
 fn fits_named(variants: &Vec<Variant>, name: &str, datum: &Data) -> bool
-    ensures { result ≡ fits_variant (kind_of name.now (variants_in variants.now.items)) (data_of datum.now) }
+    ensures { result ≡ fits_variant (variant_kind name.now (variants_in variants.now.items)) (data_of datum.now) }
 {
     for variant in variants {
         if variant.name.as_str() == name {

@@ -1,7 +1,7 @@
 //! One node of a tree: what a shape reads from it, and what stands under a name in it.
 
 ghost use Rattle.qs_spec.specs.Node.{found};
-ghost use Rattle.qs_spec.specs.toward.ReadFunction.{read_by};
+ghost use Rattle.qs_spec.specs.internal.ReadFunction.{read_by};
 ghost use Rattle.qs_tree.specs.Views.{tree_of, entries_of_map};
 ghost use Rattle.qs_data.specs.Views.{data_of, shape_of};
 ghost use Rattle.qs_data.specs.Text.{is_text};

@@ -6,7 +6,7 @@ ghost use Rattle.std.specs.Str.{bytes_eq};
 ghost use Rattle.qs_spec.specs.Plain.{is_plain, are_plain, are_plain_pairs, are_plain_members, is_optional, is_plain_name, is_plain_key, is_text_of, is_written_key, is_member_name, written_keys_differ, member_names_differ, has_members, has_values, are_few};
 ghost use Rattle.qs_spec.specs.Entry.{key_text};
 ghost use Rattle.qs_spec.specs.Scalar.{is_numeral};
-ghost use Rattle.qs_spec.specs.toward.Entries.{is_bracket};
+ghost use Rattle.qs_spec.specs.Token.{is_bracket};
 ghost use Rattle.qs_data.specs.Views.{data_of, values_in, pairs_in, members_in};
 ghost use Rattle.qs_data.specs.Scalars.{scalar_text};
 

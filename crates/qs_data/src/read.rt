@@ -16,7 +16,7 @@ mod variants;
 pub(crate) mod width;
 
 ghost use Rattle.std.specs.Prelude.{IsTrue, true};
-ghost use Rattle.qs_spec.specs.toward.ReadFunction.{reads, read_ignored, read_option};
+ghost use Rattle.qs_spec.specs.internal.ReadFunction.{reads, read_ignored, read_option};
 ghost use Rattle.qs_spec.specs.Shape as s;
 ghost use Rattle.qs_tree.specs.Views.{tree_of};
 ghost use Rattle.qs_data.specs.Views.{data_of, fields_in, key_shape_of, shape_of, shapes_in};
@@ -58,7 +58,7 @@ pub(crate) fn read(
 
 // The same, on the way through the levels of a tree.
 #[cycle(read)]
-#[tactic(auto, using(crate::proofs::Levels::levels), unfolding(qs_spec::specs::toward::ReadFunction::reads))]
+#[tactic(auto, using(crate::proofs::Levels::levels), unfolding(qs_spec::specs::internal::ReadFunction::reads))]
 fn read_node(
     alloc: Global,
     reject_duplicates: bool,
@@ -109,7 +109,7 @@ fn read_node(
 
 #[cycle(read)]
 #[inline(always)]
-#[tactic(auto, unfolding(qs_spec::specs::toward::ReadFunction::reads))]
+#[tactic(auto, unfolding(qs_spec::specs::internal::ReadFunction::reads))]
 fn seq_data(
     alloc: Global,
     reject_duplicates: bool,
@@ -123,7 +123,7 @@ fn seq_data(
 
 #[cycle(read)]
 #[inline(always)]
-#[tactic(auto, unfolding(qs_spec::specs::toward::ReadFunction::reads))]
+#[tactic(auto, unfolding(qs_spec::specs::internal::ReadFunction::reads))]
 fn tuple_data(
     alloc: Global,
     reject_duplicates: bool,
@@ -138,7 +138,7 @@ fn tuple_data(
 
 #[cycle(read)]
 #[inline(always)]
-#[tactic(auto, using(crate::proofs::Levels::levels), unfolding(qs_spec::specs::toward::ReadFunction::reads))]
+#[tactic(auto, using(crate::proofs::Levels::levels), unfolding(qs_spec::specs::internal::ReadFunction::reads))]
 fn map_data(
     alloc: Global,
     reject_duplicates: bool,
@@ -154,7 +154,7 @@ fn map_data(
 
 #[cycle(read)]
 #[inline(always)]
-#[tactic(auto, using(crate::proofs::Levels::levels), unfolding(qs_spec::specs::toward::ReadFunction::reads))]
+#[tactic(auto, using(crate::proofs::Levels::levels), unfolding(qs_spec::specs::internal::ReadFunction::reads))]
 fn struct_data(
     alloc: Global,
     reject_duplicates: bool,
@@ -170,7 +170,7 @@ fn struct_data(
 
 #[cycle(read)]
 #[inline(always)]
-#[tactic(auto, unfolding(qs_spec::specs::toward::ReadFunction::reads))]
+#[tactic(auto, unfolding(qs_spec::specs::internal::ReadFunction::reads))]
 fn newtype_data(
     alloc: Global,
     reject_duplicates: bool,

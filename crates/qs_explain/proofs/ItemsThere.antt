@@ -4,7 +4,7 @@ use Rattle.std.specs.Borrow.{Bor}
 use Rattle.std.specs.Slice.{IsItemAt}
 use Rattle.qs_spec.specs.Segment.{Step}
 use Rattle.qs_spec.specs.Tree.{Tree, Entries}
-use Rattle.qs_spec.specs.Node.{each_item, is_place, placed}
+use Rattle.qs_spec.specs.Node.{sequence_items, is_place, placed}
 use Rattle.qs_tree.specs.Views.{tree_of, items_from, pairs_of}
 use Rattle.qs_tree.specs.declared.value.ParsedValue.{ParsedValue}
 use Rattle.qs_data.proofs.Fields.{item_at, no_item_at}
@@ -12,9 +12,9 @@ use Rattle.qs_data.proofs.Items.{each_at, place_here, place_none}
 use Rattle.qs_explain.specs.Children.{first_there}
 use Rattle.qs_explain.specs.Explains.{node_of}
 
-pub value_there : (ts : List ParsedValue) (i : ℕ) (r : Option (Bor ParsedValue)) → IsItemAt ts i r → node_of r ≡ first_there (drop i (each_item (items_from (map tree_of ts))))
-value_there ts i None h = sym (ap first_there (each_at i ts ∙ ap each_item (no_item_at ts i h.3)))
-value_there ts i (Some v) h = sym (ap first_there (each_at i ts ∙ ap each_item (item_at ts i v.now h.3.0 h.1)))
+pub value_there : (ts : List ParsedValue) (i : ℕ) (r : Option (Bor ParsedValue)) → IsItemAt ts i r → node_of r ≡ first_there (drop i (sequence_items (items_from (map tree_of ts))))
+value_there ts i None h = sym (ap first_there (each_at i ts ∙ ap sequence_items (no_item_at ts i h.3)))
+value_there ts i (Some v) h = sym (ap first_there (each_at i ts ∙ ap sequence_items (item_at ts i v.now h.3.0 h.1)))
 
 pub none_there : (i : ℕ) (es : Entries) → slice_get (pairs_of es) i ≡ None → None ≡ first_there (drop i (placed 0 es))
 none_there i es h = sym (ap first_there (place_none i es h))

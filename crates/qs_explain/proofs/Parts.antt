@@ -10,8 +10,8 @@ use Rattle.qs_tree.specs.Views.{tree_of}
 use Rattle.qs_spec.specs.Segment.{Segment}
 use Rattle.qs_spec.specs.Leaf.Leaf.{NoValue, Null, Text}
 use Rattle.qs_spec.specs.Shape.{Shape}
-use Rattle.qs_spec.specs.Config.{Config, are_refused}
-use Rattle.qs_spec.specs.toward.ReadFunction.{reads}
+use Rattle.qs_spec.specs.Config.{Config, are_rejected}
+use Rattle.qs_spec.specs.internal.ReadFunction.{reads}
 use Rattle.qs_spec.specs.Tree.{Tree, IsTree}
 use Rattle.qs_explain.specs.declared.explanation.Explanation.TheVariants as e
 use Rattle.qs_spec.specs.Node.{IsFull}
@@ -131,10 +131,10 @@ text_full (Borrowed r) = let e : tree_of (value.String (Borrowed r)) ≡ Tree.le
 text_full (Owned v) = let e : tree_of (value.String (Owned v)) ≡ Tree.leaf (Text v.items true) = search (rules, value.the_lemmas) in subst IsFull (sym e) tt
 
 -- what is found in the tree of an input explains it
-pub is_read_from : (config : Config) (s : Shape) (input : List ℕ) (n : Tree) → IsTree config.form config.max_depth input n → IsRead (are_refused config.duplicates) s n → Explains {E = AllocError} config s input (Ok None)
+pub is_read_from : (config : Config) (s : Shape) (input : List ℕ) (n : Tree) → IsTree config.form config.max_depth input n → IsRead (are_rejected config.duplicates) s n → Explains {E = AllocError} config s input (Ok None)
 is_read_from config s input n tree read = (n, tree, read)
 
-pub is_explained : (config : Config) (s : Shape) (input : List ℕ) (n : Tree) (m : Mismatch) → IsTree config.form config.max_depth input n → (reads (are_refused config.duplicates) s n ≡ None) × IsMismatch (are_refused config.duplicates) s n m
+pub is_explained : (config : Config) (s : Shape) (input : List ℕ) (n : Tree) (m : Mismatch) → IsTree config.form config.max_depth input n → (reads (are_rejected config.duplicates) s n ≡ None) × IsMismatch (are_rejected config.duplicates) s n m
     → Explains {E = AllocError} config s input (Ok (Some (e.Mismatch m)))
 is_explained config s input n m tree found = (n, tree, found.0, found.1)
 

@@ -1,10 +1,10 @@
 -- What an explanation says of an input.
 use Rattle.std.specs.Prelude.{◌≡◌, ⊤, ℕ, Bool, true, false, List, [], ◌∷◌, map, Option, Some, None, option_map, Result, Ok, Err}
-use Rattle.qs_spec.specs.Config.{Config, are_refused}
+use Rattle.qs_spec.specs.Config.{Config, are_rejected}
 use Rattle.qs_spec.specs.Segment as segments
 use Rattle.qs_spec.specs.Shape.{Shape}
 use Rattle.qs_spec.specs.Tree.{Tree, Entries, IsTree, IsRefused}
-use Rattle.qs_spec.specs.toward.ReadFunction.{reads}
+use Rattle.qs_spec.specs.internal.ReadFunction.{reads}
 use Rattle.std.specs.Borrow.{Bor}
 use Rattle.qs_tree.specs.declared.value.ParsedValue.{ParsedValue}
 use Rattle.qs_tree.specs.declared.map.ParsedMap.{ParsedMap}
@@ -118,7 +118,7 @@ IsParseError _ = ⊥
 
 -- There is an explanation exactly where the input isn't read: it has no tree, or the shape reads nothing from its tree.
 abbrev pub Explains : {E : Type 0} → Config → Shape → List ℕ → Result (Option Explanation) E → Type 0
-Explains config s input (Ok None) = (n : Tree) × IsTree config.form config.max_depth input n × IsRead (are_refused config.duplicates) s n
+Explains config s input (Ok None) = (n : Tree) × IsTree config.form config.max_depth input n × IsRead (are_rejected config.duplicates) s n
 Explains config s input (Ok (Some (e.Syntax error))) = IsRefused config.form config.max_depth input × IsParseError error
-Explains config s input (Ok (Some (e.Mismatch m))) = (n : Tree) × IsTree config.form config.max_depth input n × (reads (are_refused config.duplicates) s n ≡ None) × IsMismatch (are_refused config.duplicates) s n m
+Explains config s input (Ok (Some (e.Mismatch m))) = (n : Tree) × IsTree config.form config.max_depth input n × (reads (are_rejected config.duplicates) s n ≡ None) × IsMismatch (are_rejected config.duplicates) s n m
 Explains config s input (Err e) = ⊤

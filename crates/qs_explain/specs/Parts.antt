@@ -6,7 +6,7 @@ use Rattle.qs_spec.specs.Data.{Data}
 use Rattle.qs_spec.specs.Shape.{Shape}
 use Rattle.qs_spec.specs.Tree.{Tree}
 use Rattle.qs_spec.specs.Node.{IsFull}
-use Rattle.qs_spec.specs.toward.ReadFunction.{reads}
+use Rattle.qs_spec.specs.internal.ReadFunction.{reads}
 use Rattle.qs_explain.specs.Children.{Child, children}
 
 -- The shape reads something from the node.

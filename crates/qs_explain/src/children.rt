@@ -1,6 +1,6 @@
 //! What is found in a node below another one.
 
-ghost use Rattle.qs_spec.specs.Config.{are_refused};
+ghost use Rattle.qs_spec.specs.Config.{are_rejected};
 ghost use Rattle.qs_spec.specs.Segment.Segment.{Int, Str};
 ghost use Rattle.qs_tree.specs.Views.{tree_of, segment_of_key};
 ghost use Rattle.qs_data.specs.Views.{shape_of};
@@ -22,7 +22,7 @@ fn find_in_node(
     shape: &Shape,
     node: Option<&ParsedValue<'_>>,
 ) -> Result<Option<Mismatch>, AllocError>
-    ensures { Finds (are_refused config.duplicates) (shape_of shape.now) (or_missing (node_of node.entry)) result }
+    ensures { Finds (are_rejected config.duplicates) (shape_of shape.now) (or_missing (node_of node.entry)) result }
 {
     match node {
         Some(node) => find_mismatch(alloc, config, shape, node),
@@ -40,7 +40,7 @@ pub(crate) fn find_at(
     shape: &Shape,
     node: Option<&ParsedValue<'_>>,
 ) -> Result<Option<Mismatch>, AllocError>
-    ensures { FindsBelow (are_refused config.duplicates) (Int index) (shape_of shape.now) (or_missing (node_of node.entry)) result }
+    ensures { FindsBelow (are_rejected config.duplicates) (Int index) (shape_of shape.now) (or_missing (node_of node.entry)) result }
 {
     match find_in_node(alloc, config, shape, node)? {
         Some(mismatch) => Ok(Some(mismatch.under(Segment::Index(index))?)),
@@ -58,7 +58,7 @@ pub(crate) fn find_under(
     shape: &Shape,
     node: Option<&ParsedValue<'_>>,
 ) -> Result<Option<Mismatch>, AllocError>
-    ensures { FindsBelow (are_refused config.duplicates) (segment_of_key key.now) (shape_of shape.now) (or_missing (node_of node.entry)) result }
+    ensures { FindsBelow (are_rejected config.duplicates) (segment_of_key key.now) (shape_of shape.now) (or_missing (node_of node.entry)) result }
 {
     match find_in_node(alloc, config, shape, node)? {
         Some(mismatch) => {

@@ -1,7 +1,7 @@
 //! The first field of a struct that isn't read.
 
 ghost use Rattle.std.specs.Prelude.{◌≡◌, []};
-ghost use Rattle.qs_spec.specs.Config.{are_refused};
+ghost use Rattle.qs_spec.specs.Config.{are_rejected};
 ghost use Rattle.qs_tree.specs.Views.{tree_of};
 ghost use Rattle.qs_data.specs.Views.{field_of, fields_in, shape_of};
 ghost use Rattle.qs_data.specs.Keys as s;
@@ -24,7 +24,7 @@ pub(crate) fn find_in_struct(
     fields: &Vec<Field>,
     node: &ParsedValue<'_>,
 ) -> Result<Option<Mismatch>, AllocError>
-    ensures { FindsAmong (are_refused config.duplicates) (struct_children (fields_in fields.now.items) (tree_of node.now)) result }
+    ensures { FindsAmong (are_rejected config.duplicates) (struct_children (fields_in fields.now.items) (tree_of node.now)) result }
 {
     match node {
         ParsedValue::Map(map) => find_in_fields(alloc, config, fields, Some(map)),
@@ -42,7 +42,7 @@ fn find_in_fields(
     fields: &Vec<Field>,
     map: Option<&ParsedMap<'_>>,
 ) -> Result<Option<Mismatch>, AllocError>
-    ensures { FindsAmong (are_refused config.duplicates) (name_children (fields_in fields.now.items) (keys_of map.entry)) result }
+    ensures { FindsAmong (are_rejected config.duplicates) (name_children (fields_in fields.now.items) (keys_of map.entry)) result }
 {
     for field in fields {
         let Some(mismatch) = find_in_field(alloc, config, field, map)? else {
@@ -61,7 +61,7 @@ fn find_in_field(
     field: &Field,
     map: Option<&ParsedMap<'_>>,
 ) -> Result<Option<Mismatch>, AllocError>
-    ensures { let f = field_of field.now in FindsAmong (are_refused config.duplicates) (name_child f.0 f.1 f.2 (found f.0 (keys_of map.entry))) result }
+    ensures { let f = field_of field.now in FindsAmong (are_rejected config.duplicates) (name_child f.0 f.1 f.2 (found f.0 (keys_of map.entry))) result }
 {
     let name: &str = &field.name;
     match find_name(map, name) {
@@ -80,7 +80,7 @@ fn find_missing(
     config: Config,
     field: &Field,
 ) -> Result<Option<Mismatch>, AllocError>
-    ensures { let f = field_of field.now in FindsAmong (are_refused config.duplicates) (name_child f.0 f.1 f.2 []) result }
+    ensures { let f = field_of field.now in FindsAmong (are_rejected config.duplicates) (name_child f.0 f.1 f.2 []) result }
 {
     if field.optional || may_be_absent(&field.shape) {
         return Ok(None);

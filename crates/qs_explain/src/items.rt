@@ -1,7 +1,7 @@
 //! The items of a list or a tuple.
 
 ghost use Rattle.std.specs.Prelude.{◌≡◌, drop, length, List, Option, Some, option_map};
-ghost use Rattle.qs_spec.specs.Config.{are_refused};
+ghost use Rattle.qs_spec.specs.Config.{are_rejected};
 ghost use Rattle.qs_spec.specs.Node.{are_ints, is_place, items, placed};
 ghost use Rattle.qs_spec.specs.Tree.{Tree};
 ghost use Rattle.qs_tree.specs.Views.{tree_of, entries_of_map, segment_of_key};
@@ -23,7 +23,7 @@ pub(crate) fn find_in_list(
     part: &Shape,
     node: &ParsedValue<'_>,
 ) -> Result<Option<Mismatch>, AllocError>
-    ensures { FindsAmong (are_refused config.duplicates) (listed (item_children 0 (shape_of part.now)) (items (tree_of node.now))) result }
+    ensures { FindsAmong (are_rejected config.duplicates) (listed (item_children 0 (shape_of part.now)) (items (tree_of node.now))) result }
 {
     match count_items(node) {
         Some(count) => find_in_items(alloc, config, part, node, count),
@@ -40,7 +40,7 @@ fn find_in_items(
     node: &ParsedValue<'_>,
     count: usize,
 ) -> Result<Option<Mismatch>, AllocError>
-    ensures { (xs : List (Option Tree)) → items (tree_of node.now) ≡ Some xs → count ≡ length xs → FindsAmong (are_refused config.duplicates) (item_children 0 (shape_of part.now) xs) result }
+    ensures { (xs : List (Option Tree)) → items (tree_of node.now) ≡ Some xs → count ≡ length xs → FindsAmong (are_rejected config.duplicates) (item_children 0 (shape_of part.now) xs) result }
 {
     for i in 0..count {
         let Some(mismatch) = find_at(alloc, config, i, part, item_at(node, i))? else {
@@ -59,7 +59,7 @@ pub(crate) fn find_in_tuple(
     parts: &Vec<Shape>,
     node: &ParsedValue<'_>,
 ) -> Result<Option<Mismatch>, AllocError>
-    ensures { FindsAmong (are_refused config.duplicates) (listed (tuple_children 0 (shapes_in parts.now.items)) (items (tree_of node.now))) result }
+    ensures { FindsAmong (are_rejected config.duplicates) (listed (tuple_children 0 (shapes_in parts.now.items)) (items (tree_of node.now))) result }
 {
     match count_items(node) {
         Some(_) => find_in_parts(alloc, config, parts, node),
@@ -75,7 +75,7 @@ fn find_in_parts(
     parts: &Vec<Shape>,
     node: &ParsedValue<'_>,
 ) -> Result<Option<Mismatch>, AllocError>
-    ensures { (xs : List (Option Tree)) → items (tree_of node.now) ≡ Some xs → FindsAmong (are_refused config.duplicates) (tuple_children 0 (shapes_in parts.now.items) xs) result }
+    ensures { (xs : List (Option Tree)) → items (tree_of node.now) ≡ Some xs → FindsAmong (are_rejected config.duplicates) (tuple_children 0 (shapes_in parts.now.items) xs) result }
 {
     for (i, part) in parts.iter().enumerate() {
         let Some(mismatch) = find_at(alloc, config, i, part, item_at(node, i))? else {

@@ -3,9 +3,9 @@
 ghost use Rattle.std.specs.Prelude.{◌≡◌, false, ◌&&◌, ◌||◌, IfOk, map, option_map, string_bytes};
 ghost use Rattle.std.specs.List.{list_any};
 ghost use Rattle.std.specs.Str.{bytes_eq, is_utf8};
-ghost use Rattle.qs_spec.specs.Config.{are_refused};
+ghost use Rattle.qs_spec.specs.Config.{are_rejected};
 ghost use Rattle.std.specs.Option.{is_some};
-ghost use Rattle.qs_spec.specs.toward.ReadFunction.{reads};
+ghost use Rattle.qs_spec.specs.internal.ReadFunction.{reads};
 ghost use Rattle.qs_spec.specs.Leaf.Leaf.{Text};
 ghost use Rattle.qs_spec.specs.Segment.{segment_text};
 ghost use Rattle.qs_spec.specs.Shape.{are_ignored, is_field_name};
@@ -218,7 +218,7 @@ fn is_key_read(
 }
 
 // Whether a key shape reads the text of a key.
-#[tactic(auto, unfolding(qs_spec::specs::toward::ReadFunction::reads))]
+#[tactic(auto, unfolding(qs_spec::specs::internal::ReadFunction::reads))]
 fn is_name_read(
     alloc: Global,
     config: Config,
@@ -250,7 +250,7 @@ fn is_text_read(
     shape: &Shape,
     text: &[u8],
 ) -> Result<bool, AllocError>
-    ensures { IfOk result (λ read. read ≡ is_some (reads (are_refused config.duplicates) (shape_of shape.now) (leaf (Text text.now false)))) }
+    ensures { IfOk result (λ read. read ≡ is_some (reads (are_rejected config.duplicates) (shape_of shape.now) (leaf (Text text.now false)))) }
 {
     is_read(
         alloc,

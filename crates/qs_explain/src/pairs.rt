@@ -1,6 +1,6 @@
 //! The first value of a map that isn't read.
 
-ghost use Rattle.qs_spec.specs.Config.{are_refused};
+ghost use Rattle.qs_spec.specs.Config.{are_rejected};
 ghost use Rattle.qs_tree.specs.Views.{tree_of, entries_of_map};
 ghost use Rattle.qs_data.specs.Views.{shape_of};
 ghost use Rattle.qs_explain.specs.Children.{map_children, pair_children};
@@ -20,7 +20,7 @@ pub(crate) fn find_in_map(
     part: &Shape,
     node: &ParsedValue<'_>,
 ) -> Result<Option<Mismatch>, AllocError>
-    ensures { FindsAmong (are_refused config.duplicates) (map_children (shape_of part.now) (tree_of node.now)) result }
+    ensures { FindsAmong (are_rejected config.duplicates) (map_children (shape_of part.now) (tree_of node.now)) result }
 {
     match node {
         ParsedValue::String(_) => find_under(alloc, config, &Key::from(""), part, Some(node)),
@@ -40,7 +40,7 @@ fn find_in_pairs(
     part: &Shape,
     map: &ParsedMap<'_>,
 ) -> Result<Option<Mismatch>, AllocError>
-    ensures { FindsAmong (are_refused config.duplicates) (pair_children (shape_of part.now) (entries_of_map map.now)) result }
+    ensures { FindsAmong (are_rejected config.duplicates) (pair_children (shape_of part.now) (entries_of_map map.now)) result }
 {
     for i in 0..map.len() {
         let Some((key, value)) = map.at(i) else {

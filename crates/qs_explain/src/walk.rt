@@ -1,12 +1,12 @@
 //! The way to the first part that isn't read.
 
 ghost use Rattle.std.specs.Prelude.{IfOk, option_map};
-ghost use Rattle.qs_spec.specs.Config.{are_refused};
+ghost use Rattle.qs_spec.specs.Config.{are_rejected};
 ghost use Rattle.qs_tree.specs.Views.{tree_of};
 ghost use Rattle.qs_spec.specs.Shape as s;
 ghost use Rattle.qs_data.specs.Views.{shape_of};
 ghost use Rattle.qs_explain.specs.Explains.{Finds, FindsInside, IsHere, Tests, segment_of};
-ghost use Rattle.qs_spec.specs.toward.ReadFunction.{reads};
+ghost use Rattle.qs_spec.specs.internal.ReadFunction.{reads};
 ghost use Rattle.std.specs.Prelude.{◌≡◌, None};
 
 use crate::expected::Expected;
@@ -29,7 +29,7 @@ pub(crate) fn find_mismatch(
     shape: &Shape,
     node: &ParsedValue<'_>,
 ) -> Result<Option<Mismatch>, AllocError>
-    ensures { Finds (are_refused config.duplicates) (shape_of shape.now) (tree_of node.now) result }
+    ensures { Finds (are_rejected config.duplicates) (shape_of shape.now) (tree_of node.now) result }
 {
     if is_read(alloc, config, shape, node)? {
         return Ok(None);
@@ -51,7 +51,7 @@ pub(crate) fn is_read(
     shape: &Shape,
     node: &ParsedValue<'_>,
 ) -> Result<bool, AllocError>
-    ensures { IfOk result (Tests (are_refused config.duplicates) (shape_of shape.now) (tree_of node.now)) }
+    ensures { IfOk result (Tests (are_rejected config.duplicates) (shape_of shape.now) (tree_of node.now)) }
 {
     match read_value(alloc, config, shape, node) {
         Ok(_) => Ok(true),
@@ -69,7 +69,7 @@ fn find_inside(
     shape: &Shape,
     node: &ParsedValue<'_>,
 ) -> Result<Option<Mismatch>, AllocError>
-    ensures { FindsInside (are_refused config.duplicates) (shape_of shape.now) (tree_of node.now) result }
+    ensures { FindsInside (are_rejected config.duplicates) (shape_of shape.now) (tree_of node.now) result }
 {
     match shape {
         Shape::Option(part) => find_in_option(alloc, config, part, node),
@@ -107,7 +107,7 @@ fn find_in_option(
     part: &Shape,
     node: &ParsedValue<'_>,
 ) -> Result<Option<Mismatch>, AllocError>
-    ensures { FindsInside (are_refused config.duplicates) (s.Shape.option (shape_of part.now)) (tree_of node.now) result }
+    ensures { FindsInside (are_rejected config.duplicates) (s.Shape.option (shape_of part.now)) (tree_of node.now) result }
 {
     match node {
         ParsedValue::Uninitialized | ParsedValue::NoValue => Ok(None),

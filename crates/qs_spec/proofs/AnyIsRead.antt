@@ -9,18 +9,18 @@ use Rattle.qs_spec.specs.Tree.Entries.{entry, no_entries}
 use Rattle.qs_spec.specs.Data.{Data, one_value, one_pair, values_of, pairs_of}
 use Rattle.qs_spec.specs.Shape.{Shape, KeyShape}
 use Rattle.qs_spec.specs.Scalar.{text_data}
-use Rattle.qs_spec.specs.Node.{are_ints, is_place, placed, each_item}
-use Rattle.qs_spec.specs.toward.ReadFunction.{read_each, read_list, with_front, read_pairs, read_map, any_data, any_items, any_places, any_pairs, reads}
+use Rattle.qs_spec.specs.Node.{are_ints, is_place, placed, sequence_items}
+use Rattle.qs_spec.specs.internal.ReadFunction.{read_each, read_list, with_front, read_pairs, read_map, any_data, any_items, any_places, any_pairs, reads}
 
 value_step : (o : Option Data) (r : Option (List Data)) → option_and_then (λ d. option_map (one_value d) (option_map values_of r)) o ≡ option_map values_of (option_and_then (λ d. with_front d r) o)
 value_step None r = refl
 value_step (Some d) None = refl
 value_step (Some d) (Some ds) = refl
 
-items_read : (xs : Items) → any_items xs ≡ option_map values_of (read_each any_data (each_item xs))
+items_read : (xs : Items) → any_items xs ≡ option_map values_of (read_each any_data (sequence_items xs))
 unfolding any_items
 items_read no_items = refl
-items_read (item t xs) = ap (λ r. option_and_then (λ d. option_map (one_value d) r) (any_data t)) (items_read xs) ∙ value_step (any_data t) (read_each any_data (each_item xs))
+items_read (item t xs) = ap (λ r. option_and_then (λ d. option_map (one_value d) r) (any_data t)) (items_read xs) ∙ value_step (any_data t) (read_each any_data (sequence_items xs))
 
 places_read : (i : ℕ) (es : Entries) → any_places i es ≡ option_map values_of (read_each any_data (placed i es))
 unfolding any_places
@@ -52,7 +52,7 @@ twice f g (Some a) = refl
 
 pub sequence_of_any : (st : Bool) (xs : Items) → reads st (Shape.sequence Shape.any) (sequence xs) ≡ any_data (sequence xs)
 unfolding reads read_list any_data
-sequence_of_any st xs = sym (ap (option_map Data.sequence) (items_read xs) ∙ twice Data.sequence values_of (read_each any_data (each_item xs)))
+sequence_of_any st xs = sym (ap (option_map Data.sequence) (items_read xs) ∙ twice Data.sequence values_of (read_each any_data (sequence_items xs)))
 
 pub places_of_any : (st : Bool) (es : Entries) → are_ints es ≡ true → reads st (Shape.sequence Shape.any) (mapping es) ≡ any_data (mapping es)
 unfolding reads read_list any_data

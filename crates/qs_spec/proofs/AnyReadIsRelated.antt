@@ -11,8 +11,8 @@ use Rattle.qs_spec.specs.Tree.Entries.{entry, no_entries}
 use Rattle.qs_spec.specs.Data.{Data, Values, no_values, one_value, Pairs, no_pairs, one_pair}
 use Rattle.qs_spec.specs.Shape.{Shape, KeyShape}
 use Rattle.qs_spec.specs.Scalar.{text_data}
-use Rattle.qs_spec.specs.Node.{are_ints, is_place, placed, each_item}
-use Rattle.qs_spec.specs.toward.ReadFunction.{any_data, any_items, any_places, any_pairs}
+use Rattle.qs_spec.specs.Node.{are_ints, is_place, placed, sequence_items}
+use Rattle.qs_spec.specs.internal.ReadFunction.{any_data, any_items, any_places, any_pairs}
 use Rattle.qs_spec.specs.Relation.{Reads, ReadsEach, ReadsPairs}
 use Rattle.qs_spec.proofs.SomeAnswers.{mapped, chained, guarded}
 use Rattle.qs_spec.proofs.DataReadIsRelated.{text_related}
@@ -40,12 +40,12 @@ mutual
   any_related st (mapping es) d e = any_map_related st es d (λ ds f. any_places_related st 0 es ds f) (λ ps f. any_pairs_related st es ps f) (are_ints es) refl e
   any_related st uninitialized d e = absurd (none-some d e)
 
-  any_items_related : (st : Bool) (xs : Items) (ds : Values) → any_items xs ≡ Some ds → ReadsEach st Shape.any (each_item xs) ds
+  any_items_related : (st : Bool) (xs : Items) (ds : Values) → any_items xs ≡ Some ds → ReadsEach st Shape.any (sequence_items xs) ds
   any_items_related st no_items ds e = subst (ReadsEach st Shape.any []) (same_Some no_values ds e) ReadsEach.each_end
   any_items_related st (item t xs) ds e =
       let c = chained (λ d. option_map (one_value d) (any_items xs)) (any_data t) ds e in
       let m = mapped (one_value c.0) (any_items xs) ds c.2 in
-      subst (ReadsEach st Shape.any (Some t ∷ each_item xs)) m.2 (ReadsEach.each_item (any_related st t c.0 c.1) (any_items_related st xs m.0 m.1))
+      subst (ReadsEach st Shape.any (Some t ∷ sequence_items xs)) m.2 (ReadsEach.each_item (any_related st t c.0 c.1) (any_items_related st xs m.0 m.1))
 
   any_places_related : (st : Bool) (i : ℕ) (es : Entries) (ds : Values) → any_places i es ≡ Some ds → ReadsEach st Shape.any (placed i es) ds
   any_places_related st i no_entries ds e = subst (ReadsEach st Shape.any []) (same_Some no_values ds e) ReadsEach.each_end

@@ -6,9 +6,9 @@ use Rattle.qs_spec.specs.Segment.{Segment, Step, segment_of, is_index, number, c
 use Rattle.qs_spec.specs.Segment.Segment.{Int, Str}
 use Rattle.qs_spec.specs.Grammar.{Pair}
 use Rattle.qs_spec.specs.History.{Event, events, is_below, under, under_one}
-use Rattle.qs_spec.specs.History.Event.{plain, push, below}
+use Rattle.qs_spec.specs.History.Event.{direct, push, below}
 use Rattle.qs_spec.specs.Tree.{Tree, IsTree, flat, put, put_head, heads, filled, filled_path, head_mark, entries_of, node_within, longest}
-use Rattle.qs_spec.specs.toward.Keys.{IsInRange, AreAbove, AreAscending, IsAscending, HoldAscending}
+use Rattle.qs_spec.specs.internal.Keys.{IsInRange, AreAbove, AreAscending, IsAscending, HoldAscending}
 use Rattle.qs_spec.proofs.Order.{put_lt, put_eq, put_gt}
 use Rattle.qs_spec.proofs.Segments.{HasBytes, AllSteps, AllSegments, all_segments}
 use Rattle.qs_spec.proofs.Leaves.{Ascends, ascends_heads}
@@ -73,8 +73,8 @@ entries_hold m f h (k ∷ ks) = (h k, entries_hold m f h ks)
 
 flat_ascends : (h : List Event) → IsAscending (flat h)
 flat_ascends [] = tt
-flat_ascends (plain l ∷ []) = tt
-flat_ascends (plain l ∷ e ∷ h) = tt
+flat_ascends (direct l ∷ []) = tt
+flat_ascends (direct l ∷ e ∷ h) = tt
 flat_ascends (push l ∷ h) = tt
 flat_ascends (below ∷ h) = tt
 

@@ -13,8 +13,8 @@ use Rattle.qs_spec.specs.Data.{Data, Members, one_member, values_of, pairs_of, m
 use Rattle.qs_spec.specs.Shape.{Shape, Fields, one_field, Variants, no_variants, one_variant, VariantKind, unit_kind, newtype_kind, tuple_kind, struct_kind, UnknownKeys, KeyShape, is_option}
 use Rattle.qs_spec.specs.Scalar.{text_data, key_data}
 use Rattle.qs_spec.specs.Node.{last_item, found, keys_are_allowed, under_empty}
-use Rattle.qs_spec.specs.toward.ReadFunction.{read_scalar, read_option, read_unit, read_character, read_ignored, read_each, with_front, read_field, read_place, items_after, with_field, struct_members, read_pairs, read_map, is_unit_kind, unit_variant_data, reads, reads_names, reads_places}
-use Rattle.qs_spec.specs.Node.{last, IsFull}
+use Rattle.qs_spec.specs.internal.ReadFunction.{read_scalar, read_option, read_unit, read_character, read_ignored, read_each, with_front, read_field, read_place, items_after, with_field, struct_members, read_pairs, read_map, is_unit_kind, unit_variant_data, reads, reads_names, reads_places}
+use Rattle.qs_spec.specs.Node.{last_text, IsFull}
 use Rattle.qs_spec.specs.Relation.{HasVariant, Reads, ReadsEach, ReadsPairs, ReadsStruct, ReadsNames, ReadsPlaces}
 use Rattle.qs_spec.proofs.SomeAnswers.{mapped, chained, tested}
 use Rattle.qs_spec.proofs.VariantNames.{bytes_equal}
@@ -28,7 +28,7 @@ text_related t d e = tested (is_utf8 t) (Data.text t) d e
 
 -- a scalar by cases
 pub scalar_related : (st : Bool) (empty : Option Data) (get : List ℕ → Option Data) (P : Tree → Type 0) (d : Data) → (empty ≡ Some d → P (leaf NoValue)) → (empty ≡ Some d → P (leaf Null))
-    → ((n : Tree) (t : List ℕ) → last st n ≡ Some t → get t ≡ Some d → P n) → (n : Tree) → read_scalar st empty get n ≡ Some d → P n
+    → ((n : Tree) (t : List ℕ) → last_text st n ≡ Some t → get t ≡ Some d → P n) → (n : Tree) → read_scalar st empty get n ≡ Some d → P n
 scalar_related st empty get P d no_value null some (leaf NoValue) e = no_value e
 scalar_related st empty get P d no_value null some (leaf Null) e = null e
 scalar_related st empty get P d no_value null some (leaf (Text t m)) e = some (leaf (Text t m)) t refl e

@@ -8,7 +8,7 @@ use Rattle.qs_spec.specs.Tree.Tree.{leaf, sequence, mapping, uninitialized}
 use Rattle.qs_spec.specs.Data.{Data, Values, Pairs, Members}
 use Rattle.qs_spec.specs.Shape.{Shape, Shapes, Fields, VariantKind, UnknownKeys, KeyShape, is_option, variant_names_differ, is_distinct_key, field_names_differ, is_distinct, are_distinct, are_distinct_fields, are_distinct_variants, is_distinct_kind}
 use Rattle.qs_spec.specs.Node.{keys_are_allowed}
-use Rattle.qs_spec.specs.toward.ReadFunction.{read_ignored, read_each, with_front, read_field, with_field, struct_members, read_pairs, read_map, read_enum, any_data, reads, reads_tuple, reads_names, reads_places, reads_kind}
+use Rattle.qs_spec.specs.internal.ReadFunction.{read_ignored, read_each, with_front, read_field, with_field, struct_members, read_pairs, read_map, read_enum, any_data, reads, reads_tuple, reads_names, reads_places, reads_kind}
 use Rattle.qs_spec.specs.Node.{IsThere}
 use Rattle.qs_spec.specs.Relation.{Reads, ReadsEach, ReadsFirst, ReadsPairs, ReadsStruct, ReadsNames, ReadsPlaces, ReadsVariant}
 use Rattle.qs_spec.proofs.Booleans.{and_both}

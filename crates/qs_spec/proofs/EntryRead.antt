@@ -8,9 +8,9 @@ use Rattle.qs_spec.specs.Token.{tokens, byte_token, Token, Kind, raw_of}
 use Rattle.qs_spec.specs.Token.Kind.{Other}
 use Rattle.qs_spec.specs.Entry.{Path, Entry}
 use Rattle.qs_spec.specs.Written.{open_bytes, close_bytes, value_text, brackets_text, path_text, has_key, entry_text, written}
-use Rattle.qs_spec.specs.toward.Entries.{leaf_of, steps, pair_of, IsSegment, IsValueOf, IsWritable, HasSegments, HasPath}
+use Rattle.qs_spec.specs.internal.Entries.{entry_leaf, steps, entry_pair, IsSegment, IsValueOf, IsWritable, HasSegments, HasPath}
 use Rattle.qs_spec.specs.Leaf.Leaf.{NoValue}
-use Rattle.qs_spec.specs.Grammar.{Pair, plain, is_close, ends_root, IsRun, root, longer, IsValue, IsBrackets, IsPair, ArePairs}
+use Rattle.qs_spec.specs.Grammar.{Pair, direct, is_close, ends_root, IsRun, root, longer, IsValue, IsBrackets, IsPair, ArePairs}
 use Rattle.qs_spec.proofs.Spelled.{token_of_byte, no_bracket, is_other, encoded_tokens, open_token, close_token, open_first, close_first, clear_value, Front, value_front, segment_tokens}
 use Rattle.qs_spec.proofs.Booleans.{and_both}
 
@@ -53,14 +53,14 @@ pub joins : (path : List Step) (s : Step) (more : List Step) → (path ++ s ∷ 
 joins path s more = append_assoc path (s ∷ []) more
 
 brackets_front : (form : Bool) (room : ℕ) (segs : List (List ℕ)) (s : List ℕ) (v : Option (List ℕ)) (path : List Step) (bracket rest : List ℕ) → suc (length segs) ≤ room → IsSegment form s → AllByRecursion (IsSegment form) segs → IsValueOf ([] ∷ []) v
-    → Front (λ ts. IsBrackets room path bracket ts (plain (path ++ steps form (s ∷ segs)) (leaf_of form v))) form (encoded form s ++ (close_bytes form ++ brackets_then form segs (value_text form v))) rest
+    → Front (λ ts. IsBrackets room path bracket ts (direct (path ++ steps form (s ∷ segs)) (entry_leaf form v))) form (encoded form s ++ (close_bytes form ++ brackets_then form segs (value_text form v))) rest
 brackets_front form zero segs s v path bracket rest l h hs i = absurd (omega arith)
 brackets_front form (suc room) [] s v path bracket rest l h hs i =
     let w = value_front form v rest i in
     let g = segment_tokens form s (close_bytes form ++ (value_text form v ++ rest)) h in
     record {
       toks = g.first ∷ g.more ++ close_token form ∷ w.toks;
-      is = subst (λ (raw : List ℕ). IsBrackets (suc room) path bracket (g.first ∷ g.more ++ close_token form ∷ w.toks) (plain (longer path raw) (leaf_of form v))) g.raw
+      is = subst (λ (raw : List ℕ). IsBrackets (suc room) path bracket (g.first ∷ g.more ++ close_token form ∷ w.toks) (direct (longer path raw) (entry_leaf form v))) g.raw
           (IsBrackets.segment g.first (close_token form) g.more w.toks (other_run is_close refl (g.first ∷ g.more) g.run) refl w.is);
       whole = ap (tokens form) (append_assoc (encoded form s) (close_bytes form ++ value_text form v) rest ∙ ap (λ l. encoded form s ++ l) (append_assoc (close_bytes form) (value_text form v) rest))
           ∙ g.whole ∙ ap (λ l. g.first ∷ g.more ++ l) (close_first form (value_text form v ++ rest) ∙ ap (λ l. close_token form ∷ l) w.whole)
@@ -72,9 +72,9 @@ brackets_front form (suc room) (s2 ∷ segs) s v path bracket rest l h hs i =
     let w = brackets_front form room segs s2 v (longer path (raw_of (g.first ∷ g.more))) (open_bytes form) rest (omega arith) hs.0 hs.1 i in
     record {
       toks = g.first ∷ g.more ++ close_token form ∷ open_token form ∷ w.toks;
-      is = subst (λ (p : List Step). IsBrackets (suc room) path bracket (g.first ∷ g.more ++ close_token form ∷ open_token form ∷ w.toks) (plain p (leaf_of form v)))
+      is = subst (λ (p : List Step). IsBrackets (suc room) path bracket (g.first ∷ g.more ++ close_token form ∷ open_token form ∷ w.toks) (direct p (entry_leaf form v)))
           (ap (λ (raw : List ℕ). longer path raw ++ steps form (s2 ∷ segs)) g.raw ∙ joins path (step_of (encoded form s)) (steps form (s2 ∷ segs)))
-          (IsBrackets.deeper g.first (close_token form) (open_token form) g.more w.toks (other_run is_close refl (g.first ∷ g.more) g.run) refl refl w.is);
+          (IsBrackets.more g.first (close_token form) (open_token form) g.more w.toks (other_run is_close refl (g.first ∷ g.more) g.run) refl refl w.is);
       whole = ap (tokens form) (append_assoc (encoded form s) (close_bytes form ++ (open_bytes form ++ tail)) rest ∙ ap (λ l. encoded form s ++ l) (append_assoc (close_bytes form) (open_bytes form ++ tail) rest ∙ ap (λ l. close_bytes form ++ l) (append_assoc (open_bytes form) tail rest)))
           ∙ g.whole ∙ ap (λ l. g.first ∷ g.more ++ l) (close_first form (open_bytes form ++ (tail ++ rest)) ∙ ap (λ l. close_token form ∷ l) (open_first form (tail ++ rest) ∙ ap (λ l. open_token form ∷ l) w.whole))
           ∙ sym (append_assoc (g.first ∷ g.more) (close_token form ∷ open_token form ∷ w.toks) (tokens form rest));
@@ -90,12 +90,12 @@ some_value (s ∷ segs) None k h = h
 some_value (s ∷ segs) (Some v) k h = h
 
 key_value : (form : Bool) (depth : ℕ) (s : List ℕ) (v : Option (List ℕ)) (rest : List ℕ) → IsSegment form s → IsValueOf ([] ∷ []) v
-    → Front (λ ts. IsPair depth ts (plain (step_of (encoded form s) ∷ []) (leaf_of form v))) form (encoded form s ++ value_text form v) rest
+    → Front (λ ts. IsPair depth ts (direct (step_of (encoded form s) ∷ []) (entry_leaf form v))) form (encoded form s ++ value_text form v) rest
 key_value form depth s None rest h i =
     let g = segment_tokens form s rest h in
     record {
       toks = g.first ∷ g.more;
-      is = subst (λ (raw : List ℕ). IsPair depth (g.first ∷ g.more) (plain (step_of raw ∷ []) NoValue)) g.raw (IsPair.name (root_run depth (g.first ∷ g.more) g.run));
+      is = subst (λ (raw : List ℕ). IsPair depth (g.first ∷ g.more) (direct (step_of raw ∷ []) NoValue)) g.raw (IsPair.name (root_run depth (g.first ∷ g.more) g.run));
       whole = ap (λ l. tokens form (l ++ rest)) (append-nil (encoded form s)) ∙ g.whole;
     }
 key_value form depth s (Some v) rest h i =
@@ -103,8 +103,8 @@ key_value form depth s (Some v) rest h i =
     let g = segment_tokens form s (value_text form (Some v) ++ rest) h in
     record {
       toks = g.first ∷ g.more ++ byte_token 61 ∷ t.toks;
-      is = subst (λ (raw : List ℕ). IsPair depth (g.first ∷ g.more ++ byte_token 61 ∷ t.toks) (plain (step_of (encoded form s) ∷ []) (value_leaf raw))) t.raw
-          (subst (λ (raw : List ℕ). IsPair depth (g.first ∷ g.more ++ byte_token 61 ∷ t.toks) (plain (step_of raw ∷ []) (value_leaf (raw_of t.toks)))) g.raw
+      is = subst (λ (raw : List ℕ). IsPair depth (g.first ∷ g.more ++ byte_token 61 ∷ t.toks) (direct (step_of (encoded form s) ∷ []) (value_leaf raw))) t.raw
+          (subst (λ (raw : List ℕ). IsPair depth (g.first ∷ g.more ++ byte_token 61 ∷ t.toks) (direct (step_of raw ∷ []) (value_leaf (raw_of t.toks)))) g.raw
           (IsPair.value (byte_token 61) (g.first ∷ g.more) t.toks (root_run depth (g.first ∷ g.more) g.run) (IsValue.some refl t.suit)));
       whole = ap (tokens form) (append_assoc (encoded form s) (value_text form (Some v)) rest)
           ∙ g.whole ∙ ap (λ l. g.first ∷ g.more ++ l) (token_of_byte form 61 (encoded form v ++ rest) (no_bracket form 61 (encoded form v ++ rest) refl) ∙ ap (λ l. byte_token 61 ∷ l) t.whole)
@@ -112,7 +112,7 @@ key_value form depth s (Some v) rest h i =
     }
 
 key_brackets : (form : Bool) (depth : ℕ) (s s2 : List ℕ) (segs : List (List ℕ)) (v : Option (List ℕ)) (rest : List ℕ) → suc (length segs) ≤ depth → IsSegment form s → IsSegment form s2 → AllByRecursion (IsSegment form) segs → IsValueOf ([] ∷ []) v
-    → Front (λ ts. IsPair depth ts (plain (step_of (encoded form s) ∷ steps form (s2 ∷ segs)) (leaf_of form v))) form (encoded form s ++ brackets_then form (s2 ∷ segs) (value_text form v)) rest
+    → Front (λ ts. IsPair depth ts (direct (step_of (encoded form s) ∷ steps form (s2 ∷ segs)) (entry_leaf form v))) form (encoded form s ++ brackets_then form (s2 ∷ segs) (value_text form v)) rest
 key_brackets form zero s s2 segs v rest l h h2 hs i = absurd (omega arith)
 key_brackets form (suc depth) s s2 segs v rest l h h2 hs i =
     let tail : List ℕ = encoded form s2 ++ (close_bytes form ++ brackets_then form segs (value_text form v)) in
@@ -120,7 +120,7 @@ key_brackets form (suc depth) s s2 segs v rest l h h2 hs i =
     let w = brackets_front form (suc depth) segs s2 v (root (g.first ∷ g.more)) (open_bytes form) rest l h2 hs i in
     record {
       toks = g.first ∷ g.more ++ open_token form ∷ w.toks;
-      is = subst (λ (raw : List ℕ). IsPair (suc depth) (g.first ∷ g.more ++ open_token form ∷ w.toks) (plain (step_of raw ∷ steps form (s2 ∷ segs)) (leaf_of form v))) g.raw
+      is = subst (λ (raw : List ℕ). IsPair (suc depth) (g.first ∷ g.more ++ open_token form ∷ w.toks) (direct (step_of raw ∷ steps form (s2 ∷ segs)) (entry_leaf form v))) g.raw
           (IsPair.brackets (open_token form) (g.first ∷ g.more) w.toks (root_run (suc depth) (g.first ∷ g.more) g.run) refl refl w.is);
       whole = ap (tokens form) (append_assoc (encoded form s) (open_bytes form ++ tail) rest ∙ ap (λ l. encoded form s ++ l) (append_assoc (open_bytes form) tail rest))
           ∙ g.whole ∙ ap (λ l. g.first ∷ g.more ++ l) (open_first form (tail ++ rest) ∙ ap (λ l. open_token form ∷ l) w.whole)
@@ -128,25 +128,25 @@ key_brackets form (suc depth) s s2 segs v rest l h h2 hs i =
     }
 
 pub entry_front : (form : Bool) (depth : ℕ) (path : List (List ℕ)) (v : Option (List ℕ)) (rest : List ℕ) → AllByRecursion (IsSegment form) path → length path ≤ depth + 1 → IsValueOf path v → HasSegments path
-    → Front (λ ts. IsPair depth ts (plain (steps form path) (leaf_of form v))) form (key_then form path (value_text form v)) rest
+    → Front (λ ts. IsPair depth ts (direct (steps form path) (entry_leaf form v))) form (key_then form path (value_text form v)) rest
 entry_front form depth [] v rest h l i k = absurd k
 entry_front form depth (s ∷ []) v rest h l i k = key_value form depth s v rest h.0 (some_value (s ∷ []) v tt i)
 entry_front form depth (s ∷ s2 ∷ segs) v rest h l i k = key_brackets form depth s s2 segs v rest (omega arith) h.0 h.1.0 h.1.1 (some_value (s ∷ s2 ∷ segs) v tt i)
 
 -- an entry with a path as a pair, in front of what follows
-entry_pair : (form : Bool) (depth : ℕ) (e : Entry) (rest : List ℕ) → IsWritable form depth e → HasPath e → Front (λ ts. IsPair depth ts (pair_of form e)) form (path_text form e.path ++ value_text form e.value) rest
-entry_pair form depth e rest w k =
+entry_read : (form : Bool) (depth : ℕ) (e : Entry) (rest : List ℕ) → IsWritable form depth e → HasPath e → Front (λ ts. IsPair depth ts (entry_pair form e)) form (path_text form e.path ++ value_text form e.value) rest
+entry_read form depth e rest w k =
     let f = entry_front form depth e.path e.value rest w.segments w.short w.value k in
     record { toks = f.toks; is = f.is; whole = ap (λ l. tokens form (l ++ rest)) (key_first form e.path (value_text form e.value)) ∙ f.whole }
 
 -- an entry without one: `=` and a value
-value_pair : (form : Bool) (depth : ℕ) (v : Option (List ℕ)) → IsValueOf [] v → Front (λ ts. IsPair depth ts (plain [] (leaf_of form v))) form (value_text form v) []
+value_pair : (form : Bool) (depth : ℕ) (v : Option (List ℕ)) → IsValueOf [] v → Front (λ ts. IsPair depth ts (direct [] (entry_leaf form v))) form (value_text form v) []
 value_pair form depth None h = absurd h
 value_pair form depth (Some v) h =
     let t = encoded_tokens false form v [] h (clear_value form v) in
     record {
       toks = byte_token 61 ∷ t.toks;
-      is = subst (λ (raw : List ℕ). IsPair depth (byte_token 61 ∷ t.toks) (plain [] (value_leaf raw))) t.raw (IsPair.value (byte_token 61) [] t.toks refl (IsValue.some refl t.suit));
+      is = subst (λ (raw : List ℕ). IsPair depth (byte_token 61 ∷ t.toks) (direct [] (value_leaf raw))) t.raw (IsPair.value (byte_token 61) [] t.toks refl (IsValue.some refl t.suit));
       whole = token_of_byte form 61 (encoded form v ++ []) (no_bracket form 61 (encoded form v ++ []) refl) ∙ ap (λ l. byte_token 61 ∷ l) t.whole;
     }
 
@@ -177,21 +177,21 @@ text_of_next form e es k =
     ∙ ap (λ l. 38 ∷ l) (sym (text_of_first form e es k))
 
 -- What is written of entries with paths is read as their pairs.
-pub written_pairs : (form : Bool) (depth : ℕ) (es : List Entry) → AllByRecursion (IsWritable form depth) es → AllByRecursion HasPath es → ArePairs depth (tokens form (written form false es)) (map (pair_of form) es)
+pub written_pairs : (form : Bool) (depth : ℕ) (es : List Entry) → AllByRecursion (IsWritable form depth) es → AllByRecursion HasPath es → ArePairs depth (tokens form (written form false es)) (map (entry_pair form) es)
 unfolding written
 written_pairs form depth [] h k = ArePairs.none
 written_pairs form depth (e ∷ []) h k =
-    subst (λ (text : List ℕ). ArePairs depth (tokens form text) (pair_of form e ∷ [])) (sym (text_of_first form e [] k.0 ∙ append-nil _)) (alone (entry_pair form depth e [] h.0 k.0))
+    subst (λ (text : List ℕ). ArePairs depth (tokens form text) (entry_pair form e ∷ [])) (sym (text_of_first form e [] k.0 ∙ append-nil _)) (alone (entry_read form depth e [] h.0 k.0))
 written_pairs form depth (e ∷ f ∷ es) h k =
-    subst (λ (text : List ℕ). ArePairs depth (tokens form text) (map (pair_of form) (e ∷ f ∷ es)))
+    subst (λ (text : List ℕ). ArePairs depth (tokens form text) (map (entry_pair form) (e ∷ f ∷ es)))
     (sym (text_of_first form e (f ∷ es) k.0 ∙ ap (λ l. (path_text form e.path ++ value_text form e.value) ++ l) (text_of_next form f es k.1.0)))
-    (before (entry_pair form depth e (38 ∷ written form false (f ∷ es)) h.0 k.0) (written_pairs form depth (f ∷ es) h.1 k.1))
+    (before (entry_read form depth e (38 ∷ written form false (f ∷ es)) h.0 k.0) (written_pairs form depth (f ∷ es) h.1 k.1))
 
 -- So is what is written of a single entry, with a path or without one.
-pub written_pair : (form : Bool) (depth : ℕ) (e : Entry) → IsWritable form depth e → ArePairs depth (tokens form (written form false (e ∷ []))) (pair_of form e ∷ [])
+pub written_pair : (form : Bool) (depth : ℕ) (e : Entry) → IsWritable form depth e → ArePairs depth (tokens form (written form false (e ∷ []))) (entry_pair form e ∷ [])
 unfolding written entry_text path_text
 written_pair form depth e w = by e.path e.value w
   where
-    by : (path : Path) (value : Option (List ℕ)) → IsWritable form depth (record { path = path; value = value }) → ArePairs depth (tokens form (written form false (record { path = path; value = value } ∷ []))) (plain (steps form path) (leaf_of form value) ∷ [])
-    by [] value w = subst (λ (text : List ℕ). ArePairs depth (tokens form text) (plain [] (leaf_of form value) ∷ [])) (sym (append-nil (value_text form value))) (alone (value_pair form depth value w.value))
+    by : (path : Path) (value : Option (List ℕ)) → IsWritable form depth (record { path = path; value = value }) → ArePairs depth (tokens form (written form false (record { path = path; value = value } ∷ []))) (direct (steps form path) (entry_leaf form value) ∷ [])
+    by [] value w = subst (λ (text : List ℕ). ArePairs depth (tokens form text) (direct [] (entry_leaf form value) ∷ [])) (sym (append-nil (value_text form value))) (alone (value_pair form depth value w.value))
     by (s ∷ path) value w = written_pairs form depth (record { path = s ∷ path; value = value } ∷ []) (w, tt) (tt, tt)

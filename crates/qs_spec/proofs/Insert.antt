@@ -9,16 +9,16 @@ use Rattle.qs_spec.specs.Grammar.{Pair}
 use Rattle.qs_spec.specs.History.{Event, event, event_of, events, is_below, permitted, under, under_one}
 use Rattle.qs_spec.specs.Tree.{flat, filled, filled_path, empty_step, node_within, longest, Tree}
 use Rattle.qs_spec.specs.Segment.{is_same_segment}
-use Rattle.qs_spec.specs.History.Event.{plain, push, below}
+use Rattle.qs_spec.specs.History.Event.{direct, push, below}
 use Rattle.qs_spec.specs.Tree.Tree.{mapping, uninitialized}
 use Rattle.qs_spec.specs.Tree.Entries.{entry, no_entries}
-use Rattle.qs_spec.specs.toward.InPlace.{update, add_flat, add_here, add_below, add}
+use Rattle.qs_spec.specs.internal.InPlace.{update, add_flat, add_here, add_below, add}
 use Rattle.qs_spec.proofs.Order.{is_itself, same_turned}
 use Rattle.qs_spec.proofs.TreeOf.{longest_under, same_segment}
 use Rattle.qs_spec.proofs.Leaves.{none_below}
 use Rattle.qs_spec.proofs.OneMore.{pair, NoEmpty, NoneEmpty, Permitted, under_push, history_push, filled_push}
 use Rattle.qs_spec.proofs.Update.{entries_within, node_nothing, under_same, under_other, update_pairs}
-use Rattle.qs_spec.proofs.Flat.{FlatGoes, any_push, own_not_below, flat_adds, begun, still_permitted, none_begun, AllPlain, plains, plain_no_below, plain_push, plain_adds}
+use Rattle.qs_spec.proofs.Flat.{FlatGoes, any_push, own_not_below, flat_adds, begun, still_permitted, none_begun, AllDirect, all_direct, direct_no_below, direct_push, direct_adds}
 
 pub node_flat : (n : ℕ) (ps : List Pair) → list_any is_below (map event ps) ≡ false → node_within n ps ≡ flat (map event ps)
 node_flat zero ps e = refl
@@ -43,10 +43,10 @@ own_permitted ps b l p e (k ∷ path) = ap (λ (qs : List Pair). permitted (even
 here_flat : (b : Bool) (l : Leaf) (h : List Event) → add_here b l (flat h) ≡ add_flat b l (flat h)
 here_flat true l [] = refl
 here_flat false l [] = refl
-here_flat true l (plain o ∷ []) = refl
-here_flat false l (plain o ∷ []) = refl
-here_flat true l (plain o ∷ e ∷ h) = refl
-here_flat false l (plain o ∷ e ∷ h) = refl
+here_flat true l (direct o ∷ []) = refl
+here_flat false l (direct o ∷ []) = refl
+here_flat true l (direct o ∷ e ∷ h) = refl
+here_flat false l (direct o ∷ e ∷ h) = refl
 here_flat true l (push o ∷ h) = refl
 here_flat false l (push o ∷ h) = refl
 here_flat true l (below ∷ h) = refl
@@ -72,14 +72,14 @@ adds_map n ps true l m p e = subst (λ t. Goes (suc n) ps (pair [] true l) (add_
 adds_map n ps false l m p e =
     let h = begun (map event ps) e (p []) in
     let own = under (Str []) (filled ps) in
-    let all : AllPlain (map event own) = plains ps m h.1 in
-    let made : add_flat false l (node_within n own) ≡ Some (flat (map event own ++ plain l ∷ [])) = ap (add_flat false l) (node_flat n own (plain_no_below (map event own) all)) ∙ plain_adds (map event own) l all in
-    let next : flat (map event own ++ plain l ∷ []) ≡ node_within n (own ++ pair [] false l ∷ []) =
-    ap flat (sym (history_push own (pair [] false l))) ∙ sym (node_flat n (own ++ pair [] false l ∷ []) (ap (list_any is_below) (history_push own (pair [] false l)) ∙ plain_no_below (map event own ++ plain l ∷ []) (plain_push (map event own) l all))) in
+    let all : AllDirect (map event own) = all_direct ps m h.1 in
+    let made : add_flat false l (node_within n own) ≡ Some (flat (map event own ++ direct l ∷ [])) = ap (add_flat false l) (node_flat n own (direct_no_below (map event own) all)) ∙ direct_adds (map event own) l all in
+    let next : flat (map event own ++ direct l ∷ []) ≡ node_within n (own ++ pair [] false l ∷ []) =
+    ap flat (sym (history_push own (pair [] false l))) ∙ sym (node_flat n (own ++ pair [] false l ∷ []) (ap (list_any is_below) (history_push own (pair [] false l)) ∙ direct_no_below (map event own ++ direct l ∷ []) (direct_push (map event own) l all))) in
     let up : update empty_step (add_flat false l) (entries_within n (filled ps)) ≡ Some (entries_within n (filled ps ++ pair (empty_step ∷ []) false l ∷ [])) =
-    update_pairs n (filled ps) empty_step [] false l (add_flat false l) (Some (flat (map event own ++ plain l ∷ []))) made (λ t d. sym (same_Some _ t d) ∙ next) in
+    update_pairs n (filled ps) empty_step [] false l (add_flat false l) (Some (flat (map event own ++ direct l ∷ []))) made (λ t d. sym (same_Some _ t d) ∙ next) in
     subst (λ o. Goes (suc n) ps (pair [] false l) o) (sym (ap (add_here false l) (node_mapping n ps e) ∙ ap (option_map mapping) up)) (
-      own_permitted ps false l p (still_permitted (map event ps) (plain l) h.0 h.1),
+      own_permitted ps false l p (still_permitted (map event ps) (direct l) h.0 h.1),
       ap (λ (qs : List Pair). mapping (entries_within n qs)) (sym (filled_push ps (pair [] false l))) ∙ sym (node_mapping n (ps ++ pair [] false l ∷ []) (any_after ps (pair [] false l) e)),
     )
 
@@ -120,8 +120,8 @@ permitted_below : (ps : List Pair) (s : Step) (path : List Step) (b : Bool) (l :
 permitted_below ps s path b l p rest = sym (ap (λ (qs : List Pair). permitted (events qs rest)) (under_same s ps path b l)) ∙ p (s.seg ∷ rest)
 
 below_flat : (s : Step) (g : Tree → Option Tree) (e : Event) (h : List Event) → list_any is_below (e ∷ h) ≡ false → add_below s g (flat (e ∷ h)) ≡ None
-below_flat s g (plain l) [] n = refl
-below_flat s g (plain l) (d ∷ h) n = refl
+below_flat s g (direct l) [] n = refl
+below_flat s g (direct l) (d ∷ h) n = refl
 below_flat s g (push l) h n = refl
 below_flat s g below h n = cc
 

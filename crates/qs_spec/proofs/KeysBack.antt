@@ -11,8 +11,8 @@ use Rattle.qs_spec.specs.Segment.{number, is_index, segment_of, segment_text}
 use Rattle.qs_spec.specs.Segment.Segment.{Int, Str}
 use Rattle.qs_spec.specs.Leaf.{value_leaf, leaf_text}
 use Rattle.qs_spec.specs.Leaf.Leaf.{Text}
-use Rattle.qs_spec.specs.Scalar.{is_numeral}
-use Rattle.qs_spec.specs.toward.Keys.{written_segment, has_leading_zero}
+use Rattle.qs_spec.specs.Scalar.{is_numeral, has_leading_zero}
+use Rattle.qs_spec.specs.internal.Keys.{written_segment}
 use Rattle.qs_spec.proofs.Booleans.{and_both}
 use Rattle.qs_spec.proofs.Unescaped.{decoded-encoded}
 use Rattle.qs_spec.proofs.VariantNames.{bytes_equal}

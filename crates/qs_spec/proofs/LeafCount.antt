@@ -11,7 +11,7 @@ use Rattle.qs_spec.specs.Holds.{leaf_count}
 use Rattle.qs_spec.proofs.TreeOf.{longest_under, same_segment}
 use Rattle.qs_spec.proofs.Leaves.{none_below, longer_filled, length_filled, counted, entries_counted, flat_counted}
 use Rattle.qs_spec.proofs.OneMore.{NoneEmpty, Permitted}
-use Rattle.qs_spec.proofs.Flat.{begun, plains, plain_no_below}
+use Rattle.qs_spec.proofs.Flat.{begun, all_direct, direct_no_below}
 use Rattle.qs_spec.proofs.Insert.{node_flat, under_filled, none_empty_under, permitted_under}
 
 abbrev Counts : ℕ → Type 0
@@ -24,7 +24,7 @@ leaves_within (suc n) ps l m p = by (leaves_within n) (list_any is_below (events
     -- what stands under the empty text is no map
     own : list_any is_push (events ps []) ≡ false → leaf_count (node_within n (under (Str []) (filled ps))) ≡ length (under (Str []) (filled ps))
     own none =
-        let low = plain_no_below (map event (under (Str []) (filled ps))) (plains ps m none) in
+        let low = direct_no_below (map event (under (Str []) (filled ps))) (all_direct ps m none) in
         ap leaf_count (node_flat n (under (Str []) (filled ps)) low) ∙ flat_counted (map event (under (Str []) (filled ps))) low ∙ length-map (under (Str []) (filled ps)) event
 
     at_key : Counts n → list_any is_push (events ps []) ≡ false → (k : Segment) (b : Bool) → is_same_segment (Str []) k ≡ b → leaf_count (node_within n (under k (filled ps))) ≡ length (under k (filled ps))

@@ -9,7 +9,7 @@ use Rattle.qs_spec.specs.Grammar.{Pair, IsPair, IsBrackets, ArePairs, root}
 use Rattle.qs_spec.specs.History.{Event, event_of, events, is_below, is_push, under, under_one}
 use Rattle.qs_spec.specs.Tree.{leaves_in, leaf_items, flat, heads, put_head, put, filled, filled_path, head_mark, entries_of, node_within, longest, Tree}
 use Rattle.qs_spec.specs.Segment.{compare_segments, is_same_segment}
-use Rattle.qs_spec.specs.History.Event.{plain, push, below}
+use Rattle.qs_spec.specs.History.Event.{direct, push, below}
 use Rattle.qs_spec.specs.Holds.{leaf_count, items_leaf_count, entries_leaf_count, nesting, items_nesting, entries_nesting}
 use Rattle.qs_spec.proofs.Order.{exact_segment, segments_total, put_lt, put_eq, put_gt}
 use Rattle.qs_spec.proofs.TreeOf.{none_under}
@@ -150,7 +150,7 @@ entries_counted m f g h (k ∷ ks) = ap₂ (λ a b. a + b) (h k) (entries_counte
 
 leaves_counted : (h : List Event) → list_any is_below h ≡ false → length (leaves_in h) ≡ length h
 leaves_counted [] e = refl
-leaves_counted (plain l ∷ h) e = ap suc (leaves_counted h e)
+leaves_counted (direct l ∷ h) e = ap suc (leaves_counted h e)
 leaves_counted (push l ∷ h) e = ap suc (leaves_counted h e)
 leaves_counted (below ∷ h) e = cc
 
@@ -160,8 +160,8 @@ items_counted (l ∷ ls) = omega (arith, items_counted ls)
 
 pub flat_counted : (h : List Event) → list_any is_below h ≡ false → leaf_count (flat h) ≡ length h
 flat_counted [] e = refl
-flat_counted (plain l ∷ []) e = refl
-flat_counted (plain l ∷ d ∷ h) e = items_counted (leaves_in (plain l ∷ d ∷ h)) ∙ leaves_counted (plain l ∷ d ∷ h) e
+flat_counted (direct l ∷ []) e = refl
+flat_counted (direct l ∷ d ∷ h) e = items_counted (leaves_in (direct l ∷ d ∷ h)) ∙ leaves_counted (direct l ∷ d ∷ h) e
 flat_counted (push l ∷ h) e = items_counted (leaves_in (push l ∷ h)) ∙ leaves_counted (push l ∷ h) e
 flat_counted (below ∷ h) e = cc
 
@@ -185,8 +185,8 @@ items_nest (l ∷ ls) = omega (arith, items_nest ls)
 
 flat_nest : (h : List Event) → nesting (flat h) ≡ 0
 flat_nest [] = refl
-flat_nest (plain l ∷ []) = refl
-flat_nest (plain l ∷ d ∷ h) = items_nest (leaves_in (plain l ∷ d ∷ h))
+flat_nest (direct l ∷ []) = refl
+flat_nest (direct l ∷ d ∷ h) = items_nest (leaves_in (direct l ∷ d ∷ h))
 flat_nest (push l ∷ h) = items_nest (leaves_in (push l ∷ h))
 flat_nest (below ∷ h) = items_nest (leaves_in (below ∷ h))
 
@@ -207,7 +207,7 @@ root_short (t ∷ key) = omega arith
 brackets_short : {room : ℕ} {path : List Step} {bracket : List ℕ} {ts : List Token} {p : Pair} → IsBrackets room path bracket ts p → length p.path ≤ length path + room + 1
 brackets_short (IsBrackets.push e v) = omega arith
 brackets_short (IsBrackets.segment {path = path} s t run value r e v) = omega (arith, length-append {A = Step})
-brackets_short (IsBrackets.deeper {path = path} s t u run rest r e d b) = omega (arith, length-append {A = Step}, brackets_short b)
+brackets_short (IsBrackets.more {path = path} s t u run rest r e d b) = omega (arith, length-append {A = Step}, brackets_short b)
 brackets_short (IsBrackets.last {path = path} t run value e r v) = omega (arith, length-append {A = Step})
 
 pair_short : {depth : ℕ} {ts : List Token} {p : Pair} → IsPair depth ts p → length p.path ≤ depth + 2

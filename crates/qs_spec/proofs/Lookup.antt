@@ -7,7 +7,8 @@ use Rattle.qs_spec.specs.Segment.Segment.{Int, Str}
 use Rattle.qs_spec.specs.Tree.{Tree, Entries}
 use Rattle.qs_spec.specs.Tree.Entries.{entry, no_entries}
 use Rattle.qs_spec.specs.Node.{found}
-use Rattle.qs_spec.specs.toward.Keys.{has_leading_zero, printed_index, lookup, lookup_index, list_of, AreAbove, AreAscending}
+use Rattle.qs_spec.specs.Scalar.{has_leading_zero}
+use Rattle.qs_spec.specs.internal.Keys.{printed_index, lookup, lookup_index, list_of, AreAbove, AreAscending}
 use Rattle.qs_spec.proofs.Booleans.{and_both, not_of}
 use Rattle.qs_spec.proofs.Order.{segments_total, is_itself}
 use Rattle.qs_spec.proofs.TreeOf.{same_segment}

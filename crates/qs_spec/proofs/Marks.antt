@@ -5,8 +5,8 @@ use Rattle.qs_spec.specs.Segment.{Segment, Step, is_same_segment}
 use Rattle.qs_spec.specs.Leaf.{Leaf}
 use Rattle.qs_spec.specs.Leaf.Leaf.{NoValue, Null, Text}
 use Rattle.qs_spec.specs.Grammar.{Pair}
-use Rattle.qs_spec.specs.History.{Event, event, event_of, under, under_one, events, is_below, is_push, begins_below, begins_plain_push, permitted}
-use Rattle.qs_spec.specs.History.Event.{plain, push, below}
+use Rattle.qs_spec.specs.History.{Event, event, event_of, under, under_one, events, is_below, is_push, begins_below, begins_direct_push, permitted}
+use Rattle.qs_spec.specs.History.Event.{direct, push, below}
 use Rattle.qs_spec.specs.Tree.{Tree, Items, leaves_in, leaf_items, flat, filled, filled_path, put_head, heads, node_within, longest, node}
 use Rattle.qs_spec.specs.Tree.Items.{item}
 use Rattle.qs_spec.specs.Order.{unmarked_leaf, unmarked_step, unmarked_pair, unmarked, unmarked_items}
@@ -28,7 +28,7 @@ under_bare k (p ∷ ps) = by p.path (under_bare k ps)
         each false = e
 
 abbrev unmarked_event : Event → Event
-unmarked_event (plain l) = plain (unmarked_leaf l)
+unmarked_event (direct l) = direct (unmarked_leaf l)
 unmarked_event (push l) = push (unmarked_leaf l)
 unmarked_event below = below
 
@@ -50,35 +50,35 @@ events_bare (k ∷ path) ps = ap (λ (qs : List Pair). events qs path) (under_ba
 
 below_bare : (h : List Event) → list_any is_below (bare_events h) ≡ list_any is_below h
 below_bare [] = refl
-below_bare (plain l ∷ h) = below_bare h
+below_bare (direct l ∷ h) = below_bare h
 below_bare (push l ∷ h) = below_bare h
 below_bare (below ∷ h) = refl
 
 push_bare : (h : List Event) → list_any is_push (bare_events h) ≡ list_any is_push h
 push_bare [] = refl
-push_bare (plain l ∷ h) = push_bare h
+push_bare (direct l ∷ h) = push_bare h
 push_bare (push l ∷ h) = refl
 push_bare (below ∷ h) = push_bare h
 
 begins_below_bare : (h : List Event) → begins_below (bare_events h) ≡ begins_below h
 begins_below_bare [] = refl
-begins_below_bare (plain l ∷ h) = refl
+begins_below_bare (direct l ∷ h) = refl
 begins_below_bare (push l ∷ h) = refl
 begins_below_bare (below ∷ h) = refl
 
-begins_plain_push_bare : (h : List Event) → begins_plain_push (bare_events h) ≡ begins_plain_push h
-begins_plain_push_bare [] = refl
-begins_plain_push_bare (plain l ∷ []) = refl
-begins_plain_push_bare (plain l ∷ plain k ∷ h) = refl
-begins_plain_push_bare (plain l ∷ push k ∷ h) = refl
-begins_plain_push_bare (plain l ∷ below ∷ h) = refl
-begins_plain_push_bare (push l ∷ h) = refl
-begins_plain_push_bare (below ∷ h) = refl
+begins_direct_push_bare : (h : List Event) → begins_direct_push (bare_events h) ≡ begins_direct_push h
+begins_direct_push_bare [] = refl
+begins_direct_push_bare (direct l ∷ []) = refl
+begins_direct_push_bare (direct l ∷ direct k ∷ h) = refl
+begins_direct_push_bare (direct l ∷ push k ∷ h) = refl
+begins_direct_push_bare (direct l ∷ below ∷ h) = refl
+begins_direct_push_bare (push l ∷ h) = refl
+begins_direct_push_bare (below ∷ h) = refl
 
 permitted_events : (h : List Event) → permitted (bare_events h) ≡ permitted h
 permitted_events h =
     ap₂ (λ a b. a || b)
-    (ap₂ (λ a b. not a && not b) (below_bare h) (begins_plain_push_bare h))
+    (ap₂ (λ a b. not a && not b) (below_bare h) (begins_direct_push_bare h))
     (ap₂ (λ a b. a && not b) (begins_below_bare h) (push_bare h))
 
 pub permitted_bare : (ps : List Pair) (path : List Segment) → permitted (events (bare ps) path) ≡ permitted (events ps path)
@@ -116,14 +116,14 @@ unmarked_twice (Text bytes mark) = refl
 
 items_bare : (h : List Event) → unmarked_items (leaf_items (leaves_in (bare_events h))) ≡ unmarked_items (leaf_items (leaves_in h))
 items_bare [] = refl
-items_bare (plain l ∷ h) = ap₂ (λ (k : Leaf) (xs : Items). item (Tree.leaf k) xs) (unmarked_twice l) (items_bare h)
+items_bare (direct l ∷ h) = ap₂ (λ (k : Leaf) (xs : Items). item (Tree.leaf k) xs) (unmarked_twice l) (items_bare h)
 items_bare (push l ∷ h) = ap₂ (λ (k : Leaf) (xs : Items). item (Tree.leaf k) xs) (unmarked_twice l) (items_bare h)
 items_bare (below ∷ h) = items_bare h
 
 flat_bare : (h : List Event) → unmarked (flat (bare_events h)) ≡ unmarked (flat h)
 flat_bare [] = refl
-flat_bare (plain l ∷ []) = ap Tree.leaf (unmarked_twice l)
-flat_bare (plain l ∷ e ∷ h) = ap Tree.sequence (items_bare (plain l ∷ e ∷ h))
+flat_bare (direct l ∷ []) = ap Tree.leaf (unmarked_twice l)
+flat_bare (direct l ∷ e ∷ h) = ap Tree.sequence (items_bare (direct l ∷ e ∷ h))
 flat_bare (push l ∷ h) = ap Tree.sequence (items_bare (push l ∷ h))
 flat_bare (below ∷ h) = ap Tree.sequence (items_bare (below ∷ h))
 

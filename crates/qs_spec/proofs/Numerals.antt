@@ -8,8 +8,7 @@ use Rattle.std.proofs.lemmas.Fmt.{digits_decimal, digits_value-decimal, decimal-
 use Rattle.std.proofs.lemmas.Str.Parse.{IsNumeralModel, IsDigitsTest, FoldsDigits, numerals_by_fold}
 use Rattle.qs_spec.specs.Escape.{is_between}
 use Rattle.qs_spec.specs.Segment.{number}
-use Rattle.qs_spec.specs.Scalar.{is_numeral}
-use Rattle.qs_spec.specs.toward.Keys.{has_leading_zero}
+use Rattle.qs_spec.specs.Scalar.{is_numeral, has_leading_zero}
 use Rattle.qs_spec.proofs.Booleans.{and_both}
 
 abbrev pub AreDigits : List ℕ → Type 0

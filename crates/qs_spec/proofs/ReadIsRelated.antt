@@ -5,8 +5,8 @@ use Rattle.qs_spec.specs.Token.{Kind, Token, raw_of}
 use Rattle.qs_spec.specs.Segment.{Step}
 use Rattle.qs_spec.specs.Leaf.{Leaf}
 use Rattle.qs_spec.specs.Token.Kind.{Amp, Equals, Open, Close, Other}
-use Rattle.qs_spec.specs.Grammar.{Pair, plain, pushed, is_amp, is_open, is_close, ends_last, ends_root, IsRun, root, longer, IsValue, IsBrackets, IsPair, IsEnd, ArePairs}
-use Rattle.qs_spec.specs.toward.Reading.{Rest, cut_at, cut, value_at, read_value, with_leaf, after_close_at, after_close, after_run, last_key, in_last, in_segment, read_brackets, named, after_root_at, after_root, read_pair, read_pairs_at, read_pairs}
+use Rattle.qs_spec.specs.Grammar.{Pair, direct, pushed, is_amp, is_open, is_close, ends_last, ends_root, IsRun, root, longer, IsValue, IsBrackets, IsPair, IsEnd, ArePairs}
+use Rattle.qs_spec.specs.internal.Parsing.{Rest, cut_at, cut, value_at, parsed_value, with_leaf, after_close_at, after_close, after_run, last_key, in_last, in_segment, parsed_brackets, named, after_root_at, after_root, parsed_pair, parsed_pairs_at, parsed_pairs_within}
 use Rattle.qs_spec.proofs.Booleans.{and_both, not_of}
 
 -- what ends a run stands first, or nothing does
@@ -66,7 +66,7 @@ close_of Open e = cc
 close_of Close e = refl
 close_of Other e = cc
 
-value_reads : (ts : List Token) → Found IsValue ts (read_value ts)
+value_reads : (ts : List Token) → Found IsValue ts (parsed_value ts)
 value_reads [] = record { front = []; is = IsValue.none; end = tt; whole = refl }
 value_reads (t ∷ ts) = by t.kind refl
   where
@@ -102,24 +102,24 @@ run_more : (ends : Kind → Bool) (t : Token) (run : List Token) → ends t.kind
 run_more ends t run e h = ap (λ b. not b && list_all (λ t. not (ends t.kind)) run) e ∙ h
 
 abbrev AllFound : ℕ → Type 0
-AllFound room = (path : List Step) (bracket : List ℕ) (ts : List Token) → Found (IsBrackets room path bracket) ts (read_brackets room path bracket ts)
+AllFound room = (path : List Step) (bracket : List ℕ) (ts : List Token) → Found (IsBrackets room path bracket) ts (parsed_brackets room path bracket ts)
 
 closed : (room : ℕ) (path : List Step) (bracket : List ℕ) (s t : Token) (run rest : List Token) → IsRun is_close (s ∷ run) → t.kind ≡ Close → AllFound room
-    → Found (IsBrackets (suc room) path bracket) (s ∷ run ++ t ∷ rest) (after_close (read_brackets room) (longer path (raw_of (s ∷ run))) rest)
-closed room path bracket s t run [] r e h = leaf_behind (IsBrackets (suc room) path bracket) (λ l. s ∷ run ++ t ∷ l) (λ f g. after (s ∷ run) (t ∷ f) g) (plain (longer path (raw_of (s ∷ run)))) (λ value leaf v. IsBrackets.segment s t run value r e v) [] (read_value []) (value_reads [])
+    → Found (IsBrackets (suc room) path bracket) (s ∷ run ++ t ∷ rest) (after_close (parsed_brackets room) (longer path (raw_of (s ∷ run))) rest)
+closed room path bracket s t run [] r e h = leaf_behind (IsBrackets (suc room) path bracket) (λ l. s ∷ run ++ t ∷ l) (λ f g. after (s ∷ run) (t ∷ f) g) (direct (longer path (raw_of (s ∷ run)))) (λ value leaf v. IsBrackets.segment s t run value r e v) [] (parsed_value []) (value_reads [])
 closed room path bracket s t run (u ∷ rest) r e h = by u.kind refl
   where
-    by : (k : Kind) → u.kind ≡ k → Found (IsBrackets (suc room) path bracket) (s ∷ run ++ t ∷ u ∷ rest) (after_close_at k (read_brackets room) (longer path (raw_of (s ∷ run))) u rest)
+    by : (k : Kind) → u.kind ≡ k → Found (IsBrackets (suc room) path bracket) (s ∷ run ++ t ∷ u ∷ rest) (after_close_at k (parsed_brackets room) (longer path (raw_of (s ∷ run))) u rest)
     by Amp d = record { front = s ∷ run ++ t ∷ []; is = IsBrackets.segment s t run [] r e IsValue.none; end = d; whole = after (s ∷ run) (t ∷ []) (u ∷ rest) }
     by Equals d =
         let c = is_cut is_amp rest in
         record { front = s ∷ run ++ t ∷ u ∷ (cut is_amp rest).0; is = IsBrackets.segment s t run (u ∷ (cut is_amp rest).0) r e (IsValue.some d c.run); end = end_of _ c.stops; whole = ap (λ l. s ∷ run ++ t ∷ u ∷ l) c.whole ∙ after (s ∷ run) (t ∷ u ∷ (cut is_amp rest).0) (cut is_amp rest).1 }
-    by Open d = pair_behind (IsBrackets room (longer path (raw_of (s ∷ run))) u.raw) (IsBrackets (suc room) path bracket) (λ l. s ∷ run ++ t ∷ u ∷ l) (λ f g. after (s ∷ run) (t ∷ u ∷ f) g) (λ front p b. IsBrackets.deeper s t u run front r e d b) rest (read_brackets room (longer path (raw_of (s ∷ run))) u.raw rest) (h (longer path (raw_of (s ∷ run))) u.raw rest)
+    by Open d = pair_behind (IsBrackets room (longer path (raw_of (s ∷ run))) u.raw) (IsBrackets (suc room) path bracket) (λ l. s ∷ run ++ t ∷ u ∷ l) (λ f g. after (s ∷ run) (t ∷ u ∷ f) g) (λ front p b. IsBrackets.more s t u run front r e d b) rest (parsed_brackets room (longer path (raw_of (s ∷ run))) u.raw rest) (h (longer path (raw_of (s ∷ run))) u.raw rest)
     by Close d = tt
     by Other d = tt
 
-pushes : (room : ℕ) (path : List Step) (bracket : List ℕ) (t : Token) (ts : List Token) → is_close t.kind ≡ true → Found (IsBrackets room path bracket) (t ∷ ts) (with_leaf (pushed path) (read_value ts))
-pushes room path bracket t ts e = leaf_behind (IsBrackets room path bracket) (λ l. t ∷ l) (λ f g. refl) (pushed path) (λ value leaf v. IsBrackets.push (close_of t.kind e) v) ts (read_value ts) (value_reads ts)
+pushes : (room : ℕ) (path : List Step) (bracket : List ℕ) (t : Token) (ts : List Token) → is_close t.kind ≡ true → Found (IsBrackets room path bracket) (t ∷ ts) (with_leaf (pushed path) (parsed_value ts))
+pushes room path bracket t ts e = leaf_behind (IsBrackets room path bracket) (λ l. t ∷ l) (λ f g. refl) (pushed path) (λ value leaf v. IsBrackets.push (close_of t.kind e) v) ts (parsed_value ts) (value_reads ts)
 
 brackets_read : (room : ℕ) → AllFound room
 brackets_read zero path bracket [] = tt
@@ -130,19 +130,19 @@ brackets_read zero path bracket (t ∷ ts) = by (is_close t.kind) refl
     by false e =
         let c = is_cut ends_last ts in
         subst (λ l. Found (IsBrackets zero path bracket) (t ∷ l) (last_key path bracket t (cut ends_last ts))) (sym c.whole)
-        (leaf_behind (IsBrackets zero path bracket) (λ l. t ∷ (cut ends_last ts).0 ++ l) (after (t ∷ (cut ends_last ts).0)) (plain (longer path (bracket ++ t.raw ++ raw_of (cut ends_last ts).0))) (λ value leaf v. IsBrackets.last t (cut ends_last ts).0 value e c.run v) (cut ends_last ts).1 (read_value (cut ends_last ts).1) (value_reads (cut ends_last ts).1))
+        (leaf_behind (IsBrackets zero path bracket) (λ l. t ∷ (cut ends_last ts).0 ++ l) (after (t ∷ (cut ends_last ts).0)) (direct (longer path (bracket ++ t.raw ++ raw_of (cut ends_last ts).0))) (λ value leaf v. IsBrackets.last t (cut ends_last ts).0 value e c.run v) (cut ends_last ts).1 (parsed_value (cut ends_last ts).1) (value_reads (cut ends_last ts).1))
 brackets_read (suc room) path bracket [] = tt
 brackets_read (suc room) path bracket (t ∷ ts) = by (brackets_read room) (is_close t.kind) refl
   where
-    behind_run : AllFound room → (run rest : List Token) → IsRun is_close (t ∷ run) → Stops is_close rest → Found (IsBrackets (suc room) path bracket) (t ∷ run ++ rest) (after_run (read_brackets room) (longer path (raw_of (t ∷ run))) rest)
+    behind_run : AllFound room → (run rest : List Token) → IsRun is_close (t ∷ run) → Stops is_close rest → Found (IsBrackets (suc room) path bracket) (t ∷ run ++ rest) (after_run (parsed_brackets room) (longer path (raw_of (t ∷ run))) rest)
     behind_run h run [] r s = tt
     behind_run h run (u ∷ rest) r s = closed room path bracket t u run rest r (close_of u.kind s) h
 
-    by : AllFound room → (b : Bool) → is_close t.kind ≡ b → Found (IsBrackets (suc room) path bracket) (t ∷ ts) (in_segment b (read_brackets room) path t ts)
+    by : AllFound room → (b : Bool) → is_close t.kind ≡ b → Found (IsBrackets (suc room) path bracket) (t ∷ ts) (in_segment b (parsed_brackets room) path t ts)
     by h true e = pushes (suc room) path bracket t ts e
     by h false e =
         let c = is_cut is_close ts in
-        subst (λ l. Found (IsBrackets (suc room) path bracket) (t ∷ l) (in_segment false (read_brackets room) path t ts)) (sym c.whole)
+        subst (λ l. Found (IsBrackets (suc room) path bracket) (t ∷ l) (in_segment false (parsed_brackets room) path t ts)) (sym c.whole)
         (behind_run h (cut is_close ts).0 (cut is_close ts).1 (run_more is_close t (cut is_close ts).0 e c.run) c.stops)
 
 pair_at : (depth : ℕ) (key rest : List Token) → IsRun (ends_root depth) key → Stops (ends_root depth) rest → Found (IsPair depth) (key ++ rest) (after_root depth key rest)
@@ -159,14 +159,14 @@ pair_at depth key (u ∷ rest) r s = by u.kind refl
     by Equals e =
         let c = is_cut is_amp rest in
         record { front = key ++ u ∷ (cut is_amp rest).0; is = IsPair.value u key (cut is_amp rest).0 r (IsValue.some e c.run); end = end_of _ c.stops; whole = ap (λ l. key ++ u ∷ l) c.whole ∙ after key (u ∷ (cut is_amp rest).0) (cut is_amp rest).1 }
-    by Open e = pair_behind (IsBrackets depth (root key) u.raw) (IsPair depth) (λ l. key ++ u ∷ l) (λ f g. after key (u ∷ f) g) (λ front p b. IsPair.brackets u key front r (ap is_open e) (sym (ap (ends_root depth) e) ∙ s) b) rest (read_brackets depth (root key) u.raw rest) (brackets_read depth (root key) u.raw rest)
+    by Open e = pair_behind (IsBrackets depth (root key) u.raw) (IsPair depth) (λ l. key ++ u ∷ l) (λ f g. after key (u ∷ f) g) (λ front p b. IsPair.brackets u key front r (ap is_open e) (sym (ap (ends_root depth) e) ∙ s) b) rest (parsed_brackets depth (root key) u.raw rest) (brackets_read depth (root key) u.raw rest)
     by Close e = tt
     by Other e = tt
 
-pub pair_reads : (depth : ℕ) (ts : List Token) → Found (IsPair depth) ts (read_pair depth ts)
+pub pair_reads : (depth : ℕ) (ts : List Token) → Found (IsPair depth) ts (parsed_pair depth ts)
 pair_reads depth ts =
     let c = is_cut (ends_root depth) ts in
-    subst (λ l. Found (IsPair depth) l (read_pair depth ts)) (sym c.whole) (pair_at depth (cut (ends_root depth) ts).0 (cut (ends_root depth) ts).1 c.run c.stops)
+    subst (λ l. Found (IsPair depth) l (parsed_pair depth ts)) (sym c.whole) (pair_at depth (cut (ends_root depth) ts).0 (cut (ends_root depth) ts).1 c.run c.stops)
 
 abbrev pub Finds : ℕ → List Token → Option (List Pair) → Type 0
 Finds depth ts None = Unit {0}
@@ -179,11 +179,11 @@ amp_of Open e = cc
 amp_of Close e = cc
 amp_of Other e = cc
 
-pub pairs_read : (depth n : ℕ) (ts : List Token) → Finds depth ts (read_pairs depth n ts)
+pub pairs_read : (depth n : ℕ) (ts : List Token) → Finds depth ts (parsed_pairs_within depth n ts)
 pairs_read depth zero [] = ArePairs.none
 pairs_read depth zero (t ∷ ts) = tt
 pairs_read depth (suc n) [] = ArePairs.none
-pairs_read depth (suc n) (t ∷ ts) = by (pairs_read depth n) (is_amp t.kind) refl (read_pair depth (t ∷ ts)) (pair_reads depth (t ∷ ts))
+pairs_read depth (suc n) (t ∷ ts) = by (pairs_read depth n) (is_amp t.kind) refl (parsed_pair depth (t ∷ ts)) (pair_reads depth (t ∷ ts))
   where
     skip : t.kind ≡ Amp → (o : Option (List Pair)) → Finds depth ts o → Finds depth (t ∷ ts) o
     skip e None h = tt
@@ -193,7 +193,7 @@ pairs_read depth (suc n) (t ∷ ts) = by (pairs_read depth n) (is_amp t.kind) re
     more p rest r None h = tt
     more p rest r (Some ps) h = subst (λ l. ArePairs depth l (p ∷ ps)) (sym r.whole) (ArePairs.pair r.front rest r.is r.end h)
 
-    by : ((ts : List Token) → Finds depth ts (read_pairs depth n ts)) → (b : Bool) → is_amp t.kind ≡ b → (r : Rest Pair) → Found (IsPair depth) (t ∷ ts) r → Finds depth (t ∷ ts) (read_pairs_at b (read_pairs depth n ts) r (read_pairs depth n))
-    by h true e r f = skip (amp_of t.kind e) (read_pairs depth n ts) (h ts)
+    by : ((ts : List Token) → Finds depth ts (parsed_pairs_within depth n ts)) → (b : Bool) → is_amp t.kind ≡ b → (r : Rest Pair) → Found (IsPair depth) (t ∷ ts) r → Finds depth (t ∷ ts) (parsed_pairs_at b (parsed_pairs_within depth n ts) r (parsed_pairs_within depth n))
+    by h true e r f = skip (amp_of t.kind e) (parsed_pairs_within depth n ts) (h ts)
     by h false e None f = tt
-    by h false e (Some r) f = more r.0 r.1 f (read_pairs depth n r.1) (h r.1)
+    by h false e (Some r) f = more r.0 r.1 f (parsed_pairs_within depth n r.1) (h r.1)

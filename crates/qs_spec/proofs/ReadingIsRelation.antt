@@ -12,7 +12,7 @@ use Rattle.qs_spec.specs.Data.{Data, Values, values_of, pairs_of, members_of, Na
 use Rattle.qs_spec.specs.Shape.{Shape, Shapes, no_shapes, one_shape, Fields, no_fields, one_field, Variants, no_variants, one_variant, VariantKind, unit_kind, newtype_kind, tuple_kind, struct_kind, is_option, is_distinct}
 use Rattle.qs_spec.specs.Scalar.{boolean_data, unsigned_data, signed_data, text_data}
 use Rattle.qs_spec.specs.Node.{items, found, keys_are_allowed, as_map}
-use Rattle.qs_spec.specs.toward.ReadFunction.{read_each, read_list, with_front, read_field, read_place, items_after, with_field, struct_members, read_map, read_enum, reads, reads_tuple, reads_names, reads_places, reads_variant, reads_kind}
+use Rattle.qs_spec.specs.internal.ReadFunction.{read_each, read_list, with_front, read_field, read_place, items_after, with_field, struct_members, read_map, read_enum, reads, reads_tuple, reads_names, reads_places, reads_variant, reads_kind}
 use Rattle.qs_spec.specs.Relation.{HasVariant, Reads, ReadsFirst, ReadsNames, ReadsPlaces, ReadsVariant}
 use Rattle.std.proofs.Common.{◌↔◌}
 use Rattle.qs_spec.proofs.SomeAnswers.{mapped, chained}

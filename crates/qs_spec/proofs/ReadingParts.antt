@@ -9,8 +9,8 @@ use Rattle.qs_spec.specs.Tree.Tree.{leaf, sequence, mapping, uninitialized}
 use Rattle.qs_spec.specs.Data.{Data, Values, no_values, one_value, Pairs, no_pairs, one_pair, Members, no_members, one_member, values_of, pairs_of, members_of, Named}
 use Rattle.qs_spec.specs.Scalar.{text_data}
 use Rattle.qs_spec.specs.Node.{items}
-use Rattle.qs_spec.specs.toward.ReadFunction.{Reader, read_scalar, read_option, read_each, read_list}
-use Rattle.qs_spec.specs.Node.{last, IsFull}
+use Rattle.qs_spec.specs.internal.ReadFunction.{Reader, read_scalar, read_option, read_each, read_list}
+use Rattle.qs_spec.specs.Node.{last_text, IsFull}
 
 -- the lists that own list families are made of
 abbrev pub value_list : Values → List Data
@@ -47,7 +47,7 @@ pairs_made of o ps e = ap (option_map (λ xs. of (pairs_of xs))) e ∙ ap (λ xs
 pub members_made : (of : Members → Data) (o : Option (List Named)) (ms : Members) → o ≡ Some (member_list ms) → option_map (λ xs. of (members_of xs)) o ≡ Some (of ms)
 members_made of o ms e = ap (option_map (λ xs. of (members_of xs))) e ∙ ap (λ xs. Some (of xs)) (members_list ms)
 
-pub scalar_read : (st : Bool) (empty : Option Data) (get : List ℕ → Option Data) (n : Tree) (t : List ℕ) (d : Data) → last st n ≡ Some t → get t ≡ Some d → read_scalar st empty get n ≡ Some d
+pub scalar_read : (st : Bool) (empty : Option Data) (get : List ℕ → Option Data) (n : Tree) (t : List ℕ) (d : Data) → last_text st n ≡ Some t → get t ≡ Some d → read_scalar st empty get n ≡ Some d
 scalar_read st empty get (leaf NoValue) t d e f = absurd (none-some t e)
 scalar_read st empty get (leaf Null) t d e f = absurd (none-some t e)
 scalar_read st empty get (leaf (Text b m)) t d e f = ap get (same_Some b t e) ∙ f

@@ -7,8 +7,8 @@ use Rattle.qs_spec.specs.Segment.{Step}
 use Rattle.qs_spec.specs.Leaf.{Leaf}
 use Rattle.qs_spec.specs.Token.Kind.{Amp, Equals, Open, Close, Other}
 use Rattle.qs_spec.specs.Leaf.Leaf.{NoValue}
-use Rattle.qs_spec.specs.Grammar.{Pair, plain, pushed, is_amp, is_open, is_close, ends_last, ends_root, IsRun, root, longer, IsValue, IsBrackets, IsPair, IsEnd, ArePairs}
-use Rattle.qs_spec.specs.toward.Reading.{valued, value_at, read_value, with_leaf, Deeper, after_close_at, after_close, after_run, last_key, in_last, in_segment, read_brackets, after_root_at, after_root, read_pair, read_pairs_at, read_pairs, pairs_of}
+use Rattle.qs_spec.specs.Grammar.{Pair, direct, pushed, is_amp, is_open, is_close, ends_last, ends_root, IsRun, root, longer, IsValue, IsBrackets, IsPair, IsEnd, ArePairs}
+use Rattle.qs_spec.specs.internal.Parsing.{valued, value_at, parsed_value, with_leaf, Deeper, after_close_at, after_close, after_run, last_key, in_last, in_segment, parsed_brackets, after_root_at, after_root, parsed_pair, parsed_pairs_at, parsed_pairs_within, parsed_pairs}
 use Rattle.qs_spec.proofs.ReadIsRelated.{Stops, cut_run, Finds, pairs_read}
 use Rattle.qs_spec.proofs.Booleans.{and_both, not_of}
 
@@ -17,7 +17,7 @@ stops_at : (ends : Kind → Bool) → ends Amp ≡ true → (rest : List Token) 
 stops_at ends a [] h = tt
 stops_at ends a (t ∷ rest) h = ap ends h ∙ a
 
-value_found : (front : List Token) (leaf : Leaf) (rest : List Token) → IsValue front leaf → IsEnd rest → read_value (front ++ rest) ≡ Some (leaf, rest)
+value_found : (front : List Token) (leaf : Leaf) (rest : List Token) → IsValue front leaf → IsEnd rest → parsed_value (front ++ rest) ≡ Some (leaf, rest)
 value_found _ _ [] IsValue.none h = refl
 value_found _ _ (t ∷ rest) IsValue.none h = ap (λ k. value_at k t rest) h
 value_found _ _ rest (IsValue.some {t} {v} e r) h = ap (λ k. value_at k t (v ++ rest)) e ∙ ap valued (cut_run is_amp v rest r (stops_at is_amp refl rest h))
@@ -25,39 +25,39 @@ value_found _ _ rest (IsValue.some {t} {v} e r) h = ap (λ k. value_at k t (v ++
 close_at : (k : Kind) → k ≡ Close → is_close k ≡ true
 close_at k e = ap is_close e
 
-push_found : (room : ℕ) (path : List Step) (bracket : List ℕ) (t : Token) (ts : List Token) → t.kind ≡ Close → read_brackets room path bracket (t ∷ ts) ≡ with_leaf (pushed path) (read_value ts)
+push_found : (room : ℕ) (path : List Step) (bracket : List ℕ) (t : Token) (ts : List Token) → t.kind ≡ Close → parsed_brackets room path bracket (t ∷ ts) ≡ with_leaf (pushed path) (parsed_value ts)
 push_found zero path bracket t ts e = ap (λ b. in_last b path bracket t ts) (close_at t.kind e)
-push_found (suc room) path bracket t ts e = ap (λ b. in_segment b (read_brackets room) path t ts) (close_at t.kind e)
+push_found (suc room) path bracket t ts e = ap (λ b. in_segment b (parsed_brackets room) path t ts) (close_at t.kind e)
 
 -- a value after a segment doesn't begin with a bracket
-after_value : (deeper : Deeper) (q : List Step) (value rest : List Token) (leaf : Leaf) → IsValue value leaf → IsEnd rest → after_close deeper q (value ++ rest) ≡ Some (plain q leaf, rest)
+after_value : (deeper : Deeper) (q : List Step) (value rest : List Token) (leaf : Leaf) → IsValue value leaf → IsEnd rest → after_close deeper q (value ++ rest) ≡ Some (direct q leaf, rest)
 after_value deeper q _ [] _ IsValue.none h = refl
 after_value deeper q _ (t ∷ rest) _ IsValue.none h = ap (λ k. after_close_at k deeper q t rest) h
-after_value deeper q _ rest _ (IsValue.some {t} {v} e r) h = ap (λ k. after_close_at k deeper q t (v ++ rest)) e ∙ ap (λ c. with_leaf (plain q) (valued c)) (cut_run is_amp v rest r (stops_at is_amp refl rest h))
+after_value deeper q _ rest _ (IsValue.some {t} {v} e r) h = ap (λ k. after_close_at k deeper q t (v ++ rest)) e ∙ ap (λ c. with_leaf (direct q) (valued c)) (cut_run is_amp v rest r (stops_at is_amp refl rest h))
 
 segment_found : (room : ℕ) (path : List Step) (bracket : List ℕ) (s t : Token) (run more : List Token) → IsRun is_close (s ∷ run) → t.kind ≡ Close
-    → read_brackets (suc room) path bracket (s ∷ (run ++ t ∷ more)) ≡ after_close (read_brackets room) (longer path (raw_of (s ∷ run))) more
+    → parsed_brackets (suc room) path bracket (s ∷ (run ++ t ∷ more)) ≡ after_close (parsed_brackets room) (longer path (raw_of (s ∷ run))) more
 segment_found room path bracket s t run more r e =
     let parts = and_both (not (is_close s.kind)) (list_all (λ t. not (is_close t.kind)) run) r in
-    ap (λ b. in_segment b (read_brackets room) path s (run ++ t ∷ more)) (not_of (is_close s.kind) parts.0)
-    ∙ ap (λ (c : List Token × List Token). after_run (read_brackets room) (longer path (raw_of (s ∷ c.0))) c.1) (cut_run is_close run (t ∷ more) parts.1 (close_at t.kind e))
+    ap (λ b. in_segment b (parsed_brackets room) path s (run ++ t ∷ more)) (not_of (is_close s.kind) parts.0)
+    ∙ ap (λ (c : List Token × List Token). after_run (parsed_brackets room) (longer path (raw_of (s ∷ c.0))) c.1) (cut_run is_close run (t ∷ more) parts.1 (close_at t.kind e))
 
-brackets_found : {room : ℕ} {path : List Step} {bracket : List ℕ} {ts : List Token} {p : Pair} (rest : List Token) → IsBrackets room path bracket ts p → IsEnd rest → read_brackets room path bracket (ts ++ rest) ≡ Some (p, rest)
+brackets_found : {room : ℕ} {path : List Step} {bracket : List ℕ} {ts : List Token} {p : Pair} (rest : List Token) → IsBrackets room path bracket ts p → IsEnd rest → parsed_brackets room path bracket (ts ++ rest) ≡ Some (p, rest)
 brackets_found rest (IsBrackets.push {room} {path} {bracket} {t} {value} {leaf} e v) h = push_found room path bracket t (value ++ rest) e ∙ ap (with_leaf (pushed path)) (value_found value leaf rest v h)
 brackets_found rest (IsBrackets.segment {room} {path} {bracket} {leaf} s t run value r e v) h =
-    ap (read_brackets (suc room) path bracket) (append_assoc (s ∷ run) (t ∷ value) rest)
+    ap (parsed_brackets (suc room) path bracket) (append_assoc (s ∷ run) (t ∷ value) rest)
     ∙ segment_found room path bracket s t run (value ++ rest) r e
-    ∙ after_value (read_brackets room) (longer path (raw_of (s ∷ run))) value rest leaf v h
-brackets_found rest (IsBrackets.deeper {room} {path} {bracket} {pair} s t u run more r e d b) h =
-    ap (read_brackets (suc room) path bracket) (append_assoc (s ∷ run) (t ∷ u ∷ more) rest)
+    ∙ after_value (parsed_brackets room) (longer path (raw_of (s ∷ run))) value rest leaf v h
+brackets_found rest (IsBrackets.more {room} {path} {bracket} {pair} s t u run more r e d b) h =
+    ap (parsed_brackets (suc room) path bracket) (append_assoc (s ∷ run) (t ∷ u ∷ more) rest)
     ∙ segment_found room path bracket s t run (u ∷ (more ++ rest)) r e
-    ∙ ap (λ k. after_close_at k (read_brackets room) (longer path (raw_of (s ∷ run))) u (more ++ rest)) d
+    ∙ ap (λ k. after_close_at k (parsed_brackets room) (longer path (raw_of (s ∷ run))) u (more ++ rest)) d
     ∙ brackets_found rest b h
 brackets_found rest (IsBrackets.last {path} {bracket} {leaf} t run value e r v) h =
-    ap (λ l. read_brackets 0 path bracket (t ∷ l)) (append_assoc run value rest)
+    ap (λ l. parsed_brackets 0 path bracket (t ∷ l)) (append_assoc run value rest)
     ∙ ap (λ b. in_last b path bracket t (run ++ (value ++ rest))) e
     ∙ ap (last_key path bracket t) (cut_run ends_last run (value ++ rest) r (value_stops value leaf v))
-    ∙ ap (with_leaf (plain (longer path (bracket ++ t.raw ++ raw_of run)))) (value_found value leaf rest v h)
+    ∙ ap (with_leaf (direct (longer path (bracket ++ t.raw ++ raw_of run)))) (value_found value leaf rest v h)
   where
     value_stops : (value : List Token) (leaf : Leaf) → IsValue value leaf → Stops ends_last (value ++ rest)
     value_stops _ _ IsValue.none = stops_at ends_last refl rest h
@@ -67,22 +67,22 @@ root_ends : (depth : ℕ) (k : Kind) → ends_last k ≡ true → ends_root dept
 root_ends zero k e = e
 root_ends (suc depth) k e = ap (λ b. b || is_open k) e
 
-root_found : (depth : ℕ) (key rest : List Token) → IsRun (ends_root depth) key → Stops (ends_root depth) rest → read_pair depth (key ++ rest) ≡ after_root depth key rest
+root_found : (depth : ℕ) (key rest : List Token) → IsRun (ends_root depth) key → Stops (ends_root depth) rest → parsed_pair depth (key ++ rest) ≡ after_root depth key rest
 root_found depth key rest r s = ap (λ (c : List Token × List Token). after_root depth c.0 c.1) (cut_run (ends_root depth) key rest r s)
 
-pair_found : {depth : ℕ} {ts : List Token} {p : Pair} (rest : List Token) → IsPair depth ts p → IsEnd rest → read_pair depth (ts ++ rest) ≡ Some (p, rest)
+pair_found : {depth : ℕ} {ts : List Token} {p : Pair} (rest : List Token) → IsPair depth ts p → IsEnd rest → parsed_pair depth (ts ++ rest) ≡ Some (p, rest)
 pair_found {depth} rest (IsPair.name {t} {key} r) h = root_found depth (t ∷ key) rest r (stops_at (ends_root depth) (root_ends depth Amp refl) rest h) ∙ ends rest h
   where
-    ends : (rest : List Token) → IsEnd rest → after_root depth (t ∷ key) rest ≡ Some (plain (root (t ∷ key)) NoValue, rest)
+    ends : (rest : List Token) → IsEnd rest → after_root depth (t ∷ key) rest ≡ Some (direct (root (t ∷ key)) NoValue, rest)
     ends [] h = refl
     ends (u ∷ rest) h = ap (λ k. after_root_at k depth (t ∷ key) u rest) h
 pair_found {depth} rest (IsPair.value {leaf} t key value r (IsValue.some e q)) h =
-    ap (read_pair depth) (append_assoc key (t ∷ value) rest)
+    ap (parsed_pair depth) (append_assoc key (t ∷ value) rest)
     ∙ root_found depth key (t ∷ (value ++ rest)) r (ap (ends_root depth) e ∙ root_ends depth Equals refl)
     ∙ ap (λ k. after_root_at k depth key t (value ++ rest)) e
-    ∙ ap (λ c. with_leaf (plain (root key)) (valued c)) (cut_run is_amp value rest q (stops_at is_amp refl rest h))
+    ∙ ap (λ c. with_leaf (direct (root key)) (valued c)) (cut_run is_amp value rest q (stops_at is_amp refl rest h))
 pair_found {depth} rest (IsPair.brackets {pair} t key more r o d b) h =
-    ap (read_pair depth) (append_assoc key (t ∷ more) rest)
+    ap (parsed_pair depth) (append_assoc key (t ∷ more) rest)
     ∙ root_found depth key (t ∷ (more ++ rest)) r (ap (ends_root depth) (open_of t.kind o) ∙ d)
     ∙ ap (λ k. after_root_at k depth key t (more ++ rest)) (open_of t.kind o)
     ∙ brackets_found rest b h
@@ -122,30 +122,30 @@ pair_begun {depth} (IsPair.brackets t key more r o d b) = run_begun depth key t 
     open_amp Close e = cc
     open_amp Other e = cc
 
-step_found : (depth n : ℕ) (front rest : List Token) (pair : Pair) (ps : List Pair) → read_pair depth (front ++ rest) ≡ Some (pair, rest) → IsBegun front
-    → ((n : ℕ) → length rest ≤ n → read_pairs depth n rest ≡ Some ps) → length (front ++ rest) ≤ n → read_pairs depth n (front ++ rest) ≡ Some (pair ∷ ps)
+step_found : (depth n : ℕ) (front rest : List Token) (pair : Pair) (ps : List Pair) → parsed_pair depth (front ++ rest) ≡ Some (pair, rest) → IsBegun front
+    → ((n : ℕ) → length rest ≤ n → parsed_pairs_within depth n rest ≡ Some ps) → length (front ++ rest) ≤ n → parsed_pairs_within depth n (front ++ rest) ≡ Some (pair ∷ ps)
 step_found depth zero front rest pair ps r b more l =
     let w : front ++ rest ≡ b.0 ∷ (b.1 ++ rest) = ap (λ l. l ++ rest) b.2 in
     absurd (omega (arith, ap length w))
 step_found depth (suc n) front rest pair ps r b more l =
     let w : front ++ rest ≡ b.0 ∷ (b.1 ++ rest) = ap (λ l. l ++ rest) b.2 in
-    ap (read_pairs depth (suc n)) w
-    ∙ ap (λ x. read_pairs_at x (read_pairs depth n (b.1 ++ rest)) (read_pair depth (b.0 ∷ (b.1 ++ rest))) (read_pairs depth n)) b.3
-    ∙ ap (λ x. read_pairs_at false (read_pairs depth n (b.1 ++ rest)) x (read_pairs depth n)) (ap (read_pair depth) (sym w) ∙ r)
+    ap (parsed_pairs_within depth (suc n)) w
+    ∙ ap (λ x. parsed_pairs_at x (parsed_pairs_within depth n (b.1 ++ rest)) (parsed_pair depth (b.0 ∷ (b.1 ++ rest))) (parsed_pairs_within depth n)) b.3
+    ∙ ap (λ x. parsed_pairs_at false (parsed_pairs_within depth n (b.1 ++ rest)) x (parsed_pairs_within depth n)) (ap (parsed_pair depth) (sym w) ∙ r)
     ∙ ap (option_map (λ ps. pair ∷ ps)) (more n (omega (arith, ap length w, length-append b.1 rest)))
 
-pub pairs_found : {depth : ℕ} {ts : List Token} {ps : List Pair} → ArePairs depth ts ps → (n : ℕ) → length ts ≤ n → read_pairs depth n ts ≡ Some ps
+pub pairs_found : {depth : ℕ} {ts : List Token} {ps : List Pair} → ArePairs depth ts ps → (n : ℕ) → length ts ≤ n → parsed_pairs_within depth n ts ≡ Some ps
 pairs_found ArePairs.none zero l = refl
 pairs_found ArePairs.none (suc n) l = refl
 pairs_found (ArePairs.amp {t} {rest} e h) zero l = absurd (omega arith)
-pairs_found {depth} (ArePairs.amp {t} {rest} e h) (suc n) l = ap (λ b. read_pairs_at b (read_pairs depth n rest) (read_pair depth (t ∷ rest)) (read_pairs depth n)) (ap is_amp e) ∙ pairs_found h n (omega arith)
+pairs_found {depth} (ArePairs.amp {t} {rest} e h) (suc n) l = ap (λ b. parsed_pairs_at b (parsed_pairs_within depth n rest) (parsed_pair depth (t ∷ rest)) (parsed_pairs_within depth n)) (ap is_amp e) ∙ pairs_found h n (omega arith)
 pairs_found {depth} (ArePairs.pair {pair} {pairs} front rest p e h) n l = step_found depth n front rest pair pairs (pair_found rest p e) (pair_begun p) (pairs_found h) l
 
-pub found_pairs : {depth : ℕ} {ts : List Token} {ps : List Pair} → ArePairs depth ts ps → pairs_of depth ts ≡ Some ps
+pub found_pairs : {depth : ℕ} {ts : List Token} {ps : List Pair} → ArePairs depth ts ps → parsed_pairs depth ts ≡ Some ps
 found_pairs {depth} {ts} h = pairs_found h (length ts) (le_refl (length ts))
 
 -- what the function reads, the grammar relates
-pub are_pairs : (depth : ℕ) (ts : List Token) (ps : List Pair) → pairs_of depth ts ≡ Some ps → ArePairs depth ts ps
+pub are_pairs : (depth : ℕ) (ts : List Token) (ps : List Pair) → parsed_pairs depth ts ≡ Some ps → ArePairs depth ts ps
 are_pairs depth ts ps e = let P : Option (List Pair) → Type 0 = Finds depth ts in subst P e (pairs_read depth (length ts) ts)
 
 -- tokens are at most one list of pairs
@@ -153,5 +153,5 @@ pub one_list : (depth : ℕ) (ts : List Token) (ps qs : List Pair) → ArePairs 
 one_list depth ts ps qs p q = same_Some ps qs (sym (found_pairs p) ∙ found_pairs q)
 
 -- where the function finds none, there are none
-pub no_pairs : (depth : ℕ) (ts : List Token) (ps : List Pair) → pairs_of depth ts ≡ None → ArePairs depth ts ps → ⊥
+pub no_pairs : (depth : ℕ) (ts : List Token) (ps : List Pair) → parsed_pairs depth ts ≡ None → ArePairs depth ts ps → ⊥
 no_pairs depth ts ps e h = none-some ps (sym e ∙ found_pairs h)

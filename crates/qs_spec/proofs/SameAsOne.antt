@@ -2,7 +2,7 @@
 use Rattle.std.proofs.Common.{◌≡◌, ℕ, false, true, List, [], ◌∷◌, refl, subst}
 use Rattle.std.specs.List.Sorted.{IsPermutation}
 use Rattle.std.proofs.lemmas.List.Sorted.{IsPermutation-refl}
-use Rattle.qs_spec.specs.Config.{Config, are_refused, indexed}
+use Rattle.qs_spec.specs.Config.{Config, are_rejected, indexed}
 use Rattle.qs_spec.specs.Data.{Data, Values, Pairs, one_pair, Members}
 use Rattle.qs_spec.specs.Shape.{Shape, is_distinct}
 use Rattle.qs_spec.specs.Relation.{ReadsBy}
@@ -85,7 +85,7 @@ mutual
 one_answer : (config : Config) (shape : Shape) (d e : Data) (input : List ℕ) → is_distinct shape ≡ true → IsReadBack config shape d input → IsReadBack config shape e input → Same d e
 one_answer config shape d e input dist x y =
     let tree = one_tree config.form config.max_depth input x.tree y.tree x.is_tree y.is_tree in
-    let answer = one_data (are_refused config.duplicates) shape y.tree x.answer y.answer dist (subst (λ t. ReadsBy config shape t x.answer) tree x.reads) y.reads in
+    let answer = one_data (are_rejected config.duplicates) shape y.tree x.answer y.answer dist (subst (λ t. ReadsBy config shape t x.answer) tree x.reads) y.reads in
     as_one (subst (Same d) answer x.same) y.same
 
 pub same_entries : (config : Config) (shape : Shape) (d e : Data) → config.array_format ≡ indexed → is_distinct shape ≡ true → IsPlainFor config shape d → IsPlainFor config shape e

@@ -9,9 +9,9 @@ use Rattle.qs_spec.specs.Grammar.{Pair, ArePairs}
 use Rattle.qs_spec.specs.History.{Event, event, events, under, under_one, is_below, is_push, permitted}
 use Rattle.qs_spec.specs.Tree.{node_within, node, longest, Tree, IsTree}
 use Rattle.qs_spec.specs.Segment.{is_same_segment}
-use Rattle.qs_spec.specs.History.Event.{plain, push, below}
+use Rattle.qs_spec.specs.History.Event.{direct, push, below}
 use Rattle.qs_spec.specs.Tree.Tree.{uninitialized}
-use Rattle.qs_spec.specs.toward.InPlace.{add, add_all}
+use Rattle.qs_spec.specs.internal.InPlace.{add, add_all}
 use Rattle.qs_spec.proofs.RelatedIsRead.{one_list}
 use Rattle.qs_spec.proofs.OneMore.{NoneEmpty, NoEmpty, Permitted}
 use Rattle.qs_spec.proofs.Insert.{Goes, adds}
@@ -34,10 +34,10 @@ permitted_front : (h g : List Event) → permitted (h ++ g) ≡ true → permitt
 permitted_front [] g e = refl
 permitted_front (below ∷ h) g e = weaker_not (list_any is_push h) (list_any is_push g) (sym (ap not (list_any-append is_push h g)) ∙ e)
 permitted_front (push l ∷ h) g e = weaker (list_any is_below h) (list_any is_below g) (sym (ap (λ x. (not x && true) || false) (list_any-append is_below h g)) ∙ e)
-permitted_front (plain l ∷ []) g e = refl
-permitted_front (plain l ∷ plain k ∷ h) g e = weaker (list_any is_below h) (list_any is_below g) (sym (ap (λ x. (not x && true) || false) (list_any-append is_below h g)) ∙ e)
-permitted_front (plain l ∷ push k ∷ h) g e = absurd (never _ e)
-permitted_front (plain l ∷ below ∷ h) g e = cc
+permitted_front (direct l ∷ []) g e = refl
+permitted_front (direct l ∷ direct k ∷ h) g e = weaker (list_any is_below h) (list_any is_below g) (sym (ap (λ x. (not x && true) || false) (list_any-append is_below h g)) ∙ e)
+permitted_front (direct l ∷ push k ∷ h) g e = absurd (never _ e)
+permitted_front (direct l ∷ below ∷ h) g e = cc
 
 under-append : (k : Segment) (ps qs : List Pair) → under k (ps ++ qs) ≡ under k ps ++ under k qs
 under-append k [] qs = refl

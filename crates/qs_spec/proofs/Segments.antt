@@ -58,7 +58,7 @@ module _ (P : Segment → Type 0) (of : (raw : List ℕ) → HasBytes raw → P 
   brackets_all : {room : ℕ} {path : List Step} {bracket : List ℕ} {ts : List Token} {p : Pair} → IsBrackets room path bracket ts p → AllSteps P path → AllRaw ts → AllSteps P p.path
   brackets_all (IsBrackets.push e v) n h = n
   brackets_all (IsBrackets.segment {path = path} s t run value r e v) n h = longer_all path (raw_of (s ∷ run)) n (has_left s.raw (raw_of run) h.0)
-  brackets_all (IsBrackets.deeper {path = path} s t u run rest r e d b) n h = brackets_all b (longer_all path (raw_of (s ∷ run)) n (has_left s.raw (raw_of run) h.0)) (all_right (s ∷ run) (t ∷ u ∷ rest) h).1.1
+  brackets_all (IsBrackets.more {path = path} s t u run rest r e d b) n h = brackets_all b (longer_all path (raw_of (s ∷ run)) n (has_left s.raw (raw_of run) h.0)) (all_right (s ∷ run) (t ∷ u ∷ rest) h).1.1
   brackets_all (IsBrackets.last {path = path} {bracket = bracket} t run value e r v) n h = longer_all path (bracket ++ t.raw ++ raw_of run) n (has_left (bracket ++ t.raw) (raw_of run) (has_right bracket t.raw h.0))
 
   pair_all : {depth : ℕ} {ts : List Token} {p : Pair} → IsPair depth ts p → AllRaw ts → AllSteps P p.path

@@ -8,7 +8,7 @@ use Rattle.qs_spec.specs.Grammar.{Pair}
 use Rattle.qs_spec.specs.History.{Event, event, event_of, events, under, under_one, is_below}
 use Rattle.qs_spec.specs.Tree.{node_within, longest, Tree, IsTree, heads, put, put_head, entries_of, filled, filled_path, flat, leaves_in, leaf_items}
 use Rattle.qs_spec.specs.Segment.{is_same_segment}
-use Rattle.qs_spec.specs.History.Event.{plain, push, below}
+use Rattle.qs_spec.specs.History.Event.{direct, push, below}
 use Rattle.qs_spec.specs.Tree.Entries.{no_entries}
 use Rattle.qs_spec.specs.Holds.{AreLeaves, IsSound, AreSound, IsLow, IsLowAtEmpty}
 use Rattle.qs_spec.proofs.OneMore.{NoneEmpty, NoEmpty}
@@ -25,15 +25,15 @@ are_leaves (l ∷ ls) = (tt, are_leaves ls)
 
 flat_sound : (h : List Event) → list_any is_below h ≡ false → IsSound (flat h)
 flat_sound [] e = tt
-flat_sound (plain l ∷ []) e = tt
-flat_sound (plain l ∷ d ∷ h) e = (λ w. cc, are_leaves (leaves_in (plain l ∷ d ∷ h)))
+flat_sound (direct l ∷ []) e = tt
+flat_sound (direct l ∷ d ∷ h) e = (λ w. cc, are_leaves (leaves_in (direct l ∷ d ∷ h)))
 flat_sound (push l ∷ h) e = (λ w. cc, are_leaves (leaves_in (push l ∷ h)))
 flat_sound (below ∷ h) e = cc
 
 flat_low : (h : List Event) → list_any is_below h ≡ false → h ≢ [] → IsLow (flat h)
 flat_low [] e n = absurd (n refl)
-flat_low (plain l ∷ []) e n = tt
-flat_low (plain l ∷ d ∷ h) e n = tt
+flat_low (direct l ∷ []) e n = tt
+flat_low (direct l ∷ d ∷ h) e n = tt
 flat_low (push l ∷ h) e n = tt
 flat_low (below ∷ h) e n = cc
 

@@ -4,10 +4,10 @@ use Rattle.std.specs.List.{list_all, AllByRecursion}
 use Rattle.std.proofs.lemmas.Bool.{agree_below_at}
 use Rattle.qs_spec.specs.Escape.{spelling, encoded}
 use Rattle.qs_spec.specs.Leaf.{value_leaf}
-use Rattle.qs_spec.specs.Token.{tokens, byte_token, is_escaped_bracket, Token, Kind, kind_of, raw_of}
+use Rattle.qs_spec.specs.Token.{tokens, byte_token, is_escaped_bracket, Token, Kind, byte_kind, raw_of, is_bracket}
 use Rattle.qs_spec.specs.Token.Kind.{Other}
 use Rattle.qs_spec.specs.Written.{open_bytes, close_bytes, value_text}
-use Rattle.qs_spec.specs.toward.Entries.{leaf_of, is_bracket, IsSegment, IsValueOf}
+use Rattle.qs_spec.specs.internal.Entries.{entry_leaf, IsSegment, IsValueOf}
 use Rattle.qs_spec.specs.Grammar.{is_amp, IsValue}
 use Rattle.qs_spec.proofs.Booleans.{and_both, not_of}
 
@@ -48,9 +48,9 @@ fine true b l = agree_below_at (λ b. is_fine true b (spelling true b)) (λ b. t
 fine false b l = agree_below_at (λ b. is_fine false b (spelling false b)) (λ b. true) 256 b refl l
 
 -- of each byte: no byte of its spelling is `&`, `=`, `[` or `]`
-other_kinds : (form : Bool) (b : ℕ) → b < 256 → list_all (λ x. is_other (kind_of x)) (spelling form b) ≡ true
-other_kinds true b l = agree_below_at (λ b. list_all (λ x. is_other (kind_of x)) (spelling true b)) (λ b. true) 256 b refl l
-other_kinds false b l = agree_below_at (λ b. list_all (λ x. is_other (kind_of x)) (spelling false b)) (λ b. true) 256 b refl l
+other_kinds : (form : Bool) (b : ℕ) → b < 256 → list_all (λ x. is_other (byte_kind x)) (spelling form b) ≡ true
+other_kinds true b l = agree_below_at (λ b. list_all (λ x. is_other (byte_kind x)) (spelling true b)) (λ b. true) 256 b refl l
+other_kinds false b l = agree_below_at (λ b. list_all (λ x. is_other (byte_kind x)) (spelling false b)) (λ b. true) 256 b refl l
 
 abbrev pub suits : Bool → Kind → Bool
 suits true k = is_other k
@@ -71,21 +71,21 @@ pub record Tokens (strict form : Bool) (bytes rest : List ℕ) : Type 0 where
   pub raw : raw_of toks ≡ bytes
   pub whole : tokens form (bytes ++ rest) ≡ toks ++ tokens form rest
 
-all_suit : (strict : Bool) (xs : List ℕ) → list_all (λ x. is_other (kind_of x)) xs ≡ true → list_all (λ t. suits strict t.kind) (others xs) ≡ true
+all_suit : (strict : Bool) (xs : List ℕ) → list_all (λ x. is_other (byte_kind x)) xs ≡ true → list_all (λ t. suits strict t.kind) (others xs) ≡ true
 all_suit strict [] e = refl
 all_suit strict (x ∷ xs) e =
-    let h = and_both (is_other (kind_of x)) _ e in
-    ap₂ (λ a b. a && b) (suits_other strict (kind_of x) h.0) (all_suit strict xs h.1)
+    let h = and_both (is_other (byte_kind x)) _ e in
+    ap₂ (λ a b. a && b) (suits_other strict (byte_kind x) h.0) (all_suit strict xs h.1)
 
 three : (strict form : Bool) (b x y z : ℕ) (rest : List ℕ) → (y == 37) ≡ false → (z == 37) ≡ false → ((form && is_bracket b) || not (form && is_escaped_bracket x y z)) ≡ true
-    → list_all (λ x. is_other (kind_of x)) (x ∷ y ∷ z ∷ []) ≡ true → (strict && (form && is_bracket b)) ≡ false → Tokens strict form (x ∷ y ∷ z ∷ []) rest
+    → list_all (λ x. is_other (byte_kind x)) (x ∷ y ∷ z ∷ []) ≡ true → (strict && (form && is_bracket b)) ≡ false → Tokens strict form (x ∷ y ∷ z ∷ []) rest
 three strict form b x y z rest ey ez f o n = by strict (form && is_bracket b) (form && is_escaped_bracket x y z) refl f n o
   where
     no_amp : (c : Bool) → not (is_amp (cond c Kind.Open Kind.Close)) ≡ true
     no_amp true = refl
     no_amp false = refl
 
-    by : (strict a c : Bool) → (form && is_escaped_bracket x y z) ≡ c → (a || not c) ≡ true → (strict && a) ≡ false → list_all (λ x. is_other (kind_of x)) (x ∷ y ∷ z ∷ []) ≡ true → Tokens strict form (x ∷ y ∷ z ∷ []) rest
+    by : (strict a c : Bool) → (form && is_escaped_bracket x y z) ≡ c → (a || not c) ≡ true → (strict && a) ≡ false → list_all (λ x. is_other (byte_kind x)) (x ∷ y ∷ z ∷ []) ≡ true → Tokens strict form (x ∷ y ∷ z ∷ []) rest
     by strict a false e f n o = record {
       toks = byte_token x ∷ byte_token y ∷ byte_token z ∷ [];
       suit = all_suit strict (x ∷ y ∷ z ∷ []) o;
@@ -102,7 +102,7 @@ three strict form b x y z rest ey ez f o n = by strict (form && is_bracket b) (f
       whole = ap (λ t. cond t (record { kind = cond (z == 66) Kind.Open Kind.Close; raw = x ∷ y ∷ z ∷ [] } ∷ tokens form rest) (byte_token x ∷ tokens form (y ∷ z ∷ rest))) e;
     }
 
-tokens_of : (strict form : Bool) (b : ℕ) (xs rest : List ℕ) → is_fine form b xs ≡ true → list_all (λ x. is_other (kind_of x)) xs ≡ true → (strict && (form && is_bracket b)) ≡ false → Tokens strict form xs rest
+tokens_of : (strict form : Bool) (b : ℕ) (xs rest : List ℕ) → is_fine form b xs ≡ true → list_all (λ x. is_other (byte_kind x)) xs ≡ true → (strict && (form && is_bracket b)) ≡ false → Tokens strict form xs rest
 tokens_of strict form b [] rest f o n = cc
 tokens_of strict form b (x ∷ []) rest f o n = record { toks = byte_token x ∷ []; suit = all_suit strict (x ∷ []) o; raw = refl; whole = token_of_byte form x rest (no_bracket form x rest (not_of (x == 37) f)) }
 tokens_of strict form b (x ∷ y ∷ []) rest f o n = cc
@@ -164,7 +164,7 @@ pub record Front (Is : List Token → Type 0) (form : Bool) (bytes rest : List �
   pub is : Is toks
   pub whole : tokens form (bytes ++ rest) ≡ toks ++ tokens form rest
 
-pub value_front : (form : Bool) (v : Option (List ℕ)) (rest : List ℕ) → IsValueOf ([] ∷ []) v → Front (λ ts. IsValue ts (leaf_of form v)) form (value_text form v) rest
+pub value_front : (form : Bool) (v : Option (List ℕ)) (rest : List ℕ) → IsValueOf ([] ∷ []) v → Front (λ ts. IsValue ts (entry_leaf form v)) form (value_text form v) rest
 value_front form None rest h = record { toks = []; is = IsValue.none; whole = refl }
 value_front form (Some v) rest h =
     let t = encoded_tokens false form v rest h (clear_value form v) in

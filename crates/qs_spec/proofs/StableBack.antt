@@ -6,7 +6,7 @@ use Rattle.std.specs.List.Sorted.{IsPermutation}
 use Rattle.std.specs.Ordering.{is_eq}
 use Rattle.std.proofs.lemmas.Bool.Decides.{nat_tests}
 use Rattle.std.proofs.lemmas.Option.{same_Some}
-use Rattle.qs_spec.specs.Config.{Config, indexed, are_refused}
+use Rattle.qs_spec.specs.Config.{Config, indexed, are_rejected}
 use Rattle.qs_spec.specs.Segment.{Segment, segment_text, is_index, number, is_same_segment}
 use Rattle.qs_spec.specs.Segment.Segment.{Int, Str}
 use Rattle.qs_spec.specs.Leaf.{Leaf}
@@ -22,14 +22,15 @@ use Rattle.qs_spec.specs.Shape.{Shape}
 use Rattle.qs_spec.specs.Scalar.{text_data}
 use Rattle.qs_spec.specs.Node.{is_place, are_ints}
 use Rattle.qs_spec.specs.Relation.{ReadsBy}
-use Rattle.qs_spec.specs.toward.ReadFunction.{reads, any_data, any_places, any_pairs}
+use Rattle.qs_spec.specs.internal.ReadFunction.{reads, any_data, any_places, any_pairs}
 use Rattle.qs_spec.specs.Entry.{Entry, entries}
 use Rattle.qs_spec.specs.Written.{written}
 use Rattle.qs_spec.specs.Plain.{has_bytes}
 use Rattle.qs_spec.specs.Stable.{is_stable_key, has_entries, is_stable, are_stable}
-use Rattle.qs_spec.specs.toward.Entries.{IsSegment, is_bracket, leaf_of}
-use Rattle.qs_spec.specs.toward.Keys.{IsInRange, AreAbove, AreAscending, IsAscending, HoldAscending}
-use Rattle.qs_spec.specs.toward.Parts.{Part, entry_of, leaf_part, Branch, branches, parts, value_branches, pair_branches, part_pair}
+use Rattle.qs_spec.specs.Token.{is_bracket}
+use Rattle.qs_spec.specs.internal.Entries.{IsSegment, entry_leaf}
+use Rattle.qs_spec.specs.internal.Keys.{IsInRange, AreAbove, AreAscending, IsAscending, HoldAscending}
+use Rattle.qs_spec.specs.internal.Parts.{Part, entry_of, leaf_part, Branch, branches, parts, value_branches, pair_branches, part_pair}
 use Rattle.qs_spec.proofs.Booleans.{and_both, not_of}
 use Rattle.qs_spec.proofs.Order.{put_lt}
 use Rattle.qs_spec.proofs.Reorder.{Swaps}
@@ -51,7 +52,7 @@ module _ (form : Bool) where
   -- parts that are written of a tree, and branches that are of its entries
   mutual
     data AreOf : Tree → List Part → Type 0 where
-      of_leaf : {l : Leaf} {v : Option (List ℕ)} → IsByteValue v → unmarked_leaf (leaf_of form v) ≡ unmarked_leaf l → AreOf (leaf l) (leaf_part v ∷ [])
+      of_leaf : {l : Leaf} {v : Option (List ℕ)} → IsByteValue v → unmarked_leaf (entry_leaf form v) ≡ unmarked_leaf l → AreOf (leaf l) (leaf_part v ∷ [])
       of_map : {es : Entries} {b : Branch} {bs : List Branch} → AreAscending es → BranchesOf es (b ∷ bs) → AreOf (mapping es) (branches (b ∷ bs))
 
     data BranchesOf : Entries → List Branch → Type 0 where
@@ -93,7 +94,7 @@ module _ (form : Bool) where
     -- the node of the parts, in any order, is the tree
     same_node : {t : Tree} {ps : List Part} → AreOf t ps → (n : ℕ) (qs : List Pair) → longest qs ≤ n → Swaps (pairs form ps) qs → unmarked (node_within n qs) ≡ unmarked t
     same_node (of_leaf {v = v} h e) n qs l w =
-        ap unmarked (ap (node_within n) (perm_one (part_pair form (leaf_part v)) qs (swaps_perm w)) ∙ leaf_node n (leaf_of form v)) ∙ ap leaf e
+        ap unmarked (ap (node_within n) (perm_one (part_pair form (leaf_part v)) qs (swaps_perm w)) ∙ leaf_node n (entry_leaf form v)) ∙ ap leaf e
     same_node (of_map {es = es} {b = b} {bs = bs} a w) n qs l s =
         let g = branched form n qs b bs l (differ a w) (are_full indexed form (b ∷ bs) (each_good w)) s in
         ap unmarked g.is ∙ ap mapping (ap (λ ks. unmarked_entries (entries_of (λ k. head_mark k qs) (λ k. node_within g.m (under k qs)) ks)) (in_order a w) ∙ same_entries w g.m qs g.short (λ k. head_mark k qs) g.each)
@@ -198,7 +199,7 @@ stable_back config input t d es f i e r whole p =
     let li = in_format config d f in
     let x = parts_of depth fm d li whole in
     let o = lifted (parts fm d) es (subst (λ (l : List Entry). Perm l es) x.0 (Perm-from (entries config d).entries es p)) in
-    let of = any_is form t e (tree_ascends form depth input t i) d (sound (are_refused config.duplicates) {s = Shape.any} refl r) in
+    let of = any_is form t e (tree_ascends form depth input t i) d (sound (are_rejected config.duplicates) {s = Shape.any} refl r) in
     let g = subst (λ m. IsGood m form (parts m d)) (sym f) (good form of) in
     let ps = pairs form o.0 in
     let s = perm_swaps form o.2 (subst (λ m. AllTidy m form (parts fm d)) f g.tidy) in

@@ -10,7 +10,7 @@ use Rattle.qs_spec.specs.History.{events, under, under_one, permitted}
 use Rattle.qs_spec.specs.Tree.{heads, put_head, put, node, longest, Tree, IsTree}
 use Rattle.qs_spec.specs.Segment.{compare_segments, is_same_segment}
 use Rattle.qs_spec.proofs.Order.{exact_segment, put_lt, put_eq, put_gt}
-use Rattle.qs_spec.specs.toward.Reading.{pairs_of}
+use Rattle.qs_spec.specs.internal.Parsing.{parsed_pairs}
 use Rattle.qs_spec.proofs.RelatedIsRead.{are_pairs, found_pairs}
 use Rattle.qs_spec.proofs.Booleans.{and_both, or_both}
 
@@ -33,7 +33,7 @@ tree_of_pairs (Some ps) = if all_permitted (longest ps) ps then Some (node ps) e
 
 abbrev pub tree_of : Bool → ℕ → List ℕ → Option Tree
 tree_of form depth [] = Some (Tree.leaf NoValue)
-tree_of form depth (b ∷ bytes) = tree_of_pairs (pairs_of depth (tokens form (b ∷ bytes)))
+tree_of form depth (b ∷ bytes) = tree_of_pairs (parsed_pairs depth (tokens form (b ∷ bytes)))
 
 all_of : {A : Type 0} (f : A → Bool) (ks : List A) → ((k : A) → f k ≡ true) → list_all f ks ≡ true
 all_of f [] h = refl
@@ -124,9 +124,9 @@ if_some false x y e = absurd (none-some y e)
 -- the tree that the function gives is the tree
 pub is_tree : (form : Bool) (depth : ℕ) (bytes : List ℕ) (t : Tree) → tree_of form depth bytes ≡ Some t → IsTree form depth bytes t
 is_tree form depth [] t e = sym (same_Some (Tree.leaf NoValue) t e)
-is_tree form depth (b ∷ bytes) t e = by (pairs_of depth (tokens form (b ∷ bytes))) refl e
+is_tree form depth (b ∷ bytes) t e = by (parsed_pairs depth (tokens form (b ∷ bytes))) refl e
   where
-    by : (o : Option (List Pair)) → pairs_of depth (tokens form (b ∷ bytes)) ≡ o → tree_of_pairs o ≡ Some t → IsTree form depth (b ∷ bytes) t
+    by : (o : Option (List Pair)) → parsed_pairs depth (tokens form (b ∷ bytes)) ≡ o → tree_of_pairs o ≡ Some t → IsTree form depth (b ∷ bytes) t
     by None d e = absurd (none-some t e)
     by (Some ps) d e =
         let parts = if_some (all_permitted (longest ps) ps) (node ps) t e in

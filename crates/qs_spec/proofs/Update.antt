@@ -9,7 +9,7 @@ use Rattle.qs_spec.specs.Tree.{heads, put, head_mark, entries_of, node_within, T
 use Rattle.qs_spec.specs.Segment.{compare_segments, is_same_segment}
 use Rattle.qs_spec.specs.Tree.Tree.{uninitialized}
 use Rattle.qs_spec.specs.Tree.Entries.{entry, no_entries}
-use Rattle.qs_spec.specs.toward.InPlace.{update_by, update}
+use Rattle.qs_spec.specs.internal.InPlace.{update_by, update}
 use Rattle.qs_spec.proofs.Order.{exact_segment, put_lt, put_eq, put_gt, not_above, not_below, is_itself}
 use Rattle.qs_spec.proofs.TreeOf.{none_under}
 use Rattle.qs_spec.proofs.Leaves.{Ascends, ascends_heads, all_above}

@@ -4,7 +4,7 @@ use Rattle.std.specs.Str.{bytes_eq}
 use Rattle.qs_spec.specs.Tree.{Tree}
 use Rattle.qs_spec.specs.Data.{Data}
 use Rattle.qs_spec.specs.Shape.{Variants, VariantKind, unit_kind, is_variant_name, variant_names_differ, are_distinct_variants, is_distinct_kind}
-use Rattle.qs_spec.specs.toward.ReadFunction.{is_unit_kind, unit_variant_data, reads_variant, reads_kind}
+use Rattle.qs_spec.specs.internal.ReadFunction.{is_unit_kind, unit_variant_data, reads_variant, reads_kind}
 use Rattle.qs_spec.specs.Relation.{HasVariant}
 use Rattle.qs_spec.proofs.Booleans.{and_both, not_of}
 use Rattle.std.proofs.lemmas.Slice.Eq.{bytes_eq-Decides}

@@ -4,7 +4,7 @@ use Rattle.std.specs.List.{AllByRecursion}
 use Rattle.std.specs.List.Sorted.{IsPermutation}
 use Rattle.std.specs.Str.{bytes_eq}
 use Rattle.std.proofs.lemmas.Option.{same_Some}
-use Rattle.qs_spec.specs.Config.{Config, ArrayFormat, indexed, empty_indexed, unindexed, are_refused}
+use Rattle.qs_spec.specs.Config.{Config, ArrayFormat, indexed, empty_indexed, unindexed, are_rejected}
 use Rattle.qs_spec.specs.Token.{tokens}
 use Rattle.qs_spec.specs.Segment.{step_of, is_same_segment}
 use Rattle.qs_spec.specs.Escape.{encoded}
@@ -15,7 +15,7 @@ use Rattle.qs_spec.specs.Data.{Data, Values, no_values, one_value, Pairs, no_pai
 use Rattle.qs_spec.specs.Shape.{Shape, is_distinct}
 use Rattle.qs_spec.specs.Entry.{Path, Entry, entries, entries_at}
 use Rattle.qs_spec.specs.Written.{written, entry_text, path_text}
-use Rattle.qs_spec.specs.toward.Entries.{steps, HasSegments, IsValueOf}
+use Rattle.qs_spec.specs.internal.Entries.{steps, HasSegments, IsValueOf}
 use Rattle.qs_spec.proofs.Order.{is_itself}
 use Rattle.qs_spec.proofs.Reorder.{Swaps}
 use Rattle.qs_spec.proofs.Booleans.{and_both, or_both}
@@ -23,12 +23,12 @@ use Rattle.qs_spec.proofs.VariantNames.{bytes_equal}
 use Rattle.qs_spec.proofs.RelatedIsRead.{found_pairs}
 use Rattle.qs_spec.proofs.EntryRead.{written_pair}
 use Rattle.qs_spec.specs.Listed.{is_placed, is_list, is_listed, are_listed, are_listed_pairs, are_listed_members}
-use Rattle.qs_spec.specs.toward.Parts.{Part, entry_of, part_pair, end_segment, leaf_part, under_segment, Branch, branches, parts, value_parts, value_branches, pair_branches, member_branches}
+use Rattle.qs_spec.specs.internal.Parts.{Part, entry_of, part_pair, end_segment, leaf_part, under_segment, Branch, branches, parts, value_parts, value_branches, pair_branches, member_branches}
 use Rattle.qs_spec.specs.ReadBack.{IsPlainFor, IsReadBack, is_prefix, ArePathsApart, KeepsPaths}
 use Rattle.qs_spec.proofs.Fitting.{fitting}
 use Rattle.qs_spec.proofs.Permuted.{Perm, Perm-from, perm_map, perm_all, perm_one}
 use Rattle.qs_spec.proofs.Placed.{after, parts_at}
-use Rattle.qs_spec.proofs.Nodes.{HasPairs}
+use Rattle.qs_spec.proofs.Nodes.{HasSomePair}
 use Rattle.qs_spec.proofs.Branches.{pairs, all_both, some_pairs}
 use Rattle.qs_spec.proofs.Tidy.{Tidy, AllTidy, AllAlike, pairs_alike, alike_permitted}
 use Rattle.qs_spec.proofs.GoodParts.{IsFine, IsByteValue, good}
@@ -95,7 +95,7 @@ rooted fm (Data.tuple_variant name ds) e = inl (branches_paths ((name, value_par
 rooted fm (Data.struct_variant name ms) e = inl (branches_paths ((name, branches (member_branches fm ms)) ∷ []))
 
 -- some pairs whose histories are permitted are a tree
-pairs_tree : (fm : ArrayFormat) (form : Bool) (depth : ℕ) (text : List ℕ) (ps : List Pair) → ArePairs depth (tokens form text) ps → HasPairs ps → AllAlike fm ps → IsTree form depth text (node ps)
+pairs_tree : (fm : ArrayFormat) (form : Bool) (depth : ℕ) (text : List ℕ) (ps : List Pair) → ArePairs depth (tokens form text) ps → HasSomePair ps → AllAlike fm ps → IsTree form depth text (node ps)
 pairs_tree fm form depth [] [] g h a = absurd h
 pairs_tree fm form depth [] (p ∷ ps) g h a = absurd (none (same_Some [] (p ∷ ps) (found_pairs g)))
   where
@@ -112,11 +112,11 @@ readable form depth p h f l = record { some = h; segments = f.0; short = l; valu
 
 -- the tree of the text of the parts, in another order
 pub written_tree : (fm : ArrayFormat) (form : Bool) (depth : ℕ) (ps qs : List Part) → IsRooted ps → AllByRecursion (IsFine form) ps → AllByRecursion (λ (p : Part). length (entry_of p).path ≤ depth + 1) ps → Perm ps qs
-    → HasPairs (pairs form qs) → AllAlike fm (pairs form qs) → IsTree form depth (written form false (map entry_of qs)) (node (pairs form qs))
+    → HasSomePair (pairs form qs) → AllAlike fm (pairs form qs) → IsTree form depth (written form false (map entry_of qs)) (node (pairs form qs))
 unfolding written entry_text path_text
 written_tree fm form depth ps qs r f l w h a = by r
   where
-    alone : (v : Option (List ℕ)) → IsByteValue v → HasPairs (pairs form (leaf_part v ∷ [])) → AllAlike fm (pairs form (leaf_part v ∷ [])) → IsTree form depth (written form false (map entry_of (leaf_part v ∷ []))) (node (pairs form (leaf_part v ∷ [])))
+    alone : (v : Option (List ℕ)) → IsByteValue v → HasSomePair (pairs form (leaf_part v ∷ [])) → AllAlike fm (pairs form (leaf_part v ∷ [])) → IsTree form depth (written form false (map entry_of (leaf_part v ∷ []))) (node (pairs form (leaf_part v ∷ [])))
     alone None b h a = refl
     alone (Some v) b h a =
         pairs_tree fm form depth (written form false (map entry_of (leaf_part (Some v) ∷ []))) (pairs form (leaf_part (Some v) ∷ []))
@@ -132,7 +132,7 @@ written_tree fm form depth ps qs r f l w h a = by r
         let one : qs ≡ leaf_part p.0 ∷ [] = perm_one (leaf_part p.0) qs (subst (λ (l : List Part). Perm l qs) p.1 w) in
         let b : AllByRecursion (IsFine form) (leaf_part p.0 ∷ []) = subst (AllByRecursion (IsFine form)) p.1 f in
         subst (λ (l : List Part). IsTree form depth (written form false (map entry_of l)) (node (pairs form l))) (sym one)
-        (alone p.0 b.0.1 (subst (λ (l : List Part). HasPairs (pairs form l)) one h) (subst (λ (l : List Part). AllAlike fm (pairs form l)) one a))
+        (alone p.0 b.0.1 (subst (λ (l : List Part). HasSomePair (pairs form l)) one h) (subst (λ (l : List Part). AllAlike fm (pairs form l)) one a))
 
 -- parts in an order that only swaps those that don't meet are read back
 parts_back : (config : Config) (shape : Shape) (d : Data) (qs : List Part) → is_distinct shape ≡ true → IsPlainFor config shape d → is_listed config.array_format false d ≡ true
@@ -145,7 +145,7 @@ parts_back config shape d qs dist w li q s =
     let f = fitting shape d w.fits in
     let g = good fm form f w.plain in
     let ps = pairs form qs in
-    let b = back fm form (are_refused config.duplicates) f dist w.plain false li (longest ps) ps (le_refl (longest ps)) s in
+    let b = back fm form (are_rejected config.duplicates) f dist w.plain false li (longest ps) ps (le_refl (longest ps)) s in
     record {
       tree = node ps;
       is_tree = written_tree fm form depth (parts fm d) qs (rooted fm d li) g.fine r.1 q (some_pairs form (parts fm d) ps g.full (perm_map (part_pair form) q)) (pairs_alike fm form qs (perm_tidy fm form q g.tidy));

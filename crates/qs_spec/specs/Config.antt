@@ -1,16 +1,16 @@
 -- How a querystring is read and written.
 use Rattle.std.specs.Prelude.{ℕ, Bool, true, false, List, [], Option, Some, None, decimal}
 
--- how the place of an element is written: its number, nothing between brackets, or no brackets at all
+-- how the index of an element is written: as a number in brackets, as empty brackets, or not at all
 pub data ArrayFormat : Type 0 where
   indexed : ArrayFormat
   empty_indexed : ArrayFormat
   unindexed : ArrayFormat
 
--- several values where one is asked for: the last one is taken, or they are rejected
+-- several values for a scalar: the last one is taken, or they are rejected
 pub data Duplicates : Type 0 where
   take_last : Duplicates
-  refuse : Duplicates
+  reject : Duplicates
 
 pub record Config : Type 0 where
   pub max_depth : ℕ
@@ -21,9 +21,9 @@ pub record Config : Type 0 where
 abbrev pub default : Config
 default = record { max_depth = 5; form = false; array_format = indexed; duplicates = take_last }
 
-abbrev pub are_refused : Duplicates → Bool
-are_refused take_last = false
-are_refused refuse = true
+abbrev pub are_rejected : Duplicates → Bool
+are_rejected take_last = false
+are_rejected reject = true
 
 -- the segment that the i-th element adds to its path, if it adds one
 abbrev pub element_segment : ArrayFormat → ℕ → Option (List ℕ)

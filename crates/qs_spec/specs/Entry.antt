@@ -1,4 +1,4 @@
--- Entries: the parts, each with a path of its own, as which data are written.
+-- Entries: a path and a value for each part of data that is written.
 use Rattle.std.specs.Prelude.{ℕ, ◌+◌, Bool, true, false, cond, nat_lt, List, [], ◌∷◌, ◌++◌, length, codes, decimal, Option, Some, None}
 use Rattle.std.specs.Fmt.{signed_decimal}
 use Rattle.std.specs.Char.{encode_utf8}
@@ -18,7 +18,7 @@ pub data Refusal : Type 0 where
   too_deep : Refusal
   bad_key : Refusal
 
--- the entries, and the first refusal if there is one; then they are those before it
+-- the entries, and the first error if there is one; then only the entries before it
 pub record Output : Type 0 where
   pub entries : List Entry
   pub refusal : Option Refusal
@@ -68,7 +68,7 @@ abbrev pub under_key : ℕ → Path → Option (List ℕ) → (Path → Output) 
 under_key limit path None part = refused bad_key
 under_key limit path (Some key) part = deeper limit path key part
 
--- the entries of data that stand at a path
+-- the entries of data at a path
 unfoldable mutual
   pub entries_at : ℕ → ArrayFormat → Data → Path → Output
   entries_at limit format Data.unit path = one path (Some [])
@@ -93,7 +93,7 @@ unfoldable mutual
   entries_at limit format (Data.tuple_variant name ds) path = deeper limit path name (elements_from limit format 0 ds)
   entries_at limit format (Data.struct_variant name ms) path = deeper limit path name (member_entries limit format ms)
 
-  -- the elements, of which the first has place i
+  -- the elements, of which the first has index i
   pub elements_from : ℕ → ArrayFormat → ℕ → Values → Path → Output
   elements_from limit format i no_values path = nothing
   elements_from limit format i (one_value d ds) path =

@@ -1,4 +1,4 @@
--- How bytes are escaped in a querystring, and what escaped bytes stand for.
+-- How the bytes of a querystring are encoded and decoded.
 -- Query mode escapes the query percent-encode set of the URL Standard (section 1.3) and the separators of this notation;
 -- form mode escapes all that the application/x-www-form-urlencoded set does (section 1.3), and a space as `%20`.
 use Rattle.std.specs.Prelude.{ℕ, ◌+◌, ◌*◌, ◌/◌, ◌%◌, Bool, true, false, not, ◌&&◌, ◌||◌, ◌==◌, nat_le, List, [], ◌∷◌, if◌then◌else◌, flat_map}
@@ -21,12 +21,12 @@ is_kept_in_form b = is_between 48 57 b || is_between 65 90 b || is_between 97 12
 abbrev pub is_kept_in_query : ℕ → Bool
 is_kept_in_query b = is_between 33 126 b && not (b == 34 || b == 35 || b == 60 || b == 62 || b == 37 || b == 43 || b == 91 || b == 93 || b == 61 || b == 38)
 
--- how one byte is written, in form mode or in query mode
+-- one byte encoded, in form mode or in query mode
 abbrev pub spelling : Bool → ℕ → List ℕ
 spelling true b = if is_kept_in_form b then b ∷ [] else escape b
 spelling false b = if is_kept_in_query b then b ∷ [] else (if b == 32 then 43 ∷ [] else escape b)
 
--- how bytes are written: the spellings one after the other
+-- encoded bytes: each byte after the other
 abbrev pub encoded : Bool → List ℕ → List ℕ
 encoded form bytes = flat_map (spelling form) bytes
 
@@ -34,20 +34,17 @@ encoded form bytes = flat_map (spelling form) bytes
 abbrev pub unplus : ℕ → ℕ
 unplus b = if b == 43 then 32 else b
 
--- What bytes stand for, by cases on the front, each followed by what the rest stands for: `+` is a space, and `%` with two
--- hexadecimal digits of either case is one byte. A broken escape stays as it is: `%` and the byte after it where that is no
--- digit, and with the next byte too where only the second one is none.
+-- Decoded bytes, by cases on the first ones: `+` is a space, and `%` with two hexadecimal digits of either case is one byte. A broken
+-- escape is kept: `%` and the byte after it where that is no digit, and the next byte too where only that one is none.
 abbrev pub decoded : List ℕ → List ℕ
 decoded [] = []
 decoded (b ∷ []) = unplus b ∷ []
 decoded (b ∷ c ∷ []) = if b == 37 then b ∷ c ∷ [] else unplus b ∷ decoded (c ∷ [])
 decoded (b ∷ c ∷ e ∷ rest) =
-    let digits = (16 * digit_value c + digit_value e) ∷ decoded rest in
-    let one_digit = b ∷ c ∷ e ∷ decoded rest in
-    let no_digit = b ∷ c ∷ decoded (e ∷ rest) in
-    let plain = unplus b ∷ decoded (c ∷ e ∷ rest) in
-    if b == 37 then (if is_digit c 16 then (if is_digit e 16 then digits else one_digit) else no_digit) else plain
+    if b == 37
+    then (if is_digit c 16 then (if is_digit e 16 then (16 * digit_value c + digit_value e) ∷ decoded rest else b ∷ c ∷ e ∷ decoded rest) else b ∷ c ∷ decoded (e ∷ rest))
+    else unplus b ∷ decoded (c ∷ e ∷ rest)
 
--- the bytes hold `+` or `%`, so they may stand for others
+-- the bytes hold `+` or `%`, so decoding may change them
 abbrev pub is_marked : List ℕ → Bool
 is_marked raw = list_any (λ b. b == 43 || b == 37) raw

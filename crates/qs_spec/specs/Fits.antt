@@ -32,9 +32,9 @@ fits_key (KeyShape.variants names) (Data.unit_variant name) = list_any (bytes_eq
 fits_key _ _ = false
 
 -- the kind of the variant of a name
-abbrev pub kind_of : List ℕ → Variants → Option VariantKind
-kind_of name no_variants = None
-kind_of name (one_variant n k vs) = if bytes_eq n name then Some k else kind_of name vs
+abbrev pub variant_kind : List ℕ → Variants → Option VariantKind
+variant_kind name no_variants = None
+variant_kind name (one_variant n k vs) = if bytes_eq n name then Some k else variant_kind name vs
 
 abbrev pub is_unit : Option VariantKind → Bool
 is_unit (Some unit_kind) = true
@@ -78,10 +78,10 @@ abbrev mutual
   fits (Shape.tuple ss) (Data.tuple ds) = fits_tuple ss ds
   fits (Shape.mapping k s) (Data.mapping ps) = fits_pairs k s ps
   fits (Shape.struct u fs) (Data.struct ms) = fits_fields fs ms
-  fits (Shape.enumeration vs) (Data.unit_variant name) = is_utf8 name && is_unit (kind_of name vs)
-  fits (Shape.enumeration vs) (Data.newtype_variant name d) = is_utf8 name && by_newtype (λ s. fits s d) (kind_of name vs)
-  fits (Shape.enumeration vs) (Data.tuple_variant name ds) = is_utf8 name && by_tuple (λ ss. fits_tuple ss ds) (kind_of name vs)
-  fits (Shape.enumeration vs) (Data.struct_variant name ms) = is_utf8 name && by_struct (λ fs. fits_fields fs ms) (kind_of name vs)
+  fits (Shape.enumeration vs) (Data.unit_variant name) = is_utf8 name && is_unit (variant_kind name vs)
+  fits (Shape.enumeration vs) (Data.newtype_variant name d) = is_utf8 name && by_newtype (λ s. fits s d) (variant_kind name vs)
+  fits (Shape.enumeration vs) (Data.tuple_variant name ds) = is_utf8 name && by_tuple (λ ss. fits_tuple ss ds) (variant_kind name vs)
+  fits (Shape.enumeration vs) (Data.struct_variant name ms) = is_utf8 name && by_struct (λ fs. fits_fields fs ms) (variant_kind name vs)
   fits _ _ = false
 
   pub each_fits : Shape → Values → Bool

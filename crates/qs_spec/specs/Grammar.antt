@@ -1,4 +1,4 @@
--- Which pairs a list of tokens spells.
+-- The grammar: which pairs a list of tokens is parsed as.
 use Rattle.std.specs.Prelude.{◌≡◌, ℕ, zero, suc, Bool, true, false, ◌||◌, not, List, [], ◌∷◌, ◌++◌, IsTrue, IsFalse}
 use Rattle.std.specs.List.{list_all}
 use Rattle.qs_spec.specs.Token.{Kind, Token, raw_of}
@@ -7,14 +7,14 @@ use Rattle.qs_spec.specs.Leaf.{Leaf, value_leaf}
 use Rattle.qs_spec.specs.Token.Kind.{Amp, Equals, Open, Close}
 use Rattle.qs_spec.specs.Leaf.Leaf.{NoValue}
 
--- A pair pushes its leaf onto a sequence, or is plain.
+-- A pair whose key ends in `[]` pushes its leaf onto a sequence; any other pair is direct.
 pub record Pair : Type 0 where
   pub path : List Step
   pub push : Bool
   pub leaf : Leaf
 
-abbrev pub plain : List Step → Leaf → Pair
-plain path leaf = record { path = path; push = false; leaf = leaf }
+abbrev pub direct : List Step → Leaf → Pair
+direct path leaf = record { path = path; push = false; leaf = leaf }
 
 abbrev pub pushed : List Step → Leaf → Pair
 pushed path leaf = record { path = path; push = true; leaf = leaf }
@@ -68,23 +68,23 @@ pub data IsBrackets : ℕ → List Step → List ℕ → List Token → Pair →
       → IsBrackets room path bracket (t ∷ value) (pushed path leaf)
   segment : {room : ℕ} {path : List Step} {bracket : List ℕ} {leaf : Leaf} (s t : Token) (run value : List Token)
       → IsRun is_close (s ∷ run) → t.kind ≡ Close → IsValue value leaf
-      → IsBrackets (suc room) path bracket (s ∷ run ++ t ∷ value) (plain (longer path (raw_of (s ∷ run))) leaf)
-  deeper : {room : ℕ} {path : List Step} {bracket : List ℕ} {pair : Pair} (s t u : Token) (run rest : List Token)
+      → IsBrackets (suc room) path bracket (s ∷ run ++ t ∷ value) (direct (longer path (raw_of (s ∷ run))) leaf)
+  more : {room : ℕ} {path : List Step} {bracket : List ℕ} {pair : Pair} (s t u : Token) (run rest : List Token)
       → IsRun is_close (s ∷ run) → t.kind ≡ Close → u.kind ≡ Open
       → IsBrackets room (longer path (raw_of (s ∷ run))) u.raw rest pair
       → IsBrackets (suc room) path bracket (s ∷ run ++ t ∷ u ∷ rest) pair
   last : {path : List Step} {bracket : List ℕ} {leaf : Leaf} (t : Token) (run value : List Token)
       → IsFalse (is_close t.kind) → IsRun ends_last run → IsValue value leaf
-      → IsBrackets 0 path bracket (t ∷ run ++ value) (plain (longer path (bracket ++ t.raw ++ raw_of run)) leaf)
+      → IsBrackets 0 path bracket (t ∷ run ++ value) (direct (longer path (bracket ++ t.raw ++ raw_of run)) leaf)
 
 -- the tokens are one pair
 pub data IsPair (depth : ℕ) : List Token → Pair → Type 0 where
   name : {t : Token} {key : List Token}
       → IsRun (ends_root depth) (t ∷ key)
-      → IsPair depth (t ∷ key) (plain (root (t ∷ key)) NoValue)
+      → IsPair depth (t ∷ key) (direct (root (t ∷ key)) NoValue)
   value : {leaf : Leaf} (t : Token) (key value : List Token)
       → IsRun (ends_root depth) key → IsValue (t ∷ value) leaf
-      → IsPair depth (key ++ t ∷ value) (plain (root key) leaf)
+      → IsPair depth (key ++ t ∷ value) (direct (root key) leaf)
   brackets : {pair : Pair} (t : Token) (key rest : List Token)
       → IsRun (ends_root depth) key → IsTrue (is_open t.kind) → IsTrue (ends_root depth Open) → IsBrackets depth (root key) t.raw rest pair
       → IsPair depth (key ++ t ∷ rest) pair

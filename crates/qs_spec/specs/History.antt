@@ -6,7 +6,7 @@ use Rattle.qs_spec.specs.Leaf.{Leaf}
 use Rattle.qs_spec.specs.Grammar.{Pair}
 
 pub data Event : Type 0 where
-  plain : Leaf → Event
+  direct : Leaf → Event
   push : Leaf → Event
   below : Event
 
@@ -14,17 +14,14 @@ pub data Event : Type 0 where
 abbrev pub event_of : List Step → Bool → Leaf → Event
 event_of (s ∷ path) p leaf = below
 event_of [] true leaf = push leaf
-event_of [] false leaf = plain leaf
+event_of [] false leaf = direct leaf
 
 abbrev pub event : Pair → Event
 event p = event_of p.path p.push p.leaf
 
-abbrev pub onto : List Step → Pair → List Pair → List Pair
-onto path p ps = record p { path = path } ∷ ps
-
 abbrev pub under_one : Segment → List Step → Pair → List Pair → List Pair
 under_one k [] p ps = ps
-under_one k (s ∷ path) p ps = if is_same_segment k s.seg then onto path p ps else ps
+under_one k (s ∷ path) p ps = if is_same_segment k s.seg then record p { path = path } ∷ ps else ps
 
 -- the pairs whose path begins with a segment, without it
 abbrev pub under : Segment → List Pair → List Pair
@@ -52,10 +49,10 @@ abbrev pub begins_below : List Event → Bool
 begins_below (below ∷ h) = true
 begins_below _ = false
 
-abbrev pub begins_plain_push : List Event → Bool
-begins_plain_push (plain leaf ∷ push other ∷ h) = true
-begins_plain_push _ = false
+abbrev pub begins_direct_push : List Event → Bool
+begins_direct_push (direct leaf ∷ push other ∷ h) = true
+begins_direct_push _ = false
 
--- no event is below, and a single plain leaf isn't followed by a push; or below comes first, and nothing is pushed
+-- no event is below, and a single direct leaf isn't followed by a push; or below comes first, and nothing is pushed
 abbrev pub permitted : List Event → Bool
-permitted h = (not (list_any is_below h) && not (begins_plain_push h)) || (begins_below h && not (list_any is_push h))
+permitted h = (not (list_any is_below h) && not (begins_direct_push h)) || (begins_below h && not (list_any is_push h))

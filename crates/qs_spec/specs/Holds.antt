@@ -61,7 +61,7 @@ IsLowAtEmpty (Int n) t = ⊤
 IsLowAtEmpty (Str []) t = IsLow t
 IsLowAtEmpty (Str (b ∷ bytes)) t = ⊤
 
--- sequences are not empty and hold leaves alone, maps have entries, and under the empty text stands a leaf or a sequence
+-- Sequences aren't empty and hold only leaves, maps aren't empty, and the value of the empty key is a leaf or a sequence.
 abbrev mutual
   pub IsSound : Tree → Type 0
   IsSound (leaf l) = ⊤

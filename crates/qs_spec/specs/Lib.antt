@@ -1,3 +1,7 @@
+-- The words that a reader must believe: all modules but `internal`. The clauses of the crates above and the laws of this crate say
+-- what they say in these words.
+-- `internal` has steps of proofs: functions that compute what a relation says, and words that laws lead to one another by. Laws
+-- relate each of them to the words above.
 pub mod Config
 pub mod Escape
 pub mod Token
@@ -25,4 +29,4 @@ pub mod Listed
 pub mod Same
 pub mod Stable
 pub mod ReadBack
-pub mod toward
+pub mod internal

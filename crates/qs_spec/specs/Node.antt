@@ -1,4 +1,4 @@
--- What a node has for a reader: its last text, its items, and the values of a name.
+-- What is read from a node: its last text, its items, and the values of a name.
 use Rattle.std.specs.Prelude.{ℕ, ◌+◌, Bool, true, false, ◌&&◌, ◌||◌, ◌==◌, nat_lt, cond, List, [], ◌∷◌, Option, Some, None, ⊤}
 use Rattle.std.specs.Str.{bytes_eq, is_utf8}
 use Rattle.qs_spec.specs.Segment.{Segment, segment_text}
@@ -23,10 +23,10 @@ last_item reject_duplicates (item t no_items) = item_text t
 last_item reject_duplicates (item t (item u xs)) = cond reject_duplicates None (last_item reject_duplicates (item u xs))
 
 -- the last text of a node: that of a text, or of a sequence's last item
-abbrev pub last : Bool → Tree → Option (List ℕ)
-last reject_duplicates (leaf (Text bytes mark)) = Some bytes
-last reject_duplicates (sequence xs) = last_item reject_duplicates xs
-last reject_duplicates _ = None
+abbrev pub last_text : Bool → Tree → Option (List ℕ)
+last_text reject_duplicates (leaf (Text bytes mark)) = Some bytes
+last_text reject_duplicates (sequence xs) = last_item reject_duplicates xs
+last_text reject_duplicates _ = None
 
 -- a pair was there
 abbrev pub IsThere : Tree → Type 0
@@ -40,7 +40,7 @@ IsFull (leaf NoValue) = ⊥
 IsFull (leaf Null) = ⊥
 IsFull _ = ⊤
 
--- the key is this place, of which there are 4,294,967,295 at most
+-- the key is this index, which is below 4,294,967,295
 abbrev pub is_place : ℕ → Segment → Bool
 is_place i (Int n) = n == i && nat_lt n 4294967295
 is_place i (Str bytes) = false
@@ -53,21 +53,21 @@ abbrev pub are_ints : Entries → Bool
 are_ints no_entries = true
 are_ints (entry k mark t es) = is_int k && are_ints es
 
--- each item at its place; an entry elsewhere is no item
+-- each item at its own index; an entry with another key is no item
 abbrev pub placed : ℕ → Entries → List (Option Tree)
 placed i no_entries = []
 placed i (entry k mark t es) = cond (is_place i k) (Some t) None ∷ placed (i + 1) es
 
-abbrev pub each_item : Items → List (Option Tree)
-each_item no_items = []
-each_item (item t xs) = Some t ∷ each_item xs
+abbrev pub sequence_items : Items → List (Option Tree)
+sequence_items no_items = []
+sequence_items (item t xs) = Some t ∷ sequence_items xs
 
 -- the items of a node, if it has a list of them
 abbrev pub items : Tree → Option (List (Option Tree))
 items (leaf NoValue) = Some []
 items (leaf Null) = Some []
 items (leaf (Text bytes mark)) = Some (Some (leaf (Text bytes mark)) ∷ [])
-items (sequence xs) = Some (each_item xs)
+items (sequence xs) = Some (sequence_items xs)
 items (mapping es) = cond (are_ints es) (Some (placed 0 es)) None
 items uninitialized = None
 
@@ -87,7 +87,7 @@ keys_are_text = all_keys is_utf8
 abbrev pub keys_are_names : Fields → Entries → Bool
 keys_are_names fs = all_keys (λ key. is_field_name key fs)
 
--- every key is a text, and a field's name where unknown keys are rejected
+-- every key is UTF-8, and a field's name where unknown keys are rejected
 abbrev pub keys_are_allowed : UnknownKeys → Fields → Entries → Bool
 keys_are_allowed unknown fs es = keys_are_text es && (keys_are_names fs es || are_ignored unknown)
 

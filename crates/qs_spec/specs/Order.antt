@@ -10,13 +10,13 @@ use Rattle.qs_spec.specs.Tree.Tree.{leaf, sequence, mapping, uninitialized}
 use Rattle.qs_spec.specs.Tree.Items.{no_items, item}
 use Rattle.qs_spec.specs.Tree.Entries.{no_entries, entry}
 
--- one path begins another
+-- the second path begins with the first
 abbrev pub is_front : List Step → List Step → Bool
 is_front [] q = true
 is_front (s ∷ p) [] = false
 is_front (s ∷ p) (t ∷ q) = is_same_segment s.seg t.seg && is_front p q
 
--- two pairs whose paths are equal, or one the front of the other
+-- two pairs with overlapping paths: equal, or one the front of the other
 abbrev pub meet : Pair → Pair → Bool
 meet p q = is_front p.path q.path || is_front q.path p.path
 
@@ -47,7 +47,7 @@ abbrev mutual
   unmarked_entries no_entries = no_entries
   unmarked_entries (entry k mark t es) = entry k false (unmarked t) (unmarked_entries es)
 
--- the same pairs but for their marks, in an order that keeps every two that meet
+-- the same pairs but for their marks, in an order that keeps overlapping paths in order
 abbrev pub AreReordered : List Pair → List Pair → Type 0
 AreReordered ps qs = KeepsOrder meet (map unmarked_pair ps) (map unmarked_pair qs)
 

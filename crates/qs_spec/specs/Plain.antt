@@ -1,12 +1,11 @@
--- Plain data: each of their entries shows which part it is, so they can be read back in any order.
+-- Plain data: their entries can be read back in any order.
 use Rattle.std.specs.Prelude.{ℕ, ◌+◌, Bool, true, false, not, ◌&&◌, ◌||◌, nat_le, List, [], ◌∷◌, Option, Some, None}
 use Rattle.std.specs.List.{list_any}
 use Rattle.std.specs.Str.{bytes_eq}
-use Rattle.qs_spec.specs.Scalar.{is_numeral}
+use Rattle.qs_spec.specs.Token.{is_bracket}
+use Rattle.qs_spec.specs.Scalar.{is_numeral, has_leading_zero}
 use Rattle.qs_spec.specs.Data.{Data, Values, no_values, one_value, Pairs, no_pairs, one_pair, Members, no_members, one_member}
 use Rattle.qs_spec.specs.Entry.{key_text}
-use Rattle.qs_spec.specs.toward.Keys.{has_leading_zero}
-use Rattle.qs_spec.specs.toward.Entries.{is_bracket}
 
 abbrev pub has_bytes : List ℕ → Bool
 has_bytes [] = false

@@ -36,11 +36,11 @@
 -- Nothing else is read, and nothing from the uninitialized tree.
 use Rattle.std.specs.Prelude.{◌≡◌, ℕ, Bool, true, false, List, [], ◌∷◌, Option, Some, IsTrue, IsFalse}
 use Rattle.std.specs.Str.{is_utf8}
-use Rattle.qs_spec.specs.Config.{Config, are_refused}
+use Rattle.qs_spec.specs.Config.{Config, are_rejected}
 use Rattle.qs_spec.specs.Segment.{Segment, segment_text}
 use Rattle.qs_spec.specs.Leaf.Leaf.{NoValue, Null, Text}
 use Rattle.qs_spec.specs.Tree.{Tree, Items, Entries}
-use Rattle.qs_spec.specs.Node.{IsThere, IsFull, last, are_ints, items, found, keys_are_allowed, under_empty, as_map}
+use Rattle.qs_spec.specs.Node.{IsThere, IsFull, last_text, are_ints, items, found, keys_are_allowed, under_empty, as_map}
 use Rattle.qs_spec.specs.Data.{Data, Values, no_values, one_value, Pairs, no_pairs, one_pair, Members, no_members, one_member}
 use Rattle.qs_spec.specs.Shape.{Shape, Shapes, no_shapes, one_shape, Fields, no_fields, one_field, Variants, one_variant, VariantKind, unit_kind, newtype_kind, tuple_kind, struct_kind, UnknownKeys, KeyShape}
 use Rattle.qs_spec.specs.Scalar.{boolean_data, unsigned_data, signed_data, character_data, key_data}
@@ -58,21 +58,21 @@ mutual
     -- Bool
     boolean_null : Reads reject_duplicates Shape.boolean (Tree.leaf Null) (Data.boolean true)
     boolean_no_value : Reads reject_duplicates Shape.boolean (Tree.leaf NoValue) (Data.boolean true)
-    boolean : {n : Tree} {d : Data} {t : List ℕ} → last reject_duplicates n ≡ Some t → boolean_data t ≡ Some d → Reads reject_duplicates Shape.boolean n d
+    boolean : {n : Tree} {d : Data} {t : List ℕ} → last_text reject_duplicates n ≡ Some t → boolean_data t ≡ Some d → Reads reject_duplicates Shape.boolean n d
     -- U8 to U64
-    unsigned : {bits : ℕ} {n : Tree} {d : Data} {t : List ℕ} → last reject_duplicates n ≡ Some t → unsigned_data bits t ≡ Some d → Reads reject_duplicates (Shape.unsigned bits) n d
+    unsigned : {bits : ℕ} {n : Tree} {d : Data} {t : List ℕ} → last_text reject_duplicates n ≡ Some t → unsigned_data bits t ≡ Some d → Reads reject_duplicates (Shape.unsigned bits) n d
     -- I8 to I64
-    signed : {bits : ℕ} {n : Tree} {d : Data} {t : List ℕ} → last reject_duplicates n ≡ Some t → signed_data bits t ≡ Some d → Reads reject_duplicates (Shape.signed bits) n d
+    signed : {bits : ℕ} {n : Tree} {d : Data} {t : List ℕ} → last_text reject_duplicates n ≡ Some t → signed_data bits t ≡ Some d → Reads reject_duplicates (Shape.signed bits) n d
     -- Char
     character : {t : List ℕ} {mark : Bool} {d : Data} → character_data t ≡ Some d → Reads reject_duplicates Shape.character (Tree.leaf (Text t mark)) d
     -- Text
     text_null : Reads reject_duplicates Shape.text (Tree.leaf Null) (Data.text [])
     text_no_value : Reads reject_duplicates Shape.text (Tree.leaf NoValue) (Data.text [])
-    text : {n : Tree} {t : List ℕ} → last reject_duplicates n ≡ Some t → IsTrue (is_utf8 t) → Reads reject_duplicates Shape.text n (Data.text t)
+    text : {n : Tree} {t : List ℕ} → last_text reject_duplicates n ≡ Some t → IsTrue (is_utf8 t) → Reads reject_duplicates Shape.text n (Data.text t)
     -- Bytes
     bytes_null : Reads reject_duplicates Shape.bytes (Tree.leaf Null) (Data.bytes [])
     bytes_no_value : Reads reject_duplicates Shape.bytes (Tree.leaf NoValue) (Data.bytes [])
-    bytes : {n : Tree} {t : List ℕ} → last reject_duplicates n ≡ Some t → Reads reject_duplicates Shape.bytes n (Data.bytes t)
+    bytes : {n : Tree} {t : List ℕ} → last_text reject_duplicates n ≡ Some t → Reads reject_duplicates Shape.bytes n (Data.bytes t)
     -- Option
     option_no_value : {s : Shape} → Reads reject_duplicates (Shape.option s) (Tree.leaf NoValue) Data.none
     option_null : {s : Shape} {d : Data} → Reads reject_duplicates s (Tree.leaf NoValue) d → Reads reject_duplicates (Shape.option s) (Tree.leaf Null) (Data.some d)
@@ -105,7 +105,7 @@ mutual
     -- Ignored
     ignored : {n : Tree} → IsThere n → Reads reject_duplicates Shape.ignored n Data.unit
 
-  -- every item, each of which stands at its place
+  -- every item, each at its own index
   pub data ReadsEach (reject_duplicates : Bool) : Shape → List (Option Tree) → Values → Type 0 where
     each_end : {s : Shape} → ReadsEach reject_duplicates s [] no_values
     each_item : {s : Shape} {n : Tree} {xs : List (Option Tree)} {d : Data} {ds : Values} → Reads reject_duplicates s n d → ReadsEach reject_duplicates s xs ds → ReadsEach reject_duplicates s (Some n ∷ xs) (one_value d ds)
@@ -153,7 +153,7 @@ mutual
 
 -- the same under a configuration
 abbrev pub ReadsBy : Config → Shape → Tree → Data → Type 0
-ReadsBy config shape tree d = Reads (are_refused config.duplicates) shape tree d
+ReadsBy config shape tree d = Reads (are_rejected config.duplicates) shape tree d
 
 -- no data is read
 abbrev pub ReadsNothing : Config → Shape → Tree → Type 0

@@ -1,4 +1,4 @@
--- What texts stand for as booleans, numbers, characters and keys.
+-- Which booleans, numbers, characters and keys texts are parsed as.
 use Rattle.std.specs.Prelude.{ℕ, ◌-◌, ◌^◌, ℤ, pos, neg_ℤ, Bool, true, false, ◌&&◌, ◌==◌, nat_le, List, [], ◌∷◌, codes, Option, Some, None, option_map, if◌then◌else◌}
 use Rattle.std.specs.List.{list_all, list_any}
 use Rattle.std.specs.Str.{bytes_eq, is_utf8, chars}
@@ -7,10 +7,16 @@ use Rattle.qs_spec.specs.Segment.{number}
 use Rattle.qs_spec.specs.Shape.{KeyShape}
 use Rattle.qs_spec.specs.Data.{Data}
 
--- some ASCII digits, at least one
+-- one ASCII digit or more
 abbrev pub is_numeral : List ℕ → Bool
 is_numeral [] = false
 is_numeral (b ∷ digits) = list_all (is_between 48 57) (b ∷ digits)
+
+-- a zero, and bytes after it
+abbrev pub has_leading_zero : List ℕ → Bool
+has_leading_zero [] = false
+has_leading_zero (b ∷ []) = false
+has_leading_zero (b ∷ c ∷ s) = b == 48
 
 -- the number of a numeral of at most `most`; leading zeros are allowed
 abbrev pub numeral_up_to : ℕ → List ℕ → Option ℕ
@@ -55,7 +61,7 @@ text_data t = if is_utf8 t then Some (Data.text t) else None
 abbrev pub name_data : List (List ℕ) → List ℕ → Option Data
 name_data names t = if list_any (bytes_eq t) names then Some (Data.unit_variant t) else None
 
--- what the text of a map's key stands for
+-- the data that the text of a map's key is parsed as
 abbrev pub key_data : KeyShape → List ℕ → Option Data
 key_data KeyShape.boolean t = boolean_data t
 key_data (KeyShape.unsigned bits) t = unsigned_data bits t

@@ -1,4 +1,4 @@
--- Segments, of which a path is made.
+-- Segments of a path: an integer key or a string key.
 use Rattle.std.specs.Prelude.{ℕ, ◌+◌, ◌-◌, ◌*◌, Bool, false, ◌&&◌, nat_le, List, [], ◌∷◌, if◌then◌else◌, fold, decimal}
 use Rattle.std.specs.List.{list_all}
 use Rattle.std.specs.declared.cmp.Ordering.{Ordering}
@@ -11,7 +11,7 @@ pub data Segment : Type 0 where
   Int : ℕ → Segment
   Str : List ℕ → Segment
 
--- a segment as an input spells it, and whether its raw bytes hold `+` or `%`
+-- a segment of an input, and whether its raw bytes hold `+` or `%`
 pub record Step : Type 0 where
   pub seg : Segment
   pub mark : Bool
@@ -20,12 +20,12 @@ pub record Step : Type 0 where
 abbrev pub number : List ℕ → ℕ
 number raw = fold (λ n b. 10 * n + (b - 48)) 0 raw
 
--- digits alone, at least one, of a value that 32 bits hold
+-- one ASCII digit or more, of a number below 2 ^ 32
 abbrev pub is_index : List ℕ → Bool
 is_index [] = false
 is_index (b ∷ raw) = list_all (is_between 48 57) (b ∷ raw) && nat_le (number (b ∷ raw)) 4294967295
 
--- raw bytes that are an index are a number, and others what they stand for; so the escaped digit `%31` is a text
+-- Raw bytes that are an index are an integer key, and others are decoded to a string key. So the escaped digit `%31` is a string key.
 abbrev pub segment_of : List ℕ → Segment
 segment_of raw = if is_index raw then Int (number raw) else Str (decoded raw)
 
@@ -37,7 +37,7 @@ abbrev pub segment_text : Segment → List ℕ
 segment_text (Int n) = decimal n
 segment_text (Str bytes) = bytes
 
--- numbers before texts, numbers by value, texts by bytes
+-- integers before strings, integers by value, strings by bytes
 abbrev pub compare_segments : Segment → Segment → Ordering
 compare_segments (Int m) (Int n) = nat_cmp m n
 compare_segments (Int m) (Str b) = Less

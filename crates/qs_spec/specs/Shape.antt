@@ -12,12 +12,12 @@ pub data KeyShape : Type 0 where
   text : KeyShape
   variants : (names : List (List ℕ)) → KeyShape
 
--- what becomes of a map's keys that no field of a struct has
+-- keys of a map that no field of a struct has: ignored or rejected
 pub data UnknownKeys : Type 0 where
   ignored : UnknownKeys
   rejected : UnknownKeys
 
--- A field may be optional: then it is left out where it isn't there.
+-- An optional field is left out where it is missing.
 mutual
   pub data Shape : Type 0 where
     unit : Shape

@@ -1,6 +1,7 @@
 -- Trees that come back: what `any` reads from them, written in the indexed format, has the same tree.
 use Rattle.std.specs.Prelude.{Bool, true, false, not, ◌&&◌}
 use Rattle.std.specs.List.{list_any}
+use Rattle.qs_spec.specs.Token.{is_bracket}
 use Rattle.qs_spec.specs.Segment.{Segment, is_index}
 use Rattle.qs_spec.specs.Segment.Segment.{Int, Str}
 use Rattle.qs_spec.specs.Leaf.Leaf.{NoValue, Null, Text}
@@ -8,7 +9,6 @@ use Rattle.qs_spec.specs.Tree.{Tree, Entries}
 use Rattle.qs_spec.specs.Tree.Tree.{leaf, sequence, mapping, uninitialized}
 use Rattle.qs_spec.specs.Tree.Entries.{no_entries, entry}
 use Rattle.qs_spec.specs.Plain.{has_bytes}
-use Rattle.qs_spec.specs.toward.Entries.{is_bracket}
 
 -- a number, or a text that isn't empty, isn't digits of a number, and in form mode holds no bracket
 abbrev pub is_stable_key : Bool → Segment → Bool

@@ -13,11 +13,15 @@ pub record Token : Type 0 where
   pub raw : List ℕ
 
 -- a byte that is a token by itself: `&`, `=`, `[`, `]` or another
-abbrev pub kind_of : ℕ → Kind
-kind_of b = if b == 38 then Amp else (if b == 61 then Equals else (if b == 91 then Open else (if b == 93 then Close else Other)))
+abbrev pub byte_kind : ℕ → Kind
+byte_kind b = if b == 38 then Amp else (if b == 61 then Equals else (if b == 91 then Open else (if b == 93 then Close else Other)))
 
 abbrev pub byte_token : ℕ → Token
-byte_token b = record { kind = kind_of b; raw = b ∷ [] }
+byte_token b = record { kind = byte_kind b; raw = b ∷ [] }
+
+-- `[` and `]`
+abbrev pub is_bracket : ℕ → Bool
+is_bracket b = b == 91 || b == 93
 
 -- `%5B` and `%5D`
 abbrev pub is_escaped_bracket : ℕ → ℕ → ℕ → Bool
@@ -29,9 +33,9 @@ tokens form [] = []
 tokens form (b ∷ []) = byte_token b ∷ []
 tokens form (b ∷ c ∷ []) = byte_token b ∷ byte_token c ∷ []
 tokens form (b ∷ c ∷ e ∷ rest) =
-    let bracket = record { kind = if e == 66 then Open else Close; raw = b ∷ c ∷ e ∷ [] } ∷ tokens form rest in
-    let byte = byte_token b ∷ tokens form (c ∷ e ∷ rest) in
-    if form && is_escaped_bracket b c e then bracket else byte
+    if form && is_escaped_bracket b c e
+    then record { kind = if e == 66 then Open else Close; raw = b ∷ c ∷ e ∷ [] } ∷ tokens form rest
+    else byte_token b ∷ tokens form (c ∷ e ∷ rest)
 
 -- the bytes of some tokens
 abbrev pub raw_of : List Token → List ℕ

@@ -10,7 +10,7 @@ use Rattle.qs_spec.specs.Leaf.{Leaf}
 use Rattle.qs_spec.specs.Leaf.Leaf.{NoValue}
 use Rattle.qs_spec.specs.Grammar.{Pair, ArePairs}
 use Rattle.qs_spec.specs.History.{Event, events, is_below, under, permitted}
-use Rattle.qs_spec.specs.History.Event.{plain, push, below}
+use Rattle.qs_spec.specs.History.Event.{direct, push, below}
 
 -- A node. An entry of a map keeps the mark of its key; comparisons of segments don't see it.
 mutual
@@ -29,7 +29,7 @@ mutual
     entry : (key : Segment) → (mark : Bool) → Tree → Entries → Entries
 
 abbrev pub leaf_in : Event → List Leaf
-leaf_in (plain l) = l ∷ []
+leaf_in (direct l) = l ∷ []
 leaf_in (push l) = l ∷ []
 leaf_in below = []
 
@@ -41,14 +41,13 @@ abbrev pub leaf_items : List Leaf → Items
 leaf_items [] = no_items
 leaf_items (l ∷ ls) = item (leaf l) (leaf_items ls)
 
--- a node without below: nothing, one plain leaf, or a sequence
+-- a node without below: nothing, one direct leaf, or a sequence
 abbrev pub flat : List Event → Tree
 flat [] = uninitialized
-flat (plain l ∷ []) = leaf l
+flat (direct l ∷ []) = leaf l
 flat h = sequence (leaf_items (leaves_in h))
 
--- A plain leaf at a map stands under the empty text, where nothing else does, since no path of an input holds that text. A push is permitted
--- at no map.
+-- A direct leaf at a map is the value of the empty key, which no path of an input holds. A push at a map is never permitted.
 abbrev pub empty_step : Step
 empty_step = record { seg = Str []; mark = false }
 
@@ -113,7 +112,7 @@ pub record Splits (form : Bool) (depth : ℕ) (bytes : List ℕ) (pairs : List P
   pub grammar : ArePairs depth (tokens form bytes) pairs
   pub histories : (path : List Segment) → IsTrue (permitted (events pairs path))
 
--- the tree of an input; an input that no tree stands for is rejected
+-- the tree of an input; an input without a tree is rejected
 abbrev pub IsTree : Bool → ℕ → List ℕ → Tree → Type 0
 IsTree form depth [] tree = tree ≡ leaf NoValue
 IsTree form depth (b ∷ bytes) tree = (pairs : List Pair) × Splits form depth (b ∷ bytes) pairs × (tree ≡ node pairs)

@@ -12,16 +12,16 @@ use Rattle.qs_spec.specs.Written.{written}
 use Rattle.qs_spec.specs.Stable.{is_stable}
 
 -- a leaf without `+` and `%`
-abbrev pub text : List ℕ → Tree
-text bytes = Tree.leaf (Leaf.Text bytes false)
+abbrev pub text_leaf : List ℕ → Tree
+text_leaf bytes = Tree.leaf (Leaf.Text bytes false)
 
 -- a sequence of such leaves
 abbrev pub text_items : List (List ℕ) → Items
 text_items [] = Items.no_items
-text_items (t ∷ ts) = Items.item (text t) (text_items ts)
+text_items (t ∷ ts) = Items.item (text_leaf t) (text_items ts)
 
-abbrev pub texts : List (List ℕ) → Tree
-texts ts = Tree.sequence (text_items ts)
+abbrev pub text_leaves : List (List ℕ) → Tree
+text_leaves ts = Tree.sequence (text_items ts)
 
 -- an entry under a text without `+` and `%`
 abbrev pub at_text : List ℕ → Tree → Entries → Entries
@@ -35,12 +35,12 @@ only key t = Tree.mapping (at_text key t Entries.no_entries)
 abbrev pub field : List ℕ → Shape → Shape
 field name s = Shape.struct UnknownKeys.ignored (one_field name s false no_fields)
 
-abbrev pub one_member : List ℕ → Data → Data
-one_member name d = Data.struct (members_of ((name, d) ∷ []))
+abbrev pub struct_with : List ℕ → Data → Data
+struct_with name d = Data.struct (members_of ((name, d) ∷ []))
 
 -- a map of one text to data
-abbrev pub one_pair : List ℕ → Data → Data
-one_pair key d = Data.mapping (pairs_of ((Data.text key, d) ∷ []))
+abbrev pub map_with : List ℕ → Data → Data
+map_with key d = Data.mapping (pairs_of ((Data.text key, d) ∷ []))
 
 -- this is what the shape reads from the tree, or it reads nothing
 abbrev pub ReadsOrNothing : Config → Shape → Tree → Option Data → Type 0
@@ -53,7 +53,7 @@ pub record IsRead (config : Config) (shape : Shape) (input : List ℕ) (answer :
   pub is_tree : IsTree config.form config.max_depth input tree
   pub reads : ReadsOrNothing config shape tree answer
 
--- the text of the entries up to the first refusal, and that refusal if there is one
+-- the text of the entries before the first error, and that error if there is one
 pub record IsWritten (config : Config) (d : Data) (text : List ℕ) (refusal : Option Refusal) : Type 0 where
   pub text_is : written config.form false (entries config d).entries ≡ text
   pub refusal_is : (entries config d).refusal ≡ refusal

@@ -4,12 +4,12 @@ ghost use Rattle.std.specs.Prelude.{◌≡◌, ◌<◌, ℕ, Bool, true, false, 
 ghost use Rattle.std.specs.List.{AllByRecursion};
 ghost use Rattle.qs_spec.specs.Escape.{decoded, encoded};
 
-/// Escaped bytes stand for what was escaped, in both modes.
+/// Encoded bytes are decoded to what was encoded, in both modes.
 pub fn escapes_round_trip()
     ensures { (form : Bool) (s : List ℕ) → AllByRecursion (λ b. b < 256) s → decoded (encoded form s) ≡ s }
 {}
 
-/// What some escaped texts stand for.
+/// What some encoded texts are decoded to.
 pub fn decoded_texts()
     ensures brackets { decoded (codes "a%5Bb%5D%5Bc%5D=1") ≡ codes "a[b][c]=1" }
     ensures plus { decoded (codes "a+b%2Bc") ≡ codes "a b+c" }

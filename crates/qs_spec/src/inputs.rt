@@ -6,32 +6,32 @@ ghost use Rattle.qs_spec.specs.Leaf.Leaf.{Text, Null, NoValue};
 ghost use Rattle.qs_spec.specs.Tree.{IsTree, IsRefused};
 ghost use Rattle.qs_spec.specs.Tree.Tree.{leaf, mapping, uninitialized};
 ghost use Rattle.qs_spec.specs.Tree.Entries.{entry, no_entries};
-ghost use Rattle.qs_spec.specs.Worked.{text, texts, at_text, only};
+ghost use Rattle.qs_spec.specs.Worked.{text_leaf, text_leaves, at_text, only};
 
 /// Segments nest up to the limit; after it all brackets are one last key.
 pub fn deep_keys()
     ensures last_key { IsTree false 5 (codes "a[b][c][d][e][f][g][h]=i")
-        (only (codes "a") (only (codes "b") (only (codes "c") (only (codes "d") (only (codes "e") (only (codes "f") (only (codes "[g][h]") (text (codes "i"))))))))) }
+        (only (codes "a") (only (codes "b") (only (codes "c") (only (codes "d") (only (codes "e") (only (codes "f") (only (codes "[g][h]") (text_leaf (codes "i"))))))))) }
     ensures equals_in_the_last_key { IsTree false 1 (codes "a[b][=1&c") (mapping (at_text (codes "a") (only (codes "b") (only (codes "[=1") (leaf NoValue))) (at_text (codes "c") (leaf NoValue) no_entries))) }
-    ensures equals_behind_the_last_key { IsTree false 1 (codes "a[b][c=1") (only (codes "a") (only (codes "b") (only (codes "[c") (text (codes "1"))))) }
-    ensures ampersand_in_brackets { IsTree false 5 (codes "a[b&c]=1") (only (codes "a") (only (codes "b&c") (text (codes "1")))) }
-    ensures bracket_in_brackets { IsTree false 5 (codes "a[[]=1") (only (codes "a") (only (codes "[") (text (codes "1")))) }
+    ensures equals_behind_the_last_key { IsTree false 1 (codes "a[b][c=1") (only (codes "a") (only (codes "b") (only (codes "[c") (text_leaf (codes "1"))))) }
+    ensures ampersand_in_brackets { IsTree false 5 (codes "a[b&c]=1") (only (codes "a") (only (codes "b&c") (text_leaf (codes "1")))) }
+    ensures bracket_in_brackets { IsTree false 5 (codes "a[[]=1") (only (codes "a") (only (codes "[") (text_leaf (codes "1")))) }
     ensures text_behind_brackets { IsRefused false 5 (codes "a[b]c=1") }
     ensures open_bracket { IsRefused false 5 (codes "a[b") }
-    ensures push_at_the_limit { IsTree false 1 (codes "a[b][]=1") (only (codes "a") (only (codes "b") (texts (codes "1" ∷ [])))) }
-    ensures no_depth { IsTree false 0 (codes "a[b]=1") (only (codes "a[b]") (text (codes "1"))) }
+    ensures push_at_the_limit { IsTree false 1 (codes "a[b][]=1") (only (codes "a") (only (codes "b") (text_leaves (codes "1" ∷ [])))) }
+    ensures no_depth { IsTree false 0 (codes "a[b]=1") (only (codes "a[b]") (text_leaf (codes "1"))) }
 {}
 
 /// In form mode `%5B` and `%5D` are brackets, in upper case alone; otherwise they are escapes.
 pub fn brackets_in_form_mode()
-    ensures escaped { IsTree true 5 (codes "abc%5Bdef%5D=ghi") (only (codes "abc") (only (codes "def") (text (codes "ghi")))) }
-    ensures lower_case { IsTree true 5 (codes "abc%5bdef%5d=ghi") (mapping (entry (Str (codes "abc[def]")) true (text (codes "ghi")) no_entries)) }
-    ensures in_query_mode { IsTree false 5 (codes "abc%5Bdef%5D=ghi") (mapping (entry (Str (codes "abc[def]")) true (text (codes "ghi")) no_entries)) }
+    ensures escaped { IsTree true 5 (codes "abc%5Bdef%5D=ghi") (only (codes "abc") (only (codes "def") (text_leaf (codes "ghi")))) }
+    ensures lower_case { IsTree true 5 (codes "abc%5bdef%5d=ghi") (mapping (entry (Str (codes "abc[def]")) true (text_leaf (codes "ghi")) no_entries)) }
+    ensures in_query_mode { IsTree false 5 (codes "abc%5Bdef%5D=ghi") (mapping (entry (Str (codes "abc[def]")) true (text_leaf (codes "ghi")) no_entries)) }
 {}
 
-/// A value may follow what is nested under its key, and then stands under the empty text; it may not precede it.
+/// A value may follow what is nested under its key, and is then the value of the empty key; it may not precede it.
 pub fn values_beside_maps()
-    ensures value_after { IsTree false 5 (codes "a[b]=1&a=2") (only (codes "a") (mapping (at_text [] (text (codes "2")) (at_text (codes "b") (text (codes "1")) no_entries)))) }
+    ensures value_after { IsTree false 5 (codes "a[b]=1&a=2") (only (codes "a") (mapping (at_text [] (text_leaf (codes "2")) (at_text (codes "b") (text_leaf (codes "1")) no_entries)))) }
     ensures value_before { IsRefused false 5 (codes "a=2&a[b]=1") }
     ensures nothing_before { IsRefused false 5 (codes "a=&a[b]=1") }
     ensures push_before { IsRefused false 5 (codes "a[]=1&a[b]=2") }
@@ -40,17 +40,17 @@ pub fn values_beside_maps()
 
 /// Several values of a key are a sequence, and more may be pushed onto it; nothing is pushed onto a single value.
 pub fn repeated_keys()
-    ensures values_and_a_push { IsTree false 5 (codes "a=1&a=2&a[]=3") (only (codes "a") (texts (codes "1" ∷ codes "2" ∷ codes "3" ∷ []))) }
-    ensures pushes { IsTree false 5 (codes "a[]=1&b=x&a[]=2") (mapping (at_text (codes "a") (texts (codes "1" ∷ codes "2" ∷ [])) (at_text (codes "b") (text (codes "x")) no_entries))) }
+    ensures values_and_a_push { IsTree false 5 (codes "a=1&a=2&a[]=3") (only (codes "a") (text_leaves (codes "1" ∷ codes "2" ∷ codes "3" ∷ []))) }
+    ensures pushes { IsTree false 5 (codes "a[]=1&b=x&a[]=2") (mapping (at_text (codes "a") (text_leaves (codes "1" ∷ codes "2" ∷ [])) (at_text (codes "b") (text_leaf (codes "x")) no_entries))) }
     ensures push_onto_a_value { IsRefused false 5 (codes "a=1&a[]=2") }
 {}
 
 /// Digits of a number of 32 bits are an index, other keys and escaped digits are texts.
 pub fn indices_and_texts()
-    ensures escaped_digit { IsTree false 5 (codes "1=a&%31=b") (mapping (entry (Int 1) false (text (codes "a")) (entry (Str (codes "1")) true (text (codes "b")) no_entries))) }
-    ensures leading_zero { IsTree false 5 (codes "01=x") (mapping (entry (Int 1) false (text (codes "x")) no_entries)) }
+    ensures escaped_digit { IsTree false 5 (codes "1=a&%31=b") (mapping (entry (Int 1) false (text_leaf (codes "a")) (entry (Str (codes "1")) true (text_leaf (codes "b")) no_entries))) }
+    ensures leading_zero { IsTree false 5 (codes "01=x") (mapping (entry (Int 1) false (text_leaf (codes "x")) no_entries)) }
     ensures greatest_index { IsTree false 5 (codes "a[4294967296]=p&a[4294967295]=q")
-        (only (codes "a") (mapping (entry (Int 4294967295) false (text (codes "q")) (at_text (codes "4294967296") (text (codes "p")) no_entries)))) }
+        (only (codes "a") (mapping (entry (Int 4294967295) false (text_leaf (codes "q")) (at_text (codes "4294967296") (text_leaf (codes "p")) no_entries)))) }
 {}
 
 /// Inputs of few bytes.
@@ -59,13 +59,13 @@ pub fn nearly_empty_inputs()
     ensures ampersands { IsTree false 5 (codes "&&&") uninitialized }
     ensures a_key { IsTree false 5 (codes "a") (only (codes "a") (leaf NoValue)) }
     ensures no_value { IsTree false 5 (codes "a=") (only (codes "a") (leaf Null)) }
-    ensures no_key { IsTree false 5 (codes "=foo") (text (codes "foo")) }
+    ensures no_key { IsTree false 5 (codes "=foo") (text_leaf (codes "foo")) }
 {}
 
 /// A key has the mark of the first pair that brought it, and a text that of its own bytes.
 pub fn marks_of_keys_and_texts()
-    ensures plain_first { IsTree false 5 (codes "a=1&%61=2") (mapping (entry (Str (codes "a")) false (texts (codes "1" ∷ codes "2" ∷ [])) no_entries)) }
-    ensures escaped_first { IsTree false 5 (codes "%61=1&a=2") (mapping (entry (Str (codes "a")) true (texts (codes "1" ∷ codes "2" ∷ [])) no_entries)) }
+    ensures plain_first { IsTree false 5 (codes "a=1&%61=2") (mapping (entry (Str (codes "a")) false (text_leaves (codes "1" ∷ codes "2" ∷ [])) no_entries)) }
+    ensures escaped_first { IsTree false 5 (codes "%61=1&a=2") (mapping (entry (Str (codes "a")) true (text_leaves (codes "1" ∷ codes "2" ∷ [])) no_entries)) }
     ensures text { IsTree false 5 (codes "a=%2B+") (only (codes "a") (leaf (Text (codes "+ ") true))) }
     ensures broken_escape { IsTree false 5 (codes "a=%") (only (codes "a") (leaf (Text (codes "%") true))) }
 {}

@@ -1,4 +1,4 @@
-// Laws of keys, as they are written, read back and looked up.
+// Laws of keys that are written, read back and looked up.
 
 ghost use Rattle.std.specs.Prelude.{◌≡◌, ℕ, ◌^◌, ◌<◌, ◌≤◌, Bool, ◌&&◌, List, ◌∷◌, ◌++◌, decimal, IsTrue, IsFalse};
 ghost use Rattle.std.specs.List.{AllByRecursion};
@@ -10,10 +10,10 @@ ghost use Rattle.qs_spec.specs.Leaf.Leaf.{Text};
 ghost use Rattle.qs_spec.specs.Escape.{is_marked};
 ghost use Rattle.qs_spec.specs.Tree.{Tree, Entries, IsTree};
 ghost use Rattle.qs_spec.specs.Node.{found};
-ghost use Rattle.qs_spec.specs.Scalar.{is_numeral};
-ghost use Rattle.qs_spec.specs.toward.Keys.{written_segment, has_leading_zero, printed_index, lookup, lookup_index, list_of, AreAscending, IsAscending};
+ghost use Rattle.qs_spec.specs.Scalar.{is_numeral, has_leading_zero};
+ghost use Rattle.qs_spec.specs.internal.Keys.{written_segment, printed_index, lookup, lookup_index, list_of, AreAscending, IsAscending};
 
-/// Digits without a leading zero are what is printed of their number, and what is printed of a number are digits of it.
+/// Digits without a leading zero are the decimal digits of their number, and the decimal digits of a number are parsed as it.
 pub fn digits_and_numbers()
     ensures printed { (digits : List ℕ) → IsTrue (is_numeral digits) → IsFalse (has_leading_zero digits) → number digits < 2 ^ 64 → decimal (number digits) ≡ digits }
     ensures digits { (n : ℕ) → n < 2 ^ 64 → IsTrue (is_numeral (decimal n)) }
@@ -21,15 +21,15 @@ pub fn digits_and_numbers()
     ensures no_leading_zero { (n : ℕ) → n < 2 ^ 64 → IsFalse (has_leading_zero (decimal n)) }
 {}
 
-/// What is written of a key is read as its number if it is an index, and else as itself. So its text comes back, unless it is an
-/// index with a leading zero; and a place comes back as that number.
+/// A key that is written is parsed as its number if it is an index, and else as itself. So its text comes back, unless it is an
+/// index with a leading zero; and an index comes back as that number.
 pub fn written_keys_are_read()
     ensures segment { (form : Bool) (s : List ℕ) → AllByRecursion (λ b. b < 256) s → segment_of (encoded form s) ≡ written_segment s }
     ensures text { (form : Bool) (s : List ℕ) → AllByRecursion (λ b. b < 256) s → IsFalse (is_index s && has_leading_zero s) → segment_text (segment_of (encoded form s)) ≡ s }
     ensures place { (form : Bool) (i : ℕ) → i ≤ 4294967295 → segment_of (encoded form (decimal i)) ≡ Int i }
 {}
 
-/// What is written of a value is read as its bytes.
+/// A value that is written is parsed as its bytes.
 pub fn written_values_are_read()
     ensures leaf { (form : Bool) (b : ℕ) (s : List ℕ) → AllByRecursion (λ b. b < 256) (b ∷ s) → value_leaf (encoded form (b ∷ s)) ≡ Text (b ∷ s) (is_marked (encoded form (b ∷ s))) }
     ensures bytes { (form : Bool) (s : List ℕ) → AllByRecursion (λ b. b < 256) s → leaf_text (value_leaf (encoded form s)) ≡ s }
@@ -40,7 +40,7 @@ pub fn ascending_keys()
     ensures { (form : Bool) (depth : ℕ) (bytes : List ℕ) (t : Tree) → IsTree form depth bytes t → IsAscending t }
 {}
 
-/// The values whose key has a name as its text are found by two look-ups: at the index that is printed so, if one is, and at the text.
+/// The values whose key has a name as its text are found by two look-ups: the integer key that is printed so, if there is one, and the string key.
 pub fn found_by_lookup()
     ensures { (name : List ℕ) (es : Entries) → AreAscending es → found name es ≡ list_of (lookup_index (printed_index name) es) ++ list_of (lookup (Str name) es) }
 {}

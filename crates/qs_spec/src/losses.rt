@@ -14,22 +14,22 @@ ghost use Rattle.qs_spec.specs.Entry.Refusal.{too_deep};
 ghost use Rattle.qs_spec.specs.Shape.{Shape, KeyShape, no_fields, one_field, fields_of, no_shapes, one_shape, no_variants, one_variant, unit_kind, tuple_kind, struct_kind};
 ghost use Rattle.qs_spec.specs.Shape.UnknownKeys.{ignored};
 ghost use Rattle.qs_spec.specs.Data.{Data, values_of, pairs_of, members_of};
-ghost use Rattle.qs_spec.specs.Worked.{field, one_member, one_pair, text, texts, at_text, only, IsRead, IsReadAs, IsWritten, IsUnstable};
+ghost use Rattle.qs_spec.specs.Worked.{field, struct_with, map_with, text_leaf, text_leaves, at_text, only, IsRead, IsReadAs, IsWritten, IsUnstable};
 
 /// Data that aren't plain are read as other data, or not at all: an option in an option as nothing; a struct without fields is
-/// missing; digits after a zero are another number, and a bracket nests at form encoding; an empty name or key stands for no key;
+/// missing; digits after a zero are another number, and a bracket nests at form encoding; an empty name or key is no key;
 /// equal keys are one; bytes are a text; and an element beyond the indices is no item.
 pub fn not_plain_is_lost()
-    ensures option_in_option { IsReadAs default (field (codes "a") (Shape.option (Shape.option Shape.unit))) (one_member (codes "a") (Data.some Data.none)) (codes "a") (Some (one_member (codes "a") Data.none)) }
-    ensures option_in_newtype { IsReadAs default (field (codes "a") (Shape.option (Shape.newtype (Shape.option Shape.unit)))) (one_member (codes "a") (Data.some (Data.newtype Data.none))) (codes "a") (Some (one_member (codes "a") Data.none)) }
-    ensures empty_struct { IsReadAs default (field (codes "a") (Shape.struct ignored (one_field (codes "x") Shape.unit true no_fields))) (one_member (codes "a") (Data.struct (members_of []))) [] None }
-    ensures empty_variant { IsReadAs default (field (codes "e") (Shape.enumeration (one_variant (codes "v") (struct_kind ignored no_fields) no_variants))) (one_member (codes "e") (Data.struct_variant (codes "v") (members_of []))) [] None }
-    ensures empty_tuple_variant { IsReadAs default (field (codes "e") (Shape.enumeration (one_variant (codes "v") (tuple_kind no_shapes) no_variants))) (one_member (codes "e") (Data.tuple_variant (codes "v") (values_of []))) [] None }
+    ensures option_in_option { IsReadAs default (field (codes "a") (Shape.option (Shape.option Shape.unit))) (struct_with (codes "a") (Data.some Data.none)) (codes "a") (Some (struct_with (codes "a") Data.none)) }
+    ensures option_in_newtype { IsReadAs default (field (codes "a") (Shape.option (Shape.newtype (Shape.option Shape.unit)))) (struct_with (codes "a") (Data.some (Data.newtype Data.none))) (codes "a") (Some (struct_with (codes "a") Data.none)) }
+    ensures empty_struct { IsReadAs default (field (codes "a") (Shape.struct ignored (one_field (codes "x") Shape.unit true no_fields))) (struct_with (codes "a") (Data.struct (members_of []))) [] None }
+    ensures empty_variant { IsReadAs default (field (codes "e") (Shape.enumeration (one_variant (codes "v") (struct_kind ignored no_fields) no_variants))) (struct_with (codes "e") (Data.struct_variant (codes "v") (members_of []))) [] None }
+    ensures empty_tuple_variant { IsReadAs default (field (codes "e") (Shape.enumeration (one_variant (codes "v") (tuple_kind no_shapes) no_variants))) (struct_with (codes "e") (Data.tuple_variant (codes "v") (values_of []))) [] None }
     ensures leading_zero { IsReadAs default (Shape.mapping KeyShape.text Shape.unit) (Data.mapping (pairs_of ((Data.text (codes "01"), Data.unit) ∷ []))) (codes "01=") (Some (Data.mapping (pairs_of ((Data.text (codes "1"), Data.unit) ∷ [])))) }
-    ensures leading_zero_of_a_field { IsReadAs default (field (codes "01") Shape.unit) (one_member (codes "01") Data.unit) (codes "01=") None }
-    ensures bracket_in_form { IsReadAs (record default { form = true }) (field (codes "a[b]") Shape.unit) (one_member (codes "a[b]") Data.unit) (codes "a%5Bb%5D=") None }
+    ensures leading_zero_of_a_field { IsReadAs default (field (codes "01") Shape.unit) (struct_with (codes "01") Data.unit) (codes "01=") None }
+    ensures bracket_in_form { IsReadAs (record default { form = true }) (field (codes "a[b]") Shape.unit) (struct_with (codes "a[b]") Data.unit) (codes "a%5Bb%5D=") None }
     ensures empty_key { IsReadAs default (Shape.mapping KeyShape.text Shape.unit) (Data.mapping (pairs_of ((Data.text [], Data.unit) ∷ []))) (codes "=") (Some (Data.mapping (pairs_of []))) }
-    ensures empty_field { IsReadAs default (field [] Shape.text) (one_member [] (Data.text (codes "x"))) (codes "=x") None }
+    ensures empty_field { IsReadAs default (field [] Shape.text) (struct_with [] (Data.text (codes "x"))) (codes "=x") None }
     ensures empty_unit_variant { IsReadAs default (Shape.enumeration (one_variant [] unit_kind no_variants)) (Data.unit_variant []) (codes "=") None }
     ensures equal_keys { IsReadAs default (Shape.mapping KeyShape.text Shape.text) (Data.mapping (pairs_of ((Data.text (codes "1"), Data.text (codes "x")) ∷ (Data.text (codes "1"), Data.text (codes "y")) ∷ []))) (codes "1=x&1=y") (Some (Data.mapping (pairs_of ((Data.text (codes "1"), Data.text (codes "y")) ∷ [])))) }
     ensures key_of_bytes { IsReadAs default (Shape.mapping KeyShape.text Shape.unit) (Data.mapping (pairs_of ((Data.bytes (codes "a"), Data.unit) ∷ []))) (codes "a=") (Some (Data.mapping (pairs_of ((Data.text (codes "a"), Data.unit) ∷ [])))) }
@@ -50,26 +50,26 @@ pub fn not_fitting_is_lost()
 /// tree, the elements of a list come in the order of their entries, and without brackets a list of one empty text is an empty one.
 pub fn lists_without_indices()
     ensures at_the_top { IsReadAs (record default { array_format = unindexed }) (Shape.sequence (Shape.unsigned 8)) (Data.sequence (values_of (Data.unsigned 1 ∷ Data.unsigned 2 ∷ []))) (codes "=1=2") None }
-    ensures lists_in_a_list { IsReadAs (record default { array_format = unindexed }) (field (codes "v") (Shape.sequence (Shape.sequence (Shape.unsigned 8)))) (one_member (codes "v") (Data.sequence (values_of (Data.sequence (values_of (Data.unsigned 1 ∷ Data.unsigned 2 ∷ [])) ∷ [])))) (codes "v=1&v=2") (Some (one_member (codes "v") (Data.sequence (values_of (Data.sequence (values_of (Data.unsigned 1 ∷ [])) ∷ Data.sequence (values_of (Data.unsigned 2 ∷ [])) ∷ []))))) }
-    ensures one_empty_text { IsReadAs (record default { array_format = unindexed }) (field (codes "v") (Shape.sequence Shape.text)) (one_member (codes "v") (Data.sequence (values_of (Data.text [] ∷ [])))) (codes "v=") (Some (one_member (codes "v") (Data.sequence (values_of [])))) }
-    ensures one_empty_byte_string { IsReadAs (record default { array_format = unindexed }) (field (codes "v") (Shape.sequence Shape.bytes)) (one_member (codes "v") (Data.sequence (values_of (Data.bytes [] ∷ [])))) (codes "v=") (Some (one_member (codes "v") (Data.sequence (values_of [])))) }
+    ensures lists_in_a_list { IsReadAs (record default { array_format = unindexed }) (field (codes "v") (Shape.sequence (Shape.sequence (Shape.unsigned 8)))) (struct_with (codes "v") (Data.sequence (values_of (Data.sequence (values_of (Data.unsigned 1 ∷ Data.unsigned 2 ∷ [])) ∷ [])))) (codes "v=1&v=2") (Some (struct_with (codes "v") (Data.sequence (values_of (Data.sequence (values_of (Data.unsigned 1 ∷ [])) ∷ Data.sequence (values_of (Data.unsigned 2 ∷ [])) ∷ []))))) }
+    ensures one_empty_text { IsReadAs (record default { array_format = unindexed }) (field (codes "v") (Shape.sequence Shape.text)) (struct_with (codes "v") (Data.sequence (values_of (Data.text [] ∷ [])))) (codes "v=") (Some (struct_with (codes "v") (Data.sequence (values_of [])))) }
+    ensures one_empty_byte_string { IsReadAs (record default { array_format = unindexed }) (field (codes "v") (Shape.sequence Shape.bytes)) (struct_with (codes "v") (Data.sequence (values_of (Data.bytes [] ∷ [])))) (codes "v=") (Some (struct_with (codes "v") (Data.sequence (values_of [])))) }
     ensures at_the_top_in_brackets { IsReadAs (record default { array_format = empty_indexed }) (Shape.sequence Shape.text) (Data.sequence (values_of (Data.text [] ∷ []))) (codes "=") (Some (Data.sequence (values_of []))) }
-    ensures lists_in_brackets { IsWritten (record default { array_format = empty_indexed }) (one_member (codes "v") (Data.sequence (values_of (Data.sequence (values_of (Data.unsigned 1 ∷ Data.unsigned 2 ∷ [])) ∷ [])))) (codes "v[][]=1&v[][]=2") None
+    ensures lists_in_brackets { IsWritten (record default { array_format = empty_indexed }) (struct_with (codes "v") (Data.sequence (values_of (Data.sequence (values_of (Data.unsigned 1 ∷ Data.unsigned 2 ∷ [])) ∷ [])))) (codes "v[][]=1&v[][]=2") None
         × IsRefused false 5 (codes "v[][]=1&v[][]=2") }
-    ensures other_order { IsRead default (field (codes "v") (Shape.sequence (Shape.unsigned 8))) (codes "v[]=2&v[]=1") (Some (one_member (codes "v") (Data.sequence (values_of (Data.unsigned 2 ∷ Data.unsigned 1 ∷ []))))) }
+    ensures other_order { IsRead default (field (codes "v") (Shape.sequence (Shape.unsigned 8))) (codes "v[]=2&v[]=1") (Some (struct_with (codes "v") (Data.sequence (values_of (Data.unsigned 2 ∷ Data.unsigned 1 ∷ []))))) }
 {}
 
 /// What `any` reads from a tree that isn't stable is written as another: a key without `=` has one; several values of a key have
 /// indices; escaped digits are an index; in form mode an escaped bracket nests; and an empty key beside others is a push. A key
 /// beyond the depth limit isn't written, and a key that isn't UTF-8 isn't read.
 pub fn unstable_trees_are_lost()
-    ensures stable { is_stable true (mapping (entry (Int 7) false (leaf Null) (at_text (codes "a b") (mapping (entry (Int 0) false (text (codes "x")) (entry (Int 1) false (text (codes "[")) no_entries))) no_entries))) ≡ true }
-    ensures no_value { IsUnstable default (codes "a") (only (codes "a") (leaf NoValue)) (one_pair (codes "a") Data.unit) (codes "a=") (Some (only (codes "a") (leaf Null))) }
-    ensures several_values { IsUnstable default (codes "a=1&a=2") (only (codes "a") (texts (codes "1" ∷ codes "2" ∷ []))) (one_pair (codes "a") (Data.sequence (values_of (Data.text (codes "1") ∷ Data.text (codes "2") ∷ [])))) (codes "a[0]=1&a[1]=2") (Some (only (codes "a") (mapping (entry (Int 0) false (text (codes "1")) (entry (Int 1) false (text (codes "2")) no_entries))))) }
-    ensures escaped_digit { IsUnstable default (codes "%31=x") (mapping (entry (Str (codes "1")) true (text (codes "x")) no_entries)) (one_pair (codes "1") (Data.text (codes "x"))) (codes "1=x") (Some (mapping (entry (Int 1) false (text (codes "x")) no_entries))) }
-    ensures bracket_in_form { IsUnstable (record default { form = true }) (codes "a%5bb%5d=x") (mapping (entry (Str (codes "a[b]")) true (text (codes "x")) no_entries)) (one_pair (codes "a[b]") (Data.text (codes "x"))) (codes "a%5Bb%5D=x") (Some (only (codes "a") (only (codes "b") (text (codes "x"))))) }
-    ensures empty_key { IsUnstable default (codes "a[b]=1&a=2") (only (codes "a") (mapping (at_text [] (text (codes "2")) (at_text (codes "b") (text (codes "1")) no_entries)))) (one_pair (codes "a") (Data.mapping (pairs_of ((Data.text [], Data.text (codes "2")) ∷ (Data.text (codes "b"), Data.text (codes "1")) ∷ [])))) (codes "a[]=2&a[b]=1") None }
-    ensures beyond_the_limit { IsRead (record default { max_depth = 1 }) Shape.any (codes "a[b][c]=1") (Some (one_pair (codes "a") (one_pair (codes "b") (one_pair (codes "[c]") (Data.text (codes "1")))))) }
-    ensures too_deep { IsWritten (record default { max_depth = 1 }) (one_pair (codes "a") (one_pair (codes "b") (one_pair (codes "[c]") (Data.text (codes "1"))))) [] (Some too_deep) }
+    ensures stable { is_stable true (mapping (entry (Int 7) false (leaf Null) (at_text (codes "a b") (mapping (entry (Int 0) false (text_leaf (codes "x")) (entry (Int 1) false (text_leaf (codes "[")) no_entries))) no_entries))) ≡ true }
+    ensures no_value { IsUnstable default (codes "a") (only (codes "a") (leaf NoValue)) (map_with (codes "a") Data.unit) (codes "a=") (Some (only (codes "a") (leaf Null))) }
+    ensures several_values { IsUnstable default (codes "a=1&a=2") (only (codes "a") (text_leaves (codes "1" ∷ codes "2" ∷ []))) (map_with (codes "a") (Data.sequence (values_of (Data.text (codes "1") ∷ Data.text (codes "2") ∷ [])))) (codes "a[0]=1&a[1]=2") (Some (only (codes "a") (mapping (entry (Int 0) false (text_leaf (codes "1")) (entry (Int 1) false (text_leaf (codes "2")) no_entries))))) }
+    ensures escaped_digit { IsUnstable default (codes "%31=x") (mapping (entry (Str (codes "1")) true (text_leaf (codes "x")) no_entries)) (map_with (codes "1") (Data.text (codes "x"))) (codes "1=x") (Some (mapping (entry (Int 1) false (text_leaf (codes "x")) no_entries))) }
+    ensures bracket_in_form { IsUnstable (record default { form = true }) (codes "a%5bb%5d=x") (mapping (entry (Str (codes "a[b]")) true (text_leaf (codes "x")) no_entries)) (map_with (codes "a[b]") (Data.text (codes "x"))) (codes "a%5Bb%5D=x") (Some (only (codes "a") (only (codes "b") (text_leaf (codes "x"))))) }
+    ensures empty_key { IsUnstable default (codes "a[b]=1&a=2") (only (codes "a") (mapping (at_text [] (text_leaf (codes "2")) (at_text (codes "b") (text_leaf (codes "1")) no_entries)))) (map_with (codes "a") (Data.mapping (pairs_of ((Data.text [], Data.text (codes "2")) ∷ (Data.text (codes "b"), Data.text (codes "1")) ∷ [])))) (codes "a[]=2&a[b]=1") None }
+    ensures beyond_the_limit { IsRead (record default { max_depth = 1 }) Shape.any (codes "a[b][c]=1") (Some (map_with (codes "a") (map_with (codes "b") (map_with (codes "[c]") (Data.text (codes "1")))))) }
+    ensures too_deep { IsWritten (record default { max_depth = 1 }) (map_with (codes "a") (map_with (codes "b") (map_with (codes "[c]") (Data.text (codes "1"))))) [] (Some too_deep) }
     ensures key_not_utf8 { IsRead default Shape.any (codes "%FF=x") None }
 {}

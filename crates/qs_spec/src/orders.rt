@@ -9,18 +9,18 @@ ghost use Rattle.qs_spec.specs.Tree.{node};
 ghost use Rattle.qs_spec.specs.Permutation.{IsReordering, KeepsOrder};
 ghost use Rattle.qs_spec.specs.Order.{meet, AreReordered, AreAlike, unmarked, unmarked_pair};
 
-/// An order of the pairs that keeps those that meet changes no history, and of the node at most marks.
+/// A permutation that keeps overlapping paths in order changes no history, and of the node at most marks.
 pub fn reordered_pairs()
     ensures histories { (ps qs : List Pair) → IsReordering meet ps qs → (path : List Segment) → events ps path ≡ events qs path }
     ensures nodes { (ps qs : List Pair) → IsReordering meet ps qs → unmarked (node ps) ≡ unmarked (node qs) }
 {}
 
-/// An order of places that keeps those that meet is such an order.
+/// A permutation of indices that keeps overlapping paths in order is one by recursion too.
 pub fn orders_by_place()
     ensures { (ps qs : List Pair) → KeepsOrder meet ps qs → IsReordering meet ps qs }
 {}
 
-/// Inputs whose pairs are, marks aside, an order of each other that keeps those that meet have like trees, or both have none.
+/// Inputs have equivalent trees, or both have none, if their pairs are, ignoring marks, permutations of one another that keep overlapping paths in order.
 pub fn reordered_inputs()
     ensures by_places { (form : Bool) (depth : ℕ) (a b : List ℕ) (p : Pair) (ps qs : List Pair) → ArePairs depth (tokens form a) (p ∷ ps) → ArePairs depth (tokens form b) qs
         → AreReordered (p ∷ ps) qs → AreAlike form depth a b }

@@ -4,7 +4,7 @@ ghost use Rattle.std.specs.Prelude.{◌≡◌, ◌↔◌, Bool, true, Some, None
 ghost use Rattle.qs_spec.specs.Tree.{Tree};
 ghost use Rattle.qs_spec.specs.Data.{Data};
 ghost use Rattle.qs_spec.specs.Shape.{Shape, is_distinct};
-ghost use Rattle.qs_spec.specs.toward.ReadFunction.{reads};
+ghost use Rattle.qs_spec.specs.internal.ReadFunction.{reads};
 ghost use Rattle.qs_spec.specs.Relation.{Reads};
 
 /// For a distinct shape the relation holds exactly where the function returns that data.

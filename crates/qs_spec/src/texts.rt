@@ -4,7 +4,7 @@ ghost use Rattle.std.specs.Prelude.{codes, [], ◌∷◌, Some, None, true, fals
 ghost use Rattle.qs_spec.specs.Config.{default, empty_indexed, unindexed};
 ghost use Rattle.qs_spec.specs.Data.{Data, values_of, pairs_of, members_of};
 ghost use Rattle.qs_spec.specs.Entry.{too_deep, bad_key};
-ghost use Rattle.qs_spec.specs.Worked.{one_member, IsWritten};
+ghost use Rattle.qs_spec.specs.Worked.{struct_with, IsWritten};
 
 /// What is nested deeper than the limit is rejected, and the entries before it are written.
 pub fn depth_limit()
@@ -14,7 +14,7 @@ pub fn depth_limit()
     ensures beyond { IsWritten (record default { max_depth = 1 })
         (Data.struct (members_of ((codes "a", Data.unsigned 1) ∷ (codes "b", Data.sequence (values_of (Data.unsigned 2 ∷ Data.unsigned 3 ∷ []))) ∷ (codes "c", Data.sequence (values_of (Data.sequence (values_of (Data.unsigned 4 ∷ [])) ∷ []))) ∷ [])))
         (codes "a=1&b[0]=2&b[1]=3") (Some too_deep) }
-    ensures in_form_mode { IsWritten (record default { form = true }) (one_member (codes "a") (Data.sequence (values_of (Data.text (codes "x y!") ∷ [])))) (codes "a%5B0%5D=x%20y%21") None }
+    ensures in_form_mode { IsWritten (record default { form = true }) (struct_with (codes "a") (Data.sequence (values_of (Data.text (codes "x y!") ∷ [])))) (codes "a%5B0%5D=x%20y%21") None }
     ensures nothing_behind { IsWritten (record default { max_depth = 1 })
         (Data.struct (members_of ((codes "a", Data.unsigned 1) ∷ (codes "c", Data.sequence (values_of (Data.sequence (values_of (Data.unsigned 4 ∷ [])) ∷ []))) ∷ (codes "b", Data.unsigned 2) ∷ [])))
         (codes "a=1") (Some too_deep) }
@@ -27,25 +27,25 @@ pub fn array_formats()
     ensures unindexed { IsWritten (record default { array_format = unindexed }) (Data.sequence (values_of (Data.unsigned 1 ∷ Data.unsigned 2 ∷ []))) (codes "=1=2") None }
 {}
 
-/// A unit variant is its name, and each other variant stands under its own.
+/// A unit variant is written as its name, and any other variant under its name as a key.
 pub fn variants()
-    ensures unit { IsWritten default (one_member (codes "e") (Data.unit_variant (codes "a"))) (codes "e=a") None }
-    ensures newtype { IsWritten default (one_member (codes "e") (Data.newtype_variant (codes "b") (Data.boolean true))) (codes "e[b]=true") None }
-    ensures tuple { IsWritten default (one_member (codes "e") (Data.tuple_variant (codes "d") (values_of (Data.unsigned 128 ∷ Data.unsigned 1 ∷ [])))) (codes "e[d][0]=128&e[d][1]=1") None }
-    ensures struct_variant { IsWritten default (one_member (codes "e") (Data.struct_variant (codes "c") (members_of ((codes "x", Data.unsigned 2) ∷ (codes "y", Data.unsigned 3) ∷ [])))) (codes "e[c][x]=2&e[c][y]=3") None }
+    ensures unit { IsWritten default (struct_with (codes "e") (Data.unit_variant (codes "a"))) (codes "e=a") None }
+    ensures newtype { IsWritten default (struct_with (codes "e") (Data.newtype_variant (codes "b") (Data.boolean true))) (codes "e[b]=true") None }
+    ensures tuple { IsWritten default (struct_with (codes "e") (Data.tuple_variant (codes "d") (values_of (Data.unsigned 128 ∷ Data.unsigned 1 ∷ [])))) (codes "e[d][0]=128&e[d][1]=1") None }
+    ensures struct_variant { IsWritten default (struct_with (codes "e") (Data.struct_variant (codes "c") (members_of ((codes "x", Data.unsigned 2) ∷ (codes "y", Data.unsigned 3) ∷ [])))) (codes "e[c][x]=2&e[c][y]=3") None }
 {}
 
 /// None is a key without a value, and an empty list one with nothing after `=`.
 pub fn optional_values()
-    ensures none { IsWritten default (one_member (codes "vec") Data.none) (codes "vec") None }
-    ensures some { IsWritten default (one_member (codes "vec") (Data.some (Data.sequence (values_of (Data.unsigned 1 ∷ Data.unsigned 2 ∷ []))))) (codes "vec[0]=1&vec[1]=2") None }
-    ensures empty { IsWritten default (one_member (codes "vec") (Data.sequence (values_of []))) (codes "vec=") None }
-    ensures percent { IsWritten default (one_member (codes "name") (Data.text (codes "%41"))) (codes "name=%2541") None }
+    ensures none { IsWritten default (struct_with (codes "vec") Data.none) (codes "vec") None }
+    ensures some { IsWritten default (struct_with (codes "vec") (Data.some (Data.sequence (values_of (Data.unsigned 1 ∷ Data.unsigned 2 ∷ []))))) (codes "vec[0]=1&vec[1]=2") None }
+    ensures empty { IsWritten default (struct_with (codes "vec") (Data.sequence (values_of []))) (codes "vec=") None }
+    ensures percent { IsWritten default (struct_with (codes "name") (Data.text (codes "%41"))) (codes "name=%2541") None }
 {}
 
 /// A map's key is a scalar other than unit, which is tested before the depth.
 pub fn keys_of_maps()
-    ensures number { IsWritten default (one_member (codes "m") (Data.mapping (pairs_of ((Data.unsigned 7, Data.text (codes "x")) ∷ [])))) (codes "m[7]=x") None }
+    ensures number { IsWritten default (struct_with (codes "m") (Data.mapping (pairs_of ((Data.unsigned 7, Data.text (codes "x")) ∷ [])))) (codes "m[7]=x") None }
     ensures unit { IsWritten default (Data.mapping (pairs_of ((Data.unit, Data.unit) ∷ []))) [] (Some bad_key) }
     ensures unit_at_no_depth { IsWritten (record default { max_depth = 0 }) (Data.mapping (pairs_of ((Data.unit, Data.unit) ∷ []))) [] (Some bad_key) }
     ensures others { IsWritten default
@@ -63,7 +63,7 @@ pub fn scalar_values()
 
 /// Parts without fields write nothing.
 pub fn parts_without_fields()
-    ensures struct_alone { IsWritten default (one_member (codes "s") (Data.struct (members_of []))) [] None }
-    ensures variant { IsWritten default (one_member (codes "e") (Data.struct_variant (codes "c") (members_of []))) [] None }
-    ensures variant_too_deep { IsWritten (record default { max_depth = 0 }) (one_member (codes "e") (Data.struct_variant (codes "c") (members_of []))) [] (Some too_deep) }
+    ensures struct_alone { IsWritten default (struct_with (codes "s") (Data.struct (members_of []))) [] None }
+    ensures variant { IsWritten default (struct_with (codes "e") (Data.struct_variant (codes "c") (members_of []))) [] None }
+    ensures variant_too_deep { IsWritten (record default { max_depth = 0 }) (struct_with (codes "e") (Data.struct_variant (codes "c") (members_of []))) [] (Some too_deep) }
 {}

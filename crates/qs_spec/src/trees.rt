@@ -6,7 +6,7 @@ ghost use Rattle.qs_spec.specs.Grammar.{Pair, ArePairs};
 ghost use Rattle.qs_spec.specs.Tree.{Tree, IsTree};
 ghost use Rattle.qs_spec.specs.Tree.Tree.{uninitialized};
 ghost use Rattle.qs_spec.specs.Holds.{IsSound, leaf_count, nesting};
-ghost use Rattle.qs_spec.specs.toward.InPlace.{add_all};
+ghost use Rattle.qs_spec.specs.internal.InPlace.{add_all};
 
 /// Tokens are at most one list of pairs, and an input has at most one tree.
 pub fn one_reading()
@@ -20,7 +20,7 @@ pub fn in_place()
         → ((add_all ps uninitialized ≡ Some t) ↔ IsTree form depth (b ∷ bytes) t) }
 {}
 
-/// Sequences aren't empty and hold leaves alone, maps aren't empty, and under the empty text stands a leaf or a sequence.
+/// Sequences aren't empty and hold only leaves, maps aren't empty, and the value of the empty key is a leaf or a sequence.
 pub fn sound_trees()
     ensures { (form : Bool) (depth : ℕ) (bytes : List ℕ) (t : Tree) → IsTree form depth bytes t → IsSound t }
 {}

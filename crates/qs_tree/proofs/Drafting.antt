@@ -9,7 +9,7 @@ use Rattle.std.specs.declared.collections.BTreeMap.{BTreeMap}
 use Rattle.qs_spec.specs.Tree.{Tree, Entries}
 use Rattle.qs_spec.specs.Tree.Tree.{uninitialized}
 use Rattle.qs_spec.specs.Segment.{Step, compare_segments}
-use Rattle.qs_spec.specs.toward.InPlace.{update, add}
+use Rattle.qs_spec.specs.internal.InPlace.{update, add}
 use Rattle.qs_tree.specs.declared.key.Key.{Key}
 use Rattle.qs_tree.specs.declared.draft.Draft.{Draft, Fresh, the_lemmas}
 use Rattle.qs_tree.specs.declared.draft.Draft.TheVariants as draft

@@ -5,8 +5,8 @@ use Rattle.qs_spec.specs.Token.{Token, tokens}
 use Rattle.qs_spec.specs.Grammar.{Pair}
 use Rattle.qs_spec.specs.Tree.{Tree, IsTree, IsRefused}
 use Rattle.qs_spec.specs.Tree.Tree.{uninitialized}
-use Rattle.qs_spec.specs.toward.Reading.{pairs_of}
-use Rattle.qs_spec.specs.toward.InPlace.{add, add_all}
+use Rattle.qs_spec.specs.internal.Parsing.{parsed_pairs}
+use Rattle.qs_spec.specs.internal.InPlace.{add, add_all}
 use Rattle.qs_spec.proofs.RelatedIsRead.{found_pairs, are_pairs}
 use Rattle.qs_spec.proofs.Scan.{in_place}
 use Rattle.qs_tree.specs.declared.error.Error.{Error}
@@ -17,11 +17,11 @@ use Rattle.qs_tree.specs.Error.{IsParse}
 use Rattle.qs_tree.specs.Parsing.{grown, Answers}
 
 module _ (depth : ℕ) (ts : List Token) (t : Tree) where
-  pub grown_same : (us : List Token) → pairs_of depth ts ≡ pairs_of depth us → grown depth ts t ≡ grown depth us t
+  pub grown_same : (us : List Token) → parsed_pairs depth ts ≡ parsed_pairs depth us → grown depth ts t ≡ grown depth us t
   grown_same us e = ap (option_and_then (λ ps. add_all ps t)) e
 
-  pub grown_pair : (us : List Token) (p : Pair) (u : Tree) → pairs_of depth ts ≡ option_map (λ ps. p ∷ ps) (pairs_of depth us) → add p.path p.push p.leaf t ≡ Some u → grown depth ts t ≡ grown depth us u
-  grown_pair us p u e a = ap (option_and_then (λ ps. add_all ps t)) e ∙ by (pairs_of depth us)
+  pub grown_pair : (us : List Token) (p : Pair) (u : Tree) → parsed_pairs depth ts ≡ option_map (λ ps. p ∷ ps) (parsed_pairs depth us) → add p.path p.push p.leaf t ≡ Some u → grown depth ts t ≡ grown depth us u
+  grown_pair us p u e a = ap (option_and_then (λ ps. add_all ps t)) e ∙ by (parsed_pairs depth us)
     where
       by : (o : Option (List Pair)) → option_and_then (λ ps. add_all ps t) (option_map (λ ps. p ∷ ps) o) ≡ option_and_then (λ ps. add_all ps u) o
       by None = refl
@@ -30,9 +30,9 @@ module _ (depth : ℕ) (ts : List Token) (t : Tree) where
 -- all pairs of an input make its tree, or none
 module _ (form : Bool) (depth b : ℕ) (bytes : List ℕ) where
   pub grown_tree : (t : Tree) → grown depth (tokens form (b ∷ bytes)) uninitialized ≡ Some t → IsTree form depth (b ∷ bytes) t
-  grown_tree t e = by (pairs_of depth (tokens form (b ∷ bytes))) refl e
+  grown_tree t e = by (parsed_pairs depth (tokens form (b ∷ bytes))) refl e
     where
-      by : (o : Option (List Pair)) → pairs_of depth (tokens form (b ∷ bytes)) ≡ o → option_and_then (λ ps. add_all ps uninitialized) o ≡ Some t → IsTree form depth (b ∷ bytes) t
+      by : (o : Option (List Pair)) → parsed_pairs depth (tokens form (b ∷ bytes)) ≡ o → option_and_then (λ ps. add_all ps uninitialized) o ≡ Some t → IsTree form depth (b ∷ bytes) t
       by None d e = absurd (none-some t e)
       by (Some ps) d e = (in_place form depth b bytes ps t (are_pairs depth (tokens form (b ∷ bytes)) ps d)).0 e
 

@@ -5,8 +5,8 @@ use Rattle.qs_spec.specs.Token.{Kind, Token, tokens, raw_of}
 use Rattle.qs_spec.specs.Token.Kind.{Amp, Equals, Open, Close, Other}
 use Rattle.qs_spec.specs.Segment.{step_of}
 use Rattle.qs_spec.specs.Leaf.{NoValue}
-use Rattle.qs_spec.specs.Grammar.{Pair, plain, root, is_amp, ends_root}
-use Rattle.qs_spec.specs.toward.Reading.{Rest, cut, cut_at, with_leaf, value_at, read_brackets, after_root, after_root_at, named, pairs_of, and_pairs}
+use Rattle.qs_spec.specs.Grammar.{Pair, direct, root, is_amp, ends_root}
+use Rattle.qs_spec.specs.internal.Parsing.{Rest, cut, cut_at, with_leaf, value_at, parsed_brackets, after_root, after_root_at, named, parsed_pairs, and_pairs}
 use Rattle.qs_spec.proofs.ReadOn.{after_ampersand, after_pair}
 use Rattle.qs_tree.specs.declared.cursor.Token as code
 use Rattle.qs_tree.specs.declared.cursor.Cursor as cursor
@@ -57,14 +57,14 @@ module _ (depth : ℕ) where
       by false s e = absurd (not_empty t (raw_of (cut (ends_root depth) ts).0) h (empty _ stop e))
 
   pub end_pairs : (ts : List Token) (stop : Option code.Token) (rest : List Token) → HasBytes ts → (cut (ends_root depth) ts).1 ≡ behind stop rest
-      → is_nothing (raw_of (cut (ends_root depth) ts).0) stop ≡ true → stop ≡ None → pairs_of depth ts ≡ Some []
-  end_pairs ts stop rest h s e d = ap (pairs_of depth) (nothing_tokens ts stop rest h s e ∙ ap (λ o. behind o rest) d)
+      → is_nothing (raw_of (cut (ends_root depth) ts).0) stop ≡ true → stop ≡ None → parsed_pairs depth ts ≡ Some []
+  end_pairs ts stop rest h s e d = ap (parsed_pairs depth) (nothing_tokens ts stop rest h s e ∙ ap (λ o. behind o rest) d)
 
   pub ampersand_pairs : (ts : List Token) (stop : Option code.Token) (t : code.Token) (rest : List Token) → HasBytes ts → (cut (ends_root depth) ts).1 ≡ behind stop rest
-      → is_nothing (raw_of (cut (ends_root depth) ts).0) stop ≡ true → stop ≡ Some t → pairs_of depth ts ≡ pairs_of depth rest
+      → is_nothing (raw_of (cut (ends_root depth) ts).0) stop ≡ true → stop ≡ Some t → parsed_pairs depth ts ≡ parsed_pairs depth rest
   ampersand_pairs ts stop t rest h s e d =
       let amp = and_both _ (is_amp (kind_of_token t.kind)) (sym (ap (is_nothing (raw_of (cut (ends_root depth) ts).0)) d) ∙ e) in
-      ap (pairs_of depth) (nothing_tokens ts stop rest h s e ∙ ap (λ o. behind o rest) d) ∙ after_ampersand depth (token_of t) rest (is_amp_of (kind_of_token t.kind) amp.1)
+      ap (parsed_pairs depth) (nothing_tokens ts stop rest h s e ∙ ap (λ o. behind o rest) d) ∙ after_ampersand depth (token_of t) rest (is_amp_of (kind_of_token t.kind) amp.1)
 
   -- a root key as raw bytes
   root_is : (key : List Token) → HasBytes key → root key ≡ root_path (raw_of key)
@@ -82,23 +82,23 @@ module _ (depth : ℕ) where
   -- after a root key that isn't nothing
   after_key : (key : List Token) (stop : Option code.Token) (rest : List Token) → HasBytes key → is_nothing (raw_of key) stop ≡ false → after_root depth key (behind stop rest) ≡ behind_root depth (raw_of key) (behind stop rest)
   after_key [] None rest h e = cc
-  after_key (t ∷ key) None rest h e = ap (λ p. Some (plain p NoValue, [])) (root_is (t ∷ key) h)
+  after_key (t ∷ key) None rest h e = ap (λ p. Some (direct p NoValue, [])) (root_is (t ∷ key) h)
   after_key key (Some u) rest h e = by (kind_of_token u.kind) refl key h e
     where
-      named_is : (key : List Token) → HasBytes key → (length (raw_of key) == 0 && true) ≡ false → named key (token_of u ∷ rest) ≡ Some (plain (root_path (raw_of key)) NoValue, token_of u ∷ rest)
+      named_is : (key : List Token) → HasBytes key → (length (raw_of key) == 0 && true) ≡ false → named key (token_of u ∷ rest) ≡ Some (direct (root_path (raw_of key)) NoValue, token_of u ∷ rest)
       named_is [] h e = cc
-      named_is (t ∷ key) h e = ap (λ p. Some (plain p NoValue, token_of u ∷ rest)) (root_is (t ∷ key) h)
+      named_is (t ∷ key) h e = ap (λ p. Some (direct p NoValue, token_of u ∷ rest)) (root_is (t ∷ key) h)
 
       by : (k : Kind) → kind_of_token u.kind ≡ k → (key : List Token) → HasBytes key → (length (raw_of key) == 0 && is_amp (kind_of_token u.kind)) ≡ false
           → after_root_at k depth key (token_of u) rest ≡ behind_root_at k depth (root_path (raw_of key)) (token_of u) rest
-      by Amp d key h e = named_is key h (sym (ap (λ k. length (raw_of key) == 0 && is_amp k) d) ∙ e) ∙ sym (ap (λ k. with_leaf (plain (root_path (raw_of key))) (value_at k (token_of u) rest)) d)
-      by Equals d key h e = ap (λ p. with_leaf (plain p) (value_at Equals (token_of u) rest)) (root_is key h) ∙ sym (ap (λ k. with_leaf (plain (root_path (raw_of key))) (value_at k (token_of u) rest)) d)
-      by Open d key h e = ap (λ p. read_brackets depth p u.raw.now rest) (root_is key h)
+      by Amp d key h e = named_is key h (sym (ap (λ k. length (raw_of key) == 0 && is_amp k) d) ∙ e) ∙ sym (ap (λ k. with_leaf (direct (root_path (raw_of key))) (value_at k (token_of u) rest)) d)
+      by Equals d key h e = ap (λ p. with_leaf (direct p) (value_at Equals (token_of u) rest)) (root_is key h) ∙ sym (ap (λ k. with_leaf (direct (root_path (raw_of key))) (value_at k (token_of u) rest)) d)
+      by Open d key h e = ap (λ p. parsed_brackets depth p u.raw.now rest) (root_is key h)
       by Close d key h e = refl
       by Other d key h e = refl
 
   pub pair_pairs : (ts : List Token) (stop : Option code.Token) (rest : List Token) → HasBytes ts → (cut (ends_root depth) ts).1 ≡ behind stop rest
-      → is_nothing (raw_of (cut (ends_root depth) ts).0) stop ≡ false → pairs_of depth ts ≡ and_pairs depth (behind_root depth (raw_of (cut (ends_root depth) ts).0) (behind stop rest))
+      → is_nothing (raw_of (cut (ends_root depth) ts).0) stop ≡ false → parsed_pairs depth ts ≡ and_pairs depth (behind_root depth (raw_of (cut (ends_root depth) ts).0) (behind stop rest))
   pair_pairs [] None rest h s e = cc
   pair_pairs [] (Some u) rest h s e = cc
   pair_pairs (t ∷ ts) stop rest h s e =
@@ -115,18 +115,18 @@ module _ (depth : ℕ) where
           amp (Some u) s e = let same : t ≡ token_of u = cc in let w : is_amp (kind_of_token u.kind) ≡ true = ap (λ (v : Token). is_amp v.kind) (sym same) ∙ d in cc
 
   -- past a pair stand the pairs of what is left
-  past_pairs : (rest : List Token) (new : cursor.Cursor) → IsPast rest new → pairs_of depth rest ≡ pairs_of depth (left new)
-  past_pairs [] new h = sym (ap (λ l. pairs_of depth (tokens new.form l)) h)
-  past_pairs (t ∷ ts) new h = after_ampersand depth t ts h.0 ∙ ap (pairs_of depth) h.1
+  past_pairs : (rest : List Token) (new : cursor.Cursor) → IsPast rest new → parsed_pairs depth rest ≡ parsed_pairs depth (left new)
+  past_pairs [] new h = sym (ap (λ l. parsed_pairs depth (tokens new.form l)) h)
+  past_pairs (t ∷ ts) new h = after_ampersand depth t ts h.0 ∙ ap (parsed_pairs depth) h.1
 
-  pub pair_item : (ts : List Token) (found : Rest Pair) (a : Unit {0}) (new : cursor.Cursor) (p : code_pair.Pair) → pairs_of depth ts ≡ and_pairs depth found → ReadsPair found (Ok a) new p → ReadsItem depth ts (Ok item.TheVariants.Pair) new p
+  pub pair_item : (ts : List Token) (found : Rest Pair) (a : Unit {0}) (new : cursor.Cursor) (p : code_pair.Pair) → parsed_pairs depth ts ≡ and_pairs depth found → ReadsPair found (Ok a) new p → ReadsItem depth ts (Ok item.TheVariants.Pair) new p
   pair_item ts found a new p e h = e ∙ ap (and_pairs depth) h.1 ∙ ap (option_map (λ ps. pair_of p ∷ ps)) (past_pairs h.0 new h.2)
 
-  fault_same : (ts : List Token) (found : Rest Pair) (f : fault.Fault) → pairs_of depth ts ≡ and_pairs depth found → IsFault found f → IsFault (pairs_of depth ts) f
+  fault_same : (ts : List Token) (found : Rest Pair) (f : fault.Fault) → parsed_pairs depth ts ≡ and_pairs depth found → IsFault found f → IsFault (parsed_pairs depth ts) f
   fault_same ts found (fault.TheVariants.Unread reason) e h = e ∙ ap (and_pairs depth) h
   fault_same ts found fault.TheVariants.OutOfMemory e h = tt
 
   pub fault_item : (ts : List Token) (found : Rest Pair) (o : Result item.Item fault.Fault) (f : fault.Fault) (Q : fault.Fault → Type 0) (new : cursor.Cursor) (p : code_pair.Pair) → IsErrAnd o Q → ((g : fault.Fault) → Q g → g ≡ f)
-      → pairs_of depth ts ≡ and_pairs depth found → IsFault found f → ReadsItem depth ts o new p
+      → parsed_pairs depth ts ≡ and_pairs depth found → IsFault found f → ReadsItem depth ts o new p
   fault_item ts found (Ok i) f Q new p h same e fault = absurd h
   fault_item ts found (Err g) f Q new p h same e fault = fault_same ts found g e (subst (IsFault found) (sym (same g h)) fault)

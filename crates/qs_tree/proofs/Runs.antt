@@ -4,7 +4,7 @@ use Rattle.std.specs.Option.{IfSome}
 use Rattle.std.proofs.Math.Seq.{take-add, take-append_seam}
 use Rattle.std.proofs.lemmas.List.{drop_more, take_all}
 use Rattle.qs_spec.specs.Token.{Kind, Token, tokens, byte_token, is_escaped_bracket, raw_of}
-use Rattle.qs_spec.specs.toward.Reading.{cut, cut_at}
+use Rattle.qs_spec.specs.internal.Parsing.{cut, cut_at}
 use Rattle.qs_tree.specs.declared.cursor.Token as code
 use Rattle.qs_tree.specs.Cursor.{kind_of_token, token_of, behind, taken, IsLeft, IsLetter}
 use Rattle.qs_tree.proofs.Values.{stop_ends}

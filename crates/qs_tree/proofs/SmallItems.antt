@@ -1,10 +1,10 @@
 -- Items of inputs for which nothing is allocated.
 use Rattle.std.proofs.Common.{◌≡◌, ℕ, zero, suc, Bool, true, false, cond, ◌&&◌, ◌||◌, ◌==◌, List, [], ◌∷◌, ◌++◌, length, refl, sym, ap, ap₂, ◌∙◌, subst, Option, Some, None, Result, eqb-true, ◌<◌, arith, inl, inr}
 use Rattle.std.proofs.lemmas.List.Folds.{list_all-append}
-use Rattle.qs_spec.specs.Token.{Kind, Token, tokens, byte_token, kind_of, raw_of}
+use Rattle.qs_spec.specs.Token.{Kind, Token, tokens, byte_token, byte_kind, raw_of}
 use Rattle.qs_spec.specs.Token.Kind.{Amp, Equals, Open, Close}
 use Rattle.qs_spec.specs.Grammar.{is_amp, is_equals, is_open, ends_root}
-use Rattle.qs_spec.specs.toward.Reading.{cut, cut_at}
+use Rattle.qs_spec.specs.internal.Parsing.{cut, cut_at}
 use Rattle.qs_spec.proofs.Booleans.{and_both}
 use Rattle.qs_tree.specs.declared.cursor.Token as code
 use Rattle.qs_tree.specs.declared.cursor.Cursor as cursor
@@ -40,16 +40,16 @@ record Begins (b : ℕ) (more key : List ℕ) (stop : Option code.Token) (after 
   empty : key ≡ []
   token : code.Token
   is : stop ≡ Some token
-  kind : kind_of_token token.kind ≡ kind_of b
+  kind : kind_of_token token.kind ≡ byte_kind b
   left : after ≡ more
 
 module _ (depth : ℕ) (form : Bool) where
   begins : (b : ℕ) (more key : List ℕ) (stop : Option code.Token) (rest : List Token) (after : List ℕ) → key ≡ raw_of (cut (ends_root depth) (tokens form (b ∷ more))).0
-      → (cut (ends_root depth) (tokens form (b ∷ more))).1 ≡ behind stop rest → b ∷ more ≡ key ++ raw_behind stop after → (b == 37) ≡ false → (is_amp (kind_of b) || is_equals (kind_of b)) ≡ true
+      → (cut (ends_root depth) (tokens form (b ∷ more))).1 ≡ behind stop rest → b ∷ more ≡ key ++ raw_behind stop after → (b == 37) ≡ false → (is_amp (byte_kind b) || is_equals (byte_kind b)) ≡ true
       → Begins b more key stop after
   begins b more key stop rest after run token whole h e =
       let c : cut (ends_root depth) (tokens form (b ∷ more)) ≡ ([], byte_token b ∷ tokens form more) =
-      ap (cut (ends_root depth)) (alone form b more h) ∙ ap (λ x. cut_at x (byte_token b) (tokens form more) (cut (ends_root depth) (tokens form more))) (ends_at depth (kind_of b) e) in
+      ap (cut (ends_root depth)) (alone form b more h) ∙ ap (λ x. cut_at x (byte_token b) (tokens form more) (cut (ends_root depth) (tokens form more))) (ends_at depth (byte_kind b) e) in
       let none : key ≡ [] = run ∙ ap (λ (c : List Token × List Token). raw_of c.0) c in
       by stop none (sym (ap (λ (c : List Token × List Token). c.1) c) ∙ token) (whole ∙ ap (λ k. k ++ raw_behind stop after) none)
     where
@@ -61,11 +61,11 @@ module _ (depth : ℕ) (form : Bool) where
           let all : b ∷ more ≡ b ∷ after = w ∙ ap (λ r. r ++ after) (sym raw) in
           record { empty = n; token = u; is = refl; kind = sym (ap (λ (v : Token). v.kind) same); left = cc }
 
-  amp_byte : (b : ℕ) → (b == 38) ≡ true → kind_of b ≡ Amp
-  amp_byte b e = ap kind_of (eqb-true b 38 e)
+  amp_byte : (b : ℕ) → (b == 38) ≡ true → byte_kind b ≡ Amp
+  amp_byte b e = ap byte_kind (eqb-true b 38 e)
 
-  equals_byte : (b : ℕ) → (b == 61) ≡ true → kind_of b ≡ Equals
-  equals_byte b e = ap kind_of (eqb-true b 61 e)
+  equals_byte : (b : ℕ) → (b == 61) ≡ true → byte_kind b ≡ Equals
+  equals_byte b e = ap byte_kind (eqb-true b 61 e)
 
   module _ (key : List ℕ) (stop : Option code.Token) (rest : List Token) (after : List ℕ) where
     -- an `&` before which nothing stands

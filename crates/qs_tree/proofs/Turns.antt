@@ -7,7 +7,7 @@ use Rattle.qs_spec.specs.Leaf.{Leaf}
 use Rattle.qs_spec.specs.Tree.{Tree, Entries, empty_step}
 use Rattle.qs_spec.specs.Tree.Tree.{leaf, sequence, mapping, uninitialized}
 use Rattle.qs_spec.specs.Tree.Entries.{no_entries, entry}
-use Rattle.qs_spec.specs.toward.InPlace.{update, update_by, add_below, add_flat, add_here, add}
+use Rattle.qs_spec.specs.internal.InPlace.{update, update_by, add_below, add_flat, add_here, add}
 use Rattle.qs_spec.proofs.Order.{segments_total}
 use Rattle.qs_tree.specs.declared.conflict.Refusal.{Refusal}
 use Rattle.qs_tree.specs.Views.{find}

@@ -7,10 +7,10 @@ use Rattle.std.proofs.Math.Seq.{take-length}
 use Rattle.std.proofs.lemmas.List.{drop_all}
 use Rattle.qs_spec.specs.Escape.{is_marked}
 use Rattle.qs_spec.proofs.Booleans.{and_both}
-use Rattle.qs_spec.specs.Token.{Kind, Token, tokens, byte_token, kind_of, is_escaped_bracket, raw_of}
+use Rattle.qs_spec.specs.Token.{Kind, Token, tokens, byte_token, byte_kind, is_escaped_bracket, raw_of}
 use Rattle.qs_spec.specs.Token.Kind.{Amp, Equals, Open, Close, Other}
 use Rattle.qs_spec.specs.Grammar.{is_amp}
-use Rattle.qs_spec.specs.toward.Reading.{cut, cut_at}
+use Rattle.qs_spec.specs.internal.Parsing.{cut, cut_at}
 use Rattle.qs_tree.specs.Search.{is_ampersand}
 use Rattle.qs_tree.specs.declared.cursor.Token as code
 use Rattle.qs_tree.specs.declared.cursor.Cursor as cursor
@@ -28,7 +28,7 @@ pub record IsValueCut (form : Bool) (bytes : List ℕ) (ts : List Token) : Type 
   pub rest : (cut is_amp ts).1 ≡ tokens form (drop (value_end bytes) bytes)
 
 -- only `&` is a token of that kind
-amp_of_byte : (b : ℕ) → is_amp (kind_of b) ≡ (b == 38)
+amp_of_byte : (b : ℕ) → is_amp (byte_kind b) ≡ (b == 38)
 amp_of_byte b = by (b == 38) (b == 61) (b == 91) (b == 93)
   where
     by : (x y z w : Bool) → is_amp (cond x Amp (cond y Equals (cond z Open (cond w Close Other)))) ≡ x

@@ -2,7 +2,7 @@
 use Rattle.std.proofs.Common.{◌≡◌, List, [], ◌∷◌, ◌++◌, Vec, Global, refl, ap, rules}
 use Rattle.qs_spec.specs.Tree.Tree.{sequence, mapping, uninitialized}
 use Rattle.qs_spec.specs.Tree.Items.{item}
-use Rattle.qs_spec.specs.toward.InPlace.{push_item}
+use Rattle.qs_spec.specs.internal.InPlace.{push_item}
 use Rattle.qs_tree.specs.declared.value.ParsedValue.{ParsedValue, Map, Sequence, Uninitialized, the_lemmas}
 use Rattle.qs_tree.specs.declared.map.ParsedMap.{ParsedMap}
 use Rattle.qs_tree.specs.declared.pair.Leaf.{Leaf}

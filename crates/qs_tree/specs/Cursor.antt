@@ -1,6 +1,6 @@
 -- What the calls of a cursor take.
 use Rattle.std.specs.Prelude.{◌≡◌, ℕ, ◌+◌, ◌-◌, ◌≤◌, List, [], ◌∷◌, ◌++◌, take, drop, length, ◌==◌, Bool, true, false, Option, Some, None}
-use Rattle.qs_spec.specs.Token.{Kind, Token, tokens, kind_of}
+use Rattle.qs_spec.specs.Token.{Kind, Token, tokens, byte_kind}
 use Rattle.qs_spec.specs.Grammar.{is_close, ends_last, ends_root}
 use Rattle.qs_tree.specs.declared.cursor.Kind as kind
 use Rattle.qs_tree.specs.declared.cursor.Token as token
@@ -30,7 +30,7 @@ BeginsWith form bytes k len = tokens form bytes ≡ record { kind = kind_of_toke
 
 -- a byte that is no `%` and no separator or bracket, and so a token by itself
 abbrev pub IsLetter : ℕ → Type 0
-IsLetter b = ((b == 37) ≡ false) × (kind_of b ≡ Kind.Other)
+IsLetter b = ((b == 37) ≡ false) × (byte_kind b ≡ Kind.Other)
 
 -- the tokens that are left
 abbrev pub left : cursor.Cursor → List Token

@@ -4,7 +4,7 @@ use Rattle.qs_spec.specs.Segment.{Step}
 use Rattle.qs_spec.specs.Leaf.{Leaf}
 use Rattle.qs_spec.specs.Tree.{Tree}
 use Rattle.qs_spec.specs.Tree.Tree.{mapping}
-use Rattle.qs_spec.specs.toward.InPlace.{update, add_below, add}
+use Rattle.qs_spec.specs.internal.InPlace.{update, add_below, add}
 use Rattle.qs_tree.specs.declared.descent.OpenMap.{OpenMap}
 use Rattle.qs_tree.specs.declared.conflict.Refusal.{Refusal}
 use Rattle.qs_tree.specs.Views.{step_of_key}

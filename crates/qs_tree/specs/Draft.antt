@@ -10,7 +10,7 @@ use Rattle.qs_tree.specs.declared.key.Key.{Key}
 use Rattle.qs_tree.specs.Views.{segment_of_key, step_of_key, items_of, entries_from, find}
 use Rattle.qs_tree.specs.Pairs.{leaf_tree}
 use Rattle.qs_tree.specs.Ordered.{AreOrdered}
-use Rattle.qs_spec.specs.toward.InPlace.{update}
+use Rattle.qs_spec.specs.internal.InPlace.{update}
 
 -- one level of a node, with what is inside already seen as trees
 abbrev pub draft_step : Draft-F Tree Entries → Tree

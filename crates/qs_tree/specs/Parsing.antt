@@ -3,8 +3,8 @@ use Rattle.std.specs.Prelude.{◌≡◌, ◌≢◌, ℕ, ◌≤◌, Bool, List, 
 use Rattle.qs_spec.specs.Token.{Token}
 use Rattle.qs_spec.specs.Tree.{Tree, IsTree, IsRefused}
 use Rattle.qs_spec.specs.Order.{unmarked}
-use Rattle.qs_spec.specs.toward.Reading.{pairs_of}
-use Rattle.qs_spec.specs.toward.InPlace.{add_all}
+use Rattle.qs_spec.specs.internal.Parsing.{parsed_pairs}
+use Rattle.qs_spec.specs.internal.InPlace.{add_all}
 use Rattle.qs_tree.specs.declared.error.Error.{Error}
 use Rattle.qs_tree.specs.declared.error.Error.TheVariants.{Parse, OutOfMemory}
 use Rattle.qs_tree.specs.declared.refusal.ScanError.{ScanError}
@@ -14,7 +14,7 @@ use Rattle.qs_tree.specs.Views.{tree_of}
 
 -- what the pairs of some tokens make of a tree
 abbrev pub grown : ℕ → List Token → Tree → Option Tree
-grown depth ts t = option_and_then (λ ps. add_all ps t) (pairs_of depth ts)
+grown depth ts t = option_and_then (λ ps. add_all ps t) (parsed_pairs depth ts)
 
 -- where a tree is expected, it is this one, and where none is, the scan says so; or memory ran out
 abbrev pub Finds : {A : Type 0} → (A → Tree) → Option Tree → Result A ScanError → Type 0

@@ -4,8 +4,8 @@ use Rattle.qs_spec.specs.Token.{Kind, Token}
 use Rattle.qs_spec.specs.Token.Kind.{Amp, Equals, Open, Close, Other}
 use Rattle.qs_spec.specs.Segment.{Step, step_of}
 use Rattle.qs_spec.specs.Leaf.{Leaf}
-use Rattle.qs_spec.specs.Grammar.{Pair, is_amp, plain, ends_last, ends_root}
-use Rattle.qs_spec.specs.toward.Reading.{Rest, with_leaf, read_value, read_brackets, pairs_of}
+use Rattle.qs_spec.specs.Grammar.{Pair, is_amp, direct, ends_last, ends_root}
+use Rattle.qs_spec.specs.internal.Parsing.{Rest, with_leaf, parsed_value, parsed_brackets, parsed_pairs}
 use Rattle.qs_tree.specs.declared.cursor.Token as token
 use Rattle.qs_tree.specs.declared.cursor.Cursor as cursor
 use Rattle.std.specs.declared.alloc.AllocError.{AllocError}
@@ -52,10 +52,10 @@ ReadsPair found (Err f) new p = IsFault found f
 
 -- the pairs of some tokens are none, or those of what is left now, or one pair and those; or they are no pairs
 abbrev pub ReadsItem : ℕ → List Token → Result item.Item fault.Fault → cursor.Cursor → code_pair.Pair → Type 0
-ReadsItem depth ts (Ok item.TheVariants.End) new p = pairs_of depth ts ≡ Some []
-ReadsItem depth ts (Ok item.TheVariants.Ampersand) new p = pairs_of depth ts ≡ pairs_of depth (left new)
-ReadsItem depth ts (Ok item.TheVariants.Pair) new p = pairs_of depth ts ≡ option_map (λ ps. pair_of p ∷ ps) (pairs_of depth (left new))
-ReadsItem depth ts (Err f) new p = IsFault (pairs_of depth ts) f
+ReadsItem depth ts (Ok item.TheVariants.End) new p = parsed_pairs depth ts ≡ Some []
+ReadsItem depth ts (Ok item.TheVariants.Ampersand) new p = parsed_pairs depth ts ≡ parsed_pairs depth (left new)
+ReadsItem depth ts (Ok item.TheVariants.Pair) new p = parsed_pairs depth ts ≡ option_map (λ ps. pair_of p ∷ ps) (parsed_pairs depth (left new))
+ReadsItem depth ts (Err f) new p = IsFault (parsed_pairs depth ts) f
 
 -- the end was met
 abbrev pub IsEnd : Result item.Item fault.Fault → Type 0
@@ -83,12 +83,12 @@ root_path (b ∷ raw) = step_of (b ∷ raw) ∷ []
 
 -- what is found after a root key with these raw bytes
 abbrev pub behind_root_at : Kind → ℕ → List Step → Token → List Token → Rest Pair
-behind_root_at Open depth path t rest = read_brackets depth path t.raw rest
-behind_root_at Amp depth path t rest = with_leaf (plain path) (read_value (t ∷ rest))
-behind_root_at Equals depth path t rest = with_leaf (plain path) (read_value (t ∷ rest))
+behind_root_at Open depth path t rest = parsed_brackets depth path t.raw rest
+behind_root_at Amp depth path t rest = with_leaf (direct path) (parsed_value (t ∷ rest))
+behind_root_at Equals depth path t rest = with_leaf (direct path) (parsed_value (t ∷ rest))
 behind_root_at Close depth path t rest = None
 behind_root_at Other depth path t rest = None
 
 abbrev pub behind_root : ℕ → List ℕ → List Token → Rest Pair
-behind_root depth raw [] = with_leaf (plain (root_path raw)) (read_value [])
+behind_root depth raw [] = with_leaf (direct (root_path raw)) (parsed_value [])
 behind_root depth raw (t ∷ rest) = behind_root_at t.kind depth (root_path raw) t rest

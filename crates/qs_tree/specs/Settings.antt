@@ -1,6 +1,6 @@
 -- The choices of a `Config` as the meaning knows them.
 use Rattle.std.specs.Prelude.{◌≡◌, refl}
-use Rattle.qs_spec.specs.Config.{Duplicates, take_last, refuse, indexed, empty_indexed, unindexed}
+use Rattle.qs_spec.specs.Config.{Duplicates, take_last, reject, indexed, empty_indexed, unindexed}
 use Rattle.qs_spec.specs.Config.{ArrayFormat as Places}
 use Rattle.qs_tree.specs.declared.config.ArrayFormat.{ArrayFormat}
 use Rattle.qs_tree.specs.declared.config.ArrayFormat.TheVariants.{Indexed, EmptyIndexed, Unindexed}
@@ -22,12 +22,12 @@ array_format_from unindexed = Unindexed
 -- what becomes of several values
 abbrev pub duplicates_of : DuplicateKeyBehavior → Duplicates
 duplicates_of TakeLast = take_last
-duplicates_of Error = refuse
+duplicates_of Error = reject
 
 -- the behavior that does so
 abbrev pub duplicates_from : Duplicates → DuplicateKeyBehavior
 duplicates_from take_last = TakeLast
-duplicates_from refuse = Error
+duplicates_from reject = Error
 
 -- nothing is lost on the way
 pub array_format_back : (f : ArrayFormat) → array_format_from (array_format_of f) ≡ f

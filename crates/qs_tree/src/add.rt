@@ -1,8 +1,8 @@
 //! Adding a pair to a tree, in place.
 ghost use Rattle.std.specs.Prelude.{◌≡◌, ◌+◌, ◌<◌, ◌≤◌, [], ◌∷◌, length, drop, true, false, IsOkAnd, Some, None};
 ghost use Rattle.qs_spec.specs.Tree.{empty_step};
-ghost use Rattle.qs_spec.specs.toward.InPlace as in_place;
-ghost use Rattle.qs_spec.specs.toward.InPlace.{add, add_flat, update};
+ghost use Rattle.qs_spec.specs.internal.InPlace as in_place;
+ghost use Rattle.qs_spec.specs.internal.InPlace.{add, add_flat, update};
 ghost use Rattle.qs_tree.specs.declared.pair.Manner.TheVariants.{Plain};
 ghost use Rattle.qs_tree.specs.declared.draft.Draft.TheVariants.{Fresh};
 ghost use Rattle.qs_tree.specs.Draft.{draft_tree, draft_entries, entries_seen, IsFlat};

@@ -5,7 +5,7 @@ ghost use Rattle.qs_spec.specs.Escape.{is_marked};
 ghost use Rattle.qs_spec.specs.Token.{raw_of, tokens};
 ghost use Rattle.qs_tree.specs.Small.{is_plain};
 ghost use Rattle.qs_spec.specs.Grammar.{is_amp, is_equals, is_open, is_close};
-ghost use Rattle.qs_spec.specs.toward.Reading.{cut};
+ghost use Rattle.qs_spec.specs.internal.Parsing.{cut};
 ghost use Rattle.qs_tree.specs.Cursor.{kind_of_token, token_of, BeginsWith, ends_of, left, spent, looks, met, raw_behind, behind, IsPast, GoesOn, taken, to_come, IsLeft, IsLetter};
 
 use crate::search::find_ampersand;

@@ -5,7 +5,7 @@ ghost use Rattle.std.specs.Map.{keys_of};
 ghost use Rattle.std.specs.BTreeMap.{insert_entry};
 ghost use Rattle.qs_spec.specs.Tree.Tree.{mapping};
 ghost use Rattle.qs_spec.specs.Tree.Entries.{no_entries};
-ghost use Rattle.qs_spec.specs.toward.InPlace.{update};
+ghost use Rattle.qs_spec.specs.internal.InPlace.{update};
 ghost use Rattle.qs_tree.specs.declared.key.Key.{Key};
 ghost use Rattle.qs_tree.specs.Views.{segment_of_key, step_of_key, tree_of};
 ghost use Rattle.qs_tree.specs.Views as view;

@@ -7,7 +7,7 @@ ghost use Rattle.qs_spec.specs.Holds.{IsSound, leaf_count, nesting};
 ghost use Rattle.qs_spec.specs.Order.{AreAlike};
 ghost use Rattle.qs_spec.specs.Input.{HasPairs, IsReordered};
 ghost use Rattle.qs_spec.specs.Marks.{marks};
-ghost use Rattle.qs_spec.specs.toward.InPlace as in_place;
+ghost use Rattle.qs_spec.specs.internal.InPlace as in_place;
 ghost use Rattle.qs_tree.specs.Error.{IsParse, IfParse, IsOutOfMemory, OnlyOutOfMemory, OnlyParseOrOutOfMemory};
 ghost use Rattle.qs_tree.specs.Owned.{owns};
 ghost use Rattle.qs_tree.specs.Views.{tree_of};

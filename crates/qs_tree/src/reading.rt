@@ -1,9 +1,9 @@
 //! One pair, read from what is left of an input.
 
 ghost use Rattle.std.specs.Prelude.{◌≡◌, ◌++◌, ◌<◌, [], length, IfOk, IsOk, IsTrue, true, false};
-ghost use Rattle.qs_spec.specs.Grammar.{plain, pushed, longer, ends_last, ends_root};
+ghost use Rattle.qs_spec.specs.Grammar.{direct, pushed, longer, ends_last, ends_root};
 ghost use Rattle.qs_spec.specs.Token.{raw_of};
-ghost use Rattle.qs_spec.specs.toward.Reading.{cut, with_leaf, read_value, read_brackets};
+ghost use Rattle.qs_spec.specs.internal.Parsing.{cut, with_leaf, parsed_value, parsed_brackets};
 ghost use Rattle.qs_tree.specs.Pairs.{path_of};
 ghost use Rattle.qs_tree.specs.Cursor.{ends_of, left, behind, taken, GoesOn, IsLeft, KnowsEnd};
 ghost use Rattle.qs_tree.specs.Reading.{IsRootStop, IsClosing, IsBehind, StandsBehind, IsEnd, IsMore, ReadsItem, ReadsLeaf, ReadsPair, is_nothing, root_path, behind_root};
@@ -168,7 +168,7 @@ fn read_value<'qs>(
 ) -> Result<Leaf<'qs>, AllocError>
     requires closing { IsClosing stop }
     requires behind { StandsBehind stop cursor.old }
-    ensures leaf { ReadsLeaf (read_value (behind stop.entry (left cursor.old))) result cursor.new }
+    ensures leaf { ReadsLeaf (parsed_value (behind stop.entry (left cursor.old))) result cursor.new }
     ensures moves { GoesOn cursor.old cursor.new }
     ensures plain { IsEqualsStop stop.entry → IsTrue (is_plain cursor.old.rest.now) → IsOk result × (cursor.new.rest.now ≡ []) }
 {
@@ -188,7 +188,7 @@ fn read_plain<'qs>(
 ) -> Result<(), Fault>
     requires closing { IsClosing stop }
     requires behind { StandsBehind stop cursor.old }
-    ensures pair { ReadsPair (with_leaf (plain (path_of pair.old.path.items)) (read_value (behind stop.entry (left cursor.old)))) result cursor.new pair.new }
+    ensures pair { ReadsPair (with_leaf (direct (path_of pair.old.path.items)) (parsed_value (behind stop.entry (left cursor.old)))) result cursor.new pair.new }
     ensures moves { GoesOn cursor.old cursor.new }
     ensures bare { pair.old.path.items ≡ [] → IsEqualsStop stop.entry → IsTrue (is_plain cursor.old.rest.now) → ReadsBare result cursor.new pair.new }
 {
@@ -204,7 +204,7 @@ fn read_push<'qs>(
     pair: &mut Pair<'qs>,
 ) -> Result<(), Fault>
     requires { cursor.old.ended ≡ false }
-    ensures pair { ReadsPair (with_leaf (pushed (path_of pair.old.path.items)) (read_value (left cursor.old))) result cursor.new pair.new }
+    ensures pair { ReadsPair (with_leaf (pushed (path_of pair.old.path.items)) (parsed_value (left cursor.old))) result cursor.new pair.new }
     ensures moves { GoesOn cursor.old cursor.new }
 {
     let next = cursor.next();
@@ -239,7 +239,7 @@ fn read_brackets<'qs>(
     pair: &mut Pair<'qs>,
 ) -> Result<(), Fault>
     requires { IsBehind bracket cursor.old }
-    ensures pair { ReadsPair (read_brackets max_depth (path_of pair.old.path.items) bracket.entry.raw.now (left cursor.old)) result cursor.new pair.new }
+    ensures pair { ReadsPair (parsed_brackets max_depth (path_of pair.old.path.items) bracket.entry.raw.now (left cursor.old)) result cursor.new pair.new }
     ensures moves { GoesOn cursor.old cursor.new }
 {
     let mut room = max_depth;
@@ -287,7 +287,7 @@ fn read_last_key<'qs>(
     requires end { cursor.old.ended ≡ false }
     requires behind { IsLeft bracket.place.rest.now cursor.old.rest.now }
     ensures pair { let run = cut ends_last (left cursor.old) in let key = taken bracket.entry.place.rest.now cursor.old.rest.now ++ raw_of run.0 in
-        ReadsPair (with_leaf (plain (longer (path_of pair.old.path.items) key)) (read_value run.1)) result cursor.new pair.new }
+        ReadsPair (with_leaf (direct (longer (path_of pair.old.path.items) key)) (parsed_value run.1)) result cursor.new pair.new }
     ensures moves { GoesOn cursor.old cursor.new }
 {
     let (key, stop) = cursor.run_from(bracket.place, Until::Separator);

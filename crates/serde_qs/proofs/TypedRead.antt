@@ -1,6 +1,6 @@
 -- A typed call returns what the data that are read mean.
 use Rattle.std.proofs.Common.{◌≡◌, true, ℕ, List, Result, Ok, Err, Option, None, subst}
-use Rattle.qs_spec.specs.Config.{Config, are_refused}
+use Rattle.qs_spec.specs.Config.{Config, are_rejected}
 use Rattle.qs_spec.specs.Data.{Data}
 use Rattle.qs_spec.specs.Shape.{Shape, is_distinct}
 use Rattle.qs_spec.specs.Tree.{IsTree}
@@ -33,7 +33,7 @@ module _ {X V : Type 0} (view : X → V) (config : Config) (form : Shape) (meani
       read = subst (λ (s : Shape). ReadsBy config s parsed.tree datum) of_form (subst (λ (c : Config). ReadsBy c shape parsed.tree datum) of_config r)
 
       unread : meaning datum ≡ None → (d : Data) → ReadsBy config form parsed.tree d → meaning d ≡ None
-      unread none d s = subst (λ (e : Data). meaning e ≡ None) (one_data (are_refused config.duplicates) form parsed.tree datum d dist read s) none
+      unread none d s = subst (λ (e : Data). meaning e ≡ None) (one_data (are_rejected config.duplicates) form parsed.tree datum d dist read s) none
 
       by : (result : Result X Error) → Means view result (meaning datum) → ReturnsValue view config form meaning input result
       by (Ok x) g = record { tree = parsed.tree; datum = datum; has_tree = has_tree; is_read = read; is_meant = g }

@@ -1,6 +1,6 @@
 -- A typed call returns what written data mean.
 use Rattle.std.proofs.Common.{◌≡◌, true, List, ℕ, Result, Ok, Err, Option, sym, subst}
-use Rattle.qs_spec.specs.Config.{Config, are_refused}
+use Rattle.qs_spec.specs.Config.{Config, are_rejected}
 use Rattle.qs_spec.specs.Data.{Data}
 use Rattle.qs_spec.specs.Shape.{Shape, is_distinct}
 use Rattle.qs_spec.specs.Tree.{Tree, IsTree}
@@ -21,7 +21,7 @@ from_tree config form x input b t is = subst (λ (u : Tree). ReadsBy config form
 returned : {X V : Type 0} (view : X → V) (config : Config) (form : Shape) (meaning : Data → Option V) (input : List ℕ) (result : Result X Error)
     → is_distinct form ≡ true → ReturnsValue view config form meaning input result → (x : Data) → IsReadBack config form x input → ReturnsSame view meaning x result
 returned view config form meaning input (Ok y) dist g x b =
-    (g.datum, subst (Same x) (one_data (are_refused config.duplicates) form g.tree b.answer g.datum dist (from_tree config form x input b g.tree g.has_tree) g.is_read) b.same, g.is_meant)
+    (g.datum, subst (Same x) (one_data (are_rejected config.duplicates) form g.tree b.answer g.datum dist (from_tree config form x input b g.tree g.has_tree) g.is_read) b.same, g.is_meant)
 returned view config form meaning input (Err (Custom m)) dist g x b = (b.answer, b.same, g.is_unread b.answer (from_tree config form x input b g.tree g.has_tree))
 returned view config form meaning input (Err (Utf8 m)) dist g x b = (b.answer, b.same, g.is_unread b.answer (from_tree config form x input b g.tree g.has_tree))
 returned view config form meaning input (Err (Parse m n)) dist g x b = g b.tree b.is_tree

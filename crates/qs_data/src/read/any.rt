@@ -1,6 +1,6 @@
 //! Reading whatever is there.
 
-ghost use Rattle.qs_spec.specs.toward.ReadFunction.{any_data};
+ghost use Rattle.qs_spec.specs.internal.ReadFunction.{any_data};
 ghost use Rattle.qs_tree.specs.Views.{tree_of};
 ghost use Rattle.qs_data.specs.Views.{data_of};
 ghost use Rattle.qs_data.specs.Text.{is_text};

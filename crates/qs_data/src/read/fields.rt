@@ -3,7 +3,7 @@
 ghost use Rattle.std.specs.Prelude.{Some, None, cond, drop, map, option_map, option_and_then};
 ghost use Rattle.qs_spec.specs.Shape.{is_option as is_option_shape};
 ghost use Rattle.qs_spec.specs.Node.{found, keys_are_allowed};
-ghost use Rattle.qs_spec.specs.toward.ReadFunction.{struct_members, reads, reads_names, reads_places, read_field, read_place};
+ghost use Rattle.qs_spec.specs.internal.ReadFunction.{struct_members, reads, reads_names, reads_places, read_field, read_place};
 ghost use Rattle.qs_tree.specs.Views.{tree_of, items_from};
 ghost use Rattle.qs_data.specs.Views.{data_of, field_of, fields_in, named, shape_of};
 ghost use Rattle.qs_data.specs.Text.{is_text, items_are_text, entries_are_text};
@@ -24,7 +24,7 @@ use std::alloc::Global;
 
 /// The fields of a node: by their names among keys, and by their places among items.
 #[cycle(read)]
-#[tactic(auto, unfolding(qs_spec::specs::toward::ReadFunction::struct_members))]
+#[tactic(auto, unfolding(qs_spec::specs::internal::ReadFunction::struct_members))]
 #[inline(always)]
 pub(crate) fn read_struct(
     alloc: Global,
@@ -86,7 +86,7 @@ pub(crate) fn read_entries(
 
 // The fields by their names, in their order.
 #[cycle(read)]
-#[tactic(auto, unfolding(qs_spec::specs::toward::ReadFunction::reads))]
+#[tactic(auto, unfolding(qs_spec::specs::internal::ReadFunction::reads))]
 fn read_names(
     alloc: Global,
     reject_duplicates: bool,
@@ -147,7 +147,7 @@ fn is_option(shape: &Shape) -> bool
 
 // The fields by their places.
 #[cycle(read)]
-#[tactic(auto, unfolding(qs_spec::specs::toward::ReadFunction::reads))]
+#[tactic(auto, unfolding(qs_spec::specs::internal::ReadFunction::reads))]
 fn read_places(
     alloc: Global,
     reject_duplicates: bool,

@@ -2,7 +2,7 @@
 
 ghost use Rattle.std.specs.Prelude.{map, option_and_then, option_map};
 ghost use Rattle.qs_spec.specs.Node.{items};
-ghost use Rattle.qs_spec.specs.toward.ReadFunction.{read_each, read_list, reads, reads_tuple};
+ghost use Rattle.qs_spec.specs.internal.ReadFunction.{read_each, read_list, reads, reads_tuple};
 ghost use Rattle.qs_tree.specs.Views.{tree_of};
 ghost use Rattle.qs_data.specs.Views.{data_of, shape_of, shapes_in};
 ghost use Rattle.qs_data.specs.Text.{is_text};
@@ -20,7 +20,7 @@ use std::alloc::Global;
 
 /// A list: the items of a node, all by one shape.
 #[cycle(read)]
-#[tactic(auto, unfolding(qs_spec::specs::toward::ReadFunction::read_list))]
+#[tactic(auto, unfolding(qs_spec::specs::internal::ReadFunction::read_list))]
 pub(crate) fn read_list(
     alloc: Global,
     reject_duplicates: bool,
@@ -74,7 +74,7 @@ pub(crate) fn read_tuple(
 
 // The first items, each by its own shape.
 #[cycle(read)]
-#[tactic(auto, unfolding(qs_spec::specs::toward::ReadFunction::reads))]
+#[tactic(auto, unfolding(qs_spec::specs::internal::ReadFunction::reads))]
 fn read_parts(
     alloc: Global,
     reject_duplicates: bool,

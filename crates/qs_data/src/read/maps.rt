@@ -2,7 +2,7 @@
 
 ghost use Rattle.std.specs.Prelude.{map};
 ghost use Rattle.qs_spec.specs.Node.{under_empty};
-ghost use Rattle.qs_spec.specs.toward.ReadFunction.{read_map, read_pairs, reads};
+ghost use Rattle.qs_spec.specs.internal.ReadFunction.{read_map, read_pairs, reads};
 ghost use Rattle.qs_tree.specs.Views.{tree_of, entries_of_map};
 ghost use Rattle.qs_data.specs.Views.{key_shape_of, pair_of, shape_of};
 ghost use Rattle.qs_data.specs.Text.{is_text, entries_are_text};
@@ -19,7 +19,7 @@ use std::alloc::Global;
 
 /// The pairs of a node: those of a map, and a text under the empty key.
 #[cycle(read)]
-#[tactic(auto, unfolding(qs_spec::specs::toward::ReadFunction::read_map))]
+#[tactic(auto, unfolding(qs_spec::specs::internal::ReadFunction::read_map))]
 pub(crate) fn read_map(
     alloc: Global,
     reject_duplicates: bool,

@@ -4,7 +4,7 @@ ghost use Rattle.std.specs.Prelude.{◌≡◌, OnOk, IfErr, option_map};
 ghost use Rattle.qs_spec.specs.Data.{values_of, pairs_of};
 ghost use Rattle.qs_spec.specs.Data.Data.{sequence, mapping};
 ghost use Rattle.qs_spec.specs.Shape.KeyShape.{text};
-ghost use Rattle.qs_spec.specs.toward.ReadFunction.{any_data, read_each, read_pairs};
+ghost use Rattle.qs_spec.specs.internal.ReadFunction.{any_data, read_each, read_pairs};
 ghost use Rattle.qs_tree.specs.Views.{tree_of, entries_of_map};
 ghost use Rattle.qs_data.specs.declared.read.error.ReadError.TheVariants.{OutOfMemory};
 ghost use Rattle.qs_data.specs.Views.{data_of};
@@ -60,7 +60,7 @@ pub(crate) struct MapLevel<'t, 'qs> {
 }
 
 /// Reads a leaf, or begins a list or a map. A text is copied, which allocates, as the message of a fault does; nothing else does.
-#[tactic(auto, unfolding(qs_spec::specs::toward::ReadFunction::any_data))]
+#[tactic(auto, unfolding(qs_spec::specs::internal::ReadFunction::any_data))]
 pub(crate) fn visit<'t, 'qs>(alloc: Global, value: &'t ParsedValue<'qs>) -> Result<Node<'t, 'qs>>
     ensures { Visits result (tree_of value.now) }
 {

@@ -6,7 +6,7 @@ ghost use Rattle.qs_spec.specs.Segment.{segment_text};
 ghost use Rattle.qs_spec.specs.Shape.{struct_kind};
 ghost use Rattle.qs_spec.specs.Tree.Tree.{mapping};
 ghost use Rattle.qs_spec.specs.Node.{keys_are_allowed, as_map};
-ghost use Rattle.qs_spec.specs.toward.ReadFunction.{read_enum, reads_names, reads_places, reads_variant, reads_kind, struct_members, unit_variant_data};
+ghost use Rattle.qs_spec.specs.internal.ReadFunction.{read_enum, reads_names, reads_places, reads_variant, reads_kind, struct_members, unit_variant_data};
 ghost use Rattle.qs_tree.specs.Views.{tree_of, entries_of_map, segment_of_key};
 ghost use Rattle.qs_data.specs.Views.{data_of, fields_in, named, variant_of, variants_in};
 ghost use Rattle.qs_data.specs.Text.{is_text, entries_are_text};
@@ -30,7 +30,7 @@ use std::alloc::Global;
 
 /// One of the variants: the one that the smallest key of a map names, or the unit variant that a text names.
 #[cycle(read)]
-#[tactic(auto, unfolding(qs_spec::specs::toward::ReadFunction::read_enum))]
+#[tactic(auto, unfolding(qs_spec::specs::internal::ReadFunction::read_enum))]
 pub(crate) fn read_enum(
     alloc: Global,
     reject_duplicates: bool,
@@ -66,7 +66,7 @@ fn read_name(alloc: Global, variants: &[Variant], name: &[u8]) -> Result<Data>
 
 // The variant that the smallest key of a map names, of the value there. The other keys are passed over.
 #[cycle(read)]
-#[tactic(auto, unfolding(qs_spec::specs::toward::ReadFunction::read_enum))]
+#[tactic(auto, unfolding(qs_spec::specs::internal::ReadFunction::read_enum))]
 fn read_least(
     alloc: Global,
     reject_duplicates: bool,
@@ -117,7 +117,7 @@ fn place_of(alloc: Global, variants: &[Variant], name: &[u8]) -> Result<usize>
 
 // What a variant holds, of the value under its name.
 #[cycle(read)]
-#[tactic(auto, using(crate::proofs::Levels::levels), unfolding(qs_spec::specs::toward::ReadFunction::reads))]
+#[tactic(auto, using(crate::proofs::Levels::levels), unfolding(qs_spec::specs::internal::ReadFunction::reads))]
 fn read_variant(
     alloc: Global,
     reject_duplicates: bool,
@@ -165,7 +165,7 @@ fn read_variant(
 
 #[cycle(read)]
 #[inline(always)]
-#[tactic(auto, using(crate::proofs::Levels::levels), unfolding(qs_spec::specs::toward::ReadFunction::reads))]
+#[tactic(auto, using(crate::proofs::Levels::levels), unfolding(qs_spec::specs::internal::ReadFunction::reads))]
 fn struct_variant_data(
     alloc: Global,
     reject_duplicates: bool,
@@ -183,7 +183,7 @@ fn struct_variant_data(
 
 // The fields of a struct variant: those of a struct, where a text counts as a map with that text under the empty key.
 #[cycle(read)]
-#[tactic(auto, unfolding(qs_spec::specs::toward::ReadFunction::struct_members))]
+#[tactic(auto, unfolding(qs_spec::specs::internal::ReadFunction::struct_members))]
 fn read_variant_fields(
     alloc: Global,
     reject_duplicates: bool,

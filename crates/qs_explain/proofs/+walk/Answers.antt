@@ -1,6 +1,6 @@
 use Rattle.std.proofs.Common.{◌≡◌, ◌∷◌, [], ap, sym, subst, refl, ◌∙◌, false, cond, ◌||◌, Some, None, option_map, Ok, map, rules, arith}
 use Rattle.std.specs.declared.alloc.AllocError.{AllocError}
-use Rattle.qs_spec.specs.Config.{are_refused}
+use Rattle.qs_spec.specs.Config.{are_rejected}
 use Rattle.qs_spec.specs.Leaf.Leaf.{NoValue, Null}
 use Rattle.qs_spec.specs.Node.{IsFull}
 use Rattle.qs_spec.specs.Node.{found, items}
@@ -25,7 +25,7 @@ use Rattle.qs_explain.proofs.+walk.Goals as goal
 
 pub items::find_in_items-returns-in-loop-i : goal.items::find_in_items-returns-in-loop-i
 items::find_in_items-returns-in-loop-i t c xs h len =
-    let rd = are_refused c.args.config.duplicates in
+    let rd = are_rejected c.args.config.duplicates in
     let s = shape_of c.args.part.now in
     let i = c.loop-i.i in
     let m = c.in-Some.mismatch in
@@ -35,7 +35,7 @@ items::find_in_items-returns-in-loop-i t c xs h len =
 
 pub items::find_in_items-loop-i-preserved : goal.items::find_in_items-loop-i-preserved
 items::find_in_items-loop-i-preserved t c xs h len r rest =
-    let rd = are_refused c.args.config.duplicates in
+    let rd = are_rejected c.args.config.duplicates in
     let s = shape_of c.args.part.now in
     let i = c.loop-i.i in
     let read = subst (λ o. FindsBelow {E = AllocError} rd (Int i) s (or_missing (node_of c.item_at.result)) (Ok o)) c.in_default.is c.in_ok-mismatch.ensures in
@@ -44,13 +44,13 @@ items::find_in_items-loop-i-preserved t c xs h len r rest =
 
 pub items::find_in_items-returns : goal.items::find_in_items-returns
 items::find_in_items-returns t c xs h len =
-    let rd = are_refused c.args.config.duplicates in
+    let rd = are_rejected c.args.config.duplicates in
     let s = shape_of c.args.part.now in
     c.loop-i.invariant xs h len (Ok None) (children.list_end {E = AllocError} rd c.loop-i.i (Ok None) s xs (omega (arith, len, c.loop-i-test.false)))
 
 pub items::find_in_parts-returns-in-loop-i : goal.items::find_in_parts-returns-in-loop-i
 items::find_in_parts-returns-in-loop-i t c xs h =
-    let rd = are_refused c.args.config.duplicates in
+    let rd = are_rejected c.args.config.duplicates in
     let d = c.part-item.result in
     let ss = c.deref-part-items.result.now in
     let s = shape_of d in
@@ -62,7 +62,7 @@ items::find_in_parts-returns-in-loop-i t c xs h =
 
 pub items::find_in_parts-loop-i-preserved : goal.items::find_in_parts-loop-i-preserved
 items::find_in_parts-loop-i-preserved t c xs h r rest =
-    let rd = are_refused c.args.config.duplicates in
+    let rd = are_rejected c.args.config.duplicates in
     let d = c.part-item.result in
     let ss = c.deref-part-items.result.now in
     let s = shape_of d in
@@ -73,13 +73,13 @@ items::find_in_parts-loop-i-preserved t c xs h r rest =
 
 pub items::find_in_parts-returns : goal.items::find_in_parts-returns
 items::find_in_parts-returns t c xs h =
-    let rd = are_refused c.args.config.duplicates in
+    let rd = are_rejected c.args.config.duplicates in
     let ss = c.deref-part-items.result.now in
     c.loop-i.invariant xs h (Ok None) (children.parts_end {E = AllocError} rd c.loop-i.i (Ok None) ss xs (omega (arith, c.loop-i-test.false)))
 
 pub fields::find_in_fields-returns-in-loop-field : goal.fields::find_in_fields-returns-in-loop-field
 fields::find_in_fields-returns-in-loop-field t c =
-    let rd = are_refused c.args.config.duplicates in
+    let rd = are_rejected c.args.config.duplicates in
     let es = keys_of c.args.map in
     let fs = c.deref-field-items.result.now in
     let d = c.field-item.result in
@@ -90,7 +90,7 @@ fields::find_in_fields-returns-in-loop-field t c =
 
 pub fields::find_in_fields-loop-field-preserved : goal.fields::find_in_fields-loop-field-preserved
 fields::find_in_fields-loop-field-preserved t c r rest =
-    let rd = are_refused c.args.config.duplicates in
+    let rd = are_rejected c.args.config.duplicates in
     let es = keys_of c.args.map in
     let fs = c.deref-field-items.result.now in
     let d = c.field-item.result in
@@ -100,14 +100,14 @@ fields::find_in_fields-loop-field-preserved t c r rest =
 
 pub fields::find_in_fields-returns : goal.fields::find_in_fields-returns
 fields::find_in_fields-returns t c =
-    let rd = are_refused c.args.config.duplicates in
+    let rd = are_rejected c.args.config.duplicates in
     let es = keys_of c.args.map in
     let fs = c.deref-field-items.result.now in
     c.loop-field.invariant (Ok None) (children.names_end {E = AllocError} rd c.loop-field.field-index (Ok None) fs es (omega (arith, c.loop-field-test.false)))
 
 pub children::find_at-returns-in_ok-under-in-Some : goal.children::find_at-returns-in_ok-under-in-Some
 children::find_at-returns-in_ok-under-in-Some t c =
-    let rd = are_refused c.args.config.duplicates in
+    let rd = are_rejected c.args.config.duplicates in
     let s = shape_of c.args.shape.now in
     let n = or_missing (node_of c.args.node) in
     let found = subst (λ o. Finds {E = AllocError} rd s n (Ok o)) c.in-Some.is c.in_ok-mismatch.ensures in
@@ -115,7 +115,7 @@ children::find_at-returns-in_ok-under-in-Some t c =
 
 pub children::find_under-returns-in_ok-under-in-Some : goal.children::find_under-returns-in_ok-under-in-Some
 children::find_under-returns-in_ok-under-in-Some t c =
-    let rd = are_refused c.args.config.duplicates in
+    let rd = are_rejected c.args.config.duplicates in
     let s = shape_of c.args.shape.now in
     let n = or_missing (node_of c.args.node) in
     let found = subst (λ o. Finds {E = AllocError} rd s n (Ok o)) c.in-Some.is c.in_ok-mismatch.ensures in
@@ -124,7 +124,7 @@ children::find_under-returns-in_ok-under-in-Some t c =
 
 pub fields::find_in_field-returns-in-One : goal.fields::find_in_field-returns-in-One
 fields::find_in_field-returns-in-One t c =
-    let rd = are_refused c.args.config.duplicates in
+    let rd = are_rejected c.args.config.duplicates in
     let d = c.args.field.now in
     let f = field_of d in
     let es = keys_of c.args.map in
@@ -139,7 +139,7 @@ fields::find_in_field-returns-in-One t c =
 
 pub fields::find_missing-returns : goal.fields::find_missing-returns
 fields::find_missing-returns t c =
-    let rd = are_refused c.args.config.duplicates in
+    let rd = are_rejected c.args.config.duplicates in
     let d = c.args.field.now in
     let f = field_of d in
     let r = c.find_under.result in
@@ -154,15 +154,15 @@ fields::find_missing-returns t c =
 
 pub items::find_in_list-returns-in-Some : goal.items::find_in_list-returns-in-Some
 items::find_in_list-returns-in-Some t c =
-    children.listed_found (are_refused c.args.config.duplicates) (item_children 0 (shape_of c.args.part.now)) (items (tree_of c.args.node.now)) c.in-Some.count c.find_in_items.result c.in-Some.ensures c.find_in_items.ensures
+    children.listed_found (are_rejected c.args.config.duplicates) (item_children 0 (shape_of c.args.part.now)) (items (tree_of c.args.node.now)) c.in-Some.count c.find_in_items.result c.in-Some.ensures c.find_in_items.ensures
 
 pub items::find_in_tuple-returns-in-Some : goal.items::find_in_tuple-returns-in-Some
 items::find_in_tuple-returns-in-Some t c =
-    children.listed_found (are_refused c.args.config.duplicates) (tuple_children 0 (shapes_in c.args.parts.now.items)) (items (tree_of c.args.node.now)) c.in-Some.field-0 c.find_in_parts.result c.in-Some.ensures (λ xs e len. c.find_in_parts.ensures xs e)
+    children.listed_found (are_rejected c.args.config.duplicates) (tuple_children 0 (shapes_in c.args.parts.now.items)) (items (tree_of c.args.node.now)) c.in-Some.field-0 c.find_in_parts.result c.in-Some.ensures (λ xs e len. c.find_in_parts.ensures xs e)
 
 pub pairs::find_in_map-returns-in-String : goal.pairs::find_in_map-returns-in-String
 pairs::find_in_map-returns-in-String t c =
-    let rd = are_refused c.args.config.duplicates in
+    let rd = are_rejected c.args.config.duplicates in
     let s = shape_of c.args.part.now in
     let r = c.find_under.result in
     let key : segment_of_key c.from.result ≡ Str [] = ap (λ (x : Step). x.seg) c.from.ensures in
@@ -172,7 +172,7 @@ pairs::find_in_map-returns-in-String t c =
 
 pub pairs::find_in_pairs-returns-in-loop-i : goal.pairs::find_in_pairs-returns-in-loop-i
 pairs::find_in_pairs-returns-in-loop-i t c =
-    let rd = are_refused c.args.config.duplicates in
+    let rd = are_rejected c.args.config.duplicates in
     let s = shape_of c.args.part.now in
     let es = entries_of_map c.args.map.now in
     let x : Step × Tree = (step_of_key c.in-Some.key.now, tree_of c.in-Some.value.now) in
@@ -182,7 +182,7 @@ pairs::find_in_pairs-returns-in-loop-i t c =
 
 pub pairs::find_in_pairs-loop-i-preserved : goal.pairs::find_in_pairs-loop-i-preserved
 pairs::find_in_pairs-loop-i-preserved t c r rest =
-    let rd = are_refused c.args.config.duplicates in
+    let rd = are_rejected c.args.config.duplicates in
     let s = shape_of c.args.part.now in
     let es = entries_of_map c.args.map.now in
     let x : Step × Tree = (step_of_key c.in-Some.key.now, tree_of c.in-Some.value.now) in
@@ -191,7 +191,7 @@ pairs::find_in_pairs-loop-i-preserved t c r rest =
 
 pub pairs::find_in_pairs-returns : goal.pairs::find_in_pairs-returns
 pairs::find_in_pairs-returns t c =
-    let rd = are_refused c.args.config.duplicates in
+    let rd = are_rejected c.args.config.duplicates in
     let s = shape_of c.args.part.now in
     let es = entries_of_map c.args.map.now in
     let i = c.loop-i.i in
@@ -202,7 +202,7 @@ pairs::find_in_pairs-returns t c =
 
 pub walk::find_mismatch-returns-in_ok-mismatch_here-in-None : goal.walk::find_mismatch-returns-in_ok-mismatch_here-in-None
 walk::find_mismatch-returns-in_ok-mismatch_here-in-None t c =
-    let rd = are_refused c.args.config.duplicates in
+    let rd = are_rejected c.args.config.duplicates in
     let s = shape_of c.args.shape.now in
     let n = tree_of c.args.node.now in
     let unread = subst (λ b. Tests rd s n b) c.if-branch.false c.in_ok-is_read.ensures in
@@ -214,7 +214,7 @@ walk::find_mismatch-returns-in_ok-mismatch_here-in-None t c =
 
 pub walk::find_in_option-returns-in-Null : goal.walk::find_in_option-returns-in-Null
 walk::find_in_option-returns-in-Null t c =
-    let rd = are_refused c.args.config.duplicates in
+    let rd = are_rejected c.args.config.duplicates in
     let part = shape_of c.args.part.now in
     let r = c.find_mismatch.result in
     let null : tree_of c.args.node.now ≡ leaf Null = ap tree_of c.in-Null.is ∙ search (rules, value.the_lemmas) in
@@ -223,27 +223,27 @@ walk::find_in_option-returns-in-Null t c =
 
 pub walk::find_in_option-returns-in-String : goal.walk::find_in_option-returns-in-String
 walk::find_in_option-returns-in-String t c =
-    let rd = are_refused c.args.config.duplicates in
+    let rd = are_rejected c.args.config.duplicates in
     let full : IsFull (tree_of c.args.node.now) = subst (λ x. IsFull (tree_of x)) (sym c.in-String.is) (text_full c.in-String.field-0) in
     full_found rd (shape_of c.args.part.now) (tree_of c.args.node.now) c.find_mismatch-in-String.result full c.find_mismatch-in-String.ensures
 
 pub walk::find_in_option-returns-in-Sequence : goal.walk::find_in_option-returns-in-Sequence
 walk::find_in_option-returns-in-Sequence t c =
-    let rd = are_refused c.args.config.duplicates in
+    let rd = are_rejected c.args.config.duplicates in
     let seen : tree_of c.args.node.now ≡ sequence (items_from (map tree_of c.in-Sequence.field-0.items)) = ap tree_of c.in-Sequence.is ∙ search (rules, value.the_lemmas) in
     let full : IsFull (tree_of c.args.node.now) = subst IsFull (sym seen) tt in
     full_found rd (shape_of c.args.part.now) (tree_of c.args.node.now) c.find_mismatch-in-Sequence.result full c.find_mismatch-in-Sequence.ensures
 
 pub walk::find_in_option-returns-in-Map : goal.walk::find_in_option-returns-in-Map
 walk::find_in_option-returns-in-Map t c =
-    let rd = are_refused c.args.config.duplicates in
+    let rd = are_rejected c.args.config.duplicates in
     let seen : tree_of c.args.node.now ≡ mapping (entries_of_map c.in-Map.field-0) = ap tree_of c.in-Map.is ∙ search (rules, value.the_lemmas) in
     let full : IsFull (tree_of c.args.node.now) = subst IsFull (sym seen) tt in
     full_found rd (shape_of c.args.part.now) (tree_of c.args.node.now) c.find_mismatch-in-Map.result full c.find_mismatch-in-Map.ensures
 
 pub walk::find_inside-returns-in-Newtype : goal.walk::find_inside-returns-in-Newtype
 walk::find_inside-returns-in-Newtype t c =
-    let rd = are_refused c.args.config.duplicates in
+    let rd = are_rejected c.args.config.duplicates in
     let n = tree_of c.args.node.now in
     let r = c.find_mismatch.result in
     let part = c.in-Newtype.part.value in
@@ -253,7 +253,7 @@ walk::find_inside-returns-in-Newtype t c =
 
 pub walk::find_inside-returns-in-Tuple : goal.walk::find_inside-returns-in-Tuple
 walk::find_inside-returns-in-Tuple t c =
-    let rd = are_refused c.args.config.duplicates in
+    let rd = are_rejected c.args.config.duplicates in
     let n = tree_of c.args.node.now in
     let r = c.find_in_tuple.result in
     let shaped : shape_of c.args.shape.now ≡ s.Shape.tuple (shapes_in c.in-Tuple.parts.items) = ap shape_of c.in-Tuple.is ∙ search (rules, shape.the_lemmas) in
@@ -261,7 +261,7 @@ walk::find_inside-returns-in-Tuple t c =
 
 pub walk::find_inside-returns-in-Struct : goal.walk::find_inside-returns-in-Struct
 walk::find_inside-returns-in-Struct t c =
-    let rd = are_refused c.args.config.duplicates in
+    let rd = are_rejected c.args.config.duplicates in
     let n = tree_of c.args.node.now in
     let r = c.find_in_struct.result in
     let shaped : shape_of c.args.shape.now ≡ s.Shape.struct s.UnknownKeys.ignored (fields_in c.in-Struct.fields.items) = ap shape_of c.in-Struct.is ∙ search (rules, shape.the_lemmas) in
@@ -269,7 +269,7 @@ walk::find_inside-returns-in-Struct t c =
 
 pub walk::find_inside-returns-in-StrictStruct : goal.walk::find_inside-returns-in-StrictStruct
 walk::find_inside-returns-in-StrictStruct t c =
-    let rd = are_refused c.args.config.duplicates in
+    let rd = are_rejected c.args.config.duplicates in
     let n = tree_of c.args.node.now in
     let r = c.find_in_struct-in-StrictStruct.result in
     let shaped : shape_of c.args.shape.now ≡ s.Shape.struct s.UnknownKeys.rejected (fields_in c.in-StrictStruct.fields.items) = ap shape_of c.in-StrictStruct.is ∙ search (rules, shape.the_lemmas) in
@@ -277,7 +277,7 @@ walk::find_inside-returns-in-StrictStruct t c =
 
 pub walk::find_inside-returns-in-Seq : goal.walk::find_inside-returns-in-Seq
 walk::find_inside-returns-in-Seq t c =
-    let rd = are_refused c.args.config.duplicates in
+    let rd = are_rejected c.args.config.duplicates in
     let n = tree_of c.args.node.now in
     let r = c.find_in_list.result in
     let p = shape_of c.in-Seq.part.value in
@@ -287,7 +287,7 @@ walk::find_inside-returns-in-Seq t c =
 
 pub walk::find_inside-returns-in-Map : goal.walk::find_inside-returns-in-Map
 walk::find_inside-returns-in-Map t c =
-    let rd = are_refused c.args.config.duplicates in
+    let rd = are_rejected c.args.config.duplicates in
     let n = tree_of c.args.node.now in
     let r = c.find_in_map.result in
     let p = shape_of c.in-Map.part.value in

@@ -1,5 +1,5 @@
 use Rattle.std.proofs.Common.{◌≡◌, ◌≤◌, drop, length}
-use Rattle.qs_spec.specs.Fits.{each_fits, fits_tuple, fits_pairs, fits_fields, kind_of}
+use Rattle.qs_spec.specs.Fits.{each_fits, fits_tuple, fits_pairs, fits_fields, variant_kind}
 use Rattle.qs_data.specs.Views.{data_of, shape_of, key_shape_of, values_in, pairs_in, members_in, shapes_in, fields_in, variants_in}
 use Rattle.qs_data.specs.Fitting.{fits_variant}
 use Rattle.qs_data.proofs.fits.+fits.Given as goal
@@ -23,4 +23,4 @@ invariant-fits_fields-loop-field l =
 
 abbrev pub invariant-fits_named-loop-variant : goal.invariant-fits_named-loop-variant
 invariant-fits_named-loop-variant l =
-    fits_variant (kind_of l.name (variants_in l.variants.items)) (data_of l.datum) ≡ fits_variant (kind_of l.name (variants_in (drop l.variant-index l.variant-items))) (data_of l.datum)
+    fits_variant (variant_kind l.name (variants_in l.variants.items)) (data_of l.datum) ≡ fits_variant (variant_kind l.name (variants_in (drop l.variant-index l.variant-items))) (data_of l.datum)

@@ -1,6 +1,6 @@
 use Rattle.std.proofs.Common.{◌≡◌, drop}
 use Rattle.std.specs.List.{list_any}
-use Rattle.qs_spec.specs.toward.Entries.{is_bracket}
+use Rattle.qs_spec.specs.Token.{is_bracket}
 use Rattle.qs_data.proofs.plain.holds_bracket.Given as goal
 
 abbrev pub invariant-loop-byte : goal.invariant-loop-byte

@@ -2,15 +2,15 @@ use Rattle.std.proofs.Common.{refl, true, false, codes}
 use Rattle.qs_spec.specs.Segment.Segment.{Str}
 use Rattle.qs_spec.specs.Tree.Tree.{mapping}
 use Rattle.qs_spec.specs.Tree.Entries.{entry, no_entries}
-use Rattle.qs_spec.specs.Worked.{text, only}
+use Rattle.qs_spec.specs.Worked.{text_leaf, only}
 use Rattle.qs_spec.proofs.TreeOf.{is_tree}
 use Rattle.qs_spec.proofs.inputs.brackets_in_form_mode.Goals as goal
 
 pub returns-clause-escaped : goal.returns-clause-escaped
-returns-clause-escaped c = is_tree true 5 (codes "abc%5Bdef%5D=ghi") (only (codes "abc") (only (codes "def") (text (codes "ghi")))) refl
+returns-clause-escaped c = is_tree true 5 (codes "abc%5Bdef%5D=ghi") (only (codes "abc") (only (codes "def") (text_leaf (codes "ghi")))) refl
 
 pub returns-clause-lower_case : goal.returns-clause-lower_case
-returns-clause-lower_case c = is_tree true 5 (codes "abc%5bdef%5d=ghi") (mapping (entry (Str (codes "abc[def]")) true (text (codes "ghi")) no_entries)) refl
+returns-clause-lower_case c = is_tree true 5 (codes "abc%5bdef%5d=ghi") (mapping (entry (Str (codes "abc[def]")) true (text_leaf (codes "ghi")) no_entries)) refl
 
 pub returns-clause-in_query_mode : goal.returns-clause-in_query_mode
-returns-clause-in_query_mode c = is_tree false 5 (codes "abc%5Bdef%5D=ghi") (mapping (entry (Str (codes "abc[def]")) true (text (codes "ghi")) no_entries)) refl
+returns-clause-in_query_mode c = is_tree false 5 (codes "abc%5Bdef%5D=ghi") (mapping (entry (Str (codes "abc[def]")) true (text_leaf (codes "ghi")) no_entries)) refl

@@ -3,15 +3,15 @@ use Rattle.qs_spec.specs.Segment.Segment.{Str}
 use Rattle.qs_spec.specs.Leaf.Leaf.{Text}
 use Rattle.qs_spec.specs.Tree.Tree.{leaf, mapping}
 use Rattle.qs_spec.specs.Tree.Entries.{entry, no_entries}
-use Rattle.qs_spec.specs.Worked.{texts, only}
+use Rattle.qs_spec.specs.Worked.{text_leaves, only}
 use Rattle.qs_spec.proofs.TreeOf.{is_tree}
 use Rattle.qs_spec.proofs.inputs.marks_of_keys_and_texts.Goals as goal
 
 pub returns-clause-plain_first : goal.returns-clause-plain_first
-returns-clause-plain_first c = is_tree false 5 (codes "a=1&%61=2") (mapping (entry (Str (codes "a")) false (texts (codes "1" ∷ codes "2" ∷ [])) no_entries)) refl
+returns-clause-plain_first c = is_tree false 5 (codes "a=1&%61=2") (mapping (entry (Str (codes "a")) false (text_leaves (codes "1" ∷ codes "2" ∷ [])) no_entries)) refl
 
 pub returns-clause-escaped_first : goal.returns-clause-escaped_first
-returns-clause-escaped_first c = is_tree false 5 (codes "%61=1&a=2") (mapping (entry (Str (codes "a")) true (texts (codes "1" ∷ codes "2" ∷ [])) no_entries)) refl
+returns-clause-escaped_first c = is_tree false 5 (codes "%61=1&a=2") (mapping (entry (Str (codes "a")) true (text_leaves (codes "1" ∷ codes "2" ∷ [])) no_entries)) refl
 
 pub returns-clause-text : goal.returns-clause-text
 returns-clause-text c = is_tree false 5 (codes "a=%2B+") (only (codes "a") (leaf (Text (codes "+ ") true))) refl

@@ -1,7 +1,7 @@
 use Rattle.std.proofs.Common.{refl, false, codes, []}
 use Rattle.qs_spec.specs.Leaf.Leaf.{Null, NoValue}
 use Rattle.qs_spec.specs.Tree.Tree.{leaf, uninitialized}
-use Rattle.qs_spec.specs.Worked.{text, only}
+use Rattle.qs_spec.specs.Worked.{text_leaf, only}
 use Rattle.qs_spec.proofs.TreeOf.{is_tree}
 use Rattle.qs_spec.proofs.inputs.nearly_empty_inputs.Goals as goal
 
@@ -18,4 +18,4 @@ pub returns-clause-no_value : goal.returns-clause-no_value
 returns-clause-no_value c = is_tree false 5 (codes "a=") (only (codes "a") (leaf Null)) refl
 
 pub returns-clause-no_key : goal.returns-clause-no_key
-returns-clause-no_key c = is_tree false 5 (codes "=foo") (text (codes "foo")) refl
+returns-clause-no_key c = is_tree false 5 (codes "=foo") (text_leaf (codes "foo")) refl

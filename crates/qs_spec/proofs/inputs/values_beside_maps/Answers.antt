@@ -1,12 +1,12 @@
 use Rattle.std.proofs.Common.{refl, false, codes, []}
 use Rattle.qs_spec.specs.Tree.Tree.{mapping}
 use Rattle.qs_spec.specs.Tree.Entries.{no_entries}
-use Rattle.qs_spec.specs.Worked.{text, at_text, only}
+use Rattle.qs_spec.specs.Worked.{text_leaf, at_text, only}
 use Rattle.qs_spec.proofs.TreeOf.{is_tree, no_tree}
 use Rattle.qs_spec.proofs.inputs.values_beside_maps.Goals as goal
 
 pub returns-clause-value_after : goal.returns-clause-value_after
-returns-clause-value_after c = is_tree false 5 (codes "a[b]=1&a=2") (only (codes "a") (mapping (at_text [] (text (codes "2")) (at_text (codes "b") (text (codes "1")) no_entries)))) refl
+returns-clause-value_after c = is_tree false 5 (codes "a[b]=1&a=2") (only (codes "a") (mapping (at_text [] (text_leaf (codes "2")) (at_text (codes "b") (text_leaf (codes "1")) no_entries)))) refl
 
 pub returns-clause-value_before : goal.returns-clause-value_before
 returns-clause-value_before c = no_tree false 5 (codes "a=2&a[b]=1") refl

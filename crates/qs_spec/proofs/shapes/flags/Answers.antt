@@ -19,6 +19,6 @@ pub returns-clause-twice : goal.returns-clause-twice
 unfolding on_literals
 returns-clause-twice c = is_read _ _ _ _ refl refl
 
-pub returns-clause-twice_where_refused : goal.returns-clause-twice_where_refused
+pub returns-clause-twice_where_rejected : goal.returns-clause-twice_where_rejected
 unfolding on_literals
-returns-clause-twice_where_refused c = is_read _ _ _ _ refl refl
+returns-clause-twice_where_rejected c = is_read _ _ _ _ refl refl

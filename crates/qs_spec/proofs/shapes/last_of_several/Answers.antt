@@ -7,9 +7,9 @@ pub returns-clause-last : goal.returns-clause-last
 unfolding on_literals
 returns-clause-last c = is_read _ _ _ _ refl refl
 
-pub returns-clause-refused : goal.returns-clause-refused
+pub returns-clause-rejected : goal.returns-clause-rejected
 unfolding on_literals
-returns-clause-refused c = is_read _ _ _ _ refl refl
+returns-clause-rejected c = is_read _ _ _ _ refl refl
 
 pub returns-clause-no_text : goal.returns-clause-no_text
 unfolding on_literals
@@ -27,6 +27,6 @@ pub returns-clause-nothing : goal.returns-clause-nothing
 unfolding on_literals
 returns-clause-nothing c = is_read _ _ _ _ refl refl
 
-pub returns-clause-one_where_refused : goal.returns-clause-one_where_refused
+pub returns-clause-one_where_rejected : goal.returns-clause-one_where_rejected
 unfolding on_literals
-returns-clause-one_where_refused c = is_read _ _ _ _ refl refl
+returns-clause-one_where_rejected c = is_read _ _ _ _ refl refl

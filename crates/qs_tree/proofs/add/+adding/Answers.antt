@@ -1,7 +1,7 @@
 use Rattle.std.proofs.Math.ListN.{drop_of_length-le}
 use Rattle.std.proofs.Common.{drop, [], arith, ◌+◌, ◌≡◌, ap, sym, ◌∙◌, unwrap_or, rules, refl, Global}
 use Rattle.std.specs.declared.collections.BTreeMap.{BTreeMap}
-use Rattle.qs_spec.specs.toward.InPlace.{add}
+use Rattle.qs_spec.specs.internal.InPlace.{add}
 use Rattle.qs_tree.specs.declared.key.Key.{Key}
 use Rattle.qs_tree.specs.declared.draft.Draft.{Draft, Fresh, the_lemmas}
 use Rattle.qs_tree.specs.Pairs.{is_push, leaf_of, path_of}

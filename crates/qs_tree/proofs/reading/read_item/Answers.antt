@@ -1,6 +1,6 @@
 use Rattle.std.proofs.Common.{sym, ap, ap₂, ◌∙◌, subst}
 use Rattle.qs_spec.specs.Token.{tokens, raw_of}
-use Rattle.qs_spec.specs.toward.Reading.{cut, pairs_of, and_pairs}
+use Rattle.qs_spec.specs.internal.Parsing.{cut, parsed_pairs, and_pairs}
 use Rattle.qs_tree.specs.Cursor.{left, behind}
 use Rattle.qs_tree.specs.Reading.{is_nothing, behind_root}
 use Rattle.qs_tree.proofs.BehindKeys.{has_bytes}
@@ -17,7 +17,7 @@ returns-in-None-clause-item c =
     let token = ap (λ ends. (cut ends (left old)).1) (sym c.root_end.ensures) ∙ c.run.ensures.token in
     let run = ap (λ ends. raw_of (cut ends (left old)).0) (sym c.root_end.ensures) ∙ sym c.run.ensures.run in
     let nothing = ap (λ raw. is_nothing raw c.run.result.1) run ∙ sym c.is_nothing.ensures ∙ c.if-is_nothing.true in
-    ap (pairs_of depth) same ∙ end_pairs depth (left old) c.run.result.1 (left c.run.new.self) (has_bytes old.form old.rest.now) token nothing c.in-None.is
+    ap (parsed_pairs depth) same ∙ end_pairs depth (left old) c.run.result.1 (left c.run.new.self) (has_bytes old.form old.rest.now) token nothing c.in-None.is
 
 pub returns-in-Some-clause-item : goal.returns-in-Some-clause-item
 returns-in-Some-clause-item c =
@@ -27,7 +27,7 @@ returns-in-Some-clause-item c =
     let token = ap (λ ends. (cut ends (left old)).1) (sym c.root_end.ensures) ∙ c.run.ensures.token in
     let run = ap (λ ends. raw_of (cut ends (left old)).0) (sym c.root_end.ensures) ∙ sym c.run.ensures.run in
     let nothing = ap (λ raw. is_nothing raw c.run.result.1) run ∙ sym c.is_nothing.ensures ∙ c.if-is_nothing.true in
-    ap (pairs_of depth) same ∙ ampersand_pairs depth (left old) c.run.result.1 c.in-Some.field-0 (left c.run.new.self) (has_bytes old.form old.rest.now) token nothing c.in-Some.is
+    ap (parsed_pairs depth) same ∙ ampersand_pairs depth (left old) c.run.result.1 c.in-Some.field-0 (left c.run.new.self) (has_bytes old.form old.rest.now) token nothing c.in-Some.is
 
 pub returns-clause-item : goal.returns-clause-item
 returns-clause-item c =
@@ -39,7 +39,7 @@ returns-clause-item c =
     let run = ap (λ ends. raw_of (cut ends (left old)).0) (sym c.root_end.ensures) ∙ sym c.run.ensures.run in
     let some = ap (λ raw. is_nothing raw c.run.result.1) run ∙ sym c.is_nothing.ensures ∙ c.if-is_nothing.false in
     pair_item depth (left c.args.cursor.now) found tt c.read_behind_root.new.cursor c.read_behind_root.new.pair
-    (ap (pairs_of depth) same ∙ pair_pairs depth (left old) c.run.result.1 (left c.run.new.self) (has_bytes old.form old.rest.now) token some ∙ ap (λ raw. and_pairs depth (behind_root depth raw (behind c.run.result.1 (left c.run.new.self)))) run)
+    (ap (parsed_pairs depth) same ∙ pair_pairs depth (left old) c.run.result.1 (left c.run.new.self) (has_bytes old.form old.rest.now) token some ∙ ap (λ raw. and_pairs depth (behind_root depth raw (behind c.run.result.1 (left c.run.new.self)))) run)
     c.in_ok-read_behind_root.ensures.pair
 
 pub returns-in_err-read_behind_root-clause-item : goal.returns-in_err-read_behind_root-clause-item
@@ -52,7 +52,7 @@ returns-in_err-read_behind_root-clause-item c =
     let run = ap (λ ends. raw_of (cut ends (left old)).0) (sym c.root_end.ensures) ∙ sym c.run.ensures.run in
     let some = ap (λ raw. is_nothing raw c.run.result.1) run ∙ sym c.is_nothing.ensures ∙ c.if-is_nothing.false in
     fault_item depth (left c.args.cursor.now) found c.from_residual.result c.in_err-read_behind_root.field-0.0 _ c.read_behind_root.new.cursor c.read_behind_root.new.pair c.from_residual.ensures.1 (λ y p. p)
-    (ap (pairs_of depth) same ∙ pair_pairs depth (left old) c.run.result.1 (left c.run.new.self) (has_bytes old.form old.rest.now) token some ∙ ap (λ raw. and_pairs depth (behind_root depth raw (behind c.run.result.1 (left c.run.new.self)))) run)
+    (ap (parsed_pairs depth) same ∙ pair_pairs depth (left old) c.run.result.1 (left c.run.new.self) (has_bytes old.form old.rest.now) token some ∙ ap (λ raw. and_pairs depth (behind_root depth raw (behind c.run.result.1 (left c.run.new.self)))) run)
     c.in_err-read_behind_root.ensures.pair
 
 pub returns-in-Some-clause-small : goal.returns-in-Some-clause-small

@@ -1,5 +1,5 @@
 use Rattle.std.proofs.Common.{◌≡◌, true, rules}
-use Rattle.qs_spec.specs.toward.ReadFunction.{read_by}
+use Rattle.qs_spec.specs.internal.ReadFunction.{read_by}
 use Rattle.qs_data.specs.Views.{data_of, shape_of}
 use Rattle.qs_data.specs.Text.{is_text}
 use Rattle.qs_data.specs.Gives.{Gives, IsFrugal, takes_no_memory}

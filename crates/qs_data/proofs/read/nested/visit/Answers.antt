@@ -1,6 +1,6 @@
 use Rattle.std.proofs.Common.{◌≡◌, ap, sym, ◌∙◌, map, cond, Some, None, rules}
 use Rattle.qs_spec.specs.Tree.Tree.{sequence, mapping}
-use Rattle.qs_spec.specs.Node.{items, each_item, placed}
+use Rattle.qs_spec.specs.Node.{items, sequence_items, placed}
 use Rattle.qs_tree.specs.Views.{tree_of, items_from, entries_of_map}
 use Rattle.qs_tree.specs.declared.value.ParsedValue as value
 use Rattle.qs_data.proofs.Anything.{is_list}
@@ -10,9 +10,9 @@ use Rattle.qs_data.proofs.read.nested.visit.Goals as goal
 pub returns-in-Sequence : goal.returns-in-Sequence
 returns-in-Sequence c =
     let n = tree_of c.args.value.now in
-    let xs = each_item (items_from (map tree_of c.deref.result.now)) in
+    let xs = sequence_items (items_from (map tree_of c.deref.result.now)) in
     let seen : n ≡ sequence (items_from (map tree_of c.in-Sequence.values.items)) = ap tree_of c.in-Sequence.is ∙ search (rules, value.the_lemmas) in
-    let listed : items n ≡ Some xs = ap items seen ∙ ap (λ zs. Some (each_item (items_from (map tree_of zs)))) (sym c.deref.ensures.value) in
+    let listed : items n ≡ Some xs = ap items seen ∙ ap (λ zs. Some (sequence_items (items_from (map tree_of zs)))) (sym c.deref.ensures.value) in
     begins_list c.list.result n xs (ap is_list seen) listed c.list.ensures.value c.list.ensures.text c.list.ensures.size
 
 pub returns-then-is_list : goal.returns-then-is_list

@@ -3,7 +3,7 @@ use Rattle.std.specs.Option.{option_map}
 use Rattle.std.specs.Str.{is_utf8}
 use Rattle.qs_spec.specs.Data as d
 use Rattle.qs_spec.specs.Shape.{unit_kind}
-use Rattle.qs_spec.specs.toward.ReadFunction.{unit_variant_data, is_unit_kind}
+use Rattle.qs_spec.specs.internal.ReadFunction.{unit_variant_data, is_unit_kind}
 use Rattle.qs_data.specs.declared.data.Data as data_type
 use Rattle.qs_data.specs.declared.shape.VariantKind as kind
 use Rattle.qs_data.specs.declared.shape.Variant.{out-Variant}

@@ -1,6 +1,6 @@
 use Rattle.std.proofs.Common.{false, Option}
 use Rattle.qs_spec.specs.Tree.{Tree}
-use Rattle.qs_spec.specs.toward.InPlace.{add_flat}
+use Rattle.qs_spec.specs.internal.InPlace.{add_flat}
 use Rattle.qs_tree.specs.Pairs.{leaf_of}
 use Rattle.qs_tree.specs.Views.{step_of_key}
 use Rattle.qs_tree.specs.Draft.{draft_tree, draft_entries}

@@ -1,5 +1,5 @@
 use Rattle.std.proofs.Common.{◌≡◌, ◌≤◌, false, map, drop}
-use Rattle.qs_spec.specs.toward.ReadFunction.{any_data, read_each}
+use Rattle.qs_spec.specs.internal.ReadFunction.{any_data, read_each}
 use Rattle.qs_data.specs.declared.read.nested.Level.TheVariants as level
 use Rattle.qs_data.specs.Items.{items_in, are_text}
 use Rattle.qs_data.specs.Nesting.{level_data, level_is_text, level_size, list_with}

@@ -1,7 +1,7 @@
 use Rattle.std.proofs.Common.{◌≡◌, [], ◌∷◌, ◌++◌, map, refl, ap, sym, ◌∙◌, option_map, arith}
 use Rattle.std.proofs.lemmas.Grind.{common_steps}
 use Rattle.qs_spec.specs.Data as d
-use Rattle.qs_spec.specs.toward.ReadFunction.{any_data, read_pairs}
+use Rattle.qs_spec.specs.internal.ReadFunction.{any_data, read_pairs}
 use Rattle.qs_spec.specs.Shape.{KeyShape}
 use Rattle.qs_data.specs.Nesting.{entries_left, map_with}
 use Rattle.qs_data.specs.Views.{data_of, pair_of}

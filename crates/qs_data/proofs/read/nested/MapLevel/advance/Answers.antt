@@ -2,7 +2,7 @@ use Rattle.std.proofs.Common.{◌≡◌, ◌+◌, ◌≤◌, length, [], ◌∷�
 use Rattle.std.proofs.lemmas.Grind.{common_steps}
 use Rattle.std.specs.Str.{is_utf8}
 use Rattle.qs_spec.specs.Data as d
-use Rattle.qs_spec.specs.toward.ReadFunction.{any_data, read_pairs}
+use Rattle.qs_spec.specs.internal.ReadFunction.{any_data, read_pairs}
 use Rattle.qs_spec.specs.Scalar.{key_data}
 use Rattle.qs_spec.specs.Segment.{Step, segment_text}
 use Rattle.qs_spec.specs.Shape.{KeyShape}

@@ -1,5 +1,5 @@
 use Rattle.std.proofs.Common.{◌≡◌, ◌≤◌, false, map}
-use Rattle.qs_spec.specs.toward.ReadFunction.{any_data, read_pairs}
+use Rattle.qs_spec.specs.internal.ReadFunction.{any_data, read_pairs}
 use Rattle.qs_spec.specs.Shape.{KeyShape}
 use Rattle.qs_tree.specs.Views.{entries_of_map}
 use Rattle.qs_data.specs.declared.read.nested.Level.TheVariants as level

@@ -1,6 +1,7 @@
+-- Steps of proofs: nothing here adds to what a public clause means.
 pub mod InPlace
 pub mod ReadFunction
-pub mod Reading
+pub mod Parsing
 pub mod Entries
 pub mod Keys
 pub mod Parts

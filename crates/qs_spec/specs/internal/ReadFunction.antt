@@ -1,4 +1,4 @@
--- What computes the relation of reading: the same as a function, which answers the data that Relation.antt relates to a shape and a node.
+-- Reading as a function: it returns the data that Relation.antt relates to a shape and a node.
 use Rattle.std.specs.Prelude.{ℕ, ◌+◌, Bool, true, false, cond, List, [], ◌∷◌, Option, Some, None, option_map, option_and_then}
 use Rattle.std.specs.Str.{bytes_eq}
 use Rattle.qs_spec.specs.Segment.{segment_text}
@@ -8,7 +8,7 @@ use Rattle.qs_spec.specs.Tree.Tree.{leaf, sequence, mapping, uninitialized}
 use Rattle.qs_spec.specs.Tree.Items.{no_items, item}
 use Rattle.qs_spec.specs.Tree.Entries.{no_entries, entry}
 use Rattle.qs_spec.specs.Node.{last_item, is_place, are_ints, items, found, keys_are_allowed, under_empty, as_map}
-use Rattle.qs_spec.specs.Config.{Config, are_refused}
+use Rattle.qs_spec.specs.Config.{Config, are_rejected}
 use Rattle.qs_spec.specs.Data.{Data, Values, no_values, one_value, Pairs, no_pairs, one_pair, values_of, pairs_of, members_of, Named}
 use Rattle.qs_spec.specs.Shape.{Shape, Shapes, no_shapes, one_shape, Fields, no_fields, one_field, Variants, no_variants, one_variant, VariantKind, unit_kind, newtype_kind, tuple_kind, struct_kind, KeyShape, is_option}
 use Rattle.qs_spec.specs.Scalar.{boolean_data, unsigned_data, signed_data, character_data, text_data, key_data}
@@ -184,4 +184,4 @@ unfoldable mutual
 
 -- what a configuration and a shape read from a node
 abbrev pub read_by : Config → Shape → Reader
-read_by config s t = reads (are_refused config.duplicates) s t
+read_by config s t = reads (are_rejected config.duplicates) s t

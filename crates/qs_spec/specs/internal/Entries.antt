@@ -2,25 +2,23 @@
 use Rattle.std.specs.Prelude.{ℕ, ◌+◌, ◌<◌, ◌≤◌, Bool, ◌&&◌, ◌||◌, ◌==◌, IsFalse, List, [], ◌∷◌, length, map, Option, Some, None, ⊤}
 use Rattle.std.specs.List.{AllByRecursion}
 use Rattle.qs_spec.specs.Escape.{encoded}
+use Rattle.qs_spec.specs.Token.{is_bracket}
 use Rattle.qs_spec.specs.Segment.{Step, step_of}
 use Rattle.qs_spec.specs.Leaf.{Leaf, value_leaf}
 use Rattle.qs_spec.specs.Leaf.Leaf.{NoValue}
-use Rattle.qs_spec.specs.Grammar.{Pair, plain}
+use Rattle.qs_spec.specs.Grammar.{Pair, direct}
 use Rattle.qs_spec.specs.Entry.{Path, Entry}
 
-abbrev pub leaf_of : Bool → Option (List ℕ) → Leaf
-leaf_of form None = NoValue
-leaf_of form (Some bytes) = value_leaf (encoded form bytes)
+abbrev pub entry_leaf : Bool → Option (List ℕ) → Leaf
+entry_leaf form None = NoValue
+entry_leaf form (Some bytes) = value_leaf (encoded form bytes)
 
 abbrev pub steps : Bool → Path → List Step
 steps form path = map (λ s. step_of (encoded form s)) path
 
 -- the pair as which an entry is read
-abbrev pub pair_of : Bool → Entry → Pair
-pair_of form e = plain (steps form e.path) (leaf_of form e.value)
-
-abbrev pub is_bracket : ℕ → Bool
-is_bracket b = b == 91 || b == 93
+abbrev pub entry_pair : Bool → Entry → Pair
+entry_pair form e = direct (steps form e.path) (entry_leaf form e.value)
 
 -- a segment that is some bytes, and in form mode holds no bracket
 abbrev pub IsSegment : Bool → List ℕ → Type 0

@@ -1,4 +1,4 @@
--- What one pair does to a tree in place, as the scan does it: by the manner of the pair and the node that it meets.
+-- What one pair does to a tree in place, as the parser does it: by cases on the pair and the node at its path.
 use Rattle.std.specs.Prelude.{Bool, true, false, List, [], ◌∷◌, Option, Some, None, option_map, option_and_then}
 use Rattle.std.specs.declared.cmp.Ordering.{Ordering}
 use Rattle.std.specs.declared.cmp.Ordering.TheVariants.{Less, Equal, Greater}
@@ -10,7 +10,7 @@ use Rattle.qs_spec.specs.Tree.Tree.{leaf, sequence, mapping, uninitialized}
 use Rattle.qs_spec.specs.Tree.Items.{item, no_items}
 use Rattle.qs_spec.specs.Tree.Entries.{entry, no_entries}
 
--- the entries with what f makes of the one at a segment, which may be fresh
+-- the entries, of which f changes the one at a segment; a missing one is uninitialized before
 abbrev pub update_by : Ordering → Step → (Tree → Option Tree) → Segment → Bool → Tree → Entries → Option Entries → Option Entries
 update_by Less s f k m t es more = option_map (λ u. entry s.seg s.mark u (entry k m t es)) (f uninitialized)
 update_by Equal s f k m t es more = option_map (λ u. entry k m u es) (f t)
@@ -34,7 +34,7 @@ add_flat true l (leaf o) = None
 add_flat b l (sequence xs) = Some (sequence (push_item xs (leaf l)))
 add_flat b l (mapping es) = None
 
--- at the pair's own path; a plain leaf at a map goes to the empty text
+-- at the pair's own path; a direct leaf at a map is put under the empty key
 abbrev pub add_here : Bool → Leaf → Tree → Option Tree
 add_here false l (mapping es) = option_map mapping (update empty_step (add_flat false l) es)
 add_here b l (leaf o) = add_flat b l (leaf o)
@@ -42,7 +42,7 @@ add_here b l (sequence xs) = add_flat b l (sequence xs)
 add_here b l uninitialized = add_flat b l uninitialized
 add_here true l (mapping es) = None
 
--- at a node on the way
+-- at a node before the last one of the path
 abbrev pub add_below : Step → (Tree → Option Tree) → Tree → Option Tree
 add_below s f uninitialized = option_map (λ u. mapping (entry s.seg s.mark u no_entries)) (f uninitialized)
 add_below s f (leaf o) = None

@@ -1,20 +1,15 @@
--- Keys as they are written and read back, and as they are looked up.
+-- Keys that are written, read back and looked up.
 use Rattle.std.specs.Prelude.{◌≡◌, ℕ, ◌≤◌, Bool, false, ◌&&◌, ◌==◌, not, List, [], ◌∷◌, Option, Some, None, if◌then◌else◌, ⊤}
 use Rattle.std.specs.declared.cmp.Ordering.TheVariants.{Less}
 use Rattle.qs_spec.specs.Segment.{Segment, number, is_index, compare_segments, is_same_segment}
 use Rattle.qs_spec.specs.Segment.Segment.{Int, Str}
+use Rattle.qs_spec.specs.Scalar.{has_leading_zero}
 use Rattle.qs_spec.specs.Tree.{Tree, Entries}
 use Rattle.qs_spec.specs.Tree.Entries.{entry, no_entries}
 
 -- the segment as which bytes are read that were written: their number, or themselves
 abbrev pub written_segment : List ℕ → Segment
 written_segment s = if is_index s then Int (number s) else Str s
-
--- a zero, and bytes after it
-abbrev pub has_leading_zero : List ℕ → Bool
-has_leading_zero [] = false
-has_leading_zero (b ∷ []) = false
-has_leading_zero (b ∷ c ∷ s) = b == 48
 
 -- the number that is printed so, if one of 32 bits is
 abbrev pub printed_index : List ℕ → Option ℕ

@@ -1,11 +1,11 @@
--- The grammar as a function: it reads the pairs of some tokens from the left, one after the other, and returns what it read and what is left.
+-- The grammar as a function: it parses the pairs of some tokens from the left, and returns what it parsed and the tokens that are left.
 use Rattle.std.specs.Prelude.{ℕ, zero, suc, Bool, true, false, List, [], ◌∷◌, ◌++◌, length, Option, Some, None, option_map}
 use Rattle.qs_spec.specs.Token.{Kind, Token, raw_of}
 use Rattle.qs_spec.specs.Segment.{Step}
 use Rattle.qs_spec.specs.Leaf.{Leaf, value_leaf}
 use Rattle.qs_spec.specs.Token.Kind.{Amp, Equals, Open, Close, Other}
 use Rattle.qs_spec.specs.Leaf.Leaf.{NoValue}
-use Rattle.qs_spec.specs.Grammar.{Pair, plain, pushed, is_amp, is_close, ends_last, ends_root, root, longer}
+use Rattle.qs_spec.specs.Grammar.{Pair, direct, pushed, is_amp, is_close, ends_last, ends_root, root, longer}
 
 abbrev pub Rest : Type 0 → Type 0
 Rest A = Option (A × List Token)
@@ -29,9 +29,9 @@ value_at Open t ts = None
 value_at Close t ts = None
 value_at Other t ts = None
 
-abbrev pub read_value : List Token → Rest Leaf
-read_value [] = Some (NoValue, [])
-read_value (t ∷ ts) = value_at t.kind t ts
+abbrev pub parsed_value : List Token → Rest Leaf
+parsed_value [] = Some (NoValue, [])
+parsed_value (t ∷ ts) = value_at t.kind t ts
 
 abbrev pub with_leaf : (Leaf → Pair) → Rest Leaf → Rest Pair
 with_leaf pair None = None
@@ -42,13 +42,13 @@ Deeper = List Step → List ℕ → List Token → Rest Pair
 
 abbrev pub after_close_at : Kind → Deeper → List Step → Token → List Token → Rest Pair
 after_close_at Open deeper q u rest = deeper q u.raw rest
-after_close_at Amp deeper q u rest = with_leaf (plain q) (value_at Amp u rest)
-after_close_at Equals deeper q u rest = with_leaf (plain q) (value_at Equals u rest)
+after_close_at Amp deeper q u rest = with_leaf (direct q) (value_at Amp u rest)
+after_close_at Equals deeper q u rest = with_leaf (direct q) (value_at Equals u rest)
 after_close_at Close deeper q u rest = None
 after_close_at Other deeper q u rest = None
 
 abbrev pub after_close : Deeper → List Step → List Token → Rest Pair
-after_close deeper q [] = with_leaf (plain q) (read_value [])
+after_close deeper q [] = with_leaf (direct q) (parsed_value [])
 after_close deeper q (u ∷ rest) = after_close_at u.kind deeper q u rest
 
 abbrev pub after_run : Deeper → List Step → List Token → Rest Pair
@@ -56,30 +56,30 @@ after_run deeper q [] = None
 after_run deeper q (t ∷ rest) = after_close deeper q rest
 
 abbrev pub last_key : List Step → List ℕ → Token → List Token × List Token → Rest Pair
-last_key path bracket t c = with_leaf (plain (longer path (bracket ++ t.raw ++ raw_of c.0))) (read_value c.1)
+last_key path bracket t c = with_leaf (direct (longer path (bracket ++ t.raw ++ raw_of c.0))) (parsed_value c.1)
 
 abbrev pub in_last : Bool → List Step → List ℕ → Token → List Token → Rest Pair
-in_last true path bracket t ts = with_leaf (pushed path) (read_value ts)
+in_last true path bracket t ts = with_leaf (pushed path) (parsed_value ts)
 in_last false path bracket t ts = last_key path bracket t (cut ends_last ts)
 
 abbrev pub in_segment : Bool → Deeper → List Step → Token → List Token → Rest Pair
-in_segment true deeper path t ts = with_leaf (pushed path) (read_value ts)
+in_segment true deeper path t ts = with_leaf (pushed path) (parsed_value ts)
 in_segment false deeper path t ts = after_run deeper (longer path (raw_of (t ∷ (cut is_close ts).0))) (cut is_close ts).1
 
-abbrev pub read_brackets : ℕ → Deeper
-read_brackets zero path bracket [] = None
-read_brackets zero path bracket (t ∷ ts) = in_last (is_close t.kind) path bracket t ts
-read_brackets (suc room) path bracket [] = None
-read_brackets (suc room) path bracket (t ∷ ts) = in_segment (is_close t.kind) (read_brackets room) path t ts
+abbrev pub parsed_brackets : ℕ → Deeper
+parsed_brackets zero path bracket [] = None
+parsed_brackets zero path bracket (t ∷ ts) = in_last (is_close t.kind) path bracket t ts
+parsed_brackets (suc room) path bracket [] = None
+parsed_brackets (suc room) path bracket (t ∷ ts) = in_segment (is_close t.kind) (parsed_brackets room) path t ts
 
 abbrev pub named : List Token → List Token → Rest Pair
 named [] rest = None
-named (t ∷ key) rest = Some (plain (root (t ∷ key)) NoValue, rest)
+named (t ∷ key) rest = Some (direct (root (t ∷ key)) NoValue, rest)
 
 abbrev pub after_root_at : Kind → ℕ → List Token → Token → List Token → Rest Pair
 after_root_at Amp depth key t rest = named key (t ∷ rest)
-after_root_at Equals depth key t rest = with_leaf (plain (root key)) (value_at Equals t rest)
-after_root_at Open depth key t rest = read_brackets depth (root key) t.raw rest
+after_root_at Equals depth key t rest = with_leaf (direct (root key)) (value_at Equals t rest)
+after_root_at Open depth key t rest = parsed_brackets depth (root key) t.raw rest
 after_root_at Close depth key t rest = None
 after_root_at Other depth key t rest = None
 
@@ -87,26 +87,26 @@ abbrev pub after_root : ℕ → List Token → List Token → Rest Pair
 after_root depth key [] = named key []
 after_root depth key (t ∷ rest) = after_root_at t.kind depth key t rest
 
-abbrev pub read_pair : ℕ → List Token → Rest Pair
-read_pair depth ts = after_root depth (cut (ends_root depth) ts).0 (cut (ends_root depth) ts).1
+abbrev pub parsed_pair : ℕ → List Token → Rest Pair
+parsed_pair depth ts = after_root depth (cut (ends_root depth) ts).0 (cut (ends_root depth) ts).1
 
 -- one pair, and then the others
-abbrev pub read_pairs_at : Bool → Option (List Pair) → Rest Pair → (List Token → Option (List Pair)) → Option (List Pair)
-read_pairs_at true skipped pair more = skipped
-read_pairs_at false skipped None more = None
-read_pairs_at false skipped (Some r) more = option_map (λ ps. r.0 ∷ ps) (more r.1)
+abbrev pub parsed_pairs_at : Bool → Option (List Pair) → Rest Pair → (List Token → Option (List Pair)) → Option (List Pair)
+parsed_pairs_at true skipped pair more = skipped
+parsed_pairs_at false skipped None more = None
+parsed_pairs_at false skipped (Some r) more = option_map (λ ps. r.0 ∷ ps) (more r.1)
 
--- The number bounds the turns. The count of the tokens is always enough.
-abbrev pub read_pairs : ℕ → ℕ → List Token → Option (List Pair)
-read_pairs depth zero [] = Some []
-read_pairs depth zero (t ∷ ts) = None
-read_pairs depth (suc n) [] = Some []
-read_pairs depth (suc n) (t ∷ ts) = read_pairs_at (is_amp t.kind) (read_pairs depth n ts) (read_pair depth (t ∷ ts)) (read_pairs depth n)
+-- The number bounds the steps; the count of the tokens is always enough.
+abbrev pub parsed_pairs_within : ℕ → ℕ → List Token → Option (List Pair)
+parsed_pairs_within depth zero [] = Some []
+parsed_pairs_within depth zero (t ∷ ts) = None
+parsed_pairs_within depth (suc n) [] = Some []
+parsed_pairs_within depth (suc n) (t ∷ ts) = parsed_pairs_at (is_amp t.kind) (parsed_pairs_within depth n ts) (parsed_pair depth (t ∷ ts)) (parsed_pairs_within depth n)
 
-abbrev pub pairs_of : ℕ → List Token → Option (List Pair)
-pairs_of depth ts = read_pairs depth (length ts) ts
+abbrev pub parsed_pairs : ℕ → List Token → Option (List Pair)
+parsed_pairs depth ts = parsed_pairs_within depth (length ts) ts
 
--- a pair that was read, and the pairs of what is left
+-- a pair that was parsed, and the pairs of the tokens that are left
 abbrev pub and_pairs : ℕ → Rest Pair → Option (List Pair)
 and_pairs depth None = None
-and_pairs depth (Some r) = option_map (λ ps. r.0 ∷ ps) (pairs_of depth r.1)
+and_pairs depth (Some r) = option_map (λ ps. r.0 ∷ ps) (parsed_pairs depth r.1)

@@ -3,7 +3,7 @@ use Rattle.std.specs.Prelude.{ℕ, List, [], ◌∷◌, length}
 use Rattle.qs_spec.specs.Segment.{Step}
 use Rattle.qs_spec.specs.Tree.{Tree}
 use Rattle.qs_spec.specs.Tree.Tree.{leaf, sequence, mapping, uninitialized}
-use Rattle.qs_tree.specs.Views.{pairs_of}
+use Rattle.qs_tree.specs.tree.Views.{pairs_of}
 
 -- at its root
 abbrev pub root_keys : Tree → ℕ

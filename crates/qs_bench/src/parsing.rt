@@ -3,7 +3,7 @@
 ghost use Rattle.std.specs.Prelude.{◌≡◌, IsTrue, IsFalse};
 ghost use Rattle.qs_spec.specs.Config.{default};
 ghost use Rattle.qs_spec.specs.Tree.{Tree, IsTree};
-ghost use Rattle.qs_tree.specs.Views.{tree_of};
+ghost use Rattle.qs_tree.specs.tree.Views.{tree_of};
 ghost use Rattle.qs_bench.specs.Keys.{root_keys, first_keys};
 
 use qs_tree::{Config, ParsedValue, parse};

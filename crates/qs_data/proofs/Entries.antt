@@ -8,7 +8,7 @@ use Rattle.qs_spec.specs.Segment.{Segment, Step, segment_text}
 use Rattle.qs_spec.specs.Tree.{Tree, Entries}
 use Rattle.qs_spec.specs.Tree.Entries.{no_entries, entry}
 use Rattle.qs_spec.specs.Node.{keys_are_text}
-use Rattle.qs_tree.specs.Views.{pairs_of}
+use Rattle.qs_tree.specs.tree.Views.{pairs_of}
 use Rattle.qs_data.specs.Text.{is_text, entries_are_text}
 use Rattle.qs_data.specs.Keys.{NumbersFit, KeyFits, Tells, entries_after}
 use Rattle.qs_data.proofs.Refusals.{and_left, and_right}

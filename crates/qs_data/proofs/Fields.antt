@@ -12,8 +12,8 @@ use Rattle.qs_spec.specs.Tree.Items.{no_items, item}
 use Rattle.qs_spec.specs.Tree.Entries.{no_entries, entry}
 use Rattle.qs_spec.specs.Node.{found}
 use Rattle.qs_spec.specs.internal.ReadFunction.{Reader, reads, reads_names, reads_places, read_field, read_place, with_field, items_after}
-use Rattle.qs_tree.specs.Views.{tree_of, items_from}
-use Rattle.qs_tree.specs.declared.value.ParsedValue.{ParsedValue}
+use Rattle.qs_tree.specs.tree.Views.{tree_of, items_from}
+use Rattle.qs_tree.specs.declared.tree.value.ParsedValue.{ParsedValue}
 use Rattle.qs_data.specs.declared.shape.Field as f
 use Rattle.qs_data.specs.declared.shape.Field.{Field, out-Field}
 use Rattle.qs_data.specs.Views.{field_of, fields_in, shape_of}

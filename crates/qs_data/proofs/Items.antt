@@ -10,10 +10,10 @@ use Rattle.qs_spec.specs.Node.{sequence_items, placed, is_place, is_int, are_int
 use Rattle.std.specs.declared.alloc.Global.{Global}
 use Rattle.std.specs.declared.borrow.CowSlice.{CowSlice}
 use Rattle.std.specs.declared.borrow.CowSlice.TheVariants.{Borrowed, Owned}
-use Rattle.qs_tree.specs.declared.key.Key.{Key}
-use Rattle.qs_tree.specs.declared.key.Key.TheVariants as key
-use Rattle.qs_tree.specs.Views.{tree_of, items_from, pairs_of, segment_of_key}
-use Rattle.qs_tree.specs.declared.value.ParsedValue.{ParsedValue}
+use Rattle.qs_tree.specs.declared.tree.key.Key.{Key}
+use Rattle.qs_tree.specs.declared.tree.key.Key.TheVariants as key
+use Rattle.qs_tree.specs.tree.Views.{tree_of, items_from, pairs_of, segment_of_key}
+use Rattle.qs_tree.specs.declared.tree.value.ParsedValue.{ParsedValue}
 use Rattle.std.specs.Borrow.{Bor}
 use Rattle.std.specs.Slice.{IsItemAt}
 use Rattle.std.specs.Option.{option_map, option_and_then}

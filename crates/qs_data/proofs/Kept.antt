@@ -6,8 +6,8 @@ use Rattle.std.proofs.lemmas.List.Sums.{fails_before_first}
 use Rattle.std.proofs.Math.ListN.{drop_of_length-le}
 use Rattle.std.specs.List.{position}
 use Rattle.qs_spec.specs.Escape.{spelling, encoded}
-use Rattle.qs_tree.specs.Search.{is_encoded}
-use Rattle.qs_tree.proofs.FirstPlace.{position_some_is, all_fail}
+use Rattle.qs_tree.specs.escape.Classes.{is_encoded}
+use Rattle.qs_tree.proofs.lemmas.escape.FirstPlace.{position_some_is, all_fail}
 
 alone : (form : Bool) (b : ℕ) → is_encoded form b ≡ false → spelling form b ≡ b ∷ []
 alone true b is = cond-true _ _ _ (not-false _ is)

@@ -15,9 +15,9 @@ use Rattle.qs_spec.specs.Tree.Entries.{no_entries, entry}
 use Rattle.qs_spec.specs.Node.{found}
 use Rattle.std.specs.Option.{option_map}
 use Rattle.std.specs.Borrow.{Bor}
-use Rattle.qs_tree.specs.declared.value.ParsedValue.{ParsedValue}
-use Rattle.qs_tree.specs.Views.{find, tree_of}
-use Rattle.qs_tree.specs.Ordered.{IsBefore, AreOrdered}
+use Rattle.qs_tree.specs.declared.tree.value.ParsedValue.{ParsedValue}
+use Rattle.qs_tree.specs.tree.Views.{find, tree_of}
+use Rattle.qs_tree.specs.tree.Ordered.{IsBefore, AreOrdered}
 use Rattle.qs_data.specs.Keys.{NumbersFit, value_in}
 
 -- what comes after a key is not that key

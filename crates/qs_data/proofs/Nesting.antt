@@ -17,7 +17,7 @@ use Rattle.qs_spec.specs.Tree.Entries.{entry}
 use Rattle.qs_spec.specs.Node.{items, are_ints, placed, sequence_items}
 use Rattle.qs_spec.specs.internal.ReadFunction.{any_data, read_each, read_pairs, with_front}
 use Rattle.qs_data.specs.declared.read.error.ReadError.{ReadError}
-use Rattle.qs_tree.specs.Views.{entries_of_map, pairs_of as steps_of}
+use Rattle.qs_tree.specs.tree.Views.{entries_of_map, pairs_of as steps_of}
 use Rattle.qs_data.specs.declared.data.Data as r
 use Rattle.qs_data.specs.declared.read.items.Items.{Items as Node}
 use Rattle.qs_data.specs.declared.read.nested.MapLevel.{MapLevel}

@@ -10,7 +10,7 @@ use Rattle.qs_spec.specs.Tree.{Tree, Entries}
 use Rattle.qs_spec.specs.Tree.Entries.{no_entries, entry}
 use Rattle.qs_spec.specs.Node.{under_empty}
 use Rattle.qs_spec.specs.internal.ReadFunction.{Reader, read_pairs, with_front}
-use Rattle.qs_tree.specs.Views.{pairs_of}
+use Rattle.qs_tree.specs.tree.Views.{pairs_of}
 use Rattle.qs_data.specs.Keys.{entries_after}
 use Rattle.qs_data.specs.Text.{is_text, entries_are_text}
 use Rattle.qs_data.proofs.Entries.{after_some, after_none, after_all}

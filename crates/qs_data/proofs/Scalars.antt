@@ -14,8 +14,8 @@ use Rattle.qs_spec.specs.Data.{Data}
 use Rattle.qs_spec.specs.Scalar.{boolean_data, unsigned_data, signed_data, character_data, only_character}
 use Rattle.qs_spec.specs.Node.{last_item, item_text}
 use Rattle.qs_spec.specs.internal.ReadFunction.{read_scalar}
-use Rattle.qs_tree.specs.Views.{tree_of, items_from}
-use Rattle.qs_tree.specs.declared.value.ParsedValue.{ParsedValue}
+use Rattle.qs_tree.specs.tree.Views.{tree_of, items_from}
+use Rattle.qs_tree.specs.declared.tree.value.ParsedValue.{ParsedValue}
 use Rattle.qs_data.proofs.Numbers.{word_text, unsigned_text, signed_text}
 use Rattle.qs_data.specs.declared.read.error.ReadError.{ReadError}
 use Rattle.qs_data.specs.ReadError.{Gives}

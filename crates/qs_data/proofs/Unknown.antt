@@ -4,7 +4,7 @@ use Rattle.qs_spec.specs.Segment.{Step, segment_text}
 use Rattle.qs_spec.specs.Shape.{Fields, is_field_name}
 use Rattle.qs_spec.specs.Tree.{Tree, Entries}
 use Rattle.qs_spec.specs.Node.{keys_are_names}
-use Rattle.qs_tree.specs.Views.{pairs_of}
+use Rattle.qs_tree.specs.tree.Views.{pairs_of}
 use Rattle.qs_data.specs.Gives.{when}
 use Rattle.qs_data.specs.Keys.{entries_after}
 use Rattle.qs_data.proofs.Entries.{after_some, after_none, after_all}

@@ -18,8 +18,8 @@ use Rattle.qs_spec.specs.Tree.Tree.{mapping}
 use Rattle.qs_spec.specs.Tree.Entries.{entry}
 use Rattle.qs_spec.specs.Node.{as_map, under_empty}
 use Rattle.qs_spec.specs.internal.ReadFunction.{read_enum, reads, reads_variant, reads_kind, unit_variant_data, is_unit_kind}
-use Rattle.qs_tree.specs.Views.{tree_of}
-use Rattle.qs_tree.specs.declared.value.ParsedValue as value
+use Rattle.qs_tree.specs.tree.Views.{tree_of}
+use Rattle.qs_tree.specs.declared.tree.value.ParsedValue as value
 use Rattle.qs_data.specs.declared.shape.Variant as v
 use Rattle.qs_data.specs.declared.shape.Variant.{Variant, out-Variant}
 use Rattle.qs_data.specs.Views.{variant_of, variants_in, kind_of}

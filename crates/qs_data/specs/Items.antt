@@ -2,7 +2,7 @@
 use Rattle.std.specs.Prelude.{Bool, true, cond, ◌&&◌, List, [], ◌∷◌, map, Option, Some, None}
 use Rattle.qs_spec.specs.Tree.{Tree}
 use Rattle.qs_spec.specs.Node.{sequence_items, placed}
-use Rattle.qs_tree.specs.Views.{tree_of, items_from, entries_of_map}
+use Rattle.qs_tree.specs.tree.Views.{tree_of, items_from, entries_of_map}
 use Rattle.qs_data.specs.declared.read.items.Items.{Items}
 use Rattle.qs_data.specs.declared.read.items.Items.TheVariants.{Empty, One, Sequence, Places}
 use Rattle.qs_data.specs.Text.{is_text}

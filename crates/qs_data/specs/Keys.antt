@@ -1,13 +1,13 @@
 -- What is found under a name.
 use Rattle.std.specs.Prelude.{◌≡◌, ℕ, zero, suc, ◌<◌, ◌^◌, ⊤, Bool, true, false, Result, Ok, Err, List, [], ◌∷◌, Option, Some, None, decimal}
 use Rattle.std.specs.Borrow.{Bor}
-use Rattle.qs_tree.specs.declared.value.ParsedValue.{ParsedValue}
+use Rattle.qs_tree.specs.declared.tree.value.ParsedValue.{ParsedValue}
 use Rattle.qs_spec.specs.Segment.{Segment}
 use Rattle.qs_spec.specs.Segment.Segment.{Int, Str}
 use Rattle.qs_spec.specs.Tree as t
 use Rattle.qs_spec.specs.Tree.Entries.{no_entries, entry}
 use Rattle.qs_spec.specs.Node.{under_empty}
-use Rattle.qs_tree.specs.Views.{tree_of, entries_of_map}
+use Rattle.qs_tree.specs.tree.Views.{tree_of, entries_of_map}
 use Rattle.qs_data.specs.declared.read.keys.Found.{Found}
 use Rattle.qs_data.specs.declared.read.keys.Found.TheVariants.{Missing, One, Several}
 use Rattle.qs_data.specs.declared.read.keys.Entries.{Entries}

@@ -4,7 +4,7 @@ use Rattle.qs_spec.specs.Data.{Data, values_of, pairs_of}
 use Rattle.qs_spec.specs.Shape.{KeyShape}
 use Rattle.qs_spec.specs.Tree.{Tree, Entries}
 use Rattle.qs_spec.specs.internal.ReadFunction.{any_data, read_each, read_pairs, with_front}
-use Rattle.qs_tree.specs.Views.{entries_of_map}
+use Rattle.qs_tree.specs.tree.Views.{entries_of_map}
 use Rattle.qs_data.specs.declared.read.error.ReadError.{ReadError}
 use Rattle.qs_data.specs.declared.read.nested.Level.{Level}
 use Rattle.qs_data.specs.declared.read.nested.Level.TheVariants as level

@@ -6,8 +6,8 @@ use Rattle.qs_spec.specs.Tree.{Tree}
 use Rattle.qs_spec.specs.Relation.{ReadsBy, ReadsNothing}
 use Rattle.qs_tree.specs.declared.error.Error.{Error}
 use Rattle.qs_tree.specs.declared.error.Error.TheVariants.{Custom, Utf8, OutOfMemory}
-use Rattle.qs_tree.specs.Owned.{owns}
-use Rattle.qs_tree.specs.Views.{tree_of}
+use Rattle.qs_tree.specs.tree.Owned.{owns}
+use Rattle.qs_tree.specs.tree.Views.{tree_of}
 use Rattle.qs_data.specs.declared.data.Data.{Data}
 use Rattle.qs_data.specs.declared.deserializer.Deserializer.{Deserializer}
 use Rattle.qs_data.specs.Text.{is_text}

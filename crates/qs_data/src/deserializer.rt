@@ -9,7 +9,7 @@ ghost use Rattle.qs_spec.specs.Order.{AreAlike, unmarked};
 ghost use Rattle.qs_spec.specs.Shape.{is_distinct};
 ghost use Rattle.qs_spec.specs.Tree.{Tree, IsTree, IsRefused};
 ghost use Rattle.qs_tree.specs.Error.{IsParse, IfParse, IsOutOfMemory, OnlyOutOfMemory, OnlyParseOrOutOfMemory};
-ghost use Rattle.qs_tree.specs.Small.{TakesNoMemory};
+ghost use Rattle.qs_tree.specs.Parsing.{TakesNoMemory};
 ghost use Rattle.qs_data.specs.Views.{shape_of};
 ghost use Rattle.qs_data.specs.Gives.{OnlyCustomUtf8OrOutOfMemory, takes_no_memory};
 ghost use Rattle.qs_data.specs.Parsed.{ReturnsData, SparesMemory, owned_by, parsed_of};

@@ -2,7 +2,7 @@
 
 ghost use Rattle.qs_spec.specs.Node.{found};
 ghost use Rattle.qs_spec.specs.internal.ReadFunction.{read_by};
-ghost use Rattle.qs_tree.specs.Views.{tree_of, entries_of_map};
+ghost use Rattle.qs_tree.specs.tree.Views.{tree_of, entries_of_map};
 ghost use Rattle.qs_data.specs.Views.{data_of, shape_of};
 ghost use Rattle.qs_data.specs.Text.{is_text};
 ghost use Rattle.qs_data.specs.Gives.{Gives, OnlyCustomUtf8OrOutOfMemory};

@@ -18,7 +18,7 @@ pub(crate) mod width;
 ghost use Rattle.std.specs.Prelude.{IsTrue, true};
 ghost use Rattle.qs_spec.specs.internal.ReadFunction.{reads, read_ignored, read_option};
 ghost use Rattle.qs_spec.specs.Shape as s;
-ghost use Rattle.qs_tree.specs.Views.{tree_of};
+ghost use Rattle.qs_tree.specs.tree.Views.{tree_of};
 ghost use Rattle.qs_data.specs.Views.{data_of, fields_in, key_shape_of, shape_of, shapes_in};
 ghost use Rattle.qs_data.specs.Text.{is_text};
 ghost use Rattle.qs_data.specs.Gives.{takes_no_memory};

@@ -5,7 +5,7 @@ use Rattle.qs_spec.specs.Segment.{Step, segment_text}
 use Rattle.qs_spec.specs.Shape.{Shape}
 use Rattle.qs_spec.specs.Tree.{Tree, Entries}
 use Rattle.qs_spec.specs.internal.ReadFunction.{reads}
-use Rattle.qs_tree.specs.Views.{pairs_of}
+use Rattle.qs_tree.specs.tree.Views.{pairs_of}
 use Rattle.qs_data.specs.Keys.{entries_after}
 use Rattle.qs_data.proofs.Entries.{after_some, after_none, after_all}
 use Rattle.qs_explain.specs.Unexpected.{first_other}

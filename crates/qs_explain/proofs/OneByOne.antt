@@ -9,12 +9,12 @@ use Rattle.qs_spec.specs.Tree.{Tree, Entries}
 use Rattle.std.specs.declared.alloc.Global.{Global}
 use Rattle.std.specs.declared.borrow.CowSlice.{CowSlice}
 use Rattle.std.specs.declared.borrow.CowSlice.TheVariants.{Borrowed, Owned}
-use Rattle.qs_tree.specs.declared.value.ParsedValue as value
+use Rattle.qs_tree.specs.declared.tree.value.ParsedValue as value
 use Rattle.qs_spec.specs.Leaf.Leaf.{Text}
 use Rattle.qs_spec.specs.Tree.Tree.{leaf, uninitialized}
 use Rattle.qs_spec.specs.Node.{found}
 use Rattle.qs_spec.specs.internal.ReadFunction.{reads, read_list, read_map, read_enum, struct_members, any_data}
-use Rattle.qs_tree.specs.Views.{pairs_of, tree_of}
+use Rattle.qs_tree.specs.tree.Views.{pairs_of, tree_of}
 use Rattle.qs_data.specs.declared.shape.Field.{Field}
 use Rattle.qs_data.specs.declared.shape.Shape.{Shape}
 use Rattle.qs_data.specs.Keys.{entries_after}

@@ -5,8 +5,8 @@ use Rattle.std.specs.declared.alloc.AllocError.{AllocError}
 use Rattle.std.specs.declared.alloc.Global.{Global}
 use Rattle.std.specs.declared.borrow.CowSlice.{CowSlice}
 use Rattle.std.specs.declared.borrow.CowSlice.TheVariants.{Borrowed, Owned}
-use Rattle.qs_tree.specs.declared.value.ParsedValue as value
-use Rattle.qs_tree.specs.Views.{tree_of}
+use Rattle.qs_tree.specs.declared.tree.value.ParsedValue as value
+use Rattle.qs_tree.specs.tree.Views.{tree_of}
 use Rattle.qs_spec.specs.Segment.{Segment}
 use Rattle.qs_spec.specs.Leaf.Leaf.{NoValue, Null, Text}
 use Rattle.qs_spec.specs.Shape.{Shape}

@@ -6,9 +6,9 @@ use Rattle.qs_spec.specs.Shape.{Shape}
 use Rattle.qs_spec.specs.Tree.{Tree, Entries, IsTree, IsRefused}
 use Rattle.qs_spec.specs.internal.ReadFunction.{reads}
 use Rattle.std.specs.Borrow.{Bor}
-use Rattle.qs_tree.specs.declared.value.ParsedValue.{ParsedValue}
-use Rattle.qs_tree.specs.declared.map.ParsedMap.{ParsedMap}
-use Rattle.qs_tree.specs.Views.{tree_of, entries_of_map}
+use Rattle.qs_tree.specs.declared.tree.value.ParsedValue.{ParsedValue}
+use Rattle.qs_tree.specs.declared.tree.map.ParsedMap.{ParsedMap}
+use Rattle.qs_tree.specs.tree.Views.{tree_of, entries_of_map}
 use Rattle.qs_tree.specs.declared.error.Error.{Error}
 use Rattle.qs_tree.specs.declared.error.Error.TheVariants.{Parse}
 use Rattle.qs_explain.specs.declared.segment.Segment.{Segment}

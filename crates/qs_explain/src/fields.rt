@@ -2,7 +2,7 @@
 
 ghost use Rattle.std.specs.Prelude.{◌≡◌, []};
 ghost use Rattle.qs_spec.specs.Config.{are_rejected};
-ghost use Rattle.qs_tree.specs.Views.{tree_of};
+ghost use Rattle.qs_tree.specs.tree.Views.{tree_of};
 ghost use Rattle.qs_data.specs.Views.{field_of, fields_in, shape_of};
 ghost use Rattle.qs_data.specs.Keys as s;
 ghost use Rattle.qs_spec.specs.Node.{found};

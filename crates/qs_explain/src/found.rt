@@ -1,7 +1,7 @@
 //! What stands at a part.
 
 ghost use Rattle.std.specs.Prelude.{IfOk};
-ghost use Rattle.qs_tree.specs.Views.{tree_of};
+ghost use Rattle.qs_tree.specs.tree.Views.{tree_of};
 ghost use Rattle.qs_explain.specs.Expected.{Stands};
 
 use qs_tree::{Key, ParsedValue};

@@ -10,7 +10,7 @@ ghost use Rattle.qs_spec.specs.Leaf.Leaf.{Text};
 ghost use Rattle.qs_spec.specs.Segment.{segment_text};
 ghost use Rattle.qs_spec.specs.Shape.{are_ignored, is_field_name};
 ghost use Rattle.qs_spec.specs.Tree.Tree.{leaf};
-ghost use Rattle.qs_tree.specs.Views.{tree_of, entries_of_map, segment_of_key};
+ghost use Rattle.qs_tree.specs.tree.Views.{tree_of, entries_of_map, segment_of_key};
 ghost use Rattle.qs_data.specs.Views.{fields_in, key_shape_of, shape_of, variants_in};
 ghost use Rattle.qs_explain.specs.Explains.{segment_of, Tests};
 ghost use Rattle.qs_explain.specs.Unexpected.{first_entry, first_other, is_allowed, is_key, is_variant, unexpected_among, unexpected_key, unknown_of};

@@ -1,7 +1,7 @@
 //! The segments of a path.
 
 ghost use Rattle.std.specs.Prelude.{◌≡◌, IfOk};
-ghost use Rattle.qs_tree.specs.Views.{segment_of_key};
+ghost use Rattle.qs_tree.specs.tree.Views.{segment_of_key};
 ghost use Rattle.qs_explain.specs.Explains.{segment_of};
 
 use qs_tree::Key;

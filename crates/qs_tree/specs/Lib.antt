@@ -1,24 +1,9 @@
+-- The words of the crate's contracts. Those that a public clause uses, and that a reader must believe, are in the files named
+-- here and in `escape` and `tree`. The steps of proofs are in `internal`, and `formers` lets a tree hold its own maps.
 pub mod Settings
 pub mod Error
-pub mod Search
-pub mod Cursor
-pub mod Places
-pub mod Lending
-pub mod formers
-pub mod Views
-pub mod Ordered
-pub mod Keys
-pub mod Escapes
-pub mod Owned
-pub mod Pairs
-pub mod Raw
-pub mod Reading
-pub mod Adding
 pub mod Parsing
-pub mod Small
-pub mod Draft
-pub mod Descent
-pub mod Settling
-pub mod NodeCount
-pub mod Equality
-pub mod EqualityLaws
+pub mod escape
+pub mod tree
+pub mod formers
+pub mod internal

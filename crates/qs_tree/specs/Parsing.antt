@@ -1,38 +1,30 @@
--- What the scan returns.
-use Rattle.std.specs.Prelude.{◌≡◌, ◌≢◌, ℕ, ◌≤◌, Bool, List, Option, Some, None, option_and_then, Result, Ok, Err, ⊤}
-use Rattle.qs_spec.specs.Token.{Token}
+-- What the clauses of `parse` say of an input.
+use Rattle.std.specs.Prelude.{◌≡◌, ℕ, Bool, false, not, ◌&&◌, ◌||◌, ◌==◌, List, [], ◌∷◌, Result, Ok, Err, IsTrue, ⊤}
+use Rattle.std.specs.List.{list_all}
 use Rattle.qs_spec.specs.Tree.{Tree, IsTree, IsRefused}
 use Rattle.qs_spec.specs.Order.{unmarked}
-use Rattle.qs_spec.specs.internal.Parsing.{parsed_pairs}
-use Rattle.qs_spec.specs.internal.InPlace.{add_all}
 use Rattle.qs_tree.specs.declared.error.Error.{Error}
-use Rattle.qs_tree.specs.declared.error.Error.TheVariants.{Parse, OutOfMemory}
-use Rattle.qs_tree.specs.declared.refusal.ScanError.{ScanError}
-use Rattle.qs_tree.specs.declared.refusal.ScanError.TheVariants as scan_error
-use Rattle.qs_tree.specs.declared.value.ParsedValue.{ParsedValue}
-use Rattle.qs_tree.specs.Views.{tree_of}
+use Rattle.qs_tree.specs.declared.error.Error.TheVariants.{Parse}
+use Rattle.qs_tree.specs.declared.tree.value.ParsedValue.{ParsedValue}
+use Rattle.qs_tree.specs.escape.Classes.{is_ampersand}
+use Rattle.qs_tree.specs.tree.Views.{tree_of}
 
--- what the pairs of some tokens make of a tree
-abbrev pub grown : ℕ → List Token → Tree → Option Tree
-grown depth ts t = option_and_then (λ ps. add_all ps t) (parsed_pairs depth ts)
+-- `&` alone, or nothing
+abbrev pub is_ampersands : List ℕ → Bool
+is_ampersands bytes = list_all is_ampersand bytes
 
--- where a tree is expected, it is this one, and where none is, the scan says so; or memory ran out
-abbrev pub Finds : {A : Type 0} → (A → Tree) → Option Tree → Result A ScanError → Type 0
-Finds view expected (Ok a) = expected ≡ Some (view a)
-Finds view expected (Err e) = e ≢ scan_error.OutOfMemory → expected ≡ None
+-- no `&`, `+` or `%`
+abbrev pub is_plain : List ℕ → Bool
+is_plain bytes = list_all (λ b. not (b == 38 || b == 43 || b == 37)) bytes
 
--- the same of the error that is reported, which has a position up to this one
-abbrev pub Answers : {A : Type 0} → (A → Tree) → Option Tree → ℕ → Result A Error → Type 0
-Answers view expected bound (Ok a) = expected ≡ Some (view a)
-Answers view expected bound (Err (Parse message position)) = (expected ≡ None) × (position ≤ bound)
-Answers view expected bound (Err OutOfMemory) = Unit {0}
-Answers view expected bound (Err _) = ⊥
+-- such bytes after `=`
+abbrev pub is_plain_value : List ℕ → Bool
+is_plain_value [] = false
+is_plain_value (b ∷ value) = b == 61 && is_plain value
 
--- the error is `Parse` with a position up to this one where the scan ended otherwise than for want of memory, or that memory ran out
-abbrev pub Tells : ScanError → ℕ → Error → Type 0
-Tells e bound (Parse message position) = (e ≢ scan_error.OutOfMemory) × (position ≤ bound)
-Tells e bound OutOfMemory = Unit {0}
-Tells e bound _ = ⊥
+-- nothing, `&` alone, or an empty key with a value that stands for itself
+abbrev pub TakesNoMemory : List ℕ → Type 0
+TakesNoMemory bytes = IsTrue (is_ampersands bytes || is_plain_value bytes)
 
 -- the result holds of this input too, marks aside: it has that tree, or none where the result is that there is none
 abbrev pub HoldsOf : Bool → ℕ → List ℕ → Result ParsedValue Error → Type 0

@@ -1,5 +1,4 @@
 -- The choices of a `Config` as the meaning knows them.
-use Rattle.std.specs.Prelude.{◌≡◌, refl}
 use Rattle.qs_spec.specs.Config.{Duplicates, take_last, reject, indexed, empty_indexed, unindexed}
 use Rattle.qs_spec.specs.Config.{ArrayFormat as Places}
 use Rattle.qs_tree.specs.declared.config.ArrayFormat.{ArrayFormat}
@@ -13,28 +12,7 @@ array_format_of Indexed = indexed
 array_format_of EmptyIndexed = empty_indexed
 array_format_of Unindexed = unindexed
 
--- the format that writes places so
-abbrev pub array_format_from : Places → ArrayFormat
-array_format_from indexed = Indexed
-array_format_from empty_indexed = EmptyIndexed
-array_format_from unindexed = Unindexed
-
 -- what becomes of several values
 abbrev pub duplicates_of : DuplicateKeyBehavior → Duplicates
 duplicates_of TakeLast = take_last
 duplicates_of Error = reject
-
--- the behavior that does so
-abbrev pub duplicates_from : Duplicates → DuplicateKeyBehavior
-duplicates_from take_last = TakeLast
-duplicates_from reject = Error
-
--- nothing is lost on the way
-pub array_format_back : (f : ArrayFormat) → array_format_from (array_format_of f) ≡ f
-array_format_back Indexed = refl
-array_format_back EmptyIndexed = refl
-array_format_back Unindexed = refl
-
-pub duplicates_back : (d : DuplicateKeyBehavior) → duplicates_from (duplicates_of d) ≡ d
-duplicates_back TakeLast = refl
-duplicates_back Error = refl

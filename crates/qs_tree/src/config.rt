@@ -43,7 +43,8 @@ pub struct Config {
 
 impl Model for Config {
     ghost use Rattle.qs_spec.specs.Config.{Config as Meaning};
-    ghost use Rattle.qs_tree.specs.Settings.{array_format_of, array_format_from, array_format_back, duplicates_of, duplicates_from, duplicates_back};
+    ghost use Rattle.qs_tree.specs.Settings.{array_format_of, duplicates_of};
+    ghost use Rattle.qs_tree.specs.internal.Settings.{array_format_from, array_format_back, duplicates_from, duplicates_back};
 
     ghost Value = { Meaning };
 

@@ -1,42 +1,30 @@
 //! Querystrings as trees: configuration, errors, escapes, scanner, tree.
+//!
+//! | module | subject |
+//! |---|---|
+//! | `config`, `error` | how a querystring is parsed and written, and what goes wrong |
+//! | `escape` | decoding, encoding, searches |
+//! | `scan` | from bytes to pairs |
+//! | `build` | from pairs to a tree |
+//! | `tree` | the tree, its keys and its maps |
+//! | `parsing` | all of them: from bytes to a tree |
 #![tactic(auto)]
 
-mod add;
-mod byte_order;
+mod build;
 mod config;
-mod conflict;
-mod copying;
-mod cursor;
-mod decoding;
-mod descent;
-mod draft;
-mod draft_drop;
-mod dropping;
-mod encoding;
-mod entries;
 mod error;
-mod key;
-mod map;
-mod pair;
+mod escape;
 mod parsing;
-mod raw;
-mod reading;
-mod refusal;
-mod sameness;
-mod search;
-mod settling;
+mod scan;
 mod steps;
-mod tree_laws;
-mod value;
+mod tree;
 
 pub use crate::config::{ArrayFormat, Config, DuplicateKeyBehavior};
-pub use crate::decoding::decode;
-pub use crate::encoding::encode;
 pub use crate::error::{Error, Result};
-pub use crate::key::Key;
-pub use crate::map::ParsedMap;
+pub use crate::escape::{decode, encode, find_ampersand, find_encoded, find_escape};
 pub use crate::parsing::{parse, parse_with};
-pub use crate::search::{find_ampersand, find_encoded, find_escape};
 pub use crate::steps::Steps;
-pub use crate::tree_laws::{equality_of_keys, equality_of_values, order_of_keys};
-pub use crate::value::ParsedValue;
+pub use crate::tree::key::Key;
+pub use crate::tree::map::ParsedMap;
+pub use crate::tree::value::ParsedValue;
+pub use crate::tree::{equality_of_keys, equality_of_values, order_of_keys};

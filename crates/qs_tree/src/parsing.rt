@@ -1,5 +1,7 @@
 //! The tree of a querystring.
 
+mod refusal;
+
 ghost use Rattle.std.specs.Prelude.{◌≡◌, ◌≢◌, ◌≤◌, ◌+◌, ◌⊎◌, ℕ, List, [], length, IfOk, IsOk, IsOkAnd};
 ghost use Rattle.qs_spec.specs.Tree.{Tree, IsTree, IsRefused};
 ghost use Rattle.qs_spec.specs.Tree.Tree.{uninitialized};
@@ -9,25 +11,25 @@ ghost use Rattle.qs_spec.specs.Input.{HasPairs, IsReordered};
 ghost use Rattle.qs_spec.specs.Marks.{marks};
 ghost use Rattle.qs_spec.specs.internal.InPlace as in_place;
 ghost use Rattle.qs_tree.specs.Error.{IsParse, IfParse, IsOutOfMemory, OnlyOutOfMemory, OnlyParseOrOutOfMemory};
-ghost use Rattle.qs_tree.specs.Owned.{owns};
-ghost use Rattle.qs_tree.specs.Views.{tree_of};
-ghost use Rattle.qs_tree.specs.Pairs.{IsBare, pair_of};
-ghost use Rattle.qs_tree.specs.Cursor.{left, KnowsEnd, in_all};
-ghost use Rattle.qs_tree.specs.declared.draft.Draft.TheVariants.{Fresh};
-ghost use Rattle.qs_tree.specs.Draft.{draft_tree, IsFlat};
-ghost use Rattle.qs_tree.specs.Parsing.{grown, Answers, Finds, HoldsOf};
-ghost use Rattle.qs_tree.specs.Small.{TakesNoMemory};
+ghost use Rattle.qs_tree.specs.tree.Owned.{owns};
+ghost use Rattle.qs_tree.specs.tree.Views.{tree_of};
+ghost use Rattle.qs_tree.specs.internal.scan.Pairs.{IsBare, pair_of};
+ghost use Rattle.qs_tree.specs.internal.scan.Cursor.{left, KnowsEnd, in_all};
+ghost use Rattle.qs_tree.specs.declared.build.draft.Draft.TheVariants.{Fresh};
+ghost use Rattle.qs_tree.specs.internal.build.Draft.{draft_tree, IsFlat};
+ghost use Rattle.qs_tree.specs.internal.Parsing.{grown, Answers, Finds};
+ghost use Rattle.qs_tree.specs.Parsing.{HoldsOf, TakesNoMemory};
 
-use crate::add::add_pair;
+use crate::build::add::add_pair;
+use crate::build::draft::Draft;
 use crate::config::Config;
-use crate::cursor::Cursor;
-use crate::draft::Draft;
 use crate::error::Result;
-use crate::pair::Pair;
-use crate::reading::{Fault, Item, read_item};
-use crate::refusal::{ScanError, add_error, unread_error};
+use crate::parsing::refusal::{ScanError, add_error, unread_error};
+use crate::scan::cursor::Cursor;
+use crate::scan::pair::Pair;
+use crate::scan::reading::{Fault, Item, read_item};
 use crate::steps::Steps;
-use crate::value::ParsedValue;
+use crate::tree::value::ParsedValue;
 use std::alloc::Global;
 use std::mem;
 

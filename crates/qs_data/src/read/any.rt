@@ -1,7 +1,7 @@
 //! Reading whatever is there.
 
 ghost use Rattle.qs_spec.specs.internal.ReadFunction.{any_data};
-ghost use Rattle.qs_tree.specs.Views.{tree_of};
+ghost use Rattle.qs_tree.specs.tree.Views.{tree_of};
 ghost use Rattle.qs_data.specs.Views.{data_of};
 ghost use Rattle.qs_data.specs.Text.{is_text};
 ghost use Rattle.qs_data.specs.ReadError.{Gives};

@@ -4,7 +4,7 @@ ghost use Rattle.std.specs.Prelude.{Some, None, cond, drop, map, option_map, opt
 ghost use Rattle.qs_spec.specs.Shape.{is_option as is_option_shape};
 ghost use Rattle.qs_spec.specs.Node.{found, keys_are_allowed};
 ghost use Rattle.qs_spec.specs.internal.ReadFunction.{struct_members, reads, reads_names, reads_places, read_field, read_place};
-ghost use Rattle.qs_tree.specs.Views.{tree_of, items_from};
+ghost use Rattle.qs_tree.specs.tree.Views.{tree_of, items_from};
 ghost use Rattle.qs_data.specs.Views.{data_of, field_of, fields_in, named, shape_of};
 ghost use Rattle.qs_data.specs.Text.{is_text, items_are_text, entries_are_text};
 ghost use Rattle.qs_data.specs.ReadError.{Gives};

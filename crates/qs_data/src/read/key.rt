@@ -4,7 +4,7 @@ ghost use Rattle.std.specs.Prelude.{map, string_bytes};
 ghost use Rattle.std.specs.Str.{is_utf8};
 ghost use Rattle.qs_spec.specs.Segment.{segment_text};
 ghost use Rattle.qs_spec.specs.Scalar.{key_data, name_data};
-ghost use Rattle.qs_tree.specs.Views.{segment_of_key};
+ghost use Rattle.qs_tree.specs.tree.Views.{segment_of_key};
 ghost use Rattle.qs_data.specs.Views.{data_of, key_shape_of};
 ghost use Rattle.qs_data.specs.ReadError.{Gives};
 

@@ -4,7 +4,7 @@ ghost use Rattle.std.specs.Prelude.{◌++◌};
 ghost use Rattle.std.specs.Str.{is_utf8};
 ghost use Rattle.qs_spec.specs.Segment.{segment_text};
 ghost use Rattle.qs_spec.specs.Node.{found, keys_are_text};
-ghost use Rattle.qs_tree.specs.Views.{entries_of_map, segment_of_key};
+ghost use Rattle.qs_tree.specs.tree.Views.{entries_of_map, segment_of_key};
 ghost use Rattle.qs_data.specs.declared.read.error.ReadError.TheVariants.{Utf8};
 ghost use Rattle.qs_data.specs.Hint.{IsToldOfKey};
 ghost use Rattle.qs_data.specs.Keys.{Finds, NumbersFit, TellsNumber, KeyFits, Tells, entries_of, value_in};

@@ -3,7 +3,7 @@
 ghost use Rattle.std.specs.Prelude.{map, option_and_then, option_map};
 ghost use Rattle.qs_spec.specs.Node.{items};
 ghost use Rattle.qs_spec.specs.internal.ReadFunction.{read_each, read_list, reads, reads_tuple};
-ghost use Rattle.qs_tree.specs.Views.{tree_of};
+ghost use Rattle.qs_tree.specs.tree.Views.{tree_of};
 ghost use Rattle.qs_data.specs.Views.{data_of, shape_of, shapes_in};
 ghost use Rattle.qs_data.specs.Text.{is_text};
 ghost use Rattle.qs_data.specs.Items.{items_in, are_text};

@@ -3,7 +3,7 @@
 ghost use Rattle.std.specs.Prelude.{map};
 ghost use Rattle.qs_spec.specs.Node.{under_empty};
 ghost use Rattle.qs_spec.specs.internal.ReadFunction.{read_map, read_pairs, reads};
-ghost use Rattle.qs_tree.specs.Views.{tree_of, entries_of_map};
+ghost use Rattle.qs_tree.specs.tree.Views.{tree_of, entries_of_map};
 ghost use Rattle.qs_data.specs.Views.{key_shape_of, pair_of, shape_of};
 ghost use Rattle.qs_data.specs.Text.{is_text, entries_are_text};
 ghost use Rattle.qs_data.specs.ReadError.{Gives};

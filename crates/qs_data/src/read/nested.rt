@@ -5,7 +5,7 @@ ghost use Rattle.qs_spec.specs.Data.{values_of, pairs_of};
 ghost use Rattle.qs_spec.specs.Data.Data.{sequence, mapping};
 ghost use Rattle.qs_spec.specs.Shape.KeyShape.{text};
 ghost use Rattle.qs_spec.specs.internal.ReadFunction.{any_data, read_each, read_pairs};
-ghost use Rattle.qs_tree.specs.Views.{tree_of, entries_of_map};
+ghost use Rattle.qs_tree.specs.tree.Views.{tree_of, entries_of_map};
 ghost use Rattle.qs_data.specs.declared.read.error.ReadError.TheVariants.{OutOfMemory};
 ghost use Rattle.qs_data.specs.Views.{data_of};
 ghost use Rattle.qs_data.specs.Items.{items_in, are_text};

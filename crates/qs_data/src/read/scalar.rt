@@ -6,7 +6,7 @@ ghost use Rattle.qs_spec.specs.Data as d;
 ghost use Rattle.qs_spec.specs.Scalar.{boolean_data, unsigned_data, signed_data, character_data, text_data, unsigned_number, signed_number};
 ghost use Rattle.qs_spec.specs.Node.{last_item, item_text};
 ghost use Rattle.qs_spec.specs.internal.ReadFunction.{read_scalar, read_unit, read_character};
-ghost use Rattle.qs_tree.specs.Views.{tree_of, items_from};
+ghost use Rattle.qs_tree.specs.tree.Views.{tree_of, items_from};
 ghost use Rattle.qs_data.specs.Views.{data_of};
 ghost use Rattle.qs_data.specs.Text.{is_text};
 ghost use Rattle.qs_data.specs.ReadError.{Gives, IsFrugal};

@@ -5,7 +5,7 @@ ghost use Rattle.std.specs.Str.{is_utf8};
 ghost use Rattle.qs_spec.specs.Segment.{segment_text};
 ghost use Rattle.qs_spec.specs.Shape.{are_ignored, is_field_name};
 ghost use Rattle.qs_spec.specs.Node.{keys_are_names};
-ghost use Rattle.qs_tree.specs.Views.{entries_of_map, segment_of_key};
+ghost use Rattle.qs_tree.specs.tree.Views.{entries_of_map, segment_of_key};
 ghost use Rattle.qs_data.specs.Views.{fields_in};
 ghost use Rattle.qs_data.specs.Text.{entries_are_text};
 ghost use Rattle.qs_data.specs.Gives.{when};

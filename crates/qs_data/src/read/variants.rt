@@ -7,7 +7,7 @@ ghost use Rattle.qs_spec.specs.Shape.{struct_kind};
 ghost use Rattle.qs_spec.specs.Tree.Tree.{mapping};
 ghost use Rattle.qs_spec.specs.Node.{keys_are_allowed, as_map};
 ghost use Rattle.qs_spec.specs.internal.ReadFunction.{read_enum, reads_names, reads_places, reads_variant, reads_kind, struct_members, unit_variant_data};
-ghost use Rattle.qs_tree.specs.Views.{tree_of, entries_of_map, segment_of_key};
+ghost use Rattle.qs_tree.specs.tree.Views.{tree_of, entries_of_map, segment_of_key};
 ghost use Rattle.qs_data.specs.Views.{data_of, fields_in, named, variant_of, variants_in};
 ghost use Rattle.qs_data.specs.Text.{is_text, entries_are_text};
 ghost use Rattle.qs_data.specs.ReadError.{Gives};

@@ -9,8 +9,8 @@ use Rattle.qs_spec.specs.Segment.Segment.{Int, Str}
 use Rattle.qs_spec.specs.Shape as s
 use Rattle.qs_spec.specs.Tree.{Tree}
 use Rattle.qs_spec.specs.Tree.Tree.{leaf, sequence, mapping, uninitialized}
-use Rattle.qs_tree.specs.Views.{tree_of, items_from, entries_of_map, segment_of_key, step_of_key}
-use Rattle.qs_tree.specs.declared.value.ParsedValue as value
+use Rattle.qs_tree.specs.tree.Views.{tree_of, items_from, entries_of_map, segment_of_key, step_of_key}
+use Rattle.qs_tree.specs.declared.tree.value.ParsedValue as value
 use Rattle.qs_data.specs.declared.shape.Shape as shape
 use Rattle.qs_data.specs.declared.shape.Field.{out-Field}
 use Rattle.qs_data.specs.Views.{field_of, fields_in, key_shape_of, shape_of, shapes_in}

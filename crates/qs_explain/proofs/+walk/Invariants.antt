@@ -3,7 +3,7 @@ use Rattle.std.specs.declared.alloc.AllocError.{AllocError}
 use Rattle.qs_spec.specs.Config.{are_rejected}
 use Rattle.qs_spec.specs.Node.{items}
 use Rattle.qs_spec.specs.Tree.{Tree}
-use Rattle.qs_tree.specs.Views.{tree_of, entries_of_map}
+use Rattle.qs_tree.specs.tree.Views.{tree_of, entries_of_map}
 use Rattle.qs_data.specs.Keys.{entries_after}
 use Rattle.qs_data.specs.Views.{fields_in, shape_of, shapes_in}
 use Rattle.qs_explain.specs.declared.explanation.Mismatch.{Mismatch}

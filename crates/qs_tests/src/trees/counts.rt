@@ -1,7 +1,7 @@
 //! How many steps a short input takes, and how many keys a look-up compares: counts that have no bytes, so that contracts say them.
 
 ghost use Rattle.std.specs.Prelude.{◌≡◌, ◌≤◌, [], length, codes, IfOk};
-ghost use Rattle.qs_tree.specs.Views.{map_pairs};
+ghost use Rattle.qs_tree.specs.tree.Views.{map_pairs};
 
 use super::{Config, Error, Fail, Global};
 use qs_tree::{Key, ParsedMap, ParsedValue, Steps, parse, parse_with};

@@ -9,7 +9,7 @@ use Rattle.qs_spec.specs.Shape.{is_option as is_option_shape, are_ignored, Shape
 use Rattle.qs_spec.specs.Tree.Items.{no_items}
 use Rattle.qs_spec.specs.Node.{found, as_map, under_empty, keys_are_text, keys_are_names, keys_are_allowed, items}
 use Rattle.qs_spec.specs.internal.ReadFunction.{reads, reads_names, reads_places, reads_variant, reads_kind, read_enum, read_option, read_field, read_place, struct_members, read_each, read_list, read_pairs, reads_tuple}
-use Rattle.qs_tree.specs.Views.{tree_of, items_from, entries_of_map, step_of_key}
+use Rattle.qs_tree.specs.tree.Views.{tree_of, items_from, entries_of_map, step_of_key}
 use Rattle.qs_data.specs.declared.shape.Shape as shape
 use Rattle.qs_data.specs.declared.shape.Field.{out-Field}
 use Rattle.qs_data.specs.Views.{data_of, named, shape_of, field_of, fields_in, variant_of, variants_in, key_shape_of, pair_of, shapes_in}

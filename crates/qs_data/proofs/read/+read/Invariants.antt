@@ -1,6 +1,6 @@
 use Rattle.std.proofs.Common.{◌≡◌, map, drop}
 use Rattle.qs_spec.specs.internal.ReadFunction.{reads, read_each, read_pairs, reads_names, reads_places, reads_tuple}
-use Rattle.qs_tree.specs.Views.{tree_of, items_from, entries_of_map}
+use Rattle.qs_tree.specs.tree.Views.{tree_of, items_from, entries_of_map}
 use Rattle.qs_data.specs.Views.{data_of, named, fields_in, key_shape_of, pair_of, shape_of, shapes_in}
 use Rattle.qs_data.specs.Items.{items_in}
 use Rattle.qs_data.specs.Keys.{entries_of, entries_after}

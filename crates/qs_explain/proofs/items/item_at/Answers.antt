@@ -1,8 +1,8 @@
 use Rattle.std.proofs.Common.{◌≡◌, map, drop, rules, ap, sym, ◌∙◌}
 use Rattle.qs_spec.specs.Tree.Tree.{sequence}
 use Rattle.qs_spec.specs.Node.{items, sequence_items}
-use Rattle.qs_tree.specs.Views.{tree_of, items_from}
-use Rattle.qs_tree.specs.declared.value.ParsedValue as value
+use Rattle.qs_tree.specs.tree.Views.{tree_of, items_from}
+use Rattle.qs_tree.specs.declared.tree.value.ParsedValue as value
 use Rattle.qs_explain.specs.Children.{first_there}
 use Rattle.qs_explain.proofs.ItemsThere.{value_there, same_list}
 use Rattle.qs_explain.proofs.items.item_at.Goals as goal

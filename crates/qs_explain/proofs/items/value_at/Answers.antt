@@ -1,7 +1,7 @@
 use Rattle.std.proofs.Common.{true, false, sym}
 use Rattle.qs_spec.specs.Segment.{Step}
 use Rattle.qs_spec.specs.Tree.{Tree}
-use Rattle.qs_tree.specs.Views.{tree_of, entries_of_map, step_of_key}
+use Rattle.qs_tree.specs.tree.Views.{tree_of, entries_of_map, step_of_key}
 use Rattle.qs_explain.proofs.ItemsThere.{none_there, pair_there}
 use Rattle.qs_explain.proofs.items.value_at.Goals as goal
 

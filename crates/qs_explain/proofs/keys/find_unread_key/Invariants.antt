@@ -1,5 +1,5 @@
 use Rattle.std.proofs.Common.{◌≡◌}
-use Rattle.qs_tree.specs.Views.{entries_of_map}
+use Rattle.qs_tree.specs.tree.Views.{entries_of_map}
 use Rattle.qs_data.specs.Keys.{entries_after}
 use Rattle.qs_data.specs.Views.{key_shape_of}
 use Rattle.qs_explain.specs.Unexpected.{first_other, is_key}

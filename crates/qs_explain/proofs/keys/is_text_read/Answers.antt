@@ -2,8 +2,8 @@ use Rattle.std.proofs.Common.{◌≡◌, false, rules}
 use Rattle.qs_spec.specs.Config.{are_rejected}
 use Rattle.qs_spec.specs.Leaf.Leaf.{Text}
 use Rattle.qs_spec.specs.Tree.Tree.{leaf}
-use Rattle.qs_tree.specs.Views.{tree_of}
-use Rattle.qs_tree.specs.declared.value.ParsedValue as value
+use Rattle.qs_tree.specs.tree.Views.{tree_of}
+use Rattle.qs_tree.specs.declared.tree.value.ParsedValue as value
 use Rattle.std.specs.declared.borrow.CowSlice.TheVariants.{Borrowed}
 use Rattle.qs_data.specs.Views.{shape_of}
 use Rattle.qs_explain.proofs.KeysAllowed.{if_tests}

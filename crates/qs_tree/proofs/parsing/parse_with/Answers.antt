@@ -1,9 +1,9 @@
 use Rattle.std.proofs.Common.{Ok, sym, ap₂, ◌∙◌, ◌+◌, length}
 use Rattle.qs_spec.specs.Token.{tokens}
-use Rattle.qs_tree.specs.declared.value.ParsedValue.{NoValue}
-use Rattle.qs_tree.specs.Cursor.{left}
-use Rattle.qs_tree.proofs.Growing.{answer_tree, answer_refused}
-use Rattle.qs_tree.proofs.Parsed as parsed
+use Rattle.qs_tree.specs.declared.tree.value.ParsedValue.{NoValue}
+use Rattle.qs_tree.specs.internal.scan.Cursor.{left}
+use Rattle.qs_tree.proofs.lemmas.Growing.{answer_tree, answer_refused}
+use Rattle.qs_tree.proofs.lemmas.Parsed as parsed
 use Rattle.qs_tree.proofs.parsing.parse_with.Goals as goal
 
 pub returns-clause-tree : goal.returns-clause-tree

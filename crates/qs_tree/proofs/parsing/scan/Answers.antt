@@ -1,13 +1,13 @@
 use Rattle.std.proofs.Common.{Ok, ◌∙◌, sym, subst, arith, refl, ap, length}
-use Rattle.qs_tree.specs.Draft.{draft_tree}
-use Rattle.qs_tree.specs.Pairs.{pair_of}
-use Rattle.qs_tree.specs.Cursor.{left, to_come}
-use Rattle.qs_tree.specs.Reading.{IsEnd, IsMore, ReadsItem}
-use Rattle.qs_tree.proofs.Growing.{grown_same, grown_pair}
-use Rattle.qs_tree.specs.Parsing.{grown}
-use Rattle.qs_tree.specs.Small.{ReadsSmall}
-use Rattle.qs_tree.proofs.Views.{draft_tree-Fresh}
-use Rattle.qs_tree.proofs.SmallItems.{small_start, small_end, small_goes, small_ampersand, small_fresh}
+use Rattle.qs_tree.specs.internal.build.Draft.{draft_tree}
+use Rattle.qs_tree.specs.internal.scan.Pairs.{pair_of}
+use Rattle.qs_tree.specs.internal.scan.Cursor.{left, to_come}
+use Rattle.qs_tree.specs.internal.scan.Reading.{IsEnd, IsMore, ReadsItem}
+use Rattle.qs_tree.proofs.lemmas.Growing.{grown_same, grown_pair}
+use Rattle.qs_tree.specs.internal.Parsing.{grown}
+use Rattle.qs_tree.specs.internal.scan.Small.{ReadsSmall}
+use Rattle.qs_tree.proofs.lemmas.Views.{draft_tree-Fresh}
+use Rattle.qs_tree.proofs.lemmas.scan.SmallItems.{small_start, small_end, small_goes, small_ampersand, small_fresh}
 use Rattle.qs_tree.proofs.parsing.scan.Goals as goal
 
 pub returns-in-End-clause-end : goal.returns-in-End-clause-end

@@ -2,7 +2,7 @@ use Rattle.std.proofs.Common.{sym, true, option_map, drop}
 use Rattle.qs_spec.specs.Segment.{Step}
 use Rattle.qs_spec.specs.Tree.{Tree}
 use Rattle.qs_spec.specs.Node.{is_place, placed}
-use Rattle.qs_tree.specs.Views.{tree_of, entries_of_map, step_of_key}
+use Rattle.qs_tree.specs.tree.Views.{tree_of, entries_of_map, step_of_key}
 use Rattle.qs_data.specs.Items.{first_item, passed}
 use Rattle.qs_data.proofs.Items.{first_none, first_refused, first_given}
 use Rattle.qs_data.proofs.ReadErrors.{gives_exit}

@@ -1,4 +1,4 @@
-use Rattle.qs_tree.specs.Views.{entries_of_map}
+use Rattle.qs_tree.specs.tree.Views.{entries_of_map}
 use Rattle.qs_data.specs.Keys.{entries_after}
 use Rattle.qs_data.proofs.Entries.{Tested}
 use Rattle.qs_data.proofs.read.keys.test_map.Given as goal

@@ -1,7 +1,7 @@
 use Rattle.std.proofs.Common.{◌≡◌, ◌∙◌, ap, Some, None, option_map}
 use Rattle.qs_spec.specs.Scalar.{signed_data}
 use Rattle.qs_data.specs.Widths.{bits_of}
-use Rattle.qs_tree.specs.Views.{tree_of}
+use Rattle.qs_tree.specs.tree.Views.{tree_of}
 use Rattle.qs_data.specs.Views.{data_of}
 use Rattle.qs_data.specs.ScalarText.{scalar_text}
 use Rattle.qs_data.proofs.Scalars.{scalar_gives}

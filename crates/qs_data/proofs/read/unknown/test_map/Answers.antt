@@ -3,7 +3,7 @@ use Rattle.std.specs.Str.{is_utf8}
 use Rattle.qs_spec.specs.Segment.{segment_text}
 use Rattle.qs_spec.specs.Shape.{is_field_name}
 use Rattle.qs_spec.specs.Node.{keys_are_names}
-use Rattle.qs_tree.specs.Views.{entries_of_map, step_of_key, tree_of}
+use Rattle.qs_tree.specs.tree.Views.{entries_of_map, step_of_key, tree_of}
 use Rattle.qs_data.specs.Views.{fields_in}
 use Rattle.qs_data.specs.Text.{entries_are_text}
 use Rattle.qs_data.specs.Gives.{when}

@@ -2,7 +2,7 @@ use Rattle.std.proofs.Common.{◌≡◌, ◌+◌, ◌≤◌, length, drop, [], �
 use Rattle.std.proofs.lemmas.Grind.{common_steps}
 use Rattle.qs_spec.specs.Data as d
 use Rattle.qs_spec.specs.internal.ReadFunction.{any_data, read_each}
-use Rattle.qs_tree.specs.Views.{tree_of}
+use Rattle.qs_tree.specs.tree.Views.{tree_of}
 use Rattle.qs_data.specs.declared.read.nested.Level.TheVariants as level
 use Rattle.qs_data.specs.declared.read.nested.Node.{Node}
 use Rattle.qs_data.specs.Items.{items_in, first_item}

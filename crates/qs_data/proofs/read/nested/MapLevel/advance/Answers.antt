@@ -7,7 +7,7 @@ use Rattle.qs_spec.specs.Scalar.{key_data}
 use Rattle.qs_spec.specs.Segment.{Step, segment_text}
 use Rattle.qs_spec.specs.Shape.{KeyShape}
 use Rattle.qs_spec.specs.Tree.{Tree}
-use Rattle.qs_tree.specs.Views.{tree_of, entries_of_map, step_of_key, pairs_of}
+use Rattle.qs_tree.specs.tree.Views.{tree_of, entries_of_map, step_of_key, pairs_of}
 use Rattle.qs_data.specs.declared.read.nested.Level.TheVariants as level
 use Rattle.qs_data.specs.declared.read.nested.Node.{Node}
 use Rattle.qs_data.specs.Keys.{entries_after}

@@ -1,7 +1,7 @@
 use Rattle.std.proofs.Common.{◌≡◌, ◌≤◌, false, map}
 use Rattle.qs_spec.specs.internal.ReadFunction.{any_data, read_pairs}
 use Rattle.qs_spec.specs.Shape.{KeyShape}
-use Rattle.qs_tree.specs.Views.{entries_of_map}
+use Rattle.qs_tree.specs.tree.Views.{entries_of_map}
 use Rattle.qs_data.specs.declared.read.nested.Level.TheVariants as level
 use Rattle.qs_data.specs.Keys.{entries_after}
 use Rattle.qs_data.specs.Nesting.{level_data, level_is_text, level_size, map_with}

@@ -1,6 +1,0 @@
--- What is left gets less.
-use Rattle.qs_tree.proofs.NodeCounts.{nodes}
-use Rattle.qs_tree.proofs.dropping.drop_tree.Given as goal
-
-abbrev pub decreases-loop-left : goal.decreases-loop-left
-decreases-loop-left l = nodes l.left

@@ -1,0 +1,49 @@
+use Rattle.std.proofs.Common.{◌+◌, ◌++◌, ◌∙◌, ap, sym, arith, length, take, drop, map, get_or}
+use Rattle.std.proofs.lemmas.List.{append_assoc, length-append, length-map, length-take-le}
+use Rattle.qs_spec.specs.Escape.{encoded, escape}
+use Rattle.qs_tree.specs.internal.escape.Copying.{swapped}
+use Rattle.qs_tree.proofs.lemmas.escape.EncodedFronts.{encoded_run, encoded_escape, escape_is, length-encoded}
+use Rattle.qs_tree.proofs.escape.encoding.put_front.Goals as goal
+
+pub copy_run-len-requires-clause-room : goal.copy_run-len-requires-clause-room
+copy_run-len-requires-clause-room c = omega (arith, c.requires.room, length-encoded c.args.form c.args.bytes.now)
+
+pub put-requires : goal.put-requires
+put-requires c =
+    let byte = get_or c.args.bytes.now 0 0 in
+    let text = c.as_bytes.ensures.value ∙ c.percent_encode_byte.ensures ∙ escape_is byte (c.type_inv.bytes 0).fits in
+    let whole = encoded_escape c.args.form c.args.bytes.now c.requires.some (sym c.has.ensures ∙ c.if-has.true) in
+    omega (arith, ap length text, ap length whole, length-append (escape byte) (encoded c.args.form (drop 1 c.args.bytes.now)), c.requires.room)
+
+pub returns-then-has-clause-room : goal.returns-then-has-clause-room
+returns-then-has-clause-room c =
+    let byte = get_or c.args.bytes.now 0 0 in
+    let whole = encoded_escape c.args.form c.args.bytes.now c.requires.some (sym c.has.ensures ∙ c.if-has.true) in
+    omega (arith, ap length whole, length-append (escape byte) (encoded c.args.form (drop 1 c.args.bytes.now)))
+
+pub returns-then-has-clause-text : goal.returns-then-has-clause-text
+returns-then-has-clause-text c =
+    let bytes = c.args.bytes.now in
+    let text = c.as_bytes.ensures.value ∙ c.percent_encode_byte.ensures ∙ escape_is (get_or bytes 0 0) (c.type_inv.bytes 0).fits in
+    let whole = encoded_escape c.args.form bytes c.requires.some (sym c.has.ensures ∙ c.if-has.true) in
+    let rest = encoded c.args.form (drop 1 bytes) in
+    let front = take c.args.at c.args.room.now in
+    ap (λ k. take (c.args.at + k) c.put.new.room ++ rest) (sym (ap length text)) ∙ ap (λ x. x ++ rest) c.put.ensures ∙ append_assoc front _ rest
+    ∙ ap (λ x. front ++ x) (ap (λ x. x ++ rest) text ∙ sym whole)
+
+pub returns-clause-room : goal.returns-clause-room
+returns-clause-room c =
+    let bytes = c.args.bytes.now in
+    let len = c.copy_run-len.result in
+    let front = map (swapped 32 43) (take len bytes) in
+    let whole = ap length (encoded_run c.args.form len bytes c.copy_run-len.ensures.within c.copy_run-len.ensures.plain) in
+    omega (arith, whole, length-append front (encoded c.args.form (drop len bytes)), length-map (take len bytes) (swapped 32 43), length-take-le len bytes c.copy_run-len.ensures.within)
+
+pub returns-clause-text : goal.returns-clause-text
+returns-clause-text c =
+    let bytes = c.args.bytes.now in
+    let len = c.copy_run-len.result in
+    let rest = encoded c.args.form (drop len bytes) in
+    let whole = encoded_run c.args.form len bytes c.copy_run-len.ensures.within c.copy_run-len.ensures.plain in
+    let front = take c.args.at c.args.room.now in
+    ap (λ x. x ++ rest) c.copy_run-len.ensures.text ∙ append_assoc front _ rest ∙ ap (λ x. front ++ x) (sym whole)

@@ -1,0 +1,13 @@
+use Rattle.std.proofs.Common.{refl, arith, true, cond, leb}
+use Rattle.std.proofs.lemmas.Simd.{length-chunk}
+use lib.Lanes.{chunk}
+use Rattle.qs_tree.specs.internal.escape.Search.{is_escaped}
+use Rattle.qs_tree.proofs.lemmas.escape.LaneLemmas.{mask_is, after_splat, joined, splatted, before_splat}
+use Rattle.qs_tree.proofs.escape.search.encoded.form_mask.Goals as goal
+
+pub returns : goal.returns
+returns c =
+    let v = chunk c.args.at 32 c.args.bytes.now in
+    let long = length-chunk c.args.at 32 c.args.bytes.now c.requires in
+    mask_is (is_escaped true) c.args.bytes.now c.args.at 32 c.requires (omega arith) c.type_inv.bytes _
+    (joined _ _ _ v (joined _ _ _ v (joined _ _ _ v (before_splat (λ a b. cond (leb a b) 255 0) _ v 32 26 long (after_splat _ _ v 32 97 long (splatted _ v 32 32 long))) (before_splat (λ a b. cond (leb a b) 255 0) _ v 32 10 long (splatted _ v 32 48 long))) (joined _ _ _ v (splatted _ v 32 45 long) (splatted _ v 32 46 long))) (joined _ _ _ v (splatted _ v 32 42 long) (splatted _ v 32 95 long))) refl

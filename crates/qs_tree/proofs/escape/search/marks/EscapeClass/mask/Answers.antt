@@ -1,0 +1,13 @@
+use Rattle.std.proofs.Common.{refl, arith}
+use Rattle.std.proofs.lemmas.Simd.{length-chunk}
+use lib.Lanes.{chunk}
+use Rattle.qs_tree.specs.escape.Classes.{is_escape}
+use Rattle.qs_tree.proofs.lemmas.escape.LaneLemmas.{mask_is, joined, splatted}
+use Rattle.qs_tree.proofs.escape.search.marks.EscapeClass.mask.Goals as goal
+
+pub returns : goal.returns
+returns c =
+    let v = chunk c.args.at 32 c.args.bytes.now in
+    let long = length-chunk c.args.at 32 c.args.bytes.now c.requires in
+    mask_is is_escape c.args.bytes.now c.args.at 32 c.requires (omega arith) c.type_inv.bytes _
+    (joined _ _ _ v (splatted _ v 32 43 long) (splatted _ v 32 37 long)) refl

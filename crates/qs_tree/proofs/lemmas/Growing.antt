@@ -1,0 +1,73 @@
+-- What the pairs of an input make of a tree, item by item.
+use Rattle.std.proofs.Common.{◌≡◌, ℕ, ◌==◌, Bool, false, IfOk, List, [], ◌∷◌, length, refl, sym, ap, ◌∙◌, subst, Option, Some, None, option_map, option_and_then, Result, Ok, Err}
+use Rattle.std.proofs.lemmas.Option.{none-some}
+use Rattle.qs_spec.specs.Token.{Token, tokens}
+use Rattle.qs_spec.specs.Grammar.{Pair}
+use Rattle.qs_spec.specs.Tree.{Tree, IsTree, IsRefused}
+use Rattle.qs_spec.specs.Tree.Tree.{uninitialized}
+use Rattle.qs_spec.specs.internal.Parsing.{parsed_pairs}
+use Rattle.qs_spec.specs.internal.InPlace.{add, add_all}
+use Rattle.qs_spec.proofs.RelatedIsRead.{found_pairs, are_pairs}
+use Rattle.qs_spec.proofs.Scan.{in_place}
+use Rattle.qs_tree.specs.declared.error.Error.{Error}
+use Rattle.qs_tree.specs.declared.error.Error.TheVariants.{Custom, MaxSerializationDepthExceeded, Parse, Unsupported, FromUtf8, Io, ParseInt, Utf8, OutOfMemory, Failed}
+use Rattle.qs_tree.specs.declared.tree.value.ParsedValue.{ParsedValue}
+use Rattle.qs_tree.specs.tree.Views.{tree_of}
+use Rattle.qs_tree.specs.Error.{IsParse}
+use Rattle.qs_tree.specs.internal.Parsing.{grown, Answers}
+
+module _ (depth : ℕ) (ts : List Token) (t : Tree) where
+  pub grown_same : (us : List Token) → parsed_pairs depth ts ≡ parsed_pairs depth us → grown depth ts t ≡ grown depth us t
+  grown_same us e = ap (option_and_then (λ ps. add_all ps t)) e
+
+  pub grown_pair : (us : List Token) (p : Pair) (u : Tree) → parsed_pairs depth ts ≡ option_map (λ ps. p ∷ ps) (parsed_pairs depth us) → add p.path p.push p.leaf t ≡ Some u → grown depth ts t ≡ grown depth us u
+  grown_pair us p u e a = ap (option_and_then (λ ps. add_all ps t)) e ∙ by (parsed_pairs depth us)
+    where
+      by : (o : Option (List Pair)) → option_and_then (λ ps. add_all ps t) (option_map (λ ps. p ∷ ps) o) ≡ option_and_then (λ ps. add_all ps u) o
+      by None = refl
+      by (Some ps) = ap (option_and_then (add_all ps)) a
+
+-- all pairs of an input make its tree, or none
+module _ (form : Bool) (depth b : ℕ) (bytes : List ℕ) where
+  pub grown_tree : (t : Tree) → grown depth (tokens form (b ∷ bytes)) uninitialized ≡ Some t → IsTree form depth (b ∷ bytes) t
+  grown_tree t e = by (parsed_pairs depth (tokens form (b ∷ bytes))) refl e
+    where
+      by : (o : Option (List Pair)) → parsed_pairs depth (tokens form (b ∷ bytes)) ≡ o → option_and_then (λ ps. add_all ps uninitialized) o ≡ Some t → IsTree form depth (b ∷ bytes) t
+      by None d e = absurd (none-some t e)
+      by (Some ps) d e = (in_place form depth b bytes ps t (are_pairs depth (tokens form (b ∷ bytes)) ps d)).0 e
+
+  pub grown_refusal : grown depth (tokens form (b ∷ bytes)) uninitialized ≡ None → IsRefused form depth (b ∷ bytes)
+  grown_refusal e t h =
+      let pairs = found_pairs h.1.grammar in
+      let whole = (in_place form depth b bytes h.0 t h.1.grammar).1 h in
+      none-some t (sym e ∙ ap (option_and_then (λ ps. add_all ps uninitialized)) pairs ∙ whole)
+
+-- an answer about the tokens of an input is one about the input
+module _ (form : Bool) (depth : ℕ) (bytes : List ℕ) (some : (length bytes == 0) ≡ false) (limit : ℕ) (ts : List Token) (d : limit ≡ depth) (e : ts ≡ tokens form bytes) (bound : ℕ) where
+  about : (r : Result ParsedValue Error) → Answers tree_of (grown limit ts uninitialized) bound r → Answers tree_of (grown depth (tokens form bytes) uninitialized) bound r
+  about r h = subst (λ n. Answers tree_of (grown n (tokens form bytes) uninitialized) bound r) d (subst (λ l. Answers tree_of (grown limit l uninitialized) bound r) e h)
+
+  pub answer_tree : (r : Result ParsedValue Error) → Answers tree_of (grown limit ts uninitialized) bound r → IfOk r (λ v. IsTree form depth bytes (tree_of v))
+  answer_tree (Ok v) h = by bytes some (about (Ok v) h)
+    where
+      by : (bytes : List ℕ) → (length bytes == 0) ≡ false → grown depth (tokens form bytes) uninitialized ≡ Some (tree_of v) → IsTree form depth bytes (tree_of v)
+      by [] n a = cc
+      by (b ∷ bytes) n a = grown_tree form depth b bytes (tree_of v) a
+  answer_tree (Err f) h = tt
+
+  pub answer_refused : (r : Result ParsedValue Error) → Answers tree_of (grown limit ts uninitialized) bound r → IsParse r → IsRefused form depth bytes
+  answer_refused (Ok v) h p = absurd p
+  answer_refused (Err (Parse message at)) h p = by bytes some (about (Err (Parse message at)) h).0
+    where
+      by : (bytes : List ℕ) → (length bytes == 0) ≡ false → grown depth (tokens form bytes) uninitialized ≡ None → IsRefused form depth bytes
+      by [] n a = cc
+      by (b ∷ bytes) n a = grown_refusal form depth b bytes a
+  answer_refused (Err OutOfMemory) h p = absurd p
+  answer_refused (Err (Custom message)) h p = absurd p
+  answer_refused (Err (MaxSerializationDepthExceeded d)) h p = absurd p
+  answer_refused (Err Unsupported) h p = absurd p
+  answer_refused (Err (FromUtf8 cause)) h p = absurd p
+  answer_refused (Err (Io cause)) h p = absurd p
+  answer_refused (Err (ParseInt cause)) h p = absurd p
+  answer_refused (Err (Utf8 cause)) h p = absurd p
+  answer_refused (Err Failed) h p = absurd p

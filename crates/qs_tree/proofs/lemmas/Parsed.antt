@@ -1,0 +1,95 @@
+-- What follows for an answer to an input from what it says of the input's tree.
+use Rattle.std.proofs.Common.{◌≡◌, ◌≢◌, ℕ, ◌+◌, ◌≤◌, ◌⊎◌, inl, inr, Bool, List, [], ◌∷◌, length, refl, sym, ap, ◌∙◌, IfOk, Option, Result, Ok, Err, ◌==◌, true, eqb-true, arith, rules}
+use Rattle.std.proofs.lemmas.Result.{IfOk-weaker}
+use Rattle.qs_spec.specs.Tree.{Tree, IsTree, IsRefused}
+use Rattle.qs_spec.specs.Grammar.{Pair, ArePairs}
+use Rattle.qs_spec.specs.Token.{tokens}
+use Rattle.qs_spec.specs.Holds.{IsSound, leaf_count, nesting}
+use Rattle.qs_spec.specs.Order.{AreReordered, AreAlike}
+use Rattle.qs_spec.specs.Input.{HasPairs, IsReordered}
+use Rattle.qs_spec.specs.Marks.{marks}
+use Rattle.qs_spec.proofs.TreeOf.{one_tree}
+use Rattle.qs_spec.proofs.Sound as sound_trees
+use Rattle.qs_spec.proofs.Alike as trees
+use Rattle.qs_tree.specs.declared.error.Error.{Error}
+use Rattle.qs_tree.specs.declared.error.Error.TheVariants.{Custom, MaxSerializationDepthExceeded, Parse, Unsupported, FromUtf8, Io, ParseInt, Utf8, OutOfMemory, Failed}
+use Rattle.qs_tree.specs.declared.tree.value.ParsedValue.{ParsedValue, NoValue, the_lemmas}
+use Rattle.qs_tree.specs.tree.Views.{tree_of}
+use Rattle.qs_tree.specs.Error.{IsParse, IsOutOfMemory, OnlyOutOfMemory}
+use Rattle.qs_tree.specs.tree.Owned.{owns}
+use Rattle.qs_tree.specs.internal.Parsing.{Answers}
+use Rattle.qs_tree.specs.Parsing.{HoldsOf}
+use Rattle.qs_tree.proofs.lemmas.tree.Owned.{owns_marked}
+
+-- the pairs of an input that has a tree
+pairs_counted : (form : Bool) (depth : ℕ) (bytes : List ℕ) (t : Tree) → IsTree form depth bytes t → bytes ≢ [] → HasPairs form depth bytes (leaf_count t)
+pairs_counted form depth [] t h some = absurd (some refl)
+pairs_counted form depth (b ∷ bytes) t h some = (h.0, h.1.grammar, sym (trees.leaves form depth b bytes h.0 t h.1.grammar h))
+
+module _ (form : Bool) (depth : ℕ) (bytes : List ℕ) (r : Result ParsedValue Error) (tree : IfOk r (λ v. IsTree form depth bytes (tree_of v))) where
+  pub borrowed : (t : Tree) → IsTree form depth bytes t → IfOk r (λ v. owns v ≡ marks t)
+  borrowed t h = IfOk-weaker r _ (λ v. owns v ≡ marks t) (λ v g. owns_marked v ∙ ap marks (one_tree form depth bytes (tree_of v) t g h)) tree
+
+  pub leaves : bytes ≢ [] → IfOk r (λ v. HasPairs form depth bytes (leaf_count (tree_of v)))
+  leaves some = IfOk-weaker r _ (λ v. HasPairs form depth bytes (leaf_count (tree_of v))) (λ v g. pairs_counted form depth bytes (tree_of v) g some) tree
+
+  pub nested : IfOk r (λ v. nesting (tree_of v) ≤ depth + 2)
+  nested = IfOk-weaker r _ (λ v. nesting (tree_of v) ≤ depth + 2) (λ v g. trees.nests form depth bytes (tree_of v) g) tree
+
+  pub sound : IfOk r (λ v. IsSound (tree_of v))
+  sound = IfOk-weaker r _ (λ v. IsSound (tree_of v)) (λ v g. sound_trees.sound form depth bytes (tree_of v) g) tree
+
+-- an order of an input's pairs
+pub alike : (form : Bool) (depth : ℕ) (bytes other : List ℕ) → IsReordered form depth bytes other → AreAlike form depth bytes other
+alike form depth bytes other h = by h.pairs h.some h.of_first h.order
+  where
+    by : (pairs : List Pair) → pairs ≢ [] → ArePairs depth (tokens form bytes) pairs → AreReordered pairs h.others → AreAlike form depth bytes other
+    by [] some first order = absurd (some refl)
+    by (p ∷ ps) some first order = trees.alike_by_places form depth bytes other p ps h.others first h.of_second order
+
+module _ (form : Bool) (depth : ℕ) (bytes : List ℕ) (expected : Option Tree) (bound : ℕ) where
+  pub accepted : (r : Result ParsedValue Error) → Answers tree_of expected bound r → (IsParse r → IsRefused form depth bytes) → (t : Tree) → IsTree form depth bytes t → OnlyOutOfMemory r
+  accepted (Ok v) answer refused t h = tt
+  accepted (Err (Parse message at)) answer refused t h = absurd (refused tt t h)
+  accepted (Err OutOfMemory) answer refused t h = tt
+  accepted (Err (Custom message)) answer refused t h = absurd answer
+  accepted (Err (MaxSerializationDepthExceeded d)) answer refused t h = absurd answer
+  accepted (Err Unsupported) answer refused t h = absurd answer
+  accepted (Err (FromUtf8 cause)) answer refused t h = absurd answer
+  accepted (Err (Io cause)) answer refused t h = absurd answer
+  accepted (Err (ParseInt cause)) answer refused t h = absurd answer
+  accepted (Err (Utf8 cause)) answer refused t h = absurd answer
+  accepted (Err Failed) answer refused t h = absurd answer
+
+  pub rejected : (r : Result ParsedValue Error) → Answers tree_of expected bound r → IfOk r (λ v. IsTree form depth bytes (tree_of v)) → IsRefused form depth bytes → IsParse r ⊎ IsOutOfMemory r
+  rejected (Ok v) answer tree none = absurd (none (tree_of v) tree)
+  rejected (Err (Parse message at)) answer tree none = inl tt
+  rejected (Err OutOfMemory) answer tree none = inr tt
+  rejected (Err (Custom message)) answer tree none = absurd answer
+  rejected (Err (MaxSerializationDepthExceeded d)) answer tree none = absurd answer
+  rejected (Err Unsupported) answer tree none = absurd answer
+  rejected (Err (FromUtf8 cause)) answer tree none = absurd answer
+  rejected (Err (Io cause)) answer tree none = absurd answer
+  rejected (Err (ParseInt cause)) answer tree none = absurd answer
+  rejected (Err (Utf8 cause)) answer tree none = absurd answer
+  rejected (Err Failed) answer tree none = absurd answer
+
+module _ (form : Bool) (depth : ℕ) (bytes : List ℕ) where
+  pub reordered : (r : Result ParsedValue Error) → IfOk r (λ v. IsTree form depth bytes (tree_of v)) → (IsParse r → IsRefused form depth bytes)
+      → (other : List ℕ) → IsReordered form depth bytes other → HoldsOf form depth other r
+  reordered (Ok v) tree refused other h = (alike form depth bytes other h).there (tree_of v) tree
+  reordered (Err (Parse message at)) tree refused other h = λ u g. let was = (alike form depth bytes other h).back u g in refused tt was.0 was.1
+  reordered (Err OutOfMemory) tree refused other h = tt
+  reordered (Err (Custom message)) tree refused other h = tt
+  reordered (Err (MaxSerializationDepthExceeded d)) tree refused other h = tt
+  reordered (Err Unsupported) tree refused other h = tt
+  reordered (Err (FromUtf8 cause)) tree refused other h = tt
+  reordered (Err (Io cause)) tree refused other h = tt
+  reordered (Err (ParseInt cause)) tree refused other h = tt
+  reordered (Err (Utf8 cause)) tree refused other h = tt
+  reordered (Err Failed) tree refused other h = tt
+
+-- the empty input
+pub empty_tree : (form : Bool) (depth : ℕ) (bytes : List ℕ) → (length bytes == 0) ≡ true → IsTree form depth bytes (tree_of NoValue)
+empty_tree form depth [] e = search (rules, the_lemmas)
+empty_tree form depth (b ∷ bytes) e = absurd (omega (arith, eqb-true (length (b ∷ bytes)) 0 e))

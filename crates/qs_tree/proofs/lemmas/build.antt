@@ -1,0 +1,5 @@
+pub mod Turns
+pub mod Descending
+pub mod Drafting
+pub mod Levels
+pub mod DraftNodes

@@ -1,0 +1,29 @@
+-- What `decoded` is up to a `%`.
+use Rattle.std.proofs.Common.{◌≡◌, ℕ, zero, suc, ◌≤◌, false, ◌||◌, ◌==◌, List, [], ◌∷◌, ◌++◌, map, length, take, drop, refl, ap, ◌∙◌, arith}
+use Rattle.std.proofs.lemmas.Bool.{cond-false}
+use Rattle.qs_spec.proofs.Booleans.{or_both}
+use Rattle.qs_spec.specs.Escape.{decoded, is_marked, unplus}
+use Rattle.qs_tree.specs.internal.escape.Search.{NoneBetween}
+use Rattle.qs_tree.specs.internal.escape.Copying.{swapped}
+
+-- any other byte is one
+decoded_plain : (b : ℕ) (bs : List ℕ) → (b == 37) ≡ false → decoded (b ∷ bs) ≡ unplus b ∷ decoded bs
+decoded_plain b [] other = refl
+decoded_plain b (c ∷ []) other = cond-false _ _ _ other
+decoded_plain b (c ∷ e ∷ bs) other = cond-false _ _ _ other
+
+-- bytes up to a `%`
+pub decoded_run : (n : ℕ) (bs : List ℕ) → n ≤ length bs → NoneBetween (λ b. b == 37) bs 0 n
+    → decoded bs ≡ map (swapped 43 32) (take n bs) ++ decoded (drop n bs)
+decoded_run zero bs within plain = refl
+decoded_run (suc n) [] within plain = absurd (omega arith)
+decoded_run (suc n) (b ∷ bs) within plain =
+    decoded_plain b bs (plain 0 (omega arith) (omega arith))
+    ∙ ap (λ x. unplus b ∷ x) (decoded_run n bs (omega arith) (λ k from to. plain (suc k) (omega arith) (omega arith)))
+
+pub decoded_unmarked : (bs : List ℕ) → is_marked bs ≡ false → decoded bs ≡ bs
+decoded_unmarked [] unmarked = refl
+decoded_unmarked (b ∷ bs) unmarked =
+    let none = or_both (b == 43 || b == 37) (is_marked bs) unmarked in
+    let first = or_both (b == 43) (b == 37) none.0 in
+    decoded_plain b bs first.1 ∙ ap (λ x. x ∷ decoded bs) (cond-false _ _ _ first.0) ∙ ap (λ x. b ∷ x) (decoded_unmarked bs none.1)

@@ -1,0 +1,77 @@
+-- A run that is taken token by token.
+use Rattle.std.proofs.Common.{◌≡◌, ℕ, ◌+◌, ◌-◌, ◌≤◌, ◌&&◌, ◌||◌, ◌==◌, Bool, true, false, cond, List, [], ◌∷◌, ◌++◌, length, take, drop, get_or, ◌<◌, refl, sym, ap, ap₂, ◌∙◌, subst, arith, Option, Some, None, append_assoc, length-append, length-drop, drop-drop}
+use Rattle.std.specs.Option.{IfSome}
+use Rattle.std.proofs.Math.Seq.{take-add, take-append_seam}
+use Rattle.std.proofs.lemmas.List.{drop_more, take_all}
+use Rattle.qs_spec.specs.Token.{Kind, Token, tokens, byte_token, is_escaped_bracket, raw_of}
+use Rattle.qs_spec.specs.internal.Parsing.{cut, cut_at}
+use Rattle.qs_tree.specs.declared.scan.cursor.Token as code
+use Rattle.qs_tree.specs.internal.scan.Cursor.{kind_of_token, token_of, behind, taken, IsLeft, IsLetter}
+use Rattle.qs_tree.proofs.lemmas.scan.Values.{stop_ends}
+
+count : (start rest raw next : List ℕ) → IsLeft start rest → rest ≡ raw ++ next → length start - length next ≡ (length start - length rest) + length raw
+count start rest raw next h e =
+    omega (arith, ap length h, length-drop (length start - length rest) start, ap length e, length-append raw next)
+
+pub taken_more : (start rest raw next : List ℕ) → IsLeft start rest → rest ≡ raw ++ next → taken start next ≡ taken start rest ++ raw
+taken_more start rest raw next h e =
+    ap (λ n. take n start) (count start rest raw next h e)
+    ∙ take-add (length start - length rest) (length raw) start
+    ∙ ap (λ l. taken start rest ++ l) (ap (take (length raw)) (sym h ∙ e) ∙ take-append_seam raw next)
+
+-- a letter is a token by itself
+pub letter_token : (form : Bool) (b : ℕ) (rest : List ℕ) → IsLetter b → tokens form (b ∷ rest) ≡ byte_token b ∷ tokens form rest
+letter_token form b [] h = refl
+letter_token form b (c ∷ []) h = refl
+letter_token form b (c ∷ e ∷ rest) h = by form (is_escaped_bracket b c e) (ap (λ x. (x && c == 53) && (e == 66 || e == 68)) h.0)
+  where
+    by : (f x : Bool) → x ≡ false → cond (f && x) (record { kind = cond (e == 66) Kind.Open Kind.Close; raw = b ∷ c ∷ e ∷ [] } ∷ tokens form rest) (byte_token b ∷ tokens form (c ∷ e ∷ rest)) ≡ byte_token b ∷ tokens form (c ∷ e ∷ rest)
+    by false x i = refl
+    by true false i = refl
+    by true true i = cc
+
+module _ (ends : Kind → Bool) (form : Bool) (bytes : List ℕ) where
+  -- the first bytes belong to the run, and what is left of it and ends it is as from there on
+  pub record Within (at : ℕ) : Type 0 where
+    pub some : at ≤ length bytes
+    pub run : take at bytes ++ raw_of (cut ends (tokens form (drop at bytes))).0 ≡ raw_of (cut ends (tokens form bytes)).0
+    pub stop : (cut ends (tokens form (drop at bytes))).1 ≡ (cut ends (tokens form bytes)).1
+
+  goes_on : (at len : ℕ) (k : Kind) → Within at → at + len ≤ length bytes → tokens form (drop at bytes) ≡ record { kind = k; raw = take len (drop at bytes) } ∷ tokens form (drop len (drop at bytes)) → ends k ≡ false → Within (at + len)
+  goes_on at len k h room is other =
+      let t : Token = record { kind = k; raw = take len (drop at bytes) } in
+      let next = tokens form (drop len (drop at bytes)) in
+      let same : tokens form (drop (at + len) bytes) ≡ next = ap (tokens form) (sym (drop-drop len at bytes)) in
+      let more = ap (cut ends) is ∙ ap (λ x. cut_at x t next (cut ends next)) other in
+      let front : take at bytes ++ (t.raw ++ raw_of (cut ends next).0) ≡ raw_of (cut ends (tokens form bytes)).0 = sym (ap (λ c. take at bytes ++ raw_of c.0) more) ∙ h.run in
+      record {
+        some = room;
+        run = ap (λ l. l ++ raw_of (cut ends (tokens form (drop (at + len) bytes))).0) (take-add at len bytes)
+            ∙ append_assoc (take at bytes) t.raw (raw_of (cut ends (tokens form (drop (at + len) bytes))).0)
+            ∙ ap (λ ts. take at bytes ++ (t.raw ++ raw_of (cut ends ts).0)) same
+            ∙ front;
+        stop = ap (λ ts. (cut ends ts).1) same ∙ sym (ap (λ c. c.1) more) ∙ h.stop;
+      }
+
+  -- a token at the front of the slice from there on
+  pub token_on : (at len : ℕ) (k : Kind) → Within at → len ≤ length (take (length bytes - at) (drop at bytes))
+      → tokens form (take (length bytes - at) (drop at bytes)) ≡ record { kind = k; raw = take len (take (length bytes - at) (drop at bytes)) } ∷ tokens form (drop len (take (length bytes - at) (drop at bytes)))
+      → ends k ≡ false → Within (at + len)
+  token_on at len k h room is other =
+      let long = length-drop at bytes in
+      let all : take (length bytes - at) (drop at bytes) ≡ drop at bytes = take_all (length bytes - at) (drop at bytes) (omega (arith, long)) in
+      goes_on at len k h (omega (arith, h.some, room, ap length all, long)) (subst (λ l. tokens form l ≡ record { kind = k; raw = take len l } ∷ tokens form (drop len l)) all is) other
+
+  pub letter_on : (at : ℕ) → ends Kind.Other ≡ false → Within at → at < length bytes → IsLetter (get_or bytes at 0) → Within (at + 1)
+  letter_on at other h some letter =
+      let front = drop_more bytes at 0 some in
+      goes_on at 1 Kind.Other h (omega (arith, some))
+      (ap (tokens form) front ∙ letter_token form (get_or bytes at 0) (drop (at + 1) bytes) letter
+      ∙ ap₂ (λ k l. record { kind = k; raw = l } ∷ tokens form (drop (at + 1) bytes)) letter.1 (sym (ap (take 1) front))
+      ∙ ap (λ l. record { kind = Kind.Other; raw = take 1 (drop at bytes) } ∷ tokens form l) (sym (ap (drop 1) front)))
+      other
+
+-- what follows a run ends it
+pub stop_kind : (ends : Kind → Bool) (ts : List Token) (stop : Option code.Token) (us : List Token) → (cut ends ts).1 ≡ behind stop us → IfSome stop (λ t. ends (kind_of_token t.kind) ≡ true)
+stop_kind ends ts None us e = tt
+stop_kind ends ts (Some t) us e = stop_ends ends ts (token_of t) us e

@@ -1,0 +1,142 @@
+-- Items of inputs for which nothing is allocated.
+use Rattle.std.proofs.Common.{◌≡◌, ℕ, zero, suc, Bool, true, false, cond, ◌&&◌, ◌||◌, ◌==◌, List, [], ◌∷◌, ◌++◌, length, refl, sym, ap, ap₂, ◌∙◌, subst, Option, Some, None, Result, eqb-true, ◌<◌, arith, inl, inr}
+use Rattle.std.proofs.lemmas.List.Folds.{list_all-append}
+use Rattle.qs_spec.specs.Token.{Kind, Token, tokens, byte_token, byte_kind, raw_of}
+use Rattle.qs_spec.specs.Token.Kind.{Amp, Equals, Open, Close}
+use Rattle.qs_spec.specs.Grammar.{is_amp, is_equals, is_open, ends_root}
+use Rattle.qs_spec.specs.internal.Parsing.{cut, cut_at}
+use Rattle.qs_spec.proofs.Booleans.{and_both}
+use Rattle.qs_tree.specs.declared.scan.cursor.Token as code
+use Rattle.qs_tree.specs.declared.scan.cursor.Cursor as cursor
+use Rattle.qs_tree.specs.declared.scan.pair.Pair as code_pair
+use Rattle.qs_tree.specs.declared.scan.reading.Item as item
+use Rattle.qs_tree.specs.declared.scan.reading.Fault as fault
+use Rattle.qs_tree.specs.declared.build.draft.Draft.{Draft}
+use Rattle.qs_tree.specs.declared.build.draft.Draft.TheVariants.{Fresh}
+use Rattle.qs_tree.specs.internal.build.Draft.{IsNoMap, IsFlat}
+use Rattle.qs_tree.proofs.lemmas.Views.{draft_tree-Fresh}
+use Rattle.qs_tree.specs.escape.Classes.{is_ampersand}
+use Rattle.qs_tree.specs.internal.scan.Cursor.{kind_of_token, token_of, raw_behind, behind}
+use Rattle.qs_tree.specs.internal.scan.Reading.{is_nothing}
+use Rattle.qs_tree.specs.Parsing.{is_ampersands, is_plain, is_plain_value, TakesNoMemory}
+use Rattle.qs_tree.specs.internal.scan.Small.{IsEqualsStop, ReadsSmall, StaysSmall}
+
+-- a byte other than `%` is a token by itself
+alone : (form : Bool) (b : ℕ) (rest : List ℕ) → (b == 37) ≡ false → tokens form (b ∷ rest) ≡ byte_token b ∷ tokens form rest
+alone form b [] h = refl
+alone form b (c ∷ []) h = refl
+alone false b (c ∷ e ∷ rest) h = refl
+alone true b (c ∷ e ∷ rest) h =
+    ap (λ x. cond ((x && c == 53) && (e == 66 || e == 68)) (record { kind = cond (e == 66) Open Close; raw = b ∷ c ∷ e ∷ [] } ∷ tokens true rest) (byte_token b ∷ tokens true (c ∷ e ∷ rest))) h
+
+other_than : (b k : ℕ) → (b == k) ≡ true → (k == 37) ≡ false → (b == 37) ≡ false
+other_than b k e h = ap (λ x. x == 37) (eqb-true b k e) ∙ h
+
+ends_at : (depth : ℕ) (k : Kind) → (is_amp k || is_equals k) ≡ true → ends_root depth k ≡ true
+ends_at zero k e = e
+ends_at (suc depth) k e = ap (λ x. x || is_open k) e
+
+-- what a run finds at a byte that ends it
+record Begins (b : ℕ) (more key : List ℕ) (stop : Option code.Token) (after : List ℕ) : Type 0 where
+  empty : key ≡ []
+  token : code.Token
+  is : stop ≡ Some token
+  kind : kind_of_token token.kind ≡ byte_kind b
+  left : after ≡ more
+
+module _ (depth : ℕ) (form : Bool) where
+  begins : (b : ℕ) (more key : List ℕ) (stop : Option code.Token) (rest : List Token) (after : List ℕ) → key ≡ raw_of (cut (ends_root depth) (tokens form (b ∷ more))).0
+      → (cut (ends_root depth) (tokens form (b ∷ more))).1 ≡ behind stop rest → b ∷ more ≡ key ++ raw_behind stop after → (b == 37) ≡ false → (is_amp (byte_kind b) || is_equals (byte_kind b)) ≡ true
+      → Begins b more key stop after
+  begins b more key stop rest after run token whole h e =
+      let c : cut (ends_root depth) (tokens form (b ∷ more)) ≡ ([], byte_token b ∷ tokens form more) =
+      ap (cut (ends_root depth)) (alone form b more h) ∙ ap (λ x. cut_at x (byte_token b) (tokens form more) (cut (ends_root depth) (tokens form more))) (ends_at depth (byte_kind b) e) in
+      let none : key ≡ [] = run ∙ ap (λ (c : List Token × List Token). raw_of c.0) c in
+      by stop none (sym (ap (λ (c : List Token × List Token). c.1) c) ∙ token) (whole ∙ ap (λ k. k ++ raw_behind stop after) none)
+    where
+      by : (stop : Option code.Token) → key ≡ [] → byte_token b ∷ tokens form more ≡ behind stop rest → b ∷ more ≡ raw_behind stop after → Begins b more key stop after
+      by None n t w = cc
+      by (Some u) n t w =
+          let same : byte_token b ≡ token_of u = cc in
+          let raw : b ∷ [] ≡ u.raw.now = ap (λ (v : Token). v.raw) same in
+          let all : b ∷ more ≡ b ∷ after = w ∙ ap (λ r. r ++ after) (sym raw) in
+          record { empty = n; token = u; is = refl; kind = sym (ap (λ (v : Token). v.kind) same); left = cc }
+
+  amp_byte : (b : ℕ) → (b == 38) ≡ true → byte_kind b ≡ Amp
+  amp_byte b e = ap byte_kind (eqb-true b 38 e)
+
+  equals_byte : (b : ℕ) → (b == 61) ≡ true → byte_kind b ≡ Equals
+  equals_byte b e = ap byte_kind (eqb-true b 61 e)
+
+  module _ (key : List ℕ) (stop : Option code.Token) (rest : List Token) (after : List ℕ) where
+    -- an `&` before which nothing stands
+    pub small_nothing : (bytes : List ℕ) (t : code.Token) → key ≡ raw_of (cut (ends_root depth) (tokens form bytes)).0 → (cut (ends_root depth) (tokens form bytes)).1 ≡ behind stop rest → bytes ≡ key ++ raw_behind stop after
+        → TakesNoMemory bytes → is_nothing key stop ≡ true → stop ≡ Some t → is_ampersands after ≡ true
+    small_nothing bytes t run token whole small nothing is = by (is_ampersands bytes) refl small
+      where
+        value : (bytes : List ℕ) → is_plain_value bytes ≡ true → key ≡ raw_of (cut (ends_root depth) (tokens form bytes)).0 → (cut (ends_root depth) (tokens form bytes)).1 ≡ behind stop rest → bytes ≡ key ++ raw_behind stop after → ⊥
+        value [] e run token whole = cc
+        value (b ∷ v) e run token whole =
+            let parts = and_both (b == 61) (is_plain v) e in
+            let k = equals_byte b parts.0 in
+            let h = begins b v key stop rest after run token whole (other_than b 61 parts.0 refl) (ap (λ k. is_amp k || is_equals k) k) in
+            let amp = and_both _ (is_amp (kind_of_token h.token.kind)) (sym (ap (is_nothing key) h.is) ∙ nothing) in
+            let w : is_amp Equals ≡ true = sym (ap is_amp (h.kind ∙ k)) ∙ amp.1 in cc
+
+        by : (x : Bool) → is_ampersands bytes ≡ x → (x || is_plain_value bytes) ≡ true → is_ampersands after ≡ true
+        by true e s =
+            let all = sym (list_all-append is_ampersand key (raw_behind stop after)) ∙ ap is_ampersands (sym whole) ∙ e in
+            let behind_key = and_both (is_ampersands key) (is_ampersands (raw_behind stop after)) all in
+            let behind_token = sym (list_all-append is_ampersand t.raw.now after) ∙ ap (λ o. is_ampersands (raw_behind o after)) (sym is) ∙ behind_key.1 in
+            (and_both (is_ampersands t.raw.now) (is_ampersands after) behind_token).1
+        by false e s = absurd (value bytes s run token whole)
+
+    -- an empty key before `=` and a value that stands for itself
+    pub small_value : (bytes : List ℕ) → key ≡ raw_of (cut (ends_root depth) (tokens form bytes)).0 → (cut (ends_root depth) (tokens form bytes)).1 ≡ behind stop rest → bytes ≡ key ++ raw_behind stop after
+        → TakesNoMemory bytes → is_nothing key stop ≡ false → (key ≡ []) × IsEqualsStop stop × (is_plain after ≡ true)
+    small_value [] run token whole small some = absurd (by stop token (sym (ap (λ k. is_nothing k stop) run) ∙ some))
+      where
+        by : (stop : Option code.Token) → [] ≡ behind stop rest → is_nothing [] stop ≡ false → ⊥
+        by None e d = cc
+        by (Some t) e d = cc
+    small_value (b ∷ v) run token whole small some = by (is_ampersands (b ∷ v)) refl small
+      where
+        by : (x : Bool) → is_ampersands (b ∷ v) ≡ x → (x || is_plain_value (b ∷ v)) ≡ true → (key ≡ []) × IsEqualsStop stop × (is_plain after ≡ true)
+        by true e s =
+            let parts = and_both (b == 38) (is_ampersands v) e in
+            let k = amp_byte b parts.0 in
+            let h = begins b v key stop rest after run token whole (other_than b 38 parts.0 refl) (ap (λ k. is_amp k || is_equals k) k) in
+            let w : is_nothing [] (Some h.token) ≡ false = sym (ap₂ is_nothing h.empty h.is) ∙ some in
+            let amp : is_amp (kind_of_token h.token.kind) ≡ true = ap is_amp (h.kind ∙ k) in
+            absurd (cc)
+        by false e s =
+            let parts = and_both (b == 61) (is_plain v) s in
+            let k = equals_byte b parts.0 in
+            let h = begins b v key stop rest after run token whole (other_than b 61 parts.0 refl) (ap (λ k. is_amp k || is_equals k) k) in
+            (h.empty, subst IsEqualsStop (sym h.is) (ap is_equals (h.kind ∙ k)), ap is_plain h.left ∙ parts.1)
+
+-- one item more of what is left of such an input
+pub small_start : (rest : List ℕ) (tree : Draft) → TakesNoMemory rest → tree ≡ Fresh → StaysSmall rest tree
+small_start rest tree small fresh = inr (small, fresh)
+
+pub small_end : (rest : List ℕ) (tree : Draft) → rest ≡ [] → IsFlat tree → StaysSmall rest tree
+small_end rest tree none flat = inl (none, flat)
+
+small_read : (rest : List ℕ) (tree : Draft) → StaysSmall rest tree → TakesNoMemory rest
+small_read rest tree (inl h) = subst TakesNoMemory (sym h.0) refl
+small_read rest tree (inr h) = h.0
+
+pub small_flat : (rest : List ℕ) (tree : Draft) → StaysSmall rest tree → IsFlat tree
+small_flat rest tree (inl h) = h.1
+small_flat rest tree (inr h) = subst IsFlat (sym h.1) (subst IsNoMap (sym draft_tree-Fresh) tt)
+
+pub small_goes : (rest : List ℕ) (tree : Draft) (o : Result item.Item fault.Fault) (new : cursor.Cursor) (p : code_pair.Pair) → StaysSmall rest tree → (TakesNoMemory rest → ReadsSmall o new p) → ReadsSmall o new p
+small_goes rest tree o new p h f = f (small_read rest tree h)
+
+pub small_ampersand : (old new : List ℕ) (tree : Draft) → length new < length old → StaysSmall old tree → is_ampersands new ≡ true → StaysSmall new tree
+small_ampersand old new tree shorter (inl h) amp = absurd (omega (arith, ap length h.0))
+small_ampersand old new tree shorter (inr h) amp = inr (ap (λ x. x || is_plain_value new) amp, h.1)
+
+pub small_fresh : (old new : List ℕ) (tree : Draft) → length new < length old → StaysSmall old tree → tree ≡ Fresh
+small_fresh old new tree shorter (inl h) = absurd (omega (arith, ap length h.0))
+small_fresh old new tree shorter (inr h) = h.1

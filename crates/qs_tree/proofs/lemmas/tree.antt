@@ -1,0 +1,9 @@
+pub mod ByteOrder
+pub mod Places
+pub mod Keys
+pub mod Equality
+pub mod MetNodes
+pub mod Lengths
+pub mod Ordered
+pub mod Owned
+pub mod NodeCounts

@@ -1,0 +1,23 @@
+-- When two keys and two values are equal: where their segments and their trees are, marks aside.
+use Rattle.std.proofs.Common.{◌≡◌, IsTrue, ◌↔◌, ap, sym, ◌∙◌}
+use Rattle.std.specs.Ordering.{is_eq}
+use Rattle.qs_spec.specs.Segment.{is_same_segment}
+use Rattle.qs_spec.specs.Order.{unmarked}
+use Rattle.qs_spec.proofs.Order.{is_itself}
+use Rattle.qs_spec.proofs.TreeOf.{same_segment}
+use Rattle.qs_tree.specs.declared.tree.key.Key.{Key}
+use Rattle.qs_tree.specs.declared.tree.value.ParsedValue.{ParsedValue}
+use Rattle.qs_tree.specs.contracts.tree.key.KeyOrd.TheImpl.Laws.{matches_eq-law}
+use Rattle.qs_tree.specs.internal.tree.EqualityLaws.{same_trees}
+use Rattle.qs_tree.specs.tree.Keys.{key_eq, value_eq}
+use Rattle.qs_tree.specs.tree.Views.{segment_of_key, tree_of}
+use Rattle.qs_tree.proofs.lemmas.tree.Keys.{key_cmp-segments}
+
+pub key_eq-segments : (a b : Key) → key_eq a b ≡ is_same_segment (segment_of_key a) (segment_of_key b)
+key_eq-segments a b = matches_eq-law a b ∙ ap is_eq (key_cmp-segments a b)
+
+pub equal_keys : (a b : Key) → IsTrue (key_eq a b) ↔ segment_of_key a ≡ segment_of_key b
+equal_keys a b = (λ e. same_segment _ _ (sym (key_eq-segments a b) ∙ e), λ e. key_eq-segments a b ∙ ap (is_same_segment (segment_of_key a)) (sym e) ∙ is_itself (segment_of_key a))
+
+pub equal_values : (a b : ParsedValue) → IsTrue (value_eq a b) ↔ unmarked (tree_of a) ≡ unmarked (tree_of b)
+equal_values a b = same_trees (tree_of a) (tree_of b)

@@ -1,0 +1,24 @@
+-- The entries of a sorted vector are in the order of their keys.
+use Rattle.std.proofs.Common.{◌≡◌, List, [], ◌∷◌, Less, sym, ◌∙◌}
+use Rattle.std.specs.List.{AllByRecursion}
+use Rattle.std.specs.List.Sorted.{IsStrictlySortedBy}
+use Rattle.std.specs.Map.{keys_of}
+use Rattle.qs_spec.specs.Tree.{Tree}
+use Rattle.qs_tree.specs.declared.tree.key.Key.{Key}
+use Rattle.qs_tree.specs.tree.Keys.{key_cmp}
+use Rattle.qs_tree.specs.tree.Views.{segment_of_key, tree_of}
+use Rattle.qs_tree.specs.tree.Ordered.{IsBefore, AreOrdered}
+use Rattle.qs_tree.proofs.lemmas.tree.Keys.{Held, entries_view, seen_view, key_cmp-segments}
+
+module _ {X : Type 0} (seen : X → Tree) where
+  before_all : (k : Key) (es : List (Key × X)) → AllByRecursion (λ y. key_cmp k y ≡ Less) (keys_of es) → IsBefore (segment_of_key k) (seen_view seen es)
+  before_all k [] h = tt
+  before_all k (e ∷ es) h = (sym (key_cmp-segments k e.0) ∙ h.0, before_all k es h.1)
+
+  pub ordered_seen : (es : List (Key × X)) → IsStrictlySortedBy key_cmp (keys_of es) → AreOrdered (seen_view seen es)
+  unfolding IsStrictlySortedBy
+  ordered_seen [] h = tt
+  ordered_seen (e ∷ es) h = (before_all e.0 es h.0, ordered_seen es h.1)
+
+pub ordered_view : (es : Held) → IsStrictlySortedBy key_cmp (keys_of es) → AreOrdered (entries_view es)
+ordered_view es h = ordered_seen tree_of es h

@@ -1,0 +1,219 @@
+-- What a binary search finds among entries in order, and what an edit at its place does.
+use Rattle.std.proofs.Common.{◌≡◌, ℕ, zero, suc, ◌+◌, ◌<◌, ◌≤◌, ◌/◌, List, [], ◌∷◌, ◌++◌, length, get_or, slice_get, slice_set, Some, None, unwrap_or, option_map, Ordering, Less, Equal, Greater, refl, sym, ap, subst, ◌∙◌, inl, inr, ◌⊎◌, arith}
+use Rattle.std.proofs.lemmas.Int.Digits.{length-digits_of_step}
+use Rattle.std.specs.Cmp.{IsTotalOrder}
+use Rattle.std.specs.List.{insert, remove, AllByRecursion}
+use Rattle.std.specs.List.Sorted.{IsStrictlySortedBy}
+use Rattle.std.specs.Map.{keys_of, lookup, set_value, remove_entry}
+use Rattle.std.specs.BTreeMap.{is_at, insert_entry}
+use Rattle.std.specs.Ordering.{ordering_reverse}
+use Rattle.std.proofs.lemmas.Map.Keys.{Less-from_sorted}
+use Rattle.std.proofs.lemmas.Map.Entries.{length-keys_of}
+use Rattle.qs_tree.specs.internal.tree.Places.{against, IsHit, IsGap, put_value}
+use Rattle.qs_tree.specs.tree.Lookup.{binary_digits}
+
+below_or_at : (j m : ℕ) → j < m + 1 → (j < m) ⊎ (j ≡ m)
+below_or_at zero zero lt = inr refl
+below_or_at zero (suc m) lt = inl (omega arith)
+below_or_at (suc j) zero lt = absurd (omega arith)
+below_or_at (suc j) (suc m) lt = elim (below_or_at j m (omega arith)) [ inl a ↦ inl (omega arith) | inr e ↦ inr (ap suc e) ]
+
+above_or_at : (m j : ℕ) → m ≤ j → (m < j) ⊎ (m ≡ j)
+above_or_at zero zero le = inr refl
+above_or_at zero (suc j) le = inl (omega arith)
+above_or_at (suc m) zero le = absurd (omega arith)
+above_or_at (suc m) (suc j) le = elim (above_or_at m j (omega arith)) [ inl a ↦ inl (omega arith) | inr e ↦ inr (ap suc e) ]
+
+-- the key of an entry that was read
+pub key_at : {K X : Type 0} (es : List (K × X)) (m : ℕ) (x : K × X) (k : K) → m < length es → x ≡ get_or es m x → get_or (keys_of es) m k ≡ x.0
+key_at [] m x k lt is = absurd (omega arith)
+key_at (e ∷ es) zero x k lt is = ap (λ (y : _ × _). y.0) (sym is)
+key_at (e ∷ es) (suc m) x k lt is = key_at es m x k (omega arith) is
+
+module _ {K X : Type 0} {cmp : K → K → Ordering} (total : IsTotalOrder cmp) (k : K) (es : List (K × X)) (sorted : IsStrictlySortedBy cmp (keys_of es)) where
+  abbrev key : ℕ → K
+  key j = get_or (keys_of es) j k
+
+  rises : (i j : ℕ) → i < j → j < length es → cmp (key i) (key j) ≡ Less
+  rises i j lt in_range = Less-from_sorted cmp (keys_of es) i j k sorted lt (omega (arith, in_range, length-keys_of es))
+
+  pub before_middle : (m : ℕ) → m < length es → against cmp k es m ≡ Greater → (j : ℕ) → j < m + 1 → against cmp k es j ≡ Greater
+  before_middle m in_range more j lt = elim (below_or_at j m lt) [
+    | inl below ↦ total.antisymm k (key j) ∙ ap ordering_reverse (total.trans (key j) (key m) k (rises j m below in_range) (total.antisymm (key m) k ∙ ap ordering_reverse more))
+    | inr e ↦ subst (λ i. against cmp k es i ≡ Greater) (sym e) more
+  ]
+
+  pub after_middle : (m : ℕ) → against cmp k es m ≡ Less → (j : ℕ) → m ≤ j → j < length es → against cmp k es j ≡ Less
+  after_middle m less j le in_range = elim (above_or_at m j le) [
+    | inl above ↦ total.trans k (key m) (key j) less (rises m j above in_range)
+    | inr e ↦ subst (λ i. against cmp k es i ≡ Less) e less
+  ]
+
+  pub hit : (m : ℕ) → m < length es → against cmp k es m ≡ Equal → IsHit cmp k es m
+  hit m in_range same = record {
+    in_range = in_range;
+    same = same;
+    before = λ j lt. total.congr k (key m) (key j) same ∙ total.antisymm (key m) (key j) ∙ ap ordering_reverse (rises j m lt in_range);
+  }
+
+module _ {K X : Type 0} (cmp : K → K → Ordering) (k : K) where
+  pub hit_tail : (e : K × X) (es : List (K × X)) (i : ℕ) → IsHit cmp k (e ∷ es) (suc i) → IsHit cmp k es i
+  hit_tail e es i h = record { in_range = omega (arith, h.in_range); same = h.same; before = λ j lt. h.before (suc j) (omega arith) }
+
+  pub gap_tail : (e : K × X) (es : List (K × X)) (i : ℕ) → IsGap cmp k (e ∷ es) (suc i) → IsGap cmp k es i
+  gap_tail e es i h = record { in_range = omega (arith, h.in_range); before = λ j lt. h.before (suc j) (omega arith); after = λ j le lt. h.after (suc j) (omega arith) (omega arith) }
+
+  pub gap_first : (e : K × X) (es : List (K × X)) → IsGap cmp k (e ∷ es) 0 → IsGap cmp k es 0
+  gap_first e es h = record { in_range = omega arith; before = λ j lt. absurd (omega arith); after = λ j le lt. h.after (suc j) (omega arith) (omega arith) }
+
+  pub hit_lookup : (es : List (K × X)) (i : ℕ) → IsHit cmp k es i → lookup (is_at (cmp k)) es ≡ option_map (λ e. e.1) (slice_get es i)
+  hit_lookup [] i h = absurd (omega (arith, h.in_range))
+  hit_lookup (e ∷ es) zero h = rw h.same
+  hit_lookup (e ∷ es) (suc i) h = rw (h.before 0 (omega arith)) (hit_lookup es i (hit_tail e es i h))
+
+  pub hit_set : (es : List (K × X)) (i : ℕ) (w : X) → IsHit cmp k es i → set_value (is_at (cmp k)) es w ≡ put_value es i w
+  hit_set [] i w h = absurd (omega (arith, h.in_range))
+  hit_set (e ∷ es) zero w h = rw h.same
+  hit_set (e ∷ es) (suc i) w h = rw (h.before 0 (omega arith)) (ap (λ l. e ∷ l) (hit_set es i w (hit_tail e es i h)))
+
+  pub hit_remove : (es : List (K × X)) (i : ℕ) → IsHit cmp k es i → remove_entry (is_at (cmp k)) es ≡ remove es i
+  hit_remove [] i h = absurd (omega (arith, h.in_range))
+  hit_remove (e ∷ es) zero h = rw h.same
+  hit_remove (e ∷ es) (suc i) h = rw (h.before 0 (omega arith)) (ap (λ l. e ∷ l) (hit_remove es i (hit_tail e es i h)))
+
+  pub hit_value : (es : List (K × X)) (i : ℕ) (v : X) → IsHit cmp k es i → option_map (λ e. e.1) (slice_get es i) ≡ Some (unwrap_or (lookup (is_at (cmp k)) es) v)
+  hit_value [] i v h = absurd (omega (arith, h.in_range))
+  hit_value (e ∷ es) zero v h = rw h.same refl
+  hit_value (e ∷ es) (suc i) v h = rw (h.before 0 (omega arith)) (hit_value es i v (hit_tail e es i h))
+
+  pub gap_lookup : (es : List (K × X)) (i : ℕ) → IsGap cmp k es i → lookup (is_at (cmp k)) es ≡ None
+  gap_lookup [] i h = refl
+  gap_lookup (e ∷ es) zero h = rw (h.after 0 (omega arith) (omega arith)) (gap_lookup es 0 (gap_first e es h))
+  gap_lookup (e ∷ es) (suc i) h = rw (h.before 0 (omega arith)) (gap_lookup es i (gap_tail e es i h))
+
+  pub gap_remove : (es : List (K × X)) (i : ℕ) → IsGap cmp k es i → remove_entry (is_at (cmp k)) es ≡ es
+  gap_remove [] i h = refl
+  gap_remove (e ∷ es) zero h = rw (h.after 0 (omega arith) (omega arith)) (ap (λ l. e ∷ l) (gap_remove es 0 (gap_first e es h)))
+  gap_remove (e ∷ es) (suc i) h = rw (h.before 0 (omega arith)) (ap (λ l. e ∷ l) (gap_remove es i (gap_tail e es i h)))
+
+  pub gap_insert : (es : List (K × X)) (i : ℕ) (v : X) → IsGap cmp k es i → insert_entry cmp es k v ≡ insert es i (k, v)
+  gap_insert [] zero v h = refl
+  gap_insert [] (suc i) v h = absurd (omega (arith, h.in_range))
+  gap_insert (e ∷ es) zero v h = rw (h.after 0 (omega arith) (omega arith))
+  gap_insert (e ∷ es) (suc i) v h = rw (h.before 0 (omega arith)) (ap (λ l. e ∷ l) (gap_insert es i v (gap_tail e es i h)))
+
+  pub hit_insert : (es : List (K × X)) (i : ℕ) (v : X) → IsHit cmp k es i → insert_entry cmp es k v ≡ put_value es i v
+  hit_insert [] i v h = absurd (omega (arith, h.in_range))
+  hit_insert (e ∷ es) zero v h = rw h.same
+  hit_insert (e ∷ es) (suc i) v h = rw (h.before 0 (omega arith)) (ap (λ l. e ∷ l) (hit_insert es i v (hit_tail e es i h)))
+
+pub keys-put_value : {K X : Type 0} (es : List (K × X)) (i : ℕ) (w : X) → keys_of (put_value es i w) ≡ keys_of es
+keys-put_value [] i w = refl
+keys-put_value (e ∷ es) zero w = refl
+keys-put_value (e ∷ es) (suc i) w = ap (λ l. e.0 ∷ l) (keys-put_value es i w)
+
+pub put_value-set : {K X : Type 0} (es : List (K × X)) (i : ℕ) (x : K × X) (w : X) → i < length es → x ≡ get_or es i x → slice_set es i (x.0, w) ≡ put_value es i w
+put_value-set [] i x w lt is = absurd (omega arith)
+put_value-set (e ∷ es) zero x w lt is = ap (λ (y : _ × _). (y.0, w) ∷ es) is
+put_value-set (e ∷ es) (suc i) x w lt is = ap (λ l. e ∷ l) (put_value-set es i x w (omega arith) is)
+
+-- the order after an edit
+module _ {K : Type 0} (cmp : K → K → Ordering) where
+  pub sorted_none : IsStrictlySortedBy cmp []
+  unfolding IsStrictlySortedBy
+  sorted_none = tt
+
+  pub sorted_tail : (k : K) (ks : List K) → IsStrictlySortedBy cmp (k ∷ ks) → IsStrictlySortedBy cmp ks
+  unfolding IsStrictlySortedBy
+  sorted_tail k ks s = s.1
+
+  sorted_head : (k : K) (ks : List K) → IsStrictlySortedBy cmp (k ∷ ks) → AllByRecursion (λ y. cmp k y ≡ Less) ks
+  unfolding IsStrictlySortedBy
+  sorted_head k ks s = s.0
+
+  sorted_cons : (k : K) (ks : List K) → AllByRecursion (λ y. cmp k y ≡ Less) ks → IsStrictlySortedBy cmp ks → IsStrictlySortedBy cmp (k ∷ ks)
+  unfolding IsStrictlySortedBy
+  sorted_cons k ks a s = (a, s)
+
+  all_upto : (P : K → Type 0) (ks : List K) (k : K) (ls : List K) → AllByRecursion P (ks ++ k ∷ ls) → AllByRecursion P (ks ++ k ∷ [])
+  all_upto P [] k ls a = (a.0, tt)
+  all_upto P (x ∷ ks) k ls a = (a.0, all_upto P ks k ls a.1)
+
+  pub sorted_upto : (ks : List K) (k : K) (ls : List K) → IsStrictlySortedBy cmp (ks ++ k ∷ ls) → IsStrictlySortedBy cmp (ks ++ k ∷ [])
+  sorted_upto [] k ls s = sorted_cons k [] tt sorted_none
+  sorted_upto (x ∷ ks) k ls s = sorted_cons x (ks ++ k ∷ []) (all_upto (λ y. cmp x y ≡ Less) ks k ls (sorted_head x (ks ++ k ∷ ls) s)) (sorted_upto ks k ls (sorted_tail x (ks ++ k ∷ ls) s))
+
+  module _ {X : Type 0} where
+    all_after : (k : K) (es : List (K × X)) → IsGap cmp k es 0 → AllByRecursion (λ y. cmp k y ≡ Less) (keys_of es)
+    all_after k [] h = tt
+    all_after k (e ∷ es) h = (h.after 0 (omega arith) (omega arith), all_after k es (gap_first cmp k e es h))
+
+    all_insert : (P : K → Type 0) (es : List (K × X)) (i : ℕ) (x : K × X) → AllByRecursion P (keys_of es) → P x.0 → AllByRecursion P (keys_of (insert es i x))
+    all_insert P [] zero x a p = (p, tt)
+    all_insert P [] (suc i) x a p = (p, tt)
+    all_insert P (e ∷ es) zero x a p = (p, a)
+    all_insert P (e ∷ es) (suc i) x a p = (a.0, all_insert P es i x a.1 p)
+
+    pub sorted_insert : IsTotalOrder cmp → (k : K) (v : X) (es : List (K × X)) (i : ℕ) → IsGap cmp k es i → IsStrictlySortedBy cmp (keys_of es) → IsStrictlySortedBy cmp (keys_of (insert es i (k, v)))
+    sorted_insert total k v [] zero h s = sorted_cons k [] tt sorted_none
+    sorted_insert total k v [] (suc i) h s = absurd (omega (arith, h.in_range))
+    sorted_insert total k v (e ∷ es) zero h s = sorted_cons k (keys_of (e ∷ es)) (all_after k (e ∷ es) h) s
+    sorted_insert total k v (e ∷ es) (suc i) h s =
+        sorted_cons e.0 (keys_of (insert es i (k, v)))
+        (all_insert (λ y. cmp e.0 y ≡ Less) es i (k, v) (sorted_head e.0 (keys_of es) s) (total.antisymm e.0 k ∙ ap ordering_reverse (h.before 0 (omega arith))))
+        (sorted_insert total k v es i (gap_tail cmp k e es i h) (sorted_tail e.0 (keys_of es) s))
+
+    all_remove : (P : K → Type 0) (es : List (K × X)) (i : ℕ) → AllByRecursion P (keys_of es) → AllByRecursion P (keys_of (remove es i))
+    all_remove P [] zero a = tt
+    all_remove P [] (suc i) a = tt
+    all_remove P (e ∷ es) zero a = a.1
+    all_remove P (e ∷ es) (suc i) a = (a.0, all_remove P es i a.1)
+
+    pub sorted_remove : (es : List (K × X)) (i : ℕ) → IsStrictlySortedBy cmp (keys_of es) → IsStrictlySortedBy cmp (keys_of (remove es i))
+    sorted_remove [] zero s = s
+    sorted_remove [] (suc i) s = s
+    sorted_remove (e ∷ es) zero s = sorted_tail e.0 (keys_of es) s
+    sorted_remove (e ∷ es) (suc i) s = sorted_cons e.0 (keys_of (remove es i)) (all_remove (λ y. cmp e.0 y ≡ Less) es i (sorted_head e.0 (keys_of es) s)) (sorted_remove es i (sorted_tail e.0 (keys_of es) s))
+
+    all_front : (P : K → Type 0) (es fs : List (K × X)) → AllByRecursion P (keys_of (es ++ fs)) → AllByRecursion P (keys_of es)
+    all_front P [] fs a = tt
+    all_front P (e ∷ es) fs a = (a.0, all_front P es fs a.1)
+
+    pub sorted_front : (es fs : List (K × X)) → IsStrictlySortedBy cmp (keys_of (es ++ fs)) → IsStrictlySortedBy cmp (keys_of es)
+    sorted_front [] fs s = sorted_none
+    sorted_front (e ∷ es) fs s = sorted_cons e.0 (keys_of es) (all_front (λ y. cmp e.0 y ≡ Less) es fs (sorted_head e.0 (keys_of (es ++ fs)) s)) (sorted_front es fs (sorted_tail e.0 (keys_of (es ++ fs)) s))
+
+-- a binary search
+digits_grow : (fuel m n : ℕ) → n ≤ fuel → m ≤ n → binary_digits m ≤ binary_digits n
+digits_grow zero m n small le = let z : n ≡ m = omega arith in rw z (omega arith)
+digits_grow (suc fuel) zero n small le = omega arith
+digits_grow (suc fuel) (suc m) n small le =
+    omega (arith, length-digits_of_step 2 (suc m) (omega arith) (omega arith), length-digits_of_step 2 n (omega arith) (omega arith), digits_grow fuel (suc m / 2) (n / 2) (omega arith) (omega arith))
+
+-- half as many have a digit less
+pub halved : (s t : ℕ) → 0 < s → t ≤ s / 2 → binary_digits t + 1 ≤ binary_digits s
+halved s t some half = omega (arith, length-digits_of_step 2 s (omega arith) some, digits_grow (s / 2) t (s / 2) (omega arith) half)
+
+pub keys-append : {K X : Type 0} (es fs : List (K × X)) → keys_of (es ++ fs) ≡ keys_of es ++ keys_of fs
+keys-append [] fs = refl
+keys-append (e ∷ es) fs = ap (λ l. e.0 ∷ l) (keys-append es fs)
+
+-- what was put at a place
+module _ {K X : Type 0} where
+  pub insert_put : (es : List (K × X)) (i : ℕ) (k : K) (v w : X) → i < length es + 1 → put_value (insert es i (k, v)) i w ≡ insert es i (k, w)
+  insert_put [] zero k v w lt = refl
+  insert_put [] (suc i) k v w lt = absurd (omega arith)
+  insert_put (e ∷ es) zero k v w lt = refl
+  insert_put (e ∷ es) (suc i) k v w lt = ap (λ l. e ∷ l) (insert_put es i k v w (omega arith))
+
+  pub insert_get : (es : List (K × X)) (i : ℕ) (k : K) (v : X) → i < length es + 1 → slice_get (insert es i (k, v)) i ≡ Some (k, v)
+  insert_get [] zero k v lt = refl
+  insert_get [] (suc i) k v lt = absurd (omega arith)
+  insert_get (e ∷ es) zero k v lt = refl
+  insert_get (e ∷ es) (suc i) k v lt = insert_get es i k v (omega arith)
+
+  pub insert_length : (es : List (K × X)) (i : ℕ) (k : K) (v : X) → i < length es + 1 → i < length (insert es i (k, v))
+  insert_length [] zero k v lt = omega arith
+  insert_length [] (suc i) k v lt = absurd (omega arith)
+  insert_length (e ∷ es) zero k v lt = omega arith
+  insert_length (e ∷ es) (suc i) k v lt = omega (arith, insert_length es i k v (omega arith))

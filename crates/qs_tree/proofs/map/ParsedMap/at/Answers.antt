@@ -1,5 +1,0 @@
-use Rattle.qs_tree.proofs.Keys.{map_pairs-map, pair_at}
-use Rattle.qs_tree.proofs.map.ParsedMap.at.Goals as goal
-
-pub returns : goal.returns
-returns c = rw map_pairs-map (pair_at c.entry_at.result c.args.self.now.map c.args.at c.entry_at.ensures)

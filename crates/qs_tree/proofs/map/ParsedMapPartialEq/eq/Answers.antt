@@ -1,7 +1,0 @@
-use Rattle.std.proofs.Common.{ap₂, ◌∙◌}
-use Rattle.qs_tree.specs.Equality.{entries_same}
-use Rattle.qs_tree.proofs.MetNodes.{entries_in}
-use Rattle.qs_tree.proofs.map.ParsedMapPartialEq.eq.Goals as goal
-
-pub returns : goal.returns
-returns c = c.same_entries.ensures ∙ ap₂ entries_same (entries_in _ _ c.as_slice.ensures.all) (entries_in _ _ c.as_slice-2.ensures.all)

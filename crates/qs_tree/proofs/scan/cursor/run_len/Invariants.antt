@@ -1,0 +1,10 @@
+use Rattle.std.proofs.Common.{◌-◌, length}
+use Rattle.qs_tree.specs.internal.scan.Cursor.{ends_of}
+use Rattle.qs_tree.proofs.lemmas.scan.Runs.{Within}
+use Rattle.qs_tree.proofs.scan.cursor.run_len.Given as goal
+
+abbrev pub invariant-loop-at : goal.invariant-loop-at
+invariant-loop-at l = Within (ends_of l.until) l.form l.bytes l.at
+
+abbrev pub decreases-loop-at : goal.decreases-loop-at
+decreases-loop-at l = length l.bytes - l.at

@@ -1,7 +1,0 @@
-use Rattle.std.proofs.Common.{arith, ◌==◌, w8}
-use Rattle.std.proofs.lemmas.Simd.{bitmask_splat, length-chunk}
-use lib.Lanes.{chunk}
-use Rattle.qs_tree.proofs.search.marks.ByteClass.mask.Goals as goal
-
-pub returns : goal.returns
-returns c = bitmask_splat w8 (λ a b. a == b) (chunk c.args.at 32 c.args.bytes.now) 32 c.args.self.0 (length-chunk c.args.at 32 c.args.bytes.now c.requires) (omega arith)

@@ -1,0 +1,13 @@
+use Rattle.std.proofs.Common.{ap, ◌∙◌, arith}
+use Rattle.qs_tree.specs.internal.tree.NodeCount.{node_count}
+use Rattle.qs_tree.proofs.lemmas.Views.{tree_of-Map, tree_of-Sequence}
+use Rattle.qs_tree.proofs.lemmas.tree.NodeCounts.{nodes}
+use Rattle.qs_tree.proofs.tree.dropping.drop_tree.Goals as goal
+
+pub loop-left-smaller-in-Map : goal.loop-left-smaller-in-Map
+loop-left-smaller-in-Map c =
+    omega (arith, c.without_last_entry.ensures, ap nodes c.in-Map.is ∙ ap node_count (tree_of-Map c.in-Map.map))
+
+pub loop-left-smaller : goal.loop-left-smaller
+loop-left-smaller c =
+    omega (arith, c.without_last_item.ensures.0, ap nodes c.in-Sequence.is ∙ ap node_count (tree_of-Sequence c.in-Sequence.items))

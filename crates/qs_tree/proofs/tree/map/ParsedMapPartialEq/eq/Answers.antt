@@ -1,0 +1,7 @@
+use Rattle.std.proofs.Common.{ap₂, ◌∙◌}
+use Rattle.qs_tree.specs.tree.Equality.{entries_same}
+use Rattle.qs_tree.proofs.lemmas.tree.MetNodes.{entries_in}
+use Rattle.qs_tree.proofs.tree.map.ParsedMapPartialEq.eq.Goals as goal
+
+pub returns : goal.returns
+returns c = c.same_entries.ensures ∙ ap₂ entries_same (entries_in _ _ c.as_slice.ensures.all) (entries_in _ _ c.as_slice-2.ensures.all)

@@ -1,0 +1,42 @@
+use Rattle.std.proofs.Common.{◌≡◌, ◌&&◌, true, false, arith, sym, ap, ap₂, ◌∙◌}
+use Rattle.qs_spec.specs.Segment.{is_same_segment}
+use Rattle.qs_tree.specs.tree.Equality.{tree_same}
+use Rattle.qs_tree.specs.tree.Views.{segment_of_key, tree_of}
+use Rattle.qs_tree.proofs.lemmas.tree.Equality.{key_eq-segments}
+use Rattle.qs_tree.proofs.lemmas.tree.MetNodes.{node_with}
+use Rattle.qs_tree.proofs.lemmas.tree.NodeCounts.{entry_at_within, item_at_within}
+use Rattle.qs_tree.proofs.lemmas.tree.Lengths.{other_items, other_entries}
+use Rattle.qs_tree.proofs.tree.sameness.+sameness.Goals as goal
+
+pub same_entries-returns-then-left-right : goal.same_entries-returns-then-left-right
+same_entries-returns-then-left-right t c = sym (other_entries c.args.left.now c.args.right.now c.if-left-right.true)
+
+pub same_items-returns-then-left-right : goal.same_items-returns-then-left-right
+same_items-returns-then-left-right t c = sym (other_items c.args.left.now c.args.right.now c.if-left-right.true)
+
+pub same_items-same_nodes-requires : goal.same_items-same_nodes-requires
+same_items-same_nodes-requires t c =
+    (omega (arith, c.decreases, item_at_within c.args.left.now c.loop-at.at c.index-left-at.result c.loop-at-test.true c.index-left-at.is), tt)
+
+pub same_entries-same_entry-requires : goal.same_entries-same_entry-requires
+same_entries-same_entry-requires t c =
+    (omega (arith, c.decreases, entry_at_within c.args.left.now c.loop-at.at c.index-left-at.result c.loop-at-test.true c.index-left-at.is), tt)
+
+pub same_nodes-returns-in-Map-Map : goal.same_nodes-returns-in-Map-Map
+same_nodes-returns-in-Map-Map t c =
+    let maps = c.in-Map-Map in
+    c.same_entries.ensures ∙ sym (ap₂ tree_same (node_with _ maps.left _ maps.is-0 c.as_slice.ensures.all) (node_with _ maps.right _ maps.is-1 c.as_slice-in-Map-Map.ensures.all))
+
+pub same_entry-returns-then-eq : goal.same_entry-returns-then-eq
+same_entry-returns-then-eq t c =
+    let e = c.args.left.now in
+    let o = c.args.right.now in
+    let keys : is_same_segment (segment_of_key e.0) (segment_of_key o.0) ≡ true = sym (key_eq-segments e.0 o.0) ∙ sym c.eq.ensures ∙ c.if-eq.true in
+    c.same_nodes.ensures ∙ sym (ap (λ b. b && tree_same (tree_of e.1) (tree_of o.1)) keys)
+
+pub same_entry-returns-else-eq : goal.same_entry-returns-else-eq
+same_entry-returns-else-eq t c =
+    let e = c.args.left.now in
+    let o = c.args.right.now in
+    let keys : is_same_segment (segment_of_key e.0) (segment_of_key o.0) ≡ false = sym (key_eq-segments e.0 o.0) ∙ sym c.eq.ensures ∙ c.if-eq.false in
+    c.if-eq.false ∙ sym (ap (λ b. b && tree_same (tree_of e.1) (tree_of o.1)) keys)

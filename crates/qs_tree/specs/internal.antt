@@ -1,0 +1,7 @@
+-- Steps on the way to proofs. No public clause uses a word of this folder.
+pub mod Settings
+pub mod Parsing
+pub mod escape
+pub mod scan
+pub mod tree
+pub mod build

@@ -1,0 +1,4 @@
+pub mod Draft
+pub mod Adding
+pub mod Descent
+pub mod Settling

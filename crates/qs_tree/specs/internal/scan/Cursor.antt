@@ -1,0 +1,94 @@
+-- What the calls of a cursor take.
+use Rattle.std.specs.Prelude.{◌≡◌, ℕ, ◌+◌, ◌-◌, ◌≤◌, List, [], ◌∷◌, ◌++◌, take, drop, length, ◌==◌, Bool, true, false, Option, Some, None}
+use Rattle.qs_spec.specs.Token.{Kind, Token, tokens, byte_kind}
+use Rattle.qs_spec.specs.Grammar.{is_close, ends_last, ends_root}
+use Rattle.qs_tree.specs.declared.scan.cursor.Kind as kind
+use Rattle.qs_tree.specs.declared.scan.cursor.Token as token
+use Rattle.qs_tree.specs.declared.scan.cursor.Until as until
+use Rattle.qs_tree.specs.declared.scan.cursor.Cursor as cursor
+
+-- the kind of the grammar that the code's enum stands for
+abbrev pub kind_of_token : kind.Kind → Kind
+kind_of_token kind.TheVariants.Ampersand = Kind.Amp
+kind_of_token kind.TheVariants.Equals = Kind.Equals
+kind_of_token kind.TheVariants.Open = Kind.Open
+kind_of_token kind.TheVariants.Close = Kind.Close
+kind_of_token (kind.TheVariants.Other b) = Kind.Other
+
+abbrev pub token_of : token.Token → Token
+token_of t = record { kind = kind_of_token t.kind; raw = t.raw.now }
+
+-- the kinds that end a run
+abbrev pub ends_of : until.Until → Kind → Bool
+ends_of until.TheVariants.Separator = ends_last
+ends_of until.TheVariants.SeparatorOrOpen = ends_root 1
+ends_of until.TheVariants.Close = is_close
+
+-- the first token is of this kind and so many bytes, and the others follow
+abbrev pub BeginsWith : Bool → List ℕ → kind.Kind → ℕ → Type 0
+BeginsWith form bytes k len = tokens form bytes ≡ record { kind = kind_of_token k; raw = take len bytes } ∷ tokens form (drop len bytes)
+
+-- a byte that is no `%` and no separator or bracket, and so a token by itself
+abbrev pub IsLetter : ℕ → Type 0
+IsLetter b = ((b == 37) ≡ false) × (byte_kind b ≡ Kind.Other)
+
+-- the tokens that are left
+abbrev pub left : cursor.Cursor → List Token
+left c = tokens c.form c.rest.now
+
+-- the steps that were taken, and the bytes that are left
+abbrev pub spent : cursor.Cursor → ℕ
+spent c = c.steps + length c.rest.now
+
+-- a look that met the end is a step
+abbrev pub looks : Option token.Token → ℕ
+looks None = 1
+looks (Some t) = 0
+
+-- a token that was taken, and those after it; at the end there are none
+abbrev pub behind : Option token.Token → List Token → List Token
+behind None ts = []
+behind (Some t) ts = token_of t ∷ ts
+
+-- the same as bytes
+abbrev pub raw_behind : Option token.Token → List ℕ → List ℕ
+raw_behind None rest = []
+raw_behind (Some t) rest = t.raw.now ++ rest
+
+-- the bytes between a place and what is left
+abbrev pub taken : List ℕ → List ℕ → List ℕ
+taken start rest = take (length start - length rest) start
+
+-- what is left of what stood there
+abbrev pub IsLeft : List ℕ → List ℕ → Type 0
+IsLeft start rest = rest ≡ drop (length start - length rest) start
+
+-- some tokens begin with the `&` that the cursor follows; or there are none, and it met the end
+abbrev pub IsPast : List Token → cursor.Cursor → Type 0
+IsPast [] c = c.rest.now ≡ []
+IsPast (t ∷ ts) c = (t.kind ≡ Kind.Amp) × (ts ≡ left c)
+
+-- whether the end was met, after a look
+abbrev pub met : Option token.Token → Bool → Bool
+met None before = true
+met (Some t) before = before
+
+-- where the end was met, nothing is left
+abbrev pub KnowsEnd : cursor.Cursor → Type 0
+KnowsEnd c = c.ended ≡ true → c.rest.now ≡ []
+
+-- a look that is still to meet the end
+abbrev pub to_come : Bool → ℕ
+to_come true = 0
+to_come false = 1
+
+-- the steps of the whole input: those that were taken, and those to come, for the bytes that are left and for the look at the end
+abbrev pub in_all : cursor.Cursor → ℕ
+in_all c = spent c + to_come c.ended
+
+-- A cursor moved on: each byte that it took is a step, and so is the one look that met the end.
+pub record GoesOn (old new : cursor.Cursor) : Type 0 where
+  pub form : new.form ≡ old.form
+  pub shorter : length new.rest.now ≤ length old.rest.now
+  pub steps : in_all new ≡ in_all old
+  pub end : KnowsEnd new

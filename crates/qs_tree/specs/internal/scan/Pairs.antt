@@ -1,0 +1,39 @@
+-- What the types of a pair stand for.
+use Rattle.std.specs.Prelude.{◌≡◌, [], List, Bool, true, false, map}
+use Rattle.std.specs.declared.borrow.CowSlice.TheVariants.{Borrowed, Owned}
+use Rattle.qs_spec.specs.Segment.{Step}
+use Rattle.qs_spec.specs.Leaf.{Leaf, NoValue, Null, Text}
+use Rattle.qs_spec.specs.Tree.{Tree, leaf}
+use Rattle.qs_spec.specs.Grammar as grammar
+use Rattle.qs_tree.specs.declared.tree.key.Key.{Key}
+use Rattle.qs_tree.specs.declared.scan.pair.Leaf as code
+use Rattle.qs_tree.specs.declared.scan.pair.Leaf.TheVariants as variant
+use Rattle.qs_tree.specs.declared.scan.pair.Manner.{Manner}
+use Rattle.qs_tree.specs.declared.scan.pair.Manner.TheVariants.{Plain, Push}
+use Rattle.qs_tree.specs.declared.scan.pair.Pair.{Pair}
+use Rattle.qs_tree.specs.tree.Views.{step_of_key}
+
+-- an owned text is marked
+abbrev pub leaf_of : code.Leaf → Leaf
+leaf_of variant.NoValue = NoValue
+leaf_of variant.Null = Null
+leaf_of (variant.Text (Borrowed r)) = Text r.now false
+leaf_of (variant.Text (Owned v)) = Text v.items true
+
+abbrev pub is_push : Manner → Bool
+is_push Plain = false
+is_push Push = true
+
+abbrev pub path_of : List Key → List Step
+path_of keys = map step_of_key keys
+
+abbrev pub pair_of : Pair → grammar.Pair
+pair_of p = record { path = path_of p.path.items; push = is_push p.manner; leaf = leaf_of p.leaf }
+
+-- a leaf as a node
+abbrev pub leaf_tree : code.Leaf → Tree
+leaf_tree l = leaf (leaf_of l)
+
+-- a plain pair at the empty path
+abbrev pub IsBare : Pair → Type 0
+IsBare p = (p.path.items ≡ []) × (p.manner ≡ Plain)

@@ -1,0 +1,4 @@
+pub mod Places
+pub mod Lending
+pub mod NodeCount
+pub mod EqualityLaws

@@ -1,0 +1,7 @@
+-- How many steps a look-up takes at most.
+use Rattle.std.specs.Prelude.{ℕ, length}
+use Rattle.std.specs.Int.Digits.{digits_of}
+
+-- how many digits a number has in base two, none for 0
+abbrev pub binary_digits : ℕ → ℕ
+binary_digits n = length (digits_of 2 n)

@@ -1,0 +1,85 @@
+-- What the types of the code stand for.
+use Rattle.std.specs.Prelude.{ℕ, List, [], ◌∷◌, ◌++◌, Bool, true, false, Option, Some, None, if◌then◌else◌, map, decimal}
+use Rattle.std.specs.Str.Lossy.{utf8_lossy}
+use Rattle.std.specs.declared.borrow.CowSlice.TheVariants.{Borrowed, Owned}
+use Rattle.qs_spec.specs.Segment.{Segment, Step, is_same_segment}
+use Rattle.qs_spec.specs.Segment.Segment.{Int, Str}
+use Rattle.qs_spec.specs.Leaf.Leaf.{NoValue, Null, Text}
+use Rattle.qs_spec.specs.Tree.{Tree, Items, Entries}
+use Rattle.qs_spec.specs.Tree.Tree.{leaf, sequence, mapping, uninitialized}
+use Rattle.qs_spec.specs.Tree.Items.{no_items, item}
+use Rattle.qs_spec.specs.Tree.Entries.{no_entries, entry}
+use Rattle.qs_tree.specs.declared.tree.key.Key.{Key}
+use Rattle.qs_tree.specs.declared.tree.key.Key.TheVariants as key
+use Rattle.qs_tree.specs.declared.tree.value.ParsedValue.{ParsedValue, fold-ParsedValue}
+use Rattle.qs_tree.specs.declared.tree.value.ParsedValue.TheOpen.{ParsedValue-F, ParsedMap-F}
+use Rattle.qs_tree.specs.declared.tree.map.ParsedMap.{ParsedMap, fold-ParsedMap}
+
+-- the segment that a key is
+abbrev pub segment_of_key : Key → Segment
+segment_of_key (key.Int n) = Int n
+segment_of_key (key.String (Borrowed r)) = Str r.now
+segment_of_key (key.String (Owned v)) = Str v.items
+
+-- an owned text is marked
+abbrev pub key_mark : Key → Bool
+key_mark (key.Int n) = false
+key_mark (key.String (Borrowed r)) = false
+key_mark (key.String (Owned v)) = true
+
+abbrev pub step_of_key : Key → Step
+step_of_key k = record { seg = segment_of_key k; mark = key_mark k }
+
+abbrev pub items_from : List Tree → Items
+items_from [] = no_items
+items_from (t ∷ ts) = item t (items_from ts)
+
+abbrev pub entries_from : List (Key × Tree) → Entries
+entries_from [] = no_entries
+entries_from (p ∷ ps) = entry (segment_of_key p.0) (key_mark p.0) p.1 (entries_from ps)
+
+-- one level of a value, with what is inside already seen as trees
+abbrev pub tree_step : ParsedValue-F Tree Entries → Tree
+tree_step (ParsedValue-F.Map m) = mapping m
+tree_step (ParsedValue-F.Sequence v) = sequence (items_from v.items)
+tree_step (ParsedValue-F.String (Borrowed r)) = leaf (Text r.now false)
+tree_step (ParsedValue-F.String (Owned v)) = leaf (Text v.items true)
+tree_step ParsedValue-F.Null = leaf Null
+tree_step ParsedValue-F.NoValue = leaf NoValue
+tree_step ParsedValue-F.Uninitialized = uninitialized
+
+abbrev pub map_step : ParsedMap-F Tree Entries → Entries
+map_step m = entries_from m.map
+
+-- the tree that a value is, with an owned text marked
+abbrev pub tree_of : ParsedValue → Tree
+tree_of = fold-ParsedValue Tree Entries tree_step map_step
+
+abbrev pub entries_of_map : ParsedMap → Entries
+entries_of_map = fold-ParsedMap Tree Entries tree_step map_step
+
+abbrev pub items_of : List ParsedValue → Items
+items_of vs = items_from (map tree_of vs)
+
+-- entries as a list of keys and trees
+abbrev pub pairs_of : Entries → List (Step × Tree)
+pairs_of no_entries = []
+pairs_of (entry k mark t es) = (record { seg = k; mark = mark }, t) ∷ pairs_of es
+
+abbrev pub map_pairs : ParsedMap → List (Step × Tree)
+map_pairs m = pairs_of (entries_of_map m)
+
+-- the tree at a segment
+abbrev pub find : Segment → Entries → Option Tree
+find s no_entries = None
+find s (entry k mark t es) = if is_same_segment s k then Some t else find s es
+
+-- the entries without the one at a segment
+abbrev pub take_out : Segment → Entries → Entries
+take_out s no_entries = no_entries
+take_out s (entry k mark t es) = if is_same_segment s k then es else entry k mark t (take_out s es)
+
+-- a number in decimal, or a text between double quotes with what is no UTF-8 replaced
+abbrev pub shown : Segment → List ℕ
+shown (Int n) = decimal n
+shown (Str bytes) = 34 ∷ utf8_lossy bytes ++ 34 ∷ []

@@ -1,0 +1,11 @@
+//! Escapes: percent-decoding and percent-encoding, and the searches for the bytes that they change.
+
+mod copying;
+mod decoding;
+mod encoding;
+mod search;
+
+pub use decoding::decode;
+pub(crate) use decoding::unescape;
+pub use encoding::encode;
+pub use search::{find_ampersand, find_encoded, find_escape};

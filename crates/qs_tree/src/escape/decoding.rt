@@ -1,0 +1,127 @@
+//! What the bytes of a querystring stand for.
+
+ghost use Rattle.std.specs.Prelude.{◌≡◌, ◌+◌, ◌<◌, ◌≤◌, ◌++◌, false, length, IfOk, IsOk, SomeIff, take, drop};
+ghost use Rattle.std.specs.Char.{digit_value};
+ghost use Rattle.std.specs.Cow.{cow_slice_items};
+ghost use Rattle.qs_spec.specs.Escape.{decoded, is_marked};
+ghost use Rattle.qs_tree.specs.Error.{OnlyOutOfMemory};
+ghost use Rattle.qs_tree.specs.escape.Copies.{is_owned};
+
+use crate::error::Result;
+use crate::escape::copying::{copy_run, put};
+use crate::escape::search::{Byte, find_escape};
+use std::alloc::{AllocError, Global};
+use std::borrow::CowSlice;
+
+/// What the bytes stand for: `+` is a space, and `%` with two hexadecimal digits of either case is one byte.
+///
+/// A broken escape stays as it is: `%` and the byte after it where that is no digit, and with the next one
+/// too where only the second is none; what stays isn't looked at again, so `%%41` stands for itself.
+///
+/// Bytes without `+` and `%` are borrowed and nothing is allocated. All others are copied, into memory that
+/// is allocated at once; where that fails the result is `OutOfMemory`, the only error. It goes over the
+/// bytes once, and over those before the first `+` or `%` twice; what stands between two `%` is copied 32
+/// bytes at once.
+///
+/// ```
+/// decode(alloc, b"a%5Bb%5D=1")?; // `a[b]=1`
+/// ```
+pub fn decode(alloc: Global, bytes: &[u8]) -> Result<CowSlice<'_, u8>>
+    ensures value { IfOk result (λ text. cow_slice_items text ≡ decoded bytes.now) }
+    ensures owned { IfOk result (λ text. is_owned text ≡ is_marked bytes.now) }
+    ensures no_memory { is_marked bytes.now ≡ false → IsOk result }
+    ensures errors { OnlyOutOfMemory result }
+{
+    Ok(unescape(alloc, bytes)?)
+}
+
+/// The same, with an error without a text.
+pub(crate) fn unescape(alloc: Global, bytes: &[u8]) -> Result<CowSlice<'_, u8>, AllocError>
+    ensures value { IfOk result (λ text. cow_slice_items text ≡ decoded bytes.now) }
+    ensures owned { IfOk result (λ text. is_owned text ≡ is_marked bytes.now) }
+    ensures no_memory { is_marked bytes.now ≡ false → IsOk result }
+{
+    if find_escape(bytes).is_none() {
+        return Ok(CowSlice::Borrowed(bytes));
+    }
+    Ok(CowSlice::Owned(unescaped(alloc, bytes)?))
+}
+
+/// What the bytes stand for, in memory of its own.
+#[inline(never)]
+fn unescaped(alloc: Global, bytes: &[u8]) -> Result<Vec<u8>, AllocError>
+    ensures { IfOk result (λ text. text.items ≡ decoded bytes.now) }
+{
+    let mut text = Vec::new(alloc);
+    text.resize(bytes.len(), 0)?;
+    let len = fill(bytes, &mut text);
+    text.truncate(len);
+    Ok(text)
+}
+
+/// Writes what the bytes stand for to the front of `room`, and returns how many bytes that is.
+fn fill(bytes: &[u8], room: &mut [u8]) -> usize
+    requires { length bytes.now ≤ length room.old }
+    ensures { take result room.new ≡ decoded bytes.now }
+{
+    let mut rest = bytes;
+    let mut at = 0;
+    while !rest.is_empty() {
+        let (read, written) = put_front(rest, room, at);
+        rest = &rest[read..];
+        at += written;
+    }
+    at
+}
+
+/// Writes what some bytes of the front stand for to `room` from `at` on. Returns how many it took, and how
+/// many it wrote.
+#[inline(always)]
+fn put_front(bytes: &[u8], room: &mut [u8], at: usize) -> (usize, usize)
+    requires some { 0 < length bytes.now }
+    requires room { at + length bytes.now ≤ length room.old }
+    ensures some { 0 < result.0 }
+    ensures within { result.0 ≤ length bytes.now }
+    ensures room { result.1 ≤ result.0 }
+    ensures text { take (at + result.1) room.new ++ decoded (drop result.0 bytes.now)
+        ≡ take at room.old ++ decoded bytes.now }
+{
+    match bytes {
+        [b'%', high, low, ..] => match (hex_digit(*high), hex_digit(*low)) {
+            (Some(high), Some(low)) => {
+                room[at] = high * 16 + low;
+                (3, 1)
+            }
+            (Some(_), None) => put_raw(bytes, 3, room, at),
+            (None, _) => put_raw(bytes, 2, room, at),
+        },
+        [b'%', ..] => put_raw(bytes, bytes.len(), room, at),
+        _ => {
+            let len = copy_run(Byte(b'%'), bytes, b'+', b' ', room, at);
+            (len, len)
+        }
+    }
+}
+
+/// Writes so many bytes of a broken escape as they are.
+fn put_raw(bytes: &[u8], len: usize, room: &mut [u8], at: usize) -> (usize, usize)
+    requires within { len ≤ length bytes.now }
+    requires room { at + len ≤ length room.old }
+    ensures len { (result.0 ≡ len) × (result.1 ≡ len) }
+    ensures text { take (at + len) room.new ≡ take at room.old ++ take len bytes.now }
+{
+    put(&bytes[..len], room, at);
+    (len, len)
+}
+
+/// The value of a hexadecimal digit of either case.
+fn hex_digit(byte: u8) -> Option<u8>
+    ensures { SomeIff result (digit_value byte < 16) (digit_value byte) }
+{
+    match byte {
+        b'0'..=b'9' => Some(byte - b'0'),
+        b'A'..=b'F' => Some(byte - b'A' + 10),
+        b'a'..=b'f' => Some(byte - b'a' + 10),
+        _ => None,
+    }
+}

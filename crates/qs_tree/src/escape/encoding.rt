@@ -1,0 +1,111 @@
+//! Bytes as a querystring writes them.
+
+ghost use Rattle.std.specs.Prelude.{◌≡◌, ◌+◌, ◌<◌, ◌≤◌, ◌++◌, length, OnOk, OnErr, min, take, drop};
+ghost use Rattle.qs_spec.specs.Escape.{encoded, decoded, spelling};
+ghost use Rattle.qs_tree.specs.Error.{OnlyOutOfMemory};
+
+use crate::error::Result;
+use crate::escape::copying::{copy_run, put};
+use crate::escape::search::{Class, Escaped, LANES, count};
+use percent_encoding::percent_encode_byte;
+use std::alloc::AllocError;
+
+/// Appends the bytes as form mode (`form`), or query mode, writes them: some as they are, a space as `+` in
+/// query mode, and the rest as `%` and two upper case hexadecimal digits.
+///
+/// It allocates first. Where that fails the result is `OutOfMemory` and `out` stays as it was;
+/// there is no other error. It goes over the bytes twice, 32 at once where no escape is written; over fewer
+/// than 32 bytes once.
+///
+/// ```
+/// encode(b"100% a+b", false, &mut out)?; // appends `100%25+a%2Bb`
+/// encode(b"100% a+b", true, &mut out)?; // appends `100%25%20a%2Bb`
+/// ```
+pub fn encode(bytes: &[u8], form: bool, out: &mut Vec<u8>) -> Result<()>
+    ensures ok { OnOk result (out.new.items ≡ out.old.items ++ encoded form bytes.now) }
+    ensures err { OnErr result (out.new.items ≡ out.old.items) }
+    ensures errors { OnlyOutOfMemory result }
+    ensures back { decoded (encoded form bytes.now) ≡ bytes.now }
+{
+    if bytes.len() < LANES {
+        return Ok(append_short(bytes, form, out)?);
+    }
+    let begin = out.len();
+    out.resize(begin.saturating_add(encoded_len(bytes, form)), 0)?;
+    fill(bytes, form, out, begin);
+    Ok(())
+}
+
+/// The same for fewer bytes than 32 lanes take.
+fn append_short(bytes: &[u8], form: bool, out: &mut Vec<u8>) -> Result<(), AllocError>
+    requires { length bytes.now < LANES }
+    ensures ok { OnOk result (out.new.items ≡ out.old.items ++ encoded form bytes.now) }
+    ensures err { OnErr result (out.new.items ≡ out.old.items) }
+{
+    let mut room = [0; 3 * LANES];
+    let mut rest = bytes;
+    let mut at = 0;
+    while let [byte, tail @ ..] = rest {
+        at += put_byte(*byte, form, &mut room, at);
+        rest = tail;
+    }
+    out.extend_from_slice(&room[..at])
+}
+
+/// Writes one byte to `room` from `at` on, encoded. Returns how many it wrote.
+#[inline(always)]
+fn put_byte(byte: u8, form: bool, room: &mut [u8], at: usize) -> usize
+    requires { at + 3 ≤ length room.old }
+    ensures few { result ≤ 3 }
+    ensures text { take (at + result) room.new ≡ take at room.old ++ spelling form byte }
+{
+    let escaped = Escaped { form };
+    if escaped.has(byte) {
+        put(percent_encode_byte(byte).as_bytes(), room, at);
+        return 3;
+    }
+    room[at] = if byte == b' ' { b'+' } else { byte };
+    1
+}
+
+/// How many bytes `encode` appends, or the greatest size where they are more.
+fn encoded_len(bytes: &[u8], form: bool) -> usize
+    ensures { result ≡ min (length (encoded form bytes.now)) usize.MAX }
+{
+    let escapes = count(Escaped { form }, bytes);
+    bytes.len().saturating_add(escapes.saturating_mul(2))
+}
+
+/// Writes what `encode` appends to the room for it, which is all from `begin` on.
+fn fill(bytes: &[u8], form: bool, room: &mut [u8], begin: usize)
+    requires { begin + length (encoded form bytes.now) ≡ length room.old }
+    ensures { room.new ≡ take begin room.old ++ encoded form bytes.now }
+{
+    let mut rest = bytes;
+    let mut at = begin;
+    while !rest.is_empty() {
+        let (read, written) = put_front(rest, form, room, at);
+        rest = &rest[read..];
+        at += written;
+    }
+}
+
+/// Writes some bytes of the front to `room` from `at` on. Returns how many it took, and how many it wrote.
+#[inline(always)]
+fn put_front(bytes: &[u8], form: bool, room: &mut [u8], at: usize) -> (usize, usize)
+    requires some { 0 < length bytes.now }
+    requires room { at + length (encoded form bytes.now) ≤ length room.old }
+    ensures some { 0 < result.0 }
+    ensures within { result.0 ≤ length bytes.now }
+    ensures room { result.1 + length (encoded form (drop result.0 bytes.now)) ≡ length (encoded form bytes.now) }
+    ensures text { take (at + result.1) room.new ++ encoded form (drop result.0 bytes.now)
+        ≡ take at room.old ++ encoded form bytes.now }
+{
+    let escaped = Escaped { form };
+    if escaped.has(bytes[0]) {
+        put(percent_encode_byte(bytes[0]).as_bytes(), room, at);
+        return (1, 3);
+    }
+    let len = copy_run(escaped, bytes, b' ', b'+', room, at);
+    (len, len)
+}

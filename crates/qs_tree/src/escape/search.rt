@@ -1,0 +1,69 @@
+//! The first byte of a class.
+
+mod class;
+mod encoded;
+mod marks;
+
+ghost use Rattle.std.specs.Prelude.{◌≡◌, ◌<◌, length, position, IfSome, is_some};
+ghost use Rattle.qs_spec.specs.Escape.{is_marked};
+ghost use Rattle.qs_tree.specs.escape.Classes.{is_escape, is_ampersand, is_encoded};
+
+pub(crate) use self::class::{Class, LANES, count, run};
+use self::encoded::Encoded;
+pub(crate) use self::encoded::Escaped;
+pub(crate) use self::marks::Byte;
+use self::marks::Escape;
+
+/// The first place of `+` or `%`.
+///
+/// Doesn't allocate and looks at each byte up to that place once, 32 of them at a time.
+pub fn find_escape(bytes: &[u8]) -> Option<usize>
+    ensures first { result ≡ position is_escape bytes.now }
+    ensures within { IfSome result (λ at. at < length bytes.now) }
+    ensures found { is_some result ≡ is_marked bytes.now }
+{
+    find(Escape, bytes)
+}
+
+/// The first place of `&`.
+///
+/// Doesn't allocate and looks at each byte up to that place once, 32 of them at a time.
+pub fn find_ampersand(bytes: &[u8]) -> Option<usize>
+    ensures first { result ≡ position is_ampersand bytes.now }
+    ensures within { IfSome result (λ at. at < length bytes.now) }
+{
+    find(Byte(b'&'), bytes)
+}
+
+/// The first place of a byte that form mode (`form`), or query mode, doesn't write as itself: a space too,
+/// for which query mode writes `+`.
+///
+/// Doesn't allocate and looks at each byte up to that place once, 32 of them at a time.
+pub fn find_encoded(bytes: &[u8], form: bool) -> Option<usize>
+    ensures first { result ≡ position (is_encoded form) bytes.now }
+    ensures within { IfSome result (λ at. at < length bytes.now) }
+{
+    find(Encoded { form }, bytes)
+}
+
+/// The first place of a byte of the class: 32 bytes at a time, and the rest one by one.
+fn find<C: Class>(class: C, bytes: &[u8]) -> Option<usize>
+    ensures first { result ≡ position (C.contains class) bytes.now }
+    ensures within { IfSome result (λ at. at < length bytes.now) }
+{
+    let mut at = 0;
+    while bytes.len() - at >= LANES {
+        let run = run(class, bytes, at);
+        if run < LANES {
+            return Some(at + run);
+        }
+        at += LANES;
+    }
+    while at < bytes.len() {
+        if class.has(bytes[at]) {
+            return Some(at);
+        }
+        at += 1;
+    }
+    None
+}

@@ -1,0 +1,118 @@
+//! The bytes that a mode doesn't write as themselves.
+
+ghost use Rattle.std.specs.Prelude.{◌≡◌, ◌+◌, ◌≤◌, length, true, false};
+ghost use Rattle.qs_tree.specs.internal.escape.Search.{class_mask, is_escaped};
+ghost use Rattle.qs_tree.specs.escape.Classes.{is_encoded};
+
+use super::class::{Class, LANES};
+use super::marks::Byte;
+use percent_encoding::{AsciiSet, CONTROLS, NON_ALPHANUMERIC, ascii_set};
+use std::simd::prelude::*;
+
+/// What form mode writes by an escape: the application/x-www-form-urlencoded percent-encode set of the URL
+/// standard, section 1.3.
+const FORM: AsciiSet = ascii_set!(
+    NON_ALPHANUMERIC
+        .remove(b'*')
+        .remove(b'-')
+        .remove(b'.')
+        .remove(b'_')
+);
+
+/// What query mode writes by an escape: the query percent-encode set of the URL standard, section 1.3, but
+/// the space, and what separates the parts of a querystring.
+const QUERY: AsciiSet = ascii_set!(
+    CONTROLS
+        .add(b'"')
+        .add(b'#')
+        .add(b'<')
+        .add(b'>')
+        .add(b'%')
+        .add(b'+')
+        .add(b'[')
+        .add(b']')
+        .add(b'=')
+        .add(b'&')
+);
+
+/// What form mode, or query mode, writes by an escape.
+#[derive(Clone, Copy)]
+pub(crate) struct Escaped {
+    pub(crate) form: bool,
+}
+
+impl Class for Escaped {
+    ghost contains = { λ s b. is_escaped s.form b };
+
+    #[inline(always)]
+    fn mask(self, bytes: &[u8], at: usize) -> u64 {
+        if self.form {
+            form_mask(bytes, at)
+        } else {
+            query_mask(bytes, at)
+        }
+    }
+
+    #[inline(always)]
+    fn has(self, byte: u8) -> bool {
+        if self.form {
+            FORM.should_percent_encode(byte)
+        } else {
+            QUERY.should_percent_encode(byte)
+        }
+    }
+}
+
+/// What form mode, or query mode, doesn't write as itself.
+#[derive(Clone, Copy)]
+pub(super) struct Encoded {
+    pub(super) form: bool,
+}
+
+impl Class for Encoded {
+    ghost contains = { λ s b. is_encoded s.form b };
+
+    #[inline(always)]
+    fn mask(self, bytes: &[u8], at: usize) -> u64 {
+        if self.form {
+            form_mask(bytes, at)
+        } else {
+            Byte(b' ').mask(bytes, at) + query_mask(bytes, at)
+        }
+    }
+
+    fn has(self, byte: u8) -> bool {
+        byte == b' ' || Escaped { form: self.form }.has(byte)
+    }
+}
+
+/// The mask of what form mode writes by an escape.
+#[inline(never)]
+fn form_mask(bytes: &[u8], at: usize) -> u64
+    requires { at + LANES ≤ length bytes.now }
+    ensures { result ≡ class_mask (is_escaped true) bytes.now at LANES }
+{
+    let lanes = u8x32::from_slice(&bytes[at..]);
+    let no_letter = ((lanes | u8x32::splat(0x20)) - u8x32::splat(b'a')).simd_ge(u8x32::splat(26));
+    let no_digit = (lanes - u8x32::splat(b'0')).simd_ge(u8x32::splat(10));
+    let no_dash = lanes.simd_ne(u8x32::splat(b'-')) & lanes.simd_ne(u8x32::splat(b'.'));
+    let no_mark = lanes.simd_ne(u8x32::splat(b'*')) & lanes.simd_ne(u8x32::splat(b'_'));
+    (no_letter & no_digit & no_dash & no_mark).to_bitmask()
+}
+
+/// The mask of what query mode writes by an escape.
+#[inline(never)]
+fn query_mask(bytes: &[u8], at: usize) -> u64
+    requires { at + LANES ≤ length bytes.now }
+    ensures { result ≡ class_mask (is_escaped false) bytes.now at LANES }
+{
+    let lanes = u8x32::from_slice(&bytes[at..]);
+    let ends = lanes.simd_lt(u8x32::splat(b' ')) | lanes.simd_gt(u8x32::splat(b'~'));
+    let quote_or_hash = (lanes - u8x32::splat(b'"')).simd_lt(u8x32::splat(2));
+    let percent_or_ampersand = (lanes - u8x32::splat(b'%')).simd_lt(u8x32::splat(2));
+    let angle_or_equals = (lanes - u8x32::splat(b'<')).simd_lt(u8x32::splat(3));
+    let bracket = lanes.simd_eq(u8x32::splat(b'[')) | lanes.simd_eq(u8x32::splat(b']'));
+    let plus = lanes.simd_eq(u8x32::splat(b'+'));
+    let found = ends | quote_or_hash | percent_or_ampersand | angle_or_equals | bracket | plus;
+    found.to_bitmask()
+}

@@ -1,0 +1,6 @@
+//! From bytes to pairs: tokens, the cursor that takes them, and the pair that they make.
+
+pub(crate) mod cursor;
+pub(crate) mod pair;
+mod raw;
+pub(crate) mod reading;

@@ -1,0 +1,88 @@
+//! The pairs of a querystring.
+ghost use Rattle.std.specs.Prelude.{◌≡◌, ◌+◌, ◌<◌, ◌∷◌, length, drop, not};
+ghost use Rattle.qs_spec.specs.Tree.Tree.{leaf};
+ghost use Rattle.qs_tree.specs.tree.Views.{tree_of};
+ghost use Rattle.qs_tree.specs.internal.scan.Pairs.{leaf_of, is_push};
+
+use crate::tree::key::Key;
+use crate::tree::value::ParsedValue;
+use std::alloc::Global;
+use std::borrow::CowSlice;
+use std::mem;
+
+/// What follows a key.
+#[derive(Debug, Drop)]
+pub(crate) enum Leaf<'qs> {
+    /// No `=`.
+    NoValue,
+    /// Nothing after `=`.
+    Null,
+    /// A text that is not empty.
+    Text(CowSlice<'qs, u8>),
+}
+
+/// How a pair adds its leaf to the node at its path.
+#[derive(Clone, Copy, Debug)]
+pub(crate) enum Manner {
+    Plain,
+    /// Onto a sequence.
+    Push,
+}
+
+impl Manner {
+    pub fn is_plain(self) -> bool
+        ensures { result ≡ not (is_push self) }
+    {
+        matches!(self, Manner::Plain)
+    }
+}
+
+/// One pair of a querystring: a path of keys, and a leaf.
+#[derive(Debug, Drop)]
+pub(crate) struct Pair<'qs> {
+    pub path: Vec<Key<'qs>>,
+    pub manner: Manner,
+    pub leaf: Leaf<'qs>,
+}
+
+impl<'qs> Pair<'qs> {
+    /// No pair yet. Nothing is allocated.
+    pub fn new(alloc: Global) -> Self {
+        Pair {
+            path: Vec::new(alloc),
+            manner: Manner::Plain,
+            leaf: Leaf::NoValue,
+        }
+    }
+
+    /// Takes a key out of the path, in which a number stays.
+    pub fn take_key(&mut self, level: usize) -> Key<'qs>
+        requires { level < length self.old.path.items }
+        ensures key { drop level self.old.path.items ≡ result ∷ drop (level + 1) self.new.path.items }
+        ensures len { length self.new.path.items ≡ length self.old.path.items }
+        ensures manner { self.new.manner ≡ self.old.manner }
+        ensures leaf { self.new.leaf ≡ self.old.leaf }
+    {
+        mem::replace(&mut self.path[level], Key::Int(0))
+    }
+}
+
+impl<'qs> Leaf<'qs> {
+    /// Takes the leaf out, and leaves one without a value.
+    pub fn take(&mut self) -> Leaf<'qs>
+        ensures { result ≡ self.old }
+    {
+        mem::replace(self, Leaf::NoValue)
+    }
+
+    /// The leaf as a node.
+    pub fn into_value(self) -> ParsedValue<'qs>
+        ensures { tree_of result ≡ leaf (leaf_of self.entry) }
+    {
+        match self {
+            Leaf::NoValue => ParsedValue::NoValue,
+            Leaf::Null => ParsedValue::Null,
+            Leaf::Text(text) => ParsedValue::String(text),
+        }
+    }
+}

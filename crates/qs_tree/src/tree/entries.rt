@@ -1,0 +1,194 @@
+//! A vector of entries in the order of their keys, each key once.
+ghost use Rattle.std.specs.Prelude.{◌≡◌, ◌<◌, [], length, ◌∷◌, ◌++◌, IfOk, IfNone, OnOk, OnErr, Some, option_map, slice_get, unwrap_or};
+ghost use Rattle.std.specs.List.{remove};
+ghost use Rattle.std.specs.Option.{option_to_list};
+ghost use Rattle.std.specs.List.Sorted.{IsStrictlySortedBy};
+ghost use Rattle.std.specs.Map.{keys_of, lookup};
+ghost use Rattle.std.specs.BTreeMap.{insert_entry, is_at};
+ghost use Rattle.qs_tree.specs.internal.tree.Places.{IsGap, IsPlaced, put_value};
+
+use std::alloc::{AllocError, Global};
+use std::marker::Model;
+use std::mem;
+
+/// Seen as the list of its entries, which is sorted.
+#[derive(Debug, Drop)]
+pub(crate) struct Entries<K: Ord, V> {
+    items: Vec<(K, V)>,
+}
+
+impl<K: Ord, V> Model for Entries<K, V> {
+    ghost use Rattle.std.specs.Prelude.{List};
+    ghost use Rattle.std.specs.Coded.{coded_list, coded×};
+    ghost use Rattle.std.specs.List.Sorted.{IsStrictlySortedBy};
+    ghost use Rattle.std.specs.Map.{keys_of};
+
+    ghost Value = { List (K × V) };
+
+    ghost coded = { coded_list (coded× K.code V.code) };
+
+    ghost view = { λ a. a.items.items };
+
+    ghost invariant = { λ a. IsStrictlySortedBy K.cmp (keys_of a.items.items) };
+}
+
+impl<K: Ord, V> Entries<K, V> {
+    ghost use Rattle.std.specs.Borrow.{sem};
+    ghost use Rattle.qs_tree.specs.internal.tree.Lending.{LendsValue};
+
+    /// No entries. Nothing is allocated.
+    pub fn new(alloc: Global) -> Self
+        ensures { result ≡ [] }
+    {
+        Entries {
+            items: Vec::new(alloc),
+        }
+    }
+
+    /// No entries, with room for so many.
+    pub fn with_capacity(alloc: Global, capacity: usize) -> Result<Self, AllocError>
+        ensures { IfOk result (λ entries. entries ≡ []) }
+    {
+        let items = Vec::with_capacity(alloc, capacity)?;
+        Ok(Entries { items })
+    }
+
+    /// How many entries there are.
+    pub fn len(&self) -> usize
+        ensures { result ≡ length self.now }
+    {
+        self.items.len()
+    }
+
+    /// Where the memory for the entries comes from.
+    pub fn allocator(&self) -> Global {
+        *self.items.allocator()
+    }
+
+    /// The entries, in the order of their keys.
+    pub fn as_slice(&self) -> &[(K, V)]
+        ensures all { result.now ≡ self.now }
+        ensures sorted { IsStrictlySortedBy K.cmp (keys_of self.now) }
+    {
+        &self.items
+    }
+
+    /// The entries as they lie.
+    pub fn into_items(self) -> Vec<(K, V)>
+        ensures all { result.items ≡ self }
+        ensures sorted { IsStrictlySortedBy K.cmp (keys_of self) }
+    {
+        let Entries { items } = self;
+        items
+    }
+
+    /// The entry at a place.
+    pub fn at(&self, at: usize) -> Option<(&K, &V)>
+        ensures { option_map (λ p. (p.0.now, p.1.now)) result ≡ slice_get self.now at }
+    {
+        match self.items.get(at) {
+            Some(entry) => Some((&entry.0, &entry.1)),
+            None => None,
+        }
+    }
+
+    /// The value at a place, to be changed.
+    pub fn at_mut(&mut self, at: usize) -> &mut V
+        requires { at < length self.old }
+        ensures* writes_back { sem 𝓛 (LendsValue K.row V.row K.Ord.own K.PartialEq.own K.PartialOrd.own self.entry at result) }
+        ensures value { option_map (λ e. e.1) (slice_get self.old at) ≡ Some result.now }
+    {
+        let item = &mut self.items[at];
+        &mut item.1
+    }
+
+    /// Puts a value in the place of the one that is there, and returns that one.
+    pub fn replace(&mut self, at: usize, value: V) -> V
+        requires { at < length self.old }
+        ensures old { option_map (λ e. e.1) (slice_get self.old at) ≡ Some result }
+        ensures new { self.new ≡ put_value self.old at value }
+    {
+        mem::replace(&mut self.items[at].1, value)
+    }
+
+    /// Takes the entry with the last key out, if there is one.
+    pub fn pop(&mut self) -> Option<(K, V)>
+        ensures all { self.old ≡ self.new ++ option_to_list result }
+        ensures none { IfNone result (self.new ≡ []) }
+    {
+        self.items.pop()
+    }
+
+    /// Frees the memory of no entries.
+    pub fn destroy_empty(self)
+        requires { self ≡ [] }
+    {
+        self.into_items().destroy_empty();
+    }
+}
+
+impl<K: Ord + Drop, V: Drop> Entries<K, V> {
+    ghost use Rattle.std.specs.Borrow.{sem};
+    ghost use Rattle.qs_tree.specs.internal.tree.Lending.{LendsChild};
+
+    /// The value at a key, to be changed, which is fresh where the key was missing. The place is where the key is, or would go.
+    /// On an error nothing is known of the entries.
+    pub fn child(
+        &mut self,
+        place: Result<usize, usize>,
+        key: K,
+        fresh: V,
+    ) -> Result<&mut V, AllocError>
+        requires { IsPlaced K.cmp key self.old place }
+        ensures* writes_back { sem 𝓛 (LendsChild K.row V.row K.Ord.own K.PartialEq.own K.PartialOrd.own self.entry key result) }
+        ensures value { IfOk result (λ v. v.now ≡ unwrap_or (lookup (is_at (K.cmp key)) self.old) fresh) }
+    {
+        let at = self.filled(place, key, fresh)?;
+        Ok(self.at_mut(at))
+    }
+
+    // Puts the fresh value at the key where it is missing, and returns where the key is.
+    fn filled(&mut self, place: Result<usize, usize>, key: K, fresh: V) -> Result<usize, AllocError>
+        requires { IsPlaced K.cmp key self.old place }
+        ensures in_range { IfOk result (λ at. at < length self.new) }
+        ensures value { IfOk result (λ at. option_map (λ e. e.1) (slice_get self.new at) ≡ Some (unwrap_or (lookup (is_at (K.cmp key)) self.old) fresh)) }
+        ensures rest { IfOk result (λ at. (w : V) → put_value self.new at w ≡ insert_entry K.cmp self.old key w) }
+    {
+        match place {
+            Ok(at) => Ok(at),
+            Err(at) => {
+                self.insert_at(at, key, fresh)?;
+                Ok(at)
+            }
+        }
+    }
+
+    /// Puts an entry at the place where its key is missing. On an error nothing is changed.
+    pub fn insert_at(&mut self, at: usize, key: K, value: V) -> Result<(), AllocError>
+        requires { IsGap K.cmp key self.old at }
+        ensures ok { OnOk result (self.new ≡ insert_entry K.cmp self.old key value) }
+        ensures err { OnErr result (self.new ≡ self.old) }
+    {
+        Ok(self.items.insert(at, (key, value))?)
+    }
+
+    /// Puts an entry after the others, where its key belongs. On an error nothing is changed.
+    pub fn push(&mut self, key: K, value: V) -> Result<(), AllocError>
+        requires { IsStrictlySortedBy K.cmp (keys_of self.old ++ key ∷ []) }
+        ensures ok { OnOk result (self.new ≡ self.old ++ (key, value) ∷ []) }
+        ensures err { OnErr result (self.new ≡ self.old) }
+    {
+        self.items.reserve(1)?;
+        self.items.push_reserved((key, value));
+        Ok(())
+    }
+
+    /// Takes the entry at a place out.
+    pub fn remove_at(&mut self, at: usize) -> (K, V)
+        requires { at < length self.old }
+        ensures entry { slice_get self.old at ≡ Some result }
+        ensures rest { self.new ≡ remove self.old at }
+    {
+        self.items.remove(at)
+    }
+}

@@ -1,0 +1,132 @@
+//! Keys of maps.
+ghost use Rattle.std.specs.Prelude.{◌≡◌, false, Some};
+ghost use mathlib.Core.Path.{refl};
+ghost use Rattle.qs_spec.specs.Segment.Segment.{Int, Str};
+ghost use Rattle.std.specs.Cmp.{on_per, on_equiv, on_po, on_total, partial_equiv_from_equiv, eq_by_cmp_equiv, partial_order_from_agreeing_total};
+ghost use Rattle.qs_spec.specs.Segment.{compare_segments, is_same_segment};
+ghost use Rattle.qs_spec.proofs.Order.{segments_total};
+ghost use Rattle.std.specs.Fmt.{WritesOnOk};
+ghost use Rattle.std.specs.Str.Lossy.{utf8_lossy};
+ghost use Rattle.qs_tree.specs.tree.Views.{segment_of_key, step_of_key, shown};
+
+use crate::tree::byte_order::compare_bytes;
+use std::borrow::CowSlice;
+use std::cmp::Ordering;
+use std::fmt;
+
+/// A key of a map: a number, or a text, which may be borrowed from the input.
+///
+/// Numbers come before texts; numbers are ordered by value, texts by their bytes. A borrowed text and an owned one with the
+/// same bytes are equal.
+#[derive(Debug, Drop)]
+pub enum Key<'a> {
+    /// Digits alone, as the place of an element.
+    Int(u32),
+    /// Any other key.
+    String(CowSlice<'a, u8>),
+}
+
+impl<'a> Key<'a> {
+    /// How this key stands to another one, of any lifetime.
+    pub(crate) fn compare<'b>(&self, other: &Key<'b>) -> Ordering
+        ensures { result ≡ compare_segments (segment_of_key self.now) (segment_of_key other.now) }
+    {
+        match (self, other) {
+            (Key::Int(m), Key::Int(n)) => m.cmp(n),
+            (Key::Int(_), Key::String(_)) => Ordering::Less,
+            (Key::String(_), Key::Int(_)) => Ordering::Greater,
+            (Key::String(s), Key::String(t)) => compare_bytes(s.as_slice(), t.as_slice()),
+        }
+    }
+}
+
+impl<'a> PartialEq for Key<'a> {
+    ghost eq = { λ a b. is_same_segment (segment_of_key a) (segment_of_key b) };
+
+    ghost laws = { on_per segment_of_key (partial_equiv_from_equiv (eq_by_cmp_equiv segments_total)) };
+
+    fn eq(&self, other: &Key<'a>) -> bool {
+        self.compare(other).is_eq()
+    }
+}
+
+impl<'a> Eq for Key<'a> {
+    ghost laws = { on_equiv segment_of_key (eq_by_cmp_equiv segments_total) };
+}
+
+impl<'a> PartialOrd for Key<'a> {
+    ghost partial_cmp = { λ a b. Some (compare_segments (segment_of_key a) (segment_of_key b)) };
+
+    ghost laws = { on_po segment_of_key (partial_order_from_agreeing_total compare_segments segments_total (λ a b. refl) (λ a b. refl)) };
+
+    fn partial_cmp(&self, other: &Key<'a>) -> Option<Ordering> {
+        Some(self.compare(other))
+    }
+}
+
+impl<'a> Ord for Key<'a> {
+    ghost cmp = { λ a b. compare_segments (segment_of_key a) (segment_of_key b) };
+
+    ghost total = { on_total segment_of_key segments_total };
+
+    ghost matches_partial_cmp = { λ a b. refl };
+
+    ghost matches_eq = { λ a b. refl };
+
+    fn cmp(&self, other: &Key<'a>) -> Ordering {
+        self.compare(other)
+    }
+}
+
+impl<'a> From<&'a [u8]> for Key<'a> {
+    ghost from_gives = { λ bytes key. step_of_key key ≡ record { seg = Str bytes.now; mark = false } };
+
+    fn from(bytes: &'a [u8]) -> Key<'a> {
+        Key::String(CowSlice::Borrowed(bytes))
+    }
+}
+
+impl<'a> From<&'a str> for Key<'a> {
+    ghost from_gives = { λ text key. step_of_key key ≡ record { seg = Str text.now; mark = false } };
+
+    fn from(text: &'a str) -> Key<'a> {
+        Key::String(CowSlice::Borrowed(text.as_bytes()))
+    }
+}
+
+impl<'a> From<u32> for Key<'a> {
+    ghost from_gives = { λ number key. step_of_key key ≡ record { seg = Int number; mark = false } };
+
+    fn from(number: u32) -> Key<'a> {
+        Key::Int(number)
+    }
+}
+
+/// A number in decimal; a text between double quotes, with U+FFFD for what is no UTF-8, as `String::from_utf8_lossy` has it.
+impl fmt::Display for Key<'_> {
+    ghost output = { λ key. Some (shown (segment_of_key key)) };
+
+    fn fmt<W: fmt::Write>(&self, f: &mut fmt::Formatter<W>) -> fmt::Result {
+        match self {
+            Key::Int(index) => write!(f, "{index}"),
+            Key::String(text) => {
+                f.write_str("\"")?;
+                write_lossy(text.as_slice(), f)?;
+                f.write_str("\"")
+            }
+        }
+    }
+}
+
+// Bytes as text, with U+FFFD for each run of bytes that is none.
+fn write_lossy<W: fmt::Write>(bytes: &[u8], f: &mut fmt::Formatter<W>) -> fmt::Result
+    ensures { WritesOnOk W.write_str_gives f.old result (utf8_lossy bytes.now) f.new }
+{
+    for chunk in bytes.utf8_chunks() {
+        f.write_str(chunk.valid())?;
+        if !chunk.invalid().is_empty() {
+            f.write_str("\u{FFFD}")?;
+        }
+    }
+    Ok(())
+}

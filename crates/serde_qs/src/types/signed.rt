@@ -1,17 +1,34 @@
 //! Signed numbers of 8 to 64 bits.
 
-ghost use Rattle.std.specs.Prelude.{◌≡◌, ℤ, Bool, true, ◌&&◌, IfOk, refl};
+ghost use Rattle.std.specs.Prelude.{◌≡◌, ◌≤ℤ◌, ℤ, Bool, true, ◌&&◌, IfOk, refl};
 ghost use Rattle.qs_spec.specs.Data as d;
 ghost use Rattle.qs_spec.specs.Shape as s;
 ghost use Rattle.qs_data.specs.Views.{data_of};
 ghost use Rattle.serde_qs.specs.internal.ComesBack.{signed_back};
 ghost use Rattle.serde_qs.specs.Fits.{is_signed};
-ghost use Rattle.serde_qs.specs.Meaning.{signed_in};
+ghost use Rattle.serde_qs.specs.Meaning.{signed_between, signed_in};
 ghost use Rattle.serde_qs.specs.Typed.{Means};
 
 use crate::traits::{Deserialize, RoundTrip, Serialize, unexpected};
 use qs_data::{Data, Result, Shape};
 use std::alloc::Global;
+
+// Returns the number that these data mean, if it is from `least` to `most`.
+fn signed(alloc: Global, datum: Data, least: i64, most: i64, expected: &'static str) -> Result<i64>
+    ensures exact { Means (λ (z : ℤ). z) result (signed_between least most (data_of datum)) }
+    ensures bound { IfOk result (λ z. (least ≤ℤ z) × (z ≤ℤ most)) }
+{
+    let Data::Signed(n) = datum else {
+        return Err(unexpected(alloc, expected));
+    };
+    if n < least {
+        return Err(unexpected(alloc, expected));
+    }
+    if n > most {
+        return Err(unexpected(alloc, expected));
+    }
+    Ok(n)
+}
 
 impl Serialize for i8 {
     ghost datum = { d.signed };
@@ -37,16 +54,7 @@ impl Deserialize for i8 {
     }
 
     fn from_data(alloc: Global, datum: Data) -> Result<i8> {
-        match datum {
-            Data::Signed(n) => {
-                if n >= -128 && n <= 127 {
-                    Ok(n as i8)
-                } else {
-                    Err(unexpected(alloc, "i8"))
-                }
-            }
-            _ => Err(unexpected(alloc, "i8")),
-        }
+        Ok(signed(alloc, datum, -128, 127, "i8")? as i8)
     }
 }
 
@@ -82,16 +90,7 @@ impl Deserialize for i16 {
     }
 
     fn from_data(alloc: Global, datum: Data) -> Result<i16> {
-        match datum {
-            Data::Signed(n) => {
-                if n >= -32768 && n <= 32767 {
-                    Ok(n as i16)
-                } else {
-                    Err(unexpected(alloc, "i16"))
-                }
-            }
-            _ => Err(unexpected(alloc, "i16")),
-        }
+        Ok(signed(alloc, datum, -32768, 32767, "i16")? as i16)
     }
 }
 
@@ -127,16 +126,7 @@ impl Deserialize for i32 {
     }
 
     fn from_data(alloc: Global, datum: Data) -> Result<i32> {
-        match datum {
-            Data::Signed(n) => {
-                if n >= -2147483648 && n <= 2147483647 {
-                    Ok(n as i32)
-                } else {
-                    Err(unexpected(alloc, "i32"))
-                }
-            }
-            _ => Err(unexpected(alloc, "i32")),
-        }
+        Ok(signed(alloc, datum, -2147483648, 2147483647, "i32")? as i32)
     }
 }
 
@@ -172,10 +162,7 @@ impl Deserialize for i64 {
     }
 
     fn from_data(alloc: Global, datum: Data) -> Result<i64> {
-        match datum {
-            Data::Signed(n) => Ok(n),
-            _ => Err(unexpected(alloc, "i64")),
-        }
+        signed(alloc, datum, i64::MIN, i64::MAX, "i64")
     }
 }
 

@@ -4,7 +4,7 @@ ghost use Rattle.std.specs.Prelude.{◌≡◌, ◌≤◌, ℕ, refl};
 ghost use Rattle.std.proofs.lemmas.Bool.{le-leb};
 ghost use Rattle.qs_spec.specs.Data as d;
 ghost use Rattle.qs_spec.specs.Shape as s;
-ghost use Rattle.serde_qs.specs.ComesBack.{unsigned_back};
+ghost use Rattle.serde_qs.specs.internal.ComesBack.{unsigned_back};
 ghost use Rattle.serde_qs.specs.Meaning.{unsigned_in};
 
 use serde_qs::{Data, Deserialize, Result, RoundTrip, Serialize, Shape, unexpected};

@@ -1,7 +1,7 @@
 //! A payment: a struct and an enum that reject unknown keys.
 
 ghost use Rattle.qs_callers.specs.declared.payment.Method.TheVariants.{Cash, Card};
-ghost use Rattle.serde_qs.specs.declared.variants.OneOf.TheVariants.{First, Later};
+ghost use Rattle.serde_qs.specs.declared.compound.variants.OneOf.TheVariants.{First, Later};
 ghost use Rattle.std.specs.Prelude.{◌∷◌, [], codes, refl};
 
 use serde_qs::OneOf::{First, Later};

@@ -1,7 +1,7 @@
 //! Where something is: an enum with a tuple variant.
 
 ghost use Rattle.qs_callers.specs.declared.place.Place.TheVariants.{Anywhere, At};
-ghost use Rattle.serde_qs.specs.declared.variants.OneOf.TheVariants.{First, Later};
+ghost use Rattle.serde_qs.specs.declared.compound.variants.OneOf.TheVariants.{First, Later};
 ghost use Rattle.std.specs.Prelude.{◌∷◌, [], codes, refl};
 
 use serde_qs::OneOf::{First, Later};

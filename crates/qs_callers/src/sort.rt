@@ -1,7 +1,7 @@
 //! How what was found is sorted: an enum by its variants.
 
 ghost use Rattle.qs_callers.specs.declared.sort.Sort.TheVariants.{Relevance, By, Between};
-ghost use Rattle.serde_qs.specs.declared.variants.OneOf.TheVariants.{First, Later};
+ghost use Rattle.serde_qs.specs.declared.compound.variants.OneOf.TheVariants.{First, Later};
 ghost use Rattle.std.specs.Prelude.{◌∷◌, [], codes, refl};
 
 use serde_qs::OneOf::{First, Later};

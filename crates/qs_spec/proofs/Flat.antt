@@ -69,25 +69,20 @@ still_permitted (direct l ∷ h) e b p = cc
 still_permitted (push l ∷ h) e b p = cc
 still_permitted (below ∷ h) e b p = ap not (any_push is_push h e false p)
 
-pub none_begun : (h : List Event) (e : Event) (g : List Event) → list_any is_below (e ∷ h) ≡ false → permitted ((e ∷ h) ++ below ∷ g) ≡ false
-none_begun h (direct l) g n = by (any_last h n)
-  where
-    any_last : (h : List Event) → list_any is_below h ≡ false → list_any is_below (h ++ below ∷ g) ≡ true
-    any_last [] n = refl
-    any_last (direct l ∷ h) n = any_last h n
-    any_last (push l ∷ h) n = any_last h n
-    any_last (below ∷ h) n = refl
+-- below at the end is below somewhere
+below_last : (h g : List Event) → list_any is_below h ≡ false → list_any is_below (h ++ below ∷ g) ≡ true
+below_last [] g n = refl
+below_last (direct l ∷ h) g n = below_last h g n
+below_last (push l ∷ h) g n = below_last h g n
+below_last (below ∷ h) g n = refl
 
+pub none_begun : (h : List Event) (e : Event) (g : List Event) → list_any is_below (e ∷ h) ≡ false → permitted ((e ∷ h) ++ below ∷ g) ≡ false
+none_begun h (direct l) g n = by (below_last h g n)
+  where
     by : list_any is_below (h ++ below ∷ g) ≡ true → permitted (direct l ∷ (h ++ below ∷ g)) ≡ false
     by w = ap (λ a. (not a && not (begins_direct_push (direct l ∷ (h ++ below ∷ g)))) || false) w
-none_begun h (push l) g n = by (any_last h n)
+none_begun h (push l) g n = by (below_last h g n)
   where
-    any_last : (h : List Event) → list_any is_below h ≡ false → list_any is_below (h ++ below ∷ g) ≡ true
-    any_last [] n = refl
-    any_last (direct l ∷ h) n = any_last h n
-    any_last (push l ∷ h) n = any_last h n
-    any_last (below ∷ h) n = refl
-
     by : list_any is_below (h ++ below ∷ g) ≡ true → permitted (push l ∷ (h ++ below ∷ g)) ≡ false
     by w = ap (λ a. (not a && not (begins_direct_push (push l ∷ (h ++ below ∷ g)))) || false) w
 none_begun h below g n = cc

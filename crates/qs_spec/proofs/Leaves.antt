@@ -19,7 +19,7 @@ abbrev pub Ascends : List Segment → Type 0
 Ascends [] = Unit {0}
 Ascends (x ∷ xs) = AllByRecursion (λ y. compare_segments x y ≡ Less) xs × Ascends xs
 
-all_put : (P : Segment → Type 0) (x : Segment) (ks : List Segment) → P x → AllByRecursion P ks → AllByRecursion P (put x ks)
+pub all_put : (P : Segment → Type 0) (x : Segment) (ks : List Segment) → P x → AllByRecursion P ks → AllByRecursion P (put x ks)
 all_put P x [] p h = (p, tt)
 all_put P x (y ∷ ks) p h = by (all_put P x ks p h.1) (compare_segments x y) refl
   where

@@ -1,4 +1,4 @@
--- What the plain function reads, the grammar relates.
+-- What the function parses, the grammar relates.
 use Rattle.std.proofs.Common.{◌≡◌, ℕ, zero, suc, Bool, true, false, not, ◌&&◌, List, [], ◌∷◌, ◌++◌, refl, sym, ap, ap₂, ◌∙◌, subst, Option, Some, None, option_map, append_assoc}
 use Rattle.std.specs.List.{list_all}
 use Rattle.qs_spec.specs.Token.{Kind, Token, raw_of}
@@ -43,16 +43,16 @@ pub record Reads {A : Type 0} (Is : List Token → A → Type 0) (ts : List Toke
   pub end : IsEnd rest
   pub whole : ts ≡ front ++ rest
 
+amp_of : (k : Kind) → is_amp k ≡ true → k ≡ Amp
+amp_of Amp e = refl
+amp_of Equals e = cc
+amp_of Open e = cc
+amp_of Close e = cc
+amp_of Other e = cc
+
 end_of : (ts : List Token) → Stops is_amp ts → IsEnd ts
 end_of [] s = tt
 end_of (t ∷ ts) s = amp_of t.kind s
-  where
-    amp_of : (k : Kind) → is_amp k ≡ true → k ≡ Amp
-    amp_of Amp e = refl
-    amp_of Equals e = cc
-    amp_of Open e = cc
-    amp_of Close e = cc
-    amp_of Other e = cc
 
 -- what a reader found, if anything, is so
 abbrev pub Found : {A : Type 0} → (List Token → A → Type 0) → List Token → Rest A → Type 0
@@ -171,13 +171,6 @@ pair_reads depth ts =
 abbrev pub Finds : ℕ → List Token → Option (List Pair) → Type 0
 Finds depth ts None = Unit {0}
 Finds depth ts (Some ps) = ArePairs depth ts ps
-
-amp_of : (k : Kind) → is_amp k ≡ true → k ≡ Amp
-amp_of Amp e = refl
-amp_of Equals e = cc
-amp_of Open e = cc
-amp_of Close e = cc
-amp_of Other e = cc
 
 pub pairs_read : (depth n : ℕ) (ts : List Token) → Finds depth ts (parsed_pairs_within depth n ts)
 pairs_read depth zero [] = ArePairs.none

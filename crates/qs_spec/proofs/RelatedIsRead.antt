@@ -1,4 +1,4 @@
--- What the grammar relates, the plain function reads; so tokens are at most one list of pairs.
+-- What the grammar relates, the function parses; so tokens are at most one list of pairs.
 use Rattle.std.proofs.Common.{◌≡◌, ℕ, zero, suc, ◌≤◌, Bool, true, false, not, ◌||◌, List, [], ◌∷◌, ◌++◌, length, refl, sym, ap, ◌∙◌, subst, arith, Option, Some, None, option_map, append_assoc, length-append, le_refl}
 use Rattle.std.specs.List.{list_all}
 use Rattle.std.proofs.lemmas.Option.{none-some, same_Some}

@@ -39,7 +39,7 @@ permitted_front (direct l ∷ direct k ∷ h) g e = weaker (list_any is_below h)
 permitted_front (direct l ∷ push k ∷ h) g e = absurd (never _ e)
 permitted_front (direct l ∷ below ∷ h) g e = cc
 
-under-append : (k : Segment) (ps qs : List Pair) → under k (ps ++ qs) ≡ under k ps ++ under k qs
+pub under-append : (k : Segment) (ps qs : List Pair) → under k (ps ++ qs) ≡ under k ps ++ under k qs
 under-append k [] qs = refl
 under-append k (p ∷ ps) qs = by p.path (under-append k ps qs)
   where

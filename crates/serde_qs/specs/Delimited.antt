@@ -22,7 +22,7 @@ pub record IsPiece (delimiter : ℕ) (t : List ℕ) : Type 0 where
   pub other : All (λ c. (c == delimiter) ≡ false) (chars t)
   pub some : 0 < length t
 
--- the item's text is such a piece, and stands for what the item holds
+-- the item's text is such a piece, and is parsed as what the item holds
 pub record ItemComesBack {A V : Type 0} (meaning : List ℕ → Option V) (printed : A → List ℕ) (value : A → V) (delimiter : ℕ) (x : A) : Type 0 where
   pub back : meaning (printed x) ≡ Some (value x)
   pub piece : IsPiece delimiter (printed x)

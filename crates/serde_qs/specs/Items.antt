@@ -20,21 +20,21 @@ joined delimiter (t ∷ ts) = t ++ each_after (encode_utf8 delimiter) ts
 unfoldable pub pieces : ℕ → List ℕ → List (List ℕ)
 pieces delimiter t = map encode_utf8_all (slice_split (λ c. c == delimiter) (chars t))
 
--- the items that texts stand for, if each stands for one
+-- the items that texts are parsed as, if each is one
 abbrev pub items_in : {A : Type 0} → (List ℕ → Option A) → List (List ℕ) → Option (List A)
 items_in m [] = Some []
 items_in m (t ∷ ts) = option_and_then (λ x. option_map (λ xs. x ∷ xs) (items_in m ts)) (m t)
 
--- the list that a text stands for: the empty text for the empty list, and any other by its pieces
+-- the list that a text is parsed as: the empty text as the empty list, and any other by its pieces
 abbrev pub listed_in : {A : Type 0} → (List ℕ → Option A) → ℕ → List ℕ → Option (List A)
 listed_in m delimiter [] = Some []
 listed_in m delimiter (b ∷ bs) = items_in m (pieces delimiter (b ∷ bs))
 
--- the list that data stand for
+-- the list that data mean
 abbrev pub list_in : {A : Type 0} → (List ℕ → Option A) → ℕ → Data → Option (List A)
 list_in m delimiter (text t) = listed_in m delimiter t
 list_in m delimiter _ = None
 
--- the boolean that a text stands for
+-- the boolean that a text is parsed as
 abbrev pub boolean_item : List ℕ → Option Bool
 boolean_item t = if bytes_eq t (codes "true") then Some true else (if bytes_eq t (codes "false") then Some false else None)

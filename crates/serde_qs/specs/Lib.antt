@@ -1,9 +1,10 @@
+-- The words that a reader must believe, beside those of qs_spec and the views of qs_data: all modules but `internal`. They say which data
+-- a type's values are written as, which value data mean, and what each call returns. `internal` has steps of proofs.
 pub mod Fits
 pub mod Meaning
 pub mod Maps
 pub mod Records
 pub mod ComesBack
-pub mod MapsComeBack
 pub mod Optional
 pub mod Defaulted
 pub mod Tuples
@@ -14,7 +15,5 @@ pub mod WrittenText
 pub mod Wrappers
 pub mod Items
 pub mod Limits
-pub mod Pieces
 pub mod Delimited
-pub mod NumberLists
-pub mod DelimitedComesBack
+pub mod internal

@@ -1,10 +1,7 @@
 -- What data mean as a value.
-use Rattle.std.proofs.Common.{refl}
-use Rattle.std.proofs.lemmas.Bool.{false≢true}
-use Rattle.std.specs.Prelude.{◌≡◌, ◌&&◌, ℕ, ℤ, Bool, true, false, List, [], ◌∷◌, Option, Some, None, option_map, option_and_then, nat_le, if◌then◌else◌}
+use Rattle.std.specs.Prelude.{ℕ, ◌-◌, ◌^◌, ℤ, pos, neg_ℤ, int_le, Bool, ◌&&◌, List, [], ◌∷◌, Option, Some, None, option_map, option_and_then, nat_le, if◌then◌else◌}
 use Rattle.qs_spec.specs.Data.{Data, Values, no_values, one_value}
 use Rattle.qs_spec.specs.Data.Data.{unit, none, some, boolean, unsigned, signed, character, text, sequence, newtype}
-use Rattle.serde_qs.specs.Fits.{is_signed}
 
 abbrev pub unit_in : Data → Option (Unit {0})
 unit_in unit = Some tt
@@ -19,10 +16,14 @@ abbrev pub unsigned_in : ℕ → Data → Option ℕ
 unsigned_in most (unsigned n) = if nat_le n most then Some n else None
 unsigned_in most _ = None
 
--- a number of so many bits
+-- a signed number from low to high
+abbrev pub signed_between : ℤ → ℤ → Data → Option ℤ
+signed_between low high (signed z) = if int_le low z && int_le z high then Some z else None
+signed_between low high _ = None
+
+-- a signed number of so many bits
 abbrev pub signed_in : ℕ → Data → Option ℤ
-signed_in bits (signed z) = if is_signed bits z then Some z else None
-signed_in bits _ = None
+signed_in bits x = signed_between (neg_ℤ (pos (2 ^ (bits - 1)))) (pos (2 ^ (bits - 1) - 1)) x
 
 abbrev pub character_in : Data → Option ℕ
 character_in (character c) = Some c
@@ -55,8 +56,3 @@ newtype_in m _ = None
 
 abbrev pub both : {A B : Type 0} → Option A → Option B → Option (A × B)
 both a b = option_and_then (λ x. option_map (λ y. (x, y)) b) a
-
--- of two tests that hold, each does
-pub both_hold : (a b : Bool) → (a && b) ≡ true → (a ≡ true) × (b ≡ true)
-both_hold true b h = (refl, h)
-both_hold false b h = absurd (false≢true h)

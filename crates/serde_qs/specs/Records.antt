@@ -1,16 +1,15 @@
 -- Structs by their fields.
-use Rattle.std.proofs.Common.{ap, ◌∙◌}
-use Rattle.std.specs.Prelude.{◌≡◌, ℕ, ◌==◌, Bool, true, ◌&&◌, List, length, [], ◌∷◌, Option, Some, None, map, if◌then◌else◌, reverse}
+use Rattle.std.specs.Prelude.{ℕ, ◌==◌, Bool, ◌&&◌, List, length, [], ◌∷◌, Option, Some, None, map, if◌then◌else◌, reverse}
 use Rattle.std.specs.Borrow.{Bor}
 use Rattle.std.specs.Str.{bytes_eq}
 use Rattle.std.specs.declared.string.String.{String}
 use Rattle.std.specs.declared.alloc.Global.{Global}
 use Rattle.qs_spec.specs.Data.{Named, Members, no_members, one_member, members_of}
 use Rattle.qs_spec.specs.Data as v
-use Rattle.qs_spec.specs.Shape.{Shape, UnknownKeys, Field, fields_of, field_names_differ, are_distinct_fields, is_distinct}
+use Rattle.qs_spec.specs.Shape.{Shape, Field, fields_of, field_names_differ}
 use Rattle.qs_data.specs.Views.{named, data_of}
 use Rattle.qs_data.specs.declared.data.Data.{Data}
-use Rattle.serde_qs.specs.Meaning.{both, both_hold}
+use Rattle.serde_qs.specs.Meaning.{both}
 
 abbrev pub texts : List (Bor (List ℕ)) → List (List ℕ)
 texts names = map (λ (n : Bor (List ℕ)). n.now) names
@@ -38,14 +37,6 @@ member_data x rest names = (first_of names, x) ∷ rest (others_of names)
 -- as many names as there are fields, and no two are equal
 abbrev pub are_names : List (List ℕ) → ℕ → List Field → Bool
 are_names names count fields = (length names == count) && field_names_differ (fields_of fields)
-
-pub both_true : {a b : Bool} → a ≡ true → b ≡ true → (a && b) ≡ true
-both_true {a} {b} p q = ap (λ x. x && b) p ∙ q
-
--- then the struct of the fields is distinct, where each of them is
-pub differ : (u : UnknownKeys) (names : List (List ℕ)) (count : ℕ) (fields : List Field) → are_names names count fields ≡ true → are_distinct_fields (fields_of fields) ≡ true
-    → is_distinct (Shape.struct u (fields_of fields)) ≡ true
-differ u names count fields h parts = both_true (both_hold (length names == count) (field_names_differ (fields_of fields)) h).1 parts
 
 abbrev pub nothing_in : Members → Option (Unit {0})
 nothing_in no_members = Some tt

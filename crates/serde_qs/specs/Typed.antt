@@ -14,12 +14,12 @@ use Rattle.qs_spec.specs.ReadBack.{IsPlainFor}
 use Rattle.qs_data.specs.ReadBack.{IsOrder}
 use Rattle.qs_spec.specs.Same.{Same}
 
--- Seen by view, the result is the value that the data mean; a fault comes exactly where they mean none, and any other error is want
--- of memory.
+-- By view, the result is the value that the data mean. A Custom or Utf8 error is returned exactly where they mean none, and the only other
+-- error is that an allocation failed.
 abbrev pub Means : {X Y : Type 0} → (X → Y) → Result X Error → Option Y → Type 0
 Means view result r = Gives view true result r
 
--- The value that the input stands for under a configuration: it has a tree, from which the form reads data, which mean the value.
+-- The input is read as this value under a configuration: it has a tree, the shape reads data from it, and these mean the value.
 pub record IsRead {V : Type 0} (config : Config) (form : Shape) (meaning : Data → Option V) (input : List ℕ) (value : V) : Type 0 where
   pub tree : Tree
   pub datum : Data
@@ -27,14 +27,14 @@ pub record IsRead {V : Type 0} (config : Config) (form : Shape) (meaning : Data 
   pub is_read : ReadsBy config form tree datum
   pub is_meant : meaning datum ≡ Some value
 
--- it has a tree, and no data that the form reads from it mean a value
+-- it has a tree, and no data that the shape reads from it mean a value
 pub record IsUnread {V : Type 0} (config : Config) (form : Shape) (meaning : Data → Option V) (input : List ℕ) : Type 0 where
   pub tree : Tree
   pub has_tree : IsTree config.form config.max_depth input tree
   pub is_unread : (d : Data) → ReadsBy config form tree d → meaning d ≡ None
 
--- what a typed call returns: the value that the input stands for, a refusal exactly where it has no tree, a fault exactly where it
--- stands for no value, or want of memory
+-- what a typed call returns: the value that the input is read as, a Parse error exactly where it has no tree, a Custom or Utf8 error
+-- exactly where it has one but is read as no value, or that an allocation failed
 abbrev pub ReturnsValue : {X V : Type 0} → (X → V) → Config → Shape → (Data → Option V) → List ℕ → Result X Error → Type 0
 ReturnsValue view config form meaning input (Ok x) = IsRead config form meaning input (view x)
 ReturnsValue view config form meaning input (Err (Custom m)) = IsUnread config form meaning input
@@ -43,8 +43,8 @@ ReturnsValue view config form meaning input (Err (Parse m n)) = IsRefused config
 ReturnsValue view config form meaning input (Err OutOfMemory) = ⊤
 ReturnsValue view config form meaning input (Err _) = ⊥
 
--- data that are the same as these, but for the order of maps, mean the value, or mean none and the result is a fault; or memory ran
--- out
+-- data that are the same as these, but for the order of maps, mean the value; or they mean none and the result is a Custom or Utf8 error;
+-- or an allocation failed
 abbrev pub ReturnsSame : {X V : Type 0} → (X → V) → (Data → Option V) → Data → Result X Error → Type 0
 ReturnsSame view meaning x (Ok y) = (e : Data) × Same x e × (meaning e ≡ Some (view y))
 ReturnsSame view meaning x (Err (Custom m)) = (e : Data) × Same x e × (meaning e ≡ None)

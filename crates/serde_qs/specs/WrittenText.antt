@@ -21,7 +21,7 @@ text_of config x = written config.form false (entries config x).entries
 abbrev pub text_of_first : ℕ → Config → Data → List ℕ
 text_of_first k config x = written config.form false (take k (entries config x).entries)
 
--- the whole text, of visible bytes, exactly where nothing is rejected; otherwise the refusal, or want of memory
+-- the whole text, of visible bytes, exactly where nothing is rejected; otherwise the error, or that an allocation failed
 abbrev pub ReturnsText : Config → Data → Result (String Global) Error → Type 0
 ReturnsText config x (Ok text) = ((entries config x).refusal ≡ None) × (string_bytes text ≡ text_of config x) × All IsVisible (string_bytes text)
 ReturnsText config x (Err (MaxSerializationDepthExceeded n)) = (n ≡ config.max_depth) × ((entries config x).refusal ≡ Some too_deep)
@@ -38,9 +38,9 @@ IsValueWriteError (Err (Io e)) = ⊤
 IsValueWriteError (Err OutOfMemory) = ⊤
 IsValueWriteError (Err _) = ⊥
 
--- What a call that writes data to a writer leaves, whose bytes were old and are new. On Ok that is the whole text; after a refusal
--- the text of the entries before it; after a failed write a proper beginning of the text; after want of memory that of some first
--- entries. Only visible bytes are written.
+-- What a call wrote to a writer, whose bytes were old and are new: on Ok the whole text; where an entry was rejected the text of the entries
+-- before it; where a write failed a proper prefix of the text; where an allocation failed the text of the first few entries. Only visible
+-- bytes are written.
 pub record WritesValue {T : Type 0} (config : Config) (x : Data) (old new : Option (List ℕ)) (result : Result T Error) : Type 0 where
   pub whole : OnOk result ((entries config x).refusal ≡ None)
   pub text : OnOk result (Appends old new (text_of config x))

@@ -1,16 +1,41 @@
 //! Structs and enums by what they are made of.
 
+mod defaulted;
+mod defaults;
+mod fields;
+mod items;
+mod optional;
+mod parts;
+mod payloads;
+mod references;
+mod strict;
+mod variants;
+mod written;
+
 ghost use Rattle.std.specs.Prelude.{◌≡◌, ℕ, List, true, IfOk};
 ghost use Rattle.qs_tree.specs.Error.{OnlyOutOfMemory};
 ghost use Rattle.qs_data.specs.Views.{data_of};
-ghost use Rattle.serde_qs.specs.Compound.{compound_back, data_by_parts};
+ghost use Rattle.serde_qs.specs.Compound.{data_by_parts};
+ghost use Rattle.serde_qs.specs.internal.Compound.{compound_back};
 ghost use Rattle.serde_qs.specs.Fits.{fits};
 ghost use Rattle.serde_qs.specs.Records.{texts};
 
-use crate::parts::Parts;
 use crate::traits::{Deserialize, RoundTrip, Serialize};
+pub use defaulted::{Defaulted, OrDefault};
+pub use fields::Fields;
+pub use items::Items;
+pub use optional::Optional;
+pub use parts::{Enum, Parts};
+pub use payloads::{Newtype, Payload, Struct, Tuple};
 use qs_data::{Data, Result, Shape};
+pub use references::{ItemReferences, References, SkipNone};
 use std::alloc::Global;
+pub use strict::StrictStruct;
+pub use variants::{Last, OneOf, Variants};
+pub use written::{
+    newtype_struct, newtype_variant, struct_of, struct_variant, tuple_struct, tuple_variant,
+    unit_variant,
+};
 
 /// A struct or an enum by what it is made of. It is read and written as that, and its values come back.
 ///
@@ -45,8 +70,8 @@ use std::alloc::Global;
 /// }
 /// ```
 ///
-/// An enum is made of its variants, by [`Enum`](crate::Enum). The check refuses a block where two parts are exchanged, one
-/// is left out, a name is too few or too many, or two names are equal.
+/// An enum is made of its variants, by [`Enum`](crate::Enum). The check rejects a block where two parts are exchanged, one
+/// is left out, there are too few or too many names, or two names are equal.
 pub trait Compound: Sized {
     /// The types of the fields, as nested pairs: `Struct<(String, (u8, ()))>`. Or the variants of an enum:
     /// `Enum<OneOf<(), Last<Newtype<String>>>>`. Or the one value of a newtype: `Newtype<String>`.

@@ -10,10 +10,10 @@ ghost use Rattle.serde_qs.specs.Typed.{IsRead};
 
 use crate::traits::RoundTrip;
 
-/// The entries of a value whose data are plain and within the depth limit stand for that value: in the indexed format in any
-/// order, and where lists hold scalars, in every format, in an order that keeps entries with one path in theirs.
+/// The text of a value's entries is read as that value, if its data are plain and within the depth limit: in the indexed format in
+/// any order, and where lists hold scalars, in every format, in an order that keeps entries with one path in order.
 ///
-/// The law calls [`fits`](RoundTrip::fits) and does nothing else.
+/// It calls [`fits`](RoundTrip::fits) and does nothing else.
 pub fn value_comes_back<T: RoundTrip>(value: &T)
     ensures { (config : Settings) (es : List Entry) → IsPlainFor config T.form (T.datum value.now) → IsOrder config (T.datum value.now) es
         → IsRead config T.form T.meaning (written config.form false es) (T.value value.now) }

@@ -1,4 +1,4 @@
-//! Limits that an input is held against before it is parsed.
+//! Limits that an input is checked against before it is parsed.
 
 ghost use Rattle.std.specs.Prelude.{◌≡◌, ◌<◌, length, slice_get, IfSome, Some};
 ghost use Rattle.memchr.specs.Find.{is_byte, places};
@@ -9,7 +9,7 @@ use std::fmt;
 
 /// How long an input may be, and how many pairs it may have.
 ///
-/// A service that takes querystrings from strangers asks this first, so that neither time nor memory is spent on what is too large:
+/// A service checks the querystrings of strangers first, so that neither time nor memory is spent on one that is too large:
 ///
 /// ```
 /// let limits = Limits::new().max_length(65_536).max_pairs(1_000);
@@ -17,7 +17,7 @@ use std::fmt;
 /// let order: Order = from_bytes(alloc, body)?;
 /// ```
 ///
-/// Both limits are lifted in `Limits::new()`. What a querystring means doesn't depend on them: they are no part of a
+/// `Limits::new()` has no limits. What a querystring means doesn't depend on them: they are no part of a
 /// [`Config`](crate::Config).
 #[derive(Clone, Copy, Debug, PartialEq, Eq)]
 pub struct Limits {
@@ -35,7 +35,7 @@ pub enum LimitError {
 }
 
 impl Limits {
-    /// Both limits lifted.
+    /// Returns no limits.
     #[must_use]
     pub fn new() -> Self
         ensures { result ≡ lifted }
@@ -46,7 +46,7 @@ impl Limits {
         }
     }
 
-    /// The same with a greatest length in bytes.
+    /// Returns these limits with another greatest length in bytes.
     #[must_use]
     pub fn max_length(self, max_length: usize) -> Self
         ensures length { result.max_length ≡ max_length }
@@ -55,7 +55,7 @@ impl Limits {
         Limits { max_length, ..self }
     }
 
-    /// The same with a greatest number of pairs.
+    /// Returns these limits with another greatest number of pairs.
     #[must_use]
     pub fn max_pairs(self, max_pairs: usize) -> Self
         ensures length { result.max_length ≡ self.max_length }
@@ -64,10 +64,10 @@ impl Limits {
         Limits { max_pairs, ..self }
     }
 
-    /// Returns Ok where the input is within both limits.
+    /// Returns `Ok` if the input is within both limits, and else which one it exceeds.
     ///
     /// The pieces between `&` are counted as pairs, empty ones too, as Rack counts them; the empty input has none. The length is
-    /// looked at first. It goes over the bytes at most once, many at a time, up to the first pair too many, and doesn't allocate.
+    /// checked first. It doesn't allocate, and looks at each byte once at most, many at a time, up to the first pair too many.
     ///
     /// ```
     /// Limits::new().max_pairs(2).check(b"a=1&b=2&c=3") // Err(LimitError::TooManyPairs(8))
@@ -88,7 +88,7 @@ impl Limits {
 impl Default for Limits {
     ghost is_default = { λ limits. limits ≡ lifted };
 
-    /// Both limits lifted.
+    /// Returns no limits.
     fn default() -> Self {
         Limits::new()
     }
@@ -108,7 +108,7 @@ impl fmt::Display for LimitError {
     }
 }
 
-// Where the first pair begins that has so many before it.
+// Returns the index of the first byte of the pair that has so many before it.
 fn first_beyond(input: &[u8], pairs: usize) -> Option<usize>
     ensures { result ≡ slice_get (starts input.now) pairs }
 {
@@ -118,7 +118,7 @@ fn first_beyond(input: &[u8], pairs: usize) -> Option<usize>
     }
 }
 
-// The place of the `&` that has so many before it.
+// Returns the index of the `&` that has so many before it.
 fn nth_separator(input: &[u8], n: usize) -> Option<usize>
     ensures value { result ≡ slice_get (places (is_byte 38) input.now) n }
     ensures within { IfSome result (λ at. at < length input.now) }

@@ -84,7 +84,7 @@ pub trait RoundTrip: Serialize + Deserialize {
 }
 
 /// Returns the error of data that mean no value of a type: [`Custom`](Error::Custom) with the message `invalid type: data,
-/// expected ..`, or [`OutOfMemory`](Error::OutOfMemory) where the message found no memory.
+/// expected ..`, or [`OutOfMemory`](Error::OutOfMemory) where the allocation of the message failed.
 ///
 /// It is for a [`from_data`](Deserialize::from_data) that is written by hand.
 ///

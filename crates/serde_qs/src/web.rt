@@ -1,4 +1,4 @@
-//! Wrappers of what a request's query or form stands for.
+//! Wrappers of the value of a request's query or form.
 
 mod form;
 mod query;

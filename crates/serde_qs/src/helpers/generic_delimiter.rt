@@ -35,11 +35,11 @@ pub fn serialize<T: Item>(alloc: Global, list: &[T], delimiter: char) -> Result<
 ///
 /// # Errors
 ///
-/// - [`Custom`](qs_data::Error::Custom): the data are no text (`invalid type: data, expected a string`), or a piece stands for no
+/// - [`Custom`](qs_data::Error::Custom): the data are no text (`invalid type: data, expected a string`), or a piece is no
 ///   item (``invalid item `x` ``).
 /// - [`OutOfMemory`](qs_data::Error::OutOfMemory): an allocation failed.
 ///
-/// The first comes exactly where it is said to, and there is no other. It allocates for the list.
+/// The first is returned exactly in these cases, and there is no other error. It allocates for the list.
 pub fn deserialize<T: Item + Drop>(alloc: Global, datum: Data, delimiter: char) -> Result<Vec<T>>
     ensures { Means (λ list. map T.value list.items) result (list_in T.meaning delimiter (data_of datum)) }
 {
@@ -49,7 +49,7 @@ pub fn deserialize<T: Item + Drop>(alloc: Global, datum: Data, delimiter: char) 
     }
 }
 
-/// Returns the items' texts with the delimiter between them.
+// Returns the items' texts with the delimiter between them.
 fn joined_text<T: Item>(alloc: Global, list: &[T], delimiter: char) -> Result<String>
     ensures exact { IfOk result (λ t. string_bytes t ≡ joined delimiter (map T.printed list.now)) }
     ensures errors { OnlyOutOfMemory result }
@@ -64,7 +64,7 @@ fn joined_text<T: Item>(alloc: Global, list: &[T], delimiter: char) -> Result<St
     }
 }
 
-/// Returns the text with each item's text after it, and before each the delimiter.
+// Returns the text with each item's text after it, and before each the delimiter.
 fn append_each<T: Item>(list: &[T], delimiter: char, mut out: String) -> Result<String>
     ensures exact { IfOk result (λ t. string_bytes t ≡ string_bytes out ++ each_after (encode_utf8 delimiter) (map T.printed list.now)) }
     ensures errors { OnlyOutOfMemory result }
@@ -76,7 +76,7 @@ fn append_each<T: Item>(list: &[T], delimiter: char, mut out: String) -> Result<
     Ok(out)
 }
 
-/// Returns the items of a text.
+// Returns the items of a text.
 fn listed<T: Item + Drop>(alloc: Global, text: &str, delimiter: char) -> Result<Vec<T>>
     ensures { Means (λ list. map T.value list.items) result (listed_in T.meaning delimiter text.now) }
 {

@@ -18,7 +18,7 @@ use std::alloc::Global;
 /// let item = <u8 as Item>::parse(alloc, "7")?;
 /// ```
 pub trait Item: Sized {
-    // What an item holds. A text stands for at most one.
+    // What an item holds. A text is parsed as at most one.
     ghost Value: { Type 0 };
 
     ghost value: { Self → Value };
@@ -26,7 +26,7 @@ pub trait Item: Sized {
     // The text of an item, a function of the item alone.
     ghost printed: { Self → List ℕ };
 
-    // What the item holds that a text stands for, if it stands for one.
+    // What the item holds that a text is parsed as, if it is one.
     ghost meaning: { List ℕ → Option Value };
 
     /// Appends the text of this item. The one error is [`OutOfMemory`](Error::OutOfMemory), and then `out` is unchanged.
@@ -37,22 +37,22 @@ pub trait Item: Sized {
         ensures err { OnErr result (string_bytes out.new ≡ string_bytes out.old) }
         ensures errors { OnlyOutOfMemory result };
 
-    /// Returns the item that a text stands for.
+    /// Returns the item that a text is parsed as.
     ///
-    /// Where it stands for none, the error is [`Custom`](Error::Custom); where an allocation failed,
+    /// Where it is no item, the error is [`Custom`](Error::Custom); where an allocation failed,
     /// [`OutOfMemory`](Error::OutOfMemory). There is no other error.
     fn parse(alloc: Global, text: &str) -> Result<Self>
         ensures { Means value result (meaning text.now) };
 }
 
-/// Returns the error of a text that stands for no item.
+// Returns the error of a text that is no item.
 pub(crate) fn invalid(alloc: Global, text: &str) -> Error
     ensures { IsFault result }
 {
     Error::custom(alloc, format_args!("invalid item `{text}`"), &())
 }
 
-/// Appends a text.
+// Appends a text.
 pub(crate) fn append(text: &str, out: &mut String) -> Result<()>
     ensures ok { OnOk result (string_bytes out.new ≡ string_bytes out.old ++ text.now) }
     ensures err { OnErr result (string_bytes out.new ≡ string_bytes out.old) }

@@ -1,4 +1,4 @@
-//! The wrapper of what a request's form stands for.
+//! The wrapper of the value of a request's form.
 
 ghost use Rattle.std.specs.Prelude.{◌≡◌};
 ghost use Rattle.std.specs.Borrow.{Lends, sem};
@@ -9,9 +9,9 @@ use std::fmt;
 use std::fmt::{Debug, Display, Formatter};
 use std::ops::{Deref, DerefMut};
 
-/// What a request's form stands for.
+/// The value of a request's form.
 ///
-/// It is shown, compared and copied as the value inside.
+/// It is formatted, compared and cloned as the value inside.
 ///
 /// ```
 /// let config = Config::new().use_form_encoding(true);
@@ -51,7 +51,7 @@ impl<T> Deref for QsForm<T> {
 impl<T> DerefMut for QsForm<T> {
     ghost deref_mut_gives = { λ form value. value ≡ form.0 };
 
-    /// Returns the value inside, to be changed in place.
+    /// Returns the value inside, which can be changed in place.
     fn deref_mut(&mut self) -> &mut T
         ensures* writes_back { sem 𝓛 (Lends (the_row T.row) T.row self.entry result (with_form self.old)) }
         ensures value { result.now ≡ self.old.0 }

@@ -1,4 +1,4 @@
-//! The wrapper of what a request's query stands for.
+//! The wrapper of the value of a request's query.
 
 ghost use Rattle.std.specs.Prelude.{◌≡◌};
 ghost use Rattle.std.specs.Borrow.{Lends, sem};
@@ -9,9 +9,9 @@ use std::fmt;
 use std::fmt::{Debug, Display, Formatter};
 use std::ops::{Deref, DerefMut};
 
-/// What a request's query stands for.
+/// The value of a request's query.
 ///
-/// It is shown, compared and copied as the value inside.
+/// It is formatted, compared and cloned as the value inside.
 ///
 /// ```
 /// let query: QsQuery<Query> = QsQuery(from_str(alloc, "age=24&name=Alice")?);
@@ -50,7 +50,7 @@ impl<T> Deref for QsQuery<T> {
 impl<T> DerefMut for QsQuery<T> {
     ghost deref_mut_gives = { λ query value. value ≡ query.0 };
 
-    /// Returns the value inside, to be changed in place.
+    /// Returns the value inside, which can be changed in place.
     fn deref_mut(&mut self) -> &mut T
         ensures* writes_back { sem 𝓛 (Lends (the_row T.row) T.row self.entry result (with_query self.old)) }
         ensures value { result.now ≡ self.old.0 }

@@ -3,7 +3,7 @@ use Rattle.std.specs.Str.{IsUtf8}
 use Rattle.qs_data.proofs.Refusals.{gives_exit}
 use Rattle.serde_qs.specs.Items.{items_in, pieces, listed_in}
 use Rattle.serde_qs.proofs.Pieces.{piece_before, only_piece, before-item, no-item, map_more}
-use Rattle.serde_qs.specs.Pieces.{listed_pieces}
+use Rattle.serde_qs.specs.internal.Pieces.{listed_pieces}
 use Rattle.serde_qs.proofs.Steps.{before}
 use Rattle.serde_qs.proofs.helpers.generic_delimiter.listed.Goals as goal
 

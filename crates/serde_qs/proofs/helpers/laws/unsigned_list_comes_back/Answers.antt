@@ -1,4 +1,4 @@
-use Rattle.serde_qs.specs.NumberLists.{unsigned_list}
+use Rattle.serde_qs.specs.internal.NumberLists.{unsigned_list}
 use Rattle.serde_qs.proofs.helpers.laws.unsigned_list_comes_back.Goals as goal
 
 pub returns : goal.returns

@@ -1,0 +1,13 @@
+-- Steps of proofs: nothing here adds to what a public clause means.
+pub mod Booleans
+pub mod ComesBack
+pub mod Compound
+pub mod Defaulted
+pub mod DelimitedComesBack
+pub mod MapsComeBack
+pub mod NumberLists
+pub mod Optional
+pub mod Pieces
+pub mod Records
+pub mod Tuples
+pub mod Variants

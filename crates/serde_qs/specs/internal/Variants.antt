@@ -1,0 +1,137 @@
+-- Enums by their variants.
+use Rattle.std.proofs.Common.{ap, ◌∙◌, refl, sym, ⊎_elim}
+use Rattle.std.proofs.lemmas.Bool.{cases_Bool, false≢true}
+use Rattle.std.proofs.lemmas.Slice.Eq.{bytes_eq-Decides}
+use Rattle.std.specs.Prelude.{◌≡◌, ℕ, ◌==◌, Bool, true, false, not, ◌&&◌, ◌||◌, List, length, Option, Some, None, option_map, if◌then◌else◌}
+use Rattle.std.specs.Str.{bytes_eq}
+use Rattle.qs_spec.specs.Data as d
+use Rattle.qs_spec.specs.Data.{Data, Members, members_of, Named}
+use Rattle.qs_spec.specs.Shape.{Shape, Field, fields_of, field_names_differ, Variant, Variants, variants_of, is_variant_name, is_distinct, variant_names_differ, are_distinct_variants, VariantKind}
+use Rattle.serde_qs.specs.ComesBack.{ComesBack, FieldsComeBack}
+use Rattle.serde_qs.specs.Fits.{fits, fit_fields, fit_kind, fit_variant, name_in}
+use Rattle.serde_qs.specs.internal.Booleans.{both_hold, both_true}
+use Rattle.serde_qs.specs.Records.{first_of, others_of}
+use Rattle.qs_spec.specs.Same.{Same}
+use Rattle.serde_qs.specs.declared.compound.variants.OneOf.TheVariants.{First, Later}
+use Rattle.serde_qs.specs.Variants.{AreDistinct, AreNamed, KindComesBack, KindIsDistinct, KindIsNamed, VariantsComeBack, are_variants, each, kind_differs, last_data, last_form, last_in, newtype_variant_in, struct_variant_in, unit_variant_in, variant_data, variant_form, variant_in, variants_differ}
+
+pub unit_variant_back : (n : List ℕ) (e : Data) → true ≡ true → true ≡ true → Same (d.unit_variant n) e → unit_variant_in e ≡ Some tt
+unit_variant_back n _ k h Same.unit_variant = refl
+
+pub newtype_variant_back : {A V : Type 0} (datum : A → Data) (s : Shape) (meaning : Data → Option V) (value : A → V) → ComesBack datum s meaning value
+    → (n : List ℕ) (x : A) (e : Data) → fits s (datum x) ≡ true → Same (d.newtype_variant n (datum x)) e → newtype_variant_in meaning e ≡ Some (value x)
+newtype_variant_back datum s meaning value back n x _ h (Same.newtype_variant {name = m} {d} {e} p) = back x e h p
+
+pub struct_variant_back : {A V : Type 0} (form : List (List ℕ) → List Field) (written : List (List ℕ) → A → List Named) (meaning : List (List ℕ) → Members → Option V) (value : A → V)
+    → FieldsComeBack form written meaning value → (n : List ℕ) (names : List (List ℕ)) (x : A) (e : Data)
+    → field_names_differ (fields_of (form names)) ≡ true → fit_fields (fields_of (form names)) (members_of (written names x)) ≡ true
+    → Same (d.struct_variant n (members_of (written names x))) e → struct_variant_in (meaning names) e ≡ Some (value x)
+struct_variant_back form written meaning value back n names x _ k h (Same.struct_variant {name = m} {ms} {ns} p) = back names x ns k h p
+
+-- data that are the same have one name
+
+pub same_name : {x e : Data} → Same x e → name_in x ≡ name_in e
+same_name Same.unit = refl
+same_name Same.none = refl
+same_name (Same.some p) = refl
+same_name Same.boolean = refl
+same_name Same.unsigned = refl
+same_name Same.signed = refl
+same_name Same.character = refl
+same_name Same.text = refl
+same_name Same.bytes = refl
+same_name (Same.sequence p) = refl
+same_name (Same.tuple p) = refl
+same_name (Same.mapping k l p) = refl
+same_name (Same.struct p) = refl
+same_name (Same.newtype p) = refl
+same_name Same.unit_variant = refl
+same_name (Same.newtype_variant p) = refl
+same_name (Same.tuple_variant p) = refl
+same_name (Same.struct_variant p) = refl
+
+first_named : (n : List ℕ) (x : Data) (b : Bool) → name_in x ≡ n → (bytes_eq n (name_in x) || b) ≡ true
+first_named n x b h = ap (λ t. t || b) ((bytes_eq-Decides n (name_in x)).1 (sym h))
+
+or_true : (b : Bool) → (b || true) ≡ true
+or_true true = refl
+or_true false = refl
+
+pub last_named : {A : Type 0} (form : List (List ℕ) → VariantKind) (written : List ℕ → List (List ℕ) → A → Data) → KindIsNamed written → AreNamed (last_form form) (last_data written)
+last_named form written named names x = first_named (first_of names) (last_data written names x) false (named (first_of names) (others_of names) x)
+
+pub one_named : {A B : Type 0} (form : List (List ℕ) → VariantKind) (written : List ℕ → List (List ℕ) → A → Data) → KindIsNamed written
+    → (after : List (List ℕ) → List (List ℕ)) (rest : List (List ℕ) → List Variant) (more : List (List ℕ) → B → Data) → AreNamed rest more
+    → AreNamed (variant_form form after rest) (variant_data written after more)
+one_named form written named after rest more others names (First x) =
+    first_named (first_of names) (last_data written names x) (is_variant_name (name_in (last_data written names x)) (variants_of (rest (after (others_of names))))) (named (first_of names) (others_of names) x)
+one_named form written named after rest more others names (Later y) =
+    let later = after (others_of names) in
+    ap (λ t. bytes_eq (first_of names) (name_in (more later y)) || t) (others later y) ∙ or_true (bytes_eq (first_of names) (name_in (more later y)))
+
+-- a name that no variant has is none of theirs
+other_name : (n m : List ℕ) (vs : Variants) → not (is_variant_name n vs) ≡ true → is_variant_name m vs ≡ true → bytes_eq m n ≡ false
+other_name n m vs absent present =
+    ⊎_elim
+    (λ y. absurd (false≢true (sym (ap not (ap (λ k. is_variant_name k vs) (sym ((bytes_eq-Decides m n).0 y)) ∙ present)) ∙ absent)))
+    (λ f. f)
+    (cases_Bool (bytes_eq m n))
+
+pub last_back : {A V : Type 0} (form : List (List ℕ) → VariantKind) (written : List ℕ → List (List ℕ) → A → Data) (meaning : List (List ℕ) → Data → Option V) (value : A → V)
+    → KindIsNamed written → KindComesBack form written meaning value → VariantsComeBack (last_form form) (last_data written) (last_in meaning) value
+last_back form written meaning value named back names x e k h p =
+    let n = first_of names in
+    let later = others_of names in
+    let w = written n later x in
+    let tested : bytes_eq (name_in w) n ≡ true = (bytes_eq-Decides (name_in w) n).1 (named n later x) in
+    let fit : fit_kind (form later) w ≡ true = ap (λ t. if t then fit_kind (form later) w else false) (sym tested) ∙ h in
+    let differ = both_hold (kind_differs (form later)) true k in
+    ap (λ t. if t then meaning later e else None) (ap (λ m. bytes_eq m n) (sym (same_name p)) ∙ tested) ∙ back n later x e differ.0 fit p
+
+pub one_back : {A B V W : Type 0} (form : List (List ℕ) → VariantKind) (written : List ℕ → List (List ℕ) → A → Data) (meaning : List (List ℕ) → Data → Option V) (value : A → V)
+    → KindIsNamed written → KindComesBack form written meaning value → (after : List (List ℕ) → List (List ℕ))
+    → (rest : List (List ℕ) → List Variant) (more : List (List ℕ) → B → Data) (others : List (List ℕ) → Data → Option W) (seen : B → W) → AreNamed rest more → VariantsComeBack rest more others seen
+    → VariantsComeBack (variant_form form after rest) (variant_data written after more) (variant_in meaning after others) (each value seen)
+one_back form written meaning value named back after rest more others seen present again names (First x) e k h p =
+    let n = first_of names in
+    let later = others_of names in
+    let vs = variants_of (rest (after later)) in
+    let w = written n later x in
+    let tested : bytes_eq (name_in w) n ≡ true = (bytes_eq-Decides (name_in w) n).1 (named n later x) in
+    let fit : fit_kind (form later) w ≡ true = ap (λ t. if t then fit_kind (form later) w else fit_variant vs w) (sym tested) ∙ h in
+    let parts = both_hold (not (is_variant_name n vs)) (kind_differs (form later) && variants_differ vs) k in
+    let differ = both_hold (kind_differs (form later)) (variants_differ vs) parts.1 in
+    ap (λ t. if t then option_map First (meaning later e) else option_map Later (others (after later) e)) (ap (λ m. bytes_eq m n) (sym (same_name p)) ∙ tested)
+    ∙ ap (λ r. option_map First r) (back n later x e differ.0 fit p)
+one_back form written meaning value named back after rest more others seen present again names (Later y) e k h p =
+    let n = first_of names in
+    let later = others_of names in
+    let vs = variants_of (rest (after later)) in
+    let w = more (after later) y in
+    let parts = both_hold (not (is_variant_name n vs)) (kind_differs (form later) && variants_differ vs) k in
+    let differ = both_hold (kind_differs (form later)) (variants_differ vs) parts.1 in
+    let tested : bytes_eq (name_in w) n ≡ false = other_name n (name_in w) vs parts.0 (present (after later) y) in
+    let fit : fit_variant vs w ≡ true = ap (λ t. if t then fit_kind (form later) w else fit_variant vs w) (sym tested) ∙ h in
+    ap (λ t. if t then option_map First (meaning later e) else option_map Later (others (after later) e)) (ap (λ m. bytes_eq m n) (sym (same_name p)) ∙ tested)
+    ∙ ap (λ r. option_map Later r) (again (after later) y e differ.1 fit p)
+
+pub enum_back : {A V : Type 0} (count : ℕ) (form : List (List ℕ) → List Variant) (written : List (List ℕ) → A → Data) (meaning : List (List ℕ) → Data → Option V) (value : A → V)
+    → VariantsComeBack form written meaning value → (names : List (List ℕ)) (x : A) (e : Data)
+    → are_variants names count (form names) ≡ true → fit_variant (variants_of (form names)) (written names x) ≡ true → Same (written names x) e → meaning names e ≡ Some (value x)
+enum_back count form written meaning value back names x e k h p = back names x e (both_hold (length names == count) (variants_differ (variants_of (form names))) k).1 h p
+
+pub last_distinct : (form : List (List ℕ) → VariantKind) → KindIsDistinct form → AreDistinct (last_form form)
+last_distinct form distinct names k = both_true (distinct (others_of names) (both_hold (kind_differs (form (others_of names))) true k).0) refl
+
+pub one_distinct : (form : List (List ℕ) → VariantKind) → KindIsDistinct form → (after : List (List ℕ) → List (List ℕ)) (rest : List (List ℕ) → List Variant) → AreDistinct rest → AreDistinct (variant_form form after rest)
+one_distinct form distinct after rest others names k =
+    let later = others_of names in
+    let vs = variants_of (rest (after later)) in
+    let parts = both_hold (not (is_variant_name (first_of names) vs)) (kind_differs (form later) && variants_differ vs) k in
+    let differ = both_hold (kind_differs (form later)) (variants_differ vs) parts.1 in
+    let done = both_hold (variant_names_differ vs) (are_distinct_variants vs) (others (after later) differ.1) in
+    both_true (both_true parts.0 done.0) (both_true (distinct later differ.0) done.1)
+
+pub enum_distinct : (count : ℕ) (form : List (List ℕ) → List Variant) → AreDistinct form → (names : List (List ℕ)) → are_variants names count (form names) ≡ true
+    → is_distinct (Shape.enumeration (variants_of (form names))) ≡ true
+enum_distinct count form distinct names k = distinct names (both_hold (length names == count) (variants_differ (variants_of (form names))) k).1

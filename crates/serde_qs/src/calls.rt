@@ -1,0 +1,10 @@
+//! Typed calls.
+
+mod config_ext;
+mod lent;
+mod reading;
+mod writing;
+
+pub use config_ext::ConfigExt;
+pub use reading::{from_bytes, from_str, read_by};
+pub use writing::{to_string, to_writer};

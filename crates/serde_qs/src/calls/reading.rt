@@ -1,0 +1,116 @@
+//! Typed calls that read.
+
+ghost use Rattle.std.specs.Prelude.{◌≡◌, true, IfOk};
+ghost use Rattle.qs_spec.specs.Config.{default};
+ghost use Rattle.qs_spec.specs.Shape.{is_distinct};
+ghost use Rattle.qs_spec.specs.Tree.{IsTree, IsRefused};
+ghost use Rattle.qs_tree.specs.Error.{IsParse, OnlyParseOrOutOfMemory};
+ghost use Rattle.qs_data.specs.Gives.{OnlyCustomUtf8OrOutOfMemory};
+ghost use Rattle.qs_data.specs.Parsed.{ReturnsData, parsed_of};
+ghost use Rattle.qs_data.specs.Views.{shape_of};
+ghost use Rattle.serde_qs.specs.Typed.{ReturnsValue, ReturnsWritten};
+
+use crate::traits::Deserialize;
+use qs_data::{Config, Data, Deserializer, Result, Shape};
+use std::alloc::Global;
+
+/// Returns the value that is read from a querystring, with the default configuration.
+///
+/// ```
+/// let query: Query = from_bytes(alloc, b"name=Alice&age=24")?;
+/// ```
+///
+/// The errors are those of [`from_str`].
+pub fn from_bytes<T: Deserialize>(alloc: Global, input: &[u8]) -> Result<T>
+    ensures exact { ReturnsValue T.value default T.form T.meaning input.now result }
+    ensures back { ReturnsWritten T.value default T.form T.meaning input.now result }
+{
+    read_typed(alloc, Config::new(), input)
+}
+
+/// Returns the value that is read from a querystring, with the default configuration.
+///
+/// ```
+/// let query: Query = from_str(alloc, "age=24&name=Alice")?;
+/// assert!(query.age == 24);
+/// ```
+///
+/// # Errors
+///
+/// - [`Parse`](qs_data::Error::Parse): the querystring has no tree, as `a[b` has none. The position is that of the first error.
+/// - [`Custom`](qs_data::Error::Custom) or [`Utf8`](qs_data::Error::Utf8): it has one, but the type's shape reads nothing from
+///   it, as where a field is missing or a text is no number, or the data mean no value.
+/// - [`OutOfMemory`](qs_data::Error::OutOfMemory): an allocation failed.
+///
+/// The first two are returned exactly in these cases, and there is no other error. Each call makes the type's shape:
+/// [`read_by`] takes one that the caller keeps. The time grows with the input and the value.
+pub fn from_str<T: Deserialize>(alloc: Global, input: &str) -> Result<T>
+    ensures exact { ReturnsValue T.value default T.form T.meaning input.now result }
+    ensures back { ReturnsWritten T.value default T.form T.meaning input.now result }
+{
+    read_typed(alloc, Config::new(), input.as_bytes())
+}
+
+/// Returns the value that is read from a querystring under a configuration, by a shape that the caller keeps: that of `T`.
+///
+/// ```
+/// let shape = Query::shape(alloc)?; // once
+/// let query: Query = read_by(alloc, Config::new(), &shape, body)?; // for each request
+/// ```
+///
+/// The errors are those of [`from_str`], with this configuration in place of the default one.
+pub fn read_by<T: Deserialize>(
+    alloc: Global,
+    config: Config,
+    shape: &Shape,
+    input: &[u8],
+) -> Result<T>
+    requires { shape_of shape.now ≡ T.form }
+    ensures exact { ReturnsValue T.value config T.form T.meaning input.now result }
+    ensures back { ReturnsWritten T.value config T.form T.meaning input.now result }
+{
+    read_value(alloc, config, shape, input)
+}
+
+// Returns the value that is read from a querystring by the shape of its type.
+fn read_value<T: Deserialize>(
+    alloc: Global,
+    config: Config,
+    shape: &Shape,
+    input: &[u8],
+) -> Result<T>
+    requires { shape_of shape.now ≡ T.form }
+    ensures { ReturnsValue T.value config T.form T.meaning input.now result }
+{
+    let deserializer = parsed(alloc, config, input)?;
+    let datum = read_data(alloc, deserializer, shape)?;
+    T::from_data(alloc, datum)
+}
+
+// Returns the parsed querystring, by a contract in the words of a typed call.
+fn parsed<'qs>(alloc: Global, config: Config, input: &'qs [u8]) -> Result<Deserializer<'qs>>
+    ensures config { IfOk result (λ d. (parsed_of d).config ≡ config) }
+    ensures tree { IfOk result (λ d. IsTree config.form config.max_depth input.now (parsed_of d).tree) }
+    ensures refused { IsParse result → IsRefused config.form config.max_depth input.now }
+    ensures errors { OnlyParseOrOutOfMemory result }
+{
+    Deserializer::with_config(alloc, config, input)
+}
+
+// Returns the data that a shape reads, by a contract in the words of a typed call.
+fn read_data(alloc: Global, deserializer: Deserializer<'_>, shape: &Shape) -> Result<Data>
+    requires { is_distinct (shape_of shape.now) ≡ true }
+    ensures exact { ReturnsData (parsed_of deserializer.entry) (shape_of shape.now) result }
+    ensures errors { OnlyCustomUtf8OrOutOfMemory result }
+{
+    deserializer.read(alloc, shape)
+}
+
+// Returns the value that is read from a querystring under a configuration, by a shape that is made here.
+pub(crate) fn read_typed<T: Deserialize>(alloc: Global, config: Config, input: &[u8]) -> Result<T>
+    ensures exact { ReturnsValue T.value config T.form T.meaning input.now result }
+    ensures back { ReturnsWritten T.value config T.form T.meaning input.now result }
+{
+    let shape = T::shape(alloc)?;
+    read_by(alloc, config, &shape, input)
+}

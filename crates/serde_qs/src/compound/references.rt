@@ -1,0 +1,117 @@
+//! The fields of a struct that is written, by reference.
+
+ghost use Rattle.std.specs.Prelude.{◌≡◌, ℕ, List, [], ◌∷◌, ◌++◌, map, IfOk};
+ghost use Rattle.qs_spec.specs.Data.{Data as Datum, Named};
+ghost use Rattle.qs_tree.specs.Error.{OnlyOutOfMemory};
+ghost use Rattle.qs_data.specs.Views.{data_of, named};
+ghost use Rattle.serde_qs.specs.Optional.{optional_data};
+ghost use Rattle.serde_qs.specs.Records.{member_data, texts};
+
+use super::fields::split;
+use crate::traits::Serialize;
+use qs_data::{Data, Result};
+use std::alloc::Global;
+
+/// References to the fields of a struct that is written, as nested pairs: `(&self.x, (&self.y, ()))`.
+///
+/// A field that is left out where it is None is a [`SkipNone`] in place of the reference.
+pub trait References: Sized {
+    // The members of the fields, by their names.
+    ghost members: { List (List ℕ) → Self → List Named };
+
+    /// Returns these members and after them those of the fields. The one error is
+    /// [`OutOfMemory`](qs_data::Error::OutOfMemory).
+    fn push_members(
+        self,
+        alloc: Global,
+        names: &[&str],
+        before: Vec<(String, Data)>,
+    ) -> Result<Vec<(String, Data)>>
+        ensures exact { IfOk result (λ all. map (named data_of) all.items ≡ map (named data_of) before.items ++ members (texts names.now) self) }
+        ensures errors { OnlyOutOfMemory result };
+}
+
+/// A field that is left out where it is None, for a field that is [`Optional`](crate::Optional): `(SkipNone(&self.page), ())`.
+#[derive(Drop)]
+pub struct SkipNone<'a, T>(pub &'a Option<T>);
+
+impl References for () {
+    ghost members = { λ _ _. [] };
+
+    fn push_members(
+        self,
+        _alloc: Global,
+        _names: &[&str],
+        before: Vec<(String, Data)>,
+    ) -> Result<Vec<(String, Data)>> {
+        Ok(before)
+    }
+}
+
+impl<'a, T: Serialize, R: References + Drop> References for (&'a T, R) {
+    ghost members = { λ names x. member_data (T.datum x.0.now) (λ ns. R.members ns x.1) names };
+
+    fn push_members(
+        self,
+        alloc: Global,
+        names: &[&str],
+        mut before: Vec<(String, Data)>,
+    ) -> Result<Vec<(String, Data)>> {
+        let (field, others) = self;
+        let (name, rest) = split(names);
+        let datum = field.to_data(alloc)?;
+        let name = String::from_str(alloc, name)?;
+        before.push((name, datum))?;
+        others.push_members(alloc, rest, before)
+    }
+}
+
+impl<'a, T: Serialize, R: References + Drop> References for (SkipNone<'a, T>, R) {
+    ghost members = { λ names x. optional_data T.datum x.0.0.now (λ ns. R.members ns x.1) names };
+
+    fn push_members(
+        self,
+        alloc: Global,
+        names: &[&str],
+        mut before: Vec<(String, Data)>,
+    ) -> Result<Vec<(String, Data)>> {
+        let (SkipNone(field), others) = self;
+        let (name, rest) = split(names);
+        if let Some(value) = field {
+            let datum = value.to_data(alloc)?;
+            let name = String::from_str(alloc, name)?;
+            before.push((name, datum))?;
+        }
+        others.push_members(alloc, rest, before)
+    }
+}
+
+/// References to the items of a tuple that is written, as nested pairs: `(&self.0, (&self.1, ()))`.
+pub trait ItemReferences: Sized {
+    // The data of the items.
+    ghost listed: { Self → List Datum };
+
+    /// Returns these data and after them those of the items. The one error is
+    /// [`OutOfMemory`](qs_data::Error::OutOfMemory).
+    fn push_items(self, alloc: Global, before: Vec<Data>) -> Result<Vec<Data>>
+        ensures exact { IfOk result (λ all. map data_of all.items ≡ map data_of before.items ++ listed self) }
+        ensures errors { OnlyOutOfMemory result };
+}
+
+impl ItemReferences for () {
+    ghost listed = { λ _. [] };
+
+    fn push_items(self, _alloc: Global, before: Vec<Data>) -> Result<Vec<Data>> {
+        Ok(before)
+    }
+}
+
+impl<'a, T: Serialize, R: ItemReferences + Drop> ItemReferences for (&'a T, R) {
+    ghost listed = { λ x. T.datum x.0.now ∷ R.listed x.1 };
+
+    fn push_items(self, alloc: Global, mut before: Vec<Data>) -> Result<Vec<Data>> {
+        let (item, others) = self;
+        before.push(item.to_data(alloc)?)?;
+        others.push_items(alloc, before)
+    }
+}

@@ -1,0 +1,196 @@
+//! A list of whole numbers in one text, as a field of a struct.
+
+ghost use Rattle.std.specs.Prelude.{◌≡◌, ℕ, List, true, map, refl};
+ghost use Rattle.std.specs.List.{list_all};
+ghost use Rattle.qs_spec.specs.Shape as s;
+ghost use Rattle.serde_qs.specs.Delimited.{ItemsComeBack, is_number_delimiter, list_data};
+ghost use Rattle.serde_qs.specs.internal.DelimitedComesBack.{list_comes_back};
+ghost use Rattle.serde_qs.specs.Fits.{fits};
+ghost use Rattle.serde_qs.specs.Items.{list_in};
+ghost use Rattle.serde_qs.specs.internal.NumberLists.{signed_items, unsigned_items};
+
+use crate::helpers::{Item, generic_delimiter};
+use crate::traits::{Deserialize, RoundTrip, Serialize};
+use qs_data::{Data, Result, Shape};
+use std::alloc::Global;
+use std::marker::PhantomData;
+
+/// A whole number, of 8 to 64 bits.
+///
+/// It is implemented for these eight types alone.
+pub trait WholeNumber: Item + RoundTrip {
+    // The text of each has no delimiter in it, and is parsed as that number.
+    ghost items_come_back: { ItemsComeBack (λ n. fits Self.form (Self.datum n)) Self.Item.meaning Self.printed Self.Item.value };
+}
+
+/// The character between the numbers of a [`Delimited`], which is neither a digit nor `-`.
+///
+/// ```
+/// pub struct Dot;
+///
+/// impl Delimiter for Dot {
+///     ghost delimiter = { 46 };
+///
+///     ghost is_free = { refl };
+///
+///     fn delimiter() -> char {
+///         '.'
+///     }
+/// }
+/// ```
+pub trait Delimiter {
+    ghost delimiter: { ℕ };
+
+    /// Returns the character.
+    fn delimiter() -> char
+        ensures { result ≡ delimiter };
+
+    ghost is_free: { is_number_delimiter delimiter ≡ true };
+}
+
+/// The delimiter of [`comma_separated`](crate::helpers::comma_separated).
+#[derive(Debug, PartialEq, Drop)]
+pub struct Comma;
+
+/// The delimiter of [`pipe_delimited`](crate::helpers::pipe_delimited).
+#[derive(Debug, PartialEq, Drop)]
+pub struct Pipe;
+
+/// The delimiter of [`space_delimited`](crate::helpers::space_delimited).
+#[derive(Debug, PartialEq, Drop)]
+pub struct Space;
+
+/// A list of whole numbers that is read from one text, with a delimiter between them, and written so: `values=1,2,3` for
+/// `values: Delimited<u32, Comma>`.
+///
+/// The empty list is the empty text, `values=`. A text with a piece that is no number is rejected: ``invalid item `x` ``.
+#[derive(Debug, PartialEq, Drop)]
+pub struct Delimited<T, D> {
+    pub items: Vec<T>,
+    delimiter: PhantomData<D>,
+}
+
+impl<T, D> Delimited<T, D> {
+    /// Returns the list of these items. It doesn't allocate.
+    ///
+    /// ```
+    /// let values: Delimited<u32, Comma> = Delimited::new(items);
+    /// ```
+    pub fn new(items: Vec<T>) -> Delimited<T, D>
+        ensures { result.items ≡ items }
+    {
+        Delimited {
+            items,
+            delimiter: PhantomData,
+        }
+    }
+}
+
+impl<T: WholeNumber, D: Delimiter> Serialize for Delimited<T, D> {
+    ghost datum = { λ list. list_data (λ n. fits T.form (T.datum n)) T.printed D.delimiter list.items.items };
+
+    fn to_data(&self, alloc: Global) -> Result<Data> {
+        items_fit(self.items.as_slice());
+        generic_delimiter::serialize(alloc, self.items.as_slice(), D::delimiter())
+    }
+}
+
+impl<T: WholeNumber + Drop, D: Delimiter> Deserialize for Delimited<T, D> {
+    ghost Value = { List T.Item.Value };
+
+    ghost value = { λ list. map T.Item.value list.items.items };
+
+    ghost form = { s.Shape.text };
+
+    ghost meaning = { λ d. list_in T.Item.meaning D.delimiter d };
+
+    ghost distinct = { refl };
+
+    fn shape(_alloc: Global) -> Result<Shape> {
+        Ok(Shape::Text)
+    }
+
+    fn from_data(alloc: Global, datum: Data) -> Result<Delimited<T, D>> {
+        let items = generic_delimiter::deserialize(alloc, datum, D::delimiter())?;
+        Ok(Delimited::new(items))
+    }
+}
+
+impl<T: WholeNumber + Drop, D: Delimiter> RoundTrip for Delimited<T, D> {
+    ghost comes_back = { λ list e h p. list_comes_back (λ n. fits T.form (T.datum n)) T.Item.meaning T.printed T.Item.value T.items_come_back D.delimiter D.is_free list.items.items e h p };
+
+    fn fits(&self) {
+        items_fit(self.items.as_slice());
+    }
+}
+
+// Shows that each number fits its shape. It does nothing when it runs.
+fn items_fit<T: WholeNumber>(items: &[T])
+    ensures { list_all (λ n. fits T.form (T.datum n)) items.now ≡ true }
+{
+    for item in items {
+        item.fits();
+    }
+}
+
+impl Delimiter for Comma {
+    ghost delimiter = { 44 };
+
+    ghost is_free = { refl };
+
+    fn delimiter() -> char {
+        ','
+    }
+}
+
+impl Delimiter for Pipe {
+    ghost delimiter = { 124 };
+
+    ghost is_free = { refl };
+
+    fn delimiter() -> char {
+        '|'
+    }
+}
+
+impl Delimiter for Space {
+    ghost delimiter = { 32 };
+
+    ghost is_free = { refl };
+
+    fn delimiter() -> char {
+        ' '
+    }
+}
+
+impl WholeNumber for u8 {
+    ghost items_come_back = { unsigned_items 8 refl };
+}
+
+impl WholeNumber for u16 {
+    ghost items_come_back = { unsigned_items 16 refl };
+}
+
+impl WholeNumber for u32 {
+    ghost items_come_back = { unsigned_items 32 refl };
+}
+
+impl WholeNumber for u64 {
+    ghost items_come_back = { unsigned_items 64 refl };
+}
+
+impl WholeNumber for i8 {
+    ghost items_come_back = { signed_items 8 refl };
+}
+
+impl WholeNumber for i16 {
+    ghost items_come_back = { signed_items 16 refl };
+}
+
+impl WholeNumber for i32 {
+    ghost items_come_back = { signed_items 32 refl };
+}
+
+impl WholeNumber for i64 {
+    ghost items_come_back = { signed_items 64 refl };
+}

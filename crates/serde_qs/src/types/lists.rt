@@ -1,0 +1,71 @@
+//! Lists.
+
+ghost use Rattle.std.specs.Prelude.{List, map};
+ghost use Rattle.qs_spec.specs.Data as d;
+ghost use Rattle.qs_spec.specs.Shape as s;
+ghost use Rattle.std.specs.declared.vec.Vec.{Vec};
+ghost use Rattle.std.specs.declared.alloc.Global.{Global};
+ghost use Rattle.qs_data.specs.Views.{values_in as values_in_list};
+ghost use Rattle.serde_qs.specs.Typed.{Means};
+ghost use Rattle.serde_qs.specs.internal.ComesBack.{sequence_back};
+ghost use Rattle.serde_qs.specs.Meaning.{sequence_in, values_in};
+
+use crate::traits::{Deserialize, RoundTrip, Serialize, unexpected};
+use qs_data::{Data, Result, Shape};
+use std::alloc::Global;
+
+impl<T: Serialize> Serialize for Vec<T> {
+    ghost datum = { λ xs. d.sequence (d.values_of (map T.datum xs.items)) };
+
+    fn to_data(&self, alloc: Global) -> Result<Data> {
+        let mut parts = Vec::new(alloc);
+        for item in self {
+            parts.push(item.to_data(alloc)?)?;
+        }
+        Ok(Data::Seq(parts))
+    }
+}
+
+impl<T: Deserialize + Drop> Deserialize for Vec<T> {
+    ghost Value = { List T.Value };
+
+    ghost value = { λ xs. map T.value xs.items };
+
+    ghost form = { s.Shape.sequence T.form };
+
+    ghost meaning = { λ d. sequence_in T.meaning d };
+
+    ghost distinct = { T.distinct };
+
+    fn shape(alloc: Global) -> Result<Shape> {
+        Ok(Shape::Seq(Box::new(alloc, T::shape(alloc)?)?))
+    }
+
+    fn from_data(alloc: Global, datum: Data) -> Result<Vec<T>> {
+        let Data::Seq(parts) = datum else {
+            return Err(unexpected(alloc, "a sequence"));
+        };
+        items_of(alloc, parts)
+    }
+}
+
+// Returns the values that these data mean, in order.
+fn items_of<T: Deserialize + Drop>(alloc: Global, parts: Vec<Data>) -> Result<Vec<T>>
+    ensures { Means (λ (xs : Vec T Global). map T.value xs.items) result (values_in T.meaning (values_in_list parts.items)) }
+{
+    let mut items = Vec::new(alloc);
+    for part in parts {
+        items.push(T::from_data(alloc, part)?)?;
+    }
+    Ok(items)
+}
+
+impl<T: RoundTrip + Drop> RoundTrip for Vec<T> {
+    ghost comes_back = { λ xs e h p. sequence_back T.datum T.form T.meaning T.value T.comes_back xs.items e h p };
+
+    fn fits(&self) {
+        for item in self {
+            item.fits();
+        }
+    }
+}

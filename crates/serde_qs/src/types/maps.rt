@@ -1,0 +1,95 @@
+//! Maps whose keys are strings.
+
+ghost use Rattle.std.specs.Prelude.{◌≡◌, List, ℕ, Option, map};
+ghost use Rattle.qs_spec.specs.Data as d;
+ghost use Rattle.qs_spec.specs.Shape as s;
+ghost use Rattle.qs_data.specs.Views.{data_of, pairs_in};
+ghost use Rattle.serde_qs.specs.internal.MapsComeBack.{mapping_back};
+ghost use Rattle.serde_qs.specs.Typed.{Means};
+ghost use Rattle.serde_qs.specs.Maps.{entry_data, values_by_text, pair_onto, pairs_onto, mapping_in, nowhere};
+
+use crate::traits::{Deserialize, RoundTrip, Serialize, unexpected};
+use qs_data::{Data, KeyShape, Result, Shape};
+use std::alloc::Global;
+use std::collections::BTreeMap;
+
+impl<T: Serialize> Serialize for BTreeMap<String, T> {
+    ghost datum = { λ m. d.mapping (d.pairs_of (map (entry_data T.datum) m.entries)) };
+
+    fn to_data(&self, alloc: Global) -> Result<Data> {
+        let mut pairs = Vec::new(alloc);
+        for (key, value) in self {
+            let text = String::from_str(alloc, key.as_str())?;
+            pairs.push((Data::Text(text), value.to_data(alloc)?))?;
+        }
+        Ok(Data::Map(pairs))
+    }
+}
+
+impl<T: Deserialize + Drop> Deserialize for BTreeMap<String, T> {
+    ghost Value = { List ℕ → Option T.Value };
+
+    ghost value = { λ m. values_by_text T.value m };
+
+    ghost form = { s.Shape.mapping s.KeyShape.text T.form };
+
+    ghost meaning = { λ d. mapping_in T.meaning d };
+
+    ghost distinct = { T.distinct };
+
+    fn shape(alloc: Global) -> Result<Shape> {
+        Ok(Shape::Map(KeyShape::Text, Box::new(alloc, T::shape(alloc)?)?))
+    }
+
+    fn from_data(alloc: Global, datum: Data) -> Result<BTreeMap<String, T>> {
+        match datum {
+            Data::Map(pairs) => map_of(alloc, pairs),
+            _ => Err(unexpected(alloc, "a map")),
+        }
+    }
+}
+
+impl<T: RoundTrip + Drop> RoundTrip for BTreeMap<String, T> {
+    ghost comes_back = { λ m e h p. mapping_back T.datum T.form T.meaning T.value T.comes_back m e h p };
+
+    fn fits(&self) {
+        for (key, value) in self {
+            key.fits();
+            value.fits();
+        }
+    }
+}
+
+// Returns the map of these pairs, of which the last with a key counts.
+#[tactic(auto, using(crate::proofs::PairsPut::empty))]
+fn map_of<T: Deserialize + Drop>(
+    alloc: Global,
+    pairs: Vec<(Data, Data)>,
+) -> Result<BTreeMap<String, T>>
+    ensures { Means (λ m. values_by_text T.value m) result (pairs_onto T.meaning nowhere (pairs_in pairs.items)) }
+{
+    let mut values = BTreeMap::new(alloc);
+    for (key, datum) in pairs {
+        values = with_pair(alloc, values, key, datum)?;
+    }
+    Ok(values)
+}
+
+// Returns the map with one more pair, in place of an older pair with that key.
+fn with_pair<T: Deserialize + Drop>(
+    alloc: Global,
+    mut values: BTreeMap<String, T>,
+    key: Data,
+    datum: Data,
+) -> Result<BTreeMap<String, T>>
+    ensures { Means (λ m. values_by_text T.value m) result (pair_onto T.meaning (values_by_text T.value values) (data_of key) (data_of datum)) }
+{
+    match key {
+        Data::Text(key) => {
+            let value = T::from_data(alloc, datum)?;
+            values.insert(key, value)?;
+            Ok(values)
+        }
+        _ => Err(unexpected(alloc, "a string")),
+    }
+}

@@ -1,0 +1,175 @@
+//! Signed numbers of 8 to 64 bits.
+
+ghost use Rattle.std.specs.Prelude.{◌≡◌, ◌≤ℤ◌, ℤ, Bool, true, ◌&&◌, IfOk, refl};
+ghost use Rattle.qs_spec.specs.Data as d;
+ghost use Rattle.qs_spec.specs.Shape as s;
+ghost use Rattle.qs_data.specs.Views.{data_of};
+ghost use Rattle.serde_qs.specs.internal.ComesBack.{signed_back};
+ghost use Rattle.serde_qs.specs.Fits.{is_signed};
+ghost use Rattle.serde_qs.specs.Meaning.{signed_between, signed_in};
+ghost use Rattle.serde_qs.specs.Typed.{Means};
+
+use crate::traits::{Deserialize, RoundTrip, Serialize, unexpected};
+use qs_data::{Data, Result, Shape};
+use std::alloc::Global;
+
+// Returns the number that these data mean, if it is from `least` to `most`.
+fn signed(alloc: Global, datum: Data, least: i64, most: i64, expected: &'static str) -> Result<i64>
+    ensures exact { Means (λ (z : ℤ). z) result (signed_between least most (data_of datum)) }
+    ensures bound { IfOk result (λ z. (least ≤ℤ z) × (z ≤ℤ most)) }
+{
+    let Data::Signed(n) = datum else {
+        return Err(unexpected(alloc, expected));
+    };
+    if n < least {
+        return Err(unexpected(alloc, expected));
+    }
+    if n > most {
+        return Err(unexpected(alloc, expected));
+    }
+    Ok(n)
+}
+
+impl Serialize for i8 {
+    ghost datum = { d.signed };
+
+    fn to_data(&self, _alloc: Global) -> Result<Data> {
+        Ok(Data::Signed(i64::from(*self)))
+    }
+}
+
+impl Deserialize for i8 {
+    ghost Value = { ℤ };
+
+    ghost value = { λ n. n };
+
+    ghost form = { s.Shape.signed 8 };
+
+    ghost meaning = { signed_in 8 };
+
+    ghost distinct = { refl };
+
+    fn shape(_alloc: Global) -> Result<Shape> {
+        Ok(Shape::I8)
+    }
+
+    fn from_data(alloc: Global, datum: Data) -> Result<i8> {
+        Ok(signed(alloc, datum, -128, 127, "i8")? as i8)
+    }
+}
+
+impl RoundTrip for i8 {
+    ghost comes_back = { signed_back 8 };
+
+    fn fits(&self) {
+        let _value = *self;
+    }
+}
+
+impl Serialize for i16 {
+    ghost datum = { d.signed };
+
+    fn to_data(&self, _alloc: Global) -> Result<Data> {
+        Ok(Data::Signed(i64::from(*self)))
+    }
+}
+
+impl Deserialize for i16 {
+    ghost Value = { ℤ };
+
+    ghost value = { λ n. n };
+
+    ghost form = { s.Shape.signed 16 };
+
+    ghost meaning = { signed_in 16 };
+
+    ghost distinct = { refl };
+
+    fn shape(_alloc: Global) -> Result<Shape> {
+        Ok(Shape::I16)
+    }
+
+    fn from_data(alloc: Global, datum: Data) -> Result<i16> {
+        Ok(signed(alloc, datum, -32768, 32767, "i16")? as i16)
+    }
+}
+
+impl RoundTrip for i16 {
+    ghost comes_back = { signed_back 16 };
+
+    fn fits(&self) {
+        let _value = *self;
+    }
+}
+
+impl Serialize for i32 {
+    ghost datum = { d.signed };
+
+    fn to_data(&self, _alloc: Global) -> Result<Data> {
+        Ok(Data::Signed(i64::from(*self)))
+    }
+}
+
+impl Deserialize for i32 {
+    ghost Value = { ℤ };
+
+    ghost value = { λ n. n };
+
+    ghost form = { s.Shape.signed 32 };
+
+    ghost meaning = { signed_in 32 };
+
+    ghost distinct = { refl };
+
+    fn shape(_alloc: Global) -> Result<Shape> {
+        Ok(Shape::I32)
+    }
+
+    fn from_data(alloc: Global, datum: Data) -> Result<i32> {
+        Ok(signed(alloc, datum, -2147483648, 2147483647, "i32")? as i32)
+    }
+}
+
+impl RoundTrip for i32 {
+    ghost comes_back = { signed_back 32 };
+
+    fn fits(&self) {
+        let _value = *self;
+    }
+}
+
+impl Serialize for i64 {
+    ghost datum = { d.signed };
+
+    fn to_data(&self, _alloc: Global) -> Result<Data> {
+        Ok(Data::Signed(*self))
+    }
+}
+
+impl Deserialize for i64 {
+    ghost Value = { ℤ };
+
+    ghost value = { λ n. n };
+
+    ghost form = { s.Shape.signed 64 };
+
+    ghost meaning = { signed_in 64 };
+
+    ghost distinct = { refl };
+
+    fn shape(_alloc: Global) -> Result<Shape> {
+        Ok(Shape::I64)
+    }
+
+    fn from_data(alloc: Global, datum: Data) -> Result<i64> {
+        signed(alloc, datum, i64::MIN, i64::MAX, "i64")
+    }
+}
+
+impl RoundTrip for i64 {
+    ghost comes_back = { signed_back 64 };
+
+    fn fits(&self) {
+        let _value = *self;
+    }
+}

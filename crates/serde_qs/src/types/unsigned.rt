@@ -1,0 +1,174 @@
+//! Unsigned numbers of 8 to 64 bits.
+
+ghost use Rattle.std.specs.Prelude.{◌≡◌, ◌≤◌, ℕ, IfOk, refl};
+ghost use Rattle.qs_spec.specs.Data as d;
+ghost use Rattle.qs_spec.specs.Shape as s;
+ghost use Rattle.qs_data.specs.Views.{data_of};
+ghost use Rattle.serde_qs.specs.internal.ComesBack.{unsigned_back};
+ghost use Rattle.serde_qs.specs.Meaning.{unsigned_in};
+ghost use Rattle.serde_qs.specs.Typed.{Means};
+
+use crate::traits::{Deserialize, RoundTrip, Serialize, unexpected};
+use qs_data::{Data, Result, Shape};
+use std::alloc::Global;
+
+// Returns the number that these data mean, if it is at most `most`.
+fn unsigned(alloc: Global, datum: Data, most: u64, expected: &'static str) -> Result<u64>
+    ensures exact { Means (λ (n : ℕ). n) result (unsigned_in most (data_of datum)) }
+    ensures bound { IfOk result (λ n. n ≤ most) }
+{
+    match datum {
+        Data::Unsigned(n) => {
+            if n <= most {
+                Ok(n)
+            } else {
+                Err(unexpected(alloc, expected))
+            }
+        }
+        _ => Err(unexpected(alloc, expected)),
+    }
+}
+
+impl Serialize for u8 {
+    ghost datum = { d.unsigned };
+
+    fn to_data(&self, _alloc: Global) -> Result<Data> {
+        Ok(Data::Unsigned(u64::from(*self)))
+    }
+}
+
+impl Deserialize for u8 {
+    ghost Value = { ℕ };
+
+    ghost value = { λ n. n };
+
+    ghost form = { s.Shape.unsigned 8 };
+
+    ghost meaning = { unsigned_in 255 };
+
+    ghost distinct = { refl };
+
+    fn shape(_alloc: Global) -> Result<Shape> {
+        Ok(Shape::U8)
+    }
+
+    fn from_data(alloc: Global, datum: Data) -> Result<u8> {
+        Ok(unsigned(alloc, datum, 255, "u8")? as u8)
+    }
+}
+
+impl RoundTrip for u8 {
+    ghost comes_back = { unsigned_back 255 };
+
+    fn fits(&self) {
+        let _value = *self;
+    }
+}
+
+impl Serialize for u16 {
+    ghost datum = { d.unsigned };
+
+    fn to_data(&self, _alloc: Global) -> Result<Data> {
+        Ok(Data::Unsigned(u64::from(*self)))
+    }
+}
+
+impl Deserialize for u16 {
+    ghost Value = { ℕ };
+
+    ghost value = { λ n. n };
+
+    ghost form = { s.Shape.unsigned 16 };
+
+    ghost meaning = { unsigned_in 65535 };
+
+    ghost distinct = { refl };
+
+    fn shape(_alloc: Global) -> Result<Shape> {
+        Ok(Shape::U16)
+    }
+
+    fn from_data(alloc: Global, datum: Data) -> Result<u16> {
+        Ok(unsigned(alloc, datum, 65535, "u16")? as u16)
+    }
+}
+
+impl RoundTrip for u16 {
+    ghost comes_back = { unsigned_back 65535 };
+
+    fn fits(&self) {
+        let _value = *self;
+    }
+}
+
+impl Serialize for u32 {
+    ghost datum = { d.unsigned };
+
+    fn to_data(&self, _alloc: Global) -> Result<Data> {
+        Ok(Data::Unsigned(u64::from(*self)))
+    }
+}
+
+impl Deserialize for u32 {
+    ghost Value = { ℕ };
+
+    ghost value = { λ n. n };
+
+    ghost form = { s.Shape.unsigned 32 };
+
+    ghost meaning = { unsigned_in 4294967295 };
+
+    ghost distinct = { refl };
+
+    fn shape(_alloc: Global) -> Result<Shape> {
+        Ok(Shape::U32)
+    }
+
+    fn from_data(alloc: Global, datum: Data) -> Result<u32> {
+        Ok(unsigned(alloc, datum, 4294967295, "u32")? as u32)
+    }
+}
+
+impl RoundTrip for u32 {
+    ghost comes_back = { unsigned_back 4294967295 };
+
+    fn fits(&self) {
+        let _value = *self;
+    }
+}
+
+impl Serialize for u64 {
+    ghost datum = { d.unsigned };
+
+    fn to_data(&self, _alloc: Global) -> Result<Data> {
+        Ok(Data::Unsigned(*self))
+    }
+}
+
+impl Deserialize for u64 {
+    ghost Value = { ℕ };
+
+    ghost value = { λ n. n };
+
+    ghost form = { s.Shape.unsigned 64 };
+
+    ghost meaning = { unsigned_in 18446744073709551615 };
+
+    ghost distinct = { refl };
+
+    fn shape(_alloc: Global) -> Result<Shape> {
+        Ok(Shape::U64)
+    }
+
+    fn from_data(alloc: Global, datum: Data) -> Result<u64> {
+        unsigned(alloc, datum, 18446744073709551615, "u64")
+    }
+}
+
+impl RoundTrip for u64 {
+    ghost comes_back = { unsigned_back 18446744073709551615 };
+
+    fn fits(&self) {
+        let _value = *self;
+    }
+}

@@ -1,4 +1,4 @@
--- What the clauses of `parse` say of an input.
+-- What the clauses of `parse` promise of an input.
 use Rattle.std.specs.Prelude.{◌≡◌, ℕ, Bool, false, not, ◌&&◌, ◌||◌, ◌==◌, List, [], ◌∷◌, Result, Ok, Err, IsTrue, ⊤}
 use Rattle.std.specs.List.{list_all}
 use Rattle.qs_spec.specs.Tree.{Tree, IsTree, IsRefused}
@@ -22,11 +22,11 @@ abbrev pub is_plain_value : List ℕ → Bool
 is_plain_value [] = false
 is_plain_value (b ∷ value) = b == 61 && is_plain value
 
--- nothing, `&` alone, or an empty key with a value that stands for itself
+-- the empty input, `&` alone, or an empty key with a value without `&`, `+` and `%`: nothing is allocated for them
 abbrev pub TakesNoMemory : List ℕ → Type 0
 TakesNoMemory bytes = IsTrue (is_ampersands bytes || is_plain_value bytes)
 
--- the result holds of this input too, marks aside: it has that tree, or none where the result is that there is none
+-- this input has the tree of the result, ignoring ownership, or no tree where the result is a `Parse` error
 abbrev pub HoldsOf : Bool → ℕ → List ℕ → Result ParsedValue Error → Type 0
 HoldsOf form depth bytes (Ok value) = (t : Tree) × IsTree form depth bytes t × (unmarked t ≡ unmarked (tree_of value))
 HoldsOf form depth bytes (Err (Parse message position)) = IsRefused form depth bytes

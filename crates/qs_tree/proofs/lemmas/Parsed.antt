@@ -17,7 +17,7 @@ use Rattle.qs_tree.specs.declared.tree.value.ParsedValue.{ParsedValue, NoValue, 
 use Rattle.qs_tree.specs.tree.Views.{tree_of}
 use Rattle.qs_tree.specs.Error.{IsParse, IsOutOfMemory, OnlyOutOfMemory}
 use Rattle.qs_tree.specs.tree.Owned.{owns}
-use Rattle.qs_tree.specs.internal.Parsing.{Answers}
+use Rattle.qs_tree.specs.internal.Parsing.{Returns}
 use Rattle.qs_tree.specs.Parsing.{HoldsOf}
 use Rattle.qs_tree.proofs.lemmas.tree.Owned.{owns_marked}
 
@@ -48,31 +48,31 @@ alike form depth bytes other h = by h.pairs h.some h.of_first h.order
     by (p ∷ ps) some first order = trees.alike_by_places form depth bytes other p ps h.others first h.of_second order
 
 module _ (form : Bool) (depth : ℕ) (bytes : List ℕ) (expected : Option Tree) (bound : ℕ) where
-  pub accepted : (r : Result ParsedValue Error) → Answers tree_of expected bound r → (IsParse r → IsRefused form depth bytes) → (t : Tree) → IsTree form depth bytes t → OnlyOutOfMemory r
-  accepted (Ok v) answer refused t h = tt
-  accepted (Err (Parse message at)) answer refused t h = absurd (refused tt t h)
-  accepted (Err OutOfMemory) answer refused t h = tt
-  accepted (Err (Custom message)) answer refused t h = absurd answer
-  accepted (Err (MaxSerializationDepthExceeded d)) answer refused t h = absurd answer
-  accepted (Err Unsupported) answer refused t h = absurd answer
-  accepted (Err (FromUtf8 cause)) answer refused t h = absurd answer
-  accepted (Err (Io cause)) answer refused t h = absurd answer
-  accepted (Err (ParseInt cause)) answer refused t h = absurd answer
-  accepted (Err (Utf8 cause)) answer refused t h = absurd answer
-  accepted (Err Failed) answer refused t h = absurd answer
+  pub accepted : (r : Result ParsedValue Error) → Returns tree_of expected bound r → (IsParse r → IsRefused form depth bytes) → (t : Tree) → IsTree form depth bytes t → OnlyOutOfMemory r
+  accepted (Ok v) outcome refused t h = tt
+  accepted (Err (Parse message at)) outcome refused t h = absurd (refused tt t h)
+  accepted (Err OutOfMemory) outcome refused t h = tt
+  accepted (Err (Custom message)) outcome refused t h = absurd outcome
+  accepted (Err (MaxSerializationDepthExceeded d)) outcome refused t h = absurd outcome
+  accepted (Err Unsupported) outcome refused t h = absurd outcome
+  accepted (Err (FromUtf8 cause)) outcome refused t h = absurd outcome
+  accepted (Err (Io cause)) outcome refused t h = absurd outcome
+  accepted (Err (ParseInt cause)) outcome refused t h = absurd outcome
+  accepted (Err (Utf8 cause)) outcome refused t h = absurd outcome
+  accepted (Err Failed) outcome refused t h = absurd outcome
 
-  pub rejected : (r : Result ParsedValue Error) → Answers tree_of expected bound r → IfOk r (λ v. IsTree form depth bytes (tree_of v)) → IsRefused form depth bytes → IsParse r ⊎ IsOutOfMemory r
-  rejected (Ok v) answer tree none = absurd (none (tree_of v) tree)
-  rejected (Err (Parse message at)) answer tree none = inl tt
-  rejected (Err OutOfMemory) answer tree none = inr tt
-  rejected (Err (Custom message)) answer tree none = absurd answer
-  rejected (Err (MaxSerializationDepthExceeded d)) answer tree none = absurd answer
-  rejected (Err Unsupported) answer tree none = absurd answer
-  rejected (Err (FromUtf8 cause)) answer tree none = absurd answer
-  rejected (Err (Io cause)) answer tree none = absurd answer
-  rejected (Err (ParseInt cause)) answer tree none = absurd answer
-  rejected (Err (Utf8 cause)) answer tree none = absurd answer
-  rejected (Err Failed) answer tree none = absurd answer
+  pub rejected : (r : Result ParsedValue Error) → Returns tree_of expected bound r → IfOk r (λ v. IsTree form depth bytes (tree_of v)) → IsRefused form depth bytes → IsParse r ⊎ IsOutOfMemory r
+  rejected (Ok v) outcome tree none = absurd (none (tree_of v) tree)
+  rejected (Err (Parse message at)) outcome tree none = inl tt
+  rejected (Err OutOfMemory) outcome tree none = inr tt
+  rejected (Err (Custom message)) outcome tree none = absurd outcome
+  rejected (Err (MaxSerializationDepthExceeded d)) outcome tree none = absurd outcome
+  rejected (Err Unsupported) outcome tree none = absurd outcome
+  rejected (Err (FromUtf8 cause)) outcome tree none = absurd outcome
+  rejected (Err (Io cause)) outcome tree none = absurd outcome
+  rejected (Err (ParseInt cause)) outcome tree none = absurd outcome
+  rejected (Err (Utf8 cause)) outcome tree none = absurd outcome
+  rejected (Err Failed) outcome tree none = absurd outcome
 
 module _ (form : Bool) (depth : ℕ) (bytes : List ℕ) where
   pub reordered : (r : Result ParsedValue Error) → IfOk r (λ v. IsTree form depth bytes (tree_of v)) → (IsParse r → IsRefused form depth bytes)

@@ -11,12 +11,12 @@ use Rattle.qs_spec.proofs.ReadOn.{after_ampersand, after_pair}
 use Rattle.qs_tree.specs.declared.scan.cursor.Token as code
 use Rattle.qs_tree.specs.declared.scan.cursor.Cursor as cursor
 use Rattle.qs_tree.specs.declared.scan.pair.Pair as code_pair
-use Rattle.qs_tree.specs.declared.scan.reading.Item as item
-use Rattle.qs_tree.specs.declared.scan.reading.Fault as fault
+use Rattle.qs_tree.specs.declared.scan.parser.Item as item
+use Rattle.qs_tree.specs.declared.scan.parser.ParseError as parse_error
 use Rattle.qs_tree.specs.internal.scan.Pairs.{pair_of}
-use Rattle.qs_tree.specs.internal.scan.Cursor.{kind_of_token, token_of, behind, left, IsPast}
-use Rattle.qs_tree.specs.internal.scan.Reading.{is_nothing, IsFault, ReadsPair, ReadsItem, root_path, behind_root, behind_root_at}
-use Rattle.qs_tree.proofs.lemmas.scan.BehindKeys.{HasBytes}
+use Rattle.qs_tree.specs.internal.scan.Cursor.{kind_of_token, token_of, from_token, left, IsPast}
+use Rattle.qs_tree.specs.internal.scan.Parser.{is_nothing, IsParseError, ParsesPair, ParsesItem, root_path, from_root, from_root_at}
+use Rattle.qs_tree.proofs.lemmas.scan.AfterKeys.{HasBytes}
 
 -- a token's bytes are some
 not_empty : (t : Token) (more : List ℕ) → HasBytes (t ∷ []) → (length (t.raw ++ more) == 0) ≡ true → ⊥
@@ -43,8 +43,8 @@ and_both false y e = cc
 
 module _ (depth : ℕ) where
   -- where the root key is empty and `&` or the end follows, nothing else was there
-  nothing_tokens : (ts : List Token) (stop : Option code.Token) (rest : List Token) → HasBytes ts → (cut (ends_root depth) ts).1 ≡ behind stop rest
-      → is_nothing (raw_of (cut (ends_root depth) ts).0) stop ≡ true → ts ≡ behind stop rest
+  nothing_tokens : (ts : List Token) (stop : Option code.Token) (rest : List Token) → HasBytes ts → (cut (ends_root depth) ts).1 ≡ from_token stop rest
+      → is_nothing (raw_of (cut (ends_root depth) ts).0) stop ≡ true → ts ≡ from_token stop rest
   nothing_tokens [] stop rest h s e = s
   nothing_tokens (t ∷ ts) stop rest h s e = by (ends_root depth t.kind) s e
     where
@@ -52,19 +52,19 @@ module _ (depth : ℕ) where
       empty raw None e = e
       empty raw (Some u) e = (and_both (length raw == 0) (is_amp (kind_of_token u.kind)) e).0
 
-      by : (x : Bool) → (cut_at x t ts (cut (ends_root depth) ts)).1 ≡ behind stop rest → is_nothing (raw_of (cut_at x t ts (cut (ends_root depth) ts)).0) stop ≡ true → t ∷ ts ≡ behind stop rest
+      by : (x : Bool) → (cut_at x t ts (cut (ends_root depth) ts)).1 ≡ from_token stop rest → is_nothing (raw_of (cut_at x t ts (cut (ends_root depth) ts)).0) stop ≡ true → t ∷ ts ≡ from_token stop rest
       by true s e = s
       by false s e = absurd (not_empty t (raw_of (cut (ends_root depth) ts).0) h (empty _ stop e))
 
-  pub end_pairs : (ts : List Token) (stop : Option code.Token) (rest : List Token) → HasBytes ts → (cut (ends_root depth) ts).1 ≡ behind stop rest
+  pub end_pairs : (ts : List Token) (stop : Option code.Token) (rest : List Token) → HasBytes ts → (cut (ends_root depth) ts).1 ≡ from_token stop rest
       → is_nothing (raw_of (cut (ends_root depth) ts).0) stop ≡ true → stop ≡ None → pairs_of depth ts ≡ Some []
-  end_pairs ts stop rest h s e d = ap (pairs_of depth) (nothing_tokens ts stop rest h s e ∙ ap (λ o. behind o rest) d)
+  end_pairs ts stop rest h s e d = ap (pairs_of depth) (nothing_tokens ts stop rest h s e ∙ ap (λ o. from_token o rest) d)
 
-  pub ampersand_pairs : (ts : List Token) (stop : Option code.Token) (t : code.Token) (rest : List Token) → HasBytes ts → (cut (ends_root depth) ts).1 ≡ behind stop rest
+  pub ampersand_pairs : (ts : List Token) (stop : Option code.Token) (t : code.Token) (rest : List Token) → HasBytes ts → (cut (ends_root depth) ts).1 ≡ from_token stop rest
       → is_nothing (raw_of (cut (ends_root depth) ts).0) stop ≡ true → stop ≡ Some t → pairs_of depth ts ≡ pairs_of depth rest
   ampersand_pairs ts stop t rest h s e d =
       let amp = and_both _ (is_amp (kind_of_token t.kind)) (sym (ap (is_nothing (raw_of (cut (ends_root depth) ts).0)) d) ∙ e) in
-      ap (pairs_of depth) (nothing_tokens ts stop rest h s e ∙ ap (λ o. behind o rest) d) ∙ after_ampersand depth (token_of t) rest (is_amp_of (kind_of_token t.kind) amp.1)
+      ap (pairs_of depth) (nothing_tokens ts stop rest h s e ∙ ap (λ o. from_token o rest) d) ∙ after_ampersand depth (token_of t) rest (is_amp_of (kind_of_token t.kind) amp.1)
 
   -- a root key as raw bytes
   root_is : (key : List Token) → HasBytes key → root key ≡ root_path (raw_of key)
@@ -80,7 +80,7 @@ module _ (depth : ℕ) where
       by false = h
 
   -- after a root key that isn't nothing
-  after_key : (key : List Token) (stop : Option code.Token) (rest : List Token) → HasBytes key → is_nothing (raw_of key) stop ≡ false → after_root depth key (behind stop rest) ≡ behind_root depth (raw_of key) (behind stop rest)
+  after_key : (key : List Token) (stop : Option code.Token) (rest : List Token) → HasBytes key → is_nothing (raw_of key) stop ≡ false → after_root depth key (from_token stop rest) ≡ from_root depth (raw_of key) (from_token stop rest)
   after_key [] None rest h e = cc
   after_key (t ∷ key) None rest h e = ap (λ p. Some (plain p NoValue, [])) (root_is (t ∷ key) h)
   after_key key (Some u) rest h e = by (kind_of_token u.kind) refl key h e
@@ -90,15 +90,15 @@ module _ (depth : ℕ) where
       named_is (t ∷ key) h e = ap (λ p. Some (plain p NoValue, token_of u ∷ rest)) (root_is (t ∷ key) h)
 
       by : (k : Kind) → kind_of_token u.kind ≡ k → (key : List Token) → HasBytes key → (length (raw_of key) == 0 && is_amp (kind_of_token u.kind)) ≡ false
-          → after_root_at k depth key (token_of u) rest ≡ behind_root_at k depth (root_path (raw_of key)) (token_of u) rest
+          → after_root_at k depth key (token_of u) rest ≡ from_root_at k depth (root_path (raw_of key)) (token_of u) rest
       by Amp d key h e = named_is key h (sym (ap (λ k. length (raw_of key) == 0 && is_amp k) d) ∙ e) ∙ sym (ap (λ k. with_leaf (plain (root_path (raw_of key))) (value_at k (token_of u) rest)) d)
       by Equals d key h e = ap (λ p. with_leaf (plain p) (value_at Equals (token_of u) rest)) (root_is key h) ∙ sym (ap (λ k. with_leaf (plain (root_path (raw_of key))) (value_at k (token_of u) rest)) d)
       by Open d key h e = ap (λ p. read_brackets depth p u.raw.now rest) (root_is key h)
       by Close d key h e = refl
       by Other d key h e = refl
 
-  pub pair_pairs : (ts : List Token) (stop : Option code.Token) (rest : List Token) → HasBytes ts → (cut (ends_root depth) ts).1 ≡ behind stop rest
-      → is_nothing (raw_of (cut (ends_root depth) ts).0) stop ≡ false → pairs_of depth ts ≡ and_pairs depth (behind_root depth (raw_of (cut (ends_root depth) ts).0) (behind stop rest))
+  pub pair_pairs : (ts : List Token) (stop : Option code.Token) (rest : List Token) → HasBytes ts → (cut (ends_root depth) ts).1 ≡ from_token stop rest
+      → is_nothing (raw_of (cut (ends_root depth) ts).0) stop ≡ false → pairs_of depth ts ≡ and_pairs depth (from_root depth (raw_of (cut (ends_root depth) ts).0) (from_token stop rest))
   pair_pairs [] None rest h s e = cc
   pair_pairs [] (Some u) rest h s e = cc
   pair_pairs (t ∷ ts) stop rest h s e =
@@ -110,7 +110,7 @@ module _ (depth : ℕ) where
       by false d = d
       by true d = absurd (amp stop (sym (ap (λ x. (cut_at x t ts (cut (ends_root depth) ts)).1) (amp_ends depth t.kind d)) ∙ s) (sym (ap (λ x. is_nothing (raw_of (cut_at x t ts (cut (ends_root depth) ts)).0) stop) (amp_ends depth t.kind d)) ∙ e))
         where
-          amp : (stop : Option code.Token) → t ∷ ts ≡ behind stop rest → is_nothing [] stop ≡ false → ⊥
+          amp : (stop : Option code.Token) → t ∷ ts ≡ from_token stop rest → is_nothing [] stop ≡ false → ⊥
           amp None s e = cc
           amp (Some u) s e = let same : t ≡ token_of u = cc in let w : is_amp (kind_of_token u.kind) ≡ true = ap (λ (v : Token). is_amp v.kind) (sym same) ∙ d in cc
 
@@ -119,14 +119,14 @@ module _ (depth : ℕ) where
   past_pairs [] new h = sym (ap (λ l. pairs_of depth (tokens new.form l)) h)
   past_pairs (t ∷ ts) new h = after_ampersand depth t ts h.0 ∙ ap (pairs_of depth) h.1
 
-  pub pair_item : (ts : List Token) (found : Rest Pair) (a : Unit {0}) (new : cursor.Cursor) (p : code_pair.Pair) → pairs_of depth ts ≡ and_pairs depth found → ReadsPair found (Ok a) new p → ReadsItem depth ts (Ok item.TheVariants.Pair) new p
+  pub pair_item : (ts : List Token) (found : Rest Pair) (a : Unit {0}) (new : cursor.Cursor) (p : code_pair.Pair) → pairs_of depth ts ≡ and_pairs depth found → ParsesPair found (Ok a) new p → ParsesItem depth ts (Ok item.TheVariants.Pair) new p
   pair_item ts found a new p e h = e ∙ ap (and_pairs depth) h.1 ∙ ap (option_map (λ ps. pair_of p ∷ ps)) (past_pairs h.0 new h.2)
 
-  fault_same : (ts : List Token) (found : Rest Pair) (f : fault.Fault) → pairs_of depth ts ≡ and_pairs depth found → IsFault found f → IsFault (pairs_of depth ts) f
-  fault_same ts found (fault.TheVariants.Unread reason) e h = e ∙ ap (and_pairs depth) h
-  fault_same ts found fault.TheVariants.OutOfMemory e h = tt
+  error_same : (ts : List Token) (found : Rest Pair) (f : parse_error.ParseError) → pairs_of depth ts ≡ and_pairs depth found → IsParseError found f → IsParseError (pairs_of depth ts) f
+  error_same ts found (parse_error.TheVariants.Syntax error) e h = e ∙ ap (and_pairs depth) h
+  error_same ts found parse_error.TheVariants.OutOfMemory e h = tt
 
-  pub fault_item : (ts : List Token) (found : Rest Pair) (o : Result item.Item fault.Fault) (f : fault.Fault) (Q : fault.Fault → Type 0) (new : cursor.Cursor) (p : code_pair.Pair) → IsErrAnd o Q → ((g : fault.Fault) → Q g → g ≡ f)
-      → pairs_of depth ts ≡ and_pairs depth found → IsFault found f → ReadsItem depth ts o new p
-  fault_item ts found (Ok i) f Q new p h same e fault = absurd h
-  fault_item ts found (Err g) f Q new p h same e fault = fault_same ts found g e (subst (IsFault found) (sym (same g h)) fault)
+  pub error_item : (ts : List Token) (found : Rest Pair) (o : Result item.Item parse_error.ParseError) (f : parse_error.ParseError) (Q : parse_error.ParseError → Type 0) (new : cursor.Cursor) (p : code_pair.Pair) → IsErrAnd o Q → ((g : parse_error.ParseError) → Q g → g ≡ f)
+      → pairs_of depth ts ≡ and_pairs depth found → IsParseError found f → ParsesItem depth ts o new p
+  error_item ts found (Ok i) f Q new p h same e parse_error = absurd h
+  error_item ts found (Err g) f Q new p h same e parse_error = error_same ts found g e (subst (IsParseError found) (sym (same g h)) parse_error)

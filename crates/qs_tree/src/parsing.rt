@@ -2,23 +2,16 @@
 
 mod scan_error;
 
-ghost use Rattle.std.specs.Prelude.{◌≡◌, ◌≢◌, ◌≤◌, ◌+◌, ◌⊎◌, ℕ, List, [], length, IfOk, IsOk, IsOkAnd};
-ghost use Rattle.qs_spec.specs.Tree.{Tree, IsTree, IsRefused};
+ghost use Rattle.std.specs.Prelude.{◌≡◌, ◌≤◌, ◌+◌, length, IfOk, IsOk, IsOkAnd};
 ghost use Rattle.qs_spec.specs.Tree.Tree.{uninitialized};
-ghost use Rattle.qs_spec.specs.Holds.{IsSound, leaf_count, nesting};
-ghost use Rattle.qs_spec.specs.Order.{AreAlike};
-ghost use Rattle.qs_spec.specs.Input.{HasPairs, IsReordered};
-ghost use Rattle.qs_spec.specs.Marks.{marks};
 ghost use Rattle.qs_spec.specs.toward.InPlace as in_place;
-ghost use Rattle.qs_tree.specs.Error.{IsParse, IfParse, IsOutOfMemory, OnlyOutOfMemory, OnlyParseOrOutOfMemory};
-ghost use Rattle.qs_tree.specs.tree.Owned.{owns};
 ghost use Rattle.qs_tree.specs.tree.Views.{tree_of};
 ghost use Rattle.qs_tree.specs.internal.scan.Pairs.{IsBare, pair_of};
 ghost use Rattle.qs_tree.specs.internal.scan.Cursor.{left, KnowsEnd, in_all};
 ghost use Rattle.qs_tree.specs.declared.build.builder.TreeBuilder.TheVariants.{Empty};
 ghost use Rattle.qs_tree.specs.internal.build.Builder.{built_tree, IsFlat};
 ghost use Rattle.qs_tree.specs.internal.Parsing.{grown, Returns, Finds};
-ghost use Rattle.qs_tree.specs.Parsing.{HoldsOf, TakesNoMemory};
+ghost use Rattle.qs_tree.specs.Parsing.{Parses, TakesNoMemory};
 
 use crate::build::add::add_pair;
 use crate::build::builder::TreeBuilder;
@@ -54,19 +47,7 @@ use std::mem;
 /// let tree = parse(alloc, b"a[b]=1&a[c]=x%20y", Config::new())?; // a map with a map under `a`
 /// ```
 pub fn parse(alloc: Global, input: &[u8], config: Config) -> Result<ParsedValue<'_>>
-    ensures tree { IfOk result (λ value. IsTree config.form config.max_depth input.now (tree_of value)) }
-    ensures refused { IsParse result → IsRefused config.form config.max_depth input.now }
-    ensures accepted { (t : Tree) → IsTree config.form config.max_depth input.now t → OnlyOutOfMemory result }
-    ensures rejected { IsRefused config.form config.max_depth input.now → IsParse result ⊎ IsOutOfMemory result }
-    ensures position { IfParse result (λ position. position ≤ length input.now + 1) }
-    ensures errors { OnlyParseOrOutOfMemory result }
-    ensures no_memory { TakesNoMemory input.now → IsOk result }
-    ensures borrowed { (t : Tree) → IsTree config.form config.max_depth input.now t → IfOk result (λ value. owns value ≡ marks t) }
-    ensures leaves { input.now ≢ [] → IfOk result (λ value. HasPairs config.form config.max_depth input.now (leaf_count (tree_of value))) }
-    ensures nesting { IfOk result (λ value. nesting (tree_of value) ≤ config.max_depth + 2) }
-    ensures sound { IfOk result (λ value. IsSound (tree_of value)) }
-    ensures alike { (other : List ℕ) → IsReordered config.form config.max_depth input.now other → AreAlike config.form config.max_depth input.now other }
-    ensures reordered { (other : List ℕ) → IsReordered config.form config.max_depth input.now other → HoldsOf config.form config.max_depth other result }
+    ensures parsed { Parses config.form config.max_depth input.now result }
 {
     parse_with(alloc, &mut Steps::new(), input, config)
 }
@@ -85,19 +66,7 @@ pub fn parse_with<'qs>(
     input: &'qs [u8],
     config: Config,
 ) -> Result<ParsedValue<'qs>>
-    ensures tree { IfOk result (λ value. IsTree config.form config.max_depth input.now (tree_of value)) }
-    ensures refused { IsParse result → IsRefused config.form config.max_depth input.now }
-    ensures accepted { (t : Tree) → IsTree config.form config.max_depth input.now t → OnlyOutOfMemory result }
-    ensures rejected { IsRefused config.form config.max_depth input.now → IsParse result ⊎ IsOutOfMemory result }
-    ensures position { IfParse result (λ position. position ≤ length input.now + 1) }
-    ensures errors { OnlyParseOrOutOfMemory result }
-    ensures no_memory { TakesNoMemory input.now → IsOk result }
-    ensures borrowed { (t : Tree) → IsTree config.form config.max_depth input.now t → IfOk result (λ value. owns value ≡ marks t) }
-    ensures leaves { input.now ≢ [] → IfOk result (λ value. HasPairs config.form config.max_depth input.now (leaf_count (tree_of value))) }
-    ensures nesting { IfOk result (λ value. nesting (tree_of value) ≤ config.max_depth + 2) }
-    ensures sound { IfOk result (λ value. IsSound (tree_of value)) }
-    ensures alike { (other : List ℕ) → IsReordered config.form config.max_depth input.now other → AreAlike config.form config.max_depth input.now other }
-    ensures reordered { (other : List ℕ) → IsReordered config.form config.max_depth input.now other → HoldsOf config.form config.max_depth other result }
+    ensures parsed { Parses config.form config.max_depth input.now result }
     ensures grows { steps.old ≤ steps.new }
     ensures most { steps.new ≤ steps.old + length input.now + 1 }
     ensures exact { IfOk result (λ _. steps.new ≡ steps.old + length input.now + 1) }

@@ -42,7 +42,7 @@ module _ (form : Bool) (depth b : ℕ) (bytes : List ℕ) where
       let whole = (in_place form depth b bytes h.0 t h.1.grammar).1 h in
       none-some t (sym e ∙ ap (option_and_then (λ ps. add_all ps uninitialized)) pairs ∙ whole)
 
--- an answer about the tokens of an input is one about the input
+-- a result for the tokens of an input is one for the input
 module _ (form : Bool) (depth : ℕ) (bytes : List ℕ) (some : (length bytes == 0) ≡ false) (limit : ℕ) (ts : List Token) (d : limit ≡ depth) (e : ts ≡ tokens form bytes) (bound : ℕ) where
   about : (r : Result ParsedValue Error) → Returns tree_of (grown limit ts uninitialized) bound r → Returns tree_of (grown depth (tokens form bytes) uninitialized) bound r
   about r h = subst (λ n. Returns tree_of (grown n (tokens form bytes) uninitialized) bound r) d (subst (λ l. Returns tree_of (grown limit l uninitialized) bound r) e h)

@@ -1,4 +1,4 @@
--- What a step on the way along a path leaves.
+-- What a step of a zipper leaves.
 use Rattle.std.proofs.Common.{◌≡◌, Bool, List, [], ◌∷◌, ◌++◌, Option, Some, None, option_map, option_and_then, refl, sym, ap, subst, ◌∙◌, append-nil}
 use Rattle.qs_spec.specs.Segment.{Step}
 use Rattle.qs_spec.specs.Leaf.{Leaf}
@@ -40,7 +40,7 @@ put_lowest_if : (ms : List Frame) (m : Frame) (o : Option Tree) → option_and_t
 put_lowest_if ms m None = refl
 put_lowest_if ms m (Some t) = sym (put_lowest ms m t)
 
--- the way begins
+-- a zipper without frames
 pub begins : (path : List Step) (node : Tree) → Leads path node [] path node
 begins path node tail push l = sym (itself (add (path ++ tail) push l node))
 
@@ -59,7 +59,7 @@ module _ (path : List Step) (node : Tree) (ms : List Frame) (s : Step) (rest : L
   pub ends : (error : AddError) → IsRejected (entries_below end) error → IsBarred path node error
   ends error h tail push l = λ other. way tail push l ∙ ap (option_and_then (put_all_back ms)) (nothing_below s (add (rest ++ tail) push l) end (h other))
 
--- what is made at the end of the way is put back, or there is nothing
+-- the new node at the end is put back, or there is a conflict
 module _ (push : Bool) (l : Leaf) (path : List Step) (node : Tree) (ms : List Frame) (end : Tree) (way : Leads path node ms [] end) where
   whole_way : add path push l node ≡ option_and_then (put_all_back ms) (add [] push l end)
   whole_way = ap (λ p. add p push l node) (sym (append-nil path)) ∙ way [] push l

@@ -1,4 +1,4 @@
--- The maps that are laid out, those that wait, and those that are left make the whole.
+-- The finished entries, those in frames and those that are left make the whole tree.
 use Rattle.std.proofs.Common.{◌≡◌, ℕ, ◌+◌, List, [], ◌∷◌, ◌++◌, refl, sym, ap, ◌∙◌, arith}
 use Rattle.std.specs.List.Sorted.{IsStrictlySortedBy}
 use Rattle.std.specs.Map.{keys_of}
@@ -34,7 +34,7 @@ pub key_trees-push : (es : Held) (k : Key) (v : ParsedValue) (ps : List (Key × 
 key_trees-push [] k v ps = refl
 key_trees-push (e ∷ es) k v ps = ap (λ l. (e.0, tree_of e.1) ∷ l) (key_trees-push es k v ps)
 
--- a map of which nothing is laid out
+-- a map without finished entries
 pub is_opened : (level : Level) (es : List (Key × TreeBuilder)) (whole : Entries) → level.done ≡ [] → into_iter_items level.left ≡ es → entries_seen es ≡ whole → IsStrictlySortedBy key_cmp (keys_of es) → IsOpened whole level
 is_opened level es whole none left seen sorted =
     record {
@@ -43,7 +43,7 @@ is_opened level es whole none left seen sorted =
       maps = rw left (ap entries_map_count seen);
     }
 
--- the keys of a level that waits are in order, whatever node stands where it waits
+-- the keys of a frame are sorted, whatever node is at its key
 abbrev pub IsInOrder : Frame → Type 0
 IsInOrder w = (t : Tree) → IsStrictlySortedBy key_cmp (keys_of (with_node w t))
 
@@ -61,7 +61,7 @@ abbrev pub whole : List Frame → Entries → Entries
 whole [] es = es
 whole (w ∷ ws) es = entries_from (with_node w (mapping (whole ws es)))
 
--- how many maps of them aren't laid out
+-- how many of their maps aren't finished
 abbrev pub maps_on_stack : List Frame → ℕ
 maps_on_stack [] = 0
 maps_on_stack (w ∷ ws) = maps_left w.level + maps_on_stack ws
@@ -92,7 +92,7 @@ module _ (w : Frame) where
       ∙ ap (λ ps. whole ws (entries_from ps)) same
       ∙ all
 
-  -- a level is laid out, and the one that waits for it goes on
+  -- a level is finished, and its frame goes on
   pub put_back : (ws : List Frame) (level outer : Level) (es total : Entries) → level_pairs outer ≡ with_node w (mapping es) → es ≡ entries_from (level_pairs level) → whole (ws ++ w ∷ []) (entries_from (level_pairs level)) ≡ total
       → whole ws (entries_from (level_pairs outer)) ≡ total
   put_back ws level outer es total same done all =

@@ -8,6 +8,7 @@ use Rattle.qs_spec.specs.Leaf.{NoValue}
 use Rattle.qs_spec.specs.Grammar.{Pair, plain, root, is_amp, ends_root}
 use Rattle.qs_spec.specs.toward.Reading.{Rest, cut, cut_at, with_leaf, value_at, read_brackets, after_root, after_root_at, named, pairs_of, and_pairs}
 use Rattle.qs_spec.proofs.ReadOn.{after_ampersand, after_pair}
+use Rattle.qs_spec.proofs.Booleans.{and_both}
 use Rattle.qs_tree.specs.declared.scan.cursor.Token as code
 use Rattle.qs_tree.specs.declared.scan.cursor.Cursor as cursor
 use Rattle.qs_tree.specs.declared.scan.pair.Pair as code_pair
@@ -17,6 +18,7 @@ use Rattle.qs_tree.specs.internal.scan.Pairs.{pair_of}
 use Rattle.qs_tree.specs.internal.scan.Cursor.{kind_of_token, token_of, from_token, left, IsPast}
 use Rattle.qs_tree.specs.internal.scan.Parser.{is_nothing, IsParseError, ParsesPair, ParsesItem, root_path, from_root, from_root_at}
 use Rattle.qs_tree.proofs.lemmas.scan.AfterKeys.{HasBytes}
+use Rattle.qs_tree.proofs.lemmas.scan.Values.{is_amp_of}
 
 -- a token's bytes are some
 not_empty : (t : Token) (more : List ℕ) → HasBytes (t ∷ []) → (length (t.raw ++ more) == 0) ≡ true → ⊥
@@ -29,17 +31,6 @@ amp_ends depth Equals e = cc
 amp_ends depth Open e = cc
 amp_ends depth Close e = cc
 amp_ends depth Other e = cc
-
-is_amp_of : (k : Kind) → is_amp k ≡ true → k ≡ Amp
-is_amp_of Amp e = refl
-is_amp_of Equals e = cc
-is_amp_of Open e = cc
-is_amp_of Close e = cc
-is_amp_of Other e = cc
-
-and_both : (x y : Bool) → (x && y) ≡ true → (x ≡ true) × (y ≡ true)
-and_both true y e = (refl, e)
-and_both false y e = cc
 
 module _ (depth : ℕ) where
   -- where the root key is empty and `&` or the end follows, nothing else was there
@@ -114,7 +105,7 @@ module _ (depth : ℕ) where
           amp None s e = cc
           amp (Some u) s e = let same : t ≡ token_of u = cc in let w : is_amp (kind_of_token u.kind) ≡ true = ap (λ (v : Token). is_amp v.kind) (sym same) ∙ d in cc
 
-  -- past a pair stand the pairs of what is left
+  -- after a pair there are the pairs of what is left
   past_pairs : (rest : List Token) (new : cursor.Cursor) → IsPast rest new → pairs_of depth rest ≡ pairs_of depth (left new)
   past_pairs [] new h = sym (ap (λ l. pairs_of depth (tokens new.form l)) h)
   past_pairs (t ∷ ts) new h = after_ampersand depth t ts h.0 ∙ ap (pairs_of depth) h.1

@@ -69,7 +69,7 @@ module _ (depth : ℕ) (form : Bool) where
   equals_byte b e = ap kind_of (eqb-true b 61 e)
 
   module _ (key : List ℕ) (stop : Option code.Token) (rest : List Token) (after : List ℕ) where
-    -- an `&` before which nothing stands
+    -- an `&` with nothing before it
     pub small_nothing : (bytes : List ℕ) (t : code.Token) → key ≡ raw_of (cut (ends_root depth) (tokens form bytes)).0 → (cut (ends_root depth) (tokens form bytes)).1 ≡ from_token stop rest → bytes ≡ key ++ raw_from_token stop after
         → TakesNoMemory bytes → is_nothing key stop ≡ true → stop ≡ Some t → is_ampersands after ≡ true
     small_nothing bytes t run token whole small nothing is = by (is_ampersands bytes) refl small
@@ -91,7 +91,7 @@ module _ (depth : ℕ) (form : Bool) where
             (and_both (is_ampersands t.raw.now) (is_ampersands after) behind_token).1
         by false e s = absurd (value bytes s run token whole)
 
-    -- an empty key before `=` and a value that stands for itself
+    -- an empty key before `=` and a value that is decoded to itself
     pub small_value : (bytes : List ℕ) → key ≡ raw_of (cut (ends_root depth) (tokens form bytes)).0 → (cut (ends_root depth) (tokens form bytes)).1 ≡ from_token stop rest → bytes ≡ key ++ raw_from_token stop after
         → TakesNoMemory bytes → is_nothing key stop ≡ false → (key ≡ []) × IsEqualsStop stop × (is_plain after ≡ true)
     small_value [] run token whole small some = absurd (by stop token (sym (ap (λ k. is_nothing k stop) run) ∙ some))

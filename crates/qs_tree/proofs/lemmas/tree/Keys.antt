@@ -1,13 +1,11 @@
 -- The order of keys, and what a map finds, seen as segments and trees.
 use Rattle.std.proofs.Common.{◌≡◌, ℕ, zero, suc, slice_get, length, List, [], ◌∷◌, Option, Some, None, option_map, Bor, refl, ap, ◌∙◌, sym, inl, inr, rules, map, Bool, true, false}
 use Rattle.std.proofs.lemmas.Bool.{cases_Bool}
-use Rattle.std.specs.declared.borrow.CowSlice.TheVariants.{Borrowed, Owned}
 use Rattle.std.specs.Map.{lookup, remove_entry}
 use Rattle.std.specs.BTreeMap.{is_at}
 use Rattle.qs_spec.specs.Segment.{Step, compare_segments, is_same_segment}
 use Rattle.qs_spec.specs.Tree.{Tree, Entries}
 use Rattle.qs_tree.specs.declared.tree.key.Key.{Key}
-use Rattle.qs_tree.specs.declared.tree.key.Key.TheVariants as key
 use Rattle.qs_tree.specs.declared.tree.value.ParsedValue.{ParsedValue, the_lemmas}
 use Rattle.qs_tree.specs.declared.tree.map.ParsedMap.{ParsedMap}
 use Rattle.qs_tree.specs.tree.Keys.{key_cmp}

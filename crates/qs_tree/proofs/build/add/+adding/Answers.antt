@@ -4,7 +4,6 @@ use Rattle.std.specs.declared.collections.BTreeMap.{BTreeMap}
 use Rattle.qs_spec.specs.toward.InPlace.{add}
 use Rattle.qs_tree.specs.declared.tree.key.Key.{Key}
 use Rattle.qs_tree.specs.declared.build.builder.TreeBuilder.{TreeBuilder, Empty}
-use Rattle.qs_tree.specs.declared.build.builder.MapBuilder.{the_lemmas}
 use Rattle.qs_tree.specs.internal.scan.Pairs.{is_push, leaf_of, path_of}
 use Rattle.qs_tree.specs.internal.build.Builder.{built_entries, entries_seen}
 use Rattle.qs_tree.specs.tree.Views.{step_of_key}

@@ -1,4 +1,4 @@
--- The maps that are left, with the node below them, stand for the whole tree.
+-- The frames that are left, with the node below them, are the whole tree.
 use Rattle.std.proofs.Common.{◌≡◌, length}
 use Rattle.qs_tree.specs.internal.build.Builder.{built_tree}
 use Rattle.qs_tree.specs.internal.build.Descent.{put_all_back}

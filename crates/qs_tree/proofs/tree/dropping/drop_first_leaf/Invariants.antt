@@ -1,4 +1,4 @@
--- No node is lost on the way, and the tree gets smaller.
+-- No node is lost, and the tree gets smaller.
 use Rattle.std.proofs.Common.{◌+◌, ◌≡◌}
 use Rattle.qs_tree.proofs.lemmas.tree.NodeCounts.{nodes}
 use Rattle.qs_tree.proofs.tree.dropping.drop_first_leaf.Given as goal

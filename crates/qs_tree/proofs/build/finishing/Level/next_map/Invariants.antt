@@ -1,4 +1,4 @@
--- The entries stay the same, and no map is laid out.
+-- The entries stay the same, and no map is finished.
 use Rattle.std.proofs.Common.{◌≡◌, ◌≤◌}
 use Rattle.std.specs.Vec.Iter.{into_iter_len}
 use Rattle.qs_tree.specs.internal.build.Finishing.{level_pairs, maps_left}

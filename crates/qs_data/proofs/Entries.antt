@@ -8,7 +8,7 @@ use Rattle.qs_spec.specs.Segment.{Segment, Step, segment_text}
 use Rattle.qs_spec.specs.Tree.{Tree, Entries}
 use Rattle.qs_spec.specs.Tree.Entries.{no_entries, entry}
 use Rattle.qs_spec.specs.Node.{keys_are_text}
-use Rattle.qs_tree.specs.tree.Views.{pairs_of}
+use Rattle.qs_tree.specs.tree.Views.{entry_list}
 use Rattle.qs_data.specs.Text.{is_text, entries_are_text}
 use Rattle.qs_data.specs.Keys.{NumbersFit, KeyFits, Tells, entries_after}
 use Rattle.qs_data.proofs.Refusals.{and_left, and_right}
@@ -16,7 +16,7 @@ use Rattle.qs_data.proofs.Refusals.{and_left, and_right}
 some_is : {A : Type 0} (a b : A) → Some a ≡ Some b → a ≡ b
 some_is a b h = cc
 
-pub after_some : (i : ℕ) (es : Entries) (x : Step × Tree) → slice_get (pairs_of es) i ≡ Some x → entries_after i es ≡ entry x.0.seg x.0.mark x.1 (entries_after (i + 1) es)
+pub after_some : (i : ℕ) (es : Entries) (x : Step × Tree) → slice_get (entry_list es) i ≡ Some x → entries_after i es ≡ entry x.0.seg x.0.mark x.1 (entries_after (i + 1) es)
 after_some zero no_entries x h = absurd cc
 after_some zero (entry k m t es) x h =
     let first : Step × Tree = (record { seg = k; mark = m }, t) in
@@ -25,13 +25,13 @@ after_some zero (entry k m t es) x h =
 after_some (suc i) no_entries x h = absurd cc
 after_some (suc i) (entry k m t es) x h = rw add-one (after_some i es x h ∙ rw add-one)
 
-pub after_none : (i : ℕ) (es : Entries) → slice_get (pairs_of es) i ≡ None → entries_after i es ≡ no_entries
+pub after_none : (i : ℕ) (es : Entries) → slice_get (entry_list es) i ≡ None → entries_after i es ≡ no_entries
 after_none zero no_entries h = refl
 after_none zero (entry k m t es) h = absurd cc
 after_none (suc i) no_entries h = refl
 after_none (suc i) (entry k m t es) h = after_none i es h
 
-pub after_all : (i : ℕ) (es : Entries) → length (pairs_of es) ≤ i → entries_after i es ≡ no_entries
+pub after_all : (i : ℕ) (es : Entries) → length (entry_list es) ≤ i → entries_after i es ≡ no_entries
 after_all zero no_entries h = refl
 after_all zero (entry k m t es) h = absurd (omega arith)
 after_all (suc i) no_entries h = refl

@@ -12,7 +12,7 @@ use Rattle.std.specs.declared.borrow.CowSlice.{CowSlice}
 use Rattle.std.specs.declared.borrow.CowSlice.TheVariants.{Borrowed, Owned}
 use Rattle.qs_tree.specs.declared.tree.key.Key.{Key}
 use Rattle.qs_tree.specs.declared.tree.key.Key.TheVariants as key
-use Rattle.qs_tree.specs.tree.Views.{tree_of, items_from, pairs_of, segment_of_key}
+use Rattle.qs_tree.specs.tree.Views.{tree_of, items_from, entry_list, segment_of_key}
 use Rattle.qs_tree.specs.declared.tree.value.ParsedValue.{ParsedValue}
 use Rattle.std.specs.Borrow.{Bor}
 use Rattle.std.specs.Slice.{IsItemAt}
@@ -44,10 +44,10 @@ places_at : (i : ℕ) (es : Entries) → drop i (placed 0 es) ≡ placed i (entr
 places_at i es = let e : 0 + i ≡ i = omega arith in places_from i 0 es ∙ ap (λ n. placed n (entries_after i es)) e
 
 -- what stands at a place of a map, if anything does
-pub place_here : (i : ℕ) (es : Entries) (x : Step × Tree) → slice_get (pairs_of es) i ≡ Some x → drop i (placed 0 es) ≡ cond (is_place i x.0.seg) (Some x.1) None ∷ placed (i + 1) (entries_after (i + 1) es)
+pub place_here : (i : ℕ) (es : Entries) (x : Step × Tree) → slice_get (entry_list es) i ≡ Some x → drop i (placed 0 es) ≡ cond (is_place i x.0.seg) (Some x.1) None ∷ placed (i + 1) (entries_after (i + 1) es)
 place_here i es x h = places_at i es ∙ ap (placed i) (after_some i es x h)
 
-pub place_none : (i : ℕ) (es : Entries) → slice_get (pairs_of es) i ≡ None → drop i (placed 0 es) ≡ []
+pub place_none : (i : ℕ) (es : Entries) → slice_get (entry_list es) i ≡ None → drop i (placed 0 es) ≡ []
 place_none i es h = places_at i es ∙ ap (placed i) (after_none i es h)
 
 not_passed : (b : Bool) → passed b ≡ None → b ≡ false
@@ -58,15 +58,15 @@ is_passed : (b : Bool) → passed b ≡ Some true → b ≡ true
 is_passed true h = refl
 is_passed false h = absurd cc
 
-pub first_none : (i : ℕ) (es : Entries) → slice_get (pairs_of es) i ≡ None → first_item (drop i (placed 0 es)) ≡ Some None
+pub first_none : (i : ℕ) (es : Entries) → slice_get (entry_list es) i ≡ None → first_item (drop i (placed 0 es)) ≡ Some None
 first_none i es h = ap first_item (place_none i es h)
 
-pub first_refused : (i : ℕ) (es : Entries) (x : Step × Tree) → slice_get (pairs_of es) i ≡ Some x → passed (is_place i x.0.seg) ≡ None → first_item (drop i (placed 0 es)) ≡ None
+pub first_refused : (i : ℕ) (es : Entries) (x : Step × Tree) → slice_get (entry_list es) i ≡ Some x → passed (is_place i x.0.seg) ≡ None → first_item (drop i (placed 0 es)) ≡ None
 first_refused i es x h n =
     let rest = placed (i + 1) (entries_after (i + 1) es) in
     ap first_item (place_here i es x h ∙ ap (λ b. cond b (Some x.1) None ∷ rest) (not_passed (is_place i x.0.seg) n))
 
-pub first_given : (i : ℕ) (es : Entries) (x : Step × Tree) → slice_get (pairs_of es) i ≡ Some x → passed (is_place i x.0.seg) ≡ Some true → first_item (drop i (placed 0 es)) ≡ Some (Some x.1)
+pub first_given : (i : ℕ) (es : Entries) (x : Step × Tree) → slice_get (entry_list es) i ≡ Some x → passed (is_place i x.0.seg) ≡ Some true → first_item (drop i (placed 0 es)) ≡ Some (Some x.1)
 first_given i es x h y =
     let rest = placed (i + 1) (entries_after (i + 1) es) in
     ap first_item (place_here i es x h ∙ ap (λ b. cond b (Some x.1) None ∷ rest) (is_passed (is_place i x.0.seg) y))
@@ -76,7 +76,7 @@ pub each_length : (ts : List ParsedValue) → length (sequence_items (items_from
 each_length [] = refl
 each_length (t ∷ ts) = ap suc (each_length ts)
 
-pub places_length : (j : ℕ) (es : Entries) → length (placed j es) ≡ length (pairs_of es)
+pub places_length : (j : ℕ) (es : Entries) → length (placed j es) ≡ length (entry_list es)
 places_length j no_entries = refl
 places_length j (entry k m t es) = ap suc (places_length (j + 1) es)
 
@@ -87,10 +87,10 @@ each_at (suc i) [] = refl
 each_at (suc i) (t ∷ ts) = each_at i ts
 
 -- a key that is a number, and one that is none
-pub int_key : (i : ℕ) (es : Entries) (x : Step × Tree) → slice_get (pairs_of es) i ≡ Some x → is_int x.0.seg ≡ true → are_ints (entries_after i es) ≡ are_ints (entries_after (i + 1) es)
+pub int_key : (i : ℕ) (es : Entries) (x : Step × Tree) → slice_get (entry_list es) i ≡ Some x → is_int x.0.seg ≡ true → are_ints (entries_after i es) ≡ are_ints (entries_after (i + 1) es)
 int_key i es x h n = ap are_ints (after_some i es x h) ∙ ap (λ b. b && are_ints (entries_after (i + 1) es)) n
 
-pub not_int : (i : ℕ) (es : Entries) (x : Step × Tree) → slice_get (pairs_of es) i ≡ Some x → is_int x.0.seg ≡ false → are_ints (entries_after i es) ≡ false
+pub not_int : (i : ℕ) (es : Entries) (x : Step × Tree) → slice_get (entry_list es) i ≡ Some x → is_int x.0.seg ≡ false → are_ints (entries_after i es) ≡ false
 not_int i es x h n = ap are_ints (after_some i es x h) ∙ ap (λ b. b && are_ints (entries_after (i + 1) es)) n
 
 pub text_key : (k : Key) (t : CowSlice ℕ Global) → k ≡ key.String t → is_int (segment_of_key k) ≡ false

@@ -7,7 +7,7 @@ use Rattle.std.specs.Option.{option_map, option_and_then}
 use Rattle.std.specs.Str.{is_utf8}
 use Rattle.std.specs.Result.{IsErrAnd}
 use Rattle.std.specs.declared.alloc.Global.{Global}
-use Rattle.qs_spec.specs.Data.{Data, values_of, pairs_of}
+use Rattle.qs_spec.specs.Data.{Data, values_of, entry_list}
 use Rattle.qs_spec.specs.Scalar.{key_data}
 use Rattle.qs_spec.specs.Segment.{Step, segment_text}
 use Rattle.qs_spec.specs.Shape.{KeyShape}
@@ -17,7 +17,7 @@ use Rattle.qs_spec.specs.Tree.Entries.{entry}
 use Rattle.qs_spec.specs.Node.{items, are_ints, placed, sequence_items}
 use Rattle.qs_spec.specs.internal.ReadFunction.{any_data, read_each, read_pairs, with_front}
 use Rattle.qs_data.specs.declared.read.error.ReadError.{ReadError}
-use Rattle.qs_tree.specs.tree.Views.{entries_of_map, pairs_of as steps_of}
+use Rattle.qs_tree.specs.tree.Views.{entries_of_map, entry_list as steps_of}
 use Rattle.qs_data.specs.declared.data.Data as r
 use Rattle.qs_data.specs.declared.read.items.Items.{Items as Node}
 use Rattle.qs_data.specs.declared.read.nested.MapLevel.{MapLevel}
@@ -148,7 +148,7 @@ begins_list l t xs w h value text size = record {
 
 -- a level of all entries of a map
 pub begins_map : (l : Level) (t : Tree) (es : Entries) → t ≡ mapping es → are_ints es ≡ false
-    → level_data l ≡ option_map (λ ps. Data.mapping (pairs_of ps)) (read_pairs KeyShape.text any_data es) → level_is_text l ≡ entries_are_text es → level_size l ≡ entries_size es → Begins l t
+    → level_data l ≡ option_map (λ ps. Data.mapping (entry_list ps)) (read_pairs KeyShape.text any_data es) → level_is_text l ≡ entries_are_text es → level_size l ≡ entries_size es → Begins l t
 begins_map l t es is not value text size = record {
   value = ap any_data is ∙ any_map es not ∙ sym value;
   text = λ n. ap is_text is ∙ sym text ∙ n;

@@ -10,7 +10,7 @@ use Rattle.qs_spec.specs.Tree.{Tree, Entries}
 use Rattle.qs_spec.specs.Tree.Entries.{no_entries, entry}
 use Rattle.qs_spec.specs.Node.{under_empty}
 use Rattle.qs_spec.specs.internal.ReadFunction.{Reader, read_pairs, with_front}
-use Rattle.qs_tree.specs.tree.Views.{pairs_of}
+use Rattle.qs_tree.specs.tree.Views.{entry_list}
 use Rattle.qs_data.specs.Keys.{entries_after}
 use Rattle.qs_data.specs.Text.{is_text, entries_are_text}
 use Rattle.qs_data.proofs.Entries.{after_some, after_none, after_all}
@@ -23,7 +23,7 @@ after_bad (suc i) no_entries h = h
 after_bad (suc i) (entry k m t es) h = and_right (is_utf8 (segment_text k) && is_text t) (entries_are_text es) (after_bad i es h)
 
 -- a key or a value that isn't text stands among entries that aren't
-module _ (i : ℕ) (es : Entries) (x : Step × Tree) (here : slice_get (pairs_of es) i ≡ Some x) where
+module _ (i : ℕ) (es : Entries) (x : Step × Tree) (here : slice_get (entry_list es) i ≡ Some x) where
   pub key_bad : is_utf8 (segment_text x.0.seg) ≡ false → entries_are_text es ≡ false
   key_bad n =
       let rest = entries_are_text (entries_after (i + 1) es) in
@@ -43,13 +43,13 @@ no_value rest None = refl
 no_value rest (Some a) = refl
 
 module _ (k : KeyShape) (r : Reader) (es : Entries) (i : ℕ) (ws : List (Data × Data)) where
-  pub pairs_end : slice_get (pairs_of es) i ≡ None → before ws (read_pairs k r (entries_after i es)) ≡ Some ws
+  pub pairs_end : slice_get (entry_list es) i ≡ None → before ws (read_pairs k r (entries_after i es)) ≡ Some ws
   pairs_end h = ap (λ e. before ws (read_pairs k r e)) (after_none i es h) ∙ ap Some (append-nil ws)
 
-  pub pairs_all : length (pairs_of es) ≤ i → before ws (read_pairs k r (entries_after i es)) ≡ Some ws
+  pub pairs_all : length (entry_list es) ≤ i → before ws (read_pairs k r (entries_after i es)) ≡ Some ws
   pairs_all h = ap (λ e. before ws (read_pairs k r e)) (after_all i es h) ∙ ap Some (append-nil ws)
 
-  module _ (x : Step × Tree) (here : slice_get (pairs_of es) i ≡ Some x) where
+  module _ (x : Step × Tree) (here : slice_get (entry_list es) i ≡ Some x) where
     abbrev rest : Option (List (Data × Data))
     rest = read_pairs k r (entries_after (i + 1) es)
 

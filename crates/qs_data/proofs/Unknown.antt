@@ -4,7 +4,7 @@ use Rattle.qs_spec.specs.Segment.{Step, segment_text}
 use Rattle.qs_spec.specs.Shape.{Fields, is_field_name}
 use Rattle.qs_spec.specs.Tree.{Tree, Entries}
 use Rattle.qs_spec.specs.Node.{keys_are_names}
-use Rattle.qs_tree.specs.tree.Views.{pairs_of}
+use Rattle.qs_tree.specs.tree.Views.{entry_list}
 use Rattle.qs_data.specs.Gives.{when}
 use Rattle.qs_data.specs.Keys.{entries_after}
 use Rattle.qs_data.proofs.Entries.{after_some, after_none, after_all}
@@ -20,13 +20,13 @@ fails true h = absurd cc
 fails false h = refl
 
 module _ (fs : Fields) (es : Entries) (i : ℕ) where
-  pub names_end : slice_get (pairs_of es) i ≡ None → keys_are_names fs (entries_after i es) ≡ true
+  pub names_end : slice_get (entry_list es) i ≡ None → keys_are_names fs (entries_after i es) ≡ true
   names_end h = ap (keys_are_names fs) (after_none i es h)
 
-  pub names_all : length (pairs_of es) ≤ i → keys_are_names fs (entries_after i es) ≡ true
+  pub names_all : length (entry_list es) ≤ i → keys_are_names fs (entries_after i es) ≡ true
   names_all h = ap (keys_are_names fs) (after_all i es h)
 
-  module _ (x : Step × Tree) (here : slice_get (pairs_of es) i ≡ Some x) where
+  module _ (x : Step × Tree) (here : slice_get (entry_list es) i ≡ Some x) where
     abbrev rest : Bool
     rest = keys_are_names fs (entries_after (i + 1) es)
 

@@ -5,23 +5,23 @@ use Rattle.qs_spec.specs.Segment.{Step, segment_text}
 use Rattle.qs_spec.specs.Shape.{Shape}
 use Rattle.qs_spec.specs.Tree.{Tree, Entries}
 use Rattle.qs_spec.specs.internal.ReadFunction.{reads}
-use Rattle.qs_tree.specs.tree.Views.{pairs_of}
+use Rattle.qs_tree.specs.tree.Views.{entry_list}
 use Rattle.qs_data.specs.Keys.{entries_after}
 use Rattle.qs_data.proofs.Entries.{after_some, after_none, after_all}
 use Rattle.qs_explain.specs.Unexpected.{first_other}
 use Rattle.qs_explain.specs.Explains.{Tests}
 
 module _ (test : List ℕ → Bool) (i : ℕ) (es : Entries) where
-  pub other_here : (x : Step × Tree) → slice_get (pairs_of es) i ≡ Some x → test (segment_text x.0.seg) ≡ false → first_other test (entries_after i es) ≡ Some x.0.seg
+  pub other_here : (x : Step × Tree) → slice_get (entry_list es) i ≡ Some x → test (segment_text x.0.seg) ≡ false → first_other test (entries_after i es) ≡ Some x.0.seg
   other_here x h differs = ap (first_other test) (after_some i es x h) ∙ ap (λ b. cond b (first_other test (entries_after (i + 1) es)) (Some x.0.seg)) differs
 
-  pub other_later : (x : Step × Tree) → slice_get (pairs_of es) i ≡ Some x → test (segment_text x.0.seg) ≡ true → first_other test (entries_after i es) ≡ first_other test (entries_after (i + 1) es)
+  pub other_later : (x : Step × Tree) → slice_get (entry_list es) i ≡ Some x → test (segment_text x.0.seg) ≡ true → first_other test (entries_after i es) ≡ first_other test (entries_after (i + 1) es)
   other_later x h same = ap (first_other test) (after_some i es x h) ∙ ap (λ b. cond b (first_other test (entries_after (i + 1) es)) (Some x.0.seg)) same
 
-  pub other_none : slice_get (pairs_of es) i ≡ None → first_other test (entries_after i es) ≡ None
+  pub other_none : slice_get (entry_list es) i ≡ None → first_other test (entries_after i es) ≡ None
   other_none h = ap (first_other test) (after_none i es h)
 
-  pub other_end : length (pairs_of es) ≤ i → first_other test (entries_after i es) ≡ None
+  pub other_end : length (entry_list es) ≤ i → first_other test (entries_after i es) ≡ None
   other_end h = ap (first_other test) (after_all i es h)
 
 -- whether a shape reads a node, as a boolean

@@ -14,7 +14,7 @@ use Rattle.qs_spec.specs.Leaf.Leaf.{Text}
 use Rattle.qs_spec.specs.Tree.Tree.{leaf, uninitialized}
 use Rattle.qs_spec.specs.Node.{found}
 use Rattle.qs_spec.specs.internal.ReadFunction.{reads, read_list, read_map, read_enum, struct_members, any_data}
-use Rattle.qs_tree.specs.tree.Views.{pairs_of, tree_of}
+use Rattle.qs_tree.specs.tree.Views.{entry_list, tree_of}
 use Rattle.qs_data.specs.declared.shape.Field.{Field}
 use Rattle.qs_data.specs.declared.shape.Shape.{Shape}
 use Rattle.qs_data.specs.Keys.{entries_after}
@@ -153,16 +153,16 @@ module _ {E : Type 0} (rd : Bool) (i : ℕ) (r : Result (Option Mismatch) E) whe
   pub names_end : (fs : List Field) (es : Entries) → length fs ≤ i → AreRead rd (name_children (fields_in (drop i fs)) es)
   names_end fs es h = subst (λ ys. AreRead rd (name_children (fields_in ys) es)) (sym (drop_all i fs h)) tt
 
-  pub pairs_fails : (s : shapes.Shape) (es : Entries) (x : Step × Tree) (m : Mismatch) → slice_get (pairs_of es) i ≡ Some x → IsBelow rd x.0.seg s x.1 m → OneFails rd (pair_children s (entries_after i es)) m
+  pub pairs_fails : (s : shapes.Shape) (es : Entries) (x : Step × Tree) (m : Mismatch) → slice_get (entry_list es) i ≡ Some x → IsBelow rd x.0.seg s x.1 m → OneFails rd (pair_children s (entries_after i es)) m
   pairs_fails s es x m h f = subst (λ ys. OneFails rd (pair_children s ys) m) (sym (after_some i es x h)) (record { key = x.0.seg; part = s; node = x.1; child = IsChild.first; below = f })
 
-  pub pairs_more : (s : shapes.Shape) (es : Entries) (x : Step × Tree) → slice_get (pairs_of es) i ≡ Some x → IsRead rd s x.1 → FindsAmong rd (pair_children s (entries_after (i + 1) es)) r → FindsAmong rd (pair_children s (entries_after i es)) r
+  pub pairs_more : (s : shapes.Shape) (es : Entries) (x : Step × Tree) → slice_get (entry_list es) i ≡ Some x → IsRead rd s x.1 → FindsAmong rd (pair_children s (entries_after (i + 1) es)) r → FindsAmong rd (pair_children s (entries_after i es)) r
   pairs_more s es x h read f = subst (λ ys. FindsAmong rd (pair_children s ys) r) (sym (after_some i es x h)) (among_more rd ((x.0.seg, s, x.1) ∷ []) (pair_children s (entries_after (i + 1) es)) r (read, tt) f)
 
-  pub pairs_none : (s : shapes.Shape) (es : Entries) → slice_get (pairs_of es) i ≡ None → AreRead rd (pair_children s (entries_after i es))
+  pub pairs_none : (s : shapes.Shape) (es : Entries) → slice_get (entry_list es) i ≡ None → AreRead rd (pair_children s (entries_after i es))
   pairs_none s es h = subst (λ ys. AreRead rd (pair_children s ys)) (sym (after_none i es h)) tt
 
-  pub pairs_end : (s : shapes.Shape) (es : Entries) → length (pairs_of es) ≤ i → AreRead rd (pair_children s (entries_after i es))
+  pub pairs_end : (s : shapes.Shape) (es : Entries) → length (entry_list es) ≤ i → AreRead rd (pair_children s (entries_after i es))
   pairs_end s es h = subst (λ ys. AreRead rd (pair_children s ys)) (sym (after_all i es h)) tt
 
 -- the items of a node that has a list of them

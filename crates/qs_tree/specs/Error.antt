@@ -1,9 +1,9 @@
--- What an error says, and which error a call returned.
+-- The message of an error, and which error a call returned.
 use Rattle.std.specs.Prelude.{◌≡◌, ℕ, ◌++◌, ⊤, Result, Ok, Err, List, Option, Some, None, IfSome, codes, decimal, string_bytes}
 use Rattle.qs_tree.specs.declared.error.Error.{Error}
 use Rattle.qs_tree.specs.declared.error.Error.TheVariants.{Custom, MaxSerializationDepthExceeded, Parse, Unsupported, FromUtf8, Io, ParseInt, Utf8, OutOfMemory, Failed}
 
--- the text for a user; the texts of std's causes are left to std
+-- the message; those of std's errors aren't specified here
 abbrev pub error_text : Error → Option (List ℕ)
 error_text (Custom message) = Some (string_bytes message)
 error_text (MaxSerializationDepthExceeded depth) = Some (codes "Maximum serialization depth `" ++ (decimal depth ++ codes "` exceeded"))
@@ -17,7 +17,7 @@ error_text (Utf8 cause) = None
 error_text OutOfMemory = Some (codes "out of memory")
 error_text Failed = Some (codes "serializer has failed")
 
--- the call returned that the tree doesn't fit what is read from it
+-- the call returned that the tree can't be read by the shape
 abbrev pub IsCustom : {T : Type 0} → Result T Error → Type 0
 IsCustom (Err (Custom message)) = ⊤
 IsCustom _ = ⊥
@@ -75,13 +75,13 @@ OnlyParseOrOutOfMemory (Err (Parse message position)) = ⊤
 OnlyParseOrOutOfMemory (Err OutOfMemory) = ⊤
 OnlyParseOrOutOfMemory _ = ⊥
 
--- the error is `Custom` with this text, or that the text found no memory
+-- the error is `Custom` with this message, or the allocation of the message failed
 abbrev pub IsCustomSaying : Error → Option (List ℕ) → Type 0
 IsCustomSaying (Custom message) text = IfSome text (λ bytes. string_bytes message ≡ bytes)
 IsCustomSaying OutOfMemory text = ⊤
 IsCustomSaying _ text = ⊥
 
--- the error is `Parse` with this text and position, or that the text found no memory
+-- the error is `Parse` with this message and position, or the allocation of the message failed
 abbrev pub IsParseSaying : Error → Option (List ℕ) → ℕ → Type 0
 IsParseSaying (Parse message at) text position = IfSome text (λ bytes. string_bytes message ≡ bytes) × (at ≡ position)
 IsParseSaying OutOfMemory text position = ⊤

@@ -1,4 +1,4 @@
--- The choices of a `Config` as the meaning knows them.
+-- The settings of a `Config` as those of the definitions.
 use Rattle.qs_spec.specs.Config.{Duplicates, take_last, reject, indexed, empty_indexed, unindexed}
 use Rattle.qs_spec.specs.Config.{ArrayFormat as Places}
 use Rattle.qs_tree.specs.declared.config.ArrayFormat.{ArrayFormat}
@@ -6,13 +6,13 @@ use Rattle.qs_tree.specs.declared.config.ArrayFormat.TheVariants.{Indexed, Empty
 use Rattle.qs_tree.specs.declared.config.DuplicateKeyBehavior.{DuplicateKeyBehavior}
 use Rattle.qs_tree.specs.declared.config.DuplicateKeyBehavior.TheVariants.{TakeLast, Error}
 
--- how the place of an element is written
+-- how the index of an element is written
 abbrev pub array_format_of : ArrayFormat → Places
 array_format_of Indexed = indexed
 array_format_of EmptyIndexed = empty_indexed
 array_format_of Unindexed = unindexed
 
--- what becomes of several values
+-- what happens to repeated values
 abbrev pub duplicates_of : DuplicateKeyBehavior → Duplicates
 duplicates_of TakeLast = take_last
 duplicates_of Error = reject

@@ -1,4 +1,4 @@
--- What keys, values and maps stand for: each word here is in a public clause, or defines one that is.
+-- From keys, values and maps to the definitions: each word here is in a public clause, or defines one that is.
 pub mod Views
 pub mod Keys
 pub mod Equality

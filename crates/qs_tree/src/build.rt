@@ -1,8 +1,8 @@
 //! From pairs to a tree: the tree under construction, adding a pair to it, and finishing it.
 
 pub(crate) mod add;
+pub(crate) mod builder;
 pub(crate) mod conflict;
 mod descent;
-pub(crate) mod draft;
-mod draft_drop;
-mod settling;
+mod dropping;
+mod finishing;

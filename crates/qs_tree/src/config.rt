@@ -1,4 +1,4 @@
-//! How a querystring is read and written.
+//! Configuration: how a querystring is parsed, read and written.
 
 ghost use Rattle.std.specs.Prelude.{◌≡◌};
 ghost use Rattle.qs_spec.specs.Config.{default};
@@ -6,29 +6,31 @@ ghost use Rattle.qs_tree.specs.Settings.{array_format_of, duplicates_of};
 
 use std::marker::Model;
 
-/// How the place of a list's element is written in a key.
+/// How the index of a list's element is written in a key.
 #[derive(Clone, Copy, Debug, Default, PartialEq, Eq)]
 pub enum ArrayFormat {
-    /// By its number: `a[0]=x&a[1]=y`.
+    /// In brackets: `a[0]=x&a[1]=y`.
     #[default]
     Indexed,
-    /// By empty brackets: `a[]=x&a[]=y`.
+    /// As empty brackets: `a[]=x&a[]=y`.
     EmptyIndexed,
     /// Not at all: `a=x&a=y`.
     Unindexed,
 }
 
-/// What becomes of several values where one is asked for.
+/// What happens to repeated values where one value is read.
 #[derive(Clone, Copy, Debug, Default, PartialEq, Eq)]
 pub enum DuplicateKeyBehavior {
-    /// The last one is taken.
+    /// The last one is read.
     #[default]
     TakeLast,
-    /// They are rejected.
+    /// They are an error.
     Error,
 }
 
-/// How a querystring is read and written.
+/// How a querystring is parsed, read and written.
+///
+/// No method allocates.
 ///
 /// ```
 /// let config = Config::new().max_depth(2).use_form_encoding(true);
@@ -71,7 +73,7 @@ impl Model for Config {
 }
 
 impl Config {
-    /// Five levels of brackets below the first, query encoding, numbered elements, and the last of several values.
+    /// The default: `max_depth` 5, query encoding, `ArrayFormat::Indexed` and `DuplicateKeyBehavior::TakeLast`.
     pub fn new() -> Config
         ensures { result ≡ default }
     {
@@ -83,21 +85,22 @@ impl Config {
         }
     }
 
-    /// With this many levels of brackets; what nests deeper is one last key on reading, and refused on writing.
+    /// Sets how many levels of brackets are parsed and written. Deeper brackets are part of the last key when parsed, and an
+    /// error when written.
     pub fn max_depth(self, max_depth: usize) -> Config
         ensures { result ≡ record self { max_depth = max_depth } }
     {
         Config { max_depth, ..self }
     }
 
-    /// With form encoding (true), where brackets may be escaped and a space is `%20`, or query encoding (false).
+    /// Sets form encoding (`true`), which parses escaped brackets too and writes a space as `%20`, or query encoding (`false`).
     pub fn use_form_encoding(self, form: bool) -> Config
         ensures { result ≡ record self { form = form } }
     {
         Config { form, ..self }
     }
 
-    /// With this way to write the place of a list's element.
+    /// Sets how the index of a list's element is written.
     pub fn array_format(self, array_format: ArrayFormat) -> Config
         ensures { result ≡ record self { array_format = array_format_of array_format } }
     {
@@ -107,14 +110,14 @@ impl Config {
         }
     }
 
-    /// With this answer to several values where one is asked for.
+    /// Sets what happens to repeated values where one value is read.
     pub fn duplicate_key_behavior(self, duplicates: DuplicateKeyBehavior) -> Config
         ensures { result ≡ record self { duplicates = duplicates_of duplicates } }
     {
         Config { duplicates, ..self }
     }
 
-    /// How many levels of brackets are read and written.
+    /// How many levels of brackets are parsed and written.
     pub fn get_max_depth(&self) -> usize
         ensures { result ≡ self.now.max_depth }
     {
@@ -128,14 +131,14 @@ impl Config {
         self.form
     }
 
-    /// How the place of a list's element is written.
+    /// How the index of a list's element is written.
     pub fn get_array_format(&self) -> ArrayFormat
         ensures { array_format_of result ≡ self.now.array_format }
     {
         self.array_format
     }
 
-    /// What becomes of several values where one is asked for.
+    /// What happens to repeated values where one value is read.
     pub fn get_duplicates(&self) -> DuplicateKeyBehavior
         ensures { duplicates_of result ≡ self.now.duplicates }
     {

@@ -1,34 +1,34 @@
-//! Why a call failed.
+//! Errors.
 
 use std::alloc::{AllocError, AllocFailed, Global};
 use std::fmt::Display;
 use std::{fmt, io, num, str, string};
 
-/// What calls of this crate return: a value, or why there is none.
+/// The result of a call: a value, or an [`Error`].
 pub type Result<T, E = Error> = std::result::Result<T, E>;
 
 /// Why a call failed.
 ///
-/// Its `Display` is the text for a user. That of [`FromUtf8`](Error::FromUtf8), [`Io`](Error::Io),
-/// [`ParseInt`](Error::ParseInt) and [`Utf8`](Error::Utf8) is the text of the cause.
+/// Its `Display` writes a message. That of [`FromUtf8`](Error::FromUtf8), [`Io`](Error::Io),
+/// [`ParseInt`](Error::ParseInt) and [`Utf8`](Error::Utf8) is the message of the cause.
 #[derive(Debug, Drop)]
 pub enum Error {
-    /// The tree doesn't fit what is read from it; the message says why.
+    /// The tree can't be read by the shape. Holds the message.
     Custom(String),
-    /// A value nests deeper than the configuration's `max_depth`, which is the number here.
+    /// A value nests deeper than the configuration's `max_depth`, which it holds.
     MaxSerializationDepthExceeded(usize),
-    /// The querystring is rejected, with this message, at this position: the number of bytes that were
-    /// read, and one more where the end was read.
+    /// The querystring can't be parsed. Holds the message and the position: the number of bytes that were parsed, and one more
+    /// where the end was parsed.
     Parse(String, usize),
-    /// A map's key is of a kind that a querystring can't show.
+    /// A map's key is of a kind that can't be written as a key.
     Unsupported,
-    /// An owned text isn't UTF-8. No call returns it; it is there for callers' own conversions.
+    /// An owned string isn't UTF-8. No call returns it; it is for callers' conversions.
     FromUtf8(string::FromUtf8Error),
     /// A write failed.
     Io(io::Error),
-    /// A text isn't a number. No call returns it; it is there for callers' own conversions.
+    /// A string isn't a number. No call returns it; it is for callers' conversions.
     ParseInt(num::ParseIntError),
-    /// Bytes that are read as text aren't UTF-8.
+    /// Bytes that are read as a string aren't UTF-8.
     Utf8(str::Utf8Error),
     /// An allocation failed.
     OutOfMemory,
@@ -40,9 +40,9 @@ impl Error {
     ghost use Rattle.std.specs.Prelude.{◌++◌, Some, codes};
     ghost use Rattle.qs_tree.specs.Error.{IsCustomSaying, IsParseSaying};
 
-    /// The error of a kind of value that doesn't stand at the top of a querystring.
+    /// A [`Custom`](Error::Custom) error for a kind of value that can't be read at the top level.
     ///
-    /// Allocates the text, and returns [`OutOfMemory`](Error::OutOfMemory) where there is none.
+    /// Allocates the message. Returns [`OutOfMemory`](Error::OutOfMemory) where that failed.
     pub fn top_level(alloc: Global, object: &'static str) -> Error
         ensures { IsCustomSaying result (Some (codes "cannot deserialize " ++ (object.now
             ++ codes " at the top level.Try deserializing into a struct."))) }
@@ -56,10 +56,9 @@ impl Error {
         )
     }
 
-    /// The error of a querystring that is rejected with this message at this position.
+    /// A [`Parse`](Error::Parse) error with a message and a position.
     ///
-    /// Allocates the text, and returns [`OutOfMemory`](Error::OutOfMemory) where there is none, or
-    /// where the message's own `fmt` fails.
+    /// Allocates the message. Returns [`OutOfMemory`](Error::OutOfMemory) where that failed, or where `msg.fmt` fails.
     pub fn parse_err<T: Display + Drop>(alloc: Global, msg: T, position: usize) -> Error
         ensures { IsParseSaying result (T.output msg) position }
     {
@@ -69,10 +68,9 @@ impl Error {
         }
     }
 
-    /// The error of a tree that doesn't fit, with this message. What was parsed is not used.
+    /// A [`Custom`](Error::Custom) error with a message. The last argument isn't used.
     ///
-    /// Allocates the text, and returns [`OutOfMemory`](Error::OutOfMemory) where there is none, or
-    /// where the message's own `fmt` fails.
+    /// Allocates the message. Returns [`OutOfMemory`](Error::OutOfMemory) where that failed, or where `msg.fmt` fails.
     pub fn custom<T: Display + Drop, D>(alloc: Global, msg: T, _parsed: &D) -> Error
         ensures { IsCustomSaying result (T.output msg) }
     {
@@ -161,7 +159,7 @@ impl From<AllocError> for Error {
 
     ghost from_gives = { λ _ e. e ≡ OutOfMemory };
 
-    fn from(_refused: AllocError) -> Error {
+    fn from(_: AllocError) -> Error {
         Error::OutOfMemory
     }
 }
@@ -172,7 +170,7 @@ impl<T: Drop> From<AllocFailed<T>> for Error {
 
     ghost from_gives = { λ _ e. e ≡ OutOfMemory };
 
-    fn from(_refused: AllocFailed<T>) -> Error {
+    fn from(_: AllocFailed<T>) -> Error {
         Error::OutOfMemory
     }
 }

@@ -1,94 +1,72 @@
-//! The tree of a querystring.
+//! Parsing: from the bytes of a querystring to its tree.
 
-mod refusal;
+mod scan_error;
 
-ghost use Rattle.std.specs.Prelude.{◌≡◌, ◌≢◌, ◌≤◌, ◌+◌, ◌⊎◌, ℕ, List, [], length, IfOk, IsOk, IsOkAnd};
-ghost use Rattle.qs_spec.specs.Tree.{Tree, IsTree, IsRefused};
+ghost use Rattle.std.specs.Prelude.{◌≡◌, ◌≤◌, ◌+◌, length, IfOk, IsOk, IsOkAnd};
 ghost use Rattle.qs_spec.specs.Tree.Tree.{uninitialized};
-ghost use Rattle.qs_spec.specs.Holds.{IsSound, leaf_count, nesting};
-ghost use Rattle.qs_spec.specs.Order.{AreAlike};
-ghost use Rattle.qs_spec.specs.Input.{HasPairs, IsReordered};
-ghost use Rattle.qs_spec.specs.Marks.{marks};
 ghost use Rattle.qs_spec.specs.internal.InPlace as in_place;
-ghost use Rattle.qs_tree.specs.Error.{IsParse, IfParse, IsOutOfMemory, OnlyOutOfMemory, OnlyParseOrOutOfMemory};
-ghost use Rattle.qs_tree.specs.tree.Owned.{owns};
 ghost use Rattle.qs_tree.specs.tree.Views.{tree_of};
 ghost use Rattle.qs_tree.specs.internal.scan.Pairs.{IsBare, pair_of};
 ghost use Rattle.qs_tree.specs.internal.scan.Cursor.{left, KnowsEnd, in_all};
-ghost use Rattle.qs_tree.specs.declared.build.draft.Draft.TheVariants.{Fresh};
-ghost use Rattle.qs_tree.specs.internal.build.Draft.{draft_tree, IsFlat};
-ghost use Rattle.qs_tree.specs.internal.Parsing.{grown, Answers, Finds};
-ghost use Rattle.qs_tree.specs.Parsing.{HoldsOf, TakesNoMemory};
+ghost use Rattle.qs_tree.specs.declared.build.builder.TreeBuilder.TheVariants.{Empty};
+ghost use Rattle.qs_tree.specs.internal.build.Builder.{built_tree, IsFlat};
+ghost use Rattle.qs_tree.specs.internal.Parsing.{grown, Returns, Finds};
+ghost use Rattle.qs_tree.specs.Parsing.{Parses, TakesNoMemory};
 
 use crate::build::add::add_pair;
-use crate::build::draft::Draft;
+use crate::build::builder::TreeBuilder;
 use crate::config::Config;
 use crate::error::Result;
-use crate::parsing::refusal::{ScanError, add_error, unread_error};
+use crate::parsing::scan_error::{ScanError, add_error, syntax_error};
 use crate::scan::cursor::Cursor;
 use crate::scan::pair::Pair;
-use crate::scan::reading::{Fault, Item, read_item};
+use crate::scan::parser::{Item, ParseError, parse_item};
 use crate::steps::Steps;
 use crate::tree::value::ParsedValue;
 use std::alloc::Global;
 use std::mem;
 
-/// The tree that a querystring stands for.
+/// Parses a querystring into its tree.
 ///
-/// Pairs, with `&` between them, are read from left to right and added to one tree: `a[b]=1` puts `1` under `a` and `b`, `a[]=1`
-/// pushes it onto a sequence, and a key that comes again makes a sequence of its values. The empty input is `NoValue`, and
-/// one of `&` alone `Uninitialized`.
+/// Pairs are separated by `&` and added to one tree from left to right: `a[b]=1` puts `1` at `a` and `b`, `a[]=1` pushes it onto a
+/// sequence, and a repeated key makes a sequence of its values. The empty input is `NoValue`; an input of `&` alone is
+/// `Uninitialized`. Keys and values are decoded as [`decode`](crate::decode) does, after they are split.
 ///
-/// The first error is returned: [`Error::Parse`] for a pair that can't be read to its end, or that is in conflict with those
-/// before it, as `a=1&a[b]=2` is; [`Error::OutOfMemory`] where an allocation fails. Nothing is left of the tree then.
+/// # Errors
 ///
-/// Texts and keys without `+` and `%` are borrowed. Memory is allocated for the others, for each path, map and sequence, and for an
-/// error's text; none for the empty input, for `&` alone, and for `=` with a value that holds no `&`, `+` or `%`. Each byte is
-/// read once, and each key is looked up in the map that it stands in, in comparisons that grow as the logarithm of its length.
+/// The first error is returned. It is [`Error::Parse`] for a pair with a syntax error, or one that is in conflict with an earlier
+/// pair, as in `a=1&a[b]=2`, and [`Error::OutOfMemory`] where an allocation failed.
+///
+/// # Memory and time
+///
+/// Strings and string keys without `+` and `%` are borrowed from the input. It allocates for all others, for each path, map and
+/// sequence, and for the text of an error. It doesn't allocate for the empty input, for `&` alone, and for `=` with a value without
+/// `&`, `+` and `%`. Each byte is parsed once, and each key is looked up in its map in logarithmic time.
 ///
 /// ```
 /// let tree = parse(alloc, b"a[b]=1&a[c]=x%20y", Config::new())?; // a map with a map under `a`
 /// ```
 pub fn parse(alloc: Global, input: &[u8], config: Config) -> Result<ParsedValue<'_>>
-    ensures tree { IfOk result (λ value. IsTree config.form config.max_depth input.now (tree_of value)) }
-    ensures refused { IsParse result → IsRefused config.form config.max_depth input.now }
-    ensures accepted { (t : Tree) → IsTree config.form config.max_depth input.now t → OnlyOutOfMemory result }
-    ensures rejected { IsRefused config.form config.max_depth input.now → IsParse result ⊎ IsOutOfMemory result }
-    ensures position { IfParse result (λ position. position ≤ length input.now + 1) }
-    ensures errors { OnlyParseOrOutOfMemory result }
-    ensures no_memory { TakesNoMemory input.now → IsOk result }
-    ensures borrowed { (t : Tree) → IsTree config.form config.max_depth input.now t → IfOk result (λ value. owns value ≡ marks t) }
-    ensures leaves { input.now ≢ [] → IfOk result (λ value. HasPairs config.form config.max_depth input.now (leaf_count (tree_of value))) }
-    ensures nesting { IfOk result (λ value. nesting (tree_of value) ≤ config.max_depth + 2) }
-    ensures sound { IfOk result (λ value. IsSound (tree_of value)) }
-    ensures alike { (other : List ℕ) → IsReordered config.form config.max_depth input.now other → AreAlike config.form config.max_depth input.now other }
-    ensures reordered { (other : List ℕ) → IsReordered config.form config.max_depth input.now other → HoldsOf config.form config.max_depth other result }
+    ensures parsed { Parses config.form config.max_depth input.now result }
 {
     parse_with(alloc, &mut Steps::new(), input, config)
 }
 
-/// The same, and adds the steps to `steps`, after an error too: each byte that is read is one, and so is the look that meets the
-/// end, of which there is one. So an input that is accepted, the empty one too, takes its length and one.
-/// None is read again, for the position of an error neither.
+/// Parses a querystring as [`parse`] does, and adds to `steps` how many steps that took, after an error too.
+///
+/// Each parsed byte is a step, and so is the end. So an input without an error takes as many steps as its length and one.
+///
+/// ```
+/// let mut steps = Steps::new();
+/// let tree = parse_with(alloc, &mut steps, b"a=1", Config::new())?; // four steps
+/// ```
 pub fn parse_with<'qs>(
     alloc: Global,
     steps: &mut Steps,
     input: &'qs [u8],
     config: Config,
 ) -> Result<ParsedValue<'qs>>
-    ensures tree { IfOk result (λ value. IsTree config.form config.max_depth input.now (tree_of value)) }
-    ensures refused { IsParse result → IsRefused config.form config.max_depth input.now }
-    ensures accepted { (t : Tree) → IsTree config.form config.max_depth input.now t → OnlyOutOfMemory result }
-    ensures rejected { IsRefused config.form config.max_depth input.now → IsParse result ⊎ IsOutOfMemory result }
-    ensures position { IfParse result (λ position. position ≤ length input.now + 1) }
-    ensures errors { OnlyParseOrOutOfMemory result }
-    ensures no_memory { TakesNoMemory input.now → IsOk result }
-    ensures borrowed { (t : Tree) → IsTree config.form config.max_depth input.now t → IfOk result (λ value. owns value ≡ marks t) }
-    ensures leaves { input.now ≢ [] → IfOk result (λ value. HasPairs config.form config.max_depth input.now (leaf_count (tree_of value))) }
-    ensures nesting { IfOk result (λ value. nesting (tree_of value) ≤ config.max_depth + 2) }
-    ensures sound { IfOk result (λ value. IsSound (tree_of value)) }
-    ensures alike { (other : List ℕ) → IsReordered config.form config.max_depth input.now other → AreAlike config.form config.max_depth input.now other }
-    ensures reordered { (other : List ℕ) → IsReordered config.form config.max_depth input.now other → HoldsOf config.form config.max_depth other result }
+    ensures parsed { Parses config.form config.max_depth input.now result }
     ensures grows { steps.old ≤ steps.new }
     ensures most { steps.new ≤ steps.old + length input.now + 1 }
     ensures exact { IfOk result (λ _. steps.new ≡ steps.old + length input.now + 1) }
@@ -100,20 +78,20 @@ pub fn parse_with<'qs>(
     let taken = mem::replace(steps, Steps::new());
     let mut cursor = Cursor::new(alloc, input, config.get_form(), taken);
     let all = input.len() + 1;
-    let tree = read_tree(alloc, &mut cursor, config.get_max_depth(), all);
+    let tree = parse_tree(alloc, &mut cursor, config.get_max_depth(), all);
     *steps = cursor.into_steps();
     tree
 }
 
-// The tree of an input that takes so many steps.
-fn read_tree<'qs>(
+// Parses what is left of an input that takes `all` steps.
+fn parse_tree<'qs>(
     alloc: Global,
     cursor: &mut Cursor<'qs>,
     max_depth: usize,
     all: usize,
 ) -> Result<ParsedValue<'qs>>
     requires end { KnowsEnd cursor.old }
-    ensures answer { Answers tree_of (grown max_depth (left cursor.old) uninitialized) all result }
+    ensures tree { Returns tree_of (grown max_depth (left cursor.old) uninitialized) all result }
     ensures steps { in_all cursor.new ≡ in_all cursor.old }
     ensures fewer { length cursor.new.rest.now ≤ length cursor.old.rest.now }
     ensures end { IfOk result (λ _. in_all cursor.new ≡ cursor.new.steps) }
@@ -125,7 +103,7 @@ fn read_tree<'qs>(
     }
 }
 
-// Adds the pairs of an input to a tree, one after the other.
+// Adds the pairs of an input to a tree one by one.
 fn scan<'qs>(
     alloc: Global,
     cursor: &mut Cursor<'qs>,
@@ -138,36 +116,36 @@ fn scan<'qs>(
     ensures end { IfOk result (λ _. in_all cursor.new ≡ cursor.new.steps) }
     ensures no_memory { TakesNoMemory cursor.old.rest.now → IsOk result }
 {
-    let mut tree = Draft::Fresh;
+    let mut tree = TreeBuilder::Empty;
     let mut pair = Pair::new(alloc);
     loop {
-        let item = match read_item(alloc, cursor, max_depth, &mut pair) {
+        let item = match parse_item(alloc, cursor, max_depth, &mut pair) {
             Ok(item) => item,
-            Err(Fault::Unread(reason)) => {
-                return Err(unread_error(alloc, &mut tree, &mut pair, reason, cursor));
+            Err(ParseError::Syntax(error)) => {
+                return Err(syntax_error(alloc, &mut tree, &mut pair, error, cursor));
             }
-            Err(Fault::OutOfMemory) => return Err(ScanError::OutOfMemory),
+            Err(ParseError::OutOfMemory) => return Err(ScanError::OutOfMemory),
         };
         match item {
-            Item::End => return Ok(tree.settled(alloc)?),
+            Item::End => return Ok(tree.finish(alloc)?),
             Item::Ampersand => {}
             Item::Pair => add(alloc, &mut tree, &mut pair, cursor)?,
         }
     }
 }
 
-// Adds one pair more to the tree.
+// Adds one pair to the tree.
 fn add<'qs>(
     alloc: Global,
-    tree: &mut Draft<'qs>,
+    tree: &mut TreeBuilder<'qs>,
     pair: &mut Pair<'qs>,
     cursor: &Cursor<'qs>,
 ) -> Result<(), ScanError<'qs>>
-    ensures tree { let p = pair_of pair.old in Finds (λ _. draft_tree tree.new) (in_place.add p.path p.push p.leaf (draft_tree tree.old)) result }
-    ensures fresh { IsBare pair.old → tree.old ≡ Fresh → IsOkAnd result (λ _. IsFlat tree.new) }
+    ensures tree { let p = pair_of pair.old in Finds (λ _. built_tree tree.new) (in_place.add p.path p.push p.leaf (built_tree tree.old)) result }
+    ensures fresh { IsBare pair.old → tree.old ≡ Empty → IsOkAnd result (λ _. IsFlat tree.new) }
 {
     match add_pair(alloc, tree, pair) {
         Ok(()) => Ok(()),
-        Err(refusal) => Err(add_error(refusal, cursor)),
+        Err(error) => Err(add_error(error, cursor)),
     }
 }

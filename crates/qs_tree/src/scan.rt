@@ -2,5 +2,5 @@
 
 pub(crate) mod cursor;
 pub(crate) mod pair;
+pub(crate) mod parser;
 mod raw;
-pub(crate) mod reading;

@@ -1,11 +1,16 @@
-//! Steps, which only contracts count.
+//! Steps, which are counted in contracts only.
 
 ghost use Rattle.std.specs.Prelude.{◌≡◌, ℕ, ◌+◌};
 ghost use Rattle.std.specs.Borrow.{ftrue};
 
 use std::marker::Model;
 
-/// How many steps were taken. Contracts see a whole number; when the program runs it takes no bytes.
+/// A number of steps. Contracts see a natural number; at run time it has no bytes.
+///
+/// ```
+/// let mut steps = Steps::new();
+/// map.get_with(&key, &mut steps);
+/// ```
 #[derive(Drop)]
 pub struct Steps {
     ghost count: { ℕ },
@@ -20,20 +25,21 @@ impl Model for Steps {
 }
 
 impl Steps {
-    /// No steps yet.
+    /// No steps.
     pub fn new() -> Steps
         ensures { result ≡ 0 }
     {
         Steps {}
     }
 
-    /// Counts `taken` more.
+    /// Adds `taken` steps.
     pub(crate) fn add(&mut self, taken: usize)
         ensures { self.new ≡ self.old + taken }
     {
         *self = Steps::after(self, &taken);
     }
 
+    // The steps `_before` and `_taken` together.
     fn after(_before: &Steps, _taken: &usize) -> Steps
         ensures { result ≡ _before.now + _taken.now }
     {

@@ -14,7 +14,7 @@ use Rattle.qs_tree.specs.declared.error.Error.TheVariants.{Custom, MaxSerializat
 use Rattle.qs_tree.specs.declared.tree.value.ParsedValue.{ParsedValue}
 use Rattle.qs_tree.specs.tree.Views.{tree_of}
 use Rattle.qs_tree.specs.Error.{IsParse}
-use Rattle.qs_tree.specs.internal.Parsing.{grown, Answers}
+use Rattle.qs_tree.specs.internal.Parsing.{grown, Returns}
 
 module _ (depth : ℕ) (ts : List Token) (t : Tree) where
   pub grown_same : (us : List Token) → parsed_pairs depth ts ≡ parsed_pairs depth us → grown depth ts t ≡ grown depth us t
@@ -42,32 +42,32 @@ module _ (form : Bool) (depth b : ℕ) (bytes : List ℕ) where
       let whole = (in_place form depth b bytes h.0 t h.1.grammar).1 h in
       none-some t (sym e ∙ ap (option_and_then (λ ps. add_all ps uninitialized)) pairs ∙ whole)
 
--- an answer about the tokens of an input is one about the input
+-- a result for the tokens of an input is one for the input
 module _ (form : Bool) (depth : ℕ) (bytes : List ℕ) (some : (length bytes == 0) ≡ false) (limit : ℕ) (ts : List Token) (d : limit ≡ depth) (e : ts ≡ tokens form bytes) (bound : ℕ) where
-  about : (r : Result ParsedValue Error) → Answers tree_of (grown limit ts uninitialized) bound r → Answers tree_of (grown depth (tokens form bytes) uninitialized) bound r
-  about r h = subst (λ n. Answers tree_of (grown n (tokens form bytes) uninitialized) bound r) d (subst (λ l. Answers tree_of (grown limit l uninitialized) bound r) e h)
+  about : (r : Result ParsedValue Error) → Returns tree_of (grown limit ts uninitialized) bound r → Returns tree_of (grown depth (tokens form bytes) uninitialized) bound r
+  about r h = subst (λ n. Returns tree_of (grown n (tokens form bytes) uninitialized) bound r) d (subst (λ l. Returns tree_of (grown limit l uninitialized) bound r) e h)
 
-  pub answer_tree : (r : Result ParsedValue Error) → Answers tree_of (grown limit ts uninitialized) bound r → IfOk r (λ v. IsTree form depth bytes (tree_of v))
-  answer_tree (Ok v) h = by bytes some (about (Ok v) h)
+  pub result_tree : (r : Result ParsedValue Error) → Returns tree_of (grown limit ts uninitialized) bound r → IfOk r (λ v. IsTree form depth bytes (tree_of v))
+  result_tree (Ok v) h = by bytes some (about (Ok v) h)
     where
       by : (bytes : List ℕ) → (length bytes == 0) ≡ false → grown depth (tokens form bytes) uninitialized ≡ Some (tree_of v) → IsTree form depth bytes (tree_of v)
       by [] n a = cc
       by (b ∷ bytes) n a = grown_tree form depth b bytes (tree_of v) a
-  answer_tree (Err f) h = tt
+  result_tree (Err f) h = tt
 
-  pub answer_refused : (r : Result ParsedValue Error) → Answers tree_of (grown limit ts uninitialized) bound r → IsParse r → IsRefused form depth bytes
-  answer_refused (Ok v) h p = absurd p
-  answer_refused (Err (Parse message at)) h p = by bytes some (about (Err (Parse message at)) h).0
+  pub result_rejected : (r : Result ParsedValue Error) → Returns tree_of (grown limit ts uninitialized) bound r → IsParse r → IsRefused form depth bytes
+  result_rejected (Ok v) h p = absurd p
+  result_rejected (Err (Parse message at)) h p = by bytes some (about (Err (Parse message at)) h).0
     where
       by : (bytes : List ℕ) → (length bytes == 0) ≡ false → grown depth (tokens form bytes) uninitialized ≡ None → IsRefused form depth bytes
       by [] n a = cc
       by (b ∷ bytes) n a = grown_refusal form depth b bytes a
-  answer_refused (Err OutOfMemory) h p = absurd p
-  answer_refused (Err (Custom message)) h p = absurd p
-  answer_refused (Err (MaxSerializationDepthExceeded d)) h p = absurd p
-  answer_refused (Err Unsupported) h p = absurd p
-  answer_refused (Err (FromUtf8 cause)) h p = absurd p
-  answer_refused (Err (Io cause)) h p = absurd p
-  answer_refused (Err (ParseInt cause)) h p = absurd p
-  answer_refused (Err (Utf8 cause)) h p = absurd p
-  answer_refused (Err Failed) h p = absurd p
+  result_rejected (Err OutOfMemory) h p = absurd p
+  result_rejected (Err (Custom message)) h p = absurd p
+  result_rejected (Err (MaxSerializationDepthExceeded d)) h p = absurd p
+  result_rejected (Err Unsupported) h p = absurd p
+  result_rejected (Err (FromUtf8 cause)) h p = absurd p
+  result_rejected (Err (Io cause)) h p = absurd p
+  result_rejected (Err (ParseInt cause)) h p = absurd p
+  result_rejected (Err (Utf8 cause)) h p = absurd p
+  result_rejected (Err Failed) h p = absurd p

@@ -1,6 +1,7 @@
--- What follows for an answer to an input from what it says of the input's tree.
-use Rattle.std.proofs.Common.{◌≡◌, ◌≢◌, ℕ, ◌+◌, ◌≤◌, ◌⊎◌, inl, inr, Bool, List, [], ◌∷◌, length, refl, sym, ap, ◌∙◌, IfOk, Option, Result, Ok, Err, ◌==◌, true, eqb-true, arith, rules}
+-- From the tree of a result to all that `Parses` promises of it.
+use Rattle.std.proofs.Common.{Global, ◌≡◌, ◌≢◌, ℕ, ◌+◌, ◌≤◌, ◌⊎◌, inl, inr, Bool, List, [], ◌∷◌, length, refl, sym, ap, ◌∙◌, IfOk, Option, Result, Ok, Err, ◌==◌, true, eqb-true, arith, rules}
 use Rattle.std.proofs.lemmas.Result.{IfOk-weaker}
+use Rattle.std.specs.declared.string.String.{String}
 use Rattle.qs_spec.specs.Tree.{Tree, IsTree, IsRefused}
 use Rattle.qs_spec.specs.Grammar.{Pair, ArePairs}
 use Rattle.qs_spec.specs.Token.{tokens}
@@ -15,9 +16,9 @@ use Rattle.qs_tree.specs.declared.error.Error.{Error}
 use Rattle.qs_tree.specs.declared.error.Error.TheVariants.{Custom, MaxSerializationDepthExceeded, Parse, Unsupported, FromUtf8, Io, ParseInt, Utf8, OutOfMemory, Failed}
 use Rattle.qs_tree.specs.declared.tree.value.ParsedValue.{ParsedValue, NoValue, the_lemmas}
 use Rattle.qs_tree.specs.tree.Views.{tree_of}
-use Rattle.qs_tree.specs.Error.{IsParse, IsOutOfMemory, OnlyOutOfMemory}
+use Rattle.qs_tree.specs.Error.{IsParse, IfParse, IsOutOfMemory, OnlyOutOfMemory, OnlyParseOrOutOfMemory}
 use Rattle.qs_tree.specs.tree.Owned.{owns}
-use Rattle.qs_tree.specs.internal.Parsing.{Answers}
+use Rattle.qs_tree.specs.internal.Parsing.{Returns}
 use Rattle.qs_tree.specs.Parsing.{HoldsOf}
 use Rattle.qs_tree.proofs.lemmas.tree.Owned.{owns_marked}
 
@@ -48,31 +49,34 @@ alike form depth bytes other h = by h.pairs h.some h.of_first h.order
     by (p ∷ ps) some first order = trees.alike_by_places form depth bytes other p ps h.others first h.of_second order
 
 module _ (form : Bool) (depth : ℕ) (bytes : List ℕ) (expected : Option Tree) (bound : ℕ) where
-  pub accepted : (r : Result ParsedValue Error) → Answers tree_of expected bound r → (IsParse r → IsRefused form depth bytes) → (t : Tree) → IsTree form depth bytes t → OnlyOutOfMemory r
-  accepted (Ok v) answer refused t h = tt
-  accepted (Err (Parse message at)) answer refused t h = absurd (refused tt t h)
-  accepted (Err OutOfMemory) answer refused t h = tt
-  accepted (Err (Custom message)) answer refused t h = absurd answer
-  accepted (Err (MaxSerializationDepthExceeded d)) answer refused t h = absurd answer
-  accepted (Err Unsupported) answer refused t h = absurd answer
-  accepted (Err (FromUtf8 cause)) answer refused t h = absurd answer
-  accepted (Err (Io cause)) answer refused t h = absurd answer
-  accepted (Err (ParseInt cause)) answer refused t h = absurd answer
-  accepted (Err (Utf8 cause)) answer refused t h = absurd answer
-  accepted (Err Failed) answer refused t h = absurd answer
+  -- what such a result can be: a value, `Parse` or `OutOfMemory`
+  only : (P : Result ParsedValue Error → Type 0) → ((v : ParsedValue) → P (Ok v)) → ((message : String Global) (at : ℕ) → at ≤ bound → P (Err (Parse message at))) → P (Err OutOfMemory)
+      → (r : Result ParsedValue Error) → Returns tree_of expected bound r → P r
+  only P value parse memory (Ok v) outcome = value v
+  only P value parse memory (Err (Parse message at)) outcome = parse message at outcome.1
+  only P value parse memory (Err OutOfMemory) outcome = memory
+  only P value parse memory (Err (Custom message)) outcome = absurd outcome
+  only P value parse memory (Err (MaxSerializationDepthExceeded d)) outcome = absurd outcome
+  only P value parse memory (Err Unsupported) outcome = absurd outcome
+  only P value parse memory (Err (FromUtf8 cause)) outcome = absurd outcome
+  only P value parse memory (Err (Io cause)) outcome = absurd outcome
+  only P value parse memory (Err (ParseInt cause)) outcome = absurd outcome
+  only P value parse memory (Err (Utf8 cause)) outcome = absurd outcome
+  only P value parse memory (Err Failed) outcome = absurd outcome
 
-  pub rejected : (r : Result ParsedValue Error) → Answers tree_of expected bound r → IfOk r (λ v. IsTree form depth bytes (tree_of v)) → IsRefused form depth bytes → IsParse r ⊎ IsOutOfMemory r
-  rejected (Ok v) answer tree none = absurd (none (tree_of v) tree)
-  rejected (Err (Parse message at)) answer tree none = inl tt
-  rejected (Err OutOfMemory) answer tree none = inr tt
-  rejected (Err (Custom message)) answer tree none = absurd answer
-  rejected (Err (MaxSerializationDepthExceeded d)) answer tree none = absurd answer
-  rejected (Err Unsupported) answer tree none = absurd answer
-  rejected (Err (FromUtf8 cause)) answer tree none = absurd answer
-  rejected (Err (Io cause)) answer tree none = absurd answer
-  rejected (Err (ParseInt cause)) answer tree none = absurd answer
-  rejected (Err (Utf8 cause)) answer tree none = absurd answer
-  rejected (Err Failed) answer tree none = absurd answer
+  pub accepted : (r : Result ParsedValue Error) → Returns tree_of expected bound r → (IsParse r → IsRefused form depth bytes) → (t : Tree) → IsTree form depth bytes t → OnlyOutOfMemory r
+  accepted r outcome refused t h =
+      only (λ r. (IsParse r → IsRefused form depth bytes) → OnlyOutOfMemory r) (λ v none. tt) (λ message at le none. absurd (none tt t h)) (λ none. tt) r outcome refused
+
+  pub rejected : (r : Result ParsedValue Error) → Returns tree_of expected bound r → IfOk r (λ v. IsTree form depth bytes (tree_of v)) → IsRefused form depth bytes → IsParse r ⊎ IsOutOfMemory r
+  rejected r outcome tree none =
+      only (λ r. IfOk r (λ v. IsTree form depth bytes (tree_of v)) → IsParse r ⊎ IsOutOfMemory r) (λ v h. absurd (none (tree_of v) h)) (λ message at le h. inl tt) (λ h. inr tt) r outcome tree
+
+  pub position : (r : Result ParsedValue Error) → Returns tree_of expected bound r → IfParse r (λ at. at ≤ bound)
+  position = only (λ r. IfParse r (λ at. at ≤ bound)) (λ v. tt) (λ message at le. le) tt
+
+  pub errors : (r : Result ParsedValue Error) → Returns tree_of expected bound r → OnlyParseOrOutOfMemory r
+  errors = only OnlyParseOrOutOfMemory (λ v. tt) (λ message at le. tt) tt
 
 module _ (form : Bool) (depth : ℕ) (bytes : List ℕ) where
   pub reordered : (r : Result ParsedValue Error) → IfOk r (λ v. IsTree form depth bytes (tree_of v)) → (IsParse r → IsRefused form depth bytes)

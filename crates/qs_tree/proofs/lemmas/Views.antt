@@ -6,11 +6,12 @@ use Rattle.qs_spec.specs.internal.InPlace.{push_item}
 use Rattle.qs_tree.specs.declared.tree.value.ParsedValue.{ParsedValue, Map, Sequence, Uninitialized, the_lemmas}
 use Rattle.qs_tree.specs.declared.tree.map.ParsedMap.{ParsedMap}
 use Rattle.qs_tree.specs.declared.scan.pair.Leaf.{Leaf}
-use Rattle.qs_tree.specs.declared.build.draft.Draft.{Fresh, the_lemmas as draft_lemmas}
-use Rattle.qs_tree.specs.declared.build.draft.Draft.TheVariants as draft
-use Rattle.qs_tree.specs.declared.build.draft.DraftMap.{DraftMap}
+use Rattle.qs_tree.specs.declared.build.builder.TreeBuilder.{Empty}
+use Rattle.qs_tree.specs.declared.build.builder.MapBuilder.{the_lemmas as builder_lemmas}
+use Rattle.qs_tree.specs.declared.build.builder.TreeBuilder.TheVariants as builder
+use Rattle.qs_tree.specs.declared.build.builder.MapBuilder.{MapBuilder}
 use Rattle.qs_tree.specs.internal.scan.Pairs.{leaf_tree}
-use Rattle.qs_tree.specs.internal.build.Draft.{draft_tree, draft_entries}
+use Rattle.qs_tree.specs.internal.build.Builder.{built_tree, built_entries}
 use Rattle.qs_tree.specs.tree.Views.{tree_of, entries_of_map, items_of}
 
 pub tree_of-Uninitialized : tree_of Uninitialized ≡ uninitialized
@@ -26,16 +27,16 @@ pub items_of-push : (vs : List ParsedValue) (v : ParsedValue) → items_of (vs +
 items_of-push [] v = refl
 items_of-push (x ∷ vs) v = ap (item (tree_of x)) (items_of-push vs v)
 
-pub draft_tree-Fresh : draft_tree Fresh ≡ uninitialized
-draft_tree-Fresh = search (rules, draft_lemmas)
+pub built_tree-Empty : built_tree Empty ≡ uninitialized
+built_tree-Empty = search (rules, builder_lemmas)
 
-pub draft_tree-Leaf : (l : Leaf) → draft_tree (draft.Leaf l) ≡ leaf_tree l
-draft_tree-Leaf l = search (rules, draft_lemmas)
+pub built_tree-Leaf : (l : Leaf) → built_tree (builder.Leaf l) ≡ leaf_tree l
+built_tree-Leaf l = search (rules, builder_lemmas)
 
-pub draft_tree-Sequence : (v : Vec ParsedValue Global) → draft_tree (draft.Sequence v) ≡ sequence (items_of v.items)
-draft_tree-Sequence v = search (rules, draft_lemmas)
+pub built_tree-Sequence : (v : Vec ParsedValue Global) → built_tree (builder.Sequence v) ≡ sequence (items_of v.items)
+built_tree-Sequence v = search (rules, builder_lemmas)
 
-pub draft_tree-Map : (m : DraftMap) → draft_tree (draft.Map m) ≡ mapping (draft_entries m)
-draft_tree-Map m = search (rules, draft_lemmas)
+pub built_tree-Map : (m : MapBuilder) → built_tree (builder.Map m) ≡ mapping (built_entries m)
+built_tree-Map m = search (rules, builder_lemmas)
 
-pub ruleset views = (tree_of-Uninitialized, tree_of-Sequence, tree_of-Map, items_of-push, draft_tree-Fresh, draft_tree-Leaf, draft_tree-Sequence, draft_tree-Map)
+pub ruleset views = (tree_of-Uninitialized, tree_of-Sequence, tree_of-Map, items_of-push, built_tree-Empty, built_tree-Leaf, built_tree-Sequence, built_tree-Map)

@@ -1,5 +1,5 @@
 pub mod Turns
 pub mod Descending
-pub mod Drafting
+pub mod Built
 pub mod Levels
-pub mod DraftNodes
+pub mod BuiltNodes

@@ -1,6 +1,6 @@
 pub mod Values
 pub mod Runs
 pub mod Indexes
-pub mod BehindKeys
+pub mod AfterKeys
 pub mod Items
 pub mod SmallItems

@@ -2,7 +2,7 @@ pub mod ByteOrder
 pub mod Places
 pub mod Keys
 pub mod Equality
-pub mod MetNodes
+pub mod Nodes
 pub mod Lengths
 pub mod Ordered
 pub mod Owned

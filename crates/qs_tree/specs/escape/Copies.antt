@@ -1,4 +1,4 @@
--- What decoding borrows, and what is copied.
+-- What decoding borrows, and what it copies.
 use Rattle.std.specs.Prelude.{ℕ, Bool, true, false}
 use Rattle.std.specs.declared.borrow.CowSlice.{CowSlice}
 use Rattle.std.specs.declared.borrow.CowSlice.TheVariants.{Borrowed, Owned}

@@ -1,4 +1,4 @@
--- That no choice of a `Config` is lost on the way to its meaning.
+-- The settings of the definitions as those of a `Config`, and back.
 use Rattle.std.specs.Prelude.{◌≡◌, refl}
 use Rattle.qs_spec.specs.Config.{Duplicates, take_last, reject, indexed, empty_indexed, unindexed}
 use Rattle.qs_spec.specs.Config.{ArrayFormat as Places}
@@ -8,18 +8,18 @@ use Rattle.qs_tree.specs.declared.config.DuplicateKeyBehavior.{DuplicateKeyBehav
 use Rattle.qs_tree.specs.declared.config.DuplicateKeyBehavior.TheVariants.{TakeLast, Error}
 use Rattle.qs_tree.specs.Settings.{array_format_of, duplicates_of}
 
--- the format that writes places so
+-- the inverse of `array_format_of`
 abbrev pub array_format_from : Places → ArrayFormat
 array_format_from indexed = Indexed
 array_format_from empty_indexed = EmptyIndexed
 array_format_from unindexed = Unindexed
 
--- the behavior that does so
+-- the inverse of `duplicates_of`
 abbrev pub duplicates_from : Duplicates → DuplicateKeyBehavior
 duplicates_from take_last = TakeLast
 duplicates_from reject = Error
 
--- nothing is lost on the way
+-- they are inverses
 pub array_format_back : (f : ArrayFormat) → array_format_from (array_format_of f) ≡ f
 array_format_back Indexed = refl
 array_format_back EmptyIndexed = refl

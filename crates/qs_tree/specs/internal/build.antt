@@ -1,4 +1,4 @@
-pub mod Draft
+pub mod Builder
 pub mod Adding
 pub mod Descent
-pub mod Settling
+pub mod Finishing

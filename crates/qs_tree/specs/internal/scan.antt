@@ -1,5 +1,5 @@
 pub mod Cursor
 pub mod Pairs
 pub mod Raw
-pub mod Reading
+pub mod Parser
 pub mod Small

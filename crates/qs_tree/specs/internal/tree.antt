@@ -1,3 +1,4 @@
+pub mod KeyTrees
 pub mod Places
 pub mod Lending
 pub mod NodeCount

@@ -1,4 +1,4 @@
--- When two trees are the same, marks aside.
+-- Equality of trees, ignoring ownership.
 use Rattle.std.specs.Prelude.{Bool, true, false, ◌&&◌}
 use Rattle.std.specs.Str.{bytes_eq}
 use Rattle.qs_spec.specs.Segment.{is_same_segment}
@@ -9,14 +9,14 @@ use Rattle.qs_spec.specs.Tree.Tree.{leaf, sequence, mapping, uninitialized}
 use Rattle.qs_spec.specs.Tree.Items.{no_items, item}
 use Rattle.qs_spec.specs.Tree.Entries.{no_entries, entry}
 
--- leaves are the same where they are of one kind and have the same bytes
+-- equal leaves are of one kind and have the same bytes
 abbrev pub leaf_same : Leaf → Leaf → Bool
 leaf_same NoValue NoValue = true
 leaf_same Null Null = true
 leaf_same (Text b m) (Text c n) = bytes_eq b c
 leaf_same _ _ = false
 
--- trees are the same where they have the same items in the same order, or the same trees at the same keys
+-- equal trees have equal items in the same order, or equal trees at the same keys
 abbrev mutual
   pub tree_same : Tree → Tree → Bool
   tree_same (leaf l) (leaf o) = leaf_same l o

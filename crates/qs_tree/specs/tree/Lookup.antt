@@ -1,4 +1,4 @@
--- How many steps a look-up takes at most.
+-- The bound on the steps of a look-up.
 use Rattle.std.specs.Prelude.{ℕ, length}
 use Rattle.std.specs.Int.Digits.{digits_of}
 

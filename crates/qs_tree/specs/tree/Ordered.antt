@@ -1,16 +1,16 @@
--- The order of a map's entries.
+-- Sorted entries.
 use Rattle.std.specs.Prelude.{◌≡◌, ⊤}
 use Rattle.std.specs.declared.cmp.Ordering.TheVariants.{Less}
 use Rattle.qs_spec.specs.Segment.{Segment, compare_segments}
 use Rattle.qs_spec.specs.Tree.{Entries}
 use Rattle.qs_spec.specs.Tree.Entries.{no_entries, entry}
 
--- the segment comes before the keys of the entries
+-- the segment is less than the keys of the entries
 abbrev pub IsBefore : Segment → Entries → Type 0
 IsBefore s no_entries = ⊤
 IsBefore s (entry k mark t es) = (compare_segments s k ≡ Less) × IsBefore s es
 
--- the keys ascend, so each is there once
+-- the keys are strictly ascending, and so distinct
 abbrev pub AreOrdered : Entries → Type 0
 AreOrdered no_entries = ⊤
 AreOrdered (entry k mark t es) = IsBefore k es × AreOrdered es

@@ -1,4 +1,4 @@
--- Which texts a value owns, and doesn't borrow.
+-- Which strings a value owns, and doesn't borrow.
 use Rattle.std.specs.Prelude.{Bool, List, [], ◌∷◌, ◌++◌}
 use Rattle.qs_tree.specs.declared.tree.key.Key.{Key}
 use Rattle.qs_tree.specs.declared.tree.key.Key.TheVariants as key
@@ -7,7 +7,7 @@ use Rattle.qs_tree.specs.declared.tree.value.ParsedValue.TheOpen.{ParsedValue-F,
 use Rattle.qs_tree.specs.declared.tree.map.ParsedMap.{ParsedMap, fold-ParsedMap}
 use Rattle.qs_tree.specs.escape.Copies.{is_owned}
 
--- whether a key owns its text, if it is one
+-- whether a key owns its string, if it is a string key
 abbrev pub key_owns : Key → List Bool
 key_owns (key.Int n) = []
 key_owns (key.String text) = is_owned text ∷ []
@@ -32,7 +32,7 @@ owns_step ParsedValue-F.Uninitialized = []
 abbrev pub map_owns_step : ParsedMap-F (List Bool) (List Bool) → List Bool
 map_owns_step m = entries_own m.map
 
--- of the texts that are a value's keys and leaves, from left to right, which it owns
+-- for each string in a value, from left to right, whether it is owned
 abbrev pub owns : ParsedValue → List Bool
 owns = fold-ParsedValue (List Bool) (List Bool) owns_step map_owns_step
 

@@ -1,4 +1,4 @@
--- What the types of the code stand for.
+-- From the types of the code to those of the definitions.
 use Rattle.std.specs.Prelude.{ℕ, List, [], ◌∷◌, ◌++◌, Bool, true, false, Option, Some, None, if◌then◌else◌, map, decimal}
 use Rattle.std.specs.Str.Lossy.{utf8_lossy}
 use Rattle.std.specs.declared.borrow.CowSlice.TheVariants.{Borrowed, Owned}
@@ -15,13 +15,13 @@ use Rattle.qs_tree.specs.declared.tree.value.ParsedValue.{ParsedValue, fold-Pars
 use Rattle.qs_tree.specs.declared.tree.value.ParsedValue.TheOpen.{ParsedValue-F, ParsedMap-F}
 use Rattle.qs_tree.specs.declared.tree.map.ParsedMap.{ParsedMap, fold-ParsedMap}
 
--- the segment that a key is
+-- the segment of a key
 abbrev pub segment_of_key : Key → Segment
 segment_of_key (key.Int n) = Int n
 segment_of_key (key.String (Borrowed r)) = Str r.now
 segment_of_key (key.String (Owned v)) = Str v.items
 
--- an owned text is marked
+-- whether a key is an owned string
 abbrev pub key_mark : Key → Bool
 key_mark (key.Int n) = false
 key_mark (key.String (Borrowed r)) = false
@@ -51,7 +51,7 @@ tree_step ParsedValue-F.Uninitialized = uninitialized
 abbrev pub map_step : ParsedMap-F Tree Entries → Entries
 map_step m = entries_from m.map
 
--- the tree that a value is, with an owned text marked
+-- the tree of a value, in which owned strings are marked
 abbrev pub tree_of : ParsedValue → Tree
 tree_of = fold-ParsedValue Tree Entries tree_step map_step
 
@@ -61,13 +61,13 @@ entries_of_map = fold-ParsedMap Tree Entries tree_step map_step
 abbrev pub items_of : List ParsedValue → Items
 items_of vs = items_from (map tree_of vs)
 
--- entries as a list of keys and trees
-abbrev pub pairs_of : Entries → List (Step × Tree)
-pairs_of no_entries = []
-pairs_of (entry k mark t es) = (record { seg = k; mark = mark }, t) ∷ pairs_of es
+-- entries as a list
+abbrev pub entry_list : Entries → List (Step × Tree)
+entry_list no_entries = []
+entry_list (entry k mark t es) = (record { seg = k; mark = mark }, t) ∷ entry_list es
 
 abbrev pub map_pairs : ParsedMap → List (Step × Tree)
-map_pairs m = pairs_of (entries_of_map m)
+map_pairs m = entry_list (entries_of_map m)
 
 -- the tree at a segment
 abbrev pub find : Segment → Entries → Option Tree
@@ -79,7 +79,7 @@ abbrev pub take_out : Segment → Entries → Entries
 take_out s no_entries = no_entries
 take_out s (entry k mark t es) = if is_same_segment s k then es else entry k mark t (take_out s es)
 
--- a number in decimal, or a text between double quotes with what is no UTF-8 replaced
-abbrev pub shown : Segment → List ℕ
-shown (Int n) = decimal n
-shown (Str bytes) = 34 ∷ utf8_lossy bytes ++ 34 ∷ []
+-- what `Display` writes of a key: an integer in decimal, or a string between double quotes, with U+FFFD for what isn't UTF-8
+abbrev pub key_text : Segment → List ℕ
+key_text (Int n) = decimal n
+key_text (Str bytes) = 34 ∷ utf8_lossy bytes ++ 34 ∷ []

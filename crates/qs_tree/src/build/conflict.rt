@@ -1,76 +1,75 @@
 //! Conflicts of a pair with a tree.
 ghost use Rattle.std.specs.Prelude.{◌≡◌};
-ghost use Rattle.qs_tree.specs.declared.build.conflict.Refusal.TheVariants.{OutOfMemory};
+ghost use Rattle.qs_tree.specs.declared.build.conflict.AddError.TheVariants.{OutOfMemory};
 
-use crate::build::draft::Draft;
+use crate::build::builder::TreeBuilder;
 use crate::scan::pair::Leaf;
 use crate::tree::key::Key;
 use std::alloc::{AllocError, AllocFailed, Global};
 
-/// Why a pair could not be added. A conflict is boxed, so that a call that succeeds moves little.
+/// Why a pair wasn't added. A conflict is boxed, to keep results small.
 #[derive(Debug, Drop)]
-pub(crate) enum Refusal {
+pub(crate) enum AddError {
     Conflict(Box<Conflict>),
     OutOfMemory,
 }
 
-impl Refusal {
-    /// The conflict of a pair with a node that so many keys lead to.
+impl AddError {
+    /// The conflict of a pair with the node at a level of its path. Allocates the box.
     #[inline(never)]
-    pub fn of_clash(alloc: Global, level: usize, clash: Clash) -> Refusal {
-        match Box::new(alloc, Conflict { level, clash }) {
-            Ok(conflict) => Refusal::Conflict(conflict),
-            Err(_) => Refusal::OutOfMemory,
+    pub fn conflict(alloc: Global, level: usize, kind: ConflictKind) -> AddError {
+        match Box::new(alloc, Conflict { level, kind }) {
+            Ok(conflict) => AddError::Conflict(conflict),
+            Err(_) => AddError::OutOfMemory,
         }
     }
 }
 
-/// Where a pair met a node that it can't be added to.
+/// A node to which a pair can't be added.
 #[derive(Debug, Drop)]
 pub(crate) struct Conflict {
-    /// How many keys of the path lead to the node.
+    /// How many keys of the pair's path lead to the node.
     pub level: usize,
-    pub clash: Clash,
+    pub kind: ConflictKind,
 }
 
-/// What a node and a pair were in conflict about.
+/// Which pair can't be added to which node.
 #[derive(Debug, Drop)]
-pub(crate) enum Clash {
-    /// A push at a leaf.
+pub(crate) enum ConflictKind {
+    /// A push onto a leaf.
     PushOnLeaf,
-    /// A push at a map, or a plain leaf where the map at its path has another map under the empty text. The keys of the map
-    /// as they are shown, with `, ` between them.
+    /// A push onto a map, or a plain leaf for a map that has a map at the empty string key. Holds the keys of the map as
+    /// `Display` writes them, separated by `, `.
     LeafOnMap(String),
-    /// A path that goes on below a sequence.
+    /// A path through a sequence.
     BelowSequence,
-    /// A path that goes on below a text.
+    /// A path through a string.
     BelowText,
-    /// A path that goes on below a leaf that is no text.
+    /// A path through a leaf without a string.
     BelowUnit,
 }
 
-impl From<AllocError> for Refusal {
-    ghost from_gives = { λ _ refusal. refusal ≡ OutOfMemory };
+impl From<AllocError> for AddError {
+    ghost from_gives = { λ _ error. error ≡ OutOfMemory };
 
-    fn from(_: AllocError) -> Refusal {
-        Refusal::OutOfMemory
+    fn from(_: AllocError) -> AddError {
+        AddError::OutOfMemory
     }
 }
 
-impl<T: Drop> From<AllocFailed<T>> for Refusal {
-    ghost from_gives = { λ _ refusal. refusal ≡ OutOfMemory };
+impl<T: Drop> From<AllocFailed<T>> for AddError {
+    ghost from_gives = { λ _ error. error ≡ OutOfMemory };
 
-    fn from(_: AllocFailed<T>) -> Refusal {
-        Refusal::OutOfMemory
+    fn from(_: AllocFailed<T>) -> AddError {
+        AddError::OutOfMemory
     }
 }
 
-/// The first conflict that a pair meets on its way below a tree along some keys, whatever it would add at their end. Takes no
-/// memory.
+/// The first node on a path that can't have a child at the next key, with its level, or `None`. Doesn't allocate.
 pub(crate) fn conflict_below<'t, 'qs>(
-    tree: &'t Draft<'qs>,
+    tree: &'t TreeBuilder<'qs>,
     path: &[Key<'qs>],
-) -> Option<(usize, Clash)> {
+) -> Option<(usize, ConflictKind)> {
     let mut node = Some(tree);
     for (level, key) in path.iter().enumerate() {
         let Some(here) = node else {
@@ -78,22 +77,22 @@ pub(crate) fn conflict_below<'t, 'qs>(
         };
         match node_below(here, key) {
             Ok(child) => node = child,
-            Err(clash) => return Some((level, clash)),
+            Err(kind) => return Some((level, kind)),
         }
     }
     None
 }
 
-// The node at a key below a node, if there is one, or why there can't be.
+// The child of a node at a key, or why the node can't have one.
 fn node_below<'t, 'qs>(
-    node: &'t Draft<'qs>,
+    node: &'t TreeBuilder<'qs>,
     key: &Key<'qs>,
-) -> Result<Option<&'t Draft<'qs>>, Clash> {
+) -> Result<Option<&'t TreeBuilder<'qs>>, ConflictKind> {
     match node {
-        Draft::Map(map) => Ok(map.get(key)),
-        Draft::Fresh => Ok(None),
-        Draft::Sequence(_) => Err(Clash::BelowSequence),
-        Draft::Leaf(Leaf::Text(_)) => Err(Clash::BelowText),
-        Draft::Leaf(Leaf::Null | Leaf::NoValue) => Err(Clash::BelowUnit),
+        TreeBuilder::Map(map) => Ok(map.get(key)),
+        TreeBuilder::Empty => Ok(None),
+        TreeBuilder::Sequence(_) => Err(ConflictKind::BelowSequence),
+        TreeBuilder::Leaf(Leaf::Text(_)) => Err(ConflictKind::BelowText),
+        TreeBuilder::Leaf(Leaf::Null | Leaf::NoValue) => Err(ConflictKind::BelowUnit),
     }
 }

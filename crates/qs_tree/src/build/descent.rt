@@ -1,45 +1,45 @@
-//! The way along a path down to the node at its end, and back up.
+//! From a node down along a path to the node at its end, and back up: a zipper.
 ghost use Rattle.std.specs.Prelude.{◌≡◌, ◌≤◌, [], length, drop, MatchResult};
 ghost use Rattle.qs_tree.specs.tree.Views.{step_of_key};
 ghost use Rattle.qs_tree.specs.internal.scan.Pairs.{path_of};
-ghost use Rattle.qs_tree.specs.internal.build.Draft.{draft_tree, draft_entries};
+ghost use Rattle.qs_tree.specs.internal.build.Builder.{built_tree, built_entries};
 ghost use Rattle.qs_tree.specs.internal.build.Adding.{Gives, IsRejected, entries_below};
 ghost use Rattle.qs_tree.specs.internal.build.Descent.{IsOpen, Leads, IsBarred, put_all_back};
 
-use crate::build::conflict::{Clash, Refusal};
-use crate::build::draft::{Draft, DraftMap};
+use crate::build::builder::{MapBuilder, TreeBuilder};
+use crate::build::conflict::{AddError, ConflictKind};
 use crate::scan::pair::{Leaf, Pair};
 use crate::tree::key::Key;
 use std::alloc::Global;
 
 /// A map with the node at one of its keys taken out.
 #[derive(Drop)]
-pub(crate) struct OpenMap<'qs> {
-    map: DraftMap<'qs>,
+pub(crate) struct Frame<'qs> {
+    map: MapBuilder<'qs>,
     key: Key<'qs>,
 }
 
-/// The way along a path: the maps on it, each open at the key that leads to the next, and the node at its end.
+/// The node at the end of a path, with a frame for each map above it.
 #[derive(Drop)]
-pub(crate) struct Way<'qs> {
-    /// The lowest one last.
-    pub maps: Vec<OpenMap<'qs>>,
-    pub node: Draft<'qs>,
+pub(crate) struct Zipper<'qs> {
+    /// The frames from the top down.
+    pub maps: Vec<Frame<'qs>>,
+    pub node: TreeBuilder<'qs>,
 }
 
-/// Goes down from a node at a level along the keys of a pair from there on, which are taken out. Fresh nodes on the way become maps.
+/// Goes down from the node at a level along the remaining keys of a pair, which are taken out of it. Empty nodes become maps.
 ///
-/// Rejected where a node on the way is in conflict with a path that goes on by these keys, or memory runs out; the node is lost
-/// then. Memory is allocated for the maps.
+/// Returns an error where a node can't have a child at the next key, or where an allocation failed. The node is dropped then.
+/// Allocates the frames.
 pub(crate) fn descend<'qs>(
     alloc: Global,
-    node: Draft<'qs>,
+    node: TreeBuilder<'qs>,
     pair: &mut Pair<'qs>,
     level: usize,
-) -> Result<Way<'qs>, Refusal>
+) -> Result<Zipper<'qs>, AddError>
     requires { level ≤ length pair.old.path.items }
-    ensures way { let path = path_of (drop level pair.old.path.items) in let before = draft_tree node.entry in MatchResult result
-        (λ way. Leads path before way.maps.items [] (draft_tree way.node)) (λ refusal. IsBarred path before refusal) }
+    ensures way { let path = path_of (drop level pair.old.path.items) in let before = built_tree node.entry in MatchResult result
+        (λ way. Leads path before way.maps.items [] (built_tree way.node)) (λ error. IsBarred path before error) }
     ensures manner { pair.new.manner ≡ pair.old.manner }
     ensures leaf { pair.new.leaf ≡ pair.old.leaf }
 {
@@ -53,58 +53,60 @@ pub(crate) fn descend<'qs>(
         node = child;
         level += 1;
     }
-    Ok(Way { maps, node })
+    Ok(Zipper { maps, node })
 }
 
-/// The tree of the maps on a way, with a node put in at its end.
+/// Puts a node back into the maps above it, the lowest first.
+///
+/// Returns an error only where an allocation failed.
 pub(crate) fn rebuild<'qs>(
     alloc: Global,
-    maps: Vec<OpenMap<'qs>>,
-    node: Draft<'qs>,
-) -> Result<Draft<'qs>, Refusal>
-    ensures { Gives draft_tree (put_all_back maps.entry.items (draft_tree node.entry)) result }
+    maps: Vec<Frame<'qs>>,
+    node: TreeBuilder<'qs>,
+) -> Result<TreeBuilder<'qs>, AddError>
+    ensures { Gives built_tree (put_all_back maps.entry.items (built_tree node.entry)) result }
 {
     let mut maps = maps;
     let mut node = node;
-    while let Some(OpenMap { mut map, key }) = maps.pop() {
+    while let Some(Frame { mut map, key }) = maps.pop() {
         map.put(alloc, key, node)?;
-        node = Draft::Map(map);
+        node = TreeBuilder::Map(map);
     }
     Ok(node)
 }
 
-/// Opens the map that a node is, or that a fresh node becomes, at a key. The node at the key, which may be fresh, is returned
-/// beside it.
+// Takes the node at a key, which may be empty, out of the map that a node is or that an empty node becomes.
 fn open<'qs>(
     alloc: Global,
-    node: Draft<'qs>,
+    node: TreeBuilder<'qs>,
     key: Key<'qs>,
     level: usize,
-) -> Result<(OpenMap<'qs>, Draft<'qs>), Refusal>
-    ensures { let before = draft_tree node.entry in MatchResult result
-        (λ p. IsOpen (step_of_key key.entry) before p.0 (draft_tree p.1))
-        (λ refusal. IsRejected (entries_below before) refusal) }
+) -> Result<(Frame<'qs>, TreeBuilder<'qs>), AddError>
+    ensures { let before = built_tree node.entry in MatchResult result
+        (λ p. IsOpen (step_of_key key.entry) before p.0 (built_tree p.1))
+        (λ error. IsRejected (entries_below before) error) }
 {
     let mut map = map_of(alloc, node, level)?;
     let child = map.take(&key);
-    Ok((OpenMap { map, key }, child))
+    Ok((Frame { map, key }, child))
 }
 
-/// The map that a node is, or that a fresh node becomes, to go below it. Allocates a conflict alone.
+/// The map that a node is, or that an empty node becomes.
+///
+/// Returns a conflict for every other node. Allocates only for that error.
 pub(crate) fn map_of<'qs>(
     alloc: Global,
-    node: Draft<'qs>,
+    node: TreeBuilder<'qs>,
     level: usize,
-) -> Result<DraftMap<'qs>, Refusal>
-    ensures { Gives draft_entries (entries_below (draft_tree node.entry)) result }
+) -> Result<MapBuilder<'qs>, AddError>
+    ensures { Gives built_entries (entries_below (built_tree node.entry)) result }
 {
-    match node {
-        Draft::Map(map) => Ok(map),
-        Draft::Fresh => Ok(DraftMap::new(alloc)),
-        Draft::Sequence(_) => Err(Refusal::of_clash(alloc, level, Clash::BelowSequence)),
-        Draft::Leaf(Leaf::Text(_)) => Err(Refusal::of_clash(alloc, level, Clash::BelowText)),
-        Draft::Leaf(Leaf::Null | Leaf::NoValue) => {
-            Err(Refusal::of_clash(alloc, level, Clash::BelowUnit))
-        }
-    }
+    let kind = match node {
+        TreeBuilder::Map(map) => return Ok(map),
+        TreeBuilder::Empty => return Ok(MapBuilder::new(alloc)),
+        TreeBuilder::Sequence(_) => ConflictKind::BelowSequence,
+        TreeBuilder::Leaf(Leaf::Text(_)) => ConflictKind::BelowText,
+        TreeBuilder::Leaf(Leaf::Null | Leaf::NoValue) => ConflictKind::BelowUnit,
+    };
+    Err(AddError::conflict(alloc, level, kind))
 }

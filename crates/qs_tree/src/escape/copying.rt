@@ -1,4 +1,4 @@
-//! Bytes that are copied, with one byte in place of another.
+//! Copying bytes with one byte replaced by another.
 
 ghost use Rattle.std.specs.Prelude.{◌≡◌, ◌+◌, ◌<◌, ◌≤◌, ◌++◌, false, length, slice_index, take, map};
 ghost use Rattle.qs_tree.specs.internal.escape.Search.{NoneBetween};
@@ -7,7 +7,7 @@ ghost use Rattle.qs_tree.specs.internal.escape.Copying.{swapped};
 use crate::escape::search::{Class, LANES, run};
 use std::simd::prelude::*;
 
-/// Writes the bytes to `room` from `at` on.
+/// Writes bytes to `room` from `at` on.
 #[inline(always)]
 pub(crate) fn put(bytes: &[u8], room: &mut [u8], at: usize)
     requires { at + length bytes.now ≤ length room.old }
@@ -16,9 +16,8 @@ pub(crate) fn put(bytes: &[u8], room: &mut [u8], at: usize)
     room[at..at + bytes.len()].copy_from_slice(bytes);
 }
 
-/// Writes bytes before the first of the class to `room` from `at` on, with `to` in place of `from`, and
-/// returns how many: 32 bytes at once where there are as many, or else one. What it writes after those is of
-/// no account.
+/// Copies bytes before the first of a class to `room` from `at` on, with `from` replaced by `to`, and returns how many: up to 32
+/// where there are 32 bytes, or else one. The contents of `room` after them aren't specified.
 #[inline(always)]
 pub(crate) fn copy_run<C: Class>(
     class: C,

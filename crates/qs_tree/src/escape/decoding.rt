@@ -1,4 +1,4 @@
-//! What the bytes of a querystring stand for.
+//! Percent-decoding.
 
 ghost use Rattle.std.specs.Prelude.{◌≡◌, ◌+◌, ◌<◌, ◌≤◌, ◌++◌, false, length, IfOk, IsOk, SomeIff, take, drop};
 ghost use Rattle.std.specs.Char.{digit_value};
@@ -13,15 +13,16 @@ use crate::escape::search::{Byte, find_escape};
 use std::alloc::{AllocError, Global};
 use std::borrow::CowSlice;
 
-/// What the bytes stand for: `+` is a space, and `%` with two hexadecimal digits of either case is one byte.
+/// Percent-decodes bytes: `+` is a space, and `%` with two hexadecimal digits of either case is one byte, as in the [URL Standard],
+/// sections 5.1 and 1.3.
 ///
-/// A broken escape stays as it is: `%` and the byte after it where that is no digit, and with the next one
-/// too where only the second is none; what stays isn't looked at again, so `%%41` stands for itself.
+/// An invalid escape isn't changed. It is `%` and the next byte where that is no digit, and `%` and the next two bytes where only the
+/// second is no digit. None of them begins another escape, so `%%41` is decoded to `%%41`, where the standard has `%A`.
 ///
-/// Bytes without `+` and `%` are borrowed and nothing is allocated. All others are copied, into memory that
-/// is allocated at once; where that fails the result is `OutOfMemory`, the only error. It goes over the
-/// bytes once, and over those before the first `+` or `%` twice; what stands between two `%` is copied 32
-/// bytes at once.
+/// Bytes without `+` and `%` are borrowed, and it doesn't allocate. Others are copied into one allocation; the only error is
+/// [`OutOfMemory`](crate::Error::OutOfMemory), where that failed. Takes linear time.
+///
+/// [URL Standard]: https://url.spec.whatwg.org/
 ///
 /// ```
 /// decode(alloc, b"a%5Bb%5D=1")?; // `a[b]=1`
@@ -35,7 +36,7 @@ pub fn decode(alloc: Global, bytes: &[u8]) -> Result<CowSlice<'_, u8>>
     Ok(unescape(alloc, bytes)?)
 }
 
-/// The same, with an error without a text.
+/// Percent-decodes bytes as [`decode`] does.
 pub(crate) fn unescape(alloc: Global, bytes: &[u8]) -> Result<CowSlice<'_, u8>, AllocError>
     ensures value { IfOk result (λ text. cow_slice_items text ≡ decoded bytes.now) }
     ensures owned { IfOk result (λ text. is_owned text ≡ is_marked bytes.now) }
@@ -47,7 +48,7 @@ pub(crate) fn unescape(alloc: Global, bytes: &[u8]) -> Result<CowSlice<'_, u8>, 
     Ok(CowSlice::Owned(unescaped(alloc, bytes)?))
 }
 
-/// What the bytes stand for, in memory of its own.
+// Percent-decodes bytes into a vector.
 #[inline(never)]
 fn unescaped(alloc: Global, bytes: &[u8]) -> Result<Vec<u8>, AllocError>
     ensures { IfOk result (λ text. text.items ≡ decoded bytes.now) }
@@ -59,7 +60,7 @@ fn unescaped(alloc: Global, bytes: &[u8]) -> Result<Vec<u8>, AllocError>
     Ok(text)
 }
 
-/// Writes what the bytes stand for to the front of `room`, and returns how many bytes that is.
+// Writes the decoded bytes to the front of `room`, and returns how many they are.
 fn fill(bytes: &[u8], room: &mut [u8]) -> usize
     requires { length bytes.now ≤ length room.old }
     ensures { take result room.new ≡ decoded bytes.now }
@@ -74,8 +75,7 @@ fn fill(bytes: &[u8], room: &mut [u8]) -> usize
     at
 }
 
-/// Writes what some bytes of the front stand for to `room` from `at` on. Returns how many it took, and how
-/// many it wrote.
+// Decodes some bytes of the front to `room` from `at` on. Returns how many it read, and how many it wrote.
 #[inline(always)]
 fn put_front(bytes: &[u8], room: &mut [u8], at: usize) -> (usize, usize)
     requires some { 0 < length bytes.now }
@@ -103,7 +103,7 @@ fn put_front(bytes: &[u8], room: &mut [u8], at: usize) -> (usize, usize)
     }
 }
 
-/// Writes so many bytes of a broken escape as they are.
+// Copies so many bytes of an invalid escape.
 fn put_raw(bytes: &[u8], len: usize, room: &mut [u8], at: usize) -> (usize, usize)
     requires within { len ≤ length bytes.now }
     requires room { at + len ≤ length room.old }
@@ -114,7 +114,7 @@ fn put_raw(bytes: &[u8], len: usize, room: &mut [u8], at: usize) -> (usize, usiz
     (len, len)
 }
 
-/// The value of a hexadecimal digit of either case.
+// The value of a hexadecimal digit of either case.
 fn hex_digit(byte: u8) -> Option<u8>
     ensures { SomeIff result (digit_value byte < 16) (digit_value byte) }
 {

@@ -1,4 +1,4 @@
-//! Bytes as a querystring writes them.
+//! Percent-encoding.
 
 ghost use Rattle.std.specs.Prelude.{◌≡◌, ◌+◌, ◌<◌, ◌≤◌, ◌++◌, length, OnOk, OnErr, min, take, drop};
 ghost use Rattle.qs_spec.specs.Escape.{encoded, decoded, spelling};
@@ -10,12 +10,17 @@ use crate::escape::search::{Class, Escaped, LANES, count};
 use percent_encoding::percent_encode_byte;
 use std::alloc::AllocError;
 
-/// Appends the bytes as form mode (`form`), or query mode, writes them: some as they are, a space as `+` in
-/// query mode, and the rest as `%` and two upper case hexadecimal digits.
+/// Percent-encodes bytes, and appends them to `out`.
 ///
-/// It allocates first. Where that fails the result is `OutOfMemory` and `out` stays as it was;
-/// there is no other error. It goes over the bytes twice, 32 at once where no escape is written; over fewer
-/// than 32 bytes once.
+/// Form encoding (`form`) escapes the application/x-www-form-urlencoded percent-encode set of the [URL Standard], section 1.3. Query
+/// encoding escapes the query percent-encode set of that section without the space, and `%`, `+`, `[`, `]`, `=` and `&`; it writes a
+/// space as `+`. An escape is `%` and two upper case hexadecimal digits, as in RFC 3986, section 2.1. [`decode`](crate::decode)
+/// returns the same bytes.
+///
+/// Allocates room in `out` first. The only error is [`OutOfMemory`](crate::Error::OutOfMemory), where that failed; `out` isn't changed
+/// then. Takes linear time.
+///
+/// [URL Standard]: https://url.spec.whatwg.org/#application-x-www-form-urlencoded-percent-encode-set
 ///
 /// ```
 /// encode(b"100% a+b", false, &mut out)?; // appends `100%25+a%2Bb`
@@ -36,7 +41,7 @@ pub fn encode(bytes: &[u8], form: bool, out: &mut Vec<u8>) -> Result<()>
     Ok(())
 }
 
-/// The same for fewer bytes than 32 lanes take.
+// Percent-encodes fewer than 32 bytes, and appends them.
 fn append_short(bytes: &[u8], form: bool, out: &mut Vec<u8>) -> Result<(), AllocError>
     requires { length bytes.now < LANES }
     ensures ok { OnOk result (out.new.items ≡ out.old.items ++ encoded form bytes.now) }
@@ -52,7 +57,7 @@ fn append_short(bytes: &[u8], form: bool, out: &mut Vec<u8>) -> Result<(), Alloc
     out.extend_from_slice(&room[..at])
 }
 
-/// Writes one byte to `room` from `at` on, encoded. Returns how many it wrote.
+// Encodes one byte to `room` from `at` on, and returns how many bytes it wrote.
 #[inline(always)]
 fn put_byte(byte: u8, form: bool, room: &mut [u8], at: usize) -> usize
     requires { at + 3 ≤ length room.old }
@@ -68,7 +73,7 @@ fn put_byte(byte: u8, form: bool, room: &mut [u8], at: usize) -> usize
     1
 }
 
-/// How many bytes `encode` appends, or the greatest size where they are more.
+// The length of the encoded bytes, or `usize::MAX` where it is greater.
 fn encoded_len(bytes: &[u8], form: bool) -> usize
     ensures { result ≡ min (length (encoded form bytes.now)) usize.MAX }
 {
@@ -76,7 +81,7 @@ fn encoded_len(bytes: &[u8], form: bool) -> usize
     bytes.len().saturating_add(escapes.saturating_mul(2))
 }
 
-/// Writes what `encode` appends to the room for it, which is all from `begin` on.
+// Encodes bytes to `room` from `begin` on, which they fill.
 fn fill(bytes: &[u8], form: bool, room: &mut [u8], begin: usize)
     requires { begin + length (encoded form bytes.now) ≡ length room.old }
     ensures { room.new ≡ take begin room.old ++ encoded form bytes.now }
@@ -90,7 +95,7 @@ fn fill(bytes: &[u8], form: bool, room: &mut [u8], begin: usize)
     }
 }
 
-/// Writes some bytes of the front to `room` from `at` on. Returns how many it took, and how many it wrote.
+// Encodes some bytes of the front to `room` from `at` on. Returns how many it read, and how many it wrote.
 #[inline(always)]
 fn put_front(bytes: &[u8], form: bool, room: &mut [u8], at: usize) -> (usize, usize)
     requires some { 0 < length bytes.now }

@@ -1,4 +1,4 @@
-//! The first byte of a class.
+//! Searches for the first byte of a class.
 
 mod class;
 mod encoded;
@@ -14,9 +14,13 @@ pub(crate) use self::encoded::Escaped;
 pub(crate) use self::marks::Byte;
 use self::marks::Escape;
 
-/// The first place of `+` or `%`.
+/// The index of the first `+` or `%`, or `None`.
 ///
-/// Doesn't allocate and looks at each byte up to that place once, 32 of them at a time.
+/// Doesn't allocate. Tests 32 bytes at a time, each once.
+///
+/// ```
+/// find_escape(b"a+b") // Some(1)
+/// ```
 pub fn find_escape(bytes: &[u8]) -> Option<usize>
     ensures first { result ≡ position is_escape bytes.now }
     ensures within { IfSome result (λ at. at < length bytes.now) }
@@ -25,9 +29,13 @@ pub fn find_escape(bytes: &[u8]) -> Option<usize>
     find(Escape, bytes)
 }
 
-/// The first place of `&`.
+/// The index of the first `&`, or `None`.
 ///
-/// Doesn't allocate and looks at each byte up to that place once, 32 of them at a time.
+/// Doesn't allocate. Tests 32 bytes at a time, each once.
+///
+/// ```
+/// find_ampersand(b"a=1&b=2") // Some(3)
+/// ```
 pub fn find_ampersand(bytes: &[u8]) -> Option<usize>
     ensures first { result ≡ position is_ampersand bytes.now }
     ensures within { IfSome result (λ at. at < length bytes.now) }
@@ -35,10 +43,14 @@ pub fn find_ampersand(bytes: &[u8]) -> Option<usize>
     find(Byte(b'&'), bytes)
 }
 
-/// The first place of a byte that form mode (`form`), or query mode, doesn't write as itself: a space too,
-/// for which query mode writes `+`.
+/// The index of the first byte that [`encode`](crate::encode) changes in form encoding (`form`) or query encoding, or `None`. A space
+/// is such a byte in both.
 ///
-/// Doesn't allocate and looks at each byte up to that place once, 32 of them at a time.
+/// Doesn't allocate. Tests 32 bytes at a time, each once.
+///
+/// ```
+/// find_encoded(b"a b", false) // Some(1)
+/// ```
 pub fn find_encoded(bytes: &[u8], form: bool) -> Option<usize>
     ensures first { result ≡ position (is_encoded form) bytes.now }
     ensures within { IfSome result (λ at. at < length bytes.now) }
@@ -46,7 +58,7 @@ pub fn find_encoded(bytes: &[u8], form: bool) -> Option<usize>
     find(Encoded { form }, bytes)
 }
 
-/// The first place of a byte of the class: 32 bytes at a time, and the rest one by one.
+// The index of the first byte of a class: 32 bytes at a time, and the rest one by one.
 fn find<C: Class>(class: C, bytes: &[u8]) -> Option<usize>
     ensures first { result ≡ position (C.contains class) bytes.now }
     ensures within { IfSome result (λ at. at < length bytes.now) }

@@ -1,4 +1,4 @@
-//! The input, taken token by token.
+//! A cursor over an input, which takes it token by token and counts the steps.
 
 ghost use Rattle.std.specs.Prelude.{◌≡◌, ℕ, ◌+◌, ◌++◌, ◌<◌, ◌≤◌, ◌-◌, [], length, take, drop, IfSome, IfNone, IsTrue, true, false};
 ghost use Rattle.qs_spec.specs.Escape.{is_marked};
@@ -6,13 +6,13 @@ ghost use Rattle.qs_spec.specs.Token.{raw_of, tokens};
 ghost use Rattle.qs_tree.specs.Parsing.{is_plain};
 ghost use Rattle.qs_spec.specs.Grammar.{is_amp, is_equals, is_open, is_close};
 ghost use Rattle.qs_spec.specs.internal.Parsing.{cut};
-ghost use Rattle.qs_tree.specs.internal.scan.Cursor.{kind_of_token, token_of, BeginsWith, ends_of, left, spent, looks, met, raw_behind, behind, IsPast, GoesOn, taken, to_come, IsLeft, IsLetter};
+ghost use Rattle.qs_tree.specs.internal.scan.Cursor.{kind_of_token, token_of, BeginsWith, ends_of, left, spent, looks, ended_after, raw_from_token, from_token, IsPast, GoesOn, taken, to_come, IsLeft, IsLetter};
 
 use crate::escape::find_ampersand;
 use crate::steps::Steps;
 use std::alloc::{AllocFailed, Global};
 
-/// What a token is for the grammar.
+/// The kind of a token.
 #[derive(Clone, Copy)]
 pub(crate) enum Kind {
     Ampersand,
@@ -48,22 +48,22 @@ impl Kind {
     }
 }
 
-/// A byte, or in form mode an escaped bracket.
+/// A token: a byte, or in form encoding an escaped bracket.
 #[derive(Clone, Copy)]
 pub(crate) struct Token<'qs> {
     pub kind: Kind,
     pub raw: &'qs [u8],
-    /// The place of its first byte.
+    /// The position of its first byte.
     pub place: Place<'qs>,
 }
 
-/// A place in the input, to which a cursor came.
+/// A position in the input, as the bytes from there on.
 #[derive(Clone, Copy)]
 pub(crate) struct Place<'qs> {
     rest: &'qs [u8],
 }
 
-/// What a run of tokens ends at.
+/// The tokens that end a run.
 #[derive(Clone, Copy)]
 pub(crate) enum Until {
     /// `&` or `=`.
@@ -87,7 +87,7 @@ impl Until {
     }
 }
 
-/// The kind of the first token, and how many bytes it has.
+// The kind of the first token, and its length.
 fn first_token(bytes: &[u8], form: bool) -> (Kind, usize)
     requires { 0 < length bytes.now }
     ensures token { BeginsWith form bytes.now result.0 result.1 }
@@ -111,7 +111,7 @@ fn first_token(bytes: &[u8], form: bool) -> (Kind, usize)
     }
 }
 
-/// Whether the byte is one that means nothing in a key.
+// Whether the byte is a token of kind `Other` in both encodings.
 #[inline(always)]
 fn is_letter(byte: u8) -> bool
     ensures { IsTrue result → IsLetter byte }
@@ -119,7 +119,7 @@ fn is_letter(byte: u8) -> bool
     !matches!(byte, b'%' | b'&' | b'=' | b'[' | b']')
 }
 
-/// How many bytes there are before what ends a run.
+// The length of a run, without the token that ends it.
 fn run_len(bytes: &[u8], form: bool, until: Until) -> usize
     ensures within { result ≤ length bytes.now }
     ensures run { take result bytes.now ≡ raw_of (cut (ends_of until) (tokens form bytes.now)).0 }
@@ -140,8 +140,8 @@ fn run_len(bytes: &[u8], form: bool, until: Until) -> usize
     at
 }
 
-/// What is left of an input. The input is seen only through the calls below, and each counts: a byte that is taken is a step,
-/// and so is a look that meets the end.
+/// A cursor over an input. The input is read only by the methods below, and they count steps: one for each byte that is taken, and
+/// one for reaching the end.
 #[derive(Drop)]
 pub(crate) struct Cursor<'qs> {
     rest: &'qs [u8],
@@ -151,35 +151,35 @@ pub(crate) struct Cursor<'qs> {
     trail: Trail<'qs>,
 }
 
-/// What is kept of the pair that is read, for the error of a conflict.
+/// What the error of a conflict needs of the current pair.
 #[derive(Drop)]
 struct Trail<'qs> {
-    /// What was left where the pair begins.
+    /// The input from the pair's first byte on.
     start: &'qs [u8],
-    /// By the level of a node on the pair's path.
+    /// One for each level of the pair's path.
     spots: Vec<Spot>,
 }
 
-/// Where a conflict is reported.
+/// The key and position of a conflict's error.
 #[derive(Clone, Copy)]
 pub(crate) struct Site<'qs> {
-    /// The bytes of the pair before the bracket that leads there.
+    /// The bytes of the pair before the bracket at which the conflict is.
     pub key: &'qs [u8],
-    /// How many steps are to come.
+    /// How many steps remain.
     pub to_come: usize,
 }
 
-/// Where a conflict with a node is reported: after the first token in the bracket that leads below the node.
+/// The position of a conflict at a level: after the first token in the bracket there.
 #[derive(Clone, Copy)]
 pub(crate) struct Spot {
-    /// How many bytes of the pair stand before the bracket.
+    /// How many bytes of the pair are before the bracket.
     key_len: usize,
-    /// How many steps are to come after the token.
+    /// How many steps remain after the token.
     to_come: usize,
 }
 
 impl<'qs> Cursor<'qs> {
-    /// The whole input, before it is looked at, with the steps that were taken before.
+    /// A cursor at the start of an input, with the steps of earlier calls. Doesn't allocate.
     pub fn new(alloc: Global, input: &'qs [u8], form: bool, steps: Steps) -> Self
         ensures rest { result.rest.now ≡ input.now }
         ensures form { result.form ≡ form }
@@ -199,35 +199,35 @@ impl<'qs> Cursor<'qs> {
         }
     }
 
-    /// The steps that were taken.
+    /// The steps so far.
     pub fn into_steps(self) -> Steps
         ensures { result ≡ self.entry.steps }
     {
         self.steps
     }
 
-    /// Whether the end was met. This is no look at the input.
+    /// Whether the end was reached. This isn't a step.
     pub fn has_ended(&self) -> bool
         ensures { result ≡ self.now.ended }
     {
         self.ended
     }
 
-    /// The place before what is left.
+    /// The current position.
     pub fn place(&self) -> Place<'qs>
         ensures { result.rest.now ≡ self.now.rest.now }
     {
         Place { rest: self.rest }
     }
 
-    /// How many steps are to come: one for each byte that is left, and one for the end unless it was met.
+    /// How many steps remain: one for each byte that is left, and one for the end unless it was reached.
     pub fn to_come(&self) -> usize
         ensures { result ≡ length self.now.rest.now + to_come self.now.ended }
     {
         self.rest.len() + usize::from(!self.ended)
     }
 
-    /// Begins a pair here, of which nothing is kept yet.
+    /// Starts a pair at the current position.
     pub fn begin_pair(&mut self)
         ensures rest { self.new.rest.now ≡ self.old.rest.now }
         ensures form { self.new.form ≡ self.old.form }
@@ -238,7 +238,7 @@ impl<'qs> Cursor<'qs> {
         self.trail.spots.clear();
     }
 
-    /// Keeps that a conflict with the node at the next level of the pair's path is reported here, and where the bracket is that leads below it.
+    /// Stores the current position for a conflict at the next level of the pair's path, whose bracket is at `bracket`.
     pub fn keep_spot(&mut self, bracket: Place<'qs>) -> Result<(), AllocFailed<Spot>>
         ensures rest { self.new.rest.now ≡ self.old.rest.now }
         ensures form { self.new.form ≡ self.old.form }
@@ -250,7 +250,7 @@ impl<'qs> Cursor<'qs> {
         self.trail.spots.push(Spot { key_len, to_come })
     }
 
-    /// The same at the bracket after a root key. An empty key is none of the path, and nothing is kept.
+    /// Stores the position for a conflict at the root key. Does nothing for an empty key, which isn't in the path.
     pub fn keep_root(&mut self, key: &[u8], bracket: Place<'qs>) -> Result<(), AllocFailed<Spot>>
         ensures rest { self.new.rest.now ≡ self.old.rest.now }
         ensures form { self.new.form ≡ self.old.form }
@@ -263,7 +263,7 @@ impl<'qs> Cursor<'qs> {
         self.keep_spot(bracket)
     }
 
-    /// Where a conflict with the node at this level of the pair's path is reported. Where no bracket leads below the node, that is here.
+    /// The key and position of a conflict at a level of the pair's path: the current position where no bracket is stored for it.
     pub fn site(&self, level: usize) -> Site<'qs> {
         let Trail { start, spots } = &self.trail;
         match spots.as_slice().get(level) {
@@ -278,7 +278,7 @@ impl<'qs> Cursor<'qs> {
         }
     }
 
-    /// The bytes that were taken since a place.
+    /// The bytes that were taken since a position.
     pub fn since(&self, place: Place<'qs>) -> &'qs [u8]
         requires { length self.now.rest.now ≤ length place.rest.now }
         ensures { result.now ≡ taken place.entry.rest.now self.now.rest.now }
@@ -287,17 +287,17 @@ impl<'qs> Cursor<'qs> {
         &place.rest[..len]
     }
 
-    /// Takes the next token, or meets the end.
+    /// Takes the next token, or reaches the end.
     #[inline(always)]
     pub fn next(&mut self) -> Option<Token<'qs>>
-        ensures token { left self.old ≡ behind result (left self.new) }
-        ensures bytes { self.old.rest.now ≡ raw_behind result self.new.rest.now }
+        ensures token { left self.old ≡ from_token result (left self.new) }
+        ensures bytes { self.old.rest.now ≡ raw_from_token result self.new.rest.now }
         ensures place { IfSome result (λ t. t.place.rest.now ≡ self.old.rest.now) }
         ensures end { IfNone result (self.new.rest.now ≡ []) }
         ensures shorter { IfSome result (λ _. length self.new.rest.now < length self.old.rest.now) }
         ensures form { self.new.form ≡ self.old.form }
         ensures cost { spent self.new ≡ spent self.old + looks result }
-        ensures met { self.new.ended ≡ met result self.old.ended }
+        ensures ended { self.new.ended ≡ ended_after result self.old.ended }
     {
         if self.rest.is_empty() {
             self.ended = true;
@@ -312,37 +312,37 @@ impl<'qs> Cursor<'qs> {
         Some(Token { kind, raw, place })
     }
 
-    /// Takes the tokens up to the first one that ends a run, and that one too, or up to the end: the bytes before it, and it.
+    /// Takes a run and the token that ends it, or all up to the end. Returns the bytes of the run and that token.
     #[inline(always)]
     pub fn run(&mut self, until: Until) -> (&'qs [u8], Option<Token<'qs>>)
         ensures run { result.0.now ≡ raw_of (cut (ends_of until) (left self.old)).0 }
-        ensures token { (cut (ends_of until) (left self.old)).1 ≡ behind result.1 (left self.new) }
-        ensures bytes { self.old.rest.now ≡ result.0.now ++ raw_behind result.1 self.new.rest.now }
+        ensures token { (cut (ends_of until) (left self.old)).1 ≡ from_token result.1 (left self.new) }
+        ensures bytes { self.old.rest.now ≡ result.0.now ++ raw_from_token result.1 self.new.rest.now }
         ensures kind { IfSome result.1 (λ t. ends_of until (kind_of_token t.kind) ≡ true) }
         ensures place { IfSome result.1 (λ t. t.place.rest.now ≡ t.raw.now ++ self.new.rest.now) }
         ensures end { IfNone result.1 (self.new.rest.now ≡ []) }
         ensures shorter { IfSome result.1 (λ _. length self.new.rest.now < length self.old.rest.now) }
         ensures cost { spent self.new ≡ spent self.old + looks result.1 }
-        ensures met { self.new.ended ≡ met result.1 self.old.ended }
+        ensures ended { self.new.ended ≡ ended_after result.1 self.old.ended }
         ensures fewer { length self.new.rest.now ≤ length self.old.rest.now }
         ensures form { self.new.form ≡ self.old.form }
     {
         self.run_from(self.place(), until)
     }
 
-    /// The same, but the returned bytes begin at an earlier place.
+    /// Takes a run as [`run`](Cursor::run) does, and returns the bytes from an earlier position on.
     #[inline(always)]
     pub fn run_from(&mut self, place: Place<'qs>, until: Until) -> (&'qs [u8], Option<Token<'qs>>)
         requires { IsLeft place.rest.now self.old.rest.now }
         ensures run { result.0.now ≡ taken place.entry.rest.now self.old.rest.now ++ raw_of (cut (ends_of until) (left self.old)).0 }
-        ensures token { (cut (ends_of until) (left self.old)).1 ≡ behind result.1 (left self.new) }
-        ensures bytes { place.entry.rest.now ≡ result.0.now ++ raw_behind result.1 self.new.rest.now }
+        ensures token { (cut (ends_of until) (left self.old)).1 ≡ from_token result.1 (left self.new) }
+        ensures bytes { place.entry.rest.now ≡ result.0.now ++ raw_from_token result.1 self.new.rest.now }
         ensures kind { IfSome result.1 (λ t. ends_of until (kind_of_token t.kind) ≡ true) }
         ensures place { IfSome result.1 (λ t. t.place.rest.now ≡ t.raw.now ++ self.new.rest.now) }
         ensures end { IfNone result.1 (self.new.rest.now ≡ []) }
         ensures shorter { IfSome result.1 (λ _. length self.new.rest.now < length self.old.rest.now) }
         ensures cost { spent self.new ≡ spent self.old + looks result.1 }
-        ensures met { self.new.ended ≡ met result.1 self.old.ended }
+        ensures ended { self.new.ended ≡ ended_after result.1 self.old.ended }
         ensures fewer { length self.new.rest.now ≤ length self.old.rest.now }
         ensures form { self.new.form ≡ self.old.form }
     {
@@ -354,7 +354,7 @@ impl<'qs> Cursor<'qs> {
         (before, self.next())
     }
 
-    /// Takes a value: the bytes up to the next `&` or the end, and that `&` or the end too.
+    /// Takes a value, which ends before the next `&` or the end, and that `&` or the end.
     pub fn value(&mut self) -> &'qs [u8]
         ensures value { result.now ≡ raw_of (cut is_amp (left self.old)).0 }
         ensures past { IsPast (cut is_amp (left self.old)).1 self.new }

@@ -1,4 +1,4 @@
-//! The pairs of a querystring.
+//! A pair of a querystring.
 ghost use Rattle.std.specs.Prelude.{◌≡◌, ◌+◌, ◌<◌, ◌∷◌, length, drop, not};
 ghost use Rattle.qs_spec.specs.Tree.Tree.{leaf};
 ghost use Rattle.qs_tree.specs.tree.Views.{tree_of};
@@ -10,14 +10,14 @@ use std::alloc::Global;
 use std::borrow::CowSlice;
 use std::mem;
 
-/// What follows a key.
+/// The value of a pair.
 #[derive(Debug, Drop)]
 pub(crate) enum Leaf<'qs> {
     /// No `=`.
     NoValue,
-    /// Nothing after `=`.
+    /// `=` with an empty value.
     Null,
-    /// A text that is not empty.
+    /// `=` with a value that isn't empty.
     Text(CowSlice<'qs, u8>),
 }
 
@@ -25,7 +25,7 @@ pub(crate) enum Leaf<'qs> {
 #[derive(Clone, Copy, Debug)]
 pub(crate) enum Manner {
     Plain,
-    /// Onto a sequence.
+    /// Pushes it onto a sequence, for a key that ends in `[]`.
     Push,
 }
 
@@ -37,7 +37,7 @@ impl Manner {
     }
 }
 
-/// One pair of a querystring: a path of keys, and a leaf.
+/// A pair: a path of keys, and a leaf.
 #[derive(Debug, Drop)]
 pub(crate) struct Pair<'qs> {
     pub path: Vec<Key<'qs>>,
@@ -46,7 +46,7 @@ pub(crate) struct Pair<'qs> {
 }
 
 impl<'qs> Pair<'qs> {
-    /// No pair yet. Nothing is allocated.
+    /// A pair with an empty path. Doesn't allocate.
     pub fn new(alloc: Global) -> Self {
         Pair {
             path: Vec::new(alloc),
@@ -55,7 +55,7 @@ impl<'qs> Pair<'qs> {
         }
     }
 
-    /// Takes a key out of the path, in which a number stays.
+    /// Takes a key out of the path, and leaves an integer key.
     pub fn take_key(&mut self, level: usize) -> Key<'qs>
         requires { level < length self.old.path.items }
         ensures key { drop level self.old.path.items ≡ result ∷ drop (level + 1) self.new.path.items }
@@ -68,14 +68,14 @@ impl<'qs> Pair<'qs> {
 }
 
 impl<'qs> Leaf<'qs> {
-    /// Takes the leaf out, and leaves one without a value.
+    /// Takes the leaf, and leaves `NoValue`.
     pub fn take(&mut self) -> Leaf<'qs>
         ensures { result ≡ self.old }
     {
         mem::replace(self, Leaf::NoValue)
     }
 
-    /// The leaf as a node.
+    /// The leaf as a node of a tree.
     pub fn into_value(self) -> ParsedValue<'qs>
         ensures { tree_of result ≡ leaf (leaf_of self.entry) }
     {

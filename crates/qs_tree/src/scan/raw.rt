@@ -1,4 +1,4 @@
-//! Keys and leaves, as their raw bytes spell them.
+//! From raw bytes to keys and leaves.
 
 ghost use Rattle.std.specs.Prelude.{◌≡◌, false, IfOk, IsOk};
 ghost use Rattle.qs_spec.specs.Escape.{is_marked};
@@ -13,19 +13,23 @@ use crate::scan::pair::Leaf;
 use crate::tree::key::Key;
 use std::alloc::{AllocError, Global};
 
-/// The key that a segment's raw bytes spell. Digits alone are a number where 32 bits hold it, which is asked before anything
-/// is decoded; all else is the text that the bytes stand for, borrowed where it is the same.
-pub(crate) fn read_key(alloc: Global, raw: &[u8]) -> Result<Key<'_>, AllocError>
+/// The key of a segment with these raw bytes. It is an integer key for digits alone whose value fits in 32 bits, and a string key
+/// with the decoded bytes otherwise.
+///
+/// Returns an error only where an allocation failed. Borrows a string without `+` and `%`.
+pub(crate) fn parse_key(alloc: Global, raw: &[u8]) -> Result<Key<'_>, AllocError>
     ensures key { IfOk result (λ key. step_of_key key ≡ step_of raw.now) }
 {
-    match read_index(raw) {
+    match parse_index(raw) {
         Some(index) => Ok(Key::Int(index)),
         None => Ok(Key::String(unescape(alloc, raw)?)),
     }
 }
 
-/// The leaf of the raw bytes after `=`.
-pub(crate) fn read_leaf(alloc: Global, raw: &[u8]) -> Result<Leaf<'_>, AllocError>
+/// The leaf of a value with these raw bytes.
+///
+/// Returns an error only where an allocation failed. Borrows a value without `+` and `%`.
+pub(crate) fn parse_leaf(alloc: Global, raw: &[u8]) -> Result<Leaf<'_>, AllocError>
     ensures leaf { IfOk result (λ leaf. leaf_of leaf ≡ value_leaf raw.now) }
     ensures no_memory { is_marked raw.now ≡ false → IsOk result }
 {
@@ -35,17 +39,18 @@ pub(crate) fn read_leaf(alloc: Global, raw: &[u8]) -> Result<Leaf<'_>, AllocErro
     Ok(Leaf::Text(unescape(alloc, raw)?))
 }
 
-/// The number that digits alone write, at least one, where 32 bits hold it.
-fn read_index(raw: &[u8]) -> Option<u32>
+// The value of digits alone, at least one, where it fits in 32 bits.
+fn parse_index(raw: &[u8]) -> Option<u32>
     ensures { result ≡ index_of raw.now }
 {
     if raw.is_empty() {
         return None;
     }
-    read_digits(raw)
+    parse_digits(raw)
 }
 
-fn read_digits(raw: &[u8]) -> Option<u32>
+// The value of digits alone where it fits in 32 bits: 0 for none.
+fn parse_digits(raw: &[u8]) -> Option<u32>
     ensures { result ≡ index_from 0 raw.now }
 {
     let mut number = 0u32;

@@ -1,4 +1,4 @@
-//! The order of byte strings, eight bytes at a time.
+//! Comparison of byte strings, eight bytes at a time.
 
 ghost use Rattle.std.specs.Prelude.{◌≡◌, ◌≤◌, length, take, drop};
 ghost use Rattle.std.specs.Ordering.{nat_cmp, ordering_then};
@@ -7,10 +7,10 @@ ghost use Rattle.std.specs.Slice.Scan.{big_endian};
 
 use std::cmp::Ordering;
 
-/// So many bytes are one number.
+/// How many bytes are compared at once.
 const WORD: usize = 8;
 
-/// How two byte strings compare: by the first byte in which they differ, or else by their lengths.
+/// Compares byte strings lexicographically. Doesn't allocate.
 pub(crate) fn compare_bytes(left: &[u8], right: &[u8]) -> Ordering
     ensures { result ≡ slice_cmp nat_cmp left.now right.now }
 {
@@ -27,7 +27,7 @@ pub(crate) fn compare_bytes(left: &[u8], right: &[u8]) -> Ordering
     left.cmp(&right)
 }
 
-/// How the first eight bytes compare. Where they are equal, what follows decides.
+// Compares the first eight bytes.
 #[inline(always)]
 fn compare_words(left: &[u8], right: &[u8]) -> Ordering
     requires left { 8 ≤ length left.now }
@@ -37,7 +37,7 @@ fn compare_words(left: &[u8], right: &[u8]) -> Ordering
     word(left).cmp(&word(right))
 }
 
-/// The number that the first eight bytes write, the highest first.
+// The first eight bytes as a big-endian integer.
 #[inline(always)]
 fn word(bytes: &[u8]) -> u64
     requires { 8 ≤ length bytes.now }

@@ -1,7 +1,7 @@
-//! How a tree is dropped: by a loop that doesn't allocate, however deep the tree is.
+//! Drops a tree by a loop that doesn't allocate, at any depth.
 //!
-//! The loop takes the last children, and goes down below one of them by first children. Each node on the way down takes the one above it
-//! in place of its first child, so that they lie in one another and only the lowest has to be kept.
+//! The loop drops last children, and below one of them follows first children. Each node stores its parent in place of its first
+//! child, so that only the lowest has to be kept.
 ghost use Rattle.std.specs.Prelude.{◌+◌, ◌<◌};
 ghost use Rattle.qs_spec.specs.Tree.Tree.{sequence, mapping};
 ghost use Rattle.qs_tree.specs.internal.tree.NodeCount.{node_count, DropsOne};
@@ -11,7 +11,7 @@ use crate::tree::map::ParsedMap;
 use crate::tree::value::ParsedValue;
 use std::mem;
 
-/// Drops a tree. Doesn't allocate, and takes as many turns as there are nodes.
+/// Drops a tree in linear time. Doesn't allocate.
 pub(crate) fn drop_tree<'qs>(tree: ParsedValue<'qs>) {
     let mut left = tree;
     loop {
@@ -24,8 +24,8 @@ pub(crate) fn drop_tree<'qs>(tree: ParsedValue<'qs>) {
     }
 }
 
-// Drops the first leaf of a tree, and returns the node that held it. The node above the tree is the first child of the topmost node.
-fn hung<'qs>(tree: ParsedValue<'qs>, above: ParsedValue<'qs>) -> ParsedValue<'qs>
+// Drops the first leaf of a tree, and returns its parent. The topmost node stores the node above the tree as its first child.
+fn drop_first_leaf<'qs>(tree: ParsedValue<'qs>, above: ParsedValue<'qs>) -> ParsedValue<'qs>
     ensures { DropsOne (node_count (tree_of tree.entry) + node_count (tree_of above.entry)) (node_count (tree_of result)) }
 {
     let mut tree = tree;
@@ -55,8 +55,8 @@ fn hung<'qs>(tree: ParsedValue<'qs>, above: ParsedValue<'qs>) -> ParsedValue<'qs
     }
 }
 
-// Drops the last leaves of a map, or else the first leaf below its last entry, and returns the node that held it. The first entry
-// of the map holds the node above.
+// Drops the last leaves of a map, or else the first leaf below its last entry, and returns the parent. The first entry of the map
+// is the node above.
 fn without_last_entry<'qs>(map: ParsedMap<'qs>) -> ParsedValue<'qs>
     ensures { node_count (tree_of result) < node_count (mapping (entries_of_map map.entry)) }
 {
@@ -69,14 +69,14 @@ fn without_last_entry<'qs>(map: ParsedMap<'qs>) -> ParsedValue<'qs>
         match last {
             ParsedValue::String(_) => {}
             ParsedValue::Null | ParsedValue::NoValue | ParsedValue::Uninitialized => {}
-            inner => return hung(inner, ParsedValue::Map(ParsedMap { map: entries })),
+            inner => return drop_first_leaf(inner, ParsedValue::Map(ParsedMap { map: entries })),
         }
     }
     entries.destroy_empty();
     ParsedValue::Uninitialized
 }
 
-// The same below the last item of a sequence.
+// Drops the last item of a sequence, or else the first leaf below it, and returns the parent.
 fn without_last_item<'qs>(items: Vec<ParsedValue<'qs>>) -> ParsedValue<'qs>
     ensures { DropsOne (node_count (sequence (items_of items.entry.items))) (node_count (tree_of result)) }
 {
@@ -89,5 +89,5 @@ fn without_last_item<'qs>(items: Vec<ParsedValue<'qs>>) -> ParsedValue<'qs>
         items.destroy_empty();
         return last;
     }
-    hung(last, ParsedValue::Sequence(items))
+    drop_first_leaf(last, ParsedValue::Sequence(items))
 }

@@ -1,4 +1,4 @@
-//! A vector of entries in the order of their keys, each key once.
+//! A sorted vector of entries with distinct keys.
 ghost use Rattle.std.specs.Prelude.{◌≡◌, ◌<◌, [], length, ◌∷◌, ◌++◌, IfOk, IfNone, OnOk, OnErr, Some, option_map, slice_get, unwrap_or};
 ghost use Rattle.std.specs.List.{remove};
 ghost use Rattle.std.specs.Option.{option_to_list};
@@ -11,7 +11,7 @@ use std::alloc::{AllocError, Global};
 use std::marker::Model;
 use std::mem;
 
-/// Seen as the list of its entries, which is sorted.
+/// A sorted vector of entries with distinct keys. Contracts see the list of entries.
 #[derive(Debug, Drop)]
 pub(crate) struct Entries<K: Ord, V> {
     items: Vec<(K, V)>,
@@ -36,7 +36,7 @@ impl<K: Ord, V> Entries<K, V> {
     ghost use Rattle.std.specs.Borrow.{sem};
     ghost use Rattle.qs_tree.specs.internal.tree.Lending.{LendsValue};
 
-    /// No entries. Nothing is allocated.
+    /// No entries. Doesn't allocate.
     pub fn new(alloc: Global) -> Self
         ensures { result ≡ [] }
     {
@@ -45,7 +45,7 @@ impl<K: Ord, V> Entries<K, V> {
         }
     }
 
-    /// No entries, with room for so many.
+    /// No entries, with capacity for so many. Returns an error only where the allocation failed.
     pub fn with_capacity(alloc: Global, capacity: usize) -> Result<Self, AllocError>
         ensures { IfOk result (λ entries. entries ≡ []) }
     {
@@ -60,12 +60,12 @@ impl<K: Ord, V> Entries<K, V> {
         self.items.len()
     }
 
-    /// Where the memory for the entries comes from.
+    /// The allocator of the entries.
     pub fn allocator(&self) -> Global {
         *self.items.allocator()
     }
 
-    /// The entries, in the order of their keys.
+    /// The entries as a sorted slice.
     pub fn as_slice(&self) -> &[(K, V)]
         ensures all { result.now ≡ self.now }
         ensures sorted { IsStrictlySortedBy K.cmp (keys_of self.now) }
@@ -73,7 +73,7 @@ impl<K: Ord, V> Entries<K, V> {
         &self.items
     }
 
-    /// The entries as they lie.
+    /// The entries as a sorted vector.
     pub fn into_items(self) -> Vec<(K, V)>
         ensures all { result.items ≡ self }
         ensures sorted { IsStrictlySortedBy K.cmp (keys_of self) }
@@ -82,7 +82,7 @@ impl<K: Ord, V> Entries<K, V> {
         items
     }
 
-    /// The entry at a place.
+    /// The entry at an index, or `None`.
     pub fn at(&self, at: usize) -> Option<(&K, &V)>
         ensures { option_map (λ p. (p.0.now, p.1.now)) result ≡ slice_get self.now at }
     {
@@ -92,7 +92,7 @@ impl<K: Ord, V> Entries<K, V> {
         }
     }
 
-    /// The value at a place, to be changed.
+    /// The value at an index, mutable.
     pub fn at_mut(&mut self, at: usize) -> &mut V
         requires { at < length self.old }
         ensures* writes_back { sem 𝓛 (LendsValue K.row V.row K.Ord.own K.PartialEq.own K.PartialOrd.own self.entry at result) }
@@ -102,7 +102,7 @@ impl<K: Ord, V> Entries<K, V> {
         &mut item.1
     }
 
-    /// Puts a value in the place of the one that is there, and returns that one.
+    /// Replaces the value at an index, and returns the old one.
     pub fn replace(&mut self, at: usize, value: V) -> V
         requires { at < length self.old }
         ensures old { option_map (λ e. e.1) (slice_get self.old at) ≡ Some result }
@@ -111,7 +111,7 @@ impl<K: Ord, V> Entries<K, V> {
         mem::replace(&mut self.items[at].1, value)
     }
 
-    /// Takes the entry with the last key out, if there is one.
+    /// Removes the last entry, and returns it.
     pub fn pop(&mut self) -> Option<(K, V)>
         ensures all { self.old ≡ self.new ++ option_to_list result }
         ensures none { IfNone result (self.new ≡ []) }
@@ -119,7 +119,7 @@ impl<K: Ord, V> Entries<K, V> {
         self.items.pop()
     }
 
-    /// Frees the memory of no entries.
+    /// Frees the memory of an empty vector.
     pub fn destroy_empty(self)
         requires { self ≡ [] }
     {
@@ -131,8 +131,8 @@ impl<K: Ord + Drop, V: Drop> Entries<K, V> {
     ghost use Rattle.std.specs.Borrow.{sem};
     ghost use Rattle.qs_tree.specs.internal.tree.Lending.{LendsChild};
 
-    /// The value at a key, to be changed, which is fresh where the key was missing. The place is where the key is, or would go.
-    /// On an error nothing is known of the entries.
+    /// The value at a key, mutable. A missing key is inserted with a default; `place` is the key's index, or the one at which to
+    /// insert it. Returns an error only where an allocation failed; the entries aren't specified then.
     pub fn child(
         &mut self,
         place: Result<usize, usize>,
@@ -147,7 +147,7 @@ impl<K: Ord + Drop, V: Drop> Entries<K, V> {
         Ok(self.at_mut(at))
     }
 
-    // Puts the fresh value at the key where it is missing, and returns where the key is.
+    // Inserts a missing key with the default, and returns the key's index.
     fn filled(&mut self, place: Result<usize, usize>, key: K, fresh: V) -> Result<usize, AllocError>
         requires { IsPlaced K.cmp key self.old place }
         ensures in_range { IfOk result (λ at. at < length self.new) }
@@ -163,7 +163,7 @@ impl<K: Ord + Drop, V: Drop> Entries<K, V> {
         }
     }
 
-    /// Puts an entry at the place where its key is missing. On an error nothing is changed.
+    /// Inserts an entry with a missing key at an index. On an error nothing is changed.
     pub fn insert_at(&mut self, at: usize, key: K, value: V) -> Result<(), AllocError>
         requires { IsGap K.cmp key self.old at }
         ensures ok { OnOk result (self.new ≡ insert_entry K.cmp self.old key value) }
@@ -172,7 +172,7 @@ impl<K: Ord + Drop, V: Drop> Entries<K, V> {
         Ok(self.items.insert(at, (key, value))?)
     }
 
-    /// Puts an entry after the others, where its key belongs. On an error nothing is changed.
+    /// Pushes an entry whose key is greater than all others. On an error nothing is changed.
     pub fn push(&mut self, key: K, value: V) -> Result<(), AllocError>
         requires { IsStrictlySortedBy K.cmp (keys_of self.old ++ key ∷ []) }
         ensures ok { OnOk result (self.new ≡ self.old ++ (key, value) ∷ []) }
@@ -183,7 +183,7 @@ impl<K: Ord + Drop, V: Drop> Entries<K, V> {
         Ok(())
     }
 
-    /// Takes the entry at a place out.
+    /// Removes the entry at an index, and returns it.
     pub fn remove_at(&mut self, at: usize) -> (K, V)
         requires { at < length self.old }
         ensures entry { slice_get self.old at ≡ Some result }

@@ -7,27 +7,31 @@ ghost use Rattle.qs_spec.specs.Segment.{compare_segments, is_same_segment};
 ghost use Rattle.qs_spec.proofs.Order.{segments_total};
 ghost use Rattle.std.specs.Fmt.{WritesOnOk};
 ghost use Rattle.std.specs.Str.Lossy.{utf8_lossy};
-ghost use Rattle.qs_tree.specs.tree.Views.{segment_of_key, step_of_key, shown};
+ghost use Rattle.qs_tree.specs.tree.Views.{segment_of_key, step_of_key, key_text};
 
 use crate::tree::byte_order::compare_bytes;
 use std::borrow::CowSlice;
 use std::cmp::Ordering;
 use std::fmt;
 
-/// A key of a map: a number, or a text, which may be borrowed from the input.
+/// A key of a map: an integer, or a string, which may be borrowed from the input.
 ///
-/// Numbers come before texts; numbers are ordered by value, texts by their bytes. A borrowed text and an owned one with the
-/// same bytes are equal.
+/// Integer keys are ordered by value and come before string keys, which are ordered by their bytes. `==` ignores ownership: a
+/// borrowed string equals an owned one with the same bytes.
+///
+/// ```
+/// Key::from(7) < Key::from("7") // true
+/// ```
 #[derive(Debug, Drop)]
 pub enum Key<'a> {
-    /// Digits alone, as the place of an element.
+    /// A key of digits alone whose value fits in 32 bits.
     Int(u32),
     /// Any other key.
     String(CowSlice<'a, u8>),
 }
 
 impl<'a> Key<'a> {
-    /// How this key stands to another one, of any lifetime.
+    /// Compares two keys, which may have different lifetimes.
     pub(crate) fn compare<'b>(&self, other: &Key<'b>) -> Ordering
         ensures { result ≡ compare_segments (segment_of_key self.now) (segment_of_key other.now) }
     {
@@ -102,9 +106,10 @@ impl<'a> From<u32> for Key<'a> {
     }
 }
 
-/// A number in decimal; a text between double quotes, with U+FFFD for what is no UTF-8, as `String::from_utf8_lossy` has it.
+/// Writes an integer in decimal, and a string between double quotes, with U+FFFD for what isn't UTF-8, as in
+/// `String::from_utf8_lossy`.
 impl fmt::Display for Key<'_> {
-    ghost output = { λ key. Some (shown (segment_of_key key)) };
+    ghost output = { λ key. Some (key_text (segment_of_key key)) };
 
     fn fmt<W: fmt::Write>(&self, f: &mut fmt::Formatter<W>) -> fmt::Result {
         match self {
@@ -118,7 +123,7 @@ impl fmt::Display for Key<'_> {
     }
 }
 
-// Bytes as text, with U+FFFD for each run of bytes that is none.
+// Writes bytes as a string, with U+FFFD for each sequence that isn't UTF-8.
 fn write_lossy<W: fmt::Write>(bytes: &[u8], f: &mut fmt::Formatter<W>) -> fmt::Result
     ensures { WritesOnOk W.write_str_gives f.old result (utf8_lossy bytes.now) f.new }
 {

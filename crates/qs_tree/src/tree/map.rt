@@ -1,4 +1,4 @@
-//! Maps of a tree.
+//! The maps of a tree.
 ghost use Rattle.std.specs.Prelude.{◌≡◌, ◌+◌, [], length, ◌∷◌, ◌<◌, ◌≤◌, option_map, slice_get, MatchOption, IfOk, IfErr, IsTrue, ◌↔◌};
 ghost use Rattle.std.specs.List.Sorted.{IsStrictlySortedBy};
 ghost use Rattle.std.specs.Map.{keys_of, lookup};
@@ -23,9 +23,9 @@ use crate::tree::value::ParsedValue;
 use std::alloc::Global;
 use std::cmp::Ordering;
 
-/// The keys of a map with their values, in the order of the keys, each key once.
+/// A map from keys to values, sorted by key.
 ///
-/// Keys are looked up by binary search. A key may be borrowed from anywhere:
+/// Keys are looked up by binary search. The key that is looked up may have any lifetime:
 ///
 /// ```text
 /// map.get(&Key::from("name"))
@@ -37,7 +37,7 @@ pub struct ParsedMap<'qs> {
 }
 
 impl<'qs> ParsedMap<'qs> {
-    /// A map without entries. Nothing is allocated.
+    /// An empty map. Doesn't allocate.
     #[must_use]
     pub fn new(alloc: Global) -> Self
         ensures { entries_of_map result ≡ no_entries }
@@ -47,7 +47,7 @@ impl<'qs> ParsedMap<'qs> {
         }
     }
 
-    /// How many entries there are.
+    /// The number of entries.
     #[must_use]
     pub fn len(&self) -> usize
         ensures { result ≡ length (map_pairs self.now) }
@@ -55,7 +55,7 @@ impl<'qs> ParsedMap<'qs> {
         self.map.len()
     }
 
-    /// There are no entries.
+    /// Whether there are no entries.
     #[must_use]
     pub fn is_empty(&self) -> bool
         ensures { IsTrue result ↔ map_pairs self.now ≡ [] }
@@ -63,7 +63,7 @@ impl<'qs> ParsedMap<'qs> {
         self.len() == 0
     }
 
-    /// The value at a key, if there is one. Doesn't allocate, and compares as few keys as [`get_with`](ParsedMap::get_with).
+    /// The value at a key, or `None`. Doesn't allocate, and takes logarithmic time, as [`get_with`](ParsedMap::get_with) does.
     #[must_use]
     pub fn get<'k>(&self, key: &Key<'k>) -> Option<&ParsedValue<'qs>>
         ensures value { option_map (λ v. tree_of v.now) result ≡ view.find (segment_of_key key.now) (entries_of_map self.now) }
@@ -72,8 +72,8 @@ impl<'qs> ParsedMap<'qs> {
         self.get_with(key, &mut Steps::new())
     }
 
-    /// The same, and adds the comparisons of keys to `steps`: at most as many as the length has binary digits, and at least one
-    /// where there are entries.
+    /// The value at a key, or `None`. Adds the number of comparisons to `steps`: at most as many as the length has binary digits,
+    /// and at least one for a map with entries. Doesn't allocate.
     #[must_use]
     pub fn get_with<'k>(&self, key: &Key<'k>, steps: &mut Steps) -> Option<&ParsedValue<'qs>>
         ensures value { option_map (λ v. tree_of v.now) result ≡ view.find (segment_of_key key.now) (entries_of_map self.now) }
@@ -85,7 +85,7 @@ impl<'qs> ParsedMap<'qs> {
         find(self.map.as_slice(), key, steps)
     }
 
-    /// The entry at a place in the order of the keys, if there are so many.
+    /// The entry at an index, in the order of keys, or `None`. Takes constant time, and doesn't allocate.
     #[must_use]
     pub fn at(&self, at: usize) -> Option<(&Key<'qs>, &ParsedValue<'qs>)>
         ensures { option_map (λ p. (step_of_key p.0.now, tree_of p.1.now)) result ≡ slice_get (map_pairs self.now) at }
@@ -93,9 +93,9 @@ impl<'qs> ParsedMap<'qs> {
         self.entry_at(at)
     }
 
-    /// Takes the entry at a key out, and returns its value. Where the key is missing nothing is changed.
+    /// Removes a key, and returns its value. Returns `None` for a missing key, and changes nothing.
     ///
-    /// Compares at most as many keys as the length has binary digits, and moves the entries after it. Doesn't allocate.
+    /// Finds the key in logarithmic time, and moves the entries after it. Doesn't allocate.
     pub fn remove<'k>(&mut self, key: &Key<'k>) -> Option<ParsedValue<'qs>>
         ensures value { option_map tree_of result ≡ view.find (segment_of_key key.now) (entries_of_map self.old) }
         ensures rest { entries_of_map self.new ≡ take_out (segment_of_key key.now) (entries_of_map self.old) }
@@ -106,7 +106,8 @@ impl<'qs> ParsedMap<'qs> {
         }
     }
 
-    /// Takes the entry with the first key out. An empty map stays empty. Moves the other entries, and doesn't allocate.
+    /// Removes the entry with the smallest key, and returns it, or `None` for an empty map. Moves all other entries, and doesn't
+    /// allocate.
     pub fn pop_first(&mut self) -> Option<(Key<'qs>, ParsedValue<'qs>)>
         ensures { MatchOption result ((map_pairs self.old ≡ []) × (map_pairs self.new ≡ [])) (λ p. map_pairs self.old ≡ (step_of_key p.0, tree_of p.1) ∷ map_pairs self.new) }
     {
@@ -116,7 +117,7 @@ impl<'qs> ParsedMap<'qs> {
         Some(self.map.remove_at(0))
     }
 
-    /// The entries.
+    /// The map's entries.
     pub(crate) fn into_entries(self) -> Entries<Key<'qs>, ParsedValue<'qs>>
         ensures { result ≡ self.entry.map }
     {
@@ -124,7 +125,7 @@ impl<'qs> ParsedMap<'qs> {
         map
     }
 
-    // The same before keys and values are seen as segments and trees.
+    // The entry at an index, or `None`.
     fn entry_at(&self, at: usize) -> Option<(&Key<'qs>, &ParsedValue<'qs>)>
         ensures { option_map (λ p. (p.0.now, p.1.now)) result ≡ slice_get self.now.map at }
     {
@@ -132,7 +133,7 @@ impl<'qs> ParsedMap<'qs> {
     }
 }
 
-/// Calls itself for each level of the trees, and doesn't allocate.
+/// Ignores ownership. Recurses for each level of the trees, and doesn't allocate.
 impl<'qs> PartialEq for ParsedMap<'qs> {
     ghost eq = { λ a b. entries_same (entries_of_map a) (entries_of_map b) };
 
@@ -143,14 +144,14 @@ impl<'qs> PartialEq for ParsedMap<'qs> {
     }
 }
 
-/// Allocates nothing, and takes no more stack for a deep tree than for a flat one.
+/// Doesn't allocate, and takes constant stack.
 impl<'qs> Drop for ParsedMap<'qs> {
     fn drop(self) {
         drop_tree(ParsedValue::Map(self));
     }
 }
 
-/// The value at a key among entries in the order of their keys, if there is one.
+/// The value at a key among sorted entries, or `None`.
 pub(crate) fn find<'e, 'k, 'qs, V>(
     entries: &'e [(Key<'qs>, V)],
     key: &Key<'k>,
@@ -168,7 +169,7 @@ pub(crate) fn find<'e, 'k, 'qs, V>(
     }
 }
 
-/// Where a key is among entries in the order of their keys, or else where it would go, by binary search.
+/// The index of a key among sorted entries, or as `Err` the index at which to insert it, by binary search.
 pub(crate) fn search<'k, 'qs, V>(
     entries: &[(Key<'qs>, V)],
     key: &Key<'k>,
@@ -194,7 +195,7 @@ pub(crate) fn search<'k, 'qs, V>(
     Err(low)
 }
 
-/// How a key stands to another one, which is a step. A search compares keys by this call alone.
+// Compares two keys, which is a step.
 fn compared<'k, 'qs>(key: &Key<'k>, other: &Key<'qs>, steps: &mut Steps) -> Ordering
     ensures order { result ≡ key_cmp key.now other.now }
     ensures cost { steps.new ≡ steps.old + 1 }

@@ -1,15 +1,15 @@
-//! When two trees are the same.
+//! Equality of trees.
 
 ghost use Rattle.std.specs.Prelude.{◌≡◌, ◌&&◌};
 ghost use Rattle.qs_spec.specs.Segment.{is_same_segment};
 ghost use Rattle.qs_tree.specs.tree.Equality.{tree_same, items_same, entries_same};
-ghost use Rattle.qs_tree.specs.internal.build.Settling.{held};
+ghost use Rattle.qs_tree.specs.internal.tree.KeyTrees.{key_trees};
 ghost use Rattle.qs_tree.specs.tree.Views.{segment_of_key, tree_of, items_of, entries_from};
 
 use crate::tree::key::Key;
 use crate::tree::value::ParsedValue;
 
-/// Whether two nodes hold the same, whoever owns the bytes.
+/// Whether two nodes are equal, ignoring ownership. Recurses for each level, and doesn't allocate.
 #[cycle(sameness)]
 pub(crate) fn same_nodes<'qs>(left: &ParsedValue<'qs>, right: &ParsedValue<'qs>) -> bool
     ensures { result ≡ tree_same (tree_of left.now) (tree_of right.now) }
@@ -27,13 +27,13 @@ pub(crate) fn same_nodes<'qs>(left: &ParsedValue<'qs>, right: &ParsedValue<'qs>)
     }
 }
 
-/// Whether the same nodes stand at the same keys.
+/// Whether two maps have equal entries, ignoring ownership.
 #[cycle(sameness)]
 pub(crate) fn same_entries<'qs>(
     left: &[(Key<'qs>, ParsedValue<'qs>)],
     right: &[(Key<'qs>, ParsedValue<'qs>)],
 ) -> bool
-    ensures { result ≡ entries_same (entries_from (held left.now)) (entries_from (held right.now)) }
+    ensures { result ≡ entries_same (entries_from (key_trees left.now)) (entries_from (key_trees right.now)) }
 {
     if left.len() != right.len() {
         return false;
@@ -47,6 +47,7 @@ pub(crate) fn same_entries<'qs>(
     true
 }
 
+// Whether two entries are equal.
 #[cycle(sameness)]
 fn same_entry<'qs>(
     left: &(Key<'qs>, ParsedValue<'qs>),
@@ -57,7 +58,7 @@ fn same_entry<'qs>(
     left.0 == right.0 && same_nodes(&left.1, &right.1)
 }
 
-// Whether the items are the same, one by one.
+// Whether two sequences have equal items.
 #[cycle(sameness)]
 fn same_items<'qs>(left: &[ParsedValue<'qs>], right: &[ParsedValue<'qs>]) -> bool
     ensures { result ≡ items_same (items_of left.now) (items_of right.now) }

@@ -1,4 +1,4 @@
-//! Laws of keys and values, for callers. No code runs here.
+//! Laws of keys and values. Call one to use it in a proof; it does nothing.
 ghost use Rattle.std.specs.Prelude.{◌≡◌, IsTrue, ◌↔◌};
 ghost use Rattle.std.specs.Cmp.{IsTotalOrder};
 ghost use Rattle.std.specs.declared.cmp.Ordering.TheVariants.{Equal};
@@ -9,20 +9,19 @@ ghost use Rattle.qs_tree.specs.declared.tree.value.ParsedValue.{ParsedValue};
 ghost use Rattle.qs_tree.specs.tree.Keys.{key_cmp, key_eq, value_eq};
 ghost use Rattle.qs_tree.specs.tree.Views.{segment_of_key, tree_of};
 
-/// Keys are ordered as their segments: in total, and whoever owns their bytes.
+/// The order of keys is that of their segments, which ignores ownership, and is total.
 pub fn order_of_keys()
     ensures segments { (a b : Key) → key_cmp a b ≡ compare_segments (segment_of_key a) (segment_of_key b) }
     ensures total { IsTotalOrder key_cmp }
 {}
 
-/// Two keys are equal where their segments are, so a borrowed text and an owned one with the same bytes; and where their order
-/// says so.
+/// Two keys are equal exactly where their segments are, which ignores ownership, and where they compare as `Equal`.
 pub fn equality_of_keys()
     ensures segments { (a b : Key) → IsTrue (key_eq a b) ↔ segment_of_key a ≡ segment_of_key b }
     ensures order { (a b : Key) → IsTrue (key_eq a b) ↔ key_cmp a b ≡ Equal }
 {}
 
-/// Two values are equal where their trees are, whoever owns the bytes.
+/// Two values are equal exactly where their trees are, ignoring ownership.
 pub fn equality_of_values()
     ensures { (a b : ParsedValue) → IsTrue (value_eq a b) ↔ unmarked (tree_of a) ≡ unmarked (tree_of b) }
 {}

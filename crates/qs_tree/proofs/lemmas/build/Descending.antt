@@ -1,20 +1,20 @@
--- What a step on the way along a path leaves.
+-- What a step of a zipper leaves.
 use Rattle.std.proofs.Common.{◌≡◌, Bool, List, [], ◌∷◌, ◌++◌, Option, Some, None, option_map, option_and_then, refl, sym, ap, subst, ◌∙◌, append-nil}
 use Rattle.qs_spec.specs.Segment.{Step}
 use Rattle.qs_spec.specs.Leaf.{Leaf}
 use Rattle.qs_spec.specs.Tree.{Tree, Entries}
 use Rattle.qs_spec.specs.Tree.Tree.{leaf, sequence, mapping, uninitialized}
 use Rattle.qs_spec.specs.internal.InPlace.{update, add_below, add}
-use Rattle.qs_tree.specs.declared.build.descent.OpenMap.{OpenMap}
-use Rattle.qs_tree.specs.declared.build.conflict.Refusal.{Refusal}
+use Rattle.qs_tree.specs.declared.build.descent.Frame.{Frame}
+use Rattle.qs_tree.specs.declared.build.conflict.AddError.{AddError}
 use Rattle.qs_tree.specs.tree.Views.{step_of_key}
-use Rattle.qs_tree.specs.internal.build.Draft.{draft_entries, Takes}
+use Rattle.qs_tree.specs.internal.build.Builder.{built_entries, Takes}
 use Rattle.qs_tree.specs.internal.build.Adding.{IsRejected, entries_below}
 use Rattle.qs_tree.specs.internal.build.Descent.{put_back, put_all_back, IsOpen, Leads, IsBarred}
 use Rattle.qs_tree.proofs.lemmas.build.Turns.{rejected_too, updated, one_below}
 
 -- the node at a key is taken out of the map that a node is or becomes
-module _ (m : OpenMap) (before taken : Tree) (es : Entries) (is : entries_below before ≡ Some es) (takes : Takes m.key es taken (draft_entries m.map)) where
+module _ (m : Frame) (before taken : Tree) (es : Entries) (is : entries_below before ≡ Some es) (takes : Takes m.key es taken (built_entries m.map)) where
   kept : (o : Option Tree) → option_map mapping (option_and_then (λ u. update (step_of_key m.key) (λ _. Some u) es) o) ≡ option_and_then (put_back m) o
   kept None = refl
   kept (Some u) = ap (option_map mapping) (sym (takes.rest u))
@@ -32,15 +32,15 @@ joined : {A B C : Type 0} (g : B → Option C) (h : A → Option B) (o : Option 
 joined g h None = refl
 joined g h (Some a) = refl
 
-pub put_lowest : (ms : List OpenMap) (m : OpenMap) (t : Tree) → put_all_back (ms ++ m ∷ []) t ≡ option_and_then (put_all_back ms) (put_back m t)
+pub put_lowest : (ms : List Frame) (m : Frame) (t : Tree) → put_all_back (ms ++ m ∷ []) t ≡ option_and_then (put_all_back ms) (put_back m t)
 put_lowest [] m t = sym (itself (put_back m t))
 put_lowest (n ∷ ms) m t = ap (option_and_then (put_back n)) (put_lowest ms m t) ∙ joined (put_back n) (put_all_back ms) (put_back m t)
 
-put_lowest_if : (ms : List OpenMap) (m : OpenMap) (o : Option Tree) → option_and_then (put_all_back ms) (option_and_then (put_back m) o) ≡ option_and_then (put_all_back (ms ++ m ∷ [])) o
+put_lowest_if : (ms : List Frame) (m : Frame) (o : Option Tree) → option_and_then (put_all_back ms) (option_and_then (put_back m) o) ≡ option_and_then (put_all_back (ms ++ m ∷ [])) o
 put_lowest_if ms m None = refl
 put_lowest_if ms m (Some t) = sym (put_lowest ms m t)
 
--- the way begins
+-- a zipper without frames
 pub begins : (path : List Step) (node : Tree) → Leads path node [] path node
 begins path node tail push l = sym (itself (add (path ++ tail) push l node))
 
@@ -50,29 +50,29 @@ nothing_below s f (sequence xs) none = refl
 nothing_below s f (mapping es) none = cc
 nothing_below s f uninitialized none = cc
 
-module _ (path : List Step) (node : Tree) (ms : List OpenMap) (s : Step) (rest : List Step) (end : Tree) (way : Leads path node ms (s ∷ rest) end) where
+module _ (path : List Step) (node : Tree) (ms : List Frame) (s : Step) (rest : List Step) (end : Tree) (way : Leads path node ms (s ∷ rest) end) where
   -- and goes on below one map more
-  pub goes_on : (m : OpenMap) (taken : Tree) → IsOpen s end m taken → Leads path node (ms ++ m ∷ []) rest taken
+  pub goes_on : (m : Frame) (taken : Tree) → IsOpen s end m taken → Leads path node (ms ++ m ∷ []) rest taken
   goes_on m taken opens tail push l = way tail push l ∙ ap (option_and_then (put_all_back ms)) (opens (add (rest ++ tail) push l)) ∙ put_lowest_if ms m (add (rest ++ tail) push l taken)
 
   -- or ends at a node that nothing goes below
-  pub ends : (refusal : Refusal) → IsRejected (entries_below end) refusal → IsBarred path node refusal
-  ends refusal h tail push l = λ other. way tail push l ∙ ap (option_and_then (put_all_back ms)) (nothing_below s (add (rest ++ tail) push l) end (h other))
+  pub ends : (error : AddError) → IsRejected (entries_below end) error → IsBarred path node error
+  ends error h tail push l = λ other. way tail push l ∙ ap (option_and_then (put_all_back ms)) (nothing_below s (add (rest ++ tail) push l) end (h other))
 
--- what is made at the end of the way is put back, or there is nothing
-module _ (push : Bool) (l : Leaf) (path : List Step) (node : Tree) (ms : List OpenMap) (end : Tree) (way : Leads path node ms [] end) where
+-- the new node at the end is put back, or there is a conflict
+module _ (push : Bool) (l : Leaf) (path : List Step) (node : Tree) (ms : List Frame) (end : Tree) (way : Leads path node ms [] end) where
   whole_way : add path push l node ≡ option_and_then (put_all_back ms) (add [] push l end)
   whole_way = ap (λ p. add p push l node) (sym (append-nil path)) ∙ way [] push l
 
-  pub rejected_at_end : (refusal : Refusal) → IsRejected (add [] push l end) refusal → IsRejected (add path push l node) refusal
-  rejected_at_end refusal h = rejected_too (add [] push l end) _ refusal (λ none. whole_way ∙ ap (option_and_then (put_all_back ms)) none) h
+  pub rejected_at_end : (error : AddError) → IsRejected (add [] push l end) error → IsRejected (add path push l node) error
+  rejected_at_end error h = rejected_too (add [] push l end) _ error (λ none. whole_way ∙ ap (option_and_then (put_all_back ms)) none) h
 
   pub added_at_end : (made whole : Tree) → add [] push l end ≡ Some made → put_all_back ms made ≡ Some whole → add path push l node ≡ Some whole
   added_at_end made whole is h = whole_way ∙ ap (option_and_then (put_all_back ms)) is ∙ h
 
-  pub lost_at_end : (made : Tree) (refusal : Refusal) → add [] push l end ≡ Some made → IsRejected (put_all_back ms made) refusal → IsRejected (add path push l node) refusal
-  lost_at_end made refusal is h = λ other. whole_way ∙ ap (option_and_then (put_all_back ms)) is ∙ h other
+  pub lost_at_end : (made : Tree) (error : AddError) → add [] push l end ≡ Some made → IsRejected (put_all_back ms made) error → IsRejected (add path push l node) error
+  lost_at_end made error is h = λ other. whole_way ∙ ap (option_and_then (put_all_back ms)) is ∙ h other
 
 -- a pair whose path ends here
-pub barred_at_end : (push : Bool) (l : Leaf) (path : List Step) (node : Tree) (refusal : Refusal) → IsBarred path node refusal → IsRejected (add path push l node) refusal
-barred_at_end push l path node refusal h = subst (λ p. IsRejected (add p push l node) refusal) (append-nil path) (h [] push l)
+pub barred_at_end : (push : Bool) (l : Leaf) (path : List Step) (node : Tree) (error : AddError) → IsBarred path node error → IsRejected (add path push l node) error
+barred_at_end push l path node error h = subst (λ p. IsRejected (add p push l node) error) (append-nil path) (h [] push l)

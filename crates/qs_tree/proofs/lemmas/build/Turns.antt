@@ -1,5 +1,5 @@
 -- What a step of adding a pair leaves.
-use Rattle.std.proofs.Common.{◌≡◌, Bool, false, List, [], ◌∷◌, Option, Some, None, option_map, option_and_then, Result, Ok, Err, Ordering, Less, Equal, Greater, refl, sym, ap, subst, ◌∙◌}
+use Rattle.std.proofs.Common.{◌≡◌, Bool, false, List, ◌∷◌, Option, Some, None, option_map, option_and_then, Result, Ok, Err, Ordering, Less, Equal, Greater, refl, sym, ap, subst, ◌∙◌}
 use Rattle.std.proofs.lemmas.Option.{same_Some}
 use Rattle.std.specs.Result.{IsErrAnd}
 use Rattle.qs_spec.specs.Segment.{Segment, Step, compare_segments}
@@ -9,18 +9,18 @@ use Rattle.qs_spec.specs.Tree.Tree.{leaf, sequence, mapping, uninitialized}
 use Rattle.qs_spec.specs.Tree.Entries.{no_entries, entry}
 use Rattle.qs_spec.specs.internal.InPlace.{update, update_by, add_below, add_flat, add_here, add}
 use Rattle.qs_spec.proofs.Order.{segments_total}
-use Rattle.qs_tree.specs.declared.build.conflict.Refusal.{Refusal}
+use Rattle.qs_tree.specs.declared.build.conflict.AddError.{AddError}
 use Rattle.qs_tree.specs.tree.Views.{find}
 use Rattle.qs_tree.specs.tree.Ordered.{IsBefore, AreOrdered}
-use Rattle.qs_tree.specs.internal.build.Draft.{child}
+use Rattle.qs_tree.specs.internal.build.Builder.{child}
 use Rattle.qs_tree.specs.internal.build.Adding.{Gives, IsRejected, entries_below}
 
-pub gives_err : {A B : Type 0} (view : A → B) (expected : Option B) (r : Result A Refusal) (e : Refusal) (Q : Refusal → Type 0)
-    → IsErrAnd r Q → ((y : Refusal) → Q y → y ≡ e) → IsRejected expected e → Gives view expected r
+pub gives_err : {A B : Type 0} (view : A → B) (expected : Option B) (r : Result A AddError) (e : AddError) (Q : AddError → Type 0)
+    → IsErrAnd r Q → ((y : AddError) → Q y → y ≡ e) → IsRejected expected e → Gives view expected r
 gives_err view expected (Ok a) e Q h same rejected = absurd h
 gives_err view expected (Err y) e Q h same rejected = subst (IsRejected expected) (sym (same y h)) rejected
 
-pub rejected_too : {B C : Type 0} (expected : Option B) (expected' : Option C) (e : Refusal) → (expected ≡ None → expected' ≡ None) → IsRejected expected e → IsRejected expected' e
+pub rejected_too : {B C : Type 0} (expected : Option B) (expected' : Option C) (e : AddError) → (expected ≡ None → expected' ≡ None) → IsRejected expected e → IsRejected expected' e
 rejected_too expected expected' e none h = λ other. none (h other)
 
 -- what is done at a segment is done to the node that is there, which is put back
@@ -54,8 +54,8 @@ module _ (s : Step) (f : Tree → Option Tree) where
     pub put_there : (kept new : Entries) (u : Tree) → f x ≡ Some u → ((u : Tree) → update s (λ _. Some u) kept ≡ update s (λ _. Some u) es) → update s (λ _. Some u) kept ≡ Some new → update s f es ≡ Some new
     put_there kept new u step same put = updated es ordered ∙ ap (λ t. option_and_then (put_back es) (f t)) (sym there) ∙ ap (option_and_then (put_back es)) step ∙ sym (same u) ∙ put
 
-    pub refused_there : f x ≡ None → update s f es ≡ None
-    refused_there step = updated es ordered ∙ ap (λ t. option_and_then (put_back es) (f t)) (sym there) ∙ ap (option_and_then (put_back es)) step
+    pub rejected_there : f x ≡ None → update s f es ≡ None
+    rejected_there step = updated es ordered ∙ ap (λ t. option_and_then (put_back es) (f t)) (sym there) ∙ ap (option_and_then (put_back es)) step
 
 -- one level down from a node that is a map or becomes one
 fresh_below : (s : Step) (o : Option Tree) → option_map (λ u. mapping (entry s.seg s.mark u no_entries)) o ≡ option_map mapping (option_map (λ u. entry s.seg s.mark u no_entries) o)
@@ -69,12 +69,12 @@ one_below s f (mapping ms) es is = rw (same_Some ms es is)
 one_below s f uninitialized es is = rw (← same_Some no_entries es is) (fresh_below s (f uninitialized))
 
 -- what is done below a map
-pub below_map : (s : Step) (rest : List Step) (push : Bool) (l : Leaf) (es new : Entries) (r : Result (Unit {0}) Refusal)
+pub below_map : (s : Step) (rest : List Step) (push : Bool) (l : Leaf) (es new : Entries) (r : Result (Unit {0}) AddError)
     → Gives (λ _. new) (update s (add rest push l) es) r → Gives (λ _. mapping new) (add (s ∷ rest) push l (mapping es)) r
 below_map s rest push l es new (Ok a) h = ap (option_map mapping) h
 below_map s rest push l es new (Err e) h = rejected_too _ _ e (λ none. ap (option_map mapping) none) h
 
 -- what is done at a map's empty text
-pub at_map : (l : Leaf) (es new : Entries) (r : Result (Unit {0}) Refusal) → Gives (λ _. new) (update empty_step (add_flat false l) es) r → Gives (λ _. mapping new) (add_here false l (mapping es)) r
+pub at_map : (l : Leaf) (es new : Entries) (r : Result (Unit {0}) AddError) → Gives (λ _. new) (update empty_step (add_flat false l) es) r → Gives (λ _. mapping new) (add_here false l (mapping es)) r
 at_map l es new (Ok a) h = ap (option_map mapping) h
 at_map l es new (Err e) h = rejected_too _ _ e (λ none. ap (option_map mapping) none) h

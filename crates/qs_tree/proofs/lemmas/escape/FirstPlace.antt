@@ -1,4 +1,4 @@
--- The first place at which a test passes: from what stands before it, and back.
+-- The first index at which a test passes, from the elements before it, and back.
 use Rattle.std.proofs.Common.{◌≡◌, ℕ, zero, suc, Option, ◌<◌, ◌≤◌, true, false, Bool, List, [], ◌∷◌, length, get_or, ap, ◌∙◌, arith, sym, Some, None, ltb, inl, inr}
 use Rattle.std.specs.Option.{is_some}
 use Rattle.std.specs.List.{position_or_len, position, list_any}

@@ -8,15 +8,17 @@ use Rattle.qs_spec.specs.Leaf.{NoValue}
 use Rattle.qs_spec.specs.Grammar.{Pair, direct, root, is_amp, ends_root}
 use Rattle.qs_spec.specs.internal.Parsing.{Rest, cut, cut_at, with_leaf, value_at, parsed_brackets, after_root, after_root_at, named, parsed_pairs, and_pairs}
 use Rattle.qs_spec.proofs.ReadOn.{after_ampersand, after_pair}
+use Rattle.qs_spec.proofs.Booleans.{and_both}
 use Rattle.qs_tree.specs.declared.scan.cursor.Token as code
 use Rattle.qs_tree.specs.declared.scan.cursor.Cursor as cursor
 use Rattle.qs_tree.specs.declared.scan.pair.Pair as code_pair
-use Rattle.qs_tree.specs.declared.scan.reading.Item as item
-use Rattle.qs_tree.specs.declared.scan.reading.Fault as fault
+use Rattle.qs_tree.specs.declared.scan.parser.Item as item
+use Rattle.qs_tree.specs.declared.scan.parser.ParseError as parse_error
 use Rattle.qs_tree.specs.internal.scan.Pairs.{pair_of}
-use Rattle.qs_tree.specs.internal.scan.Cursor.{kind_of_token, token_of, behind, left, IsPast}
-use Rattle.qs_tree.specs.internal.scan.Reading.{is_nothing, IsFault, ReadsPair, ReadsItem, root_path, behind_root, behind_root_at}
-use Rattle.qs_tree.proofs.lemmas.scan.BehindKeys.{HasBytes}
+use Rattle.qs_tree.specs.internal.scan.Cursor.{kind_of_token, token_of, from_token, left, IsPast}
+use Rattle.qs_tree.specs.internal.scan.Parser.{is_nothing, IsParseError, ParsesPair, ParsesItem, root_path, from_root, from_root_at}
+use Rattle.qs_tree.proofs.lemmas.scan.AfterKeys.{HasBytes}
+use Rattle.qs_tree.proofs.lemmas.scan.Values.{is_amp_of}
 
 -- a token's bytes are some
 not_empty : (t : Token) (more : List ℕ) → HasBytes (t ∷ []) → (length (t.raw ++ more) == 0) ≡ true → ⊥
@@ -30,21 +32,10 @@ amp_ends depth Open e = cc
 amp_ends depth Close e = cc
 amp_ends depth Other e = cc
 
-is_amp_of : (k : Kind) → is_amp k ≡ true → k ≡ Amp
-is_amp_of Amp e = refl
-is_amp_of Equals e = cc
-is_amp_of Open e = cc
-is_amp_of Close e = cc
-is_amp_of Other e = cc
-
-and_both : (x y : Bool) → (x && y) ≡ true → (x ≡ true) × (y ≡ true)
-and_both true y e = (refl, e)
-and_both false y e = cc
-
 module _ (depth : ℕ) where
   -- where the root key is empty and `&` or the end follows, nothing else was there
-  nothing_tokens : (ts : List Token) (stop : Option code.Token) (rest : List Token) → HasBytes ts → (cut (ends_root depth) ts).1 ≡ behind stop rest
-      → is_nothing (raw_of (cut (ends_root depth) ts).0) stop ≡ true → ts ≡ behind stop rest
+  nothing_tokens : (ts : List Token) (stop : Option code.Token) (rest : List Token) → HasBytes ts → (cut (ends_root depth) ts).1 ≡ from_token stop rest
+      → is_nothing (raw_of (cut (ends_root depth) ts).0) stop ≡ true → ts ≡ from_token stop rest
   nothing_tokens [] stop rest h s e = s
   nothing_tokens (t ∷ ts) stop rest h s e = by (ends_root depth t.kind) s e
     where
@@ -52,19 +43,19 @@ module _ (depth : ℕ) where
       empty raw None e = e
       empty raw (Some u) e = (and_both (length raw == 0) (is_amp (kind_of_token u.kind)) e).0
 
-      by : (x : Bool) → (cut_at x t ts (cut (ends_root depth) ts)).1 ≡ behind stop rest → is_nothing (raw_of (cut_at x t ts (cut (ends_root depth) ts)).0) stop ≡ true → t ∷ ts ≡ behind stop rest
+      by : (x : Bool) → (cut_at x t ts (cut (ends_root depth) ts)).1 ≡ from_token stop rest → is_nothing (raw_of (cut_at x t ts (cut (ends_root depth) ts)).0) stop ≡ true → t ∷ ts ≡ from_token stop rest
       by true s e = s
       by false s e = absurd (not_empty t (raw_of (cut (ends_root depth) ts).0) h (empty _ stop e))
 
-  pub end_pairs : (ts : List Token) (stop : Option code.Token) (rest : List Token) → HasBytes ts → (cut (ends_root depth) ts).1 ≡ behind stop rest
+  pub end_pairs : (ts : List Token) (stop : Option code.Token) (rest : List Token) → HasBytes ts → (cut (ends_root depth) ts).1 ≡ from_token stop rest
       → is_nothing (raw_of (cut (ends_root depth) ts).0) stop ≡ true → stop ≡ None → parsed_pairs depth ts ≡ Some []
-  end_pairs ts stop rest h s e d = ap (parsed_pairs depth) (nothing_tokens ts stop rest h s e ∙ ap (λ o. behind o rest) d)
+  end_pairs ts stop rest h s e d = ap (parsed_pairs depth) (nothing_tokens ts stop rest h s e ∙ ap (λ o. from_token o rest) d)
 
-  pub ampersand_pairs : (ts : List Token) (stop : Option code.Token) (t : code.Token) (rest : List Token) → HasBytes ts → (cut (ends_root depth) ts).1 ≡ behind stop rest
+  pub ampersand_pairs : (ts : List Token) (stop : Option code.Token) (t : code.Token) (rest : List Token) → HasBytes ts → (cut (ends_root depth) ts).1 ≡ from_token stop rest
       → is_nothing (raw_of (cut (ends_root depth) ts).0) stop ≡ true → stop ≡ Some t → parsed_pairs depth ts ≡ parsed_pairs depth rest
   ampersand_pairs ts stop t rest h s e d =
       let amp = and_both _ (is_amp (kind_of_token t.kind)) (sym (ap (is_nothing (raw_of (cut (ends_root depth) ts).0)) d) ∙ e) in
-      ap (parsed_pairs depth) (nothing_tokens ts stop rest h s e ∙ ap (λ o. behind o rest) d) ∙ after_ampersand depth (token_of t) rest (is_amp_of (kind_of_token t.kind) amp.1)
+      ap (parsed_pairs depth) (nothing_tokens ts stop rest h s e ∙ ap (λ o. from_token o rest) d) ∙ after_ampersand depth (token_of t) rest (is_amp_of (kind_of_token t.kind) amp.1)
 
   -- a root key as raw bytes
   root_is : (key : List Token) → HasBytes key → root key ≡ root_path (raw_of key)
@@ -80,7 +71,7 @@ module _ (depth : ℕ) where
       by false = h
 
   -- after a root key that isn't nothing
-  after_key : (key : List Token) (stop : Option code.Token) (rest : List Token) → HasBytes key → is_nothing (raw_of key) stop ≡ false → after_root depth key (behind stop rest) ≡ behind_root depth (raw_of key) (behind stop rest)
+  after_key : (key : List Token) (stop : Option code.Token) (rest : List Token) → HasBytes key → is_nothing (raw_of key) stop ≡ false → after_root depth key (from_token stop rest) ≡ from_root depth (raw_of key) (from_token stop rest)
   after_key [] None rest h e = cc
   after_key (t ∷ key) None rest h e = ap (λ p. Some (direct p NoValue, [])) (root_is (t ∷ key) h)
   after_key key (Some u) rest h e = by (kind_of_token u.kind) refl key h e
@@ -90,15 +81,15 @@ module _ (depth : ℕ) where
       named_is (t ∷ key) h e = ap (λ p. Some (direct p NoValue, token_of u ∷ rest)) (root_is (t ∷ key) h)
 
       by : (k : Kind) → kind_of_token u.kind ≡ k → (key : List Token) → HasBytes key → (length (raw_of key) == 0 && is_amp (kind_of_token u.kind)) ≡ false
-          → after_root_at k depth key (token_of u) rest ≡ behind_root_at k depth (root_path (raw_of key)) (token_of u) rest
+          → after_root_at k depth key (token_of u) rest ≡ from_root_at k depth (root_path (raw_of key)) (token_of u) rest
       by Amp d key h e = named_is key h (sym (ap (λ k. length (raw_of key) == 0 && is_amp k) d) ∙ e) ∙ sym (ap (λ k. with_leaf (direct (root_path (raw_of key))) (value_at k (token_of u) rest)) d)
       by Equals d key h e = ap (λ p. with_leaf (direct p) (value_at Equals (token_of u) rest)) (root_is key h) ∙ sym (ap (λ k. with_leaf (direct (root_path (raw_of key))) (value_at k (token_of u) rest)) d)
       by Open d key h e = ap (λ p. parsed_brackets depth p u.raw.now rest) (root_is key h)
       by Close d key h e = refl
       by Other d key h e = refl
 
-  pub pair_pairs : (ts : List Token) (stop : Option code.Token) (rest : List Token) → HasBytes ts → (cut (ends_root depth) ts).1 ≡ behind stop rest
-      → is_nothing (raw_of (cut (ends_root depth) ts).0) stop ≡ false → parsed_pairs depth ts ≡ and_pairs depth (behind_root depth (raw_of (cut (ends_root depth) ts).0) (behind stop rest))
+  pub pair_pairs : (ts : List Token) (stop : Option code.Token) (rest : List Token) → HasBytes ts → (cut (ends_root depth) ts).1 ≡ from_token stop rest
+      → is_nothing (raw_of (cut (ends_root depth) ts).0) stop ≡ false → parsed_pairs depth ts ≡ and_pairs depth (from_root depth (raw_of (cut (ends_root depth) ts).0) (from_token stop rest))
   pair_pairs [] None rest h s e = cc
   pair_pairs [] (Some u) rest h s e = cc
   pair_pairs (t ∷ ts) stop rest h s e =
@@ -110,23 +101,23 @@ module _ (depth : ℕ) where
       by false d = d
       by true d = absurd (amp stop (sym (ap (λ x. (cut_at x t ts (cut (ends_root depth) ts)).1) (amp_ends depth t.kind d)) ∙ s) (sym (ap (λ x. is_nothing (raw_of (cut_at x t ts (cut (ends_root depth) ts)).0) stop) (amp_ends depth t.kind d)) ∙ e))
         where
-          amp : (stop : Option code.Token) → t ∷ ts ≡ behind stop rest → is_nothing [] stop ≡ false → ⊥
+          amp : (stop : Option code.Token) → t ∷ ts ≡ from_token stop rest → is_nothing [] stop ≡ false → ⊥
           amp None s e = cc
           amp (Some u) s e = let same : t ≡ token_of u = cc in let w : is_amp (kind_of_token u.kind) ≡ true = ap (λ (v : Token). is_amp v.kind) (sym same) ∙ d in cc
 
-  -- past a pair stand the pairs of what is left
+  -- after a pair there are the pairs of what is left
   past_pairs : (rest : List Token) (new : cursor.Cursor) → IsPast rest new → parsed_pairs depth rest ≡ parsed_pairs depth (left new)
   past_pairs [] new h = sym (ap (λ l. parsed_pairs depth (tokens new.form l)) h)
   past_pairs (t ∷ ts) new h = after_ampersand depth t ts h.0 ∙ ap (parsed_pairs depth) h.1
 
-  pub pair_item : (ts : List Token) (found : Rest Pair) (a : Unit {0}) (new : cursor.Cursor) (p : code_pair.Pair) → parsed_pairs depth ts ≡ and_pairs depth found → ReadsPair found (Ok a) new p → ReadsItem depth ts (Ok item.TheVariants.Pair) new p
+  pub pair_item : (ts : List Token) (found : Rest Pair) (a : Unit {0}) (new : cursor.Cursor) (p : code_pair.Pair) → parsed_pairs depth ts ≡ and_pairs depth found → ParsesPair found (Ok a) new p → ParsesItem depth ts (Ok item.TheVariants.Pair) new p
   pair_item ts found a new p e h = e ∙ ap (and_pairs depth) h.1 ∙ ap (option_map (λ ps. pair_of p ∷ ps)) (past_pairs h.0 new h.2)
 
-  fault_same : (ts : List Token) (found : Rest Pair) (f : fault.Fault) → parsed_pairs depth ts ≡ and_pairs depth found → IsFault found f → IsFault (parsed_pairs depth ts) f
-  fault_same ts found (fault.TheVariants.Unread reason) e h = e ∙ ap (and_pairs depth) h
-  fault_same ts found fault.TheVariants.OutOfMemory e h = tt
+  error_same : (ts : List Token) (found : Rest Pair) (f : parse_error.ParseError) → parsed_pairs depth ts ≡ and_pairs depth found → IsParseError found f → IsParseError (parsed_pairs depth ts) f
+  error_same ts found (parse_error.TheVariants.Syntax error) e h = e ∙ ap (and_pairs depth) h
+  error_same ts found parse_error.TheVariants.OutOfMemory e h = tt
 
-  pub fault_item : (ts : List Token) (found : Rest Pair) (o : Result item.Item fault.Fault) (f : fault.Fault) (Q : fault.Fault → Type 0) (new : cursor.Cursor) (p : code_pair.Pair) → IsErrAnd o Q → ((g : fault.Fault) → Q g → g ≡ f)
-      → parsed_pairs depth ts ≡ and_pairs depth found → IsFault found f → ReadsItem depth ts o new p
-  fault_item ts found (Ok i) f Q new p h same e fault = absurd h
-  fault_item ts found (Err g) f Q new p h same e fault = fault_same ts found g e (subst (IsFault found) (sym (same g h)) fault)
+  pub error_item : (ts : List Token) (found : Rest Pair) (o : Result item.Item parse_error.ParseError) (f : parse_error.ParseError) (Q : parse_error.ParseError → Type 0) (new : cursor.Cursor) (p : code_pair.Pair) → IsErrAnd o Q → ((g : parse_error.ParseError) → Q g → g ≡ f)
+      → parsed_pairs depth ts ≡ and_pairs depth found → IsParseError found f → ParsesItem depth ts o new p
+  error_item ts found (Ok i) f Q new p h same e parse_error = absurd h
+  error_item ts found (Err g) f Q new p h same e parse_error = error_same ts found g e (subst (IsParseError found) (sym (same g h)) parse_error)

@@ -6,7 +6,7 @@ use Rattle.std.proofs.lemmas.List.{drop_more, take_all}
 use Rattle.qs_spec.specs.Token.{Kind, Token, tokens, byte_token, is_escaped_bracket, raw_of}
 use Rattle.qs_spec.specs.internal.Parsing.{cut, cut_at}
 use Rattle.qs_tree.specs.declared.scan.cursor.Token as code
-use Rattle.qs_tree.specs.internal.scan.Cursor.{kind_of_token, token_of, behind, taken, IsLeft, IsLetter}
+use Rattle.qs_tree.specs.internal.scan.Cursor.{kind_of_token, token_of, from_token, taken, IsLeft, IsLetter}
 use Rattle.qs_tree.proofs.lemmas.scan.Values.{stop_ends}
 
 count : (start rest raw next : List ℕ) → IsLeft start rest → rest ≡ raw ++ next → length start - length next ≡ (length start - length rest) + length raw
@@ -72,6 +72,6 @@ module _ (ends : Kind → Bool) (form : Bool) (bytes : List ℕ) where
       other
 
 -- what follows a run ends it
-pub stop_kind : (ends : Kind → Bool) (ts : List Token) (stop : Option code.Token) (us : List Token) → (cut ends ts).1 ≡ behind stop us → IfSome stop (λ t. ends (kind_of_token t.kind) ≡ true)
+pub stop_kind : (ends : Kind → Bool) (ts : List Token) (stop : Option code.Token) (us : List Token) → (cut ends ts).1 ≡ from_token stop us → IfSome stop (λ t. ends (kind_of_token t.kind) ≡ true)
 stop_kind ends ts None us e = tt
 stop_kind ends ts (Some t) us e = stop_ends ends ts (token_of t) us e

@@ -9,17 +9,17 @@ use Rattle.qs_spec.proofs.Booleans.{and_both}
 use Rattle.qs_tree.specs.declared.scan.cursor.Token as code
 use Rattle.qs_tree.specs.declared.scan.cursor.Cursor as cursor
 use Rattle.qs_tree.specs.declared.scan.pair.Pair as code_pair
-use Rattle.qs_tree.specs.declared.scan.reading.Item as item
-use Rattle.qs_tree.specs.declared.scan.reading.Fault as fault
-use Rattle.qs_tree.specs.declared.build.draft.Draft.{Draft}
-use Rattle.qs_tree.specs.declared.build.draft.Draft.TheVariants.{Fresh}
-use Rattle.qs_tree.specs.internal.build.Draft.{IsNoMap, IsFlat}
-use Rattle.qs_tree.proofs.lemmas.Views.{draft_tree-Fresh}
+use Rattle.qs_tree.specs.declared.scan.parser.Item as item
+use Rattle.qs_tree.specs.declared.scan.parser.ParseError as parse_error
+use Rattle.qs_tree.specs.declared.build.builder.TreeBuilder.{TreeBuilder}
+use Rattle.qs_tree.specs.declared.build.builder.TreeBuilder.TheVariants.{Empty}
+use Rattle.qs_tree.specs.internal.build.Builder.{IsNoMap, IsFlat}
+use Rattle.qs_tree.proofs.lemmas.Views.{built_tree-Empty}
 use Rattle.qs_tree.specs.escape.Classes.{is_ampersand}
-use Rattle.qs_tree.specs.internal.scan.Cursor.{kind_of_token, token_of, raw_behind, behind}
-use Rattle.qs_tree.specs.internal.scan.Reading.{is_nothing}
+use Rattle.qs_tree.specs.internal.scan.Cursor.{kind_of_token, token_of, raw_from_token, from_token}
+use Rattle.qs_tree.specs.internal.scan.Parser.{is_nothing}
 use Rattle.qs_tree.specs.Parsing.{is_ampersands, is_plain, is_plain_value, TakesNoMemory}
-use Rattle.qs_tree.specs.internal.scan.Small.{IsEqualsStop, ReadsSmall, StaysSmall}
+use Rattle.qs_tree.specs.internal.scan.Small.{IsEqualsStop, ParsesSmall, StaysSmall}
 
 -- a byte other than `%` is a token by itself
 alone : (form : Bool) (b : ℕ) (rest : List ℕ) → (b == 37) ≡ false → tokens form (b ∷ rest) ≡ byte_token b ∷ tokens form rest
@@ -46,15 +46,15 @@ record Begins (b : ℕ) (more key : List ℕ) (stop : Option code.Token) (after 
 
 module _ (depth : ℕ) (form : Bool) where
   begins : (b : ℕ) (more key : List ℕ) (stop : Option code.Token) (rest : List Token) (after : List ℕ) → key ≡ raw_of (cut (ends_root depth) (tokens form (b ∷ more))).0
-      → (cut (ends_root depth) (tokens form (b ∷ more))).1 ≡ behind stop rest → b ∷ more ≡ key ++ raw_behind stop after → (b == 37) ≡ false → (is_amp (byte_kind b) || is_equals (byte_kind b)) ≡ true
+      → (cut (ends_root depth) (tokens form (b ∷ more))).1 ≡ from_token stop rest → b ∷ more ≡ key ++ raw_from_token stop after → (b == 37) ≡ false → (is_amp (byte_kind b) || is_equals (byte_kind b)) ≡ true
       → Begins b more key stop after
   begins b more key stop rest after run token whole h e =
       let c : cut (ends_root depth) (tokens form (b ∷ more)) ≡ ([], byte_token b ∷ tokens form more) =
       ap (cut (ends_root depth)) (alone form b more h) ∙ ap (λ x. cut_at x (byte_token b) (tokens form more) (cut (ends_root depth) (tokens form more))) (ends_at depth (byte_kind b) e) in
       let none : key ≡ [] = run ∙ ap (λ (c : List Token × List Token). raw_of c.0) c in
-      by stop none (sym (ap (λ (c : List Token × List Token). c.1) c) ∙ token) (whole ∙ ap (λ k. k ++ raw_behind stop after) none)
+      by stop none (sym (ap (λ (c : List Token × List Token). c.1) c) ∙ token) (whole ∙ ap (λ k. k ++ raw_from_token stop after) none)
     where
-      by : (stop : Option code.Token) → key ≡ [] → byte_token b ∷ tokens form more ≡ behind stop rest → b ∷ more ≡ raw_behind stop after → Begins b more key stop after
+      by : (stop : Option code.Token) → key ≡ [] → byte_token b ∷ tokens form more ≡ from_token stop rest → b ∷ more ≡ raw_from_token stop after → Begins b more key stop after
       by None n t w = cc
       by (Some u) n t w =
           let same : byte_token b ≡ token_of u = cc in
@@ -69,12 +69,12 @@ module _ (depth : ℕ) (form : Bool) where
   equals_byte b e = ap byte_kind (eqb-true b 61 e)
 
   module _ (key : List ℕ) (stop : Option code.Token) (rest : List Token) (after : List ℕ) where
-    -- an `&` before which nothing stands
-    pub small_nothing : (bytes : List ℕ) (t : code.Token) → key ≡ raw_of (cut (ends_root depth) (tokens form bytes)).0 → (cut (ends_root depth) (tokens form bytes)).1 ≡ behind stop rest → bytes ≡ key ++ raw_behind stop after
+    -- an `&` with nothing before it
+    pub small_nothing : (bytes : List ℕ) (t : code.Token) → key ≡ raw_of (cut (ends_root depth) (tokens form bytes)).0 → (cut (ends_root depth) (tokens form bytes)).1 ≡ from_token stop rest → bytes ≡ key ++ raw_from_token stop after
         → TakesNoMemory bytes → is_nothing key stop ≡ true → stop ≡ Some t → is_ampersands after ≡ true
     small_nothing bytes t run token whole small nothing is = by (is_ampersands bytes) refl small
       where
-        value : (bytes : List ℕ) → is_plain_value bytes ≡ true → key ≡ raw_of (cut (ends_root depth) (tokens form bytes)).0 → (cut (ends_root depth) (tokens form bytes)).1 ≡ behind stop rest → bytes ≡ key ++ raw_behind stop after → ⊥
+        value : (bytes : List ℕ) → is_plain_value bytes ≡ true → key ≡ raw_of (cut (ends_root depth) (tokens form bytes)).0 → (cut (ends_root depth) (tokens form bytes)).1 ≡ from_token stop rest → bytes ≡ key ++ raw_from_token stop after → ⊥
         value [] e run token whole = cc
         value (b ∷ v) e run token whole =
             let parts = and_both (b == 61) (is_plain v) e in
@@ -85,18 +85,18 @@ module _ (depth : ℕ) (form : Bool) where
 
         by : (x : Bool) → is_ampersands bytes ≡ x → (x || is_plain_value bytes) ≡ true → is_ampersands after ≡ true
         by true e s =
-            let all = sym (list_all-append is_ampersand key (raw_behind stop after)) ∙ ap is_ampersands (sym whole) ∙ e in
-            let behind_key = and_both (is_ampersands key) (is_ampersands (raw_behind stop after)) all in
-            let behind_token = sym (list_all-append is_ampersand t.raw.now after) ∙ ap (λ o. is_ampersands (raw_behind o after)) (sym is) ∙ behind_key.1 in
+            let all = sym (list_all-append is_ampersand key (raw_from_token stop after)) ∙ ap is_ampersands (sym whole) ∙ e in
+            let behind_key = and_both (is_ampersands key) (is_ampersands (raw_from_token stop after)) all in
+            let behind_token = sym (list_all-append is_ampersand t.raw.now after) ∙ ap (λ o. is_ampersands (raw_from_token o after)) (sym is) ∙ behind_key.1 in
             (and_both (is_ampersands t.raw.now) (is_ampersands after) behind_token).1
         by false e s = absurd (value bytes s run token whole)
 
-    -- an empty key before `=` and a value that stands for itself
-    pub small_value : (bytes : List ℕ) → key ≡ raw_of (cut (ends_root depth) (tokens form bytes)).0 → (cut (ends_root depth) (tokens form bytes)).1 ≡ behind stop rest → bytes ≡ key ++ raw_behind stop after
+    -- an empty key before `=` and a value that is decoded to itself
+    pub small_value : (bytes : List ℕ) → key ≡ raw_of (cut (ends_root depth) (tokens form bytes)).0 → (cut (ends_root depth) (tokens form bytes)).1 ≡ from_token stop rest → bytes ≡ key ++ raw_from_token stop after
         → TakesNoMemory bytes → is_nothing key stop ≡ false → (key ≡ []) × IsEqualsStop stop × (is_plain after ≡ true)
     small_value [] run token whole small some = absurd (by stop token (sym (ap (λ k. is_nothing k stop) run) ∙ some))
       where
-        by : (stop : Option code.Token) → [] ≡ behind stop rest → is_nothing [] stop ≡ false → ⊥
+        by : (stop : Option code.Token) → [] ≡ from_token stop rest → is_nothing [] stop ≡ false → ⊥
         by None e d = cc
         by (Some t) e d = cc
     small_value (b ∷ v) run token whole small some = by (is_ampersands (b ∷ v)) refl small
@@ -116,27 +116,27 @@ module _ (depth : ℕ) (form : Bool) where
             (h.empty, subst IsEqualsStop (sym h.is) (ap is_equals (h.kind ∙ k)), ap is_plain h.left ∙ parts.1)
 
 -- one item more of what is left of such an input
-pub small_start : (rest : List ℕ) (tree : Draft) → TakesNoMemory rest → tree ≡ Fresh → StaysSmall rest tree
+pub small_start : (rest : List ℕ) (tree : TreeBuilder) → TakesNoMemory rest → tree ≡ Empty → StaysSmall rest tree
 small_start rest tree small fresh = inr (small, fresh)
 
-pub small_end : (rest : List ℕ) (tree : Draft) → rest ≡ [] → IsFlat tree → StaysSmall rest tree
+pub small_end : (rest : List ℕ) (tree : TreeBuilder) → rest ≡ [] → IsFlat tree → StaysSmall rest tree
 small_end rest tree none flat = inl (none, flat)
 
-small_read : (rest : List ℕ) (tree : Draft) → StaysSmall rest tree → TakesNoMemory rest
+small_read : (rest : List ℕ) (tree : TreeBuilder) → StaysSmall rest tree → TakesNoMemory rest
 small_read rest tree (inl h) = subst TakesNoMemory (sym h.0) refl
 small_read rest tree (inr h) = h.0
 
-pub small_flat : (rest : List ℕ) (tree : Draft) → StaysSmall rest tree → IsFlat tree
+pub small_flat : (rest : List ℕ) (tree : TreeBuilder) → StaysSmall rest tree → IsFlat tree
 small_flat rest tree (inl h) = h.1
-small_flat rest tree (inr h) = subst IsFlat (sym h.1) (subst IsNoMap (sym draft_tree-Fresh) tt)
+small_flat rest tree (inr h) = subst IsFlat (sym h.1) (subst IsNoMap (sym built_tree-Empty) tt)
 
-pub small_goes : (rest : List ℕ) (tree : Draft) (o : Result item.Item fault.Fault) (new : cursor.Cursor) (p : code_pair.Pair) → StaysSmall rest tree → (TakesNoMemory rest → ReadsSmall o new p) → ReadsSmall o new p
+pub small_goes : (rest : List ℕ) (tree : TreeBuilder) (o : Result item.Item parse_error.ParseError) (new : cursor.Cursor) (p : code_pair.Pair) → StaysSmall rest tree → (TakesNoMemory rest → ParsesSmall o new p) → ParsesSmall o new p
 small_goes rest tree o new p h f = f (small_read rest tree h)
 
-pub small_ampersand : (old new : List ℕ) (tree : Draft) → length new < length old → StaysSmall old tree → is_ampersands new ≡ true → StaysSmall new tree
+pub small_ampersand : (old new : List ℕ) (tree : TreeBuilder) → length new < length old → StaysSmall old tree → is_ampersands new ≡ true → StaysSmall new tree
 small_ampersand old new tree shorter (inl h) amp = absurd (omega (arith, ap length h.0))
 small_ampersand old new tree shorter (inr h) amp = inr (ap (λ x. x || is_plain_value new) amp, h.1)
 
-pub small_fresh : (old new : List ℕ) (tree : Draft) → length new < length old → StaysSmall old tree → tree ≡ Fresh
+pub small_fresh : (old new : List ℕ) (tree : TreeBuilder) → length new < length old → StaysSmall old tree → tree ≡ Empty
 small_fresh old new tree shorter (inl h) = absurd (omega (arith, ap length h.0))
 small_fresh old new tree shorter (inr h) = h.1

@@ -14,7 +14,7 @@ use Rattle.qs_spec.specs.internal.Parsing.{cut, cut_at}
 use Rattle.qs_tree.specs.escape.Classes.{is_ampersand}
 use Rattle.qs_tree.specs.declared.scan.cursor.Token as code
 use Rattle.qs_tree.specs.declared.scan.cursor.Cursor as cursor
-use Rattle.qs_tree.specs.internal.scan.Cursor.{kind_of_token, token_of, raw_behind, behind, left, IsPast}
+use Rattle.qs_tree.specs.internal.scan.Cursor.{kind_of_token, token_of, raw_from_token, from_token, left, IsPast}
 use Rattle.qs_tree.specs.Parsing.{is_plain}
 use Rattle.qs_tree.proofs.lemmas.escape.FirstPlace.{position_some_is, position_none_is}
 
@@ -22,7 +22,7 @@ use Rattle.qs_tree.proofs.lemmas.escape.FirstPlace.{position_some_is, position_n
 abbrev pub value_end : List ℕ → ℕ
 value_end bytes = position_or_len is_ampersand bytes
 
--- the run of some tokens is the bytes up to that place, and after it stand the tokens of the others
+-- the run of some tokens is the bytes up to that index, and after it are the tokens of the others
 pub record IsValueCut (form : Bool) (bytes : List ℕ) (ts : List Token) : Type 0 where
   pub run : raw_of (cut is_amp ts).0 ≡ take (value_end bytes) bytes
   pub rest : (cut is_amp ts).1 ≡ tokens form (drop (value_end bytes) bytes)
@@ -119,19 +119,19 @@ pub end_of : (bytes : List ℕ) (found : Option ℕ) → found ≡ position is_a
 end_of bytes None e = omega (arith, position_none_is is_ampersand bytes e, prefix_len-le-length (λ x. not (is_ampersand x)) bytes)
 end_of bytes (Some n) e = (position_some_is is_ampersand bytes n e).0
 
--- past a value is past its `&`, or past the end
-pub value_past : (ts : List Token) (found : Option code.Token) (new : cursor.Cursor) → (cut is_amp ts).1 ≡ behind found (left new) → IfNone found (new.rest.now ≡ []) → IsPast (cut is_amp ts).1 new
-value_past ts None new e end = subst (λ l. IsPast l new) (sym e) end
-value_past ts (Some t) new e end = subst (λ l. IsPast l new) (sym e) (amp_of (kind_of_token t.kind) (stop_ends is_amp ts (token_of t) (left new) e), refl)
-  where
-    amp_of : (k : Kind) → is_amp k ≡ true → k ≡ Amp
-    amp_of Amp e = refl
-    amp_of Equals e = cc
-    amp_of Open e = cc
-    amp_of Close e = cc
-    amp_of Other e = cc
+pub is_amp_of : (k : Kind) → is_amp k ≡ true → k ≡ Amp
+is_amp_of Amp e = refl
+is_amp_of Equals e = cc
+is_amp_of Open e = cc
+is_amp_of Close e = cc
+is_amp_of Other e = cc
 
--- bytes without `&`, `+` and `%` are one value, which stands for itself
+-- past a value is past its `&`, or past the end
+pub value_past : (ts : List Token) (found : Option code.Token) (new : cursor.Cursor) → (cut is_amp ts).1 ≡ from_token found (left new) → IfNone found (new.rest.now ≡ []) → IsPast (cut is_amp ts).1 new
+value_past ts None new e end = subst (λ l. IsPast l new) (sym e) end
+value_past ts (Some t) new e end = subst (λ l. IsPast l new) (sym e) (is_amp_of (kind_of_token t.kind) (stop_ends is_amp ts (token_of t) (left new) e), refl)
+
+-- bytes without `&`, `+` and `%` are one value, which is decoded to itself
 plain_parts : (b : ℕ) (bytes : List ℕ) → is_plain (b ∷ bytes) ≡ true → ((b == 38) ≡ false) × ((b == 43 || b == 37) ≡ false) × (is_plain bytes ≡ true)
 plain_parts b bytes e =
     let parts = and_both (not (b == 38 || b == 43 || b == 37)) (is_plain bytes) e in
@@ -156,13 +156,13 @@ no_bytes [] back e = sym e
 no_bytes (b ∷ front) back e = cc
 
 pub plain_value : (bytes value rest : List ℕ) (found : Option code.Token) (new : List ℕ) → is_plain bytes ≡ true → value ≡ take (value_end bytes) bytes → rest ≡ drop (value_end bytes) bytes
-    → rest ≡ raw_behind found new → IfNone found (new ≡ []) → (is_marked value ≡ false) × (new ≡ [])
+    → rest ≡ raw_from_token found new → IfNone found (new ≡ []) → (is_marked value ≡ false) × (new ≡ [])
 plain_value bytes value rest found new e front back behind_it end =
     let whole = plain_end bytes e in (
       ap is_marked (front ∙ ap (λ n. take n bytes) whole ∙ take-length bytes) ∙ plain_marked bytes e,
       by found (sym (back ∙ ap (λ n. drop n bytes) whole ∙ drop_all (length bytes) bytes (le_refl (length bytes))) ∙ behind_it) end,
     )
   where
-    by : (found : Option code.Token) → [] ≡ raw_behind found new → IfNone found (new ≡ []) → new ≡ []
+    by : (found : Option code.Token) → [] ≡ raw_from_token found new → IfNone found (new ≡ []) → new ≡ []
     by None e end = end
     by (Some t) e end = no_bytes t.raw.now new e

@@ -1,17 +1,15 @@
 -- The order of keys, and what a map finds, seen as segments and trees.
 use Rattle.std.proofs.Common.{◌≡◌, ℕ, zero, suc, slice_get, length, List, [], ◌∷◌, Option, Some, None, option_map, Bor, refl, ap, ◌∙◌, sym, inl, inr, rules, map, Bool, true, false}
 use Rattle.std.proofs.lemmas.Bool.{cases_Bool}
-use Rattle.std.specs.declared.borrow.CowSlice.TheVariants.{Borrowed, Owned}
 use Rattle.std.specs.Map.{lookup, remove_entry}
 use Rattle.std.specs.BTreeMap.{is_at}
 use Rattle.qs_spec.specs.Segment.{Step, compare_segments, is_same_segment}
 use Rattle.qs_spec.specs.Tree.{Tree, Entries}
 use Rattle.qs_tree.specs.declared.tree.key.Key.{Key}
-use Rattle.qs_tree.specs.declared.tree.key.Key.TheVariants as key
 use Rattle.qs_tree.specs.declared.tree.value.ParsedValue.{ParsedValue, the_lemmas}
 use Rattle.qs_tree.specs.declared.tree.map.ParsedMap.{ParsedMap}
 use Rattle.qs_tree.specs.tree.Keys.{key_cmp}
-use Rattle.qs_tree.specs.tree.Views.{segment_of_key, step_of_key, tree_of, entries_from, entries_of_map, map_pairs, pairs_of, find, take_out}
+use Rattle.qs_tree.specs.tree.Views.{segment_of_key, step_of_key, tree_of, entries_from, entries_of_map, map_pairs, entry_list, find, take_out}
 
 abbrev pub Held : Type 0
 Held = List (Key × ParsedValue)
@@ -53,10 +51,10 @@ option_map-copied f None = refl
 option_map-copied f (Some x) = refl
 
 abbrev pub pairs_view : Held → List (Step × Tree)
-pairs_view es = pairs_of (entries_view es)
+pairs_view es = entry_list (entries_view es)
 
 pub map_pairs-map : (m : ParsedMap) → map_pairs m ≡ pairs_view m.map
-map_pairs-map m = ap pairs_of (entries_of_map-map m)
+map_pairs-map m = ap entry_list (entries_of_map-map m)
 
 pub length-pairs_view : (es : Held) → length (pairs_view es) ≡ length es
 length-pairs_view [] = refl

@@ -1,4 +1,4 @@
--- A value owns the texts that are marked in its tree.
+-- A value owns the strings that are marked in its tree.
 use Rattle.std.proofs.Common.{◌≡◌, List, [], ◌∷◌, ◌++◌, refl, ap₂, subst, rules, map}
 use Rattle.std.specs.declared.borrow.CowSlice.TheVariants.{Borrowed, Owned}
 use Rattle.qs_spec.specs.Marks.{key_marks, marks, items_marks, entries_marks}

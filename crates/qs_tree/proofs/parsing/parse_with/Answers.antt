@@ -1,57 +1,58 @@
-use Rattle.std.proofs.Common.{Ok, sym, ap₂, ◌∙◌, ◌+◌, length}
+use Rattle.std.proofs.Common.{Ok, refl, sym, ap₂, subst, ◌∙◌, ◌+◌, length}
 use Rattle.qs_spec.specs.Token.{tokens}
 use Rattle.qs_tree.specs.declared.tree.value.ParsedValue.{NoValue}
 use Rattle.qs_tree.specs.internal.scan.Cursor.{left}
-use Rattle.qs_tree.proofs.lemmas.Growing.{answer_tree, answer_refused}
+use Rattle.qs_tree.specs.Parsing.{TakesNoMemory}
+use Rattle.qs_tree.proofs.lemmas.Growing.{result_tree, result_rejected}
 use Rattle.qs_tree.proofs.lemmas.Parsed as parsed
 use Rattle.qs_tree.proofs.parsing.parse_with.Goals as goal
 
-pub returns-clause-tree : goal.returns-clause-tree
-returns-clause-tree c =
+pub returns-clause-parsed : goal.returns-clause-parsed
+returns-clause-parsed c =
     let input = c.args.input.now in
-    let config = c.args.config in
+    let form = c.args.config.form in
+    let depth = c.args.config.max_depth in
     let cursor = c.new-cursor.result in
-    answer_tree config.form config.max_depth input (sym c.is_empty.ensures ∙ c.if-is_empty.false) c.get_max_depth.result (left cursor) c.get_max_depth.ensures
-    (ap₂ tokens (c.new-cursor.ensures.form ∙ c.get_form.ensures) c.new-cursor.ensures.rest) (length input + 1) c.read_tree-tree.result c.read_tree-tree.ensures.answer
+    let some = sym c.is_empty.ensures ∙ c.if-is_empty.false in
+    let tokens_left = ap₂ tokens (c.new-cursor.ensures.form ∙ c.get_form.ensures) c.new-cursor.ensures.rest in
+    let result = c.parse_tree-tree.result in
+    let returned = c.parse_tree-tree.ensures.tree in
+    let tree = result_tree form depth input some c.get_max_depth.result (left cursor) c.get_max_depth.ensures tokens_left (length input + 1) result returned in
+    let refused = result_rejected form depth input some c.get_max_depth.result (left cursor) c.get_max_depth.ensures tokens_left (length input + 1) result returned in
+    record {
+      tree = tree;
+      refused = refused;
+      accepted = parsed.accepted form depth input _ _ result returned refused;
+      rejected = parsed.rejected form depth input _ _ result returned tree;
+      position = parsed.position form depth input _ _ result returned;
+      errors = parsed.errors form depth input _ _ result returned;
+      no_memory = λ small. c.parse_tree-tree.ensures.no_memory (subst TakesNoMemory (sym c.new-cursor.ensures.rest) small);
+      borrowed = parsed.borrowed form depth input result tree;
+      leaves = parsed.leaves form depth input result tree;
+      nesting = parsed.nested form depth input result tree;
+      sound = parsed.sound form depth input result tree;
+      alike = parsed.alike form depth input;
+      reordered = parsed.reordered form depth input result tree refused;
+    }
 
-pub returns-clause-refused : goal.returns-clause-refused
-returns-clause-refused c =
+pub returns-then-is_empty-clause-parsed : goal.returns-then-is_empty-clause-parsed
+returns-then-is_empty-clause-parsed c =
     let input = c.args.input.now in
-    let config = c.args.config in
-    let cursor = c.new-cursor.result in
-    answer_refused config.form config.max_depth input (sym c.is_empty.ensures ∙ c.if-is_empty.false) c.get_max_depth.result (left cursor) c.get_max_depth.ensures
-    (ap₂ tokens (c.new-cursor.ensures.form ∙ c.get_form.ensures) c.new-cursor.ensures.rest) (length input + 1) c.read_tree-tree.result c.read_tree-tree.ensures.answer
-
-pub returns-clause-accepted : goal.returns-clause-accepted
-returns-clause-accepted c = parsed.accepted c.args.config.form c.args.config.max_depth c.args.input.now _ _ c.read_tree-tree.result c.read_tree-tree.ensures.answer (returns-clause-refused c)
-
-pub returns-clause-rejected : goal.returns-clause-rejected
-returns-clause-rejected c = parsed.rejected c.args.config.form c.args.config.max_depth c.args.input.now _ _ c.read_tree-tree.result c.read_tree-tree.ensures.answer (returns-clause-tree c)
-
-pub returns-clause-borrowed : goal.returns-clause-borrowed
-returns-clause-borrowed c = parsed.borrowed c.args.config.form c.args.config.max_depth c.args.input.now c.read_tree-tree.result (returns-clause-tree c)
-
-pub returns-clause-leaves : goal.returns-clause-leaves
-returns-clause-leaves c = parsed.leaves c.args.config.form c.args.config.max_depth c.args.input.now c.read_tree-tree.result (returns-clause-tree c)
-
-pub returns-clause-nesting : goal.returns-clause-nesting
-returns-clause-nesting c = parsed.nested c.args.config.form c.args.config.max_depth c.args.input.now c.read_tree-tree.result (returns-clause-tree c)
-
-pub returns-clause-sound : goal.returns-clause-sound
-returns-clause-sound c = parsed.sound c.args.config.form c.args.config.max_depth c.args.input.now c.read_tree-tree.result (returns-clause-tree c)
-
-pub returns-clause-alike : goal.returns-clause-alike
-returns-clause-alike c = parsed.alike c.args.config.form c.args.config.max_depth c.args.input.now
-
-pub returns-clause-reordered : goal.returns-clause-reordered
-returns-clause-reordered c = parsed.reordered c.args.config.form c.args.config.max_depth c.args.input.now c.read_tree-tree.result (returns-clause-tree c) (returns-clause-refused c)
-
-pub returns-then-is_empty-clause-rejected : goal.returns-then-is_empty-clause-rejected
-returns-then-is_empty-clause-rejected c none = absurd (none _ (parsed.empty_tree c.args.config.form c.args.config.max_depth c.args.input.now (sym c.is_empty.ensures ∙ c.if-is_empty.true)))
-
-pub returns-then-is_empty-clause-alike : goal.returns-then-is_empty-clause-alike
-returns-then-is_empty-clause-alike c = parsed.alike c.args.config.form c.args.config.max_depth c.args.input.now
-
-pub returns-then-is_empty-clause-reordered : goal.returns-then-is_empty-clause-reordered
-returns-then-is_empty-clause-reordered c = parsed.reordered c.args.config.form c.args.config.max_depth c.args.input.now (Ok NoValue)
-    (parsed.empty_tree c.args.config.form c.args.config.max_depth c.args.input.now (sym c.is_empty.ensures ∙ c.if-is_empty.true)) (λ h. absurd h)
+    let form = c.args.config.form in
+    let depth = c.args.config.max_depth in
+    let tree = parsed.empty_tree form depth input (sym c.is_empty.ensures ∙ c.if-is_empty.true) in
+    record {
+      tree = tree;
+      refused = λ h. absurd h;
+      accepted = λ t h. tt;
+      rejected = λ none. absurd (none _ tree);
+      position = tt;
+      errors = tt;
+      no_memory = λ small. refl;
+      borrowed = parsed.borrowed form depth input (Ok NoValue) tree;
+      leaves = parsed.leaves form depth input (Ok NoValue) tree;
+      nesting = parsed.nested form depth input (Ok NoValue) tree;
+      sound = parsed.sound form depth input (Ok NoValue) tree;
+      alike = parsed.alike form depth input;
+      reordered = parsed.reordered form depth input (Ok NoValue) tree (λ h. absurd h);
+    }

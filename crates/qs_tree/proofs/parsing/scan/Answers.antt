@@ -1,12 +1,12 @@
 use Rattle.std.proofs.Common.{Ok, ◌∙◌, sym, subst, arith, refl, ap, length}
-use Rattle.qs_tree.specs.internal.build.Draft.{draft_tree}
+use Rattle.qs_tree.specs.internal.build.Builder.{built_tree}
 use Rattle.qs_tree.specs.internal.scan.Pairs.{pair_of}
 use Rattle.qs_tree.specs.internal.scan.Cursor.{left, to_come}
-use Rattle.qs_tree.specs.internal.scan.Reading.{IsEnd, IsMore, ReadsItem}
+use Rattle.qs_tree.specs.internal.scan.Parser.{IsEnd, IsMore, ParsesItem}
 use Rattle.qs_tree.proofs.lemmas.Growing.{grown_same, grown_pair}
 use Rattle.qs_tree.specs.internal.Parsing.{grown}
-use Rattle.qs_tree.specs.internal.scan.Small.{ReadsSmall}
-use Rattle.qs_tree.proofs.lemmas.Views.{draft_tree-Fresh}
+use Rattle.qs_tree.specs.internal.scan.Small.{ParsesSmall}
+use Rattle.qs_tree.proofs.lemmas.Views.{built_tree-Empty}
 use Rattle.qs_tree.proofs.lemmas.scan.SmallItems.{small_start, small_end, small_goes, small_ampersand, small_fresh}
 use Rattle.qs_tree.proofs.parsing.scan.Goals as goal
 
@@ -17,44 +17,44 @@ returns-in-End-clause-end c =
 
 pub loop-item-preserved-in-Ampersand : goal.loop-item-preserved-in-Ampersand
 loop-item-preserved-in-Ampersand c =
-    let pair = c.read_item.new.pair in
+    let pair = c.parse_item.new.pair in
     let old = c.loop-item.cursor in
-    let new = c.read_item.new.cursor in
+    let new = c.parse_item.new.cursor in
     let depth = c.args.max_depth in
     let before = c.loop-item.invariant in
-    let read = subst (λ i. ReadsItem depth (left old) (Ok i) new pair) c.in-Ampersand.is c.in-Ok.ensures.item in
+    let read = subst (λ i. ParsesItem depth (left old) (Ok i) new pair) c.in-Ampersand.is c.in-Ok.ensures.item in
     let shorter = c.in-Ok.ensures.shorter (subst (λ i. IsMore (Ok i)) (sym c.in-Ampersand.is) tt) in
     record {
-      grows = sym (grown_same depth (left old) (draft_tree c.loop-item.tree) (left new) read) ∙ before.grows;
+      grows = sym (grown_same depth (left old) (built_tree c.loop-item.tree) (left new) read) ∙ before.grows;
       fewer = omega (arith, shorter, before.fewer);
       steps = c.in-Ok.ensures.moves.steps ∙ before.steps;
       end = c.in-Ok.ensures.moves.end;
       small = λ small. small_ampersand old.rest.now new.rest.now c.loop-item.tree shorter (before.small small)
-          (subst (λ i. ReadsSmall (Ok i) new pair) c.in-Ampersand.is (small_goes old.rest.now c.loop-item.tree (Ok c.in-Ok.item) new pair (before.small small) c.in-Ok.ensures.small));
+          (subst (λ i. ParsesSmall (Ok i) new pair) c.in-Ampersand.is (small_goes old.rest.now c.loop-item.tree (Ok c.in-Ok.item) new pair (before.small small) c.in-Ok.ensures.small));
     }
 
 pub loop-item-preserved : goal.loop-item-preserved
 loop-item-preserved c =
     let old = c.loop-item.cursor in
-    let new = c.read_item.new.cursor in
+    let new = c.parse_item.new.cursor in
     let depth = c.args.max_depth in
     let before = c.loop-item.invariant in
-    let pair = c.read_item.new.pair in
-    let read = subst (λ i. ReadsItem depth (left old) (Ok i) new pair) c.in-Pair.is c.in-Ok.ensures.item in
+    let pair = c.parse_item.new.pair in
+    let read = subst (λ i. ParsesItem depth (left old) (Ok i) new pair) c.in-Pair.is c.in-Ok.ensures.item in
     let shorter = c.in-Ok.ensures.shorter (subst (λ i. IsMore (Ok i)) (sym c.in-Pair.is) tt) in
     record {
-      grows = sym (grown_pair depth (left old) (draft_tree c.loop-item.tree) (left new) (pair_of pair) (draft_tree c.add.new.tree) read c.in_ok-add-in-Pair.ensures.tree) ∙ before.grows;
+      grows = sym (grown_pair depth (left old) (built_tree c.loop-item.tree) (left new) (pair_of pair) (built_tree c.add.new.tree) read c.in_ok-add-in-Pair.ensures.tree) ∙ before.grows;
       fewer = omega (arith, shorter, before.fewer);
       steps = c.in-Ok.ensures.moves.steps ∙ before.steps;
       end = c.in-Ok.ensures.moves.end;
       small = λ small.
-          let bare = subst (λ i. ReadsSmall (Ok i) new pair) c.in-Pair.is (small_goes old.rest.now c.loop-item.tree (Ok c.in-Ok.item) new pair (before.small small) c.in-Ok.ensures.small) in
+          let bare = subst (λ i. ParsesSmall (Ok i) new pair) c.in-Pair.is (small_goes old.rest.now c.loop-item.tree (Ok c.in-Ok.item) new pair (before.small small) c.in-Ok.ensures.small) in
           small_end new.rest.now c.add.new.tree bare.1 (c.in_ok-add-in-Pair.ensures.fresh bare.0 (small_fresh old.rest.now new.rest.now c.loop-item.tree shorter (before.small small)));
     }
 
 pub loop-item-init : goal.loop-item-init
 loop-item-init c = record {
-  grows = ap (grown c.args.max_depth (left c.args.cursor.now)) draft_tree-Fresh;
+  grows = ap (grown c.args.max_depth (left c.args.cursor.now)) built_tree-Empty;
   fewer = omega arith;
   steps = refl;
   end = c.requires.end;

@@ -1,6 +1,6 @@
 use Rattle.std.proofs.Common.{◌≡◌, ◌≤◌, length}
 use Rattle.qs_spec.specs.Tree.Tree.{uninitialized}
-use Rattle.qs_tree.specs.internal.build.Draft.{draft_tree}
+use Rattle.qs_tree.specs.internal.build.Builder.{built_tree}
 use Rattle.qs_tree.specs.internal.scan.Cursor.{left, in_all, KnowsEnd}
 use Rattle.qs_tree.specs.internal.Parsing.{grown}
 use Rattle.qs_tree.specs.Parsing.{TakesNoMemory}
@@ -10,7 +10,7 @@ use Rattle.qs_tree.proofs.parsing.scan.Given as goal
 -- the pairs that are left make of the tree what all pairs make of none
 abbrev pub invariant-loop-item : goal.invariant-loop-item
 invariant-loop-item l = record {
-  grows : grown l.max_depth (left l.cursor) (draft_tree l.tree) ≡ grown l.max_depth (left l.fn.cursor) uninitialized;
+  grows : grown l.max_depth (left l.cursor) (built_tree l.tree) ≡ grown l.max_depth (left l.fn.cursor) uninitialized;
   fewer : length l.cursor.rest.now ≤ length l.fn.cursor.rest.now;
   steps : in_all l.cursor ≡ in_all l.fn.cursor;
   end : KnowsEnd l.cursor;

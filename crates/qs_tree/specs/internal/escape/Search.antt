@@ -1,10 +1,10 @@
--- Where the first byte of a class is, as the lanes find it.
+-- The first byte of a class, found by masks.
 use Rattle.std.specs.Prelude.{◌≡◌, ℕ, ◌+◌, ◌<◌, ◌≤◌, Bool, true, false, not, ◌||◌, ◌==◌, List, map, slice_index, if◌then◌else◌}
 use lib.Lanes.{chunk, mask_l}
 use Rattle.std.specs.Int.{w64, trailing_zeros}
 use Rattle.qs_spec.specs.Escape.{is_kept_in_form, is_kept_in_query}
 
--- the bytes that it writes by an escape
+-- the bytes that form encoding (true) or query encoding escapes
 abbrev pub is_escaped : Bool → ℕ → Bool
 is_escaped true b = not (is_kept_in_form b)
 is_escaped false b = not (is_kept_in_query b || b == 32)
@@ -22,6 +22,6 @@ IsFirstIn contains bytes at n run =
 abbrev pub class_mask : (ℕ → Bool) → List ℕ → ℕ → ℕ → ℕ
 class_mask contains bytes at n = mask_l (map contains (chunk at n bytes))
 
--- the place of the lowest bit that is set, or `n` where none is
+-- the index of the lowest bit that is set, or `n` where none is
 abbrev pub first_set : ℕ → ℕ → ℕ
 first_set mask n = if mask == 0 then n else trailing_zeros w64 mask

@@ -1,4 +1,4 @@
--- What the calls of a cursor take.
+-- What the methods of a cursor take.
 use Rattle.std.specs.Prelude.{◌≡◌, ℕ, ◌+◌, ◌-◌, ◌≤◌, List, [], ◌∷◌, ◌++◌, take, drop, length, ◌==◌, Bool, true, false, Option, Some, None}
 use Rattle.qs_spec.specs.Token.{Kind, Token, tokens, byte_kind}
 use Rattle.qs_spec.specs.Grammar.{is_close, ends_last, ends_root}
@@ -7,7 +7,7 @@ use Rattle.qs_tree.specs.declared.scan.cursor.Token as token
 use Rattle.qs_tree.specs.declared.scan.cursor.Until as until
 use Rattle.qs_tree.specs.declared.scan.cursor.Cursor as cursor
 
--- the kind of the grammar that the code's enum stands for
+-- from the kinds of the code to those of the grammar
 abbrev pub kind_of_token : kind.Kind → Kind
 kind_of_token kind.TheVariants.Ampersand = Kind.Amp
 kind_of_token kind.TheVariants.Equals = Kind.Equals
@@ -36,57 +36,57 @@ IsLetter b = ((b == 37) ≡ false) × (byte_kind b ≡ Kind.Other)
 abbrev pub left : cursor.Cursor → List Token
 left c = tokens c.form c.rest.now
 
--- the steps that were taken, and the bytes that are left
+-- the steps so far, and the bytes that are left
 abbrev pub spent : cursor.Cursor → ℕ
 spent c = c.steps + length c.rest.now
 
--- a look that met the end is a step
+-- reaching the end is a step
 abbrev pub looks : Option token.Token → ℕ
 looks None = 1
 looks (Some t) = 0
 
--- a token that was taken, and those after it; at the end there are none
-abbrev pub behind : Option token.Token → List Token → List Token
-behind None ts = []
-behind (Some t) ts = token_of t ∷ ts
+-- a token that was taken and those after it, or none at the end
+abbrev pub from_token : Option token.Token → List Token → List Token
+from_token None ts = []
+from_token (Some t) ts = token_of t ∷ ts
 
 -- the same as bytes
-abbrev pub raw_behind : Option token.Token → List ℕ → List ℕ
-raw_behind None rest = []
-raw_behind (Some t) rest = t.raw.now ++ rest
+abbrev pub raw_from_token : Option token.Token → List ℕ → List ℕ
+raw_from_token None rest = []
+raw_from_token (Some t) rest = t.raw.now ++ rest
 
--- the bytes between a place and what is left
+-- the bytes between a position and what is left
 abbrev pub taken : List ℕ → List ℕ → List ℕ
 taken start rest = take (length start - length rest) start
 
--- what is left of what stood there
+-- the bytes that are left are the last ones
 abbrev pub IsLeft : List ℕ → List ℕ → Type 0
 IsLeft start rest = rest ≡ drop (length start - length rest) start
 
--- some tokens begin with the `&` that the cursor follows; or there are none, and it met the end
+-- the tokens begin with the `&` before the cursor; or there are none, and it is at the end
 abbrev pub IsPast : List Token → cursor.Cursor → Type 0
 IsPast [] c = c.rest.now ≡ []
 IsPast (t ∷ ts) c = (t.kind ≡ Kind.Amp) × (ts ≡ left c)
 
--- whether the end was met, after a look
-abbrev pub met : Option token.Token → Bool → Bool
-met None before = true
-met (Some t) before = before
+-- whether the end was reached
+abbrev pub ended_after : Option token.Token → Bool → Bool
+ended_after None before = true
+ended_after (Some t) before = before
 
--- where the end was met, nothing is left
+-- after the end was reached, nothing is left
 abbrev pub KnowsEnd : cursor.Cursor → Type 0
 KnowsEnd c = c.ended ≡ true → c.rest.now ≡ []
 
--- a look that is still to meet the end
+-- whether reaching the end is still to be counted
 abbrev pub to_come : Bool → ℕ
 to_come true = 0
 to_come false = 1
 
--- the steps of the whole input: those that were taken, and those to come, for the bytes that are left and for the look at the end
+-- the steps of the whole input: those so far, and those that remain
 abbrev pub in_all : cursor.Cursor → ℕ
 in_all c = spent c + to_come c.ended
 
--- A cursor moved on: each byte that it took is a step, and so is the one look that met the end.
+-- A cursor moved on: each byte that it took is a step, and so is reaching the end.
 pub record GoesOn (old new : cursor.Cursor) : Type 0 where
   pub form : new.form ≡ old.form
   pub shorter : length new.rest.now ≤ length old.rest.now

@@ -1,4 +1,4 @@
--- What the types of a pair stand for.
+-- From the types of a pair to those of the definitions.
 use Rattle.std.specs.Prelude.{◌≡◌, [], List, Bool, true, false, map}
 use Rattle.std.specs.declared.borrow.CowSlice.TheVariants.{Borrowed, Owned}
 use Rattle.qs_spec.specs.Segment.{Step}
@@ -13,7 +13,7 @@ use Rattle.qs_tree.specs.declared.scan.pair.Manner.TheVariants.{Plain, Push}
 use Rattle.qs_tree.specs.declared.scan.pair.Pair.{Pair}
 use Rattle.qs_tree.specs.tree.Views.{step_of_key}
 
--- an owned text is marked
+-- an owned string is marked
 abbrev pub leaf_of : code.Leaf → Leaf
 leaf_of variant.NoValue = NoValue
 leaf_of variant.Null = Null
@@ -30,7 +30,7 @@ path_of keys = map step_of_key keys
 abbrev pub pair_of : Pair → grammar.Pair
 pair_of p = record { path = path_of p.path.items; push = is_push p.manner; leaf = leaf_of p.leaf }
 
--- a leaf as a node
+-- a leaf as a tree
 abbrev pub leaf_tree : code.Leaf → Tree
 leaf_tree l = leaf (leaf_of l)
 

@@ -1,4 +1,4 @@
--- Being the same is an equality of trees: it is that of the trees without their marks.
+-- Equality of trees is that of the trees without their marks, and so an equivalence.
 use Rattle.std.proofs.Common.{◌≡◌, Bool, true, false, ◌&&◌, refl, sym, ap, ◌∙◌}
 use Rattle.std.specs.Bool.{Decides, one_answer}
 use Rattle.std.specs.Cmp.{IsPartialEquivalence}
@@ -12,7 +12,7 @@ use Rattle.qs_spec.proofs.Order.{is_itself}
 use Rattle.qs_spec.proofs.TreeOf.{same_segment}
 use Rattle.qs_tree.specs.tree.Equality.{leaf_same, tree_same, items_same, entries_same}
 
--- the same are equal but for marks, and the other way round
+-- equal trees are the same without marks, and conversely
 leaf_sound : (l o : Leaf) → leaf_same l o ≡ true → unmarked_leaf l ≡ unmarked_leaf o
 leaf_sound NoValue NoValue e = refl
 leaf_sound NoValue Null e = cc
@@ -121,7 +121,7 @@ same_trees t u = (sound t u, complete t u)
 same_entries : (es fs : Entries) → Decides (entries_same es fs) (unmarked_entries es ≡ unmarked_entries fs)
 same_entries es fs = (entries_sound es fs, entries_complete es fs)
 
--- a test that says where two are equal once changed
+-- a test that decides equality after a change
 module _ {K J : Type 0} (change : K → J) (test : K → K → Bool) (decides : (x y : K) → Decides (test x y) (change x ≡ change y)) where
   equality : IsPartialEquivalence test
   equality = record {

@@ -1,4 +1,4 @@
--- How much there is to drop.
+-- A measure of a tree that is dropped.
 use Rattle.std.specs.Prelude.{ℕ, ◌+◌, ◌<◌, ◌≤◌}
 use Rattle.qs_spec.specs.Tree.{Tree, Items, Entries}
 use Rattle.qs_spec.specs.Tree.Tree.{leaf, sequence, mapping, uninitialized}
@@ -21,6 +21,6 @@ abbrev mutual
   entries_node_count no_entries = 0
   entries_node_count (entry k mark t es) = node_count t + entries_node_count es
 
--- fewer are left than there were, and not by more than one node with nothing in it
+-- at least one node less, and at most one empty map or sequence less
 abbrev pub DropsOne : ℕ → ℕ → Type 0
 DropsOne before after = (after < before) × (before ≤ after + 2)

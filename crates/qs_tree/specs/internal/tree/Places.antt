@@ -1,4 +1,4 @@
--- Where a key stands, or would stand, among entries in the order of their keys.
+-- The index of a key among sorted entries, or the one at which to insert it.
 use Rattle.std.specs.Prelude.{◌≡◌, ℕ, zero, suc, ◌<◌, ◌≤◌, List, [], ◌∷◌, length, slice_index_or, Result, Ok, Err}
 use Rattle.std.specs.declared.cmp.Ordering.{Ordering}
 use Rattle.std.specs.declared.cmp.Ordering.TheVariants.{Less, Equal, Greater}
@@ -9,19 +9,19 @@ abbrev pub against : {K X : Type 0} → (K → K → Ordering) → K → List (K
 against cmp k es j = cmp k (slice_index_or (keys_of es) j k)
 
 module _ {K X : Type 0} (cmp : K → K → Ordering) (k : K) (es : List (K × X)) (i : ℕ) where
-  -- the key is at place i
+  -- the key is at index i
   pub record IsHit : Type 0 where
     pub in_range : i < length es
     pub same : against cmp k es i ≡ Equal
     pub before : (j : ℕ) → j < i → against cmp k es j ≡ Greater
 
-  -- the key is nowhere, and would go at place i
+  -- the key is missing, and is to be inserted at index i
   pub record IsGap : Type 0 where
     pub in_range : i ≤ length es
     pub before : (j : ℕ) → j < i → against cmp k es j ≡ Greater
     pub after : (j : ℕ) → i ≤ j → j < length es → against cmp k es j ≡ Less
 
--- the place is that of the key, or else the one where it would go
+-- the index of the key, or as `Err` the one at which to insert it
 abbrev pub IsPlaced : {K X : Type 0} → (K → K → Ordering) → K → List (K × X) → Result ℕ ℕ → Type 0
 IsPlaced cmp k es (Ok i) = IsHit cmp k es i
 IsPlaced cmp k es (Err i) = IsGap cmp k es i

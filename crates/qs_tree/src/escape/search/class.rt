@@ -1,9 +1,9 @@
-//! Classes of bytes that 32 lanes can tell.
+//! Classes of bytes, tested 32 bytes at a time.
 
 ghost use Rattle.std.specs.Prelude.{◌≡◌, ℕ, ◌+◌, ◌≤◌, length, Bool, count_by};
 ghost use Rattle.qs_tree.specs.internal.escape.Search.{IsFirstIn, class_mask, first_set};
 
-/// How many bytes are looked at at once.
+/// How many bytes are tested at once.
 pub(crate) const LANES: usize = 32;
 
 /// A class of bytes.
@@ -15,12 +15,12 @@ pub(crate) trait Class: Copy {
         requires { at + LANES ≤ length bytes.now }
         ensures { result ≡ class_mask (contains self) bytes.now at LANES };
 
-    /// Whether the byte is of the class.
+    /// Whether a byte is of the class.
     fn has(self, byte: u8) -> bool
         ensures { result ≡ contains self byte };
 }
 
-/// How many of the 32 bytes from `at` on come before the first of the class.
+/// How many of the 32 bytes from `at` on are before the first of the class.
 #[inline(always)]
 pub(crate) fn run<C: Class>(class: C, bytes: &[u8], at: usize) -> usize
     requires { at + LANES ≤ length bytes.now }
@@ -48,7 +48,7 @@ pub(crate) fn count<C: Class>(class: C, bytes: &[u8]) -> usize
     count
 }
 
-/// The first lane of a mask that is set, or the number of lanes.
+// The index of the lowest bit of a mask that is set, or the number of lanes.
 #[inline(always)]
 fn first_set(mask: u64) -> usize
     ensures { result ≡ first_set mask LANES }

@@ -1,4 +1,4 @@
-//! The bytes that a mode doesn't write as themselves.
+//! The bytes that percent-encoding changes.
 
 ghost use Rattle.std.specs.Prelude.{◌≡◌, ◌+◌, ◌≤◌, length, true, false};
 ghost use Rattle.qs_tree.specs.internal.escape.Search.{class_mask, is_escaped};
@@ -9,8 +9,7 @@ use super::marks::Byte;
 use percent_encoding::{AsciiSet, CONTROLS, NON_ALPHANUMERIC, ascii_set};
 use std::simd::prelude::*;
 
-/// What form mode writes by an escape: the application/x-www-form-urlencoded percent-encode set of the URL
-/// standard, section 1.3.
+/// The bytes that form encoding escapes: the application/x-www-form-urlencoded percent-encode set of the URL Standard, section 1.3.
 const FORM: AsciiSet = ascii_set!(
     NON_ALPHANUMERIC
         .remove(b'*')
@@ -19,8 +18,8 @@ const FORM: AsciiSet = ascii_set!(
         .remove(b'_')
 );
 
-/// What query mode writes by an escape: the query percent-encode set of the URL standard, section 1.3, but
-/// the space, and what separates the parts of a querystring.
+/// The bytes that query encoding escapes: the query percent-encode set of the URL Standard, section 1.3, without the space, and the
+/// delimiters of a querystring.
 const QUERY: AsciiSet = ascii_set!(
     CONTROLS
         .add(b'"')
@@ -35,7 +34,7 @@ const QUERY: AsciiSet = ascii_set!(
         .add(b'&')
 );
 
-/// What form mode, or query mode, writes by an escape.
+/// The bytes that form encoding (`form`) or query encoding escapes.
 #[derive(Clone, Copy)]
 pub(crate) struct Escaped {
     pub(crate) form: bool,
@@ -63,7 +62,7 @@ impl Class for Escaped {
     }
 }
 
-/// What form mode, or query mode, doesn't write as itself.
+/// The bytes that form encoding (`form`) or query encoding changes: those that it escapes, and the space.
 #[derive(Clone, Copy)]
 pub(super) struct Encoded {
     pub(super) form: bool,
@@ -86,7 +85,7 @@ impl Class for Encoded {
     }
 }
 
-/// The mask of what form mode writes by an escape.
+// The mask of the bytes that form encoding escapes.
 #[inline(never)]
 fn form_mask(bytes: &[u8], at: usize) -> u64
     requires { at + LANES ≤ length bytes.now }
@@ -100,7 +99,7 @@ fn form_mask(bytes: &[u8], at: usize) -> u64
     (no_letter & no_digit & no_dash & no_mark).to_bitmask()
 }
 
-/// The mask of what query mode writes by an escape.
+// The mask of the bytes that query encoding escapes.
 #[inline(never)]
 fn query_mask(bytes: &[u8], at: usize) -> u64
     requires { at + LANES ≤ length bytes.now }

@@ -1,4 +1,4 @@
-//! The bytes that mean something in a querystring wherever they stand.
+//! Classes of one or two bytes.
 
 ghost use Rattle.std.specs.Prelude.{◌==◌};
 ghost use Rattle.qs_tree.specs.escape.Classes.{is_escape};
@@ -25,7 +25,7 @@ impl Class for Escape {
     }
 }
 
-/// One byte alone.
+/// One byte.
 #[derive(Clone, Copy)]
 pub(crate) struct Byte(pub(crate) u8);
 

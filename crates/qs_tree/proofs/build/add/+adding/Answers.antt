@@ -3,13 +3,13 @@ use Rattle.std.proofs.Common.{drop, [], arith, ◌+◌, ◌≡◌, ap, sym, ◌�
 use Rattle.std.specs.declared.collections.BTreeMap.{BTreeMap}
 use Rattle.qs_spec.specs.internal.InPlace.{add}
 use Rattle.qs_tree.specs.declared.tree.key.Key.{Key}
-use Rattle.qs_tree.specs.declared.build.draft.Draft.{Draft, Fresh, the_lemmas}
+use Rattle.qs_tree.specs.declared.build.builder.TreeBuilder.{TreeBuilder, Empty}
 use Rattle.qs_tree.specs.internal.scan.Pairs.{is_push, leaf_of, path_of}
-use Rattle.qs_tree.specs.internal.build.Draft.{draft_entries, entries_seen}
+use Rattle.qs_tree.specs.internal.build.Builder.{built_entries, entries_seen}
 use Rattle.qs_tree.specs.tree.Views.{step_of_key}
-use Rattle.qs_tree.proofs.lemmas.Views.{draft_tree-Map}
+use Rattle.qs_tree.proofs.lemmas.Views.{built_tree-Map}
 use Rattle.qs_tree.proofs.lemmas.build.Turns.{gives_err, below_map}
-use Rattle.qs_tree.proofs.lemmas.build.Drafting.{draft_entries-Vector, at_key, leaf_put, not_push}
+use Rattle.qs_tree.proofs.lemmas.build.Built.{built_entries-Vector, at_key, leaf_put, not_push}
 use Rattle.qs_tree.proofs.build.add.+adding.Goals as goal
 
 pub add_in_vector-returns-then-is_plain : goal.add_in_vector-returns-then-is_plain
@@ -31,8 +31,8 @@ add_in_vector-returns t c =
 
 pub add_below-returns-in_err-add_in_tree-in-Vector : goal.add_below-returns-in_err-add_in_tree-in-Vector
 add_below-returns-in_err-add_in_tree-in-Vector t c =
-    let same : entries_seen c.in_ok-tree-in-Vector.tree.entries ≡ draft_entries c.args.map.now =
-    ap entries_seen (c.in_ok-tree-in-Vector.ensures ∙ search rules) ∙ sym (ap draft_entries c.in-Vector.is ∙ draft_entries-Vector c.in-Vector.entries) in
+    let same : entries_seen c.in_ok-tree-in-Vector.tree.entries ≡ built_entries c.args.map.now =
+    ap entries_seen (c.in_ok-tree-in-Vector.ensures ∙ search rules) ∙ sym (ap built_entries c.in-Vector.is ∙ built_entries-Vector c.in-Vector.entries) in
     gives_err _ _ c.from_residual-in_err-add_in_tree-in-Vector.result c.in_err-add_in_tree-in-Vector.field-0.0 _ c.from_residual-in_err-add_in_tree-in-Vector.ensures.1 (λ y p. p)
     (rw same at c.in_err-add_in_tree-in-Vector.ensures)
 
@@ -42,15 +42,15 @@ add_in_tree-returns t c =
     let path = path_of (drop c.args.level c.args.pair.now.path.items) in
     let push = is_push c.args.pair.now.manner in
     let new = c.add_along.new.node in
-    let lent = c.or_insert-child.ensures.value ∙ ap (λ o. unwrap_or o Fresh) c.in_ok-tree.ensures.value in
+    let lent = c.or_insert-child.ensures.value ∙ ap (λ o. unwrap_or o Empty) c.in_ok-tree.ensures.value in
     let written = c.tree-3-1.given.1 (sym c.in_ok-tree.ensures.same_map) in
     at_key c.args.key es c.in_ok-tree.ensures.ordered c.or_insert-child.result.now lent _ _ refl (add path push (leaf_of c.args.pair.now.leaf)) new
-    (ap entries_seen (sym (ap (λ (m : BTreeMap Key Draft Global). m.entries) written ∙ c.in_ok-tree.ensures.update.1 new))) c.add_along.result c.add_along.ensures.added
+    (ap entries_seen (sym (ap (λ (m : BTreeMap Key TreeBuilder Global). m.entries) written ∙ c.in_ok-tree.ensures.update.1 new))) c.add_along.result c.add_along.ensures.added
 
 pub add_along-returns-in-Map-clause-added : goal.add_along-returns-in-Map-clause-added
 add_along-returns-in-Map-clause-added t c =
     let pair = c.take_key-key.new.self in
     let h = rw (c.take_key-key.ensures.manner, c.take_key-key.ensures.leaf) at c.add_below.ensures in
-    rw (c.in-Map.is, c.take_key-key.ensures.key, draft_tree-Map c.in-Map.map, draft_tree-Map c.add_below.new.map)
+    rw (c.in-Map.is, c.take_key-key.ensures.key, built_tree-Map c.in-Map.map, built_tree-Map c.add_below.new.map)
     (below_map (step_of_key c.take_key-key.result) (path_of (drop (c.args.level + 1) pair.path.items)) (is_push c.args.pair.now.manner) (leaf_of c.args.pair.now.leaf)
-    (draft_entries c.in-Map.map) (draft_entries c.add_below.new.map) c.add_below.result h)
+    (built_entries c.in-Map.map) (built_entries c.add_below.new.map) c.add_below.result h)

@@ -1,13 +1,13 @@
 -- The maps so far lead from the node to this one, with the keys from its level on ahead.
 use Rattle.std.proofs.Common.{◌≡◌, ◌≤◌, ◌-◌, length, drop}
 use Rattle.qs_tree.specs.internal.scan.Pairs.{path_of}
-use Rattle.qs_tree.specs.internal.build.Draft.{draft_tree}
+use Rattle.qs_tree.specs.internal.build.Builder.{built_tree}
 use Rattle.qs_tree.specs.internal.build.Descent.{Leads}
 use Rattle.qs_tree.proofs.build.descent.descend.Given as goal
 
 abbrev pub invariant-loop-level : goal.invariant-loop-level
 invariant-loop-level l = record {
-  way : Leads (path_of (drop l.fn.level l.fn.pair.path.items)) (draft_tree l.fn.node) l.maps.items (path_of (drop l.level l.pair.path.items)) (draft_tree l.node);
+  way : Leads (path_of (drop l.fn.level l.fn.pair.path.items)) (built_tree l.fn.node) l.maps.items (path_of (drop l.level l.pair.path.items)) (built_tree l.node);
   count : l.level ≤ length l.pair.path.items;
   manner : l.pair.manner ≡ l.fn.pair.manner;
   leaf : l.pair.leaf ≡ l.fn.pair.leaf;

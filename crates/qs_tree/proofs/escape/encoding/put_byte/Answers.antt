@@ -1,5 +1,5 @@
 use Rattle.std.proofs.Common.{◌∙◌, ◌+◌, ◌++◌, ap, sym, arith, length, take}
-use Rattle.qs_tree.proofs.lemmas.escape.EncodedFronts.{spelling_escape, spelling_plain, escape_is}
+use Rattle.qs_tree.proofs.lemmas.escape.EncodedFronts.{spelling_escape, escape_is}
 use Rattle.qs_tree.proofs.escape.encoding.put_byte.Goals as goal
 
 pub put-requires : goal.put-requires

@@ -17,7 +17,7 @@ pub returns-in_default-last : goal.returns-in_default-last
 returns-in_default-last c =
     let es = c.pop.new.self in
     let all = ap entry_nodes c.in-Some.ensures.all ∙ entry_last es c.in-Some.field-0-0 c.in-Some.last in
-    omega (arith, c.loop-last.invariant, all, ap entries_node_count (entries_of_map-map c.args.map), c.hung.ensures.0, map_nodes (roll-ParsedMap (record { map = es })))
+    omega (arith, c.loop-last.invariant, all, ap entries_node_count (entries_of_map-map c.args.map), c.drop_first_leaf.ensures.0, map_nodes (roll-ParsedMap (record { map = es })))
 
 fewer : (es before : Held) (k : Key) (v : ParsedValue) (n : ℕ) → before ≡ es ++ (k, v) ∷ [] → entry_nodes before ≤ n → entry_nodes es ≤ n
 fewer es before k v n is most = omega (arith, ap entry_nodes is, entry_last es k v, most)

@@ -7,4 +7,4 @@ returns c =
     let v = c.pop.new.self in
     let all = ap item_nodes c.in-Some.ensures.items in
     let last = item_last v.items c.in-Some.last in
-    (omega (arith, all, last, c.hung.ensures.0, sequence_nodes v), omega (arith, all, last, c.hung.ensures.1, sequence_nodes v))
+    (omega (arith, all, last, c.drop_first_leaf.ensures.0, sequence_nodes v), omega (arith, all, last, c.drop_first_leaf.ensures.1, sequence_nodes v))

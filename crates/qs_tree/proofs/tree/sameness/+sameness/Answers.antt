@@ -3,7 +3,7 @@ use Rattle.qs_spec.specs.Segment.{is_same_segment}
 use Rattle.qs_tree.specs.tree.Equality.{tree_same}
 use Rattle.qs_tree.specs.tree.Views.{segment_of_key, tree_of}
 use Rattle.qs_tree.proofs.lemmas.tree.Equality.{key_eq-segments}
-use Rattle.qs_tree.proofs.lemmas.tree.MetNodes.{node_with}
+use Rattle.qs_tree.proofs.lemmas.tree.Nodes.{node_with}
 use Rattle.qs_tree.proofs.lemmas.tree.NodeCounts.{entry_at_within, item_at_within}
 use Rattle.qs_tree.proofs.lemmas.tree.Lengths.{other_items, other_entries}
 use Rattle.qs_tree.proofs.tree.sameness.+sameness.Goals as goal

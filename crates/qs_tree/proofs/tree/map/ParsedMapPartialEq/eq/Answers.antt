@@ -1,6 +1,6 @@
 use Rattle.std.proofs.Common.{ap₂, ◌∙◌}
 use Rattle.qs_tree.specs.tree.Equality.{entries_same}
-use Rattle.qs_tree.proofs.lemmas.tree.MetNodes.{entries_in}
+use Rattle.qs_tree.proofs.lemmas.tree.Nodes.{entries_in}
 use Rattle.qs_tree.proofs.tree.map.ParsedMapPartialEq.eq.Goals as goal
 
 pub returns : goal.returns

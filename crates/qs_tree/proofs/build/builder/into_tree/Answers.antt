@@ -1,0 +1,30 @@
+use Rattle.std.proofs.Common.{◌++◌, ◌∷◌, length, sym, ap, ◌∙◌, append-nil, arith}
+use Rattle.std.specs.List.Sorted.{IsStrictlySortedBy}
+use Rattle.std.specs.Map.{keys_of}
+use Rattle.std.specs.Vec.Iter.{into_iter_items}
+use Rattle.qs_tree.specs.tree.Keys.{key_cmp}
+use Rattle.qs_tree.proofs.lemmas.build.Built.{keys_at_end, pushed, nothing}
+use Rattle.qs_tree.proofs.build.builder.into_tree.Goals as goal
+
+pub loop-entry-init : goal.loop-entry-init
+loop-entry-init c =
+    let given = c.into_iter-entry-iterator.ensures.into_iter_gives in
+    let items = c.into_items-entry-items.ensures in
+    record { all = rw (c.new-map.ensures.empty, given.0, items.all); size = omega (arith, given.1, c.into_items-entry-items.result.ok, ap length given.0); sorted = rw (c.new-map.ensures.empty, given.0, items.all) items.sorted }
+
+pub loop-entry-preserved : goal.loop-entry-preserved
+loop-entry-preserved c =
+    let entry = c.in-Some.entry in
+    let rest = into_iter_items c.next.new.self in
+    let sorted : IsStrictlySortedBy key_cmp (keys_of c.loop-entry.map.entries ++ keys_of (entry ∷ rest)) = rw c.in-Some.ensures.steps.0 at c.loop-entry.invariant.sorted in
+    let all = rw c.in-Some.ensures.steps.0 at c.loop-entry.invariant.all in
+    record {
+      all = rw c.in_ok-insert.ensures (pushed entry.0 (keys_of rest) c.loop-entry.map.entries rest entry.1 sorted ∙ all);
+      size = omega (arith, c.loop-entry.invariant.size, ap length c.in-Some.ensures.steps.0, c.in-Some.ensures.steps.1);
+      sorted = rw (c.in_ok-insert.ensures, keys_at_end entry.0 (keys_of rest) c.loop-entry.map.entries entry.1 sorted) sorted;
+    }
+
+pub returns : goal.returns
+returns c =
+    let none = nothing (into_iter_items c.loop-entry.entry-iterator) _ c.loop-entry.invariant.size c.in-None.ensures.steps.0 in
+    sym (append-nil _) ∙ rw none at c.loop-entry.invariant.all

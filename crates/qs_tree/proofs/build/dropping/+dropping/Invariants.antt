@@ -1,0 +1,38 @@
+-- What is left gets less. A vector or a search tree is less than the map that it is in.
+use Rattle.std.proofs.Common.{◌≡◌, ◌≤◌, ◌+◌, ◌*◌}
+use Rattle.std.specs.BTreeMap.{btree_map_len}
+use Rattle.qs_tree.proofs.lemmas.build.BuiltNodes.{nodes, entry_nodes}
+use Rattle.qs_tree.proofs.build.dropping.+dropping.Given as goal
+
+abbrev pub decreases-drop_builder : goal.decreases-drop_builder
+decreases-drop_builder l = 4 * nodes l.node + 2
+
+abbrev pub decreases-drop_first_leaf : goal.decreases-drop_first_leaf
+decreases-drop_first_leaf l = 4 * nodes l.node + 1
+
+abbrev pub decreases-without_last : goal.decreases-without_last
+decreases-without_last l = 4 * entry_nodes l.entries + 2
+
+abbrev pub decreases-drop_below : goal.decreases-drop_below
+decreases-drop_below l = 4 * entry_nodes l.map.entries + 3
+
+abbrev pub invariant-drop_builder-loop-left : goal.invariant-drop_builder-loop-left
+invariant-drop_builder-loop-left l = nodes l.left ≤ nodes l.fn.node
+
+abbrev pub decreases-drop_builder-loop-left : goal.decreases-drop_builder-loop-left
+decreases-drop_builder-loop-left l = nodes l.left
+
+abbrev pub invariant-drop_first_leaf-loop-node : goal.invariant-drop_first_leaf-loop-node
+invariant-drop_first_leaf-loop-node l = record {
+  all : nodes l.node + nodes l.above ≡ nodes l.fn.node + nodes l.fn.above;
+  within : nodes l.node ≤ nodes l.fn.node;
+}
+
+abbrev pub decreases-drop_first_leaf-loop-node : goal.decreases-drop_first_leaf-loop-node
+decreases-drop_first_leaf-loop-node l = nodes l.node
+
+abbrev pub invariant-drop_below-loop-node : goal.invariant-drop_below-loop-node
+invariant-drop_below-loop-node l = entry_nodes l.map.entries ≤ entry_nodes l.fn.map.entries
+
+abbrev pub decreases-drop_below-loop-node : goal.decreases-drop_below-loop-node
+decreases-drop_below-loop-node l = btree_map_len l.map

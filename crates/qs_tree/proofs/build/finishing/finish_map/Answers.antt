@@ -1,0 +1,49 @@
+use Rattle.std.proofs.Common.{◌≡◌, [], ◌∷◌, length, sym, ap, ◌∙◌, append-nil, length-append, arith}
+use Rattle.qs_spec.specs.Tree.Tree.{mapping}
+use Rattle.qs_tree.specs.declared.build.finishing.Frame.{Frame}
+use Rattle.qs_tree.specs.tree.Views.{entries_from}
+use Rattle.qs_tree.specs.internal.build.Builder.{built_entries}
+use Rattle.qs_tree.specs.internal.build.Finishing.{level_pairs, with_node}
+use Rattle.qs_tree.proofs.lemmas.tree.Keys.{entries_of_map-map}
+use Rattle.qs_tree.proofs.lemmas.build.Levels.{maps_on_stack, taken, put_back, in_order, in_order-last, last_in_order, maps_on_stack-last}
+use Rattle.qs_tree.proofs.build.finishing.finish_map.Goals as goal
+
+pub loop-stack-smaller-in-Some : goal.loop-stack-smaller-in-Some
+loop-stack-smaller-in-Some c =
+    let w : Frame = record { level = c.next_map.new.self; key = c.in-Some.key } in
+    let ws = c.loop-stack.stack.items in
+    omega (arith, rw c.in-Some.is at c.in_ok-key.ensures.fewer, c.in_ok-inner-in-Some.ensures.maps, ap length c.in_ok-push-in-Some.ensures.items, length-append ws (w ∷ []), ap maps_on_stack c.in_ok-push-in-Some.ensures.items, maps_on_stack-last w ws)
+
+pub loop-stack-preserved-in-Some : goal.loop-stack-preserved-in-Some
+loop-stack-preserved-in-Some c =
+    let w : Frame = record { level = c.next_map.new.self; key = c.in-Some.key } in
+    let ws = c.loop-stack.stack.items in
+    let es = built_entries c.in-Some.map in
+    let same : with_node w (mapping es) ≡ level_pairs c.loop-stack.level = rw c.in-Some.is at c.in_ok-key.ensures.pairs in
+    record {
+      all = rw c.in_ok-push-in-Some.ensures.items (taken w ws c.loop-stack.level c.in_ok-inner-in-Some.inner es _ same c.in_ok-inner-in-Some.ensures c.loop-stack.invariant.all);
+      sorted = c.in_ok-inner-in-Some.ensures.sorted;
+      stack = rw c.in_ok-push-in-Some.ensures.items (in_order-last w ws c.loop-stack.invariant.stack (in_order w (mapping es) (rw same c.loop-stack.invariant.sorted)));
+    }
+
+pub resume-requires : goal.resume-requires
+resume-requires c = (last_in_order c.in-Some-pop.outer c.pop.new.self.items (rw c.in-Some-pop.ensures.items at c.loop-stack.invariant.stack)).1 _
+
+pub loop-stack-smaller : goal.loop-stack-smaller
+loop-stack-smaller c =
+    let w = c.in-Some-pop.outer in
+    let ws = c.pop.new.self.items in
+    omega (arith, c.in_ok-level-in-None.ensures.same, ap length c.in-Some-pop.ensures.items, length-append ws (w ∷ []), ap maps_on_stack c.in-Some-pop.ensures.items, maps_on_stack-last w ws)
+
+pub loop-stack-preserved : goal.loop-stack-preserved
+loop-stack-preserved c =
+    let w = c.in-Some-pop.outer in
+    let ws = c.pop.new.self.items in
+    let stack = last_in_order w ws (rw c.in-Some-pop.ensures.items at c.loop-stack.invariant.stack) in
+    record {
+      all = put_back w ws c.loop-stack.level c.in_ok-level-in-None.level _ _ c.in_ok-level-in-None.ensures.pairs
+          (entries_of_map-map _ ∙ ap entries_from (sym (append-nil _) ∙ rw c.in-None.is at c.in_ok-key.ensures.pairs))
+          (rw c.in-Some-pop.ensures.items at c.loop-stack.invariant.all);
+      sorted = rw c.in_ok-level-in-None.ensures.pairs (stack.1 _);
+      stack = stack.0;
+    }

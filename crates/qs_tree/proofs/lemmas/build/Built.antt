@@ -1,0 +1,144 @@
+-- What a map under construction holds after a step.
+use Rattle.std.proofs.Common.{◌≡◌, ℕ, Bool, true, false, not, true≢false, List, [], ◌∷◌, ◌++◌, length, slice_get, Option, Some, None, option_map, unwrap_or, Result, Ok, Err, Ordering, Less, Equal, Greater, refl, sym, ap, ◌∙◌, arith, rules, Global}
+use Rattle.std.specs.List.{AllByRecursion}
+use Rattle.std.specs.List.Sorted.{IsStrictlySortedBy}
+use Rattle.std.specs.Map.{keys_of, lookup, set_value}
+use Rattle.std.specs.Ordering.{ordering_reverse}
+use Rattle.std.specs.BTreeMap.{is_at, insert_entry}
+use Rattle.std.specs.declared.collections.BTreeMap.{BTreeMap}
+use Rattle.qs_spec.specs.Tree.{Tree, Entries}
+use Rattle.qs_spec.specs.Tree.Tree.{uninitialized}
+use Rattle.qs_spec.specs.Segment.{Step, compare_segments}
+use Rattle.qs_spec.specs.internal.InPlace.{update, add}
+use Rattle.qs_tree.specs.declared.tree.key.Key.{Key}
+use Rattle.qs_tree.specs.declared.build.builder.TreeBuilder.{TreeBuilder, Empty}
+use Rattle.qs_tree.specs.declared.build.builder.MapBuilder.{the_lemmas}
+use Rattle.qs_tree.specs.declared.build.builder.TreeBuilder.TheVariants as builder
+use Rattle.qs_tree.specs.declared.build.builder.MapBuilder.TheVariants as form
+use Rattle.qs_tree.specs.declared.scan.pair.Leaf.{Leaf}
+use Rattle.qs_tree.specs.internal.scan.Pairs.{leaf_of}
+use Rattle.qs_tree.specs.contracts.tree.key.KeyOrd.TheImpl.Laws.{total-law}
+use Rattle.qs_tree.specs.declared.build.conflict.AddError.{AddError}
+use Rattle.qs_tree.specs.tree.Keys.{key_cmp}
+use Rattle.qs_tree.specs.internal.build.Adding.{Gives}
+use Rattle.qs_tree.specs.internal.tree.Places.{IsHit, IsGap, put_value}
+use Rattle.qs_tree.specs.tree.Views.{segment_of_key, step_of_key, find}
+use Rattle.qs_tree.specs.internal.build.Builder.{built_tree, built_entries, entries_seen, child, Takes}
+use Rattle.qs_tree.proofs.lemmas.tree.Keys.{seen_view, seen-lookup, key_cmp-segments}
+use Rattle.qs_tree.proofs.lemmas.tree.Ordered.{ordered_seen}
+use Rattle.qs_tree.proofs.lemmas.tree.Places.{hit_lookup, gap_lookup, hit_set}
+use Rattle.qs_tree.proofs.lemmas.build.Turns.{rejected_too, put_there, rejected_there}
+use Rattle.qs_tree.proofs.lemmas.Views.{built_tree-Empty, built_tree-Leaf}
+
+abbrev Drafts : Type 0
+Drafts = List (Key × TreeBuilder)
+
+pub built_entries-Vector : (es : Drafts) → built_entries (form.Vector es) ≡ entries_seen es
+built_entries-Vector es = search (rules, the_lemmas)
+
+pub built_entries-Tree : (m : BTreeMap Key TreeBuilder Global) → built_entries (form.Tree m) ≡ entries_seen m.entries
+built_entries-Tree m = search (rules, the_lemmas)
+
+pub ruleset forms = (built_entries-Vector, built_entries-Tree)
+
+module _ {X : Type 0} (seen : X → Tree) (k : Key) where
+  pub inserted : (es : List (Key × X)) (v : X) → update (step_of_key k) (λ _. Some (seen v)) (seen_view seen es) ≡ Some (seen_view seen (insert_entry key_cmp es k v))
+  inserted [] v = refl
+  inserted (e ∷ es) v = by (inserted es v) (key_cmp k e.0) refl
+    where
+      by : update (step_of_key k) (λ _. Some (seen v)) (seen_view seen es) ≡ Some (seen_view seen (insert_entry key_cmp es k v)) → (o : Ordering) → key_cmp k e.0 ≡ o
+          → update (step_of_key k) (λ _. Some (seen v)) (seen_view seen (e ∷ es)) ≡ Some (seen_view seen (insert_entry key_cmp (e ∷ es) k v))
+      by more Less d = rw (← key_cmp-segments k e.0, d)
+      by more Equal d = rw (← key_cmp-segments k e.0, d)
+      by more Greater d = rw (← key_cmp-segments k e.0, d, more)
+
+  -- no key is this one
+  all_above : (l : Key) (ks : List Key) → key_cmp k l ≡ Less → AllByRecursion (λ y. key_cmp l y ≡ Less) ks → AllByRecursion (λ y. key_cmp k y ≡ Less) ks
+  all_above l [] less h = tt
+  all_above l (y ∷ ks) less h = (total-law.trans k l y less h.0, all_above l ks less h.1)
+
+  none_set : (es : List (Key × X)) (w : X) → AllByRecursion (λ y. key_cmp k y ≡ Less) (keys_of es) → set_value (is_at (key_cmp k)) es w ≡ es
+  none_set [] w h = refl
+  none_set (e ∷ es) w h = rw h.0 (ap (λ l. e ∷ l) (none_set es w h.1))
+
+  -- the value at the key doesn't matter where another is put there
+  pub put_again : (es : List (Key × X)) (w : X) (u : Tree) → IsStrictlySortedBy key_cmp (keys_of es)
+      → update (step_of_key k) (λ _. Some u) (seen_view seen (set_value (is_at (key_cmp k)) es w)) ≡ update (step_of_key k) (λ _. Some u) (seen_view seen es)
+  unfolding IsStrictlySortedBy
+  put_again [] w u h = refl
+  put_again (e ∷ es) w u h = by (put_again es w u h.1) (key_cmp k e.0) refl
+    where
+      by : update (step_of_key k) (λ _. Some u) (seen_view seen (set_value (is_at (key_cmp k)) es w)) ≡ update (step_of_key k) (λ _. Some u) (seen_view seen es) → (o : Ordering) → key_cmp k e.0 ≡ o
+          → update (step_of_key k) (λ _. Some u) (seen_view seen (set_value (is_at (key_cmp k)) (e ∷ es) w)) ≡ update (step_of_key k) (λ _. Some u) (seen_view seen (e ∷ es))
+      by more Less d = let before : compare_segments (step_of_key k).seg (segment_of_key e.0) ≡ Less = d in rw (d, before, none_set es w (all_above e.0 (keys_of es) d h.0))
+      by more Equal d = let same : compare_segments (step_of_key k).seg (segment_of_key e.0) ≡ Equal = d in rw (d, same)
+      by more Greater d = let after : compare_segments (step_of_key k).seg (segment_of_key e.0) ≡ Greater = d in rw (d, after, more)
+
+-- the node at a key is taken out of a vector
+module _ (k : Key) (es : Drafts) (i : ℕ) where
+  pub taken_hit : IsHit key_cmp k es i → IsStrictlySortedBy key_cmp (keys_of es) → (x w : TreeBuilder) → option_map (λ e. e.1) (slice_get es i) ≡ Some x
+      → Takes k (entries_seen es) (built_tree x) (entries_seen (put_value es i w))
+  taken_hit hit sorted x w is =
+      let found : Some (built_tree x) ≡ find (segment_of_key k) (entries_seen es) = ap (option_map built_tree) (sym is ∙ sym (hit_lookup key_cmp k es i hit)) ∙ seen-lookup built_tree k es in
+      record {
+        node = rw (← found);
+        rest = λ u. rw (← hit_set key_cmp k es i w hit) (put_again built_tree k es w u sorted);
+        ordered = ordered_seen built_tree es sorted;
+      }
+
+  pub taken_gap : IsGap key_cmp k es i → IsStrictlySortedBy key_cmp (keys_of es) → Takes k (entries_seen es) (built_tree Empty) (entries_seen es)
+  taken_gap gap sorted =
+      let missing : None ≡ find (segment_of_key k) (entries_seen es) = ap (option_map built_tree) (sym (gap_lookup key_cmp k es i gap)) ∙ seen-lookup built_tree k es in
+      record { node = rw (built_tree-Empty, ← missing); rest = λ u. refl; ordered = ordered_seen built_tree es sorted }
+
+-- a leaf is added at the node at a key, which was lent
+module _ (k : Key) (es : Drafts) (sorted : IsStrictlySortedBy key_cmp (keys_of es)) (old : TreeBuilder) (lent : old ≡ unwrap_or (lookup (is_at (key_cmp k)) es) Empty) where
+  or_fresh : (o : Option TreeBuilder) → built_tree (unwrap_or o Empty) ≡ unwrap_or (option_map built_tree o) uninitialized
+  or_fresh None = built_tree-Empty
+  or_fresh (Some d) = refl
+
+  there : built_tree old ≡ child (segment_of_key k) (entries_seen es)
+  there = ap built_tree lent ∙ or_fresh _ ∙ ap (λ o. unwrap_or o uninitialized) (seen-lookup built_tree k es)
+
+  pub at_key : {A : Type 0} (before seen : Entries) → entries_seen es ≡ before → (f : Tree → Option Tree) (new : TreeBuilder) → entries_seen (insert_entry key_cmp es k new) ≡ seen
+      → (r : Result A AddError) → Gives (λ _. built_tree new) (f (built_tree old)) r → Gives (λ _. seen) (update (step_of_key k) f before) r
+  at_key before seen was f new is (Ok a) h = rw (← was)
+      (put_there (step_of_key k) f (entries_seen es) (ordered_seen built_tree es sorted) (built_tree old) there (entries_seen es) seen (built_tree new) h (λ u. refl) (inserted built_tree k es new ∙ ap Some is))
+  at_key before seen was f new is (Err e) h = rw (← was)
+      (rejected_too (f (built_tree old)) _ e (rejected_there (step_of_key k) f (entries_seen es) (ordered_seen built_tree es sorted) (built_tree old) there) h)
+
+pub not_push : (push : Bool) → not push ≡ true → push ≡ false
+not_push true e = absurd (true≢false (sym e))
+not_push false e = refl
+
+-- a plain leaf is put at a key that is missing
+module _ (k : Key) (es : Drafts) (sorted : IsStrictlySortedBy key_cmp (keys_of es)) (i : ℕ) (gap : IsGap key_cmp k es i) where
+  pub leaf_put : (path : List Step) (push : Bool) (l : Leaf) → path ≡ [] → push ≡ false → update (step_of_key k) (add path push (leaf_of l)) (entries_seen es) ≡ Some (entries_seen (insert_entry key_cmp es k (builder.Leaf l)))
+  leaf_put path push l end plain =
+      let made : add [] false (leaf_of l) (built_tree Empty) ≡ Some (built_tree (builder.Leaf l)) = rw (built_tree-Empty, built_tree-Leaf l) in
+      rw (end, plain) (at_key k es sorted Empty (sym (ap (λ o. unwrap_or o Empty) (gap_lookup key_cmp k es i gap))) (entries_seen es) (entries_seen (insert_entry key_cmp es k (builder.Leaf l))) refl
+      (add [] false (leaf_of l)) (builder.Leaf l) refl (Ok (tt {0})) made)
+
+-- a key above all of some entries goes to their end
+module _ (k : Key) (ks : List Key) where
+  less_last : (l : Key) (js : List Key) → AllByRecursion (λ y. key_cmp l y ≡ Less) (js ++ k ∷ ks) → key_cmp l k ≡ Less
+  less_last l [] h = h.0
+  less_last l (j ∷ js) h = less_last l js h.1
+
+  above : (l : Key) (js : List Key) → AllByRecursion (λ y. key_cmp l y ≡ Less) (js ++ k ∷ ks) → key_cmp k l ≡ Greater
+  above l js h = total-law.antisymm k l ∙ ap ordering_reverse (less_last l js h)
+
+  pub keys_at_end : {X : Type 0} (es : List (Key × X)) (v : X) → IsStrictlySortedBy key_cmp (keys_of es ++ k ∷ ks) → keys_of (insert_entry key_cmp es k v) ++ ks ≡ keys_of es ++ k ∷ ks
+  unfolding IsStrictlySortedBy
+  keys_at_end [] v h = refl
+  keys_at_end (e ∷ es) v h = rw (above e.0 (keys_of es) h.0) (ap (λ l. e.0 ∷ l) (keys_at_end es v h.1))
+
+  pub pushed : {X : Type 0} (es rest : List (Key × X)) (v : X) → IsStrictlySortedBy key_cmp (keys_of es ++ k ∷ ks) → insert_entry key_cmp es k v ++ rest ≡ es ++ (k, v) ∷ rest
+  unfolding IsStrictlySortedBy
+  pushed [] rest v h = refl
+  pushed (e ∷ es) rest v h = rw (above e.0 (keys_of es) h.0) (ap (λ l. e ∷ l) (pushed es rest v h.1))
+
+-- no entries are left
+pub nothing : {X : Type 0} (xs : List X) (n : ℕ) → n ≡ length xs → n ≡ 0 → xs ≡ []
+nothing [] n same none = refl
+nothing (x ∷ xs) n same none = absurd (omega (arith, same, none))

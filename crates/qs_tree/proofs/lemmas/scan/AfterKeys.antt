@@ -1,0 +1,140 @@
+-- What follows a key, by the raw bytes of runs.
+use Rattle.std.proofs.Common.{◌≡◌, ℕ, zero, suc, ◌-◌, Bool, true, false, cond, ◌&&◌, List, [], ◌∷◌, ◌++◌, length, take, drop, refl, sym, ap, ap₂, ◌∙◌, subst, arith, Option, Some, None, Result, length-append, ◌==◌, ◌<◌, ◌⊎◌, ⊎_elim}
+use Rattle.std.proofs.Math.Seq.{take-append_seam}
+use Rattle.std.proofs.lemmas.List.{drop_at, map-append}
+use Rattle.qs_spec.specs.Token.{Kind, Token, tokens, byte_token, is_escaped_bracket, raw_of}
+use Rattle.qs_spec.specs.Token.Kind.{Amp, Equals, Open, Close, Other}
+use Rattle.qs_spec.specs.Segment.{Step, step_of}
+use Rattle.qs_spec.specs.Leaf.{NoValue}
+use Rattle.qs_spec.specs.Grammar.{Pair, direct, pushed, longer, is_equals, is_open, is_close, ends_last}
+use Rattle.qs_spec.specs.internal.Parsing.{Rest, cut, with_leaf, parsed_value, value_at, after_close, after_close_at, after_run, in_segment, in_last, parsed_brackets}
+use Rattle.qs_tree.specs.declared.tree.key.Key.{Key}
+use Rattle.qs_tree.specs.declared.scan.cursor.Kind as kind
+use Rattle.qs_tree.specs.declared.scan.cursor.Token as code
+use Rattle.qs_tree.specs.declared.scan.cursor.Cursor as cursor
+use Rattle.qs_tree.specs.declared.scan.pair.Pair as code_pair
+use Rattle.qs_tree.specs.declared.scan.parser.ParseError as parse_error
+use Rattle.qs_tree.specs.tree.Views.{step_of_key}
+use Rattle.qs_tree.specs.internal.scan.Pairs.{path_of}
+use Rattle.qs_tree.specs.internal.scan.Cursor.{kind_of_token, token_of, from_token, left, taken, IsLeft, IsPast}
+use Rattle.qs_tree.specs.internal.scan.Parser.{IsClosing, FollowsStop, ParsesPair, root_path, from_root, from_root_at}
+
+-- what is left after some bytes
+pub left_behind : (start front rest : List ℕ) → start ≡ front ++ rest → IsLeft start rest
+left_behind start front rest e =
+    let n : length start - length rest ≡ length front = omega (arith, ap length e, length-append front rest) in
+    sym (ap (λ k. drop k start) n ∙ ap (drop (length front)) e ∙ drop_at front rest (length front) refl)
+
+pub taken_behind : (start front rest : List ℕ) → start ≡ front ++ rest → taken start rest ≡ front
+taken_behind start front rest e =
+    let n : length start - length rest ≡ length front = omega (arith, ap length e, length-append front rest) in
+    ap (λ k. take k start) n ∙ ap (take (length front)) e ∙ take-append_seam front rest
+
+-- a token has bytes
+abbrev pub HasBytes : List Token → Type 0
+HasBytes [] = Unit {0}
+HasBytes (t ∷ ts) = (b : ℕ) × (more : List ℕ) × (t.raw ≡ b ∷ more)
+
+pub has_bytes : (form : Bool) (bytes : List ℕ) → HasBytes (tokens form bytes)
+has_bytes form [] = tt
+has_bytes form (b ∷ []) = (b, [], refl)
+has_bytes form (b ∷ c ∷ []) = (b, [], refl)
+has_bytes form (b ∷ c ∷ e ∷ rest) = by (form && is_escaped_bracket b c e)
+  where
+    by : (x : Bool) → HasBytes (cond x (record { kind = cond (e == 66) Open Close; raw = b ∷ c ∷ e ∷ [] } ∷ tokens form rest) (byte_token b ∷ tokens form (c ∷ e ∷ rest)))
+    by true = (b, c ∷ e ∷ [], refl)
+    by false = (b, [], refl)
+
+-- a path and one key more
+pub path_more : (keys new : List Key) (key : Key) (raw : List ℕ) → new ≡ keys ++ key ∷ [] → step_of_key key ≡ step_of raw → path_of new ≡ longer (path_of keys) raw
+path_more keys new key raw e k = ap path_of e ∙ map-append step_of_key keys (key ∷ []) ∙ ap (λ (s : Step). path_of keys ++ s ∷ []) k
+
+-- no value, at the end or before `&`
+abbrev NoValueAt : Option code.Token → cursor.Cursor → Type 0
+NoValueAt stop c = (x : List Token) × (parsed_value (from_token stop (left c)) ≡ Some (NoValue, x)) × IsPast x c
+
+pub no_value_end : (stop : Option code.Token) (c : cursor.Cursor) → stop ≡ None → FollowsStop stop c → NoValueAt stop c
+no_value_end None c e h = ([], refl, h.0)
+no_value_end (Some t) c e h = cc
+
+pub no_value_token : (stop : Option code.Token) (t : code.Token) (c : cursor.Cursor) → stop ≡ Some t → IsClosing stop → is_equals (kind_of_token t.kind) ≡ false → NoValueAt stop c
+no_value_token stop t c e closing other = subst (λ s. NoValueAt s c) (sym e) (by (kind_of_token t.kind) refl (subst IsClosing e closing) other)
+  where
+    by : (k : Kind) → kind_of_token t.kind ≡ k → ends_last k ≡ true → is_equals k ≡ false → NoValueAt (Some t) c
+    by Amp d closing other = (token_of t ∷ left c, ap (λ k. value_at k (token_of t) (left c)) d, (d, refl))
+    by Equals d closing other = cc
+    by Open d closing other = cc
+    by Close d closing other = cc
+    by Other d closing other = cc
+
+-- the last key: the bracket, a token, and a run
+pub last_found : (path : List Step) (bracket raw : List ℕ) (t : Token) (ts stop : List Token) → is_close t.kind ≡ false → raw ≡ (bracket ++ t.raw) ++ raw_of (cut ends_last ts).0 → (cut ends_last ts).1 ≡ stop
+    → parsed_brackets 0 path bracket (t ∷ ts) ≡ with_leaf (direct (longer path raw)) (parsed_value stop)
+last_found path bracket raw t ts stop other e s =
+    ap (λ x. in_last x path bracket t ts) other ∙ ap₂ (λ r u. with_leaf (direct (longer path r)) (parsed_value u)) (sym e) s
+
+-- after a bracket: the end, a push, or a segment
+pub end_found : (room : ℕ) (path : List Step) (bracket : List ℕ) → parsed_brackets room path bracket [] ≡ None
+end_found zero path bracket = refl
+end_found (suc room) path bracket = refl
+
+pub push_found : (room : ℕ) (path : List Step) (bracket : List ℕ) (t : Token) (ts : List Token) → is_close t.kind ≡ true → parsed_brackets room path bracket (t ∷ ts) ≡ with_leaf (pushed path) (parsed_value ts)
+push_found zero path bracket t ts e = ap (λ x. in_last x path bracket t ts) e
+push_found (suc room) path bracket t ts e = ap (λ x. in_segment x (parsed_brackets room) path t ts) e
+
+segment_found : (room : ℕ) (path : List Step) (bracket : List ℕ) (t : Token) (ts : List Token) → 0 < room → is_close t.kind ≡ false
+    → parsed_brackets room path bracket (t ∷ ts) ≡ after_run (parsed_brackets (room - 1)) (longer path (raw_of (t ∷ (cut is_close ts).0))) (cut is_close ts).1
+segment_found zero path bracket t ts h e = absurd (omega (arith, h))
+segment_found (suc room) path bracket t ts h e =
+    let less : room ≡ suc room - 1 = omega arith in
+    ap (λ x. in_segment x (parsed_brackets room) path t ts) e ∙ ap (λ n. after_run (parsed_brackets n) (longer path (raw_of (t ∷ (cut is_close ts).0))) (cut is_close ts).1) less
+
+-- a token, and the bytes from its place on
+pub first_token : (place raw old new kept : List ℕ) → place ≡ old → old ≡ raw ++ new → kept ≡ new → place ≡ raw ++ kept
+first_token place raw old new kept at bytes same = at ∙ bytes ∙ ap (λ l. raw ++ l) (sym same)
+
+-- a segment whose key was put to the path
+pub segment_read : (room : ℕ) (keys new : List Key) (key : Key) (bracket raw : List ℕ) (t : Token) (ts stop : List Token) → 0 < room → is_close t.kind ≡ false
+    → raw ≡ t.raw ++ raw_of (cut is_close ts).0 → (cut is_close ts).1 ≡ stop → new ≡ keys ++ key ∷ [] → step_of_key key ≡ step_of raw
+    → parsed_brackets room (path_of keys) bracket (t ∷ ts) ≡ after_run (parsed_brackets (room - 1)) (path_of new) stop
+segment_read room keys new key bracket raw t ts stop h e run token items k =
+    segment_found room (path_of keys) bracket t ts h e
+    ∙ ap₂ (after_run (parsed_brackets (room - 1))) (ap (longer (path_of keys)) (sym run) ∙ sym (path_more keys new key raw items k)) token
+
+-- after a closed segment
+module _ (room : ℕ) (path : List Step) (t : code.Token) (rest : List Token) where
+  pub next_closing : (k : Kind) → kind_of_token t.kind ≡ k → ends_last k ≡ true → after_close (parsed_brackets room) path (token_of t ∷ rest) ≡ with_leaf (direct path) (parsed_value (token_of t ∷ rest))
+  next_closing Amp d h = ap (λ k. after_close_at k (parsed_brackets room) path (token_of t) rest) d ∙ sym (ap (λ k. with_leaf (direct path) (value_at k (token_of t) rest)) d)
+  next_closing Equals d h = ap (λ k. after_close_at k (parsed_brackets room) path (token_of t) rest) d ∙ sym (ap (λ k. with_leaf (direct path) (value_at k (token_of t) rest)) d)
+  next_closing Open d h = cc
+  next_closing Close d h = cc
+  next_closing Other d h = cc
+
+  pub next_open : kind_of_token t.kind ≡ Open → after_close (parsed_brackets room) path (token_of t ∷ rest) ≡ parsed_brackets room path t.raw.now rest
+  next_open d = ap (λ k. after_close_at k (parsed_brackets room) path (token_of t) rest) d
+
+  pub next_close : kind_of_token t.kind ≡ Close → after_close (parsed_brackets room) path (token_of t ∷ rest) ≡ None
+  next_close d = ap (λ k. after_close_at k (parsed_brackets room) path (token_of t) rest) d
+
+  pub next_other : kind_of_token t.kind ≡ Other → after_close (parsed_brackets room) path (token_of t ∷ rest) ≡ None
+  next_other d = ap (λ k. after_close_at k (parsed_brackets room) path (token_of t) rest) d
+
+-- what is read where the same is found
+pub pair_as : {A : Type 0} (found same : Rest Pair) (r : Result A parse_error.ParseError) (new : cursor.Cursor) (p : code_pair.Pair) → found ≡ same → ParsesPair same r new p → ParsesPair found r new p
+pair_as found same r new p e h = subst (λ f. ParsesPair f r new p) (sym e) h
+
+-- after a root key and an opening bracket
+pub root_open : (depth : ℕ) (key : List ℕ) (stop : Option code.Token) (t : code.Token) (ts us : List Token) (path : List Step) → stop ≡ Some t → is_open (kind_of_token t.kind) ≡ true → ts ≡ us → path ≡ root_path key
+    → from_root depth key (from_token stop ts) ≡ parsed_brackets depth path t.raw.now us
+root_open depth key stop t ts us path is opens same p =
+    ap₂ (λ o l. from_root depth key (from_token o l)) is same ∙ by (kind_of_token t.kind) opens ∙ ap (λ q. parsed_brackets depth q t.raw.now us) (sym p)
+  where
+    by : (k : Kind) → is_open k ≡ true → from_root_at k depth (root_path key) (token_of t) us ≡ parsed_brackets depth (root_path key) t.raw.now us
+    by Open e = refl
+    by Amp e = cc
+    by Equals e = cc
+    by Close e = cc
+    by Other e = cc
+
+pub closes : (k : kind.Kind) → (k ≡ kind.TheVariants.Ampersand) ⊎ (k ≡ kind.TheVariants.Equals) → ends_last (kind_of_token k) ≡ true
+closes k h = ⊎_elim (λ e. ap (λ k. ends_last (kind_of_token k)) e) (λ e. ap (λ k. ends_last (kind_of_token k)) e) h

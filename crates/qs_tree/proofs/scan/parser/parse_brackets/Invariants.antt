@@ -1,0 +1,19 @@
+use Rattle.std.proofs.Common.{◌≡◌, ◌≤◌, length}
+use Rattle.qs_spec.specs.internal.Parsing.{parsed_brackets}
+use Rattle.qs_tree.specs.internal.scan.Cursor.{left, spent}
+use Rattle.qs_tree.specs.internal.scan.Pairs.{path_of}
+use Rattle.qs_tree.specs.internal.scan.Parser.{Follows}
+use Rattle.qs_tree.proofs.scan.parser.parse_brackets.Given as goal
+
+-- what is found after the last bracket is what is found after the first
+abbrev pub invariant-loop-first : goal.invariant-loop-first
+invariant-loop-first l = record {
+  found : parsed_brackets l.fn.max_depth (path_of l.fn.pair.path.items) l.fn.bracket.raw.now (left l.fn.cursor) ≡ parsed_brackets l.room (path_of l.pair.path.items) l.bracket.raw.now (left l.cursor);
+  follows : Follows l.bracket l.cursor;
+  form : l.cursor.form ≡ l.fn.cursor.form;
+  shorter : length l.cursor.rest.now ≤ length l.fn.cursor.rest.now;
+  spent : spent l.cursor ≡ spent l.fn.cursor;
+}
+
+abbrev pub decreases-loop-first : goal.decreases-loop-first
+decreases-loop-first l = l.room

@@ -1,0 +1,18 @@
+use Rattle.std.proofs.Common.{sym, ap, ap₂, ◌∙◌, ◌++◌}
+use Rattle.qs_spec.specs.Token.{raw_of}
+use Rattle.qs_spec.specs.Segment.{step_of}
+use Rattle.qs_spec.specs.Grammar.{direct, ends_last}
+use Rattle.qs_spec.specs.internal.Parsing.{cut, with_leaf, parsed_value}
+use Rattle.qs_tree.specs.internal.scan.Cursor.{left, taken}
+use Rattle.qs_tree.proofs.lemmas.scan.AfterKeys.{path_more, pair_as}
+use Rattle.qs_tree.proofs.scan.parser.parse_last_key.Goals as goal
+
+pub returns-clause-pair : goal.returns-clause-pair
+returns-clause-pair c =
+    let old = c.args.cursor.now in
+    pair_as _ _ c.parse_plain.result c.parse_plain.new.cursor c.parse_plain.new.pair
+    (ap₂ (λ p v. with_leaf (direct p) (parsed_value v))
+    (sym (path_more c.args.pair.now.path.items c.push.new.self.items c.in_ok-parse_key.field-0 (taken c.args.bracket.place.rest.now old.rest.now ++ raw_of (cut ends_last (left old)).0)
+    c.in_ok-push.ensures.items (c.in_ok-parse_key.ensures.key ∙ ap step_of c.run_from.ensures.run)))
+    c.run_from.ensures.token)
+    c.parse_plain.ensures.pair

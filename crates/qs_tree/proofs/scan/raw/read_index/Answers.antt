@@ -1,6 +1,0 @@
-use Rattle.std.proofs.Common.{◌≡◌, ℕ, ◌==◌, List, true, length, ap, ◌∙◌}
-use Rattle.qs_tree.proofs.lemmas.scan.Indexes.{index_read}
-use Rattle.qs_tree.proofs.scan.raw.read_index.Goals as goal
-
-pub returns : goal.returns
-returns c = c.read_digits.ensures ∙ index_read c.args.raw.now (λ e. let empty : (length c.args.raw.now == 0) ≡ true = ap (λ (l : List ℕ). length l == 0) e in cc)

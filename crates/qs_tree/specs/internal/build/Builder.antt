@@ -1,0 +1,55 @@
+-- From a tree under construction to a tree of the definitions.
+use Rattle.std.specs.Prelude.{◌≡◌, List, map, Some, unwrap_or}
+use Rattle.qs_spec.specs.Segment.{Segment}
+use Rattle.qs_spec.specs.Tree.{Tree, Entries}
+use Rattle.qs_spec.specs.Tree.Tree.{leaf, sequence, mapping, uninitialized}
+use Rattle.qs_tree.specs.declared.build.builder.TreeBuilder.{TreeBuilder, fold-TreeBuilder}
+use Rattle.qs_tree.specs.declared.build.builder.MapBuilder.TheOpen.{TreeBuilder-F, MapBuilder-F}
+use Rattle.qs_tree.specs.declared.build.builder.MapBuilder.{MapBuilder, fold-MapBuilder}
+use Rattle.qs_tree.specs.declared.tree.key.Key.{Key}
+use Rattle.qs_tree.specs.tree.Views.{segment_of_key, step_of_key, items_of, entries_from, find}
+use Rattle.qs_tree.specs.internal.scan.Pairs.{leaf_tree}
+use Rattle.qs_tree.specs.tree.Ordered.{AreOrdered}
+use Rattle.qs_spec.specs.internal.InPlace.{update}
+
+-- one level of a node, with what is inside already seen as trees
+abbrev pub built_step : TreeBuilder-F Entries Tree → Tree
+built_step (TreeBuilder-F.Map m) = mapping m
+built_step (TreeBuilder-F.Sequence v) = sequence (items_of v.items)
+built_step (TreeBuilder-F.Leaf l) = leaf_tree l
+built_step TreeBuilder-F.Empty = uninitialized
+
+abbrev pub built_map_step : MapBuilder-F Entries Tree → Entries
+built_map_step (MapBuilder-F.Vector es) = entries_from es
+built_map_step (MapBuilder-F.Tree m) = entries_from m.entries
+
+-- the tree of a node
+abbrev pub built_tree : TreeBuilder → Tree
+built_tree = fold-TreeBuilder Entries Tree built_map_step built_step
+
+abbrev pub built_entries : MapBuilder → Entries
+built_entries = fold-MapBuilder Entries Tree built_map_step built_step
+
+-- the entries of a vector or a search tree
+abbrev pub entries_seen : List (Key × TreeBuilder) → Entries
+entries_seen es = entries_from (map (λ p. (p.0, built_tree p.1)) es)
+
+-- the node at a segment of a map, which may be missing
+abbrev pub child : Segment → Entries → Tree
+child s es = unwrap_or (find s es) uninitialized
+
+-- the node at a key is taken, and the other entries aren't changed
+pub record Takes (k : Key) (old : Entries) (taken : Tree) (new : Entries) : Type 0 where
+  pub node : taken ≡ child (segment_of_key k) old
+  pub rest : (u : Tree) → update (step_of_key k) (λ _. Some u) new ≡ update (step_of_key k) (λ _. Some u) old
+  pub ordered : AreOrdered old
+
+-- the node is no map
+abbrev pub IsNoMap : Tree → Type 0
+IsNoMap (mapping es) = ⊥
+IsNoMap (leaf l) = Unit {0}
+IsNoMap (sequence xs) = Unit {0}
+IsNoMap uninitialized = Unit {0}
+
+abbrev pub IsFlat : TreeBuilder → Type 0
+IsFlat node = IsNoMap (built_tree node)

@@ -1,0 +1,290 @@
+//! A tree under construction.
+ghost use Rattle.std.specs.Prelude.{◌≡◌, true, Some, IfOk, OnOk, MatchResult, option_map};
+ghost use Rattle.std.specs.List.Sorted.{IsStrictlySortedBy};
+ghost use Rattle.std.specs.Map.{keys_of};
+ghost use Rattle.std.specs.BTreeMap.{insert_entry};
+ghost use Rattle.qs_spec.specs.Tree.Tree.{mapping};
+ghost use Rattle.qs_spec.specs.Tree.Entries.{no_entries};
+ghost use Rattle.qs_spec.specs.internal.InPlace.{update};
+ghost use Rattle.qs_tree.specs.declared.tree.key.Key.{Key};
+ghost use Rattle.qs_tree.specs.tree.Views.{segment_of_key, step_of_key, tree_of};
+ghost use Rattle.qs_tree.specs.tree.Views as view;
+ghost use Rattle.qs_tree.specs.tree.Keys.{key_cmp};
+ghost use Rattle.qs_tree.specs.internal.tree.Places.{IsPlaced};
+ghost use Rattle.qs_tree.specs.internal.build.Builder.{built_tree, built_entries, entries_seen, Takes};
+
+use crate::build::dropping::drop_builder;
+use crate::scan::pair::Leaf;
+use crate::steps::Steps;
+use crate::tree::entries::Entries;
+use crate::tree::key::Key;
+use crate::tree::map::{find, search};
+use crate::tree::value::ParsedValue;
+use std::alloc::{AllocError, Global};
+use std::cmp::Ordering;
+use std::collections::BTreeMap;
+use std::fmt::Write;
+use std::mem;
+
+/// A node of a tree under construction.
+#[cycle(builder)]
+#[derive(Drop)]
+pub(crate) enum TreeBuilder<'qs> {
+    Map(MapBuilder<'qs>),
+    Sequence(Vec<ParsedValue<'qs>>),
+    Leaf(Leaf<'qs>),
+    /// No pair yet.
+    Empty,
+}
+
+/// A map under construction: a sorted vector, or a search tree after a key was inserted before the end of a vector with many
+/// entries. So an insertion takes logarithmic time for keys in any order.
+#[cycle(builder)]
+pub(crate) enum MapBuilder<'qs> {
+    Vector(Entries<Key<'qs>, TreeBuilder<'qs>>),
+    Tree(BTreeMap<Key<'qs>, TreeBuilder<'qs>>),
+}
+
+/// A vector with fewer entries takes a key at any index.
+const FEW: usize = 128;
+
+impl<'qs> TreeBuilder<'qs> {
+    /// The finished node, or the map that is to be finished. Doesn't allocate.
+    pub fn into_value(self) -> Result<ParsedValue<'qs>, MapBuilder<'qs>>
+        ensures { MatchResult result (λ value. tree_of value ≡ built_tree self.entry) (λ map. built_tree self.entry ≡ mapping (built_entries map)) }
+    {
+        match self {
+            TreeBuilder::Map(map) => Err(map),
+            TreeBuilder::Sequence(items) => Ok(ParsedValue::Sequence(items)),
+            TreeBuilder::Leaf(leaf) => Ok(leaf.into_value()),
+            TreeBuilder::Empty => Ok(ParsedValue::Uninitialized),
+        }
+    }
+}
+
+impl<'qs> MapBuilder<'qs> {
+    /// A map without entries. Doesn't allocate.
+    pub fn new(alloc: Global) -> Self
+        ensures { built_entries result ≡ no_entries }
+    {
+        MapBuilder::Vector(Entries::new(alloc))
+    }
+
+    /// The node at a key, or `None`. Doesn't allocate.
+    pub fn get(&self, key: &Key<'qs>) -> Option<&TreeBuilder<'qs>>
+        ensures { option_map (λ node. built_tree node.now) result ≡ view.find (segment_of_key key.now) (built_entries self.now) }
+    {
+        match self {
+            MapBuilder::Vector(entries) => find(entries.as_slice(), key, &mut Steps::new()),
+            MapBuilder::Tree(map) => map.get(key),
+        }
+    }
+
+    /// Takes the node at a key, and leaves an empty one. Returns an empty node where the key is missing. Doesn't allocate.
+    pub fn take(&mut self, key: &Key<'qs>) -> TreeBuilder<'qs>
+        ensures { Takes key.now (built_entries self.old) (built_tree result) (built_entries self.new) }
+    {
+        match self {
+            MapBuilder::Vector(entries) => take_at(entries, key),
+            MapBuilder::Tree(map) => take_below(map, key),
+        }
+    }
+
+    /// Puts a node at a key. An equal key that the map has already is kept. Returns an error only where an allocation failed.
+    pub fn put(
+        &mut self,
+        alloc: Global,
+        key: Key<'qs>,
+        node: TreeBuilder<'qs>,
+    ) -> Result<(), AllocError>
+        ensures { OnOk result (update (step_of_key key.entry) (λ _. Some (built_tree node.entry)) (built_entries self.old) ≡ Some (built_entries self.new)) }
+    {
+        match self {
+            MapBuilder::Vector(entries) => {
+                let place = place_among(entries.as_slice(), &key);
+                if goes_between(place, entries.len()) {
+                    let mut map = into_tree(alloc, mem::replace(entries, Entries::new(alloc)))?;
+                    put_below(&mut map, key, node)?;
+                    *self = MapBuilder::Tree(map);
+                    Ok(())
+                } else {
+                    put_at(entries, place, key, node)
+                }
+            }
+            MapBuilder::Tree(map) => put_below(map, key, node),
+        }
+    }
+
+    /// The keys as `Display` writes them, separated by `, `. Allocates the text.
+    pub fn key_list(self, alloc: Global) -> Result<String, AllocError> {
+        let entries = self.into_entries(alloc)?;
+        let mut text = String::new(alloc);
+        let mut first = true;
+        for entry in entries.as_slice() {
+            if !first {
+                text.push_str(", ")?;
+            }
+            write!(text, "{}", entry.0)?;
+            first = false;
+        }
+        Ok(text)
+    }
+
+    /// The map's vector, or its search tree. Doesn't allocate.
+    pub fn into_form(
+        self,
+    ) -> Result<Entries<Key<'qs>, TreeBuilder<'qs>>, BTreeMap<Key<'qs>, TreeBuilder<'qs>>>
+        ensures { MatchResult result (λ entries. built_entries self.entry ≡ entries_seen entries) (λ tree. built_entries self.entry ≡ entries_seen tree.entries) }
+    {
+        match self {
+            MapBuilder::Vector(entries) => Ok(entries),
+            MapBuilder::Tree(map) => Err(map),
+        }
+    }
+
+    /// The entries in a sorted vector, which is allocated for a search tree.
+    pub fn into_entries(
+        self,
+        alloc: Global,
+    ) -> Result<Entries<Key<'qs>, TreeBuilder<'qs>>, AllocError>
+        ensures { IfOk result (λ entries. entries_seen entries ≡ built_entries self.entry) }
+    {
+        match self {
+            MapBuilder::Vector(entries) => Ok(entries),
+            MapBuilder::Tree(map) => into_vector(alloc, map),
+        }
+    }
+}
+
+/// Doesn't allocate, and takes constant stack.
+impl<'qs> Drop for MapBuilder<'qs> {
+    fn drop(self) {
+        drop_builder(TreeBuilder::Map(self));
+    }
+}
+
+// Takes the node at a key of a vector, and leaves an empty one.
+fn take_at<'qs>(
+    entries: &mut Entries<Key<'qs>, TreeBuilder<'qs>>,
+    key: &Key<'qs>,
+) -> TreeBuilder<'qs>
+    ensures { Takes key.now (entries_seen entries.old) (built_tree result) (entries_seen entries.new) }
+{
+    match place_among(entries.as_slice(), key) {
+        Ok(at) => entries.replace(at, TreeBuilder::Empty),
+        Err(_) => TreeBuilder::Empty,
+    }
+}
+
+/// The index of a key among sorted entries, or as `Err` the index at which to insert it. Compares with the last key first, since
+/// keys often come in order.
+pub(crate) fn place_among<'qs>(
+    entries: &[(Key<'qs>, TreeBuilder<'qs>)],
+    key: &Key<'qs>,
+) -> Result<usize, usize>
+    requires { IsStrictlySortedBy key_cmp (keys_of entries.now) }
+    ensures { IsPlaced key_cmp key.now entries.now result }
+{
+    let len = entries.len();
+    if len == 0 {
+        return Err(0);
+    }
+    match key.compare(&entries[len - 1].0) {
+        Ordering::Greater => Err(len),
+        Ordering::Equal => Ok(len - 1),
+        Ordering::Less => search(entries, key, &mut Steps::new()),
+    }
+}
+
+/// Whether a key would be inserted before the end of a vector with many entries.
+pub(crate) fn goes_between(place: Result<usize, usize>, len: usize) -> bool {
+    match place {
+        Ok(_) => false,
+        Err(at) => len >= FEW && at < len,
+    }
+}
+
+// Takes the node at a key of a search tree, and leaves an empty one.
+fn take_below<'qs>(
+    map: &mut BTreeMap<Key<'qs>, TreeBuilder<'qs>>,
+    key: &Key<'qs>,
+) -> TreeBuilder<'qs>
+    ensures { Takes key.now (entries_seen map.old.entries) (built_tree result) (entries_seen map.new.entries) }
+{
+    match map.get_mut(key) {
+        Some(node) => mem::replace(node, TreeBuilder::Empty),
+        None => TreeBuilder::Empty,
+    }
+}
+
+// Puts a node at the index of its key.
+fn put_at<'qs>(
+    entries: &mut Entries<Key<'qs>, TreeBuilder<'qs>>,
+    place: Result<usize, usize>,
+    key: Key<'qs>,
+    node: TreeBuilder<'qs>,
+) -> Result<(), AllocError>
+    requires { IsPlaced key_cmp key entries.old place }
+    ensures { OnOk result (update (step_of_key key.entry) (λ _. Some (built_tree node.entry)) (entries_seen entries.old) ≡ Some (entries_seen entries.new)) }
+{
+    match place {
+        Ok(at) => {
+            entries.replace(at, node);
+            Ok(())
+        }
+        Err(at) => Ok(entries.insert_at(at, key, node)?),
+    }
+}
+
+// Puts a node at a key of a search tree.
+fn put_below<'qs>(
+    map: &mut BTreeMap<Key<'qs>, TreeBuilder<'qs>>,
+    key: Key<'qs>,
+    node: TreeBuilder<'qs>,
+) -> Result<(), AllocError>
+    ensures { OnOk result (update (step_of_key key.entry) (λ _. Some (built_tree node.entry)) (entries_seen map.old.entries) ≡ Some (entries_seen map.new.entries)) }
+{
+    Ok(insert(map, key, node)?)
+}
+
+// Inserts an entry into a search tree.
+fn insert<'qs>(
+    map: &mut BTreeMap<Key<'qs>, TreeBuilder<'qs>>,
+    key: Key<'qs>,
+    node: TreeBuilder<'qs>,
+) -> Result<(), AllocError>
+    ensures { OnOk result (map.new.entries ≡ insert_entry key_cmp map.old.entries key.entry node.entry) }
+{
+    map.insert(key, node)?;
+    Ok(())
+}
+
+/// The entries of a vector as a search tree. Returns an error only where an allocation failed.
+#[inline(never)]
+pub(crate) fn into_tree<'qs>(
+    alloc: Global,
+    entries: Entries<Key<'qs>, TreeBuilder<'qs>>,
+) -> Result<BTreeMap<Key<'qs>, TreeBuilder<'qs>>, AllocError>
+    ensures { IfOk result (λ map. map.entries ≡ entries.entry) }
+{
+    let mut map = BTreeMap::new(alloc);
+    for entry in entries.into_items() {
+        insert(&mut map, entry.0, entry.1)?;
+    }
+    Ok(map)
+}
+
+// The entries of a search tree as a vector.
+#[inline(never)]
+fn into_vector<'qs>(
+    alloc: Global,
+    map: BTreeMap<Key<'qs>, TreeBuilder<'qs>>,
+) -> Result<Entries<Key<'qs>, TreeBuilder<'qs>>, AllocError>
+    ensures { IfOk result (λ entries. entries ≡ map.entry.entries) }
+{
+    let mut entries = Entries::with_capacity(alloc, map.len())?;
+    for entry in map {
+        entries.push(entry.0, entry.1)?;
+    }
+    Ok(entries)
+}

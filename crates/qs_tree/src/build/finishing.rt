@@ -1,0 +1,116 @@
+//! Finishing a tree: its maps become sorted vectors.
+ghost use Rattle.std.specs.Prelude.{◌≡◌, ◌++◌, ◌≤◌, IfOk, IsOk, MatchResult};
+ghost use Rattle.std.specs.List.Sorted.{IsStrictlySortedBy};
+ghost use Rattle.std.specs.Map.{keys_of};
+ghost use Rattle.qs_spec.specs.Tree.Tree.{mapping};
+ghost use Rattle.qs_tree.specs.tree.Keys.{key_cmp};
+ghost use Rattle.qs_tree.specs.tree.Views.{tree_of, entries_of_map};
+ghost use Rattle.qs_tree.specs.internal.build.Builder.{built_tree, built_entries, IsFlat};
+ghost use Rattle.qs_tree.specs.internal.build.Finishing.{level_pairs, from_map, with_node, maps_among, maps_left, IsOpened};
+ghost use Rattle.qs_tree.specs.internal.tree.KeyTrees.{key_trees};
+
+use crate::build::builder::{MapBuilder, TreeBuilder};
+use crate::tree::entries::Entries;
+use crate::tree::key::Key;
+use crate::tree::map::ParsedMap;
+use crate::tree::value::ParsedValue;
+use std::alloc::{AllocError, Global};
+use std::vec::IntoIter;
+
+/// A map that is being finished.
+#[derive(Drop)]
+struct Level<'qs> {
+    /// The finished entries.
+    done: Entries<Key<'qs>, ParsedValue<'qs>>,
+    /// The other entries.
+    left: IntoIter<(Key<'qs>, TreeBuilder<'qs>)>,
+}
+
+/// A map, and the key at which a map is being finished.
+#[derive(Drop)]
+struct Frame<'qs> {
+    level: Level<'qs>,
+    key: Key<'qs>,
+}
+
+impl<'qs> TreeBuilder<'qs> {
+    /// The finished node.
+    ///
+    /// Returns an error only where an allocation failed. A node that is no map doesn't allocate, and a map without maps in it
+    /// allocates its own entries only. Takes constant stack: unfinished maps are kept in a vector.
+    pub fn finish(self, alloc: Global) -> Result<ParsedValue<'qs>, AllocError>
+        ensures tree { IfOk result (λ value. tree_of value ≡ built_tree self.entry) }
+        ensures flat { IsFlat self.entry → IsOk result }
+    {
+        match self.into_value() {
+            Ok(value) => Ok(value),
+            Err(map) => Ok(ParsedValue::Map(finish_map(alloc, map)?)),
+        }
+    }
+}
+
+// Finishes a map and all maps in it.
+fn finish_map<'qs>(alloc: Global, map: MapBuilder<'qs>) -> Result<ParsedMap<'qs>, AllocError>
+    ensures { IfOk result (λ done. entries_of_map done ≡ built_entries map.entry) }
+{
+    let mut level = open_level(alloc, map)?;
+    let mut stack = Vec::new(alloc);
+    loop {
+        match level.next_map()? {
+            Some((key, map)) => {
+                let inner = open_level(alloc, map)?;
+                stack.push(Frame { level, key })?;
+                level = inner;
+            }
+            None => {
+                let map = ParsedMap { map: level.done };
+                let Some(outer) = stack.pop() else {
+                    return Ok(map);
+                };
+                level = outer.resume(map)?;
+            }
+        }
+    }
+}
+
+// A map without finished entries.
+fn open_level<'qs>(alloc: Global, map: MapBuilder<'qs>) -> Result<Level<'qs>, AllocError>
+    ensures { IfOk result (IsOpened (built_entries map.entry)) }
+{
+    let entries = map.into_entries(alloc)?;
+    let done = Entries::with_capacity(alloc, entries.len())?;
+    Ok(Level {
+        done,
+        left: entries.into_items().into_iter(),
+    })
+}
+
+impl<'qs> Level<'qs> {
+    // Finishes the entries before the next map, and takes out that map with its key.
+    fn next_map(&mut self) -> Result<Option<(Key<'qs>, MapBuilder<'qs>)>, AllocError>
+        requires { IsStrictlySortedBy key_cmp (keys_of (level_pairs self.old)) }
+        ensures pairs { IfOk result (λ found. key_trees self.new.done ++ from_map found self.new ≡ level_pairs self.old) }
+        ensures fewer { IfOk result (λ found. maps_among (from_map found self.new) ≤ maps_left self.old) }
+    {
+        while let Some((key, node)) = self.left.next() {
+            match node.into_value() {
+                Ok(value) => self.done.push(key, value)?,
+                Err(map) => return Ok(Some((key, map))),
+            }
+        }
+        Ok(None)
+    }
+}
+
+impl<'qs> Frame<'qs> {
+    // Puts the finished map at its key.
+    fn resume(self, map: ParsedMap<'qs>) -> Result<Level<'qs>, AllocError>
+        requires { IsStrictlySortedBy key_cmp (keys_of (with_node self (mapping (entries_of_map map)))) }
+        ensures pairs { IfOk result (λ level. level_pairs level ≡ with_node self.entry (mapping (entries_of_map map.entry))) }
+        ensures same { IfOk result (λ level. maps_left level ≡ maps_left self.entry.level) }
+    {
+        let Frame { mut level, key } = self;
+        level.done.push(key, ParsedValue::Map(map))?;
+        Ok(level)
+    }
+}

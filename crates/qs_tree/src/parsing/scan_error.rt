@@ -1,0 +1,155 @@
+//! Errors of parsing: their text and position, which are made only when there is an error.
+
+ghost use Rattle.std.specs.Prelude.{◌≡◌, None};
+ghost use Rattle.qs_tree.specs.declared.build.conflict.AddError.TheVariants as no_memory;
+ghost use Rattle.qs_tree.specs.declared.parsing.scan_error.ScanError.TheVariants.{OutOfMemory};
+ghost use Rattle.qs_tree.specs.Error.{IsParseSaying};
+ghost use Rattle.qs_tree.specs.internal.Parsing.{Reports};
+
+use crate::build::add::add_pair;
+use crate::build::builder::TreeBuilder;
+use crate::build::conflict::{AddError, Conflict, ConflictKind, conflict_below};
+use crate::error::Error;
+use crate::scan::cursor::{Cursor, Site};
+use crate::scan::pair::{Leaf, Manner, Pair};
+use crate::scan::parser::SyntaxError;
+use std::alloc::{AllocError, Global};
+use std::{fmt, str};
+
+/// Why an input has no tree.
+#[derive(Drop)]
+pub(crate) enum ScanError<'qs> {
+    /// A syntax error, and how many steps remain after it.
+    Syntax(SyntaxError, usize),
+    Conflict(Box<Conflict>, Site<'qs>),
+    OutOfMemory,
+}
+
+impl<'qs> From<AllocError> for ScanError<'qs> {
+    ghost from_gives = { λ _ error. error ≡ OutOfMemory };
+
+    fn from(_: AllocError) -> ScanError<'qs> {
+        ScanError::OutOfMemory
+    }
+}
+
+/// The error of a pair with a syntax error. A conflict with the tree before the syntax error is returned first.
+#[inline(never)]
+pub(crate) fn syntax_error<'qs>(
+    alloc: Global,
+    tree: &mut TreeBuilder<'qs>,
+    pair: &mut Pair<'qs>,
+    error: SyntaxError,
+    cursor: &Cursor<'qs>,
+) -> ScanError<'qs> {
+    match conflict_before(alloc, tree, pair, error) {
+        Ok(()) => ScanError::Syntax(error, cursor.to_come()),
+        Err(error) => add_error(error, cursor),
+    }
+}
+
+/// The error of a pair that wasn't added.
+#[inline(never)]
+pub(crate) fn add_error<'qs>(error: AddError, cursor: &Cursor<'qs>) -> ScanError<'qs>
+    ensures { error ≡ no_memory.OutOfMemory → result ≡ OutOfMemory }
+{
+    match error {
+        AddError::Conflict(conflict) => {
+            let site = cursor.site(conflict.level);
+            ScanError::Conflict(conflict, site)
+        }
+        AddError::OutOfMemory => ScanError::OutOfMemory,
+    }
+}
+
+// The conflict of a pair's keys before its syntax error, if there is one.
+fn conflict_before<'qs>(
+    alloc: Global,
+    tree: &mut TreeBuilder<'qs>,
+    pair: &mut Pair<'qs>,
+    error: SyntaxError,
+) -> Result<(), AddError> {
+    match error {
+        SyntaxError::OpenAfterPush | SyntaxError::AfterPush => {
+            pair.manner = Manner::Push;
+            pair.leaf = Leaf::NoValue;
+            add_pair(alloc, tree, pair)
+        }
+        _ => match conflict_below(tree, &pair.path) {
+            Some((level, kind)) => Err(AddError::conflict(alloc, level, kind)),
+            None => Ok(()),
+        },
+    }
+}
+
+impl<'qs> ScanError<'qs> {
+    /// The error that is returned for an input that takes `all` steps. Allocates its text.
+    #[inline(never)]
+    pub fn into_error(self, alloc: Global, all: usize) -> Error
+        ensures { Reports self.entry all result }
+    {
+        match self {
+            ScanError::Syntax(error, to_come) => {
+                Error::parse_err(alloc, error, all.saturating_sub(to_come))
+            }
+            ScanError::Conflict(conflict, site) => {
+                let kind = Box::into_inner(conflict).kind;
+                conflict_error(alloc, kind, site.key, all.saturating_sub(site.to_come))
+            }
+            ScanError::OutOfMemory => Error::OutOfMemory,
+        }
+    }
+}
+
+// The error of a conflict after these bytes of a pair.
+fn conflict_error(alloc: Global, kind: ConflictKind, key: &[u8], position: usize) -> Error
+    ensures { IsParseSaying result None position }
+{
+    let text = match kind {
+        ConflictKind::LeafOnMap(keys) => return leaf_on_map(alloc, key, keys, position),
+        ConflictKind::PushOnLeaf =>
+            "invalid input: the same key is used for both a value and a sequence",
+        ConflictKind::BelowSequence =>
+            "invalid input: the same key is used for both a sequence and a nested map",
+        ConflictKind::BelowText =>
+            "invalid input: the same key is used for both a value and a nested map",
+        ConflictKind::BelowUnit =>
+            "invalid input: the same key is used for both a unit value and a nested map",
+    };
+    Error::parse_err(alloc, text, position)
+}
+
+// The error of a leaf for a map with these keys.
+fn leaf_on_map(alloc: Global, key: &[u8], keys: String, position: usize) -> Error
+    ensures { IsParseSaying result None position }
+{
+    let key = str::from_utf8(key).unwrap_or("<invalid key>");
+    let text = format!(in alloc;
+        "invalid input: the key `{key}` appears in the input as both a sequence and a map (with keys {keys})"
+    );
+    match text {
+        Ok(text) => Error::Parse(text, position),
+        Err(_) => Error::OutOfMemory,
+    }
+}
+
+impl fmt::Display for SyntaxError {
+    fn fmt<W: fmt::Write>(&self, f: &mut fmt::Formatter<W>) -> fmt::Result {
+        match self {
+            SyntaxError::EndAfterOpen => f.write_str("query string ended before expected"),
+            SyntaxError::EndInSegment => {
+                f.write_str("unexpected end of input while parsing nested key")
+            }
+            SyntaxError::AfterSegment(character) => write!(
+                f,
+                "unexpected character `{character}` while parsing nested key: expected `&`, `=` or `[`"
+            ),
+            SyntaxError::OpenAfterPush => f.write_str(
+                "unsupported: unable to parse nested maps of unindexed sequences ",
+            ),
+            SyntaxError::AfterPush => f.write_str(
+                "unsupported: cannot mix unindexed sequences `abc[]=...` with indexed sequences `abc[0]=...`",
+            ),
+        }
+    }
+}

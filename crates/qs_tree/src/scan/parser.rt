@@ -1,0 +1,304 @@
+//! Parsing one pair.
+
+ghost use Rattle.std.specs.Prelude.{◌≡◌, ◌++◌, ◌<◌, [], length, IfOk, IsOk, IsTrue, true, false};
+ghost use Rattle.qs_spec.specs.Grammar.{direct, pushed, longer, ends_last, ends_root};
+ghost use Rattle.qs_spec.specs.Token.{raw_of};
+ghost use Rattle.qs_spec.specs.internal.Parsing.{cut, with_leaf, parsed_value, parsed_brackets};
+ghost use Rattle.qs_tree.specs.internal.scan.Pairs.{path_of};
+ghost use Rattle.qs_tree.specs.internal.scan.Cursor.{ends_of, left, from_token, taken, GoesOn, IsLeft, KnowsEnd};
+ghost use Rattle.qs_tree.specs.internal.scan.Parser.{IsRootStop, IsClosing, Follows, FollowsStop, IsEnd, IsMore, ParsesItem, ParsesLeaf, ParsesPair, is_nothing, root_path, from_root};
+ghost use Rattle.qs_tree.specs.Parsing.{is_plain, TakesNoMemory};
+ghost use Rattle.qs_tree.specs.internal.scan.Small.{IsEqualsStop, ParsesBare, ParsesSmall};
+
+use crate::scan::cursor::{Cursor, Kind, Token, Until};
+use crate::scan::pair::{Leaf, Manner, Pair};
+use crate::scan::raw::{parse_key, parse_leaf};
+use crate::tree::key::Key;
+use std::alloc::{AllocError, AllocFailed, Global};
+
+/// What was parsed.
+#[derive(Clone, Copy)]
+pub(crate) enum Item {
+    /// The end.
+    End,
+    /// An `&` without a pair before it.
+    Ampersand,
+    Pair,
+}
+
+/// Why no pair was parsed.
+#[derive(Clone, Copy)]
+pub(crate) enum ParseError {
+    /// A syntax error. The path of the pair has the keys before it.
+    Syntax(SyntaxError),
+    OutOfMemory,
+}
+
+/// The token at which a pair has a syntax error.
+#[derive(Clone, Copy)]
+pub(crate) enum SyntaxError {
+    /// The end after an opening bracket.
+    EndAfterOpen,
+    /// The end in a segment.
+    EndInSegment,
+    /// This character after a closed segment.
+    AfterSegment(char),
+    /// An opening bracket after `[]`.
+    OpenAfterPush,
+    /// Another token after `[]`.
+    AfterPush,
+}
+
+impl From<AllocError> for ParseError {
+    ghost use Rattle.std.specs.Prelude.{◌≡◌};
+    ghost use Rattle.qs_tree.specs.declared.scan.parser.ParseError.TheVariants.{OutOfMemory};
+
+    ghost from_gives = { λ _ error. error ≡ OutOfMemory };
+
+    fn from(_: AllocError) -> ParseError {
+        ParseError::OutOfMemory
+    }
+}
+
+impl<T: Drop> From<AllocFailed<T>> for ParseError {
+    ghost use Rattle.std.specs.Prelude.{◌≡◌};
+    ghost use Rattle.qs_tree.specs.declared.scan.parser.ParseError.TheVariants.{OutOfMemory};
+
+    ghost from_gives = { λ _ error. error ≡ OutOfMemory };
+
+    fn from(_: AllocFailed<T>) -> ParseError {
+        ParseError::OutOfMemory
+    }
+}
+
+/// Parses up to the next `&` or the end, and stores the pair in `pair`. After the end it returns [`Item::End`] without a step.
+///
+/// Returns an error where the pair has a syntax error, or where an allocation failed. Allocates for the pair's path, and for strings
+/// with `+` or `%`.
+pub(crate) fn parse_item<'qs>(
+    alloc: Global,
+    cursor: &mut Cursor<'qs>,
+    max_depth: usize,
+    pair: &mut Pair<'qs>,
+) -> Result<Item, ParseError>
+    requires { KnowsEnd cursor.old }
+    ensures item { ParsesItem max_depth (left cursor.old) result cursor.new pair.new }
+    ensures end { IsEnd result → cursor.new.ended ≡ true }
+    ensures shorter { IsMore result → length cursor.new.rest.now < length cursor.old.rest.now }
+    ensures moves { GoesOn cursor.old cursor.new }
+    ensures small { TakesNoMemory cursor.old.rest.now → ParsesSmall result cursor.new pair.new }
+{
+    if cursor.has_ended() {
+        return Ok(Item::End);
+    }
+    cursor.begin_pair();
+    let (key, stop) = cursor.run(root_end(max_depth));
+    if is_nothing(key, stop) {
+        return Ok(match stop {
+            None => Item::End,
+            Some(_) => Item::Ampersand,
+        });
+    }
+    pair.path.clear();
+    parse_after_root(alloc, cursor, max_depth, key, stop, pair)?;
+    Ok(Item::Pair)
+}
+
+// Whether there is no pair: the root key is empty, and `&` or the end follows.
+fn is_nothing(key: &[u8], stop: Option<Token<'_>>) -> bool
+    ensures { result ≡ is_nothing key.now stop.entry }
+{
+    match stop {
+        None => key.is_empty(),
+        Some(token) => key.is_empty() && token.kind.is_ampersand(),
+    }
+}
+
+// The tokens that end a root key: an opening bracket too, unless the depth limit is 0.
+fn root_end(max_depth: usize) -> Until
+    ensures { ends_of result ≡ ends_root max_depth }
+{
+    if max_depth == 0 {
+        Until::Separator
+    } else {
+        Until::SeparatorOrOpen
+    }
+}
+
+// Parses a pair after its root key and the token that ends it.
+fn parse_after_root<'qs>(
+    alloc: Global,
+    cursor: &mut Cursor<'qs>,
+    max_depth: usize,
+    key: &'qs [u8],
+    stop: Option<Token<'qs>>,
+    pair: &mut Pair<'qs>,
+) -> Result<(), ParseError>
+    requires root { IsRootStop stop }
+    requires follows { FollowsStop stop cursor.old }
+    requires empty { pair.old.path.items ≡ [] }
+    ensures pair { ParsesPair (from_root max_depth key.now (from_token stop.entry (left cursor.old))) result cursor.new pair.new }
+    ensures moves { GoesOn cursor.old cursor.new }
+    ensures bare { key.now ≡ [] → IsEqualsStop stop.entry → IsTrue (is_plain cursor.old.rest.now) → ParsesBare result cursor.new pair.new }
+{
+    parse_root(alloc, key, &mut pair.path)?;
+    match stop {
+        Some(token) if token.kind.is_open() => {
+            cursor.keep_root(key, token.place)?;
+            parse_brackets(alloc, cursor, max_depth, token, pair)
+        }
+        _ => parse_plain(alloc, cursor, stop, pair),
+    }
+}
+
+// Pushes a root key onto an empty path, unless the key is empty.
+fn parse_root<'qs>(
+    alloc: Global,
+    key: &'qs [u8],
+    path: &mut Vec<Key<'qs>>,
+) -> Result<(), AllocError>
+    requires { path.old.items ≡ [] }
+    ensures path { IfOk result (λ _. path_of path.new.items ≡ root_path key.now) }
+    ensures empty { key.now ≡ [] → IsOk result × (path.new.items ≡ []) }
+{
+    if !key.is_empty() {
+        path.push(parse_key(alloc, key)?)?;
+    }
+    Ok(())
+}
+
+// Parses the value after `=`, or returns `NoValue` where another token or the end follows the key.
+#[inline(always)]
+fn parse_value<'qs>(
+    alloc: Global,
+    cursor: &mut Cursor<'qs>,
+    stop: Option<Token<'qs>>,
+) -> Result<Leaf<'qs>, AllocError>
+    requires closing { IsClosing stop }
+    requires follows { FollowsStop stop cursor.old }
+    ensures leaf { ParsesLeaf (parsed_value (from_token stop.entry (left cursor.old))) result cursor.new }
+    ensures moves { GoesOn cursor.old cursor.new }
+    ensures plain { IsEqualsStop stop.entry → IsTrue (is_plain cursor.old.rest.now) → IsOk result × (cursor.new.rest.now ≡ []) }
+{
+    match stop {
+        Some(token) if token.kind.is_equals() => parse_leaf(alloc, cursor.value()),
+        _ => Ok(Leaf::NoValue),
+    }
+}
+
+// Parses a plain pair after its path and the token that ends it.
+#[inline(always)]
+fn parse_plain<'qs>(
+    alloc: Global,
+    cursor: &mut Cursor<'qs>,
+    stop: Option<Token<'qs>>,
+    pair: &mut Pair<'qs>,
+) -> Result<(), ParseError>
+    requires closing { IsClosing stop }
+    requires follows { FollowsStop stop cursor.old }
+    ensures pair { ParsesPair (with_leaf (direct (path_of pair.old.path.items)) (parsed_value (from_token stop.entry (left cursor.old)))) result cursor.new pair.new }
+    ensures moves { GoesOn cursor.old cursor.new }
+    ensures bare { pair.old.path.items ≡ [] → IsEqualsStop stop.entry → IsTrue (is_plain cursor.old.rest.now) → ParsesBare result cursor.new pair.new }
+{
+    pair.manner = Manner::Plain;
+    pair.leaf = parse_value(alloc, cursor, stop)?;
+    Ok(())
+}
+
+// Parses a push after its `[]`.
+fn parse_push<'qs>(
+    alloc: Global,
+    cursor: &mut Cursor<'qs>,
+    pair: &mut Pair<'qs>,
+) -> Result<(), ParseError>
+    requires { cursor.old.ended ≡ false }
+    ensures pair { ParsesPair (with_leaf (pushed (path_of pair.old.path.items)) (parsed_value (left cursor.old))) result cursor.new pair.new }
+    ensures moves { GoesOn cursor.old cursor.new }
+{
+    let next = cursor.next();
+    let error = match next {
+        Some(
+            Token {
+                kind: Kind::Open,
+                ..
+            },
+        ) => SyntaxError::OpenAfterPush,
+        Some(
+            Token {
+                kind: Kind::Close | Kind::Other(_),
+                ..
+            },
+        ) => SyntaxError::AfterPush,
+        _ => {
+            pair.manner = Manner::Push;
+            pair.leaf = parse_value(alloc, cursor, next)?;
+            return Ok(());
+        }
+    };
+    Err(ParseError::Syntax(error))
+}
+
+// Parses a pair after an opening bracket, where so many more levels of brackets may follow.
+fn parse_brackets<'qs>(
+    alloc: Global,
+    cursor: &mut Cursor<'qs>,
+    max_depth: usize,
+    mut bracket: Token<'qs>,
+    pair: &mut Pair<'qs>,
+) -> Result<(), ParseError>
+    requires { Follows bracket cursor.old }
+    ensures pair { ParsesPair (parsed_brackets max_depth (path_of pair.old.path.items) bracket.entry.raw.now (left cursor.old)) result cursor.new pair.new }
+    ensures moves { GoesOn cursor.old cursor.new }
+{
+    let mut room = max_depth;
+    loop {
+        let Some(first) = cursor.next() else {
+            return Err(ParseError::Syntax(SyntaxError::EndAfterOpen));
+        };
+        cursor.keep_spot(bracket.place)?;
+        if first.kind.is_close() {
+            return parse_push(alloc, cursor, pair);
+        }
+        if room == 0 {
+            return parse_last_key(alloc, cursor, bracket, pair);
+        }
+        let (segment, stop) = cursor.run_from(first.place, Until::Close);
+        pair.path.push(parse_key(alloc, segment)?)?;
+        let Some(_) = stop else {
+            return Err(ParseError::Syntax(SyntaxError::EndInSegment));
+        };
+        let next = cursor.next();
+        let Some(token) = next else {
+            return parse_plain(alloc, cursor, next, pair);
+        };
+        let character = match token.kind {
+            Kind::Open => {
+                bracket = token;
+                room -= 1;
+                continue;
+            }
+            Kind::Ampersand | Kind::Equals => return parse_plain(alloc, cursor, next, pair),
+            Kind::Close => ']',
+            Kind::Other(byte) => char::from(byte),
+        };
+        return Err(ParseError::Syntax(SyntaxError::AfterSegment(character)));
+    }
+}
+
+// Parses a pair after the first token in a bracket at the depth limit, which begins the last key.
+fn parse_last_key<'qs>(
+    alloc: Global,
+    cursor: &mut Cursor<'qs>,
+    bracket: Token<'qs>,
+    pair: &mut Pair<'qs>,
+) -> Result<(), ParseError>
+    requires end { cursor.old.ended ≡ false }
+    requires follows { IsLeft bracket.place.rest.now cursor.old.rest.now }
+    ensures pair { let run = cut ends_last (left cursor.old) in let key = taken bracket.entry.place.rest.now cursor.old.rest.now ++ raw_of run.0 in
+        ParsesPair (with_leaf (direct (longer (path_of pair.old.path.items) key)) (parsed_value run.1)) result cursor.new pair.new }
+    ensures moves { GoesOn cursor.old cursor.new }
+{
+    let (key, stop) = cursor.run_from(bracket.place, Until::Separator);
+    pair.path.push(parse_key(alloc, key)?)?;
+    parse_plain(alloc, cursor, stop, pair)
+}

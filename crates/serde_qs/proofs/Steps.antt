@@ -5,7 +5,7 @@ use Rattle.qs_spec.specs.Data as v
 use Rattle.qs_spec.specs.Data.{Data, Values}
 use Rattle.qs_tree.specs.declared.error.Error.{Error}
 use Rattle.qs_tree.specs.declared.error.Error.TheVariants as e
-use Rattle.qs_data.specs.Gives.{Refuses}
+use Rattle.qs_data.specs.read.Gives.{Refuses}
 use Rattle.serde_qs.specs.Meaning.{values_in}
 
 -- what was taken, in front of what is taken of the rest

@@ -8,8 +8,8 @@ use Rattle.std.specs.declared.alloc.Global.{Global}
 use Rattle.qs_spec.specs.Data.{Named, Members, no_members, one_member, members_of}
 use Rattle.qs_spec.specs.Data as v
 use Rattle.qs_spec.specs.Shape.{Shape, UnknownKeys, Field, fields_of, field_names_differ, are_distinct_fields, is_distinct}
-use Rattle.qs_data.specs.Views.{named, data_of}
-use Rattle.qs_data.specs.declared.data.Data.{Data}
+use Rattle.qs_data.specs.data.Views.{named, data_of}
+use Rattle.qs_data.specs.declared.data.data.Data.{Data}
 use Rattle.serde_qs.specs.Meaning.{both, both_hold}
 
 abbrev pub texts : List (Bor (List ℕ)) → List (List ℕ)

@@ -2,10 +2,10 @@
 
 ghost use Rattle.qs_spec.specs.toward.ReadFunction.{any_data};
 ghost use Rattle.qs_tree.specs.Views.{tree_of};
-ghost use Rattle.qs_data.specs.Views.{data_of};
-ghost use Rattle.qs_data.specs.Text.{is_text};
-ghost use Rattle.qs_data.specs.ReadError.{Gives};
-ghost use Rattle.qs_data.specs.Nesting.{level_data, level_is_text};
+ghost use Rattle.qs_data.specs.data.Views.{data_of};
+ghost use Rattle.qs_data.specs.read.Text.{is_text};
+ghost use Rattle.qs_data.specs.read.internal.ReadError.{Gives};
+ghost use Rattle.qs_data.specs.read.internal.Nesting.{level_data, level_is_text};
 
 use crate::data::Data;
 use crate::read::error::Result;

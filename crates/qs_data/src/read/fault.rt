@@ -1,10 +1,10 @@
 //! What a tree can lack of a shape, and what is said of it.
 
-ghost use Rattle.qs_data.specs.ReadError.{IsFault};
-ghost use Rattle.qs_data.specs.Hint.{IsToldOfKey};
+ghost use Rattle.qs_data.specs.read.internal.ReadError.{IsFault};
+ghost use Rattle.qs_data.specs.read.internal.Hint.{IsToldOfKey};
 
 use crate::read::error::ReadError;
-use crate::read::width::Width;
+use crate::shape::Width;
 use qs_tree::{Error, ParsedValue};
 use std::alloc::Global;
 use std::fmt;
@@ -120,7 +120,7 @@ struct Hinted {
 }
 
 impl fmt::Display for Hinted {
-    ghost use Rattle.qs_data.specs.Hint.{hinted_text};
+    ghost use Rattle.qs_data.specs.read.internal.Hint.{hinted_text};
 
     ghost output = { λ h. hinted_text h.error };
 

@@ -3,8 +3,8 @@
 ghost use Rattle.std.specs.Prelude.{◌≡◌, length, drop, option_map, true};
 ghost use Rattle.qs_spec.specs.Node.{items, are_ints, is_place};
 ghost use Rattle.qs_tree.specs.Views.{tree_of, entries_of_map, segment_of_key};
-ghost use Rattle.qs_data.specs.ReadError.{Gives};
-ghost use Rattle.qs_data.specs.Items.{items_in, first_item, passed};
+ghost use Rattle.qs_data.specs.read.internal.ReadError.{Gives};
+ghost use Rattle.qs_data.specs.read.internal.Items.{items_in, first_item, passed};
 ghost use Rattle.qs_spec.specs.Node.{placed};
 
 use crate::read::error::Result;

@@ -6,8 +6,9 @@ ghost use Rattle.qs_spec.specs.Segment.{segment_text};
 ghost use Rattle.qs_spec.specs.Node.{found, keys_are_text};
 ghost use Rattle.qs_tree.specs.Views.{entries_of_map, segment_of_key};
 ghost use Rattle.qs_data.specs.declared.read.error.ReadError.TheVariants.{Utf8};
-ghost use Rattle.qs_data.specs.Hint.{IsToldOfKey};
-ghost use Rattle.qs_data.specs.Keys.{Finds, NumbersFit, TellsNumber, KeyFits, Tells, entries_of, value_in};
+ghost use Rattle.qs_data.specs.read.internal.Hint.{IsToldOfKey};
+ghost use Rattle.qs_data.specs.read.Found.{Finds};
+ghost use Rattle.qs_data.specs.read.internal.Keys.{NumbersFit, TellsNumber, KeyFits, Tells, entries_of, value_in};
 
 use crate::read::error::{ReadError, Result};
 use crate::read::fault::of_key;
@@ -144,7 +145,7 @@ fn test_map<'t>(map: &'t ParsedMap<'_>) -> Result<(), BrokenKey<'t>>
 }
 
 // Whether a key is a text.
-#[tactic(auto, using(crate::proofs::Refusals::utf8_tests))]
+#[tactic(auto, using(crate::proofs::lemmas::read::Refusals::utf8_tests))]
 fn test_key<'t>(key: &'t Key<'_>) -> Result<(), BrokenKey<'t>>
     ensures text { Tells result (is_utf8 (segment_text (segment_of_key key.now))) }
     ensures fit { KeyFits (segment_of_key key.now) }

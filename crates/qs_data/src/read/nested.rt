@@ -7,11 +7,11 @@ ghost use Rattle.qs_spec.specs.Shape.KeyShape.{text};
 ghost use Rattle.qs_spec.specs.toward.ReadFunction.{any_data, read_each, read_pairs};
 ghost use Rattle.qs_tree.specs.Views.{tree_of, entries_of_map};
 ghost use Rattle.qs_data.specs.declared.read.error.ReadError.TheVariants.{OutOfMemory};
-ghost use Rattle.qs_data.specs.Views.{data_of};
-ghost use Rattle.qs_data.specs.Items.{items_in, are_text};
-ghost use Rattle.qs_data.specs.Text.{entries_are_text};
-ghost use Rattle.qs_data.specs.Sizes.{list_size, entries_size};
-ghost use Rattle.qs_data.specs.Nesting.{Visits, Advances, Adds, done_of, level_data, level_is_text, level_size};
+ghost use Rattle.qs_data.specs.data.Views.{data_of};
+ghost use Rattle.qs_data.specs.read.internal.Items.{items_in, are_text};
+ghost use Rattle.qs_data.specs.read.Text.{entries_are_text};
+ghost use Rattle.qs_data.specs.read.internal.Sizes.{list_size, entries_size};
+ghost use Rattle.qs_data.specs.read.internal.Nesting.{Visits, Advances, Adds, done_of, level_data, level_is_text, level_size};
 ghost use Rattle.qs_data.specs.declared.read.nested.Level.TheVariants as level;
 
 use crate::data::Data;

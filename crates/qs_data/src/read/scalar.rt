@@ -7,17 +7,17 @@ ghost use Rattle.qs_spec.specs.Scalar.{boolean_data, unsigned_data, signed_data,
 ghost use Rattle.qs_spec.specs.Node.{last_item, item_text};
 ghost use Rattle.qs_spec.specs.toward.ReadFunction.{read_scalar, read_unit, read_character};
 ghost use Rattle.qs_tree.specs.Views.{tree_of, items_from};
-ghost use Rattle.qs_data.specs.Views.{data_of};
-ghost use Rattle.qs_data.specs.Text.{is_text};
-ghost use Rattle.qs_data.specs.ReadError.{Gives, IsFrugal};
-ghost use Rattle.qs_data.specs.Widths.{bits_of};
-ghost use Rattle.qs_data.specs.ScalarText.{scalar_text, utf8_text};
+ghost use Rattle.qs_data.specs.data.Views.{data_of};
+ghost use Rattle.qs_data.specs.read.Text.{is_text};
+ghost use Rattle.qs_data.specs.read.internal.ReadError.{Gives, IsFrugal};
+ghost use Rattle.qs_data.specs.shape.internal.Widths.{bits_of};
+ghost use Rattle.qs_data.specs.read.internal.ScalarText.{scalar_text, utf8_text};
 ghost use Rattle.std.specs.Prelude.{map};
 
 use crate::data::Data;
 use crate::read::error::{ReadError, Result};
 use crate::read::fault::{Expected, Fault, Kind};
-use crate::read::width::Width;
+use crate::shape::Width;
 use qs_tree::ParsedValue;
 use std::alloc::Global;
 use std::str;
@@ -190,7 +190,7 @@ fn item_text<'t>(alloc: Global, value: &'t ParsedValue<'_>, expected: Expected) 
 }
 
 /// Bytes as text, where they are UTF-8.
-#[tactic(auto, using(crate::proofs::Refusals::utf8_tests))]
+#[tactic(auto, using(crate::proofs::lemmas::read::Refusals::utf8_tests))]
 pub(crate) fn as_text(bytes: &[u8]) -> Result<&str>
     ensures gives { Gives (λ s. s.now) (is_utf8 bytes.now) result (utf8_text bytes.now) }
     ensures frugal { IsFrugal result (utf8_text bytes.now) }

@@ -8,19 +8,20 @@ ghost use Rattle.qs_spec.specs.Tree.Tree.{mapping};
 ghost use Rattle.qs_spec.specs.Node.{keys_are_allowed, as_map};
 ghost use Rattle.qs_spec.specs.toward.ReadFunction.{read_enum, reads_names, reads_places, reads_variant, reads_kind, struct_members, unit_variant_data};
 ghost use Rattle.qs_tree.specs.Views.{tree_of, entries_of_map, segment_of_key};
-ghost use Rattle.qs_data.specs.Views.{data_of, fields_in, named, variant_of, variants_in};
-ghost use Rattle.qs_data.specs.Text.{is_text, entries_are_text};
-ghost use Rattle.qs_data.specs.ReadError.{Gives};
-ghost use Rattle.qs_data.specs.Keys.{unknown_of};
-ghost use Rattle.qs_data.specs.Variants.{variant_named};
+ghost use Rattle.qs_data.specs.data.Views.{data_of, named};
+ghost use Rattle.qs_data.specs.shape.Views.{fields_in, variant_of, variants_in};
+ghost use Rattle.qs_data.specs.read.Text.{is_text, entries_are_text};
+ghost use Rattle.qs_data.specs.read.internal.ReadError.{Gives};
+ghost use Rattle.qs_data.specs.read.internal.Keys.{unknown_of};
+ghost use Rattle.qs_data.specs.shape.Variants.{variant_named};
 
 use crate::data::Data;
+use crate::read::by_shape::read_node;
 use crate::read::error::Result;
 use crate::read::fault::{Expected, Fault, Kind};
 use crate::read::fields::{read_entries, read_struct};
 use crate::read::keys::Entries;
 use crate::read::lists::read_tuple;
-use crate::read::read_node;
 use crate::read::scalar::as_text;
 use crate::read::unknown::UnknownKeys;
 use crate::shape::{Field, Variant, VariantKind};
@@ -117,7 +118,7 @@ fn place_of(alloc: Global, variants: &[Variant], name: &[u8]) -> Result<usize>
 
 // What a variant holds, of the value under its name.
 #[cycle(read)]
-#[tactic(auto, using(crate::proofs::Levels::levels), unfolding(qs_spec::specs::toward::ReadFunction::reads))]
+#[tactic(auto, using(crate::proofs::lemmas::data::Levels::levels), unfolding(qs_spec::specs::toward::ReadFunction::reads))]
 fn read_variant(
     alloc: Global,
     reject_duplicates: bool,
@@ -165,7 +166,7 @@ fn read_variant(
 
 #[cycle(read)]
 #[inline(always)]
-#[tactic(auto, using(crate::proofs::Levels::levels), unfolding(qs_spec::specs::toward::ReadFunction::reads))]
+#[tactic(auto, using(crate::proofs::lemmas::data::Levels::levels), unfolding(qs_spec::specs::toward::ReadFunction::reads))]
 fn struct_variant_data(
     alloc: Global,
     reject_duplicates: bool,

@@ -4,12 +4,13 @@ ghost use Rattle.std.specs.Prelude.{◌≡◌, ◌==◌, ◌||◌, cond, ◌<◌
 ghost use Rattle.qs_spec.specs.Entry.{Path, one};
 ghost use Rattle.std.specs.List.{All};
 ghost use Rattle.qs_spec.specs.Written.{open_bytes, close_bytes, value_text};
-ghost use Rattle.qs_data.specs.Scalars.{scalar_text};
-ghost use Rattle.qs_data.specs.Writes.{IsVisible, IsAt, path_behind, grown, WritesTo};
+ghost use Rattle.qs_data.specs.write.internal.Scalars.{scalar_text};
+ghost use Rattle.qs_data.specs.write.State.{IsVisible};
+ghost use Rattle.qs_data.specs.write.internal.Writes.{IsAt, path_behind, grown, WritesTo};
 ghost use Rattle.qs_data.specs.declared.write.stop.Stop.TheVariants.{TooDeep, OutOfMemory};
 
-use crate::sink::{Sink, put_all};
 use crate::write::scalar::Scalar;
+use crate::write::sink::{Sink, put_all};
 use crate::write::stop::Stop;
 use qs_tree::Config;
 use std::alloc::{AllocError, Global};

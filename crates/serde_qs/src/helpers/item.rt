@@ -3,7 +3,7 @@
 ghost use Rattle.std.specs.Prelude.{◌≡◌, ◌++◌, ℕ, Bool, List, Option, Some, OnOk, OnErr, string_bytes};
 ghost use Rattle.qs_spec.specs.Entry.{boolean_text};
 ghost use Rattle.qs_tree.specs.Error.{OnlyOutOfMemory};
-ghost use Rattle.qs_data.specs.Gives.{IsFault};
+ghost use Rattle.qs_data.specs.read.Errors.{IsFault};
 ghost use Rattle.serde_qs.specs.Items.{boolean_item};
 ghost use Rattle.serde_qs.specs.Typed.{Means};
 

@@ -1,10 +1,10 @@
 use Rattle.std.proofs.Common.{◌≡◌, suc, ◌+◌, ◌*◌, ◌<◌, List, [], ◌∷◌, ◌++◌, ap, sym, subst, ◌∙◌, Option, Some, Ok, arith}
 use Rattle.std.proofs.lemmas.Grind.{common_steps}
 use Rattle.qs_data.specs.declared.read.nested.Level.{Level}
-use Rattle.qs_data.specs.Nesting.{Advances, level_data, level_is_text, level_size}
-use Rattle.qs_data.specs.Views.{data_of}
-use Rattle.qs_data.proofs.Nesting.{Continues, levels_size, goes_in, smaller_in, goes_out, smaller_out, fails}
-use Rattle.qs_data.proofs.ReadErrors.{gives_exit}
+use Rattle.qs_data.specs.read.internal.Nesting.{Advances, level_data, level_is_text, level_size}
+use Rattle.qs_data.specs.data.Views.{data_of}
+use Rattle.qs_data.proofs.lemmas.read.Nesting.{Continues, levels_size, goes_in, smaller_in, goes_out, smaller_out, fails}
+use Rattle.qs_data.proofs.lemmas.read.ReadErrors.{gives_exit}
 use Rattle.qs_data.proofs.read.any.read_level.Goals as goal
 
 pub returns-in_err-inner : goal.returns-in_err-inner

@@ -1,6 +1,6 @@
 use Rattle.std.proofs.Common.{suc, ◌+◌, ◌*◌}
-use Rattle.qs_data.specs.Nesting.{level_size}
-use Rattle.qs_data.proofs.Nesting.{Continues, levels_size}
+use Rattle.qs_data.specs.read.internal.Nesting.{level_size}
+use Rattle.qs_data.proofs.lemmas.read.Nesting.{Continues, levels_size}
 use Rattle.qs_data.proofs.read.any.read_level.Given as goal
 
 abbrev pub invariant-loop-level : goal.invariant-loop-level

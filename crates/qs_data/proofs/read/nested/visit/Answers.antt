@@ -3,8 +3,8 @@ use Rattle.qs_spec.specs.Tree.Tree.{sequence, mapping}
 use Rattle.qs_spec.specs.Node.{items, each_item, placed}
 use Rattle.qs_tree.specs.Views.{tree_of, items_from, entries_of_map}
 use Rattle.qs_tree.specs.declared.value.ParsedValue as value
-use Rattle.qs_data.proofs.Anything.{is_list}
-use Rattle.qs_data.proofs.Nesting.{begins_list, begins_map}
+use Rattle.qs_data.proofs.lemmas.read.Anything.{is_list}
+use Rattle.qs_data.proofs.lemmas.read.Nesting.{begins_list, begins_map}
 use Rattle.qs_data.proofs.read.nested.visit.Goals as goal
 
 pub returns-in-Sequence : goal.returns-in-Sequence

@@ -1,7 +1,7 @@
 use Rattle.std.specs.Str.{is_utf8}
 use Rattle.qs_spec.specs.Scalar.{character_data}
-use Rattle.qs_data.proofs.ReadErrors.{fault, fault_spared}
-use Rattle.qs_data.proofs.Scalars.{character_is, character_none}
+use Rattle.qs_data.proofs.lemmas.read.ReadErrors.{fault, fault_spared}
+use Rattle.qs_data.proofs.lemmas.read.Scalars.{character_is, character_none}
 use Rattle.qs_data.proofs.read.scalar.char_data.Goals as goal
 
 pub returns-in-Ok-clause-gives : goal.returns-in-Ok-clause-gives

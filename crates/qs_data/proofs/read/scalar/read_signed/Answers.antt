@@ -1,10 +1,10 @@
 use Rattle.std.proofs.Common.{◌≡◌, ◌∙◌, ap, Some, None, option_map}
 use Rattle.qs_spec.specs.Scalar.{signed_data}
-use Rattle.qs_data.specs.Widths.{bits_of}
+use Rattle.qs_data.specs.shape.internal.Widths.{bits_of}
 use Rattle.qs_tree.specs.Views.{tree_of}
-use Rattle.qs_data.specs.Views.{data_of}
-use Rattle.qs_data.specs.ScalarText.{scalar_text}
-use Rattle.qs_data.proofs.Scalars.{scalar_gives}
+use Rattle.qs_data.specs.data.Views.{data_of}
+use Rattle.qs_data.specs.read.internal.ScalarText.{scalar_text}
+use Rattle.qs_data.proofs.lemmas.read.Scalars.{scalar_gives}
 use Rattle.qs_data.proofs.read.scalar.read_signed.Goals as goal
 
 pub returns-in-Some-clause-gives : goal.returns-in-Some-clause-gives

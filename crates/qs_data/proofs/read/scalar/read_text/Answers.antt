@@ -2,9 +2,9 @@ use Rattle.std.proofs.Common.{◌≡◌, ◌∙◌, ap, [], Some, option_map}
 use Rattle.qs_spec.specs.Data as d
 use Rattle.qs_spec.specs.Scalar.{text_data}
 use Rattle.qs_tree.specs.Views.{tree_of}
-use Rattle.qs_data.specs.Views.{data_of}
-use Rattle.qs_data.specs.ScalarText.{scalar_text}
-use Rattle.qs_data.proofs.Scalars.{scalar_gives}
+use Rattle.qs_data.specs.data.Views.{data_of}
+use Rattle.qs_data.specs.read.internal.ScalarText.{scalar_text}
+use Rattle.qs_data.proofs.lemmas.read.Scalars.{scalar_gives}
 use Rattle.qs_data.proofs.read.scalar.read_text.Goals as goal
 
 pub returns-in-Some : goal.returns-in-Some

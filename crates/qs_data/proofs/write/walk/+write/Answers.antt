@@ -5,13 +5,13 @@ use Rattle.std.specs.declared.string.String.{String}
 use Rattle.std.specs.declared.alloc.Global.{Global}
 use Rattle.qs_spec.specs.Config.{element_segment}
 use Rattle.qs_spec.specs.Entry.{Path, Output, refused, bad_key, entries_at, elements_from, pair_entries, member_entries, deeper, maybe_deeper}
-use Rattle.qs_data.specs.declared.data.Data.{Data}
+use Rattle.qs_data.specs.declared.data.data.Data.{Data}
 use Rattle.qs_data.specs.declared.write.stop.Stop.TheVariants.{BadKey}
-use Rattle.qs_data.specs.Views.{data_of, values_in, pairs_in, members_in}
-use Rattle.qs_data.specs.Scalars.{scalar_text}
-use Rattle.qs_data.specs.Writes.{IsAt, Writes, Stops, text_in}
-use Rattle.qs_data.proofs.Wrote.{continue_step, continue_stop, continue_end, writes_exit, adds_nothing}
-use Rattle.qs_data.proofs.Walk.{stops_entering, writes_under, stops_under, elements_here, elements_end, pairs_with_key, pairs_without_key, pairs_end, members_here, members_end, seq_elements, tup_elements, map_pairs}
+use Rattle.qs_data.specs.data.Views.{data_of, values_in, pairs_in, members_in}
+use Rattle.qs_data.specs.write.internal.Scalars.{scalar_text}
+use Rattle.qs_data.specs.write.internal.Writes.{IsAt, Writes, Stops, text_in}
+use Rattle.qs_data.proofs.lemmas.write.Wrote.{continue_step, continue_stop, continue_end, writes_exit, adds_nothing}
+use Rattle.qs_data.proofs.lemmas.write.Walk.{stops_entering, writes_under, stops_under, elements_here, elements_end, pairs_with_key, pairs_without_key, pairs_end, members_here, members_end, seq_elements, tup_elements, map_pairs}
 use Rattle.qs_data.proofs.write.walk.+write.Goals as goal
 
 pub write_data-returns-else-is_empty-clause-writes : goal.write_data-returns-else-is_empty-clause-writes

@@ -1,8 +1,8 @@
 use Rattle.std.proofs.Common.{drop}
 use Rattle.qs_spec.specs.Entry.{elements_from, pair_entries, member_entries}
-use Rattle.qs_data.specs.Views.{values_in, pairs_in, members_in}
-use Rattle.qs_data.specs.Writes.{text_in}
-use Rattle.qs_data.proofs.Wrote.{Continues}
+use Rattle.qs_data.specs.data.Views.{values_in, pairs_in, members_in}
+use Rattle.qs_data.specs.write.internal.Writes.{text_in}
+use Rattle.qs_data.proofs.lemmas.write.Wrote.{Continues}
 use Rattle.qs_data.proofs.write.walk.+write.Given as goal
 
 abbrev pub invariant-write_elements-loop-place : goal.invariant-write_elements-loop-place

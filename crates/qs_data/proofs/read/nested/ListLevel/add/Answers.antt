@@ -2,9 +2,9 @@ use Rattle.std.proofs.Common.{◌≡◌, [], ◌∷◌, ◌++◌, map, refl, ap,
 use Rattle.std.proofs.lemmas.Grind.{common_steps}
 use Rattle.qs_spec.specs.Data as d
 use Rattle.qs_spec.specs.toward.ReadFunction.{any_data, read_each}
-use Rattle.qs_data.specs.Nesting.{items_left, list_with}
-use Rattle.qs_data.specs.Views.{data_of}
-use Rattle.qs_data.proofs.Steps.{before-front}
+use Rattle.qs_data.specs.read.internal.Nesting.{items_left, list_with}
+use Rattle.qs_data.specs.data.Views.{data_of}
+use Rattle.qs_data.proofs.lemmas.read.Steps.{before-front}
 use Rattle.qs_data.proofs.read.nested.ListLevel.add.Goals as goal
 
 pub returns-clause-ok : goal.returns-clause-ok

@@ -5,11 +5,11 @@ use Rattle.qs_spec.specs.toward.ReadFunction.{any_data, read_each}
 use Rattle.qs_tree.specs.Views.{tree_of}
 use Rattle.qs_data.specs.declared.read.nested.Level.TheVariants as level
 use Rattle.qs_data.specs.declared.read.nested.Node.{Node}
-use Rattle.qs_data.specs.Items.{items_in, first_item}
-use Rattle.qs_data.specs.Nesting.{Visits, list_with}
-use Rattle.qs_data.specs.Views.{data_of}
-use Rattle.qs_data.proofs.Items.{each_more, each_end, each_all}
-use Rattle.qs_data.proofs.Nesting.{enters_list, list_text_after, list_parts}
+use Rattle.qs_data.specs.read.internal.Items.{items_in, first_item}
+use Rattle.qs_data.specs.read.internal.Nesting.{Visits, list_with}
+use Rattle.qs_data.specs.data.Views.{data_of}
+use Rattle.qs_data.proofs.lemmas.read.Items.{each_more, each_end, each_all}
+use Rattle.qs_data.proofs.lemmas.read.Nesting.{enters_list, list_text_after, list_parts}
 use Rattle.qs_data.proofs.read.nested.ListLevel.advance.Goals as goal
 use Rattle.qs_data.proofs.read.nested.ListLevel.advance.Goals.{else-loop-place-test, then-loop-place-test+in_ok-item+in_default}
 

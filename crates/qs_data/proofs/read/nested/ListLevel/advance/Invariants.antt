@@ -1,10 +1,10 @@
 use Rattle.std.proofs.Common.{◌≡◌, ◌≤◌, false, map, drop}
 use Rattle.qs_spec.specs.toward.ReadFunction.{any_data, read_each}
 use Rattle.qs_data.specs.declared.read.nested.Level.TheVariants as level
-use Rattle.qs_data.specs.Items.{items_in, are_text}
-use Rattle.qs_data.specs.Nesting.{level_data, level_is_text, level_size, list_with}
-use Rattle.qs_data.specs.Sizes.{list_size}
-use Rattle.qs_data.specs.Views.{data_of}
+use Rattle.qs_data.specs.read.internal.Items.{items_in, are_text}
+use Rattle.qs_data.specs.read.internal.Nesting.{level_data, level_is_text, level_size, list_with}
+use Rattle.qs_data.specs.read.internal.Sizes.{list_size}
+use Rattle.qs_data.specs.data.Views.{data_of}
 use Rattle.qs_data.proofs.read.nested.ListLevel.advance.Given as goal
 
 abbrev pub invariant-loop-place : goal.invariant-loop-place

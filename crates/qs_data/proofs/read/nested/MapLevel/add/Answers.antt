@@ -3,9 +3,9 @@ use Rattle.std.proofs.lemmas.Grind.{common_steps}
 use Rattle.qs_spec.specs.Data as d
 use Rattle.qs_spec.specs.toward.ReadFunction.{any_data, read_pairs}
 use Rattle.qs_spec.specs.Shape.{KeyShape}
-use Rattle.qs_data.specs.Nesting.{entries_left, map_with}
-use Rattle.qs_data.specs.Views.{data_of, pair_of}
-use Rattle.qs_data.proofs.Steps.{before-front}
+use Rattle.qs_data.specs.read.internal.Nesting.{entries_left, map_with}
+use Rattle.qs_data.specs.data.Views.{data_of, pair_of}
+use Rattle.qs_data.proofs.lemmas.read.Steps.{before-front}
 use Rattle.qs_data.proofs.read.nested.MapLevel.add.Goals as goal
 
 pub returns-clause-ok : goal.returns-clause-ok

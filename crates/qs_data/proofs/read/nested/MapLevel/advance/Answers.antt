@@ -10,12 +10,12 @@ use Rattle.qs_spec.specs.Tree.{Tree}
 use Rattle.qs_tree.specs.Views.{tree_of, entries_of_map, step_of_key, pairs_of}
 use Rattle.qs_data.specs.declared.read.nested.Level.TheVariants as level
 use Rattle.qs_data.specs.declared.read.nested.Node.{Node}
-use Rattle.qs_data.specs.Keys.{entries_after}
-use Rattle.qs_data.specs.Nesting.{Visits, map_with}
-use Rattle.qs_data.specs.Text.{is_text}
-use Rattle.qs_data.specs.Views.{data_of, pair_of}
-use Rattle.qs_data.proofs.Nesting.{enters_map, advance_exit, map_text_key, map_text, map_text_after, map_parts}
-use Rattle.qs_data.proofs.Pairs.{pairs_more, pairs_no_key, pairs_no_value, pairs_end, pairs_all}
+use Rattle.qs_data.specs.read.internal.Keys.{entries_after}
+use Rattle.qs_data.specs.read.internal.Nesting.{Visits, map_with}
+use Rattle.qs_data.specs.read.Text.{is_text}
+use Rattle.qs_data.specs.data.Views.{data_of, pair_of}
+use Rattle.qs_data.proofs.lemmas.read.Nesting.{enters_map, advance_exit, map_text_key, map_text, map_text_after, map_parts}
+use Rattle.qs_data.proofs.lemmas.read.Pairs.{pairs_more, pairs_no_key, pairs_no_value, pairs_end, pairs_all}
 use Rattle.qs_data.proofs.read.nested.MapLevel.advance.Goals as goal
 use Rattle.qs_data.proofs.read.nested.MapLevel.advance.Goals.{else-loop-place-test, then-loop-place-test+in_default}
 

@@ -3,11 +3,11 @@ use Rattle.qs_spec.specs.toward.ReadFunction.{any_data, read_pairs}
 use Rattle.qs_spec.specs.Shape.{KeyShape}
 use Rattle.qs_tree.specs.Views.{entries_of_map}
 use Rattle.qs_data.specs.declared.read.nested.Level.TheVariants as level
-use Rattle.qs_data.specs.Keys.{entries_after}
-use Rattle.qs_data.specs.Nesting.{level_data, level_is_text, level_size, map_with}
-use Rattle.qs_data.specs.Sizes.{entries_size}
-use Rattle.qs_data.specs.Text.{entries_are_text}
-use Rattle.qs_data.specs.Views.{pair_of}
+use Rattle.qs_data.specs.read.internal.Keys.{entries_after}
+use Rattle.qs_data.specs.read.internal.Nesting.{level_data, level_is_text, level_size, map_with}
+use Rattle.qs_data.specs.read.internal.Sizes.{entries_size}
+use Rattle.qs_data.specs.read.Text.{entries_are_text}
+use Rattle.qs_data.specs.data.Views.{pair_of}
 use Rattle.qs_data.proofs.read.nested.MapLevel.advance.Given as goal
 
 abbrev pub invariant-loop-place : goal.invariant-loop-place

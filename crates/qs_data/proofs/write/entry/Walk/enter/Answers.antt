@@ -1,7 +1,7 @@
 use Rattle.std.proofs.Common.{◌≡◌, ◌∙◌, ◌≤◌, ap, sym, length, length-append, ◌++◌, ◌∷◌, [], arith}
-use Rattle.qs_data.specs.Scalars.{scalar_text}
-use Rattle.qs_data.specs.Writes.{grown, path_behind}
-use Rattle.qs_data.proofs.Entry.{path_grown, path_long}
+use Rattle.qs_data.specs.write.internal.Scalars.{scalar_text}
+use Rattle.qs_data.specs.write.internal.Writes.{grown, path_behind}
+use Rattle.qs_data.proofs.lemmas.write.Entry.{path_grown, path_long}
 use Rattle.qs_data.proofs.write.entry.Walk.enter.Goals as goal
 
 pub returns-clause-ok : goal.returns-clause-ok

@@ -178,7 +178,7 @@ fn is_ignored(unknown: UnknownKeys) -> bool
     }
 }
 
-#[tactic(auto, using(qs_data::proofs::lemmas::read::Refusals::utf8_tests))]
+#[tactic(auto, using(qs_data::proofs::lemmas::read::Errors::utf8_tests))]
 fn is_text(bytes: &[u8]) -> bool
     ensures { result ≡ is_utf8 bytes.now }
 {

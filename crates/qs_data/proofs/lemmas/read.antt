@@ -1,4 +1,4 @@
-pub mod Refusals
+pub mod Errors
 pub mod ReadErrors
 pub mod Numbers
 pub mod Scalars

@@ -9,8 +9,8 @@ use Rattle.qs_data.specs.declared.data.data.Data.{Data, Data-F, fold-Data}
 abbrev pub named : {A B : Type 0} → (A → B) → String Global × A → List ℕ × B
 named view x = (string_bytes x.0, view x.1)
 
-abbrev pub same : d.Data → d.Data
-same x = x
+abbrev pub unchanged : d.Data → d.Data
+unchanged x = x
 
 abbrev pub data_layer : Data-F d.Data → d.Data
 data_layer Data-F.Unit = d.unit
@@ -25,12 +25,12 @@ data_layer (Data-F.Bytes bytes) = d.bytes bytes.items
 data_layer (Data-F.Seq xs) = d.sequence (d.values_of xs.items)
 data_layer (Data-F.Tuple xs) = d.tuple (d.values_of xs.items)
 data_layer (Data-F.Map ps) = d.mapping (d.pairs_of ps.items)
-data_layer (Data-F.Struct ms) = d.struct (d.members_of (map (named same) ms.items))
+data_layer (Data-F.Struct ms) = d.struct (d.members_of (map (named unchanged) ms.items))
 data_layer (Data-F.Newtype x) = d.newtype x.value
 data_layer (Data-F.UnitVariant name) = d.unit_variant (string_bytes name)
 data_layer (Data-F.NewtypeVariant name x) = d.newtype_variant (string_bytes name) x.value
 data_layer (Data-F.TupleVariant name xs) = d.tuple_variant (string_bytes name) (d.values_of xs.items)
-data_layer (Data-F.StructVariant name ms) = d.struct_variant (string_bytes name) (d.members_of (map (named same) ms.items))
+data_layer (Data-F.StructVariant name ms) = d.struct_variant (string_bytes name) (d.members_of (map (named unchanged) ms.items))
 
 -- the data that a value stands for
 abbrev pub data_of : Data → d.Data

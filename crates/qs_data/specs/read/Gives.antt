@@ -5,13 +5,13 @@ use Rattle.qs_tree.specs.declared.error.Error.TheVariants.{Custom, Utf8, OutOfMe
 
 -- The error says that there is nothing to return, unless it says that memory ran out; and `Utf8` comes only where not all
 -- that was read is text.
-abbrev pub Refuses : {Y : Type 0} → Bool → Error → Option Y → Type 0
-Refuses all_text (Custom message) r = r ≡ None
-Refuses all_text (Utf8 cause) r = (r ≡ None) × (all_text ≡ false)
-Refuses all_text OutOfMemory r = ⊤
-Refuses all_text _ r = ⊥
+abbrev pub Rejects : {Y : Type 0} → Bool → Error → Option Y → Type 0
+Rejects all_text (Custom message) r = r ≡ None
+Rejects all_text (Utf8 cause) r = (r ≡ None) × (all_text ≡ false)
+Rejects all_text OutOfMemory r = ⊤
+Rejects all_text _ r = ⊥
 
 -- seen by view, what was returned is what there is to return
 abbrev pub Gives : {X Y : Type 0} → (X → Y) → Bool → Result X Error → Option Y → Type 0
 Gives view all_text (Ok x) r = r ≡ Some (view x)
-Gives view all_text (Err e) r = Refuses all_text e r
+Gives view all_text (Err e) r = Rejects all_text e r

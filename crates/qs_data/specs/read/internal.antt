@@ -2,7 +2,7 @@
 pub mod Frugal
 pub mod ReadError
 pub mod Hint
-pub mod ScalarText
+pub mod SourceText
 pub mod Keys
 pub mod Items
 pub mod Sizes

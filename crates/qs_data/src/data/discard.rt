@@ -20,23 +20,23 @@ enum Parts {
 }
 
 impl Data {
-    /// Drops the data by a loop over a pile on the heap, so they may be nested as deep as they like. A plain drop calls itself once
+    /// Drops the data by a loop over a stack on the heap, so they may be nested as deep as they like. A plain drop calls itself once
     /// for each level.
     ///
-    /// Allocates the pile, which holds lists, maps and the like, and no leaves. What the pile finds no memory for is
+    /// Allocates the stack, which holds lists, maps and the like, and no leaves. What the stack finds no memory for is
     /// dropped plainly.
     pub fn discard(self) {
         let Some((alloc, parts)) = self.into_parts() else {
             return;
         };
-        let mut pile = Vec::new(alloc);
-        parts.put_on(&mut pile);
-        while let Some(datum) = pile.pop() {
+        let mut stack = Vec::new(alloc);
+        parts.put_on(&mut stack);
+        while let Some(datum) = stack.pop() {
             if let Some((_, parts)) = datum.into_parts() {
-                parts.put_on(&mut pile);
+                parts.put_on(&mut stack);
             }
         }
-        pile.destroy_empty();
+        stack.destroy_empty();
     }
 
     // Whether it is of a kind that holds no data.
@@ -79,60 +79,60 @@ impl Data {
         }
     }
 
-    // Puts it on the pile. A leaf is dropped at once, and so are data for which the pile finds no memory.
-    fn put_on(self, pile: &mut Vec<Data>)
-        ensures leaf { is_leaf self ≡ true → pile.new.items ≡ pile.old.items }
-        ensures weight { sum_by weight pile.new.items ≤ sum_by weight pile.old.items + weight self }
+    // Puts it on the stack. A leaf is dropped at once, and so are data for which the stack finds no memory.
+    fn put_on(self, stack: &mut Vec<Data>)
+        ensures leaf { is_leaf self ≡ true → stack.new.items ≡ stack.old.items }
+        ensures weight { sum_by weight stack.new.items ≤ sum_by weight stack.old.items + weight self }
     {
         if self.is_leaf() {
             drop(self);
-        } else if let Err(refused) = pile.push(self) {
+        } else if let Err(refused) = stack.push(self) {
             drop(refused.value);
         }
     }
 }
 
 impl Parts {
-    // Puts each on the pile.
-    fn put_on(self, pile: &mut Vec<Data>)
-        ensures { sum_by weight pile.new.items ≤ sum_by weight pile.old.items + parts_weight self }
+    // Puts each on the stack.
+    fn put_on(self, stack: &mut Vec<Data>)
+        ensures { sum_by weight stack.new.items ≤ sum_by weight stack.old.items + parts_weight self }
     {
         match self {
-            Parts::One(part) => Box::into_inner(part).put_on(pile),
-            Parts::Items(items) => put_items(items, pile),
-            Parts::Pairs(pairs) => put_pairs(pairs, pile),
-            Parts::Members(members) => put_members(members, pile),
+            Parts::One(part) => Box::into_inner(part).put_on(stack),
+            Parts::Items(items) => put_items(items, stack),
+            Parts::Pairs(pairs) => put_pairs(pairs, stack),
+            Parts::Members(members) => put_members(members, stack),
         }
     }
 }
 
-// Puts each item on the pile.
-fn put_items(mut items: Vec<Data>, pile: &mut Vec<Data>)
-    ensures { sum_by weight pile.new.items ≤ sum_by weight pile.old.items + sum_by weight items.items }
+// Puts each item on the stack.
+fn put_items(mut items: Vec<Data>, stack: &mut Vec<Data>)
+    ensures { sum_by weight stack.new.items ≤ sum_by weight stack.old.items + sum_by weight items.items }
 {
     while let Some(item) = items.pop() {
-        item.put_on(pile);
+        item.put_on(stack);
     }
     items.destroy_empty();
 }
 
-// Puts each key and each value on the pile.
-fn put_pairs(mut pairs: Vec<(Data, Data)>, pile: &mut Vec<Data>)
-    ensures { sum_by weight pile.new.items ≤ sum_by weight pile.old.items + sum_by pair_weight pairs.items }
+// Puts each key and each value on the stack.
+fn put_pairs(mut pairs: Vec<(Data, Data)>, stack: &mut Vec<Data>)
+    ensures { sum_by weight stack.new.items ≤ sum_by weight stack.old.items + sum_by pair_weight pairs.items }
 {
     while let Some((key, value)) = pairs.pop() {
-        key.put_on(pile);
-        value.put_on(pile);
+        key.put_on(stack);
+        value.put_on(stack);
     }
     pairs.destroy_empty();
 }
 
-// Puts each field's value on the pile.
-fn put_members(mut members: Vec<(String, Data)>, pile: &mut Vec<Data>)
-    ensures { sum_by weight pile.new.items ≤ sum_by weight pile.old.items + sum_by member_weight members.items }
+// Puts each field's value on the stack.
+fn put_members(mut members: Vec<(String, Data)>, stack: &mut Vec<Data>)
+    ensures { sum_by weight stack.new.items ≤ sum_by weight stack.old.items + sum_by member_weight members.items }
 {
     while let Some((_name, value)) = members.pop() {
-        value.put_on(pile);
+        value.put_on(stack);
     }
     members.destroy_empty();
 }

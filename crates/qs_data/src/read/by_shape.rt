@@ -8,18 +8,18 @@ ghost use Rattle.qs_data.specs.data.Views.{data_of};
 ghost use Rattle.qs_data.specs.shape.Views.{fields_in, key_shape_of, shape_of, shapes_in};
 ghost use Rattle.qs_data.specs.read.Text.{is_text};
 ghost use Rattle.qs_data.specs.read.Parsed.{takes_no_memory};
-ghost use Rattle.qs_data.specs.read.Gives as caller;
-ghost use Rattle.qs_data.specs.read.internal.Frugal as frugal;
-ghost use Rattle.qs_data.specs.read.internal.ReadError.{Gives, IsFrugal};
+ghost use Rattle.qs_data.specs.read.Gives.{Gives};
+ghost use Rattle.qs_data.specs.read.internal.Frugal.{IsFrugal};
+ghost use Rattle.qs_data.specs.read.internal.ReadError.{ReadGives, ReadIsFrugal};
 ghost use Rattle.qs_data.specs.read.internal.Keys.{unknown_of};
 
 use crate::data::Data;
 use crate::read::any::read_any;
 use crate::read::error::Result;
-use crate::read::fault::{Expected, Fault};
 use crate::read::fields::read_struct;
 use crate::read::lists::{read_list, read_tuple};
 use crate::read::maps::read_map;
+use crate::read::message::{Expected, Message};
 use crate::read::scalar::{
     read_bool, read_bytes, read_char, read_signed, read_text, read_unit, read_unsigned,
 };
@@ -36,8 +36,8 @@ pub(crate) fn read(
     shape: &Shape,
     value: &ParsedValue<'_>,
 ) -> Result<Data, Error>
-    ensures gives { caller.Gives data_of (is_text (tree_of value.now)) result (reads reject_duplicates (shape_of shape.now) (tree_of value.now)) }
-    ensures frugal { IsTrue (takes_no_memory (shape_of shape.now)) → frugal.IsFrugal result (reads reject_duplicates (shape_of shape.now) (tree_of value.now)) }
+    ensures gives { Gives data_of (is_text (tree_of value.now)) result (reads reject_duplicates (shape_of shape.now) (tree_of value.now)) }
+    ensures frugal { IsTrue (takes_no_memory (shape_of shape.now)) → IsFrugal result (reads reject_duplicates (shape_of shape.now) (tree_of value.now)) }
 {
     Ok(read_node(alloc, reject_duplicates, shape, value)?)
 }
@@ -51,8 +51,8 @@ pub(crate) fn read_node(
     shape: &Shape,
     value: &ParsedValue<'_>,
 ) -> Result<Data>
-    ensures gives { Gives data_of (is_text (tree_of value.now)) result (reads reject_duplicates (shape_of shape.now) (tree_of value.now)) }
-    ensures frugal { IsTrue (takes_no_memory (shape_of shape.now)) → IsFrugal result (reads reject_duplicates (shape_of shape.now) (tree_of value.now)) }
+    ensures gives { ReadGives data_of (is_text (tree_of value.now)) result (reads reject_duplicates (shape_of shape.now) (tree_of value.now)) }
+    ensures frugal { IsTrue (takes_no_memory (shape_of shape.now)) → ReadIsFrugal result (reads reject_duplicates (shape_of shape.now) (tree_of value.now)) }
 {
     match shape {
         Shape::Unit => read_unit(alloc, value),
@@ -102,7 +102,7 @@ fn seq_data(
     part: &Shape,
     value: &ParsedValue<'_>,
 ) -> Result<Data>
-    ensures { Gives data_of (is_text (tree_of value.now)) result (reads reject_duplicates (s.Shape.sequence (shape_of part.now)) (tree_of value.now)) }
+    ensures { ReadGives data_of (is_text (tree_of value.now)) result (reads reject_duplicates (s.Shape.sequence (shape_of part.now)) (tree_of value.now)) }
 {
     Ok(Data::Seq(read_list(alloc, reject_duplicates, part, value)?))
 }
@@ -116,7 +116,7 @@ fn tuple_data(
     parts: &Vec<Shape>,
     value: &ParsedValue<'_>,
 ) -> Result<Data>
-    ensures { Gives data_of (is_text (tree_of value.now)) result (reads reject_duplicates (s.Shape.tuple (shapes_in parts.now.items)) (tree_of value.now)) }
+    ensures { ReadGives data_of (is_text (tree_of value.now)) result (reads reject_duplicates (s.Shape.tuple (shapes_in parts.now.items)) (tree_of value.now)) }
 {
     let expected = Expected::Tuple(parts.len());
     Ok(Data::Tuple(read_tuple(alloc, reject_duplicates, parts, value, expected)?))
@@ -132,7 +132,7 @@ fn map_data(
     part: &Shape,
     value: &ParsedValue<'_>,
 ) -> Result<Data>
-    ensures { Gives data_of (is_text (tree_of value.now)) result
+    ensures { ReadGives data_of (is_text (tree_of value.now)) result
         (reads reject_duplicates (s.Shape.mapping (key_shape_of key_shape.now) (shape_of part.now)) (tree_of value.now)) }
 {
     Ok(Data::Map(read_map(alloc, reject_duplicates, key_shape, part, value)?))
@@ -148,7 +148,7 @@ fn struct_data(
     fields: &Vec<Field>,
     value: &ParsedValue<'_>,
 ) -> Result<Data>
-    ensures { Gives data_of (is_text (tree_of value.now)) result
+    ensures { ReadGives data_of (is_text (tree_of value.now)) result
         (reads reject_duplicates (s.Shape.struct (unknown_of unknown) (fields_in fields.now.items)) (tree_of value.now)) }
 {
     Ok(Data::Struct(read_struct(alloc, reject_duplicates, unknown, fields, value)?))
@@ -163,7 +163,7 @@ fn newtype_data(
     part: &Shape,
     value: &ParsedValue<'_>,
 ) -> Result<Data>
-    ensures { Gives data_of (is_text (tree_of value.now)) result (reads reject_duplicates (s.Shape.newtype (shape_of part.now)) (tree_of value.now)) }
+    ensures { ReadGives data_of (is_text (tree_of value.now)) result (reads reject_duplicates (s.Shape.newtype (shape_of part.now)) (tree_of value.now)) }
 {
     let held = read_node(alloc, reject_duplicates, part, value)?;
     Ok(Data::Newtype(Box::new(alloc, held)?))
@@ -177,10 +177,10 @@ fn read_option(
     part: &Shape,
     value: &ParsedValue<'_>,
 ) -> Result<Data>
-    ensures { Gives data_of (is_text (tree_of value.now)) result (read_option (reads reject_duplicates (shape_of part.now)) (tree_of value.now)) }
+    ensures { ReadGives data_of (is_text (tree_of value.now)) result (read_option (reads reject_duplicates (shape_of part.now)) (tree_of value.now)) }
 {
     match value {
-        ParsedValue::Uninitialized => Err(Fault::Uninitialized.error(alloc)),
+        ParsedValue::Uninitialized => Err(Message::Uninitialized.error(alloc)),
         ParsedValue::NoValue => Ok(Data::None),
         ParsedValue::Null => {
             let held = read_node(alloc, reject_duplicates, part, &ParsedValue::NoValue)?;
@@ -195,10 +195,10 @@ fn read_option(
 
 // Whatever is there is passed over.
 fn read_ignored(alloc: Global, value: &ParsedValue<'_>) -> Result<Data>
-    ensures { Gives data_of true result (read_ignored (tree_of value.now)) }
+    ensures { ReadGives data_of true result (read_ignored (tree_of value.now)) }
 {
     match value {
-        ParsedValue::Uninitialized => Err(Fault::Uninitialized.error(alloc)),
+        ParsedValue::Uninitialized => Err(Message::Uninitialized.error(alloc)),
         _ => Ok(Data::Unit),
     }
 }

@@ -82,7 +82,7 @@ impl<'qs> Deserializer<'qs> {
     /// UTF-8. Fields are read in the shape's order, then the other keys are looked at.
     ///
     /// The items of a list are read in their order, and the pairs of a map in the order of its keys, of each the key first. The
-    /// fault of a key that holds `[` is reported with a hint at form encoding.
+    /// message of a key that holds `[` is reported with a hint at form encoding.
     ///
     /// Where the querystring was written of [plain](Data::is_plain) data that [fit](Shape::fits) the shape, under the same
     /// configuration, these data are read back: in the indexed format from their entries in any order, and in each format where

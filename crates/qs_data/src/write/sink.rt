@@ -4,7 +4,7 @@ ghost use Rattle.std.specs.Prelude.{◌≡◌, ℕ, ◌<◌, List, length, take,
 ghost use Rattle.std.specs.declared.option.Option.{Option};
 ghost use Rattle.std.specs.Io.{WritesAtMost};
 ghost use Rattle.std.specs.Io.KnownBytes.{Appends, WriteAppends};
-ghost use Rattle.qs_data.specs.write.Put.{is_refused};
+ghost use Rattle.qs_data.specs.write.Put.{put_fails};
 ghost use Rattle.qs_data.specs.declared.write.stop.Stop.TheVariants.{Io};
 
 use crate::write::stop::Stop;
@@ -32,7 +32,7 @@ pub trait Sink {
     fn put(&mut self, bytes: &[u8]) -> io::Result<usize>
         ensures bound { WritesAtMost result bytes.now }
         ensures takes { WriteAppends (taken self.old) (taken self.new) result bytes.now }
-        ensures fails { failed self.new ≡ (failed self.old || is_refused result bytes.now) }
+        ensures fails { failed self.new ≡ (failed self.old || put_fails result bytes.now) }
         ensures same_writer { writer_name self.new ≡ writer_name self.old };
 
     /// Whether a put ever failed.

@@ -5,7 +5,7 @@ ghost use Rattle.qs_spec.specs.Config.{element_segment};
 ghost use Rattle.qs_spec.specs.Entry.{entries, entries_at, elements_from, pair_entries, member_entries, deeper, maybe_deeper};
 ghost use Rattle.qs_data.specs.data.Views.{data_of, values_in, pairs_in, members_in};
 ghost use Rattle.qs_data.specs.write.internal.Scalars.{scalar_text};
-ghost use Rattle.qs_data.specs.write.internal.Writes.{IsAt, Writes, WritesTo, text_in};
+ghost use Rattle.qs_data.specs.write.internal.Writes.{IsAt, Writes, WritesTo, state_in};
 ghost use Rattle.qs_data.specs.write.State.{IsBare};
 ghost use Rattle.qs_data.specs.declared.write.stop.Stop.TheVariants.{OutOfMemory};
 
@@ -24,7 +24,7 @@ pub(crate) fn write_all<S: Sink>(
     datum: &Data,
 ) -> Result<(), Stop>
     requires { IsAt config.form [] walk.old }
-    ensures writes { Writes result config [] (text_in S.taken S.failed S.writer_name stream.old) (text_in S.taken S.failed S.writer_name stream.new) walk.new
+    ensures writes { Writes result config [] (state_in S.taken S.failed S.writer_name stream.old) (state_in S.taken S.failed S.writer_name stream.new) walk.new
         (entries config (data_of datum.now)) }
     ensures bare { IsBare (data_of datum.now) → result ≡ Err OutOfMemory → ⊥ }
 {

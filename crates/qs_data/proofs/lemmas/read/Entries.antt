@@ -10,8 +10,8 @@ use Rattle.qs_spec.specs.Tree.Entries.{no_entries, entry}
 use Rattle.qs_spec.specs.Node.{keys_are_text}
 use Rattle.qs_tree.specs.Views.{pairs_of}
 use Rattle.qs_data.specs.read.Text.{is_text, entries_are_text}
-use Rattle.qs_data.specs.read.internal.Keys.{NumbersFit, KeyFits, Tells, entries_after}
-use Rattle.qs_data.proofs.lemmas.read.Refusals.{and_left, and_right}
+use Rattle.qs_data.specs.read.internal.Keys.{NumbersFit, KeyFits, PassesTest, entries_after}
+use Rattle.qs_data.proofs.lemmas.read.Errors.{and_left, and_right}
 
 some_is : {A : Type 0} (a b : A) → Some a ≡ Some b → a ≡ b
 some_is a b h = cc
@@ -58,7 +58,7 @@ pub record Tested {E : Type 0} (es rest : Entries) (tested : Result (Unit {0}) E
 pub tested_all : {E : Type 0} (es : Entries) → Tested {E = E} es es (Ok tt)
 tested_all es = record { text = refl; fit = λ h. h }
 
-pub tested_done : {E : Type 0} (es rest : Entries) (x : Result (Unit {0}) E) → rest ≡ no_entries → Tested es rest x → Tells x (keys_are_text es)
+pub tested_done : {E : Type 0} (es rest : Entries) (x : Result (Unit {0}) E) → rest ≡ no_entries → Tested es rest x → PassesTest x (keys_are_text es)
 tested_done es rest (Ok y) h t = t.text ∙ ap keys_are_text h
 tested_done es rest (Err e) h t = t.text
 
@@ -67,13 +67,13 @@ fit_done es rest x h t = t.fit (subst NumbersFit (sym h) tt)
 
 -- one more
 pub tested_more : {E : Type 0} (es more : Entries) (k : Segment) (m : Bool) (t : Tree) (x y : Result (Unit {0}) E) → Tested es (entry k m t more) x
-    → Tells y (is_utf8 (segment_text k)) → KeyFits k → Tested es more (result_and x y)
+    → PassesTest y (is_utf8 (segment_text k)) → KeyFits k → Tested es more (result_and x y)
 tested_more {E = E} es more k m t x y h g f = record {
   text = text x y h.text g;
   fit = λ n. h.fit (f, n);
 } where
   text : (x y : Result (Unit {0}) E) → MatchResult x (λ _. keys_are_text es ≡ keys_are_text (entry k m t more)) (λ _. keys_are_text es ≡ false)
-      → Tells y (is_utf8 (segment_text k)) → MatchResult (result_and x y) (λ _. keys_are_text es ≡ keys_are_text more) (λ _. keys_are_text es ≡ false)
+      → PassesTest y (is_utf8 (segment_text k)) → MatchResult (result_and x y) (λ _. keys_are_text es ≡ keys_are_text more) (λ _. keys_are_text es ≡ false)
   text (Ok u) (Ok v) a b = a ∙ rw b refl
   text (Ok u) (Err e) a b = a ∙ and_left (is_utf8 (segment_text k)) (keys_are_text more) b
   text (Err e) y a b = a

@@ -27,7 +27,7 @@ use Rattle.qs_spec.specs.Segment.{segment_text}
 use Rattle.qs_data.specs.read.internal.Keys.{entries_after}
 use Rattle.qs_data.specs.read.internal.Items.{first_item, are_text, passed}
 use Rattle.qs_data.specs.read.Text.{is_text, items_are_text, entries_are_text}
-use Rattle.qs_data.proofs.lemmas.read.Refusals.{and_left, and_right}
+use Rattle.qs_data.proofs.lemmas.read.Errors.{and_left, and_right}
 use Rattle.qs_data.proofs.lemmas.read.Fields.{item_at, no_item_at}
 use Rattle.qs_data.proofs.lemmas.read.Steps.{before, before-front}
 use Rattle.qs_data.proofs.lemmas.read.Entries.{after_some, after_none}

@@ -19,12 +19,12 @@ use Rattle.qs_spec.specs.toward.ReadFunction.{any_data, read_each, read_pairs, w
 use Rattle.qs_data.specs.declared.read.error.ReadError.{ReadError}
 use Rattle.qs_tree.specs.Views.{entries_of_map, pairs_of as steps_of}
 use Rattle.qs_data.specs.declared.data.data.Data as r
-use Rattle.qs_data.specs.declared.read.items.Items.{Items as Node}
-use Rattle.qs_data.specs.declared.read.nested.MapLevel.{MapLevel}
-use Rattle.qs_data.specs.declared.read.nested.Level.{Level}
-use Rattle.qs_data.specs.declared.read.nested.Level.TheVariants as level
-use Rattle.qs_data.specs.read.internal.Nesting.{Begins, Enters, Advances, Adds, entries_left, level_data, level_after, level_size, level_is_text, list_with, map_with}
-use Rattle.qs_data.specs.read.internal.ReadError.{Refuses}
+use Rattle.qs_data.specs.declared.read.items.Items.{Items as Visited}
+use Rattle.qs_data.specs.declared.read.nested.MapFrame.{MapFrame}
+use Rattle.qs_data.specs.declared.read.nested.Frame.{Frame}
+use Rattle.qs_data.specs.declared.read.nested.Frame.TheVariants as frame
+use Rattle.qs_data.specs.read.internal.Nesting.{Begins, Enters, Advances, Extends, entries_left, frame_data, frame_after, frame_size, frame_is_text, list_with, map_with}
+use Rattle.qs_data.specs.read.internal.ReadError.{ReadRejects}
 use Rattle.qs_data.specs.read.internal.Items.{items_in, first_item, are_text}
 use Rattle.qs_data.specs.read.internal.Keys.{entries_after}
 use Rattle.qs_data.specs.read.internal.Sizes.{tree_size, list_size, entries_size}
@@ -33,40 +33,40 @@ use Rattle.qs_data.specs.read.Text.{is_text, entries_are_text}
 use Rattle.qs_data.proofs.lemmas.read.Anything.{is_list, any_list, any_map}
 use Rattle.qs_data.proofs.lemmas.read.Entries.{after_some}
 use Rattle.qs_data.proofs.lemmas.read.Items.{first_some, items_bad}
-use Rattle.qs_data.proofs.lemmas.read.Refusals.{and_left, and_right}
-use Rattle.qs_data.proofs.lemmas.read.ReadErrors.{refused}
+use Rattle.qs_data.proofs.lemmas.read.Errors.{and_left, and_right}
+use Rattle.qs_data.proofs.lemmas.read.ReadErrors.{rejected}
 use Rattle.qs_data.proofs.lemmas.read.Sizes.{each_size, placed_size}
 
--- what levels give, the outermost first, where the node that is being read gives this
-abbrev pub levels_after : List Level → Option Data → Option Data
-levels_after [] inner = inner
-levels_after (l ∷ ls) inner = level_after l (levels_after ls inner)
+-- what frames give, the outermost first, where the node that is being read gives this
+abbrev pub frames_after : List Frame → Option Data → Option Data
+frames_after [] inner = inner
+frames_after (l ∷ ls) inner = frame_after l (frames_after ls inner)
 
--- how much is left of levels, and one for each
-abbrev pub levels_size : List Level → ℕ
-levels_size [] = 0
-levels_size (l ∷ ls) = suc (2 * level_size l) + levels_size ls
+-- how much is left of frames, and one for each
+abbrev pub frames_size : List Frame → ℕ
+frames_size [] = 0
+frames_size (l ∷ ls) = suc (2 * frame_size l) + frames_size ls
 
--- where one of the levels isn't text, the whole isn't
-abbrev pub IsTextOf : Bool → Level → Type 0
-IsTextOf whole l = level_is_text l ≡ false → whole ≡ false
+-- where one of the frames isn't text, the whole isn't
+abbrev pub IsTextOf : Bool → Frame → Type 0
+IsTextOf whole l = frame_is_text l ≡ false → whole ≡ false
 
-pub after_push : (ls : List Level) (l : Level) (inner : Option Data) → levels_after (ls ++ l ∷ []) inner ≡ levels_after ls (level_after l inner)
+pub after_push : (ls : List Frame) (l : Frame) (inner : Option Data) → frames_after (ls ++ l ∷ []) inner ≡ frames_after ls (frame_after l inner)
 after_push [] l inner = refl
-after_push (k ∷ ls) l inner = ap (level_after k) (after_push ls l inner)
+after_push (k ∷ ls) l inner = ap (frame_after k) (after_push ls l inner)
 
-pub size_push : (ls : List Level) (l : Level) → levels_size (ls ++ l ∷ []) ≡ levels_size ls + suc (2 * level_size l)
+pub size_push : (ls : List Frame) (l : Frame) → frames_size (ls ++ l ∷ []) ≡ frames_size ls + suc (2 * frame_size l)
 size_push [] l = omega arith
 size_push (k ∷ ls) l = let e = size_push ls l in omega arith
 
 -- nothing comes of nothing
-pub level_none : (l : Level) → level_after l None ≡ None
-level_none (level.List l) = refl
-level_none (level.Map m) = refl
+pub frame_none : (l : Frame) → frame_after l None ≡ None
+frame_none (frame.List l) = refl
+frame_none (frame.Map m) = refl
 
-pub levels_none : (ls : List Level) → levels_after ls None ≡ None
-levels_none [] = refl
-levels_none (l ∷ ls) = ap (level_after l) (levels_none ls) ∙ level_none l
+pub frames_none : (ls : List Frame) → frames_after ls None ≡ None
+frames_none [] = refl
+frames_none (l ∷ ls) = ap (frame_after l) (frames_none ls) ∙ frame_none l
 
 -- a list from the item on that is due
 module _ (xs : List (Option Tree)) (i : ℕ) (t : Tree) (here : first_item (drop i xs) ≡ Some (Some t)) where
@@ -137,98 +137,98 @@ listed_size (mapping es) xs w h = elim (cases_Bool (are_ints es)) [
 ]
 listed_size uninitialized xs w h = absurd cc
 
--- a level of all items of a list
-pub begins_list : (l : Level) (t : Tree) (xs : List (Option Tree)) → is_list t ≡ true → items t ≡ Some xs
-    → level_data l ≡ option_map (λ ds. Data.sequence (values_of ds)) (read_each any_data xs) → level_is_text l ≡ are_text xs → level_size l ≡ list_size xs → Begins l t
+-- a frame of all items of a list
+pub begins_list : (l : Frame) (t : Tree) (xs : List (Option Tree)) → is_list t ≡ true → items t ≡ Some xs
+    → frame_data l ≡ option_map (λ ds. Data.sequence (values_of ds)) (read_each any_data xs) → frame_is_text l ≡ are_text xs → frame_size l ≡ list_size xs → Begins l t
 begins_list l t xs w h value text size = record {
   value = any_list t xs w h ∙ sym value;
   text = λ n. items_bad t xs h (sym text ∙ n);
   size = let s = listed_size t xs w h in omega arith;
 }
 
--- a level of all entries of a map
-pub begins_map : (l : Level) (t : Tree) (es : Entries) → t ≡ mapping es → are_ints es ≡ false
-    → level_data l ≡ option_map (λ ps. Data.mapping (pairs_of ps)) (read_pairs KeyShape.text any_data es) → level_is_text l ≡ entries_are_text es → level_size l ≡ entries_size es → Begins l t
+-- a frame of all entries of a map
+pub begins_map : (l : Frame) (t : Tree) (es : Entries) → t ≡ mapping es → are_ints es ≡ false
+    → frame_data l ≡ option_map (λ ps. Data.mapping (pairs_of ps)) (read_pairs KeyShape.text any_data es) → frame_is_text l ≡ entries_are_text es → frame_size l ≡ entries_size es → Begins l t
 begins_map l t es is not value text size = record {
   value = ap any_data is ∙ any_map es not ∙ sym value;
   text = λ n. ap is_text is ∙ sym text ∙ n;
   size = let s : tree_size t ≡ suc (entries_size es) = ap tree_size is in omega arith;
 }
 
--- after some leaves of a list a further level begins
-pub enters_list : (old inner : Level) (node : Node) (values : Vec r.Data Global) (i : ℕ) (t : Tree) → first_item (drop i (items_in node)) ≡ Some (Some t)
-    → level_data old ≡ list_with (map data_of values.items) (read_each any_data (drop i (items_in node))) → (are_text (drop i (items_in node)) ≡ false → level_is_text old ≡ false)
-    → list_size (drop i (items_in node)) ≤ level_size old → Begins inner t → Enters inner old (level.List record { items = node; next = i + 1; values = values })
+-- after some leaves of a list a further frame begins
+pub enters_list : (old inner : Frame) (node : Visited) (values : Vec r.Data Global) (i : ℕ) (t : Tree) → first_item (drop i (items_in node)) ≡ Some (Some t)
+    → frame_data old ≡ list_with (map data_of values.items) (read_each any_data (drop i (items_in node))) → (are_text (drop i (items_in node)) ≡ false → frame_is_text old ≡ false)
+    → list_size (drop i (items_in node)) ≤ frame_size old → Begins inner t → Enters inner old (frame.List record { items = node; next = i + 1; values = values })
 enters_list old inner node values i t here value text size b =
     let xs = items_in node in
     record {
-      value = value ∙ list_enters xs i t here (map data_of values.items) (level_data inner) b.value;
+      value = value ∙ list_enters xs i t here (map data_of values.items) (frame_data inner) b.value;
       inner_text = λ n. text (list_text xs i t here (b.text n));
       text = λ n. text (list_text_after xs i t here n);
       size = let parts = list_parts xs i t here in let within = b.size in omega arith;
     }
 
--- after some leaves of a map a further level begins
-pub enters_map : (old inner : Level) (new : MapLevel) (es : Entries) (i : ℕ) (x : Step × Tree) → slice_get (steps_of es) i ≡ Some x
+-- after some leaves of a map a further frame begins
+pub enters_map : (old inner : Frame) (new : MapFrame) (es : Entries) (i : ℕ) (x : Step × Tree) → slice_get (steps_of es) i ≡ Some x
     → entries_of_map new.entries.now ≡ es → new.next ≡ i + 1 → key_data KeyShape.text (segment_text x.0.seg) ≡ Some (data_of new.key)
-    → level_data old ≡ map_with (map pair_of new.pairs.items) (read_pairs KeyShape.text any_data (entries_after i es)) → (entries_are_text (entries_after i es) ≡ false → level_is_text old ≡ false)
-    → entries_size (entries_after i es) ≤ level_size old → Begins inner x.1 → Enters inner old (level.Map new)
+    → frame_data old ≡ map_with (map pair_of new.pairs.items) (read_pairs KeyShape.text any_data (entries_after i es)) → (entries_are_text (entries_after i es) ≡ false → frame_is_text old ≡ false)
+    → entries_size (entries_after i es) ≤ frame_size old → Begins inner x.1 → Enters inner old (frame.Map new)
 enters_map old inner new es i x here among next key value text size b =
     let left : entries_left new ≡ entries_after (i + 1) es = ap (λ e. entries_after new.next e) among ∙ ap (λ n. entries_after n es) next in
     let ws = map pair_of new.pairs.items in
     record {
-      value = value ∙ map_enters es i x here ws (data_of new.key) (level_data inner) key b.value
-          ∙ ap (λ e. map_with ws (option_and_then (λ d. with_front (data_of new.key, d) (read_pairs KeyShape.text any_data e)) (level_data inner))) (sym left);
+      value = value ∙ map_enters es i x here ws (data_of new.key) (frame_data inner) key b.value
+          ∙ ap (λ e. map_with ws (option_and_then (λ d. with_front (data_of new.key, d) (read_pairs KeyShape.text any_data e)) (frame_data inner))) (sym left);
       inner_text = λ n. text (map_text es i x here (b.text n));
       text = λ n. text (map_text_after es i x here (ap entries_are_text (sym left) ∙ n));
       size =
           let parts = map_parts es i x here in
           let within = b.size in
-          let same : level_size (level.Map new) ≡ entries_size (entries_after (i + 1) es) = ap entries_size left in
+          let same : frame_size (frame.Map new) ≡ entries_size (entries_after (i + 1) es) = ap entries_size left in
           omega arith;
     }
 
--- an error of a part as the error of a level
-pub advance_exit : {Y : Type 0} (t : Bool) (x : Result (Option Level) ReadError) (e : ReadError) (r : Option Y) (old new : Level)
-    → IsErrAnd x (λ y. y ≡ e) → Refuses t e r → (r ≡ None → level_data old ≡ None) → (t ≡ false → level_is_text old ≡ false) → Advances x old new
+-- an error of a part as the error of a frame
+pub advance_exit : {Y : Type 0} (t : Bool) (x : Result (Option Frame) ReadError) (e : ReadError) (r : Option Y) (old new : Frame)
+    → IsErrAnd x (λ y. y ≡ e) → ReadRejects t e r → (r ≡ None → frame_data old ≡ None) → (t ≡ false → frame_is_text old ≡ false) → Advances x old new
 advance_exit t (Ok o) e r old new h f n g = absurd h
 advance_exit t (Err y) e r old new h f n g =
-    let P : ReadError → Type 0 = λ z. Refuses (level_is_text old) z (level_data old) in
-    subst P (sym h) (refused t (level_is_text old) e r (level_data old) f n g)
+    let P : ReadError → Type 0 = λ z. ReadRejects (frame_is_text old) z (frame_data old) in
+    subst P (sym h) (rejected t (frame_is_text old) e r (frame_data old) f n g)
 
--- what the innermost level gives, the levels round it make what the outermost gives
-pub record Continues (outermost : Level) (waiting : List Level) (innermost : Level) : Type 0 where
-  pub value : level_data outermost ≡ levels_after waiting (level_data innermost)
-  pub text : IsTextOf (level_is_text outermost) innermost
-  pub texts : All (IsTextOf (level_is_text outermost)) waiting
+-- what the innermost frame gives, the frames round it make what the outermost gives
+pub record Continues (outermost : Frame) (stack : List Frame) (innermost : Frame) : Type 0 where
+  pub value : frame_data outermost ≡ frames_after stack (frame_data innermost)
+  pub text : IsTextOf (frame_is_text outermost) innermost
+  pub texts : All (IsTextOf (frame_is_text outermost)) stack
 
-pub goes_in : (outermost inner old new : Level) (ls : List Level) → Continues outermost ls old → Enters inner old new → Continues outermost (ls ++ new ∷ []) inner
+pub goes_in : (outermost inner old new : Frame) (ls : List Frame) → Continues outermost ls old → Enters inner old new → Continues outermost (ls ++ new ∷ []) inner
 goes_in outermost inner old new ls h e = record {
-  value = h.value ∙ ap (levels_after ls) e.value ∙ sym (after_push ls new (level_data inner));
+  value = h.value ∙ ap (frames_after ls) e.value ∙ sym (after_push ls new (frame_data inner));
   text = λ n. h.text (e.inner_text n);
-  texts = All-push (IsTextOf (level_is_text outermost)) ls new h.texts (λ n. h.text (e.text n));
+  texts = All-push (IsTextOf (frame_is_text outermost)) ls new h.texts (λ n. h.text (e.text n));
 }
 
-pub smaller_in : (inner old new : Level) (ls : List Level) → Enters inner old new → levels_size (ls ++ new ∷ []) + suc (2 * level_size inner) < levels_size ls + suc (2 * level_size old)
+pub smaller_in : (inner old new : Frame) (ls : List Frame) → Enters inner old new → frames_size (ls ++ new ∷ []) + suc (2 * frame_size inner) < frames_size ls + suc (2 * frame_size old)
 smaller_in inner old new ls e = let s = size_push ls new in let p = e.size in omega arith
 
-pub goes_out : (outermost outer old new : Level) (ls rest : List Level) (d : Data) → Continues outermost ls old → level_data old ≡ Some d → ls ≡ rest ++ outer ∷ [] → Adds d outer new
+pub goes_out : (outermost outer old new : Frame) (ls rest : List Frame) (d : Data) → Continues outermost ls old → frame_data old ≡ Some d → ls ≡ rest ++ outer ∷ [] → Extends d outer new
     → Continues outermost rest new
 goes_out outermost outer old new ls rest d h done popped a =
-    let P = IsTextOf (level_is_text outermost) in
+    let P = IsTextOf (frame_is_text outermost) in
     let texts = All-pop P ls rest (Some outer) popped h.texts in
     record {
-      value = h.value ∙ ap (levels_after ls) done ∙ ap (λ ks. levels_after ks (Some d)) popped ∙ after_push rest outer (Some d) ∙ ap (levels_after rest) a.value;
+      value = h.value ∙ ap (frames_after ls) done ∙ ap (λ ks. frames_after ks (Some d)) popped ∙ after_push rest outer (Some d) ∙ ap (frames_after rest) a.value;
       text = λ n. texts.1 (a.text ∙ n);
       texts = texts.0;
     }
 
-pub smaller_out : (outer old new : Level) (ls rest : List Level) (d : Data) → ls ≡ rest ++ outer ∷ [] → Adds d outer new
-    → levels_size rest + suc (2 * level_size new) < levels_size ls + suc (2 * level_size old)
+pub smaller_out : (outer old new : Frame) (ls rest : List Frame) (d : Data) → ls ≡ rest ++ outer ∷ [] → Extends d outer new
+    → frames_size rest + suc (2 * frame_size new) < frames_size ls + suc (2 * frame_size old)
 smaller_out outer old new ls rest d popped a =
-    let s : levels_size ls ≡ levels_size rest + suc (2 * level_size outer) = ap levels_size popped ∙ size_push rest outer in
+    let s : frames_size ls ≡ frames_size rest + suc (2 * frame_size outer) = ap frames_size popped ∙ size_push rest outer in
     let same = a.size in
     omega arith
 
-pub fails : (outermost innermost : Level) (ls : List Level) → Continues outermost ls innermost → level_data innermost ≡ None → level_data outermost ≡ None
-fails outermost innermost ls h none = h.value ∙ ap (levels_after ls) none ∙ levels_none ls
+pub fails : (outermost innermost : Frame) (ls : List Frame) → Continues outermost ls innermost → frame_data innermost ≡ None → frame_data outermost ≡ None
+fails outermost innermost ls h none = h.value ∙ ap (frames_after ls) none ∙ frames_none ls

@@ -14,7 +14,7 @@ use Rattle.qs_tree.specs.Views.{pairs_of}
 use Rattle.qs_data.specs.read.internal.Keys.{entries_after}
 use Rattle.qs_data.specs.read.Text.{is_text, entries_are_text}
 use Rattle.qs_data.proofs.lemmas.read.Entries.{after_some, after_none, after_all}
-use Rattle.qs_data.proofs.lemmas.read.Refusals.{and_left, and_right}
+use Rattle.qs_data.proofs.lemmas.read.Errors.{and_left, and_right}
 use Rattle.qs_data.proofs.lemmas.read.Steps.{before, before-front}
 
 after_bad : (i : ℕ) (es : Entries) → entries_are_text (entries_after i es) ≡ false → entries_are_text es ≡ false

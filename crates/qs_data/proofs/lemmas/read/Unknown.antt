@@ -8,7 +8,7 @@ use Rattle.qs_tree.specs.Views.{pairs_of}
 use Rattle.qs_data.specs.read.internal.Keys.{when}
 use Rattle.qs_data.specs.read.internal.Keys.{entries_after}
 use Rattle.qs_data.proofs.lemmas.read.Entries.{after_some, after_none, after_all}
-use Rattle.qs_data.proofs.lemmas.read.Refusals.{and_left}
+use Rattle.qs_data.proofs.lemmas.read.Errors.{and_left}
 
 -- what passes a test, and what doesn't
 pub passes : (test : Bool) → when test ≡ Some tt → test ≡ true

@@ -26,7 +26,7 @@ use Rattle.qs_data.specs.shape.Views.{variant_of, variants_in, kind_of}
 use Rattle.qs_data.specs.read.Text.{is_text, entries_are_text}
 use Rattle.qs_data.specs.shape.Variants.{variant_named}
 use Rattle.qs_data.proofs.lemmas.read.Numbers.{empty_text}
-use Rattle.qs_data.proofs.lemmas.read.Refusals.{and_left, and_right}
+use Rattle.qs_data.proofs.lemmas.read.Errors.{and_left, and_right}
 
 pub variant_name : (d : Variant) → (variant_of d).0 ≡ string_bytes (out-Variant d).name
 variant_name d = search (rules, v.the_lemmas)

@@ -14,7 +14,7 @@ use Rattle.qs_data.specs.declared.write.stop.Stop.TheVariants.{TooDeep, OutOfMem
 use Rattle.qs_data.specs.declared.data.data.Data as r
 use Rattle.qs_data.specs.declared.data.data.Data.{Data}
 use Rattle.qs_data.specs.data.Views.{data_of, named, pair_of}
-use Rattle.qs_data.specs.write.internal.Writes.{Text, IsAt, Stops, Writes, path_behind}
+use Rattle.qs_data.specs.write.internal.Writes.{StreamState, IsAt, Stops, Writes, path_after}
 use Rattle.qs_data.proofs.lemmas.write.Wrote.{adds_nothing, some_none}
 
 pub deeper_refused : (limit : ℕ) (p : Path) (s : List ℕ) (f : Path → Output) → limit < length p → deeper limit p s f ≡ refused too_deep
@@ -26,7 +26,7 @@ unfolding deeper
 deeper_goes limit p s f h = ap (λ b. cond b (refused too_deep) (f (p ++ s ∷ []))) (le-ltb _ _ h)
 
 -- where the walk doesn't go in
-pub stops_entering : (e : Stop) (config : Config) (t : Text) (p : Path) (s : List ℕ) (f : Path → Output) → ((e ≡ TooDeep) × (config.max_depth < length p)) ⊎ (e ≡ OutOfMemory)
+pub stops_entering : (e : Stop) (config : Config) (t : StreamState) (p : Path) (s : List ℕ) (f : Path → Output) → ((e ≡ TooDeep) × (config.max_depth < length p)) ⊎ (e ≡ OutOfMemory)
     → Stops e config t t (deeper config.max_depth p s f)
 stops_entering e config t p s f (inl h) =
     let P : Output → Type 0 = λ o. Stops TooDeep config t t o in
@@ -36,11 +36,11 @@ stops_entering e config t p s f (inr h) =
     let Q : Stop → Type 0 = λ e. Stops e config t t (deeper config.max_depth p s f) in
     subst Q (sym h) (some_none config.form t (deeper config.max_depth p s f).entries)
 
-module _ (config : Config) (s : List ℕ) (f : Path → Output) (a b : Text) (from within : Walk)
+module _ (config : Config) (s : List ℕ) (f : Path → Output) (a b : StreamState) (from within : Walk)
     (entered : (p : Path) → IsAt config.form p from → (length p ≤ config.max_depth) × IsAt config.form (p ++ s ∷ []) within) where
   -- a part is written under one more segment
   pub writes_under : (back to : Walk) (len : ℕ) → ((p : Path) → IsAt config.form p within → Writes (Ok tt) config p a b back (f p))
-      → ((form : Bool) (p : Path) (s : List ℕ) → IsAt form (p ++ s ∷ []) back → len ≡ length (path_behind form p) → IsAt form p to) → len ≡ length from.text.items
+      → ((form : Bool) (p : Path) (s : List ℕ) → IsAt form (p ++ s ∷ []) back → len ≡ length (path_after form p) → IsAt form p to) → len ≡ length from.text.items
       → (p : Path) → IsAt config.form p from → Writes (Ok tt) config p a b to (deeper config.max_depth p s f)
   writes_under back to len wrote left is =
       λ p at. let e = entered p at in

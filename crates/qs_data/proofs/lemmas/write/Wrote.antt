@@ -15,7 +15,7 @@ use Rattle.qs_data.specs.declared.write.entry.Walk.{Walk}
 use Rattle.qs_data.specs.declared.write.stop.Stop.{Stop}
 use Rattle.qs_data.specs.declared.write.stop.Stop.TheVariants.{TooDeep, BadKey, Io, OutOfMemory}
 use Rattle.qs_data.specs.write.State.{IsVisible}
-use Rattle.qs_data.specs.write.internal.Writes.{IsAt, Text, Adds, AddsSome, AddsPart, Stops, Writes}
+use Rattle.qs_data.specs.write.internal.Writes.{IsAt, StreamState, Adds, AddsSome, AddsPart, Stops, Writes}
 
 pub written-append : (form s : Bool) (es fs : List Entry) → written form s (es ++ fs) ≡ written form s es ++ written form (started_after s es) fs
 unfolding written started_after
@@ -28,15 +28,15 @@ unfolding started_after
 started-append s [] fs = refl
 started-append s (e ∷ es) fs = started-append (s || has_key e.path) es fs
 
-pub adds_nothing : (form : Bool) (t : Text) → Adds form t t []
+pub adds_nothing : (form : Bool) (t : StreamState) → Adds form t t []
 unfolding written started_after
 adds_nothing form t = record { text = Appends-nil t.taken; visible = All-nil IsVisible; started = refl; failed = refl; writer = refl }
 
 -- what stands in the middle is what the first entries say
-middle : (form : Bool) (a b : Text) (es fs : List Entry) → Adds form a b es → written form b.started fs ≡ written form (started_after a.started es) fs
+middle : (form : Bool) (a b : StreamState) (es fs : List Entry) → Adds form a b es → written form b.started fs ≡ written form (started_after a.started es) fs
 middle form a b es fs p = ap (λ s. written form s fs) p.started
 
-pub adds_then : (form : Bool) (a b c : Text) (es fs : List Entry) → Adds form a b es → Adds form b c fs → Adds form a c (es ++ fs)
+pub adds_then : (form : Bool) (a b c : StreamState) (es fs : List Entry) → Adds form a b es → Adds form b c fs → Adds form a c (es ++ fs)
 adds_then form a b c es fs p q =
     let whole : written form a.started es ++ written form b.started fs ≡ written form a.started (es ++ fs) =
     ap (λ t. written form a.started es ++ t) (middle form a b es fs p) ∙ sym (written-append form a.started es fs) in
@@ -48,7 +48,7 @@ adds_then form a b c es fs p q =
       writer = q.writer ∙ p.writer;
     }
 
-adds_part_then : (form : Bool) (a b c : Text) (es fs : List Entry) → Adds form a b es → AddsPart form b c fs → AddsPart form a c (es ++ fs)
+adds_part_then : (form : Bool) (a b c : StreamState) (es fs : List Entry) → Adds form a b es → AddsPart form b c fs → AddsPart form a c (es ++ fs)
 adds_part_then form a b c es fs p q =
     let A = written form a.started es in
     let B = written form b.started fs in
@@ -66,7 +66,7 @@ adds_part_then form a b c es fs p q =
     }
 
 -- a beginning of the first entries is one of all
-part_more : (form : Bool) (a c : Text) (es fs : List Entry) → AddsPart form a c es → AddsPart form a c (es ++ fs)
+part_more : (form : Bool) (a c : StreamState) (es fs : List Entry) → AddsPart form a c es → AddsPart form a c (es ++ fs)
 part_more form a c es fs q =
     let A = written form a.started es in
     let B = written form (started_after a.started es) fs in
@@ -83,7 +83,7 @@ part_more form a c es fs q =
     }
 
 -- all of an output was written
-abbrev pub Wrote : Config → Text → Text → Output → Type 0
+abbrev pub Wrote : Config → StreamState → StreamState → Output → Type 0
 Wrote config a b o = (o.refusal ≡ None) × Adds config.form a b o.entries
 
 follow_all : (es : List Entry) (r : Option Refusal) (o : Output) → r ≡ None → follow es r o ≡ record { entries = es ++ o.entries; refusal = o.refusal }
@@ -91,7 +91,7 @@ follow_all es None o h = refl
 follow_all es (Some r) o h = absurd (cc)
 
 -- a stop after the first output was written
-stops_then : (e : Stop) (config : Config) (a b c : Text) (x y : Output) → Wrote config a b x → Stops e config b c y
+stops_then : (e : Stop) (config : Config) (a b c : StreamState) (x y : Output) → Wrote config a b x → Stops e config b c y
     → Stops e config a c (record { entries = x.entries ++ y.entries; refusal = y.refusal })
 stops_then TooDeep config a b c x y p q = (q.0, adds_then config.form a b c x.entries y.entries p.1 q.1)
 stops_then BadKey config a b c x y p q = (q.0, adds_then config.form a b c x.entries y.entries p.1 q.1)
@@ -103,7 +103,7 @@ stops_then OutOfMemory config a b c x y p q = record {
   adds = adds_then config.form a b c x.entries q.front p.1 q.adds;
 }
 
-writes_then : (r : Result (Unit {0}) Stop) (config : Config) (path : Path) (a b c : Text) (to : Walk) (x y : Output) → Wrote config a b x → Writes r config path b c to y
+writes_then : (r : Result (Unit {0}) Stop) (config : Config) (path : Path) (a b c : StreamState) (to : Walk) (x y : Output) → Wrote config a b x → Writes r config path b c to y
     → Writes r config path a c to (and_then x y)
 writes_then (Ok t) config path a b c to x y p q =
     let P : Output → Type 0 = λ o. Writes (Ok t) config path a c to o in
@@ -116,33 +116,33 @@ follow_stop : (es : List Entry) (r : Option Refusal) (o : Output) (s : Refusal) 
 follow_stop es None o s h = absurd (cc)
 follow_stop es (Some r) o s h = ap (λ z. record { entries = es; refusal = z }) h
 
-some_more : (form : Bool) (a c : Text) (es : List Entry) (r : Option Refusal) (o : Output) → AddsSome form a c es → AddsSome form a c (follow es r o).entries
+some_more : (form : Bool) (a c : StreamState) (es : List Entry) (r : Option Refusal) (o : Output) → AddsSome form a c es → AddsSome form a c (follow es r o).entries
 some_more form a c es None o h =
     record { front = h.front; rest = h.rest ++ o.entries; parts = ap (λ z. z ++ o.entries) h.parts ∙ append_assoc h.front h.rest o.entries; adds = h.adds }
 some_more form a c es (Some s) o h = h
 
-part_follow : (form : Bool) (a c : Text) (es : List Entry) (r : Option Refusal) (o : Output) → AddsPart form a c es → AddsPart form a c (follow es r o).entries
+part_follow : (form : Bool) (a c : StreamState) (es : List Entry) (r : Option Refusal) (o : Output) → AddsPart form a c es → AddsPart form a c (follow es r o).entries
 part_follow form a c es None o h = part_more form a c es o.entries h
 part_follow form a c es (Some s) o h = h
 
 -- a stop in the first output
-stops_early : (e : Stop) (config : Config) (a b : Text) (x y : Output) → Stops e config a b x → Stops e config a b (and_then x y)
+stops_early : (e : Stop) (config : Config) (a b : StreamState) (x y : Output) → Stops e config a b x → Stops e config a b (and_then x y)
 stops_early TooDeep config a b x y p = subst (Stops TooDeep config a b) (sym (follow_stop x.entries x.refusal y too_deep p.0)) (refl, p.1)
 stops_early BadKey config a b x y p = subst (Stops BadKey config a b) (sym (follow_stop x.entries x.refusal y bad_key p.0)) (refl, p.1)
 stops_early Io config a b x y p = part_follow config.form a b x.entries x.refusal y p
 stops_early OutOfMemory config a b x y p = some_more config.form a b x.entries x.refusal y p
 
 -- no memory at once
-pub some_none : (form : Bool) (t : Text) (es : List Entry) → AddsSome form t t es
+pub some_none : (form : Bool) (t : StreamState) (es : List Entry) → AddsSome form t t es
 some_none form t es = record { front = []; rest = es; parts = refl; adds = adds_nothing form t }
 
 -- The invariant of a loop: the walk is where it was, and whatever is yet written of the rest makes the whole.
-abbrev pub Continues : Config → Text → Text → Walk → Walk → (Path → Output) → (Path → Output) → Type 0
+abbrev pub Continues : Config → StreamState → StreamState → Walk → Walk → (Path → Output) → (Path → Output) → Type 0
 Continues config start now from here rest whole =
     (path : Path) → IsAt config.form path from → IsAt config.form path here
-    × ((r : Result (Unit {0}) Stop) (last : Text) (to : Walk) → Writes r config path now last to (rest path) → Writes r config path start last to (whole path))
+    × ((r : Result (Unit {0}) Stop) (last : StreamState) (to : Walk) → Writes r config path now last to (rest path) → Writes r config path start last to (whole path))
 
-module _ (config : Config) (start now next : Text) (from here there : Walk) (mine rest old whole : Path → Output)
+module _ (config : Config) (start now next : StreamState) (from here there : Walk) (mine rest old whole : Path → Output)
     (go : Continues config start now from here old whole) where
   pub continue_step : ((path : Path) → old path ≡ and_then (mine path) (rest path)) → ((path : Path) → IsAt config.form path here → Writes (Ok tt) config path now next there (mine path))
       → Continues config start next from there rest whole
@@ -160,7 +160,7 @@ module _ (config : Config) (start now next : Text) (from here there : Walk) (min
       λ path at. let g = go path at in
       g.1 (Err e) next here (subst (Stops e config now next) (sym (same path)) (stops_early e config now next (mine path) (rest path) (w path g.0)))
 
-pub continue_end : (config : Config) (start now : Text) (from here : Walk) (old whole : Path → Output) → Continues config start now from here old whole
+pub continue_end : (config : Config) (start now : StreamState) (from here : Walk) (old whole : Path → Output) → Continues config start now from here old whole
     → ((path : Path) → old path ≡ nothing) → (path : Path) → IsAt config.form path from → Writes (Ok tt) config path start now here (whole path)
 continue_end config start now from here old whole go same =
     λ path at. let g = go path at in
@@ -168,19 +168,19 @@ continue_end config start now from here old whole go same =
     g.1 (Ok tt) now here (subst P (sym (same path)) (refl, adds_nothing config.form now, g.0))
 
 -- what the exit of a `?` owes
-pub writes_exit : (r : Result (Unit {0}) Stop) (e : Stop) (config : Config) (a b : Text) (from to : Walk) (part : Path → Output) → IsErrAnd r (λ y. y ≡ e)
+pub writes_exit : (r : Result (Unit {0}) Stop) (e : Stop) (config : Config) (a b : StreamState) (from to : Walk) (part : Path → Output) → IsErrAnd r (λ y. y ≡ e)
     → ((path : Path) → IsAt config.form path from → Stops e config a b (part path)) → (path : Path) → IsAt config.form path from → Writes r config path a b to (part path)
 writes_exit (Ok x) e config a b from to part h s = absurd h
 writes_exit (Err y) e config a b from to part h s = λ path at. let P : Stop → Type 0 = λ z. Stops z config a b (part path) in subst P (sym h) (s path at)
 
 -- after want of memory the text of some first entries stands
-pub some_entries : (form : Bool) (a b : Text) (es : List Entry) → AddsSome form a b es → (k : ℕ) × Appends a.taken b.taken (written form a.started (take k es))
+pub some_entries : (form : Bool) (a b : StreamState) (es : List Entry) → AddsSome form a b es → (k : ℕ) × Appends a.taken b.taken (written form a.started (take k es))
 some_entries form a b es w =
     let front : take (length w.front) es ≡ w.front = ap (take (length w.front)) w.parts ∙ take-append_seam w.front w.rest in
     (length w.front, subst (λ es. Appends a.taken b.taken (written form a.started es)) (sym front) w.adds.text)
 
 -- whatever was added is visible
-pub writes_visible : (r : Result (Unit {0}) Stop) (config : Config) (path : Path) (a b : Text) (to : Walk) (o : Output) → Writes r config path a b to o
+pub writes_visible : (r : Result (Unit {0}) Stop) (config : Config) (path : Path) (a b : StreamState) (to : Walk) (o : Output) → Writes r config path a b to o
     → (added : List ℕ) × Appends a.taken b.taken added × All IsVisible added
 writes_visible (Ok x) config path a b to o w = (_, w.1.text, w.1.visible)
 writes_visible (Err TooDeep) config path a b to o w = (_, w.1.text, w.1.visible)

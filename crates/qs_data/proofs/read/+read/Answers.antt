@@ -15,14 +15,14 @@ use Rattle.qs_data.specs.declared.shape.shape.Field.{out-Field}
 use Rattle.qs_data.specs.data.Views.{data_of, named, pair_of}
 use Rattle.qs_data.specs.shape.Views.{shape_of, field_of, fields_in, variant_of, variants_in, key_shape_of, shapes_in}
 use Rattle.qs_data.specs.read.Text.{is_text, items_are_text, entries_are_text}
-use Rattle.qs_data.specs.read.internal.ReadError.{Gives}
+use Rattle.qs_data.specs.read.internal.ReadError.{ReadGives}
 use Rattle.qs_data.specs.read.internal.Keys.{entries_of, entries_after, unknown_of}
 use Rattle.qs_data.specs.shape.Variants.{variant_named}
 use Rattle.qs_data.proofs.lemmas.data.Levels.{data_of_struct, data_of_struct_variant}
 use Rattle.qs_data.proofs.lemmas.read.Entries.{after_some, keys_bad, untested}
 use Rattle.qs_data.proofs.lemmas.read.Variants.{named_is, enum_none, enum_some, least_key_bad, least_value_bad, text_as_map, under_bad}
-use Rattle.qs_data.proofs.lemmas.read.Refusals.{and_left}
-use Rattle.qs_data.proofs.lemmas.read.ReadErrors.{gives_exit, gives_as, fault, told_of_key}
+use Rattle.qs_data.proofs.lemmas.read.Errors.{and_left}
+use Rattle.qs_data.proofs.lemmas.read.ReadErrors.{gives_exit, gives_as, custom, key_error}
 use Rattle.qs_data.specs.declared.read.error.ReadError.TheVariants.{Utf8}
 use Rattle.qs_spec.specs.Scalar.{key_data}
 use Rattle.qs_spec.specs.Tree.{Tree}
@@ -45,7 +45,7 @@ fields::read_entries-returns-in-Err t c =
     let u = unknown_of c.args.unknown in
     let fs = fields_in c.args.fields.now.items in
     let none = untested (keys_are_allowed u fs es) (reads_names c.args.reject_duplicates fs es) (and_left (keys_are_text es) (keys_are_names fs es || are_ignored u) bad) in
-    told_of_key (entries_are_text es) c.in-Err.key.text.now (Utf8 c.in-Err.key.cause) c.error.result _ c.error.ensures (none, keys_bad es bad)
+    key_error (entries_are_text es) c.in-Err.key.text.now (Utf8 c.in-Err.key.cause) c.error.result _ c.error.ensures (none, keys_bad es bad)
 
 pub fields::read_field-returns-in_err-by_shape::read_node-in-One : goal.fields::read_field-returns-in_err-by_shape::read_node-in-One
 fields::read_field-returns-in_err-by_shape::read_node-in-One t c =
@@ -57,7 +57,7 @@ fields::read_field-returns-in_err-by_shape::read_node-in-One t c =
     let one : found f.0 es ≡ n ∷ [] = ap (λ name. found name es) (field_name d ∙ sym c.deref.ensures) ∙ c.in-One.ensures in
     let given = gives_exit (option_map data_of) (is_text n) (entries_are_text es) c.from_residual.result c.in_err-by_shape::read_node-in-One.field-0.0 (r n) (read_field f.2 (is_option_shape f.1) r (found f.0 es))
     c.from_residual.ensures.1 c.in_err-by_shape::read_node-in-One.ensures.gives (field_none f.2 (is_option_shape f.1) r (found f.0 es) n one) (found_bad f.0 es n [] one) in
-    subst (λ s. Gives (option_map data_of) (entries_are_text es) c.from_residual.result (read_field f.2 (is_option_shape f.1) (reads c.args.reject_duplicates s) (found f.0 es))) (sym (field_shape d)) given
+    subst (λ s. ReadGives (option_map data_of) (entries_are_text es) c.from_residual.result (read_field f.2 (is_option_shape f.1) (reads c.args.reject_duplicates s) (found f.0 es))) (sym (field_shape d)) given
 
 pub fields::read_names-loop-field-preserved : goal.fields::read_names-loop-field-preserved
 fields::read_names-loop-field-preserved t c =
@@ -90,7 +90,7 @@ fields::read_place-returns-in_err-by_shape::read_node-in-Some t c =
     let here = item_at ts i n look.3.0 look.1 in
     let given = gives_exit (option_map data_of) (is_text (tree_of n)) (items_are_text (items_from (map tree_of ts))) c.from_residual.result c.in_err-by_shape::read_node-in-Some.field-0.0 (r (tree_of n)) (read_place f.2 r xs)
     c.from_residual.ensures.1 c.in_err-by_shape::read_node-in-Some.ensures.gives (λ e. place_some f.2 r xs _ (tree_of n) here ∙ ap (option_map Some) e) (item_bad ts i n look.3.0 look.1) in
-    subst (λ s. Gives (option_map data_of) (items_are_text (items_from (map tree_of ts))) c.from_residual.result (read_place f.2 (reads c.args.reject_duplicates s) xs)) (sym (field_shape d)) given
+    subst (λ s. ReadGives (option_map data_of) (items_are_text (items_from (map tree_of ts))) c.from_residual.result (read_place f.2 (reads c.args.reject_duplicates s) xs)) (sym (field_shape d)) given
 
 pub fields::read_place-returns-in_ok-by_shape::read_node-in-Some : goal.fields::read_place-returns-in_ok-by_shape::read_node-in-Some
 fields::read_place-returns-in_ok-by_shape::read_node-in-Some t c =
@@ -119,7 +119,7 @@ fields::read_place-returns-else-field t c =
     let f = field_of d in
     let none = no_item_at c.args.items.now c.args.place c.in-None.ensures.lookup.3 in
     let o : f.2 ≡ false = field_optional d ∙ c.if-field.false in
-    fault (items_are_text (items_from (map tree_of c.args.items.now))) c.error.result _ c.error.ensures
+    custom (items_are_text (items_from (map tree_of c.args.items.now))) c.error.result _ c.error.ensures
     (ap (read_place f.2 (reads c.args.reject_duplicates f.1)) none ∙ ap (λ b. read_place b (reads c.args.reject_duplicates f.1) no_items) o)
 
 pub fields::read_places-loop-i-preserved-in_default : goal.fields::read_places-loop-i-preserved-in_default
@@ -155,8 +155,8 @@ unfolding reads
 by_shape::read_node-returns-in-Option-clause-gives t c =
     let n = tree_of c.args.value.now in
     let shaped : shape_of c.args.shape.now ≡ Shape.option (shape_of c.in-Option.part.value) = ap shape_of c.in-Option.is ∙ search (rules, shape.the_lemmas) in
-    let held = subst (λ x. Gives data_of (is_text n) c.read_option.result (read_option (reads c.args.reject_duplicates (shape_of x)) n)) c.deref.ensures c.read_option.ensures in
-    subst (λ x. Gives data_of (is_text n) c.read_option.result (reads c.args.reject_duplicates x n)) (sym shaped) held
+    let held = subst (λ x. ReadGives data_of (is_text n) c.read_option.result (read_option (reads c.args.reject_duplicates (shape_of x)) n)) c.deref.ensures c.read_option.ensures in
+    subst (λ x. ReadGives data_of (is_text n) c.read_option.result (reads c.args.reject_duplicates x n)) (sym shaped) held
 
 pub by_shape::struct_data-returns : goal.by_shape::struct_data-returns
 unfolding reads
@@ -175,7 +175,7 @@ variants::read_least-returns-in_err-place t c =
     let exit = gives_exit data_of (is_utf8 name) (entries_are_text es) c.from_residual.result c.in_err-place.field-0.0 (option_map Some (variant_named name (variants_in ds)))
     (read_enum (variants_in ds) (reads_variant c.args.reject_duplicates (variants_in ds)) (mapping es)) c.from_residual.ensures.1 c.in_err-place.ensures.named
     (enum_none c.args.reject_duplicates (variants_in ds) es (entries_after 1 es) key.seg key.mark n least) (least_key_bad c.args.reject_duplicates (variants_in ds) es (entries_after 1 es) key.seg key.mark n least) in
-    subst (λ ys. Gives data_of (entries_are_text es) c.from_residual.result (read_enum (variants_in ys) (reads_variant c.args.reject_duplicates (variants_in ys)) (mapping es))) c.deref.ensures.value exit
+    subst (λ ys. ReadGives data_of (entries_are_text es) c.from_residual.result (read_enum (variants_in ys) (reads_variant c.args.reject_duplicates (variants_in ys)) (mapping es))) c.deref.ensures.value exit
 
 pub variants::read_least-returns : goal.variants::read_least-returns
 variants::read_least-returns t c =

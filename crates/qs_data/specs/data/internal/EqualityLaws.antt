@@ -6,22 +6,22 @@ use Rattle.std.proofs.lemmas.Slice.Eq.{bytes_eq-Decides}
 use Rattle.qs_spec.specs.Data.{Data, Values, no_values, one_value, Pairs, no_pairs, one_pair, Members, no_members, one_member}
 use Rattle.qs_spec.specs.Data.Data.{unit, none, some, boolean, unsigned, signed, character, text, bytes, sequence, tuple, mapping, struct, newtype, unit_variant, newtype_variant, tuple_variant, struct_variant}
 use Rattle.qs_spec.proofs.Booleans.{and_both}
-use Rattle.qs_data.specs.data.Equality.{kind, boolean_in, number_in, integer_in, bytes_in, one_in, values_in, pairs_in, members_in, data_same, values_same, pairs_same, members_same}
+use Rattle.qs_data.specs.data.Equality.{kind_number, held_boolean, held_number, held_integer, held_bytes, held_one, held_values, held_pairs, held_members, data_same, values_same, pairs_same, members_same}
 
 -- what data would be of each kind in turn, put together from what they hold
 abbrev forms : Data → List Data
 forms e =
-    unit ∷ none ∷ some (one_in e) ∷ boolean (boolean_in e) ∷ unsigned (number_in e) ∷ signed (integer_in e)
-    ∷ character (number_in e) ∷ text (bytes_in e) ∷ bytes (bytes_in e) ∷ sequence (values_in e) ∷ tuple (values_in e)
-    ∷ mapping (pairs_in e) ∷ struct (members_in e) ∷ newtype (one_in e) ∷ unit_variant (bytes_in e)
-    ∷ newtype_variant (bytes_in e) (one_in e) ∷ tuple_variant (bytes_in e) (values_in e)
-    ∷ struct_variant (bytes_in e) (members_in e) ∷ []
+    unit ∷ none ∷ some (held_one e) ∷ boolean (held_boolean e) ∷ unsigned (held_number e) ∷ signed (held_integer e)
+    ∷ character (held_number e) ∷ text (held_bytes e) ∷ bytes (held_bytes e) ∷ sequence (held_values e) ∷ tuple (held_values e)
+    ∷ mapping (held_pairs e) ∷ struct (held_members e) ∷ newtype (held_one e) ∷ unit_variant (held_bytes e)
+    ∷ newtype_variant (held_bytes e) (held_one e) ∷ tuple_variant (held_bytes e) (held_values e)
+    ∷ struct_variant (held_bytes e) (held_members e) ∷ []
 
 abbrev rebuilt : ℕ → Data → Data
 rebuilt n e = get_or (forms e) n unit
 
 -- data are put together again as what they were
-whole : (e : Data) → e ≡ rebuilt (kind e) e
+whole : (e : Data) → e ≡ rebuilt (kind_number e) e
 whole unit = refl
 whole none = refl
 whole (some d) = refl
@@ -41,8 +41,8 @@ whole (newtype_variant name d) = refl
 whole (tuple_variant name ds) = refl
 whole (struct_variant name ms) = refl
 
-of_kind : (n : ℕ) (e : Data) → (kind e == n) ≡ true → rebuilt n e ≡ e
-of_kind n e h = sym (whole e ∙ ap (λ k. rebuilt k e) ((unsigned_Decides (kind e) n).0 h))
+of_kind : (n : ℕ) (e : Data) → (kind_number e == n) ≡ true → rebuilt n e ≡ e
+of_kind n e h = sym (whole e ∙ ap (λ k. rebuilt k e) ((unsigned_Decides (kind_number e) n).0 h))
 
 bytes_sound : (b c : List ℕ) → bytes_eq b c ≡ true → b ≡ c
 bytes_sound b c h = (bytes_eq-Decides b c).0 h
@@ -59,56 +59,56 @@ mutual
   sound unit e h = of_kind 0 e h
   sound none e h = of_kind 1 e h
   sound (some d) e h =
-      let parts = and_both (kind e == 2) (data_same d (one_in e)) h in
-      ap some (sound d (one_in e) parts.1) ∙ of_kind 2 e parts.0
+      let parts = and_both (kind_number e == 2) (data_same d (held_one e)) h in
+      ap some (sound d (held_one e) parts.1) ∙ of_kind 2 e parts.0
   sound (boolean b) e h =
-      let parts = and_both (kind e == 3) (beq b (boolean_in e)) h in
-      ap boolean ((booleans_Decides b (boolean_in e)).0 parts.1) ∙ of_kind 3 e parts.0
+      let parts = and_both (kind_number e == 3) (beq b (held_boolean e)) h in
+      ap boolean ((booleans_Decides b (held_boolean e)).0 parts.1) ∙ of_kind 3 e parts.0
   sound (unsigned n) e h =
-      let parts = and_both (kind e == 4) (n == number_in e) h in
-      ap unsigned ((unsigned_Decides n (number_in e)).0 parts.1) ∙ of_kind 4 e parts.0
+      let parts = and_both (kind_number e == 4) (n == held_number e) h in
+      ap unsigned ((unsigned_Decides n (held_number e)).0 parts.1) ∙ of_kind 4 e parts.0
   sound (signed z) e h =
-      let parts = and_both (kind e == 5) (int_eq z (integer_in e)) h in
-      ap signed ((signed_Decides z (integer_in e)).0 parts.1) ∙ of_kind 5 e parts.0
+      let parts = and_both (kind_number e == 5) (int_eq z (held_integer e)) h in
+      ap signed ((signed_Decides z (held_integer e)).0 parts.1) ∙ of_kind 5 e parts.0
   sound (character c) e h =
-      let parts = and_both (kind e == 6) (c == number_in e) h in
-      ap character ((unsigned_Decides c (number_in e)).0 parts.1) ∙ of_kind 6 e parts.0
+      let parts = and_both (kind_number e == 6) (c == held_number e) h in
+      ap character ((unsigned_Decides c (held_number e)).0 parts.1) ∙ of_kind 6 e parts.0
   sound (text t) e h =
-      let parts = and_both (kind e == 7) (bytes_eq t (bytes_in e)) h in
-      ap text (bytes_sound t (bytes_in e) parts.1) ∙ of_kind 7 e parts.0
+      let parts = and_both (kind_number e == 7) (bytes_eq t (held_bytes e)) h in
+      ap text (bytes_sound t (held_bytes e) parts.1) ∙ of_kind 7 e parts.0
   sound (bytes b) e h =
-      let parts = and_both (kind e == 8) (bytes_eq b (bytes_in e)) h in
-      ap bytes (bytes_sound b (bytes_in e) parts.1) ∙ of_kind 8 e parts.0
+      let parts = and_both (kind_number e == 8) (bytes_eq b (held_bytes e)) h in
+      ap bytes (bytes_sound b (held_bytes e) parts.1) ∙ of_kind 8 e parts.0
   sound (sequence ds) e h =
-      let parts = and_both (kind e == 9) (values_same ds (values_in e)) h in
-      ap sequence (values_sound ds (values_in e) parts.1) ∙ of_kind 9 e parts.0
+      let parts = and_both (kind_number e == 9) (values_same ds (held_values e)) h in
+      ap sequence (values_sound ds (held_values e) parts.1) ∙ of_kind 9 e parts.0
   sound (tuple ds) e h =
-      let parts = and_both (kind e == 10) (values_same ds (values_in e)) h in
-      ap tuple (values_sound ds (values_in e) parts.1) ∙ of_kind 10 e parts.0
+      let parts = and_both (kind_number e == 10) (values_same ds (held_values e)) h in
+      ap tuple (values_sound ds (held_values e) parts.1) ∙ of_kind 10 e parts.0
   sound (mapping ps) e h =
-      let parts = and_both (kind e == 11) (pairs_same ps (pairs_in e)) h in
-      ap mapping (pairs_sound ps (pairs_in e) parts.1) ∙ of_kind 11 e parts.0
+      let parts = and_both (kind_number e == 11) (pairs_same ps (held_pairs e)) h in
+      ap mapping (pairs_sound ps (held_pairs e) parts.1) ∙ of_kind 11 e parts.0
   sound (struct ms) e h =
-      let parts = and_both (kind e == 12) (members_same ms (members_in e)) h in
-      ap struct (members_sound ms (members_in e) parts.1) ∙ of_kind 12 e parts.0
+      let parts = and_both (kind_number e == 12) (members_same ms (held_members e)) h in
+      ap struct (members_sound ms (held_members e) parts.1) ∙ of_kind 12 e parts.0
   sound (newtype d) e h =
-      let parts = and_both (kind e == 13) (data_same d (one_in e)) h in
-      ap newtype (sound d (one_in e) parts.1) ∙ of_kind 13 e parts.0
+      let parts = and_both (kind_number e == 13) (data_same d (held_one e)) h in
+      ap newtype (sound d (held_one e) parts.1) ∙ of_kind 13 e parts.0
   sound (unit_variant name) e h =
-      let parts = and_both (kind e == 14) (bytes_eq name (bytes_in e)) h in
-      ap unit_variant (bytes_sound name (bytes_in e) parts.1) ∙ of_kind 14 e parts.0
+      let parts = and_both (kind_number e == 14) (bytes_eq name (held_bytes e)) h in
+      ap unit_variant (bytes_sound name (held_bytes e) parts.1) ∙ of_kind 14 e parts.0
   sound (newtype_variant name d) e h =
-      let parts = and_both (kind e == 15) (bytes_eq name (bytes_in e) && data_same d (one_in e)) h in
-      let inside = and_both (bytes_eq name (bytes_in e)) (data_same d (one_in e)) parts.1 in
-      both newtype_variant (bytes_sound name (bytes_in e) inside.0) (sound d (one_in e) inside.1) ∙ of_kind 15 e parts.0
+      let parts = and_both (kind_number e == 15) (bytes_eq name (held_bytes e) && data_same d (held_one e)) h in
+      let inside = and_both (bytes_eq name (held_bytes e)) (data_same d (held_one e)) parts.1 in
+      both newtype_variant (bytes_sound name (held_bytes e) inside.0) (sound d (held_one e) inside.1) ∙ of_kind 15 e parts.0
   sound (tuple_variant name ds) e h =
-      let parts = and_both (kind e == 16) (bytes_eq name (bytes_in e) && values_same ds (values_in e)) h in
-      let inside = and_both (bytes_eq name (bytes_in e)) (values_same ds (values_in e)) parts.1 in
-      both tuple_variant (bytes_sound name (bytes_in e) inside.0) (values_sound ds (values_in e) inside.1) ∙ of_kind 16 e parts.0
+      let parts = and_both (kind_number e == 16) (bytes_eq name (held_bytes e) && values_same ds (held_values e)) h in
+      let inside = and_both (bytes_eq name (held_bytes e)) (values_same ds (held_values e)) parts.1 in
+      both tuple_variant (bytes_sound name (held_bytes e) inside.0) (values_sound ds (held_values e) inside.1) ∙ of_kind 16 e parts.0
   sound (struct_variant name ms) e h =
-      let parts = and_both (kind e == 17) (bytes_eq name (bytes_in e) && members_same ms (members_in e)) h in
-      let inside = and_both (bytes_eq name (bytes_in e)) (members_same ms (members_in e)) parts.1 in
-      both struct_variant (bytes_sound name (bytes_in e) inside.0) (members_sound ms (members_in e) inside.1) ∙ of_kind 17 e parts.0
+      let parts = and_both (kind_number e == 17) (bytes_eq name (held_bytes e) && members_same ms (held_members e)) h in
+      let inside = and_both (bytes_eq name (held_bytes e)) (members_same ms (held_members e)) parts.1 in
+      both struct_variant (bytes_sound name (held_bytes e) inside.0) (members_sound ms (held_members e) inside.1) ∙ of_kind 17 e parts.0
 
   values_sound : (ds es : Values) → values_same ds es ≡ true → ds ≡ es
   values_sound no_values no_values h = refl
@@ -174,11 +174,11 @@ mutual
   members_themselves (one_member m d ms) = rw (bytes_themselves m, itself d, members_themselves ms)
 
 -- the test decides equality, so its laws are those of equality
-pub same_data : (d e : Data) → Decides (data_same d e) (d ≡ e)
-same_data d e = (sound d e, λ h. ap (data_same d) (sym h) ∙ itself d)
+pub data_same-Decides : (d e : Data) → Decides (data_same d e) (d ≡ e)
+data_same-Decides d e = (sound d e, λ h. ap (data_same d) (sym h) ∙ itself d)
 
 pub data_equivalence : IsEquivalence data_same
-data_equivalence = decided data_same same_data
+data_equivalence = decided data_same data_same-Decides
 
 pub data_per : IsPartialEquivalence data_same
 data_per = partial_equiv_from_equiv data_equivalence

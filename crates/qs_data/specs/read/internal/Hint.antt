@@ -14,9 +14,9 @@ hinted_text e = option_map (λ text. text ++ codes "\nInvalid field contains an 
 
 -- the error with the hint, and that memory ran out as it is
 abbrev pub IsHinted : ReadError → ReadError → Type 0
-IsHinted OutOfMemory told = told ≡ OutOfMemory
-IsHinted e told = IsCustomSaying (error_of told) (hinted_text (error_of e))
+IsHinted OutOfMemory reported = reported ≡ OutOfMemory
+IsHinted e reported = IsCustomSaying (error_of reported) (hinted_text (error_of e))
 
 -- the error with the hint where the key holds `[`, and else the error
-abbrev pub IsToldOfKey : List ℕ → ReadError → ReadError → Type 0
-IsToldOfKey key e told = MatchBool (list_any (λ b. b == 91) key) (IsHinted e told) (told ≡ e)
+abbrev pub IsKeyError : List ℕ → ReadError → ReadError → Type 0
+IsKeyError key e reported = MatchBool (list_any (λ b. b == 91) key) (IsHinted e reported) (reported ≡ e)

@@ -40,14 +40,14 @@ value_in None = []
 value_in (Some value) = tree_of value.now ∷ []
 
 -- the number of 32 bits that is written so, if there is one
-abbrev pub TellsNumber : Option ℕ → List ℕ → Type 0
-TellsNumber None name = (n : ℕ) → n < 2 ^ 32 → decimal n ≡ name → ⊥
-TellsNumber (Some n) name = (n < 2 ^ 32) × (decimal n ≡ name)
+abbrev pub ParsesNumber : Option ℕ → List ℕ → Type 0
+ParsesNumber None name = (n : ℕ) → n < 2 ^ 32 → decimal n ≡ name → ⊥
+ParsesNumber (Some n) name = (n < 2 ^ 32) × (decimal n ≡ name)
 
 -- the answer to a test
-abbrev pub Tells : {X E : Type 0} → Result X E → Bool → Type 0
-Tells (Ok x) test = test ≡ true
-Tells (Err e) test = test ≡ false
+abbrev pub PassesTest : {X E : Type 0} → Result X E → Bool → Type 0
+PassesTest (Ok x) test = test ≡ true
+PassesTest (Err e) test = test ≡ false
 
 -- the entries from a place on
 abbrev pub entries_after : ℕ → t.Entries → t.Entries

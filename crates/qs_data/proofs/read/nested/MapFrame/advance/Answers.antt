@@ -8,16 +8,16 @@ use Rattle.qs_spec.specs.Segment.{Step, segment_text}
 use Rattle.qs_spec.specs.Shape.{KeyShape}
 use Rattle.qs_spec.specs.Tree.{Tree}
 use Rattle.qs_tree.specs.Views.{tree_of, entries_of_map, step_of_key, pairs_of}
-use Rattle.qs_data.specs.declared.read.nested.Level.TheVariants as level
-use Rattle.qs_data.specs.declared.read.nested.Node.{Node}
+use Rattle.qs_data.specs.declared.read.nested.Frame.TheVariants as frame
+use Rattle.qs_data.specs.declared.read.nested.Visited.{Visited}
 use Rattle.qs_data.specs.read.internal.Keys.{entries_after}
 use Rattle.qs_data.specs.read.internal.Nesting.{Visits, map_with}
 use Rattle.qs_data.specs.read.Text.{is_text}
 use Rattle.qs_data.specs.data.Views.{data_of, pair_of}
 use Rattle.qs_data.proofs.lemmas.read.Nesting.{enters_map, advance_exit, map_text_key, map_text, map_text_after, map_parts}
 use Rattle.qs_data.proofs.lemmas.read.Pairs.{pairs_more, pairs_no_key, pairs_no_value, pairs_end, pairs_all}
-use Rattle.qs_data.proofs.read.nested.MapLevel.advance.Goals as goal
-use Rattle.qs_data.proofs.read.nested.MapLevel.advance.Goals.{else-loop-place-test, then-loop-place-test+in_default}
+use Rattle.qs_data.proofs.read.nested.MapFrame.advance.Goals as goal
+use Rattle.qs_data.proofs.read.nested.MapFrame.advance.Goals.{else-loop-place-test, then-loop-place-test+in_default}
 
 pub returns-in_err-key : goal.returns-in_err-key
 returns-in_err-key c =
@@ -26,7 +26,7 @@ returns-in_err-key c =
     let x : Step × Tree = (step_of_key c.in-Some.key.now, tree_of c.in-Some.value.now) in
     let here = sym c.in-Some.ensures in
     let whole = option_map (λ ps. d.Data.mapping (d.pairs_of ps)) in
-    advance_exit (is_utf8 (segment_text x.0.seg)) c.from_residual.result c.in_err-key.field-0.0 (key_data KeyShape.text (segment_text x.0.seg)) (level.Map c.args.self.now) (level.Map l.self)
+    advance_exit (is_utf8 (segment_text x.0.seg)) c.from_residual.result c.in_err-key.field-0.0 (key_data KeyShape.text (segment_text x.0.seg)) (frame.Map c.args.self.now) (frame.Map l.self)
     c.from_residual.ensures.1 c.in_err-key.ensures (λ e. l.invariant.value ∙ ap whole (pairs_no_key KeyShape.text any_data es l.place (map pair_of l.self.pairs.items) x here e))
     (λ e. l.invariant.text (map_text_key es l.place x here e))
 
@@ -37,7 +37,7 @@ returns-in_err-data c =
     let x : Step × Tree = (step_of_key c.in-Some.key.now, tree_of c.in-Some.value.now) in
     let here = sym c.in-Some.ensures in
     let whole = option_map (λ ps. d.Data.mapping (d.pairs_of ps)) in
-    advance_exit (is_text x.1) c.from_residual-in_err-data.result c.in_err-data.field-0.0 (any_data x.1) (level.Map c.args.self.now) (level.Map l.self) c.from_residual-in_err-data.ensures.1
+    advance_exit (is_text x.1) c.from_residual-in_err-data.result c.in_err-data.field-0.0 (any_data x.1) (frame.Map c.args.self.now) (frame.Map l.self) c.from_residual-in_err-data.ensures.1
     c.in_err-data.ensures (λ e. l.invariant.value ∙ ap whole (pairs_no_value KeyShape.text any_data es l.place (map pair_of l.self.pairs.items) x here e))
     (λ e. l.invariant.text (map_text es l.place x here e))
 
@@ -46,12 +46,12 @@ returns-in-Inner c =
     let l = c.loop-place in
     let es = entries_of_map l.self.entries.now in
     let x : Step × Tree = (step_of_key c.in-Some.key.now, tree_of c.in-Some.value.now) in
-    let P : Node → Type 0 = λ node. Visits (Ok node) x.1 in
+    let P : Visited → Type 0 = λ node. Visits (Ok node) x.1 in
     let begun = subst P c.in-Inner.is c.in_ok-data.ensures in
-    let w = c.wait in
+    let w = c.keep_key in
     let key : key_data KeyShape.text (segment_text x.0.seg) ≡ Some (data_of w.new.self.key) = c.in_ok-key.ensures ∙ ap (λ k. Some (data_of k)) (sym w.ensures.key) in
     let value = l.invariant.value ∙ ap (λ ps. map_with (map pair_of ps.items) (read_pairs KeyShape.text any_data (entries_after l.place es))) (sym w.ensures.pairs) in
-    enters_map (level.Map c.args.self.now) c.in-Inner.level w.new.self es l.place x (sym c.in-Some.ensures) (ap (λ e. entries_of_map e.now) w.ensures.entries) w.ensures.next key value l.invariant.text
+    enters_map (frame.Map c.args.self.now) c.in-Inner.frame w.new.self es l.place x (sym c.in-Some.ensures) (ap (λ e. entries_of_map e.now) w.ensures.entries) w.ensures.next key value l.invariant.text
     l.invariant.size begun
 
 pub loop-place-preserved : goal.loop-place-preserved
@@ -63,7 +63,7 @@ loop-place-preserved c =
     let ws = map pair_of l.self.pairs.items in
     let a = data_of c.in_ok-key.key in
     let b = data_of c.in-Leaf.data in
-    let P : Node → Type 0 = λ node. Visits (Ok node) x.1 in
+    let P : Visited → Type 0 = λ node. Visits (Ok node) x.1 in
     let leaf : any_data x.1 ≡ Some b = subst P c.in-Leaf.is c.in_ok-data.ensures in
     let pushed : map pair_of c.push.new.self.items ≡ ws ++ (a, b) ∷ [] = grind (arith, common_steps) in
     record {

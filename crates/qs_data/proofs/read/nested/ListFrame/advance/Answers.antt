@@ -3,24 +3,24 @@ use Rattle.std.proofs.lemmas.Grind.{common_steps}
 use Rattle.qs_spec.specs.Data as d
 use Rattle.qs_spec.specs.toward.ReadFunction.{any_data, read_each}
 use Rattle.qs_tree.specs.Views.{tree_of}
-use Rattle.qs_data.specs.declared.read.nested.Level.TheVariants as level
-use Rattle.qs_data.specs.declared.read.nested.Node.{Node}
+use Rattle.qs_data.specs.declared.read.nested.Frame.TheVariants as frame
+use Rattle.qs_data.specs.declared.read.nested.Visited.{Visited}
 use Rattle.qs_data.specs.read.internal.Items.{items_in, first_item}
 use Rattle.qs_data.specs.read.internal.Nesting.{Visits, list_with}
 use Rattle.qs_data.specs.data.Views.{data_of}
 use Rattle.qs_data.proofs.lemmas.read.Items.{each_more, each_end, each_all}
 use Rattle.qs_data.proofs.lemmas.read.Nesting.{enters_list, list_text_after, list_parts}
-use Rattle.qs_data.proofs.read.nested.ListLevel.advance.Goals as goal
-use Rattle.qs_data.proofs.read.nested.ListLevel.advance.Goals.{else-loop-place-test, then-loop-place-test+in_ok-item+in_default}
+use Rattle.qs_data.proofs.read.nested.ListFrame.advance.Goals as goal
+use Rattle.qs_data.proofs.read.nested.ListFrame.advance.Goals.{else-loop-place-test, then-loop-place-test+in_ok-item+in_default}
 
 pub returns-in-Inner : goal.returns-in-Inner
 returns-in-Inner c =
     let l = c.loop-place in
     let n = tree_of c.in-Some.item.now in
-    let P : Node → Type 0 = λ node. Visits (Ok node) n in
+    let P : Visited → Type 0 = λ node. Visits (Ok node) n in
     let here : first_item (drop l.place (items_in l.self.items)) ≡ Some (Some n) = c.in_ok-item.ensures ∙ ap (λ o. Some (option_map (λ v. tree_of v.now) o)) c.in-Some.is in
     let begun = subst P c.in-Inner.is c.in_ok-data.ensures in
-    enters_list (level.List c.args.self.now) c.in-Inner.level l.self.items l.self.values l.place n here l.invariant.value l.invariant.text l.invariant.size begun
+    enters_list (frame.List c.args.self.now) c.in-Inner.frame l.self.items l.self.values l.place n here l.invariant.value l.invariant.text l.invariant.size begun
 
 pub loop-place-preserved : goal.loop-place-preserved
 loop-place-preserved c =
@@ -29,7 +29,7 @@ loop-place-preserved c =
     let n = tree_of c.in-Some.item.now in
     let ws = map data_of l.self.values.items in
     let x = data_of c.in-Leaf.data in
-    let P : Node → Type 0 = λ node. Visits (Ok node) n in
+    let P : Visited → Type 0 = λ node. Visits (Ok node) n in
     let here : first_item (drop l.place xs) ≡ Some (Some n) = c.in_ok-item.ensures ∙ ap (λ o. Some (option_map (λ v. tree_of v.now) o)) c.in-Some.is in
     let leaf : any_data n ≡ Some x = subst P c.in-Leaf.is c.in_ok-data.ensures in
     let pushed : map data_of c.push.new.self.items ≡ ws ++ x ∷ [] = grind (arith, common_steps) in

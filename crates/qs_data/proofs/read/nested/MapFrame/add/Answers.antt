@@ -6,7 +6,7 @@ use Rattle.qs_spec.specs.Shape.{KeyShape}
 use Rattle.qs_data.specs.read.internal.Nesting.{entries_left, map_with}
 use Rattle.qs_data.specs.data.Views.{data_of, pair_of}
 use Rattle.qs_data.proofs.lemmas.read.Steps.{before-front}
-use Rattle.qs_data.proofs.read.nested.MapLevel.add.Goals as goal
+use Rattle.qs_data.proofs.read.nested.MapFrame.add.Goals as goal
 
 pub returns-clause-ok : goal.returns-clause-ok
 returns-clause-ok c =

@@ -5,7 +5,7 @@ use Rattle.qs_spec.specs.toward.ReadFunction.{any_data, read_each}
 use Rattle.qs_data.specs.read.internal.Nesting.{items_left, list_with}
 use Rattle.qs_data.specs.data.Views.{data_of}
 use Rattle.qs_data.proofs.lemmas.read.Steps.{before-front}
-use Rattle.qs_data.proofs.read.nested.ListLevel.add.Goals as goal
+use Rattle.qs_data.proofs.read.nested.ListFrame.add.Goals as goal
 
 pub returns-clause-ok : goal.returns-clause-ok
 returns-clause-ok c =

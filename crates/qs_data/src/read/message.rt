@@ -1,7 +1,7 @@
 //! What a tree can lack of a shape, and what is said of it.
 
-ghost use Rattle.qs_data.specs.read.internal.ReadError.{IsFault};
-ghost use Rattle.qs_data.specs.read.internal.Hint.{IsToldOfKey};
+ghost use Rattle.qs_data.specs.read.internal.ReadError.{ReadIsCustom};
+ghost use Rattle.qs_data.specs.read.internal.Hint.{IsKeyError};
 
 use crate::read::error::ReadError;
 use crate::shape::Width;
@@ -11,17 +11,23 @@ use std::fmt;
 
 /// Why a tree doesn't give what a shape asks for.
 #[derive(Clone, Copy)]
-pub(crate) enum Fault<'a> {
+pub(crate) enum Message<'a> {
     /// The tree holds nothing at all.
     Uninitialized,
     /// A key that isn't the place that is due.
-    MissingIndex { due: usize, met: u32 },
+    MissingIndex {
+        due: usize,
+        index: u32,
+    },
     /// A place past the ones that are read.
     TooManyElements,
     /// Several values where one is asked for.
     SeveralValues,
     /// Another kind of value, or a text that stands for no such value.
-    InvalidType { found: Kind, expected: Expected },
+    InvalidType {
+        found: Unexpected,
+        expected: Expected,
+    },
     /// No key with this field's name.
     MissingField(&'a str),
     /// Two keys with this field's name.
@@ -36,7 +42,7 @@ pub(crate) enum Fault<'a> {
 
 /// What is there.
 #[derive(Clone, Copy)]
-pub(crate) enum Kind {
+pub(crate) enum Unexpected {
     /// A key without a value.
     Unit,
     /// A text, which may be empty.
@@ -69,40 +75,40 @@ pub(crate) enum Expected {
     StructVariant,
 }
 
-impl Fault<'_> {
+impl Message<'_> {
     /// The error that says so, or that its message found no memory.
     pub(crate) fn error(self, alloc: Global) -> ReadError
-        ensures { IsFault result }
+        ensures { ReadIsCustom result }
     {
         ReadError::saying(alloc, self)
     }
 
     /// The error of a node of another kind than the one that is asked for.
     pub(crate) fn mismatch(alloc: Global, value: &ParsedValue<'_>, expected: Expected) -> ReadError
-        ensures { IsFault result }
+        ensures { ReadIsCustom result }
     {
         let found = match value {
-            ParsedValue::Uninitialized => return Fault::Uninitialized.error(alloc),
-            ParsedValue::NoValue => Kind::Unit,
-            ParsedValue::Null | ParsedValue::String(_) => Kind::Text,
-            ParsedValue::Sequence(_) => Kind::Sequence,
-            ParsedValue::Map(_) => Kind::Map,
+            ParsedValue::Uninitialized => return Message::Uninitialized.error(alloc),
+            ParsedValue::NoValue => Unexpected::Unit,
+            ParsedValue::Null | ParsedValue::String(_) => Unexpected::Text,
+            ParsedValue::Sequence(_) => Unexpected::Sequence,
+            ParsedValue::Map(_) => Unexpected::Map,
         };
-        Fault::InvalidType { found, expected }.error(alloc)
+        Message::InvalidType { found, expected }.error(alloc)
     }
 
     /// The error of a text that stands for no value of the kind that is asked for.
     pub(crate) fn unreadable(alloc: Global, expected: Expected) -> ReadError
-        ensures { IsFault result }
+        ensures { ReadIsCustom result }
     {
-        let found = Kind::Text;
-        Fault::InvalidType { found, expected }.error(alloc)
+        let found = Unexpected::Text;
+        Message::InvalidType { found, expected }.error(alloc)
     }
 }
 
 /// The error of a key that can't be read, from why it can't: a hint follows it where the key holds a bracket.
-pub(crate) fn of_key(alloc: Global, key: &[u8], error: ReadError) -> ReadError
-    ensures { IsToldOfKey key.now error result }
+pub(crate) fn key_error(alloc: Global, key: &[u8], error: ReadError) -> ReadError
+    ensures { IsKeyError key.now error result }
 {
     if !key.contains(&b'[') {
         return error;
@@ -135,39 +141,43 @@ impl fmt::Display for Hinted {
     }
 }
 
-impl fmt::Display for Fault<'_> {
+impl fmt::Display for Message<'_> {
     fn fmt<W: fmt::Write>(&self, f: &mut fmt::Formatter<W>) -> fmt::Result {
         match self {
-            Fault::Uninitialized => f.write_str(
+            Message::Uninitialized => f.write_str(
                 "internal error: attempted to deserialize unitialised value",
             ),
-            Fault::MissingIndex { due, met } => write!(
+            Message::MissingIndex { due, index } => write!(
                 f,
-                "missing index, expected: {due} got {met}"
+                "missing index, expected: {due} got {index}"
             ),
-            Fault::TooManyElements => f.write_str("cannot deserialize more than u32::MAX elements"),
-            Fault::SeveralValues => f.write_str("multiple values provided for non-sequence field"),
-            Fault::InvalidType { found, expected } => write!(
+            Message::TooManyElements => f.write_str(
+                "cannot deserialize more than u32::MAX elements",
+            ),
+            Message::SeveralValues => f.write_str(
+                "multiple values provided for non-sequence field",
+            ),
+            Message::InvalidType { found, expected } => write!(
                 f,
                 "invalid type: {found}, expected {expected}"
             ),
-            Fault::MissingField(name) => write!(f, "missing field `{name}`"),
-            Fault::DuplicateField(name) => write!(f, "duplicate field `{name}`"),
-            Fault::UnknownField(name) => write!(f, "unknown field `{name}`"),
-            Fault::UnknownVariant(name) => write!(f, "unknown variant `{name}`"),
-            Fault::InvalidLength(length) => write!(f, "invalid length {length}"),
+            Message::MissingField(name) => write!(f, "missing field `{name}`"),
+            Message::DuplicateField(name) => write!(f, "duplicate field `{name}`"),
+            Message::UnknownField(name) => write!(f, "unknown field `{name}`"),
+            Message::UnknownVariant(name) => write!(f, "unknown variant `{name}`"),
+            Message::InvalidLength(length) => write!(f, "invalid length {length}"),
         }
     }
 }
 
-impl fmt::Display for Kind {
+impl fmt::Display for Unexpected {
     fn fmt<W: fmt::Write>(&self, f: &mut fmt::Formatter<W>) -> fmt::Result {
         f.write_str(match self {
-            Kind::Unit => "unit value",
-            Kind::Text => "string",
-            Kind::Sequence => "sequence",
-            Kind::Map => "map",
-            Kind::UnitVariant => "unit variant",
+            Unexpected::Unit => "unit value",
+            Unexpected::Text => "string",
+            Unexpected::Sequence => "sequence",
+            Unexpected::Map => "map",
+            Unexpected::UnitVariant => "unit variant",
         })
     }
 }

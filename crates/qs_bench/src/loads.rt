@@ -1,7 +1,8 @@
 //! Shapes to be read, and how much was read.
 
 ghost use Rattle.std.specs.Prelude.{◌≡◌, IfOk, IfSome, Some, slice_get, false};
-ghost use Rattle.qs_data.specs.Views.{data_of, field_of, shape_of, values_in, pairs_in, members_in};
+ghost use Rattle.qs_data.specs.data.Views.{data_of, values_in, pairs_in, members_in};
+ghost use Rattle.qs_data.specs.shape.Views.{field_of, shape_of};
 ghost use Rattle.qs_bench.specs.Loads as spec;
 ghost use Rattle.qs_bench.specs.Sizes.{size_of, size_of_values, size_of_pairs, size_of_members};
 
@@ -114,7 +115,7 @@ impl Load {
 }
 
 #[cycle(size)]
-#[tactic(auto, using(qs_data::proofs::Levels::levels))]
+#[tactic(auto, using(qs_data::proofs::lemmas::data::Levels::levels))]
 fn size_of(datum: &Data, each: usize) -> Option<usize>
     ensures { IfSome result (λ size. size ≡ size_of each (data_of datum.now)) }
 {

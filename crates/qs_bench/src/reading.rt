@@ -2,7 +2,8 @@
 
 ghost use Rattle.std.specs.Prelude.{◌≡◌, true, IsTrue, IsFalse, IfOk, IfSome};
 ghost use Rattle.qs_spec.specs.Shape.{is_distinct};
-ghost use Rattle.qs_data.specs.Views.{data_of, shape_of};
+ghost use Rattle.qs_data.specs.data.Views.{data_of};
+ghost use Rattle.qs_data.specs.shape.Views.{shape_of};
 ghost use Rattle.qs_bench.specs.Reads.{IsRead, IsReadBy};
 
 use crate::loads::numbered_load;

@@ -2,7 +2,7 @@
 
 ghost use Rattle.std.specs.Prelude.{◌≡◌, IfOk, map};
 ghost use Rattle.std.specs.List.{range_with_len};
-ghost use Rattle.qs_data.specs.Views.{data_of, named};
+ghost use Rattle.qs_data.specs.data.Views.{data_of, named};
 ghost use Rattle.qs_spec.specs.Data.Data.{text, bytes};
 ghost use Rattle.qs_bench.specs.Samples as spec;
 
@@ -38,7 +38,7 @@ fn address(alloc: Global) -> Result<Data, AllocError>
 }
 
 /// So many fields, whose names and texts have their numbers, below so many keys.
-#[tactic(auto, using(qs_data::proofs::Levels::levels))]
+#[tactic(auto, using(qs_data::proofs::lemmas::data::Levels::levels))]
 pub(crate) fn fields_below(alloc: Global, keys: usize, count: usize) -> Result<Data, AllocError>
     ensures { IfOk result (λ d. data_of d ≡ spec.below keys (spec.fields count)) }
 {

@@ -4,7 +4,7 @@ ghost use Rattle.std.specs.Prelude.{◌≡◌, None, IsTrue, IsFalse, IfOk, IsEr
 ghost use Rattle.qs_spec.specs.Config.{default};
 ghost use Rattle.qs_spec.specs.Data.Data.{bytes};
 ghost use Rattle.qs_spec.specs.Entry.{entries};
-ghost use Rattle.qs_data.specs.Views.{data_of};
+ghost use Rattle.qs_data.specs.data.Views.{data_of};
 ghost use Rattle.qs_bench.specs.Samples as sample;
 ghost use Rattle.qs_bench.specs.Texts.{text_of, IsWritten};
 

@@ -6,9 +6,9 @@ use Rattle.json.specs.Value.{items_view, members_view}
 use Rattle.json.specs.declared.value.Value.{Value, Array, Object}
 use Rattle.json.proofs.Trees.{view-Array, view-Object}
 use Rattle.qs_spec.specs.Data as d
-use Rattle.qs_data.specs.Views.{data_of}
-use Rattle.qs_data.specs.declared.data.Data as r
-use Rattle.qs_data.specs.declared.data.Data.{Data}
+use Rattle.qs_data.specs.data.Views.{data_of}
+use Rattle.qs_data.specs.declared.data.data.Data as r
+use Rattle.qs_data.specs.declared.data.data.Data.{Data}
 use Rattle.qs_c.specs.Taken.{data_from, values_from, pairs_from, item_data, member_data}
 
 values_of_items : (vs : List (Value Global)) → values_from (items_view vs) ≡ d.values_of (map item_data vs)

@@ -9,7 +9,7 @@ use Rattle.qs_spec.specs.Entry.{entries, too_deep, bad_key}
 use Rattle.qs_tree.specs.declared.error.Error.{Error}
 use Rattle.qs_tree.specs.declared.error.Error.TheVariants.{Custom, MaxSerializationDepthExceeded, Parse, Unsupported, FromUtf8, Io, ParseInt, Utf8, OutOfMemory, Failed}
 use Rattle.qs_tree.specs.Error.{IsTooDeep, IsUnsupported, IsFailed}
-use Rattle.qs_data.specs.Writes.{IsWriteError}
+use Rattle.qs_data.specs.write.Errors.{IsWriteError}
 use Rattle.qs_c.specs.Faults.{kind_of}
 use Rattle.qs_c.specs.Outcomes.{WhyUnwritten}
 

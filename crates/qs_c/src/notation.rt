@@ -10,7 +10,7 @@ mod words;
 
 ghost use Rattle.std.specs.Prelude.{◌≡◌, ◌⊎◌, [], true, IfOk, IfErr, OnOk};
 ghost use Rattle.qs_spec.specs.Shape.{is_distinct};
-ghost use Rattle.qs_data.specs.Views.{shape_of};
+ghost use Rattle.qs_data.specs.shape.Views.{shape_of};
 ghost use Rattle.qs_c.specs.declared.failure.Kind.TheVariants as kind;
 ghost use Rattle.qs_c.specs.Notation.{IsNotation, shape, whole};
 ghost use Rattle.qs_c.specs.Found.{and_then};

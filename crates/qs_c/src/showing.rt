@@ -3,7 +3,7 @@
 ghost use Rattle.std.specs.Prelude.{◌≡◌, ◌++◌, [], ◌∷◌, IfOk, OnOk};
 ghost use Rattle.json.specs.Token.{begin_object, key as a_key};
 ghost use Rattle.json.specs.Tree.{json_tokens};
-ghost use Rattle.qs_data.specs.Views.{data_of, values_in, pairs_in, members_in};
+ghost use Rattle.qs_data.specs.data.Views.{data_of, values_in, pairs_in, members_in};
 ghost use Rattle.qs_c.specs.Shown.{json_of, items_of, pairs_of, members_of, byte_items, key_of, array_tokens, object_tokens, json_text};
 
 use json::Writer;
@@ -21,7 +21,7 @@ pub(crate) fn shown(alloc: Global, datum: &Data) -> Result<Vec<u8>, AllocError>
 
 /// Writes the data. It calls itself for each level.
 #[cycle(show)]
-#[tactic(auto, using(qs_data::proofs::Levels::levels))]
+#[tactic(auto, using(qs_data::proofs::lemmas::data::Levels::levels))]
 fn show(alloc: Global, writer: &mut Writer, datum: &Data) -> Result<(), AllocError>
     ensures tokens { OnOk result (writer.new.tokens ≡ writer.old.tokens ++ json_tokens (json_of (data_of datum.now))) }
     ensures before { writer.new.before ≡ writer.old.before }

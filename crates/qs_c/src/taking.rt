@@ -3,7 +3,7 @@
 ghost use Rattle.std.specs.Prelude.{◌≡◌, ◌⊎◌, map, None, IfOk, IfErr};
 ghost use Rattle.std.specs.Str.{IsUtf8};
 ghost use Rattle.json.specs.Json.{document};
-ghost use Rattle.qs_data.specs.Views.{data_of, pair_of};
+ghost use Rattle.qs_data.specs.data.Views.{data_of, pair_of};
 ghost use Rattle.qs_c.specs.Taken.{item_data, member_data, IsJsonOf};
 ghost use Rattle.qs_c.specs.declared.failure.Kind.TheVariants as kind;
 
@@ -43,7 +43,7 @@ fn fault_in(alloc: Global, text: &str) -> usize {
 
 /// The data that the value is. It calls itself for each level.
 #[cycle(take)]
-#[tactic(auto, using(qs_data::proofs::Levels::levels))]
+#[tactic(auto, using(qs_data::proofs::lemmas::data::Levels::levels))]
 fn take(alloc: Global, value: &Value<'_>) -> Result<Data, AllocError>
     ensures { IfOk result (λ datum. data_of datum ≡ item_data value.now) }
 {

@@ -3,7 +3,7 @@
 ghost use Rattle.std.specs.Prelude.{◌≡◌, None, false, List, ℕ, IfOk, IfErr};
 ghost use Rattle.qs_spec.specs.Entry.{entries};
 ghost use Rattle.qs_spec.specs.Written.{written};
-ghost use Rattle.qs_data.specs.Views.{data_of};
+ghost use Rattle.qs_data.specs.data.Views.{data_of};
 ghost use Rattle.qs_c.specs.Answer.{IsHandedOut, IsLaidOut};
 ghost use Rattle.qs_c.specs.Faults.{kind_of};
 ghost use Rattle.qs_c.specs.Outcomes.{IsWritten, WhyNotWritten, WhyUnwritten};

@@ -1,22 +1,6 @@
-pub mod Views
-pub mod Weight
-pub mod Put
-pub mod Writes
-pub mod Scalars
-pub mod State
-pub mod Text
-pub mod Gives
-pub mod ReadError
-pub mod Hint
-pub mod Widths
-pub mod ScalarText
-pub mod Keys
-pub mod Variants
-pub mod Parsed
-pub mod Items
-pub mod Sizes
-pub mod Nesting
-pub mod Equality
-pub mod EqualityLaws
-pub mod Fitting
-pub mod ReadBack
+-- What the contracts of this crate mean. A reader must believe the words of data, shape, read and write, and those of qs_spec and
+-- qs_tree that they are made of; the folders `internal` hold steps of proofs, of which no public clause speaks.
+pub mod «data»
+pub mod shape
+pub mod read
+pub mod write

@@ -1,11 +1,12 @@
-//! Writing: the walk over data, and the entries that it puts.
+//! Writing: a serializer, the sink that it writes to, and the walk over data.
 
 mod entry;
 mod scalar;
+mod serializer;
+mod sink;
 mod stop;
 mod walk;
 
-pub(crate) use entry::{Stream, Walk};
 pub(crate) use scalar::{Scalar, word};
-pub(crate) use stop::Stop;
-pub(crate) use walk::write_all;
+pub use serializer::Serializer;
+pub use sink::{ByWrite, Sink};

@@ -7,8 +7,8 @@ use Rattle.qs_spec.specs.Tree.{Tree, Entries}
 use Rattle.qs_spec.specs.Node.{sequence_items, is_place, placed}
 use Rattle.qs_tree.specs.tree.Views.{tree_of, items_from, entry_list}
 use Rattle.qs_tree.specs.declared.tree.value.ParsedValue.{ParsedValue}
-use Rattle.qs_data.proofs.Fields.{item_at, no_item_at}
-use Rattle.qs_data.proofs.Items.{each_at, place_here, place_none}
+use Rattle.qs_data.proofs.lemmas.read.Fields.{item_at, no_item_at}
+use Rattle.qs_data.proofs.lemmas.read.Items.{each_at, place_here, place_none}
 use Rattle.qs_explain.specs.Children.{first_there}
 use Rattle.qs_explain.specs.Explains.{node_of}
 

@@ -6,8 +6,8 @@ use Rattle.qs_spec.specs.Shape.{Shape}
 use Rattle.qs_spec.specs.Tree.{Tree, Entries}
 use Rattle.qs_spec.specs.internal.ReadFunction.{reads}
 use Rattle.qs_tree.specs.tree.Views.{entry_list}
-use Rattle.qs_data.specs.Keys.{entries_after}
-use Rattle.qs_data.proofs.Entries.{after_some, after_none, after_all}
+use Rattle.qs_data.specs.read.internal.Keys.{entries_after}
+use Rattle.qs_data.proofs.lemmas.read.Entries.{after_some, after_none, after_all}
 use Rattle.qs_explain.specs.Unexpected.{first_other}
 use Rattle.qs_explain.specs.Explains.{Tests}
 

@@ -15,11 +15,11 @@ use Rattle.qs_spec.specs.Tree.Tree.{leaf, uninitialized}
 use Rattle.qs_spec.specs.Node.{found}
 use Rattle.qs_spec.specs.internal.ReadFunction.{reads, read_list, read_map, read_enum, struct_members, any_data}
 use Rattle.qs_tree.specs.tree.Views.{entry_list, tree_of}
-use Rattle.qs_data.specs.declared.shape.Field.{Field}
-use Rattle.qs_data.specs.declared.shape.Shape.{Shape}
-use Rattle.qs_data.specs.Keys.{entries_after}
-use Rattle.qs_data.specs.Views.{field_of, fields_in, shape_of, shapes_in}
-use Rattle.qs_data.proofs.Entries.{after_some, after_none, after_all}
+use Rattle.qs_data.specs.declared.shape.shape.Field.{Field}
+use Rattle.qs_data.specs.declared.shape.shape.Shape.{Shape}
+use Rattle.qs_data.specs.read.internal.Keys.{entries_after}
+use Rattle.qs_data.specs.shape.Views.{field_of, fields_in, shape_of, shapes_in}
+use Rattle.qs_data.proofs.lemmas.read.Entries.{after_some, after_none, after_all}
 use Rattle.qs_explain.specs.declared.explanation.Mismatch.{Mismatch}
 use Rattle.qs_explain.specs.Children.{Child, first_there, or_missing, item_children, tuple_children, name_child, name_children, pair_children, map_children, listed}
 use Rattle.qs_explain.specs.Parts.{IsRead, IsChild, AreRead}

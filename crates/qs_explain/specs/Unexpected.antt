@@ -8,7 +8,7 @@ use Rattle.qs_spec.specs.Shape.{Shape, Fields, Variants, UnknownKeys, KeyShape, 
 use Rattle.qs_spec.specs.Tree.{Tree, Entries}
 use Rattle.qs_spec.specs.Tree.Tree.{mapping}
 use Rattle.qs_spec.specs.Tree.Entries.{no_entries, entry}
-use Rattle.qs_data.specs.Variants.{variant_named}
+use Rattle.qs_data.specs.shape.Variants.{variant_named}
 use Rattle.qs_explain.specs.declared.keys.UnknownKeys as declared
 use Rattle.qs_explain.specs.declared.keys.UnknownKeys.TheVariants as u
 

@@ -1,7 +1,7 @@
 //! What is expected of a part.
 
 ghost use Rattle.std.specs.Prelude.{◌≡◌};
-ghost use Rattle.qs_data.specs.Views.{shape_of};
+ghost use Rattle.qs_data.specs.shape.Views.{shape_of};
 ghost use Rattle.qs_explain.specs.Expected.{expected_of};
 
 use qs_data::Shape;

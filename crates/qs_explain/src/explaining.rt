@@ -1,6 +1,6 @@
 //! Explaining why an input isn't read.
 
-ghost use Rattle.qs_data.specs.Views.{shape_of};
+ghost use Rattle.qs_data.specs.shape.Views.{shape_of};
 ghost use Rattle.qs_explain.specs.Explains.{Explains};
 
 use crate::explanation::Explanation;

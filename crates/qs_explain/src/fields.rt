@@ -3,8 +3,8 @@
 ghost use Rattle.std.specs.Prelude.{◌≡◌, []};
 ghost use Rattle.qs_spec.specs.Config.{are_rejected};
 ghost use Rattle.qs_tree.specs.tree.Views.{tree_of};
-ghost use Rattle.qs_data.specs.Views.{field_of, fields_in, shape_of};
-ghost use Rattle.qs_data.specs.Keys as s;
+ghost use Rattle.qs_data.specs.shape.Views.{field_of, fields_in, shape_of};
+ghost use Rattle.qs_data.specs.read.Found as s;
 ghost use Rattle.qs_spec.specs.Node.{found};
 ghost use Rattle.qs_spec.specs.Shape.{is_option};
 ghost use Rattle.qs_explain.specs.Children.{name_child, name_children, struct_children};

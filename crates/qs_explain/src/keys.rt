@@ -11,7 +11,7 @@ ghost use Rattle.qs_spec.specs.Segment.{segment_text};
 ghost use Rattle.qs_spec.specs.Shape.{are_ignored, is_field_name};
 ghost use Rattle.qs_spec.specs.Tree.Tree.{leaf};
 ghost use Rattle.qs_tree.specs.tree.Views.{tree_of, entries_of_map, segment_of_key};
-ghost use Rattle.qs_data.specs.Views.{fields_in, key_shape_of, shape_of, variants_in};
+ghost use Rattle.qs_data.specs.shape.Views.{fields_in, key_shape_of, shape_of, variants_in};
 ghost use Rattle.qs_explain.specs.Explains.{segment_of, Tests};
 ghost use Rattle.qs_explain.specs.Unexpected.{first_entry, first_other, is_allowed, is_key, is_variant, unexpected_among, unexpected_key, unknown_of};
 
@@ -178,7 +178,7 @@ fn is_ignored(unknown: UnknownKeys) -> bool
     }
 }
 
-#[tactic(auto, using(qs_data::proofs::Refusals::utf8_tests))]
+#[tactic(auto, using(qs_data::proofs::lemmas::read::Errors::utf8_tests))]
 fn is_text(bytes: &[u8]) -> bool
     ensures { result ≡ is_utf8 bytes.now }
 {

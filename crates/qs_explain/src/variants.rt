@@ -3,8 +3,8 @@
 ghost use Rattle.std.specs.Prelude.{◌≡◌, option_map};
 ghost use Rattle.qs_spec.specs.Segment.{segment_text};
 ghost use Rattle.qs_tree.specs.tree.Views.{segment_of_key};
-ghost use Rattle.qs_data.specs.Variants.{variant_named};
-ghost use Rattle.qs_data.specs.Views.{variant_of, variants_in};
+ghost use Rattle.qs_data.specs.shape.Variants.{variant_named};
+ghost use Rattle.qs_data.specs.shape.Views.{variant_of, variants_in};
 
 use itoa::Buffer;
 use qs_data::Variant;

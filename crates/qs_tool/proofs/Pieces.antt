@@ -4,9 +4,9 @@ use Rattle.std.proofs.lemmas.List.Sums.{fold-append}
 use Rattle.std.specs.declared.vec.Vec.{Vec}
 use Rattle.std.specs.declared.alloc.Global.{Global}
 use Rattle.qs_spec.specs.Data as d
-use Rattle.qs_data.specs.Views.{data_of, pairs_in}
-use Rattle.qs_data.specs.declared.data.Data as r
-use Rattle.qs_data.specs.declared.data.Data.{Data}
+use Rattle.qs_data.specs.data.Views.{data_of, pairs_in}
+use Rattle.qs_data.specs.declared.data.data.Data as r
+use Rattle.qs_data.specs.declared.data.data.Data.{Data}
 use Rattle.qs_tool.specs.declared.showing.Piece.{Piece}
 use Rattle.qs_tool.specs.Shown.{listed}
 use Rattle.qs_tool.specs.Pieces.{behind_commas, before, piece_text, text_of_pile, Begins}

@@ -6,8 +6,8 @@ use Rattle.qs_spec.specs.Entry.{Refusal, too_deep, bad_key}
 use Rattle.qs_tree.specs.declared.error.Error.{Error}
 use Rattle.qs_tree.specs.declared.error.Error.TheVariants.{Custom, MaxSerializationDepthExceeded, Parse, Unsupported, FromUtf8, Io, ParseInt, Utf8, OutOfMemory, Failed}
 use Rattle.qs_tree.specs.Error.{IsFailed, IsTooDeep, IsUnsupported, OnlyOutOfMemory}
-use Rattle.qs_data.specs.Writes.{IsWriteError}
-use Rattle.qs_data.specs.Parsed.{Parsed, ReturnsData}
+use Rattle.qs_data.specs.write.Errors.{IsWriteError}
+use Rattle.qs_data.specs.read.Parsed.{Parsed, ReturnsData}
 use Rattle.qs_tool.specs.Fault.{is_memory, IfFault}
 
 -- a serializer that hadn't failed reports an error of the data, or that an allocation failed

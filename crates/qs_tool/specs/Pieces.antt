@@ -1,7 +1,7 @@
 -- The pieces of a line that are still to be written.
 use Rattle.std.specs.Prelude.{ℕ, ◌≡◌, ◌<◌, List, [], ◌∷◌, ◌++◌, length, codes}
 use Rattle.std.specs.List.{fold}
-use Rattle.qs_data.specs.Views.{data_of, values_in, pairs_in}
+use Rattle.qs_data.specs.data.Views.{data_of, values_in, pairs_in}
 use Rattle.qs_tool.specs.declared.showing.Piece.{Piece}
 use Rattle.qs_tool.specs.declared.showing.Piece.TheVariants.{Datum, Items, Value, Pairs}
 use Rattle.qs_tool.specs.Shown.{shown, shown_values, shown_pairs}

@@ -1,7 +1,7 @@
 //! The shapes that the commands read.
 
 ghost use Rattle.std.specs.Prelude.{◌≡◌, IfOk};
-ghost use Rattle.qs_data.specs.Views.{shape_of, field_of, fields_in};
+ghost use Rattle.qs_data.specs.shape.Views.{shape_of, field_of, fields_in};
 ghost use Rattle.qs_tool.specs.Shapes.{flat_shape, params_shape, address_shape, shape_for, unknown_keys};
 ghost use Rattle.qs_spec.specs.Shape as s;
 

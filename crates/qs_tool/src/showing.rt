@@ -4,7 +4,7 @@
 
 ghost use Rattle.std.specs.Prelude.{◌≡◌, ◌<◌, ◌++◌, length, OnOk};
 ghost use Rattle.qs_tree.specs.Error.{OnlyOutOfMemory};
-ghost use Rattle.qs_data.specs.Views.{data_of, values_in, pairs_in};
+ghost use Rattle.qs_data.specs.data.Views.{data_of, values_in, pairs_in};
 ghost use Rattle.qs_tool.specs.Shown.{shown, quoted, in_brackets, in_braces, shown_values, shown_pairs};
 ghost use Rattle.qs_tool.specs.Pieces.{Begins, piece_text, items_left, pairs_left};
 
@@ -56,7 +56,7 @@ fn proceed<'d>(line: &mut Vec<u8>, pile: &mut Vec<Piece<'d>>, piece: Piece<'d>) 
 }
 
 /// Appends what the data begin with, and puts on the stack what is left of them.
-#[tactic(auto, using(qs_data::proofs::Levels::levels, crate::proofs::Pieces::begins_whole))]
+#[tactic(auto, using(qs_data::proofs::lemmas::data::Levels::levels, crate::proofs::Pieces::begins_whole))]
 fn begin<'d>(line: &mut Vec<u8>, pile: &mut Vec<Piece<'d>>, datum: &'d Data) -> Result<()>
     ensures ok { OnOk result (Begins (shown (data_of datum.now)) line.old.items pile.old.items line.new.items pile.new.items) }
     ensures errors { OnlyOutOfMemory result }

@@ -5,9 +5,9 @@ use Rattle.std.specs.declared.vec.Vec.{Vec}
 use Rattle.std.specs.declared.string.String.{String}
 use Rattle.std.specs.declared.alloc.Global.{Global}
 use Rattle.qs_spec.specs.Data as d
-use Rattle.qs_data.specs.Views.{data_of, named, same}
-use Rattle.qs_data.specs.declared.data.Data as r
-use Rattle.qs_data.specs.declared.data.Data.{Data}
+use Rattle.qs_data.specs.data.Views.{data_of, named, same}
+use Rattle.qs_data.specs.declared.data.data.Data as r
+use Rattle.qs_data.specs.declared.data.data.Data.{Data}
 use Rattle.serde_qs.specs.Records.{members_back}
 use Rattle.serde_qs.specs.Tuples.{values_back}
 

@@ -8,7 +8,7 @@ use Rattle.std.specs.Int.{Width}
 use mir.Val.{hbits}
 use Rattle.qs_spec.specs.Scalar.{is_numeral, unsigned_number, signed_number}
 use Rattle.qs_spec.proofs.Numerals.{numerals}
-use Rattle.qs_data.proofs.Numbers.{numeral_past, unsigned_is, unsigned_ok, signed_ok, signed_past, signed_err}
+use Rattle.qs_data.proofs.lemmas.read.Numbers.{numeral_past, unsigned_is, unsigned_ok, signed_ok, signed_past, signed_err}
 
 numeral_holds : (ds : List ℕ) → is_numeral ds ≡ true → IsNumeral 10 ds
 numeral_holds [] h = absurd (search rules)

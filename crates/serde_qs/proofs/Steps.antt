@@ -5,7 +5,7 @@ use Rattle.qs_spec.specs.Data as v
 use Rattle.qs_spec.specs.Data.{Data, Values}
 use Rattle.qs_tree.specs.declared.error.Error.{Error}
 use Rattle.qs_tree.specs.declared.error.Error.TheVariants as e
-use Rattle.qs_data.specs.Gives.{Refuses}
+use Rattle.qs_data.specs.read.Gives.{Rejects}
 use Rattle.serde_qs.specs.Meaning.{values_in}
 
 -- what was taken, in front of what is taken of the rest
@@ -31,7 +31,7 @@ pub no-part : {A : Type 0} (m : Data → Option A) (xs : List A) (d : Data) (ds 
 no-part m xs d ds h = ap (λ r. before xs (option_and_then (λ y. option_map (λ ys. y ∷ ys) (values_in m ds)) r)) h
 
 -- the fault of a part is one of the whole, where the whole means nothing without it
-pub fault_of_part : {A B : Type 0} (b : Bool) (x : Error) (r : Option A) (s : Option B) → (r ≡ None → s ≡ None) → Refuses b x r → Refuses b x s
+pub fault_of_part : {A B : Type 0} (b : Bool) (x : Error) (r : Option A) (s : Option B) → (r ≡ None → s ≡ None) → Rejects b x r → Rejects b x s
 fault_of_part b (e.Custom m) r s f h = f h
 fault_of_part b (e.Utf8 m) r s f h = (f h.0, h.1)
 fault_of_part b e.OutOfMemory r s f h = h

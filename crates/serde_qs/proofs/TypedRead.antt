@@ -8,7 +8,7 @@ use Rattle.qs_spec.specs.Relation.{ReadsBy, ReadsNothing}
 use Rattle.qs_spec.proofs.DataRelatedIsRead.{one_data}
 use Rattle.qs_tree.specs.declared.error.Error.{Error}
 use Rattle.qs_tree.specs.declared.error.Error.TheVariants.{Custom, Utf8, OutOfMemory}
-use Rattle.qs_data.specs.Parsed.{Parsed, ReturnsData}
+use Rattle.qs_data.specs.read.Parsed.{Parsed, ReturnsData}
 use Rattle.serde_qs.specs.Typed.{Means, IsUnread, ReturnsValue}
 
 module _ {X V : Type 0} (view : X → V) (config : Config) (form : Shape) (meaning : Data → Option V) (input : List ℕ) (parsed : Parsed) (shape : Shape)

@@ -6,7 +6,7 @@ use Rattle.qs_spec.specs.Entry.{entries, too_deep, bad_key}
 use Rattle.qs_tree.specs.declared.error.Error.{Error}
 use Rattle.qs_tree.specs.declared.error.Error.TheVariants.{Custom, MaxSerializationDepthExceeded, Parse, Unsupported, FromUtf8, Io, ParseInt, Utf8, OutOfMemory, Failed}
 use Rattle.qs_tree.specs.Error.{IsFailed, IsTooDeep, IsUnsupported}
-use Rattle.qs_data.specs.Writes.{IsWriteError}
+use Rattle.qs_data.specs.write.Errors.{IsWriteError}
 use Rattle.serde_qs.specs.WrittenText.{ReturnsText, memory_for_io}
 
 -- what the refusals tell of the configuration and the data

@@ -11,7 +11,7 @@ use Rattle.qs_spec.proofs.TreeOf.{one_tree}
 use Rattle.qs_spec.proofs.DataRelatedIsRead.{one_data}
 use Rattle.qs_tree.specs.declared.error.Error.{Error}
 use Rattle.qs_tree.specs.declared.error.Error.TheVariants.{Custom, Parse, Utf8, OutOfMemory}
-use Rattle.qs_data.proofs.ReadBack.{in_order}
+use Rattle.qs_data.proofs.lemmas.read.ReadBack.{in_order}
 use Rattle.serde_qs.specs.Typed.{ReturnsValue, ReturnsSame, ReturnsWritten}
 
 -- the form relates every tree of the input to the data that are read back

@@ -7,8 +7,8 @@ use Rattle.std.specs.declared.alloc.Global.{Global}
 use Rattle.qs_spec.specs.Data.{Named, Members, no_members, one_member, members_of}
 use Rattle.qs_spec.specs.Data as v
 use Rattle.qs_spec.specs.Shape.{Shape, Field, fields_of, field_names_differ}
-use Rattle.qs_data.specs.Views.{named, data_of}
-use Rattle.qs_data.specs.declared.data.Data.{Data}
+use Rattle.qs_data.specs.data.Views.{named, data_of}
+use Rattle.qs_data.specs.declared.data.data.Data.{Data}
 use Rattle.serde_qs.specs.Meaning.{both}
 
 abbrev pub texts : List (Bor (List ℕ)) → List (List ℕ)

@@ -4,8 +4,8 @@ use Rattle.qs_spec.specs.Data as v
 use Rattle.qs_spec.specs.Data.{Values, no_values, one_value, values_of}
 use Rattle.qs_spec.specs.Same.{SameValues}
 use Rattle.qs_spec.specs.Shape.{Shape, shapes_of}
-use Rattle.qs_data.specs.Views.{data_of}
-use Rattle.qs_data.specs.declared.data.Data.{Data}
+use Rattle.qs_data.specs.data.Views.{data_of}
+use Rattle.qs_data.specs.declared.data.data.Data.{Data}
 use Rattle.serde_qs.specs.Fits.{fit_parts}
 use Rattle.serde_qs.specs.Meaning.{both}
 

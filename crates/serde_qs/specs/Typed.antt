@@ -1,7 +1,7 @@
 -- What calls return.
 use Rattle.std.specs.Prelude.{◌≡◌, true, false, ℕ, List, ⊤, Result, Ok, Err, Option, Some, None}
 use Rattle.qs_tree.specs.declared.error.Error.{Error}
-use Rattle.qs_data.specs.Gives.{Gives}
+use Rattle.qs_data.specs.read.Gives.{Gives}
 use Rattle.qs_tree.specs.declared.error.Error.TheVariants.{Custom, Parse, Utf8, OutOfMemory}
 use Rattle.qs_spec.specs.Config.{Config}
 use Rattle.qs_spec.specs.Shape.{Shape}
@@ -11,7 +11,7 @@ use Rattle.qs_spec.specs.Relation.{ReadsBy}
 use Rattle.qs_spec.specs.Entry.{Entry}
 use Rattle.qs_spec.specs.Written.{written}
 use Rattle.qs_spec.specs.ReadBack.{IsPlainFor}
-use Rattle.qs_data.specs.ReadBack.{IsOrder}
+use Rattle.qs_data.specs.read.ReadBack.{IsOrder}
 use Rattle.qs_spec.specs.Same.{Same}
 
 -- By view, the result is the value that the data mean. A Custom or Utf8 error is returned exactly where they mean none, and the only other

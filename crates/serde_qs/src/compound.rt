@@ -14,7 +14,7 @@ mod written;
 
 ghost use Rattle.std.specs.Prelude.{◌≡◌, ℕ, List, true, IfOk};
 ghost use Rattle.qs_tree.specs.Error.{OnlyOutOfMemory};
-ghost use Rattle.qs_data.specs.Views.{data_of};
+ghost use Rattle.qs_data.specs.data.Views.{data_of};
 ghost use Rattle.serde_qs.specs.Compound.{data_by_parts};
 ghost use Rattle.serde_qs.specs.internal.Compound.{compound_back};
 ghost use Rattle.serde_qs.specs.Fits.{fits};

@@ -5,7 +5,7 @@ ghost use Rattle.qs_spec.specs.Config.{Config as Settings};
 ghost use Rattle.qs_spec.specs.Entry.{Entry};
 ghost use Rattle.qs_spec.specs.ReadBack.{IsPlainFor};
 ghost use Rattle.qs_spec.specs.Written.{written};
-ghost use Rattle.qs_data.specs.ReadBack.{IsOrder};
+ghost use Rattle.qs_data.specs.read.ReadBack.{IsOrder};
 ghost use Rattle.serde_qs.specs.Typed.{IsRead};
 
 use crate::traits::RoundTrip;

@@ -4,8 +4,9 @@ ghost use Rattle.std.specs.Prelude.{◌≡◌, true, IfOk, Option};
 ghost use Rattle.qs_spec.specs.Data.{Data as Datum};
 ghost use Rattle.qs_spec.specs.Shape.{Shape as Form, is_distinct};
 ghost use Rattle.qs_tree.specs.Error.{OnlyOutOfMemory};
-ghost use Rattle.qs_data.specs.Gives.{IsFault};
-ghost use Rattle.qs_data.specs.Views.{data_of, shape_of};
+ghost use Rattle.qs_data.specs.read.Errors.{IsCustomOrOutOfMemory};
+ghost use Rattle.qs_data.specs.data.Views.{data_of};
+ghost use Rattle.qs_data.specs.shape.Views.{shape_of};
 ghost use Rattle.serde_qs.specs.ComesBack.{ComesBack};
 ghost use Rattle.serde_qs.specs.Fits.{fits};
 ghost use Rattle.serde_qs.specs.Typed.{Means};
@@ -95,7 +96,7 @@ pub trait RoundTrip: Serialize + Deserialize {
 /// }
 /// ```
 pub fn unexpected(alloc: Global, expected: &'static str) -> Error
-    ensures { IsFault result }
+    ensures { IsCustomOrOutOfMemory result }
 {
     Error::custom(
         alloc,

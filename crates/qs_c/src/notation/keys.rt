@@ -1,7 +1,7 @@
 //! The keys of a map.
 
 ghost use Rattle.std.specs.Prelude.{map, string_bytes};
-ghost use Rattle.qs_data.specs.Views.{key_shape_of};
+ghost use Rattle.qs_data.specs.shape.Views.{key_shape_of};
 ghost use Rattle.qs_c.specs.Notation.{comma_or_parenthesis, key, list_of, name};
 ghost use Rattle.qs_c.specs.Parses.{Parses};
 

@@ -1,7 +1,7 @@
 //! A shape, and what shapes hold.
 
 ghost use Rattle.std.specs.Prelude.{map, ◌++◌};
-ghost use Rattle.qs_data.specs.Views.{field_of, shape_of};
+ghost use Rattle.qs_data.specs.shape.Views.{field_of, shape_of};
 ghost use Rattle.qs_c.specs.Found.{before};
 ghost use Rattle.qs_c.specs.Notation as n;
 ghost use Rattle.qs_c.specs.Parses.{Parses};

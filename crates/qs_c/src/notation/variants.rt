@@ -1,7 +1,7 @@
 //! The variants of an enum.
 
 ghost use Rattle.std.specs.Prelude.{map};
-ghost use Rattle.qs_data.specs.Views.{kind_of, variant_of};
+ghost use Rattle.qs_data.specs.shape.Views.{kind_of, variant_of};
 ghost use Rattle.qs_c.specs.Notation as n;
 ghost use Rattle.qs_c.specs.Parses.{Parses};
 

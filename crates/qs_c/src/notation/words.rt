@@ -2,7 +2,7 @@
 
 ghost use Rattle.std.specs.Prelude.{◌≡◌, option_map};
 ghost use Rattle.qs_spec.specs.Shape as s;
-ghost use Rattle.qs_data.specs.Views.{shape_of, key_shape_of};
+ghost use Rattle.qs_data.specs.shape.Views.{shape_of, key_shape_of};
 ghost use Rattle.qs_c.specs.Notation.{integer, scalar, scalar_key};
 
 use qs_data::{KeyShape, Shape};

@@ -2,14 +2,14 @@
 
 ghost use Rattle.qs_spec.specs.internal.ReadFunction.{any_data};
 ghost use Rattle.qs_tree.specs.tree.Views.{tree_of};
-ghost use Rattle.qs_data.specs.Views.{data_of};
-ghost use Rattle.qs_data.specs.Text.{is_text};
-ghost use Rattle.qs_data.specs.ReadError.{Gives};
-ghost use Rattle.qs_data.specs.Nesting.{level_data, level_is_text};
+ghost use Rattle.qs_data.specs.data.Views.{data_of};
+ghost use Rattle.qs_data.specs.read.Text.{is_text};
+ghost use Rattle.qs_data.specs.read.internal.ReadError.{ReadGives};
+ghost use Rattle.qs_data.specs.read.internal.Nesting.{frame_data, frame_is_text};
 
 use crate::data::Data;
 use crate::read::error::Result;
-use crate::read::nested::{Level, Node, visit};
+use crate::read::nested::{Frame, Visited, visit};
 use qs_tree::ParsedValue;
 use std::alloc::Global;
 use std::mem;
@@ -17,33 +17,33 @@ use std::mem;
 /// Whatever is there: a text as a text, and an empty one where nothing follows `=`. A sequence is a list, and so is a map
 /// whose keys are all numbers; another map keeps its keys as texts.
 ///
-/// Takes the same stack at any depth: lists and maps that hold others wait on the heap.
+/// Takes the same stack at any depth: lists and maps that hold others keep_key on the heap.
 #[inline(always)]
 pub(crate) fn read_any(alloc: Global, value: &ParsedValue<'_>) -> Result<Data>
-    ensures { Gives data_of (is_text (tree_of value.now)) result (any_data (tree_of value.now)) }
+    ensures { ReadGives data_of (is_text (tree_of value.now)) result (any_data (tree_of value.now)) }
 {
     match visit(alloc, value)? {
-        Node::Leaf(data) => Ok(data),
-        Node::Inner(level) => read_level(alloc, level),
+        Visited::Leaf(data) => Ok(data),
+        Visited::Inner(frame) => read_frame(alloc, frame),
     }
 }
 
-// What a level gives. Those around the innermost one wait.
-fn read_level(alloc: Global, outermost: Level<'_, '_>) -> Result<Data>
-    ensures { Gives data_of (level_is_text outermost.entry) result (level_data outermost.entry) }
+// What a frame gives. Those around the innermost one keep_key.
+fn read_frame(alloc: Global, outermost: Frame<'_, '_>) -> Result<Data>
+    ensures { ReadGives data_of (frame_is_text outermost.entry) result (frame_data outermost.entry) }
 {
-    let mut waiting = Vec::new(alloc);
-    let mut level = outermost;
+    let mut stack = Vec::new(alloc);
+    let mut frame = outermost;
     loop {
-        if let Some(inner) = level.advance(alloc)? {
-            waiting.push(mem::replace(&mut level, inner))?;
+        if let Some(inner) = frame.advance(alloc)? {
+            stack.push(mem::replace(&mut frame, inner))?;
             continue;
         }
-        let data = level.done();
-        let Some(outer) = waiting.pop() else {
+        let data = frame.done();
+        let Some(outer) = stack.pop() else {
             return Ok(data);
         };
-        level = outer;
-        level.add(data)?;
+        frame = outer;
+        frame.add(data)?;
     }
 }

@@ -2,7 +2,7 @@
 
 ghost use Rattle.std.specs.Prelude.{◌≡◌};
 ghost use Rattle.qs_tree.specs.Error.{IsCustomSaying};
-ghost use Rattle.qs_data.specs.ReadError.{error_of};
+ghost use Rattle.qs_data.specs.read.internal.ReadError.{error_of};
 ghost use Rattle.qs_data.specs.declared.read.error.ReadError.TheVariants.{OutOfMemory};
 
 use qs_tree::Error;

@@ -5,17 +5,18 @@ ghost use Rattle.qs_spec.specs.Shape.{is_option as is_option_shape};
 ghost use Rattle.qs_spec.specs.Node.{found, keys_are_allowed};
 ghost use Rattle.qs_spec.specs.internal.ReadFunction.{struct_members, reads, reads_names, reads_places, read_field, read_place};
 ghost use Rattle.qs_tree.specs.tree.Views.{tree_of, items_from};
-ghost use Rattle.qs_data.specs.Views.{data_of, field_of, fields_in, named, shape_of};
-ghost use Rattle.qs_data.specs.Text.{is_text, items_are_text, entries_are_text};
-ghost use Rattle.qs_data.specs.ReadError.{Gives};
-ghost use Rattle.qs_data.specs.Keys.{NumbersFit, entries_of, unknown_of};
+ghost use Rattle.qs_data.specs.data.Views.{data_of, named};
+ghost use Rattle.qs_data.specs.shape.Views.{field_of, fields_in, shape_of};
+ghost use Rattle.qs_data.specs.read.Text.{is_text, items_are_text, entries_are_text};
+ghost use Rattle.qs_data.specs.read.internal.ReadError.{ReadGives};
+ghost use Rattle.qs_data.specs.read.internal.Keys.{NumbersFit, entries_of, unknown_of};
 ghost use Rattle.std.specs.Prelude.{◌≡◌};
 
 use crate::data::Data;
+use crate::read::by_shape::read_node;
 use crate::read::error::Result;
-use crate::read::fault::{Expected, Fault};
 use crate::read::keys::{Entries, Found, find, test_keys};
-use crate::read::read_node;
+use crate::read::message::{Expected, Message};
 use crate::read::scalar::as_text;
 use crate::read::unknown::UnknownKeys;
 use crate::shape::{Field, Shape};
@@ -33,7 +34,7 @@ pub(crate) fn read_struct(
     fields: &Vec<Field>,
     value: &ParsedValue<'_>,
 ) -> Result<Vec<(String, Data)>>
-    ensures { Gives (λ v. map (named data_of) v.items) (is_text (tree_of value.now)) result
+    ensures { ReadGives (λ v. map (named data_of) v.items) (is_text (tree_of value.now)) result
         (struct_members (keys_are_allowed (unknown_of unknown) (fields_in fields.now.items)) (reads_names reject_duplicates (fields_in fields.now.items))
         (reads_places reject_duplicates (fields_in fields.now.items)) (tree_of value.now)) }
 {
@@ -55,9 +56,9 @@ pub(crate) fn read_struct(
         ParsedValue::Sequence(items) => read_places(alloc, reject_duplicates, fields, items),
         ParsedValue::String(text) => {
             as_text(text.as_slice())?;
-            Err(Fault::mismatch(alloc, value, Expected::Struct))
+            Err(Message::mismatch(alloc, value, Expected::Struct))
         }
-        ParsedValue::Uninitialized => Err(Fault::mismatch(alloc, value, Expected::Struct)),
+        ParsedValue::Uninitialized => Err(Message::mismatch(alloc, value, Expected::Struct)),
     }
 }
 
@@ -71,7 +72,7 @@ pub(crate) fn read_entries(
     fields: &Vec<Field>,
     entries: Entries<'_, '_>,
 ) -> Result<Vec<(String, Data)>>
-    ensures { Gives (λ v. map (named data_of) v.items) (entries_are_text (entries_of entries.entry)) result
+    ensures { ReadGives (λ v. map (named data_of) v.items) (entries_are_text (entries_of entries.entry)) result
         (option_and_then (λ ms. cond (keys_are_allowed (unknown_of unknown) (fields_in fields.now.items) (entries_of entries.entry)) (Some ms) None)
         (reads_names reject_duplicates (fields_in fields.now.items) (entries_of entries.entry))) }
 {
@@ -94,7 +95,7 @@ fn read_names(
     entries: Entries<'_, '_>,
 ) -> Result<Vec<(String, Data)>>
     requires { NumbersFit (entries_of entries) }
-    ensures { Gives (λ v. map (named data_of) v.items) (entries_are_text (entries_of entries.entry)) result
+    ensures { ReadGives (λ v. map (named data_of) v.items) (entries_are_text (entries_of entries.entry)) result
         (reads_names reject_duplicates (fields_in fields.now.items) (entries_of entries.entry)) }
 {
     let mut members = Vec::with_capacity(alloc, fields.len())?;
@@ -118,7 +119,7 @@ fn read_field(
 ) -> Result<Option<Data>>
     requires { NumbersFit (entries_of entries) }
     ensures { let f = field_of field.now in
-        Gives (option_map data_of) (entries_are_text (entries_of entries.entry)) result
+        ReadGives (option_map data_of) (entries_are_text (entries_of entries.entry)) result
         (read_field f.2 (is_option_shape f.1) (reads reject_duplicates f.1) (found f.0 (entries_of entries.entry))) }
 {
     match find(entries, &field.name) {
@@ -128,11 +129,11 @@ fn read_field(
             } else if is_option(&field.shape) {
                 Ok(Some(Data::None))
             } else {
-                Err(Fault::MissingField(&field.name).error(alloc))
+                Err(Message::MissingField(&field.name).error(alloc))
             }
         }
         Found::One(value) => Ok(Some(read_node(alloc, reject_duplicates, &field.shape, value)?)),
-        Found::Several => Err(Fault::DuplicateField(&field.name).error(alloc)),
+        Found::Several => Err(Message::DuplicateField(&field.name).error(alloc)),
     }
 }
 
@@ -154,7 +155,7 @@ fn read_places(
     fields: &Vec<Field>,
     items: &[ParsedValue<'_>],
 ) -> Result<Vec<(String, Data)>>
-    ensures { Gives (λ v. map (named data_of) v.items) (items_are_text (items_from (map tree_of items.now))) result
+    ensures { ReadGives (λ v. map (named data_of) v.items) (items_are_text (items_from (map tree_of items.now))) result
         (reads_places reject_duplicates (fields_in fields.now.items) (items_from (map tree_of items.now))) }
 {
     let mut members = Vec::new(alloc);
@@ -178,7 +179,7 @@ fn read_place(
     place: usize,
 ) -> Result<Option<Data>>
     ensures { let f = field_of field.now in
-        Gives (option_map data_of) (items_are_text (items_from (map tree_of items.now))) result
+        ReadGives (option_map data_of) (items_are_text (items_from (map tree_of items.now))) result
         (read_place f.2 (reads reject_duplicates f.1) (items_from (map tree_of (drop place items.now)))) }
 {
     match items.get(place) {
@@ -187,7 +188,7 @@ fn read_place(
             if field.optional {
                 Ok(None)
             } else {
-                Err(Fault::InvalidLength(items.len()).error(alloc))
+                Err(Message::InvalidLength(items.len()).error(alloc))
             }
         }
     }

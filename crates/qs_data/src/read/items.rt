@@ -3,12 +3,12 @@
 ghost use Rattle.std.specs.Prelude.{◌≡◌, length, drop, option_map, true};
 ghost use Rattle.qs_spec.specs.Node.{items, are_ints, is_place};
 ghost use Rattle.qs_tree.specs.tree.Views.{tree_of, entries_of_map, segment_of_key};
-ghost use Rattle.qs_data.specs.ReadError.{Gives};
-ghost use Rattle.qs_data.specs.Items.{items_in, first_item, passed};
+ghost use Rattle.qs_data.specs.read.internal.ReadError.{ReadGives};
+ghost use Rattle.qs_data.specs.read.internal.Items.{items_in, first_item, passed};
 ghost use Rattle.qs_spec.specs.Node.{placed};
 
 use crate::read::error::Result;
-use crate::read::fault::{Expected, Fault, Kind};
+use crate::read::message::{Expected, Message, Unexpected};
 use qs_tree::{Key, ParsedMap, ParsedValue};
 use std::alloc::Global;
 
@@ -31,7 +31,7 @@ pub(crate) fn items_of<'t, 'qs>(
     value: &'t ParsedValue<'qs>,
     expected: Expected,
 ) -> Result<Items<'t, 'qs>>
-    ensures { Gives items_in true result (items (tree_of value.now)) }
+    ensures { ReadGives items_in true result (items (tree_of value.now)) }
 {
     match value {
         ParsedValue::NoValue | ParsedValue::Null => Ok(Items::Empty),
@@ -41,10 +41,10 @@ pub(crate) fn items_of<'t, 'qs>(
             if are_numbers(map) {
                 Ok(Items::Places(map))
             } else {
-                Err(Fault::mismatch(alloc, value, expected))
+                Err(Message::mismatch(alloc, value, expected))
             }
         }
-        ParsedValue::Uninitialized => Err(Fault::mismatch(alloc, value, expected)),
+        ParsedValue::Uninitialized => Err(Message::mismatch(alloc, value, expected)),
     }
 }
 
@@ -79,7 +79,7 @@ impl<'t, 'qs> Items<'t, 'qs> {
     /// The item at a place, if there are so many; rejected where a map has another key there.
     #[inline(always)]
     pub(crate) fn at(self, alloc: Global, place: usize) -> Result<Option<&'t ParsedValue<'qs>>>
-        ensures { Gives (option_map (λ v. tree_of v.now)) true result (first_item (drop place (items_in self.entry))) }
+        ensures { ReadGives (option_map (λ v. tree_of v.now)) true result (first_item (drop place (items_in self.entry))) }
     {
         match self {
             Items::Empty => Ok(None),
@@ -102,7 +102,7 @@ fn value_at<'t, 'qs>(
     map: &'t ParsedMap<'qs>,
     place: usize,
 ) -> Result<Option<&'t ParsedValue<'qs>>>
-    ensures { Gives (option_map (λ v. tree_of v.now)) true result (first_item (drop place (placed 0 (entries_of_map map.now)))) }
+    ensures { ReadGives (option_map (λ v. tree_of v.now)) true result (first_item (drop place (placed 0 (entries_of_map map.now)))) }
 {
     let Some((key, value)) = map.at(place) else {
         return Ok(None);
@@ -113,18 +113,18 @@ fn value_at<'t, 'qs>(
 
 // Whether a key is the place that is due, of which there are 4,294,967,295 at most.
 fn test_place(alloc: Global, key: &Key<'_>, due: usize) -> Result<()>
-    ensures { Gives (λ _. true) true result (passed (is_place due (segment_of_key key.now))) }
+    ensures { ReadGives (λ _. true) true result (passed (is_place due (segment_of_key key.now))) }
 {
-    let Key::Int(met) = *key else {
-        let found = Kind::Map;
+    let Key::Int(index) = *key else {
+        let found = Unexpected::Map;
         let expected = Expected::Sequence;
-        return Err(Fault::InvalidType { found, expected }.error(alloc));
+        return Err(Message::InvalidType { found, expected }.error(alloc));
     };
-    if met as usize != due {
-        return Err(Fault::MissingIndex { due, met }.error(alloc));
+    if index as usize != due {
+        return Err(Message::MissingIndex { due, index }.error(alloc));
     }
-    if met == u32::MAX {
-        return Err(Fault::TooManyElements.error(alloc));
+    if index == u32::MAX {
+        return Err(Message::TooManyElements.error(alloc));
     }
     Ok(())
 }

@@ -5,15 +5,15 @@ ghost use Rattle.std.specs.Str.{is_utf8};
 ghost use Rattle.qs_spec.specs.Segment.{segment_text};
 ghost use Rattle.qs_spec.specs.Scalar.{key_data, name_data};
 ghost use Rattle.qs_tree.specs.tree.Views.{segment_of_key};
-ghost use Rattle.qs_data.specs.Views.{data_of, key_shape_of};
-ghost use Rattle.qs_data.specs.ReadError.{Gives};
+ghost use Rattle.qs_data.specs.data.Views.{data_of};
+ghost use Rattle.qs_data.specs.shape.Views.{key_shape_of};
+ghost use Rattle.qs_data.specs.read.internal.ReadError.{ReadGives};
 
 use crate::data::Data;
 use crate::read::error::Result;
-use crate::read::fault::{Fault, of_key};
+use crate::read::message::{Message, key_error};
 use crate::read::scalar::{as_text, bool_data, char_data, signed_data, text_data, unsigned_data};
-use crate::read::width::Width;
-use crate::shape::KeyShape;
+use crate::shape::{KeyShape, Width};
 use itoa::Buffer;
 use qs_tree::Key;
 use std::alloc::Global;
@@ -21,7 +21,7 @@ use std::alloc::Global;
 /// Reads a key by its text; that of a number is its digits. The fault of a key that holds a bracket is reported with a hint.
 #[inline(always)]
 pub(crate) fn read_key(alloc: Global, shape: &KeyShape, key: &Key<'_>) -> Result<Data>
-    ensures { Gives data_of (is_utf8 (segment_text (segment_of_key key.now))) result
+    ensures { ReadGives data_of (is_utf8 (segment_text (segment_of_key key.now))) result
         (key_data (key_shape_of shape.now) (segment_text (segment_of_key key.now))) }
 {
     match key {
@@ -33,7 +33,7 @@ pub(crate) fn read_key(alloc: Global, shape: &KeyShape, key: &Key<'_>) -> Result
             let bytes = text.as_slice();
             match key_data(alloc, shape, bytes) {
                 Ok(data) => Ok(data),
-                Err(error) => Err(of_key(alloc, bytes, error)),
+                Err(error) => Err(key_error(alloc, bytes, error)),
             }
         }
     }
@@ -42,7 +42,7 @@ pub(crate) fn read_key(alloc: Global, shape: &KeyShape, key: &Key<'_>) -> Result
 /// What the text of a key stands for.
 #[inline(always)]
 pub(crate) fn key_data(alloc: Global, shape: &KeyShape, bytes: &[u8]) -> Result<Data>
-    ensures { Gives data_of (is_utf8 bytes.now) result (key_data (key_shape_of shape.now) bytes.now) }
+    ensures { ReadGives data_of (is_utf8 bytes.now) result (key_data (key_shape_of shape.now) bytes.now) }
 {
     match shape {
         KeyShape::Bool => bool_data(alloc, bytes),
@@ -62,12 +62,12 @@ pub(crate) fn key_data(alloc: Global, shape: &KeyShape, bytes: &[u8]) -> Result<
 
 // One of some names.
 fn name_data(alloc: Global, names: &Vec<String>, bytes: &[u8]) -> Result<Data>
-    ensures { Gives data_of (is_utf8 bytes.now) result (name_data (map string_bytes names.now.items) bytes.now) }
+    ensures { ReadGives data_of (is_utf8 bytes.now) result (name_data (map string_bytes names.now.items) bytes.now) }
 {
     for name in names {
         if bytes == name.as_bytes() {
             return Ok(Data::UnitVariant(name.clone()?));
         }
     }
-    Err(Fault::UnknownVariant(as_text(bytes)?).error(alloc))
+    Err(Message::UnknownVariant(as_text(bytes)?).error(alloc))
 }

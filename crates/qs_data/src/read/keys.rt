@@ -6,11 +6,12 @@ ghost use Rattle.qs_spec.specs.Segment.{segment_text};
 ghost use Rattle.qs_spec.specs.Node.{found, keys_are_text};
 ghost use Rattle.qs_tree.specs.tree.Views.{entries_of_map, segment_of_key};
 ghost use Rattle.qs_data.specs.declared.read.error.ReadError.TheVariants.{Utf8};
-ghost use Rattle.qs_data.specs.Hint.{IsToldOfKey};
-ghost use Rattle.qs_data.specs.Keys.{Finds, NumbersFit, TellsNumber, KeyFits, Tells, entries_of, value_in};
+ghost use Rattle.qs_data.specs.read.internal.Hint.{IsKeyError};
+ghost use Rattle.qs_data.specs.read.Found.{Finds};
+ghost use Rattle.qs_data.specs.read.internal.Keys.{NumbersFit, ParsesNumber, KeyFits, PassesTest, entries_of, value_in};
 
 use crate::read::error::{ReadError, Result};
-use crate::read::fault::of_key;
+use crate::read::message::key_error;
 use itoa::Buffer;
 use qs_tree::{Key, ParsedMap, ParsedValue};
 use std::alloc::Global;
@@ -85,7 +86,7 @@ fn either<'t, 'qs>(
 
 // The number that is written so.
 fn number_of(name: &str) -> Option<u32>
-    ensures { TellsNumber result name.now }
+    ensures { ParsesNumber result name.now }
 {
     match name.parse::<u32>() {
         Ok(number) => {
@@ -110,15 +111,15 @@ pub(crate) struct BrokenKey<'t> {
 impl BrokenKey<'_> {
     /// The error that says so.
     pub(crate) fn error(self, alloc: Global) -> ReadError
-        ensures { IsToldOfKey self.entry.text.now (Utf8 self.entry.cause) result }
+        ensures { IsKeyError self.entry.text.now (Utf8 self.entry.cause) result }
     {
-        of_key(alloc, self.text, ReadError::Utf8(self.cause))
+        key_error(alloc, self.text, ReadError::Utf8(self.cause))
     }
 }
 
 /// Whether all keys are texts, or the first that isn't.
 pub(crate) fn test_keys<'t>(entries: Entries<'t, '_>) -> Result<(), BrokenKey<'t>>
-    ensures text { Tells result (keys_are_text (entries_of entries.entry)) }
+    ensures text { PassesTest result (keys_are_text (entries_of entries.entry)) }
     ensures fit { NumbersFit (entries_of entries.entry) }
 {
     match entries {
@@ -130,7 +131,7 @@ pub(crate) fn test_keys<'t>(entries: Entries<'t, '_>) -> Result<(), BrokenKey<'t
 
 // The same of a map. All keys are looked at, so their numbers are known to have 32 bits whatever comes of the test.
 fn test_map<'t>(map: &'t ParsedMap<'_>) -> Result<(), BrokenKey<'t>>
-    ensures text { Tells result (keys_are_text (entries_of_map map.now)) }
+    ensures text { PassesTest result (keys_are_text (entries_of_map map.now)) }
     ensures fit { NumbersFit (entries_of_map map.now) }
 {
     let mut tested = Ok(());
@@ -144,9 +145,9 @@ fn test_map<'t>(map: &'t ParsedMap<'_>) -> Result<(), BrokenKey<'t>>
 }
 
 // Whether a key is a text.
-#[tactic(auto, using(crate::proofs::Refusals::utf8_tests))]
+#[tactic(auto, using(crate::proofs::lemmas::read::Errors::utf8_tests))]
 fn test_key<'t>(key: &'t Key<'_>) -> Result<(), BrokenKey<'t>>
-    ensures text { Tells result (is_utf8 (segment_text (segment_of_key key.now))) }
+    ensures text { PassesTest result (is_utf8 (segment_text (segment_of_key key.now))) }
     ensures fit { KeyFits (segment_of_key key.now) }
 {
     match key {

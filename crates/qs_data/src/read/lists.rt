@@ -4,16 +4,17 @@ ghost use Rattle.std.specs.Prelude.{map, option_and_then, option_map};
 ghost use Rattle.qs_spec.specs.Node.{items};
 ghost use Rattle.qs_spec.specs.internal.ReadFunction.{read_each, read_list, reads, reads_tuple};
 ghost use Rattle.qs_tree.specs.tree.Views.{tree_of};
-ghost use Rattle.qs_data.specs.Views.{data_of, shape_of, shapes_in};
-ghost use Rattle.qs_data.specs.Text.{is_text};
-ghost use Rattle.qs_data.specs.Items.{items_in, are_text};
-ghost use Rattle.qs_data.specs.ReadError.{Gives};
+ghost use Rattle.qs_data.specs.data.Views.{data_of};
+ghost use Rattle.qs_data.specs.shape.Views.{shape_of, shapes_in};
+ghost use Rattle.qs_data.specs.read.Text.{is_text};
+ghost use Rattle.qs_data.specs.read.internal.Items.{items_in, are_text};
+ghost use Rattle.qs_data.specs.read.internal.ReadError.{ReadGives};
 
 use crate::data::Data;
+use crate::read::by_shape::read_node;
 use crate::read::error::Result;
-use crate::read::fault::{Expected, Fault};
 use crate::read::items::{Items, items_of};
-use crate::read::read_node;
+use crate::read::message::{Expected, Message};
 use crate::shape::Shape;
 use qs_tree::ParsedValue;
 use std::alloc::Global;
@@ -27,7 +28,7 @@ pub(crate) fn read_list(
     part: &Shape,
     value: &ParsedValue<'_>,
 ) -> Result<Vec<Data>>
-    ensures { Gives (λ v. map data_of v.items) (is_text (tree_of value.now)) result
+    ensures { ReadGives (λ v. map data_of v.items) (is_text (tree_of value.now)) result
         (read_list (reads reject_duplicates (shape_of part.now)) (tree_of value.now)) }
 {
     let items = items_of(alloc, value, Expected::Sequence)?;
@@ -42,7 +43,7 @@ pub(crate) fn read_each(
     part: &Shape,
     items: Items<'_, '_>,
 ) -> Result<Vec<Data>>
-    ensures { Gives (λ v. map data_of v.items) (are_text (items_in items.entry)) result
+    ensures { ReadGives (λ v. map data_of v.items) (are_text (items_in items.entry)) result
         (read_each (reads reject_duplicates (shape_of part.now)) (items_in items.entry)) }
 {
     let mut values = Vec::with_capacity(alloc, items.len())?;
@@ -65,7 +66,7 @@ pub(crate) fn read_tuple(
     value: &ParsedValue<'_>,
     expected: Expected,
 ) -> Result<Vec<Data>>
-    ensures { Gives (λ v. map data_of v.items) (is_text (tree_of value.now)) result
+    ensures { ReadGives (λ v. map data_of v.items) (is_text (tree_of value.now)) result
         (option_and_then (reads_tuple reject_duplicates (shapes_in parts.now.items)) (items (tree_of value.now))) }
 {
     let items = items_of(alloc, value, expected)?;
@@ -81,13 +82,13 @@ fn read_parts(
     parts: &Vec<Shape>,
     items: Items<'_, '_>,
 ) -> Result<Vec<Data>>
-    ensures { Gives (λ v. map data_of v.items) (are_text (items_in items.entry)) result
+    ensures { ReadGives (λ v. map data_of v.items) (are_text (items_in items.entry)) result
         (reads_tuple reject_duplicates (shapes_in parts.now.items) (items_in items.entry)) }
 {
     let mut values = Vec::with_capacity(alloc, parts.len())?;
     for (i, part) in parts.iter().enumerate() {
         let Some(item) = items.at(alloc, i)? else {
-            return Err(Fault::InvalidLength(i).error(alloc));
+            return Err(Message::InvalidLength(i).error(alloc));
         };
         values.push(read_node(alloc, reject_duplicates, part, item)?)?;
     }

@@ -4,15 +4,16 @@ ghost use Rattle.std.specs.Prelude.{map};
 ghost use Rattle.qs_spec.specs.Node.{under_empty};
 ghost use Rattle.qs_spec.specs.internal.ReadFunction.{read_map, read_pairs, reads};
 ghost use Rattle.qs_tree.specs.tree.Views.{tree_of, entries_of_map};
-ghost use Rattle.qs_data.specs.Views.{key_shape_of, pair_of, shape_of};
-ghost use Rattle.qs_data.specs.Text.{is_text, entries_are_text};
-ghost use Rattle.qs_data.specs.ReadError.{Gives};
+ghost use Rattle.qs_data.specs.shape.Views.{key_shape_of, shape_of};
+ghost use Rattle.qs_data.specs.data.Views.{pair_of};
+ghost use Rattle.qs_data.specs.read.Text.{is_text, entries_are_text};
+ghost use Rattle.qs_data.specs.read.internal.ReadError.{ReadGives};
 
 use crate::data::Data;
+use crate::read::by_shape::read_node;
 use crate::read::error::Result;
-use crate::read::fault::{Expected, Fault};
 use crate::read::key::{key_data, read_key};
-use crate::read::read_node;
+use crate::read::message::{Expected, Message};
 use crate::shape::{KeyShape, Shape};
 use qs_tree::{ParsedMap, ParsedValue};
 use std::alloc::Global;
@@ -27,7 +28,7 @@ pub(crate) fn read_map(
     part: &Shape,
     value: &ParsedValue<'_>,
 ) -> Result<Vec<(Data, Data)>>
-    ensures { Gives (λ v. map pair_of v.items) (is_text (tree_of value.now)) result
+    ensures { ReadGives (λ v. map pair_of v.items) (is_text (tree_of value.now)) result
         (read_map (key_shape_of key_shape.now) (reads reject_duplicates (shape_of part.now)) (tree_of value.now)) }
 {
     match value {
@@ -40,7 +41,7 @@ pub(crate) fn read_map(
             value,
         ),
         ParsedValue::Map(entries) => read_pairs(alloc, reject_duplicates, key_shape, part, entries),
-        ParsedValue::Sequence(_) | ParsedValue::Uninitialized => Err(Fault::mismatch(
+        ParsedValue::Sequence(_) | ParsedValue::Uninitialized => Err(Message::mismatch(
             alloc,
             value,
             Expected::Map,
@@ -57,7 +58,7 @@ pub(crate) fn read_pairs(
     part: &Shape,
     entries: &ParsedMap<'_>,
 ) -> Result<Vec<(Data, Data)>>
-    ensures { Gives (λ v. map pair_of v.items) (entries_are_text (entries_of_map entries.now)) result
+    ensures { ReadGives (λ v. map pair_of v.items) (entries_are_text (entries_of_map entries.now)) result
         (read_pairs (key_shape_of key_shape.now) (reads reject_duplicates (shape_of part.now)) (entries_of_map entries.now)) }
 {
     let mut pairs = Vec::with_capacity(alloc, entries.len())?;
@@ -81,7 +82,7 @@ fn read_under_empty(
     part: &Shape,
     value: &ParsedValue<'_>,
 ) -> Result<Vec<(Data, Data)>>
-    ensures { Gives (λ v. map pair_of v.items) (is_text (tree_of value.now)) result
+    ensures { ReadGives (λ v. map pair_of v.items) (is_text (tree_of value.now)) result
         (read_pairs (key_shape_of key_shape.now) (reads reject_duplicates (shape_of part.now)) (under_empty (tree_of value.now))) }
 {
     let key = key_data(alloc, key_shape, &[])?;

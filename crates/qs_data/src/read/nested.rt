@@ -7,18 +7,18 @@ ghost use Rattle.qs_spec.specs.Shape.KeyShape.{text};
 ghost use Rattle.qs_spec.specs.internal.ReadFunction.{any_data, read_each, read_pairs};
 ghost use Rattle.qs_tree.specs.tree.Views.{tree_of, entries_of_map};
 ghost use Rattle.qs_data.specs.declared.read.error.ReadError.TheVariants.{OutOfMemory};
-ghost use Rattle.qs_data.specs.Views.{data_of};
-ghost use Rattle.qs_data.specs.Items.{items_in, are_text};
-ghost use Rattle.qs_data.specs.Text.{entries_are_text};
-ghost use Rattle.qs_data.specs.Sizes.{list_size, entries_size};
-ghost use Rattle.qs_data.specs.Nesting.{Visits, Advances, Adds, done_of, level_data, level_is_text, level_size};
-ghost use Rattle.qs_data.specs.declared.read.nested.Level.TheVariants as level;
+ghost use Rattle.qs_data.specs.data.Views.{data_of};
+ghost use Rattle.qs_data.specs.read.internal.Items.{items_in, are_text};
+ghost use Rattle.qs_data.specs.read.Text.{entries_are_text};
+ghost use Rattle.qs_data.specs.read.internal.Sizes.{list_size, entries_size};
+ghost use Rattle.qs_data.specs.read.internal.Nesting.{Visits, Advances, Extends, done_of, frame_data, frame_is_text, frame_size};
+ghost use Rattle.qs_data.specs.declared.read.nested.Frame.TheVariants as frame;
 
 use crate::data::Data;
 use crate::read::error::Result;
-use crate::read::fault::Fault;
 use crate::read::items::{Items, are_numbers};
 use crate::read::key::read_key;
+use crate::read::message::Message;
 use crate::read::scalar::text_data;
 use crate::shape::KeyShape;
 use qs_tree::{ParsedMap, ParsedValue};
@@ -27,22 +27,22 @@ use std::mem;
 
 /// A node that is visited.
 #[derive(Drop)]
-pub(crate) enum Node<'t, 'qs> {
+pub(crate) enum Visited<'t, 'qs> {
     /// A leaf, which is read at once.
     Leaf(Data),
     /// A list or a map, of which nothing is read yet.
-    Inner(Level<'t, 'qs>),
+    Inner(Frame<'t, 'qs>),
 }
 
 /// A list or a map of which a first part is read.
 #[derive(Drop)]
-pub(crate) enum Level<'t, 'qs> {
-    List(ListLevel<'t, 'qs>),
-    Map(MapLevel<'t, 'qs>),
+pub(crate) enum Frame<'t, 'qs> {
+    List(ListFrame<'t, 'qs>),
+    Map(MapFrame<'t, 'qs>),
 }
 
 /// A list of which the first items are read.
-pub(crate) struct ListLevel<'t, 'qs> {
+pub(crate) struct ListFrame<'t, 'qs> {
     items: Items<'t, 'qs>,
     /// The place of the first item that wasn't visited.
     next: usize,
@@ -50,7 +50,7 @@ pub(crate) struct ListLevel<'t, 'qs> {
 }
 
 /// A map of which the first entries are read.
-pub(crate) struct MapLevel<'t, 'qs> {
+pub(crate) struct MapFrame<'t, 'qs> {
     entries: &'t ParsedMap<'qs>,
     /// The place of the first entry that wasn't visited.
     next: usize,
@@ -61,36 +61,36 @@ pub(crate) struct MapLevel<'t, 'qs> {
 
 /// Reads a leaf, or begins a list or a map. A text is copied, which allocates, as the message of a fault does; nothing else does.
 #[tactic(auto, unfolding(qs_spec::specs::internal::ReadFunction::any_data))]
-pub(crate) fn visit<'t, 'qs>(alloc: Global, value: &'t ParsedValue<'qs>) -> Result<Node<'t, 'qs>>
+pub(crate) fn visit<'t, 'qs>(alloc: Global, value: &'t ParsedValue<'qs>) -> Result<Visited<'t, 'qs>>
     ensures { Visits result (tree_of value.now) }
 {
     match value {
-        ParsedValue::Uninitialized => Err(Fault::Uninitialized.error(alloc)),
-        ParsedValue::NoValue => Ok(Node::Leaf(Data::Unit)),
-        ParsedValue::Null => Ok(Node::Leaf(Data::Text(String::new(alloc)))),
-        ParsedValue::String(text) => Ok(Node::Leaf(text_data(alloc, text.as_slice())?)),
+        ParsedValue::Uninitialized => Err(Message::Uninitialized.error(alloc)),
+        ParsedValue::NoValue => Ok(Visited::Leaf(Data::Unit)),
+        ParsedValue::Null => Ok(Visited::Leaf(Data::Text(String::new(alloc)))),
+        ParsedValue::String(text) => Ok(Visited::Leaf(text_data(alloc, text.as_slice())?)),
         ParsedValue::Sequence(values) => {
-            Ok(Node::Inner(Level::list(alloc, Items::Sequence(values))))
+            Ok(Visited::Inner(Frame::list(alloc, Items::Sequence(values))))
         }
         ParsedValue::Map(map) => {
             let is_list = are_numbers(map);
             if is_list {
-                Ok(Node::Inner(Level::list(alloc, Items::Places(map))))
+                Ok(Visited::Inner(Frame::list(alloc, Items::Places(map))))
             } else {
-                Ok(Node::Inner(Level::map(alloc, map)))
+                Ok(Visited::Inner(Frame::map(alloc, map)))
             }
         }
     }
 }
 
-impl<'t, 'qs> Level<'t, 'qs> {
+impl<'t, 'qs> Frame<'t, 'qs> {
     // A list of which nothing is read yet.
     fn list(alloc: Global, items: Items<'t, 'qs>) -> Self
-        ensures value { level_data result ≡ option_map (λ ds. sequence (values_of ds)) (read_each any_data (items_in items.entry)) }
-        ensures text { level_is_text result ≡ are_text (items_in items.entry) }
-        ensures size { level_size result ≡ list_size (items_in items.entry) }
+        ensures value { frame_data result ≡ option_map (λ ds. sequence (values_of ds)) (read_each any_data (items_in items.entry)) }
+        ensures text { frame_is_text result ≡ are_text (items_in items.entry) }
+        ensures size { frame_size result ≡ list_size (items_in items.entry) }
     {
-        Level::List(ListLevel {
+        Frame::List(ListFrame {
             items,
             next: 0,
             values: Vec::new(alloc),
@@ -99,11 +99,11 @@ impl<'t, 'qs> Level<'t, 'qs> {
 
     // A map of which nothing is read yet.
     fn map(alloc: Global, entries: &'t ParsedMap<'qs>) -> Self
-        ensures value { level_data result ≡ option_map (λ ps. mapping (pairs_of ps)) (read_pairs text any_data (entries_of_map entries.now)) }
-        ensures text { level_is_text result ≡ entries_are_text (entries_of_map entries.now) }
-        ensures size { level_size result ≡ entries_size (entries_of_map entries.now) }
+        ensures value { frame_data result ≡ option_map (λ ps. mapping (pairs_of ps)) (read_pairs text any_data (entries_of_map entries.now)) }
+        ensures text { frame_is_text result ≡ entries_are_text (entries_of_map entries.now) }
+        ensures size { frame_size result ≡ entries_size (entries_of_map entries.now) }
     {
-        Level::Map(MapLevel {
+        Frame::Map(MapFrame {
             entries,
             next: 0,
             key: Data::Unit,
@@ -111,24 +111,24 @@ impl<'t, 'qs> Level<'t, 'qs> {
         })
     }
 
-    /// Reads leaves up to the next list or map, and returns that; nothing where the level ends.
-    pub fn advance(&mut self, alloc: Global) -> Result<Option<Level<'t, 'qs>>>
+    /// Reads leaves up to the next list or map, and returns that; nothing where the frame ends.
+    pub fn advance(&mut self, alloc: Global) -> Result<Option<Frame<'t, 'qs>>>
         ensures { Advances result self.old self.new }
     {
         match self {
-            Level::List(list) => list.advance(alloc),
-            Level::Map(map) => map.advance(alloc),
+            Frame::List(list) => list.advance(alloc),
+            Frame::Map(map) => map.advance(alloc),
         }
     }
 
-    /// Adds what the list or map that came last was read as.
+    /// Extends what the list or map that came last was read as.
     pub fn add(&mut self, value: Data) -> Result<()>
-        ensures ok { OnOk result (Adds (data_of value) self.old self.new) }
+        ensures ok { OnOk result (Extends (data_of value) self.old self.new) }
         ensures err { IfErr result (λ e. e ≡ OutOfMemory) }
     {
         match self {
-            Level::List(list) => list.add(value),
-            Level::Map(map) => map.add(value),
+            Frame::List(list) => list.add(value),
+            Frame::Map(map) => map.add(value),
         }
     }
 
@@ -137,13 +137,13 @@ impl<'t, 'qs> Level<'t, 'qs> {
         ensures { data_of result ≡ done_of self.entry }
     {
         match self {
-            Level::List(list) => Data::Seq(list.into_values()),
-            Level::Map(map) => Data::Map(map.into_pairs()),
+            Frame::List(list) => Data::Seq(list.into_values()),
+            Frame::Map(map) => Data::Map(map.into_pairs()),
         }
     }
 }
 
-impl Drop for ListLevel<'_, '_> {
+impl Drop for ListFrame<'_, '_> {
     // What is dropped after a fault may be nested deep.
     fn drop(self) {
         for value in self.into_values() {
@@ -152,7 +152,7 @@ impl Drop for ListLevel<'_, '_> {
     }
 }
 
-impl Drop for MapLevel<'_, '_> {
+impl Drop for MapFrame<'_, '_> {
     fn drop(self) {
         for (_key, value) in self.into_pairs() {
             value.discard();
@@ -160,12 +160,12 @@ impl Drop for MapLevel<'_, '_> {
     }
 }
 
-impl<'t, 'qs> ListLevel<'t, 'qs> {
+impl<'t, 'qs> ListFrame<'t, 'qs> {
     // What was read.
     fn into_values(self) -> Vec<Data>
         ensures { result ≡ self.entry.values }
     {
-        let ListLevel {
+        let ListFrame {
             items: _items,
             next: _next,
             values,
@@ -174,27 +174,27 @@ impl<'t, 'qs> ListLevel<'t, 'qs> {
     }
 
     // Reads leaves up to the next list or map.
-    fn advance(&mut self, alloc: Global) -> Result<Option<Level<'t, 'qs>>>
-        ensures { Advances result (level.List self.old) (level.List self.new) }
+    fn advance(&mut self, alloc: Global) -> Result<Option<Frame<'t, 'qs>>>
+        ensures { Advances result (frame.List self.old) (frame.List self.new) }
     {
         for place in self.next..self.items.len() {
             let Some(item) = self.items.at(alloc, place)? else {
                 break;
             };
             match visit(alloc, item)? {
-                Node::Leaf(data) => self.values.push(data)?,
-                Node::Inner(level) => {
+                Visited::Leaf(data) => self.values.push(data)?,
+                Visited::Inner(frame) => {
                     self.next = place + 1;
-                    return Ok(Some(level));
+                    return Ok(Some(frame));
                 }
             }
         }
         Ok(None)
     }
 
-    // Adds one more value.
+    // Extends one more value.
     fn add(&mut self, value: Data) -> Result<()>
-        ensures ok { OnOk result (Adds (data_of value) (level.List self.old) (level.List self.new)) }
+        ensures ok { OnOk result (Extends (data_of value) (frame.List self.old) (frame.List self.new)) }
         ensures err { IfErr result (λ e. e ≡ OutOfMemory) }
     {
         self.values.push(value)?;
@@ -202,12 +202,12 @@ impl<'t, 'qs> ListLevel<'t, 'qs> {
     }
 }
 
-impl<'t, 'qs> MapLevel<'t, 'qs> {
+impl<'t, 'qs> MapFrame<'t, 'qs> {
     // What was read.
     fn into_pairs(self) -> Vec<(Data, Data)>
         ensures { result ≡ self.entry.pairs }
     {
-        let MapLevel {
+        let MapFrame {
             entries: _entries,
             next: _next,
             key: _key,
@@ -217,8 +217,8 @@ impl<'t, 'qs> MapLevel<'t, 'qs> {
     }
 
     // Reads leaves up to the next list or map, their keys as texts.
-    fn advance(&mut self, alloc: Global) -> Result<Option<Level<'t, 'qs>>>
-        ensures { Advances result (level.Map self.old) (level.Map self.new) }
+    fn advance(&mut self, alloc: Global) -> Result<Option<Frame<'t, 'qs>>>
+        ensures { Advances result (frame.Map self.old) (frame.Map self.new) }
     {
         for place in self.next..self.entries.len() {
             let Some((key, value)) = self.entries.at(place) else {
@@ -226,10 +226,10 @@ impl<'t, 'qs> MapLevel<'t, 'qs> {
             };
             let key = read_key(alloc, &KeyShape::Text, key)?;
             match visit(alloc, value)? {
-                Node::Leaf(data) => self.pairs.push((key, data))?,
-                Node::Inner(level) => {
-                    self.wait(place + 1, key);
-                    return Ok(Some(level));
+                Visited::Leaf(data) => self.pairs.push((key, data))?,
+                Visited::Inner(frame) => {
+                    self.keep_key(place + 1, key);
+                    return Ok(Some(frame));
                 }
             }
         }
@@ -237,7 +237,7 @@ impl<'t, 'qs> MapLevel<'t, 'qs> {
     }
 
     // Keeps the key of a list or map until that is read, and the place after it.
-    fn wait(&mut self, next: usize, key: Data)
+    fn keep_key(&mut self, next: usize, key: Data)
         ensures entries { self.new.entries ≡ self.old.entries }
         ensures next { self.new.next ≡ next }
         ensures key { self.new.key ≡ key }
@@ -247,9 +247,9 @@ impl<'t, 'qs> MapLevel<'t, 'qs> {
         self.key = key;
     }
 
-    // Adds the value of the key that waits.
+    // Extends the value of the key that waits.
     fn add(&mut self, value: Data) -> Result<()>
-        ensures ok { OnOk result (Adds (data_of value) (level.Map self.old) (level.Map self.new)) }
+        ensures ok { OnOk result (Extends (data_of value) (frame.Map self.old) (frame.Map self.new)) }
         ensures err { IfErr result (λ e. e ≡ OutOfMemory) }
     {
         let key = mem::replace(&mut self.key, Data::Unit);

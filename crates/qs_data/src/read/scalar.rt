@@ -7,33 +7,33 @@ ghost use Rattle.qs_spec.specs.Scalar.{boolean_data, unsigned_data, signed_data,
 ghost use Rattle.qs_spec.specs.Node.{last_item, item_text};
 ghost use Rattle.qs_spec.specs.internal.ReadFunction.{read_scalar, read_unit, read_character};
 ghost use Rattle.qs_tree.specs.tree.Views.{tree_of, items_from};
-ghost use Rattle.qs_data.specs.Views.{data_of};
-ghost use Rattle.qs_data.specs.Text.{is_text};
-ghost use Rattle.qs_data.specs.ReadError.{Gives, IsFrugal};
-ghost use Rattle.qs_data.specs.Widths.{bits_of};
-ghost use Rattle.qs_data.specs.ScalarText.{scalar_text, utf8_text};
+ghost use Rattle.qs_data.specs.data.Views.{data_of};
+ghost use Rattle.qs_data.specs.read.Text.{is_text};
+ghost use Rattle.qs_data.specs.read.internal.ReadError.{ReadGives, ReadIsFrugal};
+ghost use Rattle.qs_data.specs.shape.internal.Widths.{bits_of};
+ghost use Rattle.qs_data.specs.read.internal.SourceText.{source_text, utf8_text};
 ghost use Rattle.std.specs.Prelude.{map};
 
 use crate::data::Data;
 use crate::read::error::{ReadError, Result};
-use crate::read::fault::{Expected, Fault, Kind};
-use crate::read::width::Width;
+use crate::read::message::{Expected, Message, Unexpected};
+use crate::shape::Width;
 use qs_tree::ParsedValue;
 use std::alloc::Global;
 use std::str;
 
 /// Nothing, where there is no value or an empty one.
 pub(crate) fn read_unit(alloc: Global, value: &ParsedValue<'_>) -> Result<Data>
-    ensures gives { Gives data_of (is_text (tree_of value.now)) result (read_unit (tree_of value.now)) }
-    ensures frugal { IsFrugal result (read_unit (tree_of value.now)) }
+    ensures gives { ReadGives data_of (is_text (tree_of value.now)) result (read_unit (tree_of value.now)) }
+    ensures frugal { ReadIsFrugal result (read_unit (tree_of value.now)) }
 {
     match value {
         ParsedValue::NoValue | ParsedValue::Null => Ok(Data::Unit),
         ParsedValue::String(text) => {
             as_text(text.as_slice())?;
-            Err(Fault::mismatch(alloc, value, Expected::Unit))
+            Err(Message::mismatch(alloc, value, Expected::Unit))
         }
-        _ => Err(Fault::mismatch(alloc, value, Expected::Unit)),
+        _ => Err(Message::mismatch(alloc, value, Expected::Unit)),
     }
 }
 
@@ -43,11 +43,11 @@ pub(crate) fn read_bool(
     reject_duplicates: bool,
     value: &ParsedValue<'_>,
 ) -> Result<Data>
-    ensures gives { Gives data_of (is_text (tree_of value.now)) result
+    ensures gives { ReadGives data_of (is_text (tree_of value.now)) result
         (read_scalar reject_duplicates (Some (d.boolean true)) boolean_data (tree_of value.now)) }
-    ensures frugal { IsFrugal result (read_scalar reject_duplicates (Some (d.boolean true)) boolean_data (tree_of value.now)) }
+    ensures frugal { ReadIsFrugal result (read_scalar reject_duplicates (Some (d.boolean true)) boolean_data (tree_of value.now)) }
 {
-    match scalar_text(alloc, reject_duplicates, value, Expected::Bool)? {
+    match source_text(alloc, reject_duplicates, value, Expected::Bool)? {
         Some(bytes) => bool_data(alloc, bytes),
         None => Ok(Data::Bool(true)),
     }
@@ -61,14 +61,14 @@ pub(crate) fn read_unsigned(
     width: Width,
     value: &ParsedValue<'_>,
 ) -> Result<Data>
-    ensures gives { Gives data_of (is_text (tree_of value.now)) result
+    ensures gives { ReadGives data_of (is_text (tree_of value.now)) result
         (read_scalar reject_duplicates None (unsigned_data (bits_of width)) (tree_of value.now)) }
-    ensures frugal { IsFrugal result (read_scalar reject_duplicates None (unsigned_data (bits_of width)) (tree_of value.now)) }
+    ensures frugal { ReadIsFrugal result (read_scalar reject_duplicates None (unsigned_data (bits_of width)) (tree_of value.now)) }
 {
     let expected = Expected::Unsigned(width);
-    match scalar_text(alloc, reject_duplicates, value, expected)? {
+    match source_text(alloc, reject_duplicates, value, expected)? {
         Some(bytes) => unsigned_data(alloc, width, bytes),
-        None => Err(Fault::mismatch(alloc, value, expected)),
+        None => Err(Message::mismatch(alloc, value, expected)),
     }
 }
 
@@ -80,25 +80,25 @@ pub(crate) fn read_signed(
     width: Width,
     value: &ParsedValue<'_>,
 ) -> Result<Data>
-    ensures gives { Gives data_of (is_text (tree_of value.now)) result
+    ensures gives { ReadGives data_of (is_text (tree_of value.now)) result
         (read_scalar reject_duplicates None (signed_data (bits_of width)) (tree_of value.now)) }
-    ensures frugal { IsFrugal result (read_scalar reject_duplicates None (signed_data (bits_of width)) (tree_of value.now)) }
+    ensures frugal { ReadIsFrugal result (read_scalar reject_duplicates None (signed_data (bits_of width)) (tree_of value.now)) }
 {
     let expected = Expected::Signed(width);
-    match scalar_text(alloc, reject_duplicates, value, expected)? {
+    match source_text(alloc, reject_duplicates, value, expected)? {
         Some(bytes) => signed_data(alloc, width, bytes),
-        None => Err(Fault::mismatch(alloc, value, expected)),
+        None => Err(Message::mismatch(alloc, value, expected)),
     }
 }
 
 /// A character: a text of just one.
 pub(crate) fn read_char(alloc: Global, value: &ParsedValue<'_>) -> Result<Data>
-    ensures gives { Gives data_of (is_text (tree_of value.now)) result (read_character (tree_of value.now)) }
-    ensures frugal { IsFrugal result (read_character (tree_of value.now)) }
+    ensures gives { ReadGives data_of (is_text (tree_of value.now)) result (read_character (tree_of value.now)) }
+    ensures frugal { ReadIsFrugal result (read_character (tree_of value.now)) }
 {
     match value {
         ParsedValue::String(text) => char_data(alloc, text.as_slice()),
-        _ => Err(Fault::mismatch(alloc, value, Expected::Char)),
+        _ => Err(Message::mismatch(alloc, value, Expected::Char)),
     }
 }
 
@@ -108,9 +108,9 @@ pub(crate) fn read_text(
     reject_duplicates: bool,
     value: &ParsedValue<'_>,
 ) -> Result<Data>
-    ensures { Gives data_of (is_text (tree_of value.now)) result (read_scalar reject_duplicates (Some (d.text [])) text_data (tree_of value.now)) }
+    ensures { ReadGives data_of (is_text (tree_of value.now)) result (read_scalar reject_duplicates (Some (d.text [])) text_data (tree_of value.now)) }
 {
-    match scalar_text(alloc, reject_duplicates, value, Expected::Text)? {
+    match source_text(alloc, reject_duplicates, value, Expected::Text)? {
         Some(bytes) => text_data(alloc, bytes),
         None => Ok(Data::Text(String::new(alloc))),
     }
@@ -122,10 +122,10 @@ pub(crate) fn read_bytes(
     reject_duplicates: bool,
     value: &ParsedValue<'_>,
 ) -> Result<Data>
-    ensures { Gives data_of (is_text (tree_of value.now)) result
+    ensures { ReadGives data_of (is_text (tree_of value.now)) result
         (read_scalar reject_duplicates (Some (d.bytes [])) (λ b. Some (d.bytes b)) (tree_of value.now)) }
 {
-    match scalar_text(alloc, reject_duplicates, value, Expected::Bytes)? {
+    match source_text(alloc, reject_duplicates, value, Expected::Bytes)? {
         Some(bytes) => Ok(Data::Bytes(Vec::from_slice(alloc, bytes)?)),
         None => Ok(Data::Bytes(Vec::new(alloc))),
     }
@@ -133,14 +133,14 @@ pub(crate) fn read_bytes(
 
 // The last text of a node, if it has one; none where there is no value or an empty one.
 #[inline(always)]
-fn scalar_text<'t>(
+fn source_text<'t>(
     alloc: Global,
     reject_duplicates: bool,
     value: &'t ParsedValue<'_>,
     expected: Expected,
 ) -> Result<Option<&'t [u8]>>
-    ensures gives { Gives (option_map (λ b. b.now)) true result (scalar_text reject_duplicates (tree_of value.now)) }
-    ensures frugal { IsFrugal result (scalar_text reject_duplicates (tree_of value.now)) }
+    ensures gives { ReadGives (option_map (λ b. b.now)) true result (source_text reject_duplicates (tree_of value.now)) }
+    ensures frugal { ReadIsFrugal result (source_text reject_duplicates (tree_of value.now)) }
 {
     match value {
         ParsedValue::NoValue | ParsedValue::Null => Ok(None),
@@ -151,7 +151,7 @@ fn scalar_text<'t>(
             items,
             expected,
         )?)),
-        ParsedValue::Map(_) | ParsedValue::Uninitialized => Err(Fault::mismatch(
+        ParsedValue::Map(_) | ParsedValue::Uninitialized => Err(Message::mismatch(
             alloc, value, expected,
         )),
     }
@@ -164,36 +164,36 @@ fn last_text<'t>(
     items: &'t [ParsedValue<'_>],
     expected: Expected,
 ) -> Result<&'t [u8]>
-    ensures gives { Gives (λ b. b.now) true result (last_item reject_duplicates (items_from (map tree_of items.now))) }
-    ensures frugal { IsFrugal result (last_item reject_duplicates (items_from (map tree_of items.now))) }
+    ensures gives { ReadGives (λ b. b.now) true result (last_item reject_duplicates (items_from (map tree_of items.now))) }
+    ensures frugal { ReadIsFrugal result (last_item reject_duplicates (items_from (map tree_of items.now))) }
 {
     let Some(last) = items.last() else {
-        let found = Kind::Sequence;
-        return Err(Fault::InvalidType { found, expected }.error(alloc));
+        let found = Unexpected::Sequence;
+        return Err(Message::InvalidType { found, expected }.error(alloc));
     };
     if reject_duplicates && items.len() > 1 {
-        return Err(Fault::SeveralValues.error(alloc));
+        return Err(Message::SeveralValues.error(alloc));
     }
     item_text(alloc, last, expected)
 }
 
 // The text of an item, which is empty where there is no value or an empty one.
 fn item_text<'t>(alloc: Global, value: &'t ParsedValue<'_>, expected: Expected) -> Result<&'t [u8]>
-    ensures gives { Gives (λ b. b.now) true result (item_text (tree_of value.now)) }
-    ensures frugal { IsFrugal result (item_text (tree_of value.now)) }
+    ensures gives { ReadGives (λ b. b.now) true result (item_text (tree_of value.now)) }
+    ensures frugal { ReadIsFrugal result (item_text (tree_of value.now)) }
 {
     match value {
         ParsedValue::NoValue | ParsedValue::Null => Ok(&[]),
         ParsedValue::String(text) => Ok(text.as_slice()),
-        _ => Err(Fault::mismatch(alloc, value, expected)),
+        _ => Err(Message::mismatch(alloc, value, expected)),
     }
 }
 
 /// Bytes as text, where they are UTF-8.
-#[tactic(auto, using(crate::proofs::Refusals::utf8_tests))]
+#[tactic(auto, using(crate::proofs::lemmas::read::Errors::utf8_tests))]
 pub(crate) fn as_text(bytes: &[u8]) -> Result<&str>
-    ensures gives { Gives (λ s. s.now) (is_utf8 bytes.now) result (utf8_text bytes.now) }
-    ensures frugal { IsFrugal result (utf8_text bytes.now) }
+    ensures gives { ReadGives (λ s. s.now) (is_utf8 bytes.now) result (utf8_text bytes.now) }
+    ensures frugal { ReadIsFrugal result (utf8_text bytes.now) }
 {
     match str::from_utf8(bytes) {
         Ok(text) => Ok(text),
@@ -203,53 +203,53 @@ pub(crate) fn as_text(bytes: &[u8]) -> Result<&str>
 
 /// The boolean that a text stands for.
 pub(crate) fn bool_data(alloc: Global, bytes: &[u8]) -> Result<Data>
-    ensures gives { Gives data_of (is_utf8 bytes.now) result (boolean_data bytes.now) }
-    ensures frugal { IsFrugal result (boolean_data bytes.now) }
+    ensures gives { ReadGives data_of (is_utf8 bytes.now) result (boolean_data bytes.now) }
+    ensures frugal { ReadIsFrugal result (boolean_data bytes.now) }
 {
     match as_text(bytes)?.parse::<bool>() {
         Ok(value) => Ok(Data::Bool(value)),
-        Err(_) => Err(Fault::unreadable(alloc, Expected::Bool)),
+        Err(_) => Err(Message::unreadable(alloc, Expected::Bool)),
     }
 }
 
 /// The unsigned number that a text stands for: digits, and a `+` before them or none.
 #[inline(always)]
 pub(crate) fn unsigned_data(alloc: Global, width: Width, bytes: &[u8]) -> Result<Data>
-    ensures gives { Gives data_of (is_utf8 bytes.now) result (unsigned_data (bits_of width) bytes.now) }
-    ensures frugal { IsFrugal result (unsigned_data (bits_of width) bytes.now) }
+    ensures gives { ReadGives data_of (is_utf8 bytes.now) result (unsigned_data (bits_of width) bytes.now) }
+    ensures frugal { ReadIsFrugal result (unsigned_data (bits_of width) bytes.now) }
 {
     match unsigned(width, as_text(bytes)?) {
         Some(number) => Ok(Data::Unsigned(number)),
-        None => Err(Fault::unreadable(alloc, Expected::Unsigned(width))),
+        None => Err(Message::unreadable(alloc, Expected::Unsigned(width))),
     }
 }
 
 /// The signed number that a text stands for: digits, and a `+` or a `-` before them or none.
 #[inline(always)]
 pub(crate) fn signed_data(alloc: Global, width: Width, bytes: &[u8]) -> Result<Data>
-    ensures gives { Gives data_of (is_utf8 bytes.now) result (signed_data (bits_of width) bytes.now) }
-    ensures frugal { IsFrugal result (signed_data (bits_of width) bytes.now) }
+    ensures gives { ReadGives data_of (is_utf8 bytes.now) result (signed_data (bits_of width) bytes.now) }
+    ensures frugal { ReadIsFrugal result (signed_data (bits_of width) bytes.now) }
 {
     match signed(width, as_text(bytes)?) {
         Some(number) => Ok(Data::Signed(number)),
-        None => Err(Fault::unreadable(alloc, Expected::Signed(width))),
+        None => Err(Message::unreadable(alloc, Expected::Signed(width))),
     }
 }
 
 /// The one character of a text.
 pub(crate) fn char_data(alloc: Global, bytes: &[u8]) -> Result<Data>
-    ensures gives { Gives data_of (is_utf8 bytes.now) result (character_data bytes.now) }
-    ensures frugal { IsFrugal result (character_data bytes.now) }
+    ensures gives { ReadGives data_of (is_utf8 bytes.now) result (character_data bytes.now) }
+    ensures frugal { ReadIsFrugal result (character_data bytes.now) }
 {
     match as_text(bytes)?.parse::<char>() {
         Ok(character) => Ok(Data::Char(character)),
-        Err(_) => Err(Fault::unreadable(alloc, Expected::Char)),
+        Err(_) => Err(Message::unreadable(alloc, Expected::Char)),
     }
 }
 
 /// A text, which must be UTF-8.
 pub(crate) fn text_data(alloc: Global, bytes: &[u8]) -> Result<Data>
-    ensures { Gives data_of (is_utf8 bytes.now) result (text_data bytes.now) }
+    ensures { ReadGives data_of (is_utf8 bytes.now) result (text_data bytes.now) }
 {
     let text = as_text(bytes)?;
     Ok(Data::Text(String::from_str(alloc, text)?))

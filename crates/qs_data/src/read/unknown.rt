@@ -6,18 +6,17 @@ ghost use Rattle.qs_spec.specs.Segment.{segment_text};
 ghost use Rattle.qs_spec.specs.Shape.{are_ignored, is_field_name};
 ghost use Rattle.qs_spec.specs.Node.{keys_are_names};
 ghost use Rattle.qs_tree.specs.tree.Views.{entries_of_map, segment_of_key};
-ghost use Rattle.qs_data.specs.Views.{fields_in};
-ghost use Rattle.qs_data.specs.Text.{entries_are_text};
-ghost use Rattle.qs_data.specs.Gives.{when};
-ghost use Rattle.qs_data.specs.ReadError.{Gives};
-ghost use Rattle.qs_data.specs.Keys.{entries_of, unknown_of};
+ghost use Rattle.qs_data.specs.shape.Views.{fields_in};
+ghost use Rattle.qs_data.specs.read.Text.{entries_are_text};
+ghost use Rattle.qs_data.specs.read.internal.Keys.{when};
+ghost use Rattle.qs_data.specs.read.internal.ReadError.{ReadGives};
+ghost use Rattle.qs_data.specs.read.internal.Keys.{entries_of, unknown_of};
 
-use crate::distinct::is_field_name;
 use crate::read::error::Result;
-use crate::read::fault::{Fault, of_key};
 use crate::read::keys::Entries;
+use crate::read::message::{Message, key_error};
 use crate::read::scalar::as_text;
-use crate::shape::Field;
+use crate::shape::{Field, is_field_name};
 use itoa::Buffer;
 use qs_tree::{Key, ParsedMap};
 use std::alloc::Global;
@@ -40,7 +39,7 @@ impl UnknownKeys {
         entries: Entries<'_, '_>,
     ) -> Result<()>
         ensures { let es = entries_of entries.entry in
-            Gives (λ _. tt) (entries_are_text es) result (when (keys_are_names (fields_in fields.now) es || are_ignored (unknown_of self))) }
+            ReadGives (λ _. tt) (entries_are_text es) result (when (keys_are_names (fields_in fields.now) es || are_ignored (unknown_of self))) }
     {
         match (self, entries) {
             (UnknownKeys::Ignored, _) | (_, Entries::Empty) => Ok(()),
@@ -53,7 +52,7 @@ impl UnknownKeys {
 // Whether all keys of a map are names, or the error of the first that isn't.
 fn test_map(alloc: Global, fields: &[Field], map: &ParsedMap<'_>) -> Result<()>
     ensures { let es = entries_of_map map.now in
-        Gives (λ _. tt) (entries_are_text es) result (when (keys_are_names (fields_in fields.now) es)) }
+        ReadGives (λ _. tt) (entries_are_text es) result (when (keys_are_names (fields_in fields.now) es)) }
 {
     for i in 0..map.len() {
         let Some((key, _)) = map.at(i) else {
@@ -67,7 +66,7 @@ fn test_map(alloc: Global, fields: &[Field], map: &ParsedMap<'_>) -> Result<()>
 // Whether the text of a key is a name.
 fn test_key(alloc: Global, fields: &[Field], key: &Key<'_>) -> Result<()>
     ensures { let name = segment_text (segment_of_key key.now) in
-        Gives (λ _. tt) (is_utf8 name) result (when (is_field_name name (fields_in fields.now))) }
+        ReadGives (λ _. tt) (is_utf8 name) result (when (is_field_name name (fields_in fields.now))) }
 {
     match key {
         Key::Int(number) => {
@@ -80,14 +79,14 @@ fn test_key(alloc: Global, fields: &[Field], key: &Key<'_>) -> Result<()>
 
 // Whether a text is a name.
 fn test_name(alloc: Global, fields: &[Field], name: &[u8]) -> Result<()>
-    ensures { Gives (λ _. tt) (is_utf8 name.now) result (when (is_field_name name.now (fields_in fields.now))) }
+    ensures { ReadGives (λ _. tt) (is_utf8 name.now) result (when (is_field_name name.now (fields_in fields.now))) }
 {
     if is_field_name(fields, name) {
         return Ok(());
     }
     let error = match as_text(name) {
-        Ok(text) => Fault::UnknownField(text).error(alloc),
+        Ok(text) => Message::UnknownField(text).error(alloc),
         Err(error) => error,
     };
-    Err(of_key(alloc, name, error))
+    Err(key_error(alloc, name, error))
 }

@@ -8,19 +8,20 @@ ghost use Rattle.qs_spec.specs.Tree.Tree.{mapping};
 ghost use Rattle.qs_spec.specs.Node.{keys_are_allowed, as_map};
 ghost use Rattle.qs_spec.specs.internal.ReadFunction.{read_enum, reads_names, reads_places, reads_variant, reads_kind, struct_members, unit_variant_data};
 ghost use Rattle.qs_tree.specs.tree.Views.{tree_of, entries_of_map, segment_of_key};
-ghost use Rattle.qs_data.specs.Views.{data_of, fields_in, named, variant_of, variants_in};
-ghost use Rattle.qs_data.specs.Text.{is_text, entries_are_text};
-ghost use Rattle.qs_data.specs.ReadError.{Gives};
-ghost use Rattle.qs_data.specs.Keys.{unknown_of};
-ghost use Rattle.qs_data.specs.Variants.{variant_named};
+ghost use Rattle.qs_data.specs.data.Views.{data_of, named};
+ghost use Rattle.qs_data.specs.shape.Views.{fields_in, variant_of, variants_in};
+ghost use Rattle.qs_data.specs.read.Text.{is_text, entries_are_text};
+ghost use Rattle.qs_data.specs.read.internal.ReadError.{ReadGives};
+ghost use Rattle.qs_data.specs.read.internal.Keys.{unknown_of};
+ghost use Rattle.qs_data.specs.shape.Variants.{variant_named};
 
 use crate::data::Data;
+use crate::read::by_shape::read_node;
 use crate::read::error::Result;
-use crate::read::fault::{Expected, Fault, Kind};
 use crate::read::fields::{read_entries, read_struct};
 use crate::read::keys::Entries;
 use crate::read::lists::read_tuple;
-use crate::read::read_node;
+use crate::read::message::{Expected, Message, Unexpected};
 use crate::read::scalar::as_text;
 use crate::read::unknown::UnknownKeys;
 use crate::shape::{Field, Variant, VariantKind};
@@ -38,18 +39,18 @@ pub(crate) fn read_enum(
     value: &ParsedValue<'_>,
 ) -> Result<Data>
     ensures { let vs = variants_in variants.now.items in
-        Gives data_of (is_text (tree_of value.now)) result (read_enum vs (reads_variant reject_duplicates vs) (tree_of value.now)) }
+        ReadGives data_of (is_text (tree_of value.now)) result (read_enum vs (reads_variant reject_duplicates vs) (tree_of value.now)) }
 {
     match value {
         ParsedValue::String(text) => read_name(alloc, variants, text.as_slice()),
         ParsedValue::Map(map) => read_least(alloc, reject_duplicates, variants, map),
-        _ => Err(Fault::mismatch(alloc, value, Expected::Enum)),
+        _ => Err(Message::mismatch(alloc, value, Expected::Enum)),
     }
 }
 
 // The unit variant of a name.
 fn read_name(alloc: Global, variants: &[Variant], name: &[u8]) -> Result<Data>
-    ensures { Gives data_of (is_utf8 name.now) result (unit_variant_data (variants_in variants.now) name.now) }
+    ensures { ReadGives data_of (is_utf8 name.now) result (unit_variant_data (variants_in variants.now) name.now) }
 {
     let place = place_of(alloc, variants, name)?;
     let variant = &variants[place];
@@ -60,8 +61,8 @@ fn read_name(alloc: Global, variants: &[Variant], name: &[u8]) -> Result<Data>
         VariantKind::Struct(_) => Expected::StructVariant,
         VariantKind::StrictStruct(_) => Expected::StructVariant,
     };
-    let found = Kind::UnitVariant;
-    Err(Fault::InvalidType { found, expected }.error(alloc))
+    let found = Unexpected::UnitVariant;
+    Err(Message::InvalidType { found, expected }.error(alloc))
 }
 
 // The variant that the smallest key of a map names, of the value there. The other keys are passed over.
@@ -74,12 +75,12 @@ fn read_least(
     map: &ParsedMap<'_>,
 ) -> Result<Data>
     ensures { let vs = variants_in variants.now.items in let es = entries_of_map map.now in
-        Gives data_of (entries_are_text es) result (read_enum vs (reads_variant reject_duplicates vs) (mapping es)) }
+        ReadGives data_of (entries_are_text es) result (read_enum vs (reads_variant reject_duplicates vs) (mapping es)) }
 {
     let Some((key, value)) = map.at(0) else {
-        let found = Kind::Map;
+        let found = Unexpected::Map;
         let expected = Expected::Enum;
-        return Err(Fault::InvalidType { found, expected }.error(alloc));
+        return Err(Message::InvalidType { found, expected }.error(alloc));
     };
     let place = place_of_key(alloc, variants, key)?;
     read_variant(alloc, reject_duplicates, &variants[place], value)
@@ -89,7 +90,7 @@ fn read_least(
 fn place_of_key(alloc: Global, variants: &[Variant], key: &Key<'_>) -> Result<usize>
     ensures place { IfOk result (λ i. i < length variants.now) }
     ensures named { let name = segment_text (segment_of_key key.now) in
-        Gives (λ i. option_map variant_of (slice_get variants.now i)) (is_utf8 name) result
+        ReadGives (λ i. option_map variant_of (slice_get variants.now i)) (is_utf8 name) result
         (option_map Some (variant_named name (variants_in variants.now))) }
 {
     match key {
@@ -104,7 +105,7 @@ fn place_of_key(alloc: Global, variants: &[Variant], key: &Key<'_>) -> Result<us
 // The place of the variant of a name.
 fn place_of(alloc: Global, variants: &[Variant], name: &[u8]) -> Result<usize>
     ensures place { IfOk result (λ i. i < length variants.now) }
-    ensures named { Gives (λ i. option_map variant_of (slice_get variants.now i)) (is_utf8 name.now) result
+    ensures named { ReadGives (λ i. option_map variant_of (slice_get variants.now i)) (is_utf8 name.now) result
         (option_map Some (variant_named name.now (variants_in variants.now))) }
 {
     for (i, variant) in variants.iter().enumerate() {
@@ -112,12 +113,12 @@ fn place_of(alloc: Global, variants: &[Variant], name: &[u8]) -> Result<usize>
             return Ok(i);
         }
     }
-    Err(Fault::UnknownVariant(as_text(name)?).error(alloc))
+    Err(Message::UnknownVariant(as_text(name)?).error(alloc))
 }
 
 // What a variant holds, of the value under its name.
 #[cycle(read)]
-#[tactic(auto, using(crate::proofs::Levels::levels), unfolding(qs_spec::specs::internal::ReadFunction::reads))]
+#[tactic(auto, using(crate::proofs::lemmas::data::Levels::levels), unfolding(qs_spec::specs::internal::ReadFunction::reads))]
 fn read_variant(
     alloc: Global,
     reject_duplicates: bool,
@@ -125,7 +126,7 @@ fn read_variant(
     value: &ParsedValue<'_>,
 ) -> Result<Data>
     ensures { let v = variant_of variant.now in
-        Gives data_of (is_text (tree_of value.now)) result (reads_kind reject_duplicates v.1 v.0 (tree_of value.now)) }
+        ReadGives data_of (is_text (tree_of value.now)) result (reads_kind reject_duplicates v.1 v.0 (tree_of value.now)) }
 {
     let name = variant.name.clone()?;
     match &variant.kind {
@@ -165,7 +166,7 @@ fn read_variant(
 
 #[cycle(read)]
 #[inline(always)]
-#[tactic(auto, using(crate::proofs::Levels::levels), unfolding(qs_spec::specs::internal::ReadFunction::reads))]
+#[tactic(auto, using(crate::proofs::lemmas::data::Levels::levels), unfolding(qs_spec::specs::internal::ReadFunction::reads))]
 fn struct_variant_data(
     alloc: Global,
     reject_duplicates: bool,
@@ -174,7 +175,7 @@ fn struct_variant_data(
     fields: &Vec<Field>,
     value: &ParsedValue<'_>,
 ) -> Result<Data>
-    ensures { Gives data_of (is_text (tree_of value.now)) result
+    ensures { ReadGives data_of (is_text (tree_of value.now)) result
         (reads_kind reject_duplicates (struct_kind (unknown_of unknown) (fields_in fields.now.items)) (string_bytes name) (tree_of value.now)) }
 {
     let members = read_variant_fields(alloc, reject_duplicates, unknown, fields, value)?;
@@ -192,7 +193,7 @@ fn read_variant_fields(
     value: &ParsedValue<'_>,
 ) -> Result<Vec<(String, Data)>>
     ensures { let fs = fields_in fields.now.items in
-        Gives (λ v. map (named data_of) v.items) (is_text (tree_of value.now)) result
+        ReadGives (λ v. map (named data_of) v.items) (is_text (tree_of value.now)) result
         (struct_members (keys_are_allowed (unknown_of unknown) fs) (reads_names reject_duplicates fs) (reads_places reject_duplicates fs) (as_map (tree_of value.now))) }
 {
     match value {

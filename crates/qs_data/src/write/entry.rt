@@ -4,12 +4,13 @@ ghost use Rattle.std.specs.Prelude.{◌≡◌, ◌==◌, ◌||◌, cond, ◌<◌
 ghost use Rattle.qs_spec.specs.Entry.{Path, one};
 ghost use Rattle.std.specs.List.{All};
 ghost use Rattle.qs_spec.specs.Written.{open_bytes, close_bytes, value_text};
-ghost use Rattle.qs_data.specs.Scalars.{scalar_text};
-ghost use Rattle.qs_data.specs.Writes.{IsVisible, IsAt, path_behind, grown, WritesTo};
+ghost use Rattle.qs_data.specs.write.internal.Scalars.{scalar_text};
+ghost use Rattle.qs_data.specs.write.State.{IsVisible};
+ghost use Rattle.qs_data.specs.write.internal.Writes.{IsAt, path_after, grown, WritesTo};
 ghost use Rattle.qs_data.specs.declared.write.stop.Stop.TheVariants.{TooDeep, OutOfMemory};
 
-use crate::sink::{Sink, put_all};
 use crate::write::scalar::Scalar;
+use crate::write::sink::{Sink, put_all};
 use crate::write::stop::Stop;
 use qs_tree::Config;
 use std::alloc::{AllocError, Global};
@@ -70,7 +71,7 @@ impl Walk {
     /// Leaves the last segment; the text was this long before it.
     pub(crate) fn leave(&mut self, len: usize)
         ensures { (form : Bool) (path : Path) (segment : List ℕ) → IsAt form (path ++ segment ∷ []) self.old
-            → len ≡ length (path_behind form path) → IsAt form path self.new }
+            → len ≡ length (path_after form path) → IsAt form path self.new }
     {
         self.text.truncate(len);
         self.depth = self.depth.saturating_sub(1);

@@ -6,9 +6,9 @@ ghost use Rattle.std.specs.List.{All};
 ghost use Rattle.qs_spec.specs.Escape.{encoded};
 ghost use Rattle.qs_spec.specs.Entry.{boolean_text, key_text};
 ghost use Rattle.qs_spec.specs.Listed.{is_empty_text};
-ghost use Rattle.qs_data.specs.Views.{data_of};
-ghost use Rattle.qs_data.specs.Scalars.{scalar_text};
-ghost use Rattle.qs_data.specs.Writes.{IsVisible};
+ghost use Rattle.qs_data.specs.data.Views.{data_of};
+ghost use Rattle.qs_data.specs.write.internal.Scalars.{scalar_text};
+ghost use Rattle.qs_data.specs.write.State.{IsVisible};
 
 use crate::data::Data;
 use itoa::Buffer;
@@ -27,7 +27,7 @@ pub(crate) enum Scalar<'a> {
 
 impl<'a> Scalar<'a> {
     /// The scalar that the data are, where they are one.
-    #[tactic(auto, using(crate::proofs::Levels::levels))]
+    #[tactic(auto, using(crate::proofs::lemmas::data::Levels::levels))]
     pub(crate) fn of(datum: &'a Data) -> Option<Scalar<'a>>
         ensures { option_map scalar_text result ≡ key_text (data_of datum.now) }
     {

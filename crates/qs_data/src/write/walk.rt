@@ -3,15 +3,16 @@
 ghost use Rattle.std.specs.Prelude.{◌≡◌, [], Err};
 ghost use Rattle.qs_spec.specs.Config.{element_segment};
 ghost use Rattle.qs_spec.specs.Entry.{entries, entries_at, elements_from, pair_entries, member_entries, deeper, maybe_deeper};
-ghost use Rattle.qs_data.specs.Views.{data_of, values_in, pairs_in, members_in};
-ghost use Rattle.qs_data.specs.Scalars.{scalar_text};
-ghost use Rattle.qs_data.specs.Writes.{IsAt, Writes, WritesTo, IsBare, text_in};
+ghost use Rattle.qs_data.specs.data.Views.{data_of, values_in, pairs_in, members_in};
+ghost use Rattle.qs_data.specs.write.internal.Scalars.{scalar_text};
+ghost use Rattle.qs_data.specs.write.internal.Writes.{IsAt, Writes, WritesTo, state_in};
+ghost use Rattle.qs_data.specs.write.State.{IsBare};
 ghost use Rattle.qs_data.specs.declared.write.stop.Stop.TheVariants.{OutOfMemory};
 
 use crate::data::Data;
-use crate::sink::Sink;
 use crate::write::entry::{Stream, Walk, put, put_empty};
 use crate::write::scalar::Scalar;
+use crate::write::sink::Sink;
 use crate::write::stop::Stop;
 use qs_tree::{ArrayFormat, Config};
 
@@ -23,7 +24,7 @@ pub(crate) fn write_all<S: Sink>(
     datum: &Data,
 ) -> Result<(), Stop>
     requires { IsAt config.form [] walk.old }
-    ensures writes { Writes result config [] (text_in S.taken S.failed S.writer_name stream.old) (text_in S.taken S.failed S.writer_name stream.new) walk.new
+    ensures writes { Writes result config [] (state_in S.taken S.failed S.writer_name stream.old) (state_in S.taken S.failed S.writer_name stream.new) walk.new
         (entries config (data_of datum.now)) }
     ensures bare { IsBare (data_of datum.now) → result ≡ Err OutOfMemory → ⊥ }
 {
@@ -32,7 +33,7 @@ pub(crate) fn write_all<S: Sink>(
 
 /// Writes the entries of the data at the walk's path.
 #[cycle(write)]
-#[tactic(auto, using(crate::proofs::Levels::levels), unfolding(qs_spec::specs::Entry::entries_at))]
+#[tactic(auto, using(crate::proofs::lemmas::data::Levels::levels), unfolding(qs_spec::specs::Entry::entries_at))]
 fn write_data<'a, S: Sink>(
     stream: &mut Stream<S>,
     walk: &mut Walk,

@@ -11,10 +11,10 @@ use Rattle.qs_spec.specs.Tree.{Tree}
 use Rattle.qs_spec.specs.Tree.Tree.{leaf, sequence, mapping, uninitialized}
 use Rattle.qs_tree.specs.tree.Views.{tree_of, items_from, entries_of_map, segment_of_key, step_of_key}
 use Rattle.qs_tree.specs.declared.tree.value.ParsedValue as value
-use Rattle.qs_data.specs.declared.shape.Shape as shape
-use Rattle.qs_data.specs.declared.shape.Field.{out-Field}
-use Rattle.qs_data.specs.Views.{field_of, fields_in, key_shape_of, shape_of, shapes_in}
-use Rattle.qs_data.proofs.Fields.{field_name, field_optional, field_shape}
+use Rattle.qs_data.specs.declared.shape.shape.Shape as shape
+use Rattle.qs_data.specs.declared.shape.shape.Field.{out-Field}
+use Rattle.qs_data.specs.shape.Views.{field_of, fields_in, key_shape_of, shape_of, shapes_in}
+use Rattle.qs_data.proofs.lemmas.read.Fields.{field_name, field_optional, field_shape}
 use Rattle.qs_explain.specs.Children.{or_missing, item_children, tuple_children, name_child, map_children, listed}
 use Rattle.qs_explain.specs.Parts.{IsRead}
 use Rattle.qs_explain.specs.Explains.{Finds, FindsAmong, FindsBelow, FindsInside, IsBelow, Tests, keys_of, node_of, segment_of}

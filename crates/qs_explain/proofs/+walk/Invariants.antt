@@ -4,8 +4,8 @@ use Rattle.qs_spec.specs.Config.{are_rejected}
 use Rattle.qs_spec.specs.Node.{items}
 use Rattle.qs_spec.specs.Tree.{Tree}
 use Rattle.qs_tree.specs.tree.Views.{tree_of, entries_of_map}
-use Rattle.qs_data.specs.Keys.{entries_after}
-use Rattle.qs_data.specs.Views.{fields_in, shape_of, shapes_in}
+use Rattle.qs_data.specs.read.internal.Keys.{entries_after}
+use Rattle.qs_data.specs.shape.Views.{fields_in, shape_of, shapes_in}
 use Rattle.qs_explain.specs.declared.explanation.Mismatch.{Mismatch}
 use Rattle.qs_explain.specs.Children.{item_children, tuple_children, name_children, pair_children}
 use Rattle.qs_explain.specs.Explains.{FindsAmong, keys_of}

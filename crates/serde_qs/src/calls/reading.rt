@@ -5,9 +5,9 @@ ghost use Rattle.qs_spec.specs.Config.{default};
 ghost use Rattle.qs_spec.specs.Shape.{is_distinct};
 ghost use Rattle.qs_spec.specs.Tree.{IsTree, IsRefused};
 ghost use Rattle.qs_tree.specs.Error.{IsParse, OnlyParseOrOutOfMemory};
-ghost use Rattle.qs_data.specs.Gives.{OnlyCustomUtf8OrOutOfMemory};
-ghost use Rattle.qs_data.specs.Parsed.{ReturnsData, parsed_of};
-ghost use Rattle.qs_data.specs.Views.{shape_of};
+ghost use Rattle.qs_data.specs.read.Errors.{OnlyCustomUtf8OrOutOfMemory};
+ghost use Rattle.qs_data.specs.read.Parsed.{ReturnsData, parsed_of};
+ghost use Rattle.qs_data.specs.shape.Views.{shape_of};
 ghost use Rattle.serde_qs.specs.Typed.{ReturnsValue, ReturnsWritten};
 
 use crate::traits::Deserialize;

@@ -6,7 +6,7 @@ ghost use Rattle.std.specs.Io.KnownBytes.{Appends};
 ghost use Rattle.qs_spec.specs.Config.{default};
 ghost use Rattle.qs_spec.specs.Entry.{entries, too_deep, bad_key};
 ghost use Rattle.qs_tree.specs.Error.{IsTooDeep, IsUnsupported, IsIo, IsOutOfMemory};
-ghost use Rattle.qs_data.specs.Writes.{IsVisible};
+ghost use Rattle.qs_data.specs.write.State.{IsVisible};
 ghost use Rattle.serde_qs.specs.WrittenText.{IsValueWriteError, ReturnsText, WritesValue, memory_for_io, text_of, text_of_first};
 
 use super::lent::Lent;

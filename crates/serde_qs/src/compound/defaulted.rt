@@ -3,7 +3,7 @@
 ghost use Rattle.std.specs.Prelude.{◌≡◌, ℕ, suc, List, ◌++◌, true, map, IfOk};
 ghost use Rattle.qs_spec.specs.Data.{Data as Datum};
 ghost use Rattle.qs_tree.specs.Error.{OnlyOutOfMemory};
-ghost use Rattle.qs_data.specs.Views.{field_of};
+ghost use Rattle.qs_data.specs.shape.Views.{field_of};
 ghost use Rattle.serde_qs.specs.Defaulted.{defaulted_in};
 ghost use Rattle.serde_qs.specs.internal.Defaulted.{defaulted_back};
 ghost use Rattle.serde_qs.specs.internal.Optional.{field_named};

@@ -4,7 +4,7 @@ ghost use Rattle.std.specs.Prelude.{◌≡◌, ℕ, suc, List, [], ◌++◌, Opt
 ghost use Rattle.qs_spec.specs.Data.{Named, Members as Parts};
 ghost use Rattle.qs_spec.specs.Shape.{Field as Spec, are_distinct_fields, fields_of};
 ghost use Rattle.qs_tree.specs.Error.{OnlyOutOfMemory};
-ghost use Rattle.qs_data.specs.Views.{field_of};
+ghost use Rattle.qs_data.specs.shape.Views.{field_of};
 ghost use Rattle.serde_qs.specs.ComesBack.{FieldsComeBack};
 ghost use Rattle.serde_qs.specs.internal.ComesBack.{fields_back, nothing_back};
 ghost use Rattle.serde_qs.specs.Optional.{FieldsAreNamed};

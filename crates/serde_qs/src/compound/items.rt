@@ -4,7 +4,8 @@ ghost use Rattle.std.specs.Prelude.{◌≡◌, List, [], ◌∷◌, ◌++◌, Op
 ghost use Rattle.qs_spec.specs.Data.{Data as Datum, Values};
 ghost use Rattle.qs_spec.specs.Shape.{Shape as Form, are_distinct, shapes_of};
 ghost use Rattle.qs_tree.specs.Error.{OnlyOutOfMemory};
-ghost use Rattle.qs_data.specs.Views.{data_of, shape_of};
+ghost use Rattle.qs_data.specs.data.Views.{data_of};
+ghost use Rattle.qs_data.specs.shape.Views.{shape_of};
 ghost use Rattle.serde_qs.specs.internal.Booleans.{both_true};
 ghost use Rattle.serde_qs.specs.Tuples.{ItemsComeBack, item_in, no_item_in, values_back};
 ghost use Rattle.serde_qs.specs.internal.Tuples.{items_back, no_item_back};

@@ -1,7 +1,7 @@
 //! Fields that may be left out.
 
 ghost use Rattle.std.specs.Prelude.{◌≡◌, ℕ, suc, List, ◌++◌, Option, option_map, true, map, IfOk};
-ghost use Rattle.qs_data.specs.Views.{field_of};
+ghost use Rattle.qs_data.specs.shape.Views.{field_of};
 ghost use Rattle.serde_qs.specs.Optional.{optional_data, optional_in};
 ghost use Rattle.serde_qs.specs.internal.Optional.{optional_back, optional_named};
 ghost use Rattle.serde_qs.specs.Records.{field_form, members_back, others_of, texts};

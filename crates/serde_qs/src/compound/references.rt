@@ -3,7 +3,7 @@
 ghost use Rattle.std.specs.Prelude.{◌≡◌, ℕ, List, [], ◌∷◌, ◌++◌, map, IfOk};
 ghost use Rattle.qs_spec.specs.Data.{Data as Datum, Named};
 ghost use Rattle.qs_tree.specs.Error.{OnlyOutOfMemory};
-ghost use Rattle.qs_data.specs.Views.{data_of, named};
+ghost use Rattle.qs_data.specs.data.Views.{data_of, named};
 ghost use Rattle.serde_qs.specs.Optional.{optional_data};
 ghost use Rattle.serde_qs.specs.Records.{member_data, texts};
 

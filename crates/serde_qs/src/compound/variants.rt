@@ -4,7 +4,8 @@ ghost use Rattle.std.specs.Prelude.{◌≡◌, ℕ, suc, ◌+◌, List, Option, 
 ghost use Rattle.qs_spec.specs.Data.{Data as Datum};
 ghost use Rattle.qs_spec.specs.Shape.{Variant as Spec};
 ghost use Rattle.qs_tree.specs.Error.{OnlyOutOfMemory};
-ghost use Rattle.qs_data.specs.Views.{data_of, variant_of};
+ghost use Rattle.qs_data.specs.data.Views.{data_of};
+ghost use Rattle.qs_data.specs.shape.Views.{variant_of};
 ghost use Rattle.serde_qs.specs.Fits.{name_in};
 ghost use Rattle.serde_qs.specs.Records.{texts};
 ghost use Rattle.serde_qs.specs.Typed.{Means};

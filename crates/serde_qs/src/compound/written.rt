@@ -4,7 +4,7 @@ ghost use Rattle.std.specs.Prelude.{◌≡◌, IfOk};
 ghost use Rattle.qs_spec.specs.Data.{members_of, values_of};
 ghost use Rattle.qs_spec.specs.Data as d;
 ghost use Rattle.qs_tree.specs.Error.{OnlyOutOfMemory};
-ghost use Rattle.qs_data.specs.Views.{data_of};
+ghost use Rattle.qs_data.specs.data.Views.{data_of};
 ghost use Rattle.serde_qs.specs.Records.{texts};
 
 use super::references::{ItemReferences, References};

@@ -3,7 +3,7 @@
 ghost use Rattle.std.specs.Prelude.{◌≡◌, ◌++◌, ℕ, Bool, List, Option, Some, OnOk, OnErr, string_bytes};
 ghost use Rattle.qs_spec.specs.Entry.{boolean_text};
 ghost use Rattle.qs_tree.specs.Error.{OnlyOutOfMemory};
-ghost use Rattle.qs_data.specs.Gives.{IsFault};
+ghost use Rattle.qs_data.specs.read.Errors.{IsCustomOrOutOfMemory};
 ghost use Rattle.serde_qs.specs.Items.{boolean_item};
 ghost use Rattle.serde_qs.specs.Typed.{Means};
 
@@ -47,7 +47,7 @@ pub trait Item: Sized {
 
 // Returns the error of a text that is no item.
 pub(crate) fn invalid(alloc: Global, text: &str) -> Error
-    ensures { IsFault result }
+    ensures { IsCustomOrOutOfMemory result }
 {
     Error::custom(alloc, format_args!("invalid item `{text}`"), &())
 }

@@ -5,7 +5,7 @@ ghost use Rattle.qs_spec.specs.Data as d;
 ghost use Rattle.qs_spec.specs.Shape as s;
 ghost use Rattle.std.specs.declared.vec.Vec.{Vec};
 ghost use Rattle.std.specs.declared.alloc.Global.{Global};
-ghost use Rattle.qs_data.specs.Views.{values_in as values_in_list};
+ghost use Rattle.qs_data.specs.data.Views.{values_in as values_in_list};
 ghost use Rattle.serde_qs.specs.Typed.{Means};
 ghost use Rattle.serde_qs.specs.internal.ComesBack.{sequence_back};
 ghost use Rattle.serde_qs.specs.Meaning.{sequence_in, values_in};

@@ -3,7 +3,7 @@
 ghost use Rattle.std.specs.Prelude.{◌≡◌, List, ℕ, Option, map};
 ghost use Rattle.qs_spec.specs.Data as d;
 ghost use Rattle.qs_spec.specs.Shape as s;
-ghost use Rattle.qs_data.specs.Views.{data_of, pairs_in};
+ghost use Rattle.qs_data.specs.data.Views.{data_of, pairs_in};
 ghost use Rattle.serde_qs.specs.internal.MapsComeBack.{mapping_back};
 ghost use Rattle.serde_qs.specs.Typed.{Means};
 ghost use Rattle.serde_qs.specs.Maps.{entry_data, values_by_text, pair_onto, pairs_onto, mapping_in, nowhere};

@@ -3,7 +3,7 @@
 ghost use Rattle.std.specs.Prelude.{◌≡◌, ◌≤ℤ◌, ℤ, Bool, true, ◌&&◌, IfOk, refl};
 ghost use Rattle.qs_spec.specs.Data as d;
 ghost use Rattle.qs_spec.specs.Shape as s;
-ghost use Rattle.qs_data.specs.Views.{data_of};
+ghost use Rattle.qs_data.specs.data.Views.{data_of};
 ghost use Rattle.serde_qs.specs.internal.ComesBack.{signed_back};
 ghost use Rattle.serde_qs.specs.Fits.{is_signed};
 ghost use Rattle.serde_qs.specs.Meaning.{signed_between, signed_in};

@@ -3,7 +3,7 @@
 ghost use Rattle.std.specs.Prelude.{◌≡◌, ◌≤◌, ℕ, IfOk, refl};
 ghost use Rattle.qs_spec.specs.Data as d;
 ghost use Rattle.qs_spec.specs.Shape as s;
-ghost use Rattle.qs_data.specs.Views.{data_of};
+ghost use Rattle.qs_data.specs.data.Views.{data_of};
 ghost use Rattle.serde_qs.specs.internal.ComesBack.{unsigned_back};
 ghost use Rattle.serde_qs.specs.Meaning.{unsigned_in};
 ghost use Rattle.serde_qs.specs.Typed.{Means};

@@ -1,5 +1,5 @@
 use Rattle.std.proofs.Common.{◌≡◌, ◌+◌, drop}
-use Rattle.qs_data.specs.Views.{values_in, pairs_in, members_in}
+use Rattle.qs_data.specs.data.Views.{values_in, pairs_in, members_in}
 use Rattle.qs_bench.specs.Sizes.{size_of_values, size_of_pairs, size_of_members}
 use Rattle.qs_bench.proofs.loads.+size.Given as goal
 

@@ -1,7 +1,7 @@
 use Rattle.std.proofs.Common.{◌≡◌, ◌+◌, ◌++◌, [], ◌∷◌, ◌∙◌, ap₂, sym, arith}
 use Rattle.std.proofs.lemmas.List.{map_push}
 use Rattle.std.proofs.lemmas.List.FromFn.{map-range_with_len_more}
-use Rattle.qs_data.specs.Views.{data_of, named}
+use Rattle.qs_data.specs.data.Views.{data_of, named}
 use Rattle.qs_bench.specs.Samples as spec
 use Rattle.qs_bench.proofs.samples.fields.Goals as goal
 

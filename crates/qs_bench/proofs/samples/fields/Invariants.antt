@@ -1,6 +1,6 @@
 use Rattle.std.proofs.Common.{◌≡◌, map}
 use Rattle.std.specs.List.{range_with_len}
-use Rattle.qs_data.specs.Views.{data_of, named}
+use Rattle.qs_data.specs.data.Views.{data_of, named}
 use Rattle.qs_bench.specs.Samples as spec
 use Rattle.qs_bench.proofs.samples.fields.Given as goal
 

@@ -1,5 +1,5 @@
 use Rattle.std.proofs.Common.{◌≡◌}
-use Rattle.qs_data.specs.Views.{data_of}
+use Rattle.qs_data.specs.data.Views.{data_of}
 use Rattle.qs_bench.specs.Samples as spec
 use Rattle.qs_bench.proofs.samples.fields_below.Given as goal
 

@@ -2,8 +2,8 @@ use Rattle.std.proofs.Common.{◌≡◌, ◌+◌, ◌++◌, [], ◌∷◌, ◌�
 use Rattle.std.proofs.lemmas.List.{map_push}
 use Rattle.std.proofs.lemmas.List.FromFn.{map-range_with_len_more}
 use Rattle.qs_spec.specs.Data.Data.{unsigned}
-use Rattle.qs_data.specs.Views.{data_of}
-use Rattle.qs_data.specs.declared.data.Data as d
+use Rattle.qs_data.specs.data.Views.{data_of}
+use Rattle.qs_data.specs.declared.data.data.Data as d
 use Rattle.qs_bench.proofs.samples.numbers.Goals as goal
 
 pub loop-number-preserved : goal.loop-number-preserved

@@ -2,11 +2,11 @@ use Rattle.std.proofs.Common.{◌≡◌, ◌+◌, ◌-◌, ◌++◌, [], ◌∷�
 use Rattle.std.proofs.lemmas.Grind.{common_steps}
 use Rattle.std.specs.Str.{bytes_eq}
 use Rattle.qs_spec.specs.Shape as s
-use Rattle.qs_data.specs.declared.shape.Field as f
-use Rattle.qs_data.specs.declared.shape.Shape as r
-use Rattle.qs_data.specs.declared.shape.Variant as v
-use Rattle.qs_data.specs.declared.shape.VariantKind as k
-use Rattle.qs_data.specs.Views.{field_of, key_shape_of, kind_of, shape_of, variant_of}
+use Rattle.qs_data.specs.declared.shape.shape.Field as f
+use Rattle.qs_data.specs.declared.shape.shape.Shape as r
+use Rattle.qs_data.specs.declared.shape.shape.Variant as v
+use Rattle.qs_data.specs.declared.shape.shape.VariantKind as k
+use Rattle.qs_data.specs.shape.Views.{field_of, key_shape_of, kind_of, shape_of, variant_of}
 use Rattle.qs_c.specs.Found.{found, before}
 use Rattle.qs_c.specs.Notation as n
 use Rattle.qs_c.specs.Parses.{Parses}

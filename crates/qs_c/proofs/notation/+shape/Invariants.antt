@@ -1,6 +1,6 @@
 -- A shape that nests n levels deep is parsed by functions in this order, of which the last begins one level below.
 use Rattle.std.proofs.Common.{◌≡◌, ◌+◌, ◌*◌, ◌-◌, map, length}
-use Rattle.qs_data.specs.Views.{field_of, shape_of, variant_of}
+use Rattle.qs_data.specs.shape.Views.{field_of, shape_of, variant_of}
 use Rattle.qs_c.specs.Found.{before}
 use Rattle.qs_c.specs.Notation as n
 use Rattle.qs_c.proofs.notation.+shape.Given as goal

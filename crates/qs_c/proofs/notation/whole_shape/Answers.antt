@@ -1,6 +1,6 @@
 use Rattle.std.proofs.Common.{◌≡◌, true, refl, length, arith}
 use Rattle.qs_spec.specs.Shape.{is_distinct}
-use Rattle.qs_data.specs.Views.{shape_of}
+use Rattle.qs_data.specs.shape.Views.{shape_of}
 use Rattle.qs_c.specs.Notation.{is_empty}
 use Rattle.qs_c.proofs.Found.{cond-true, then-found}
 use Rattle.qs_c.proofs.Listing.{nothing-left}

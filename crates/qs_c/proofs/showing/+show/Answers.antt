@@ -1,8 +1,8 @@
 use Rattle.std.proofs.Common.{◌≡◌, ◌++◌, [], ◌∷◌, OnOk, ap, ◌∙◌, sym, subst, append_assoc, string_bytes, rules}
 use Rattle.json.specs.Token.{begin_object, end_object, key}
 use Rattle.json.specs.Tree.{json_tokens}
-use Rattle.qs_data.specs.Views.{data_of, members_in}
-use Rattle.qs_data.proofs.Levels.{data_of_struct_variant}
+use Rattle.qs_data.specs.data.Views.{data_of, members_in}
+use Rattle.qs_data.proofs.lemmas.data.Levels.{data_of_struct_variant}
 use Rattle.qs_c.specs.Shown.{json_of, members_of, object_tokens}
 use Rattle.qs_c.proofs.showing.+show.Goals as goal
 

@@ -1,6 +1,6 @@
 use Rattle.std.proofs.Common.{◌≡◌, ◌++◌, drop}
 use Rattle.json.specs.Tree.{items_tokens, members_tokens}
-use Rattle.qs_data.specs.Views.{values_in, pairs_in, members_in}
+use Rattle.qs_data.specs.data.Views.{values_in, pairs_in, members_in}
 use Rattle.qs_c.specs.Shown.{items_of, pairs_of, members_of}
 use Rattle.qs_c.proofs.showing.+show.Given as goal
 

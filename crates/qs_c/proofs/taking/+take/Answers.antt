@@ -1,6 +1,6 @@
 use Rattle.std.proofs.Common.{ap, sym, ◌∙◌}
 use Rattle.qs_spec.specs.Data as d
-use Rattle.qs_data.proofs.Levels.{data_of_map}
+use Rattle.qs_data.proofs.lemmas.data.Levels.{data_of_map}
 use Rattle.qs_c.specs.Taken.{item_data}
 use Rattle.qs_c.proofs.Levels.{data_of_array, data_of_list, data_of_object}
 use Rattle.qs_c.proofs.taking.+take.Goals as goal

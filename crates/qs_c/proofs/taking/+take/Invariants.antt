@@ -1,5 +1,5 @@
 use Rattle.std.proofs.Common.{◌≡◌, ◌++◌, map, drop}
-use Rattle.qs_data.specs.Views.{data_of, pair_of}
+use Rattle.qs_data.specs.data.Views.{data_of, pair_of}
 use Rattle.qs_c.specs.Taken.{item_data, member_data}
 use Rattle.qs_c.proofs.taking.+take.Given as goal
 

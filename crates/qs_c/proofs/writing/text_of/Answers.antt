@@ -1,4 +1,4 @@
-use Rattle.qs_data.specs.Views.{data_of}
+use Rattle.qs_data.specs.data.Views.{data_of}
 use Rattle.qs_c.proofs.Unwritten.{unwritten}
 use Rattle.qs_c.proofs.writing.text_of.Goals as goal
 

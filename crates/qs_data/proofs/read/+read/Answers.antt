@@ -10,30 +10,31 @@ use Rattle.qs_spec.specs.Tree.Items.{no_items}
 use Rattle.qs_spec.specs.Node.{found, as_map, under_empty, keys_are_text, keys_are_names, keys_are_allowed, items}
 use Rattle.qs_spec.specs.internal.ReadFunction.{reads, reads_names, reads_places, reads_variant, reads_kind, read_enum, read_option, read_field, read_place, struct_members, read_each, read_list, read_pairs, reads_tuple}
 use Rattle.qs_tree.specs.tree.Views.{tree_of, items_from, entries_of_map, step_of_key}
-use Rattle.qs_data.specs.declared.shape.Shape as shape
-use Rattle.qs_data.specs.declared.shape.Field.{out-Field}
-use Rattle.qs_data.specs.Views.{data_of, named, shape_of, field_of, fields_in, variant_of, variants_in, key_shape_of, pair_of, shapes_in}
-use Rattle.qs_data.specs.Text.{is_text, items_are_text, entries_are_text}
-use Rattle.qs_data.specs.ReadError.{Gives}
-use Rattle.qs_data.specs.Keys.{entries_of, entries_after, unknown_of}
-use Rattle.qs_data.specs.Variants.{variant_named}
-use Rattle.qs_data.proofs.Levels.{data_of_struct, data_of_struct_variant}
-use Rattle.qs_data.proofs.Entries.{after_some, keys_bad, untested}
-use Rattle.qs_data.proofs.Variants.{named_is, enum_none, enum_some, least_key_bad, least_value_bad, text_as_map, under_bad}
-use Rattle.qs_data.proofs.Refusals.{and_left}
-use Rattle.qs_data.proofs.ReadErrors.{gives_exit, gives_as, fault, told_of_key}
+use Rattle.qs_data.specs.declared.shape.shape.Shape as shape
+use Rattle.qs_data.specs.declared.shape.shape.Field.{out-Field}
+use Rattle.qs_data.specs.data.Views.{data_of, named, pair_of}
+use Rattle.qs_data.specs.shape.Views.{shape_of, field_of, fields_in, variant_of, variants_in, key_shape_of, shapes_in}
+use Rattle.qs_data.specs.read.Text.{is_text, items_are_text, entries_are_text}
+use Rattle.qs_data.specs.read.internal.ReadError.{ReadGives}
+use Rattle.qs_data.specs.read.internal.Keys.{entries_of, entries_after, unknown_of}
+use Rattle.qs_data.specs.shape.Variants.{variant_named}
+use Rattle.qs_data.proofs.lemmas.data.Levels.{data_of_struct, data_of_struct_variant}
+use Rattle.qs_data.proofs.lemmas.read.Entries.{after_some, keys_bad, untested}
+use Rattle.qs_data.proofs.lemmas.read.Variants.{named_is, enum_none, enum_some, least_key_bad, least_value_bad, text_as_map, under_bad}
+use Rattle.qs_data.proofs.lemmas.read.Errors.{and_left}
+use Rattle.qs_data.proofs.lemmas.read.ReadErrors.{gives_exit, gives_as, custom, key_error}
 use Rattle.qs_data.specs.declared.read.error.ReadError.TheVariants.{Utf8}
 use Rattle.qs_spec.specs.Scalar.{key_data}
 use Rattle.qs_spec.specs.Tree.{Tree}
 use Rattle.std.proofs.lemmas.Bool.{false≢true}
 use Rattle.std.specs.Option.{option_and_then}
-use Rattle.qs_data.specs.Items.{items_in, first_item, are_text}
-use Rattle.qs_data.proofs.Items.{items_bad, due_bad, each_more, each_unread, each_end, each_all}
-use Rattle.qs_data.proofs.Tuples.{parts_more, parts_unread}
-use Rattle.qs_data.proofs.Numbers.{empty_text}
-use Rattle.qs_data.proofs.Pairs.{key_bad, value_bad, pairs_more, pairs_no_key, pairs_no_value, pairs_end, pairs_all, lone_no_key}
-use Rattle.qs_data.proofs.Steps.{before, before-front}
-use Rattle.qs_data.proofs.Fields.{found_bad, field_none, field_name, field_shape, field_optional, names_more, item_at, no_item_at, item_bad, place_some, places_more}
+use Rattle.qs_data.specs.read.internal.Items.{items_in, first_item, are_text}
+use Rattle.qs_data.proofs.lemmas.read.Items.{items_bad, due_bad, each_more, each_unread, each_end, each_all}
+use Rattle.qs_data.proofs.lemmas.read.Tuples.{parts_more, parts_unread}
+use Rattle.qs_data.proofs.lemmas.read.Numbers.{empty_text}
+use Rattle.qs_data.proofs.lemmas.read.Pairs.{key_bad, value_bad, pairs_more, pairs_no_key, pairs_no_value, pairs_end, pairs_all, lone_no_key}
+use Rattle.qs_data.proofs.lemmas.read.Steps.{before, before-front}
+use Rattle.qs_data.proofs.lemmas.read.Fields.{found_bad, field_none, field_name, field_shape, field_optional, names_more, item_at, no_item_at, item_bad, place_some, places_more}
 use Rattle.qs_data.proofs.read.+read.Goals as goal
 use Rattle.qs_data.proofs.read.+read.Goals.{maps::read_pairs-else-loop-i-test, maps::read_pairs-then-loop-i-test+in_default, lists::read_each-else-loop-i-test, lists::read_each-then-loop-i-test+in_ok-item+in_default}
 
@@ -44,19 +45,19 @@ fields::read_entries-returns-in-Err t c =
     let u = unknown_of c.args.unknown in
     let fs = fields_in c.args.fields.now.items in
     let none = untested (keys_are_allowed u fs es) (reads_names c.args.reject_duplicates fs es) (and_left (keys_are_text es) (keys_are_names fs es || are_ignored u) bad) in
-    told_of_key (entries_are_text es) c.in-Err.key.text.now (Utf8 c.in-Err.key.cause) c.error.result _ c.error.ensures (none, keys_bad es bad)
+    key_error (entries_are_text es) c.in-Err.key.text.now (Utf8 c.in-Err.key.cause) c.error.result _ c.error.ensures (none, keys_bad es bad)
 
-pub fields::read_field-returns-in_err-read_node-in-One : goal.fields::read_field-returns-in_err-read_node-in-One
-fields::read_field-returns-in_err-read_node-in-One t c =
+pub fields::read_field-returns-in_err-by_shape::read_node-in-One : goal.fields::read_field-returns-in_err-by_shape::read_node-in-One
+fields::read_field-returns-in_err-by_shape::read_node-in-One t c =
     let d = c.args.field.now in
     let f = field_of d in
     let es = entries_of c.args.entries in
     let n = tree_of c.in-One.value.now in
     let r = reads c.args.reject_duplicates (shape_of (out-Field d).shape) in
     let one : found f.0 es ≡ n ∷ [] = ap (λ name. found name es) (field_name d ∙ sym c.deref.ensures) ∙ c.in-One.ensures in
-    let given = gives_exit (option_map data_of) (is_text n) (entries_are_text es) c.from_residual.result c.in_err-read_node-in-One.field-0.0 (r n) (read_field f.2 (is_option_shape f.1) r (found f.0 es))
-    c.from_residual.ensures.1 c.in_err-read_node-in-One.ensures.gives (field_none f.2 (is_option_shape f.1) r (found f.0 es) n one) (found_bad f.0 es n [] one) in
-    subst (λ s. Gives (option_map data_of) (entries_are_text es) c.from_residual.result (read_field f.2 (is_option_shape f.1) (reads c.args.reject_duplicates s) (found f.0 es))) (sym (field_shape d)) given
+    let given = gives_exit (option_map data_of) (is_text n) (entries_are_text es) c.from_residual.result c.in_err-by_shape::read_node-in-One.field-0.0 (r n) (read_field f.2 (is_option_shape f.1) r (found f.0 es))
+    c.from_residual.ensures.1 c.in_err-by_shape::read_node-in-One.ensures.gives (field_none f.2 (is_option_shape f.1) r (found f.0 es) n one) (found_bad f.0 es n [] one) in
+    subst (λ s. ReadGives (option_map data_of) (entries_are_text es) c.from_residual.result (read_field f.2 (is_option_shape f.1) (reads c.args.reject_duplicates s) (found f.0 es))) (sym (field_shape d)) given
 
 pub fields::read_names-loop-field-preserved : goal.fields::read_names-loop-field-preserved
 fields::read_names-loop-field-preserved t c =
@@ -76,8 +77,8 @@ fields::read_names-loop-field-preserved t c =
     l.invariant ∙ turn ∙ before-front ws ((field_of d).0, data_of x) rest
     ∙ ap (λ b. before (ws ++ (b, data_of x) ∷ []) rest) name ∙ ap (λ ys. before ys rest) (sym pushed)
 
-pub fields::read_place-returns-in_err-read_node-in-Some : goal.fields::read_place-returns-in_err-read_node-in-Some
-fields::read_place-returns-in_err-read_node-in-Some t c =
+pub fields::read_place-returns-in_err-by_shape::read_node-in-Some : goal.fields::read_place-returns-in_err-by_shape::read_node-in-Some
+fields::read_place-returns-in_err-by_shape::read_node-in-Some t c =
     let d = c.args.field.now in
     let f = field_of d in
     let ts = c.args.items.now in
@@ -87,12 +88,12 @@ fields::read_place-returns-in_err-read_node-in-Some t c =
     let xs = items_from (map tree_of (drop i ts)) in
     let r = reads c.args.reject_duplicates (shape_of (out-Field d).shape) in
     let here = item_at ts i n look.3.0 look.1 in
-    let given = gives_exit (option_map data_of) (is_text (tree_of n)) (items_are_text (items_from (map tree_of ts))) c.from_residual.result c.in_err-read_node-in-Some.field-0.0 (r (tree_of n)) (read_place f.2 r xs)
-    c.from_residual.ensures.1 c.in_err-read_node-in-Some.ensures.gives (λ e. place_some f.2 r xs _ (tree_of n) here ∙ ap (option_map Some) e) (item_bad ts i n look.3.0 look.1) in
-    subst (λ s. Gives (option_map data_of) (items_are_text (items_from (map tree_of ts))) c.from_residual.result (read_place f.2 (reads c.args.reject_duplicates s) xs)) (sym (field_shape d)) given
+    let given = gives_exit (option_map data_of) (is_text (tree_of n)) (items_are_text (items_from (map tree_of ts))) c.from_residual.result c.in_err-by_shape::read_node-in-Some.field-0.0 (r (tree_of n)) (read_place f.2 r xs)
+    c.from_residual.ensures.1 c.in_err-by_shape::read_node-in-Some.ensures.gives (λ e. place_some f.2 r xs _ (tree_of n) here ∙ ap (option_map Some) e) (item_bad ts i n look.3.0 look.1) in
+    subst (λ s. ReadGives (option_map data_of) (items_are_text (items_from (map tree_of ts))) c.from_residual.result (read_place f.2 (reads c.args.reject_duplicates s) xs)) (sym (field_shape d)) given
 
-pub fields::read_place-returns-in_ok-read_node-in-Some : goal.fields::read_place-returns-in_ok-read_node-in-Some
-fields::read_place-returns-in_ok-read_node-in-Some t c =
+pub fields::read_place-returns-in_ok-by_shape::read_node-in-Some : goal.fields::read_place-returns-in_ok-by_shape::read_node-in-Some
+fields::read_place-returns-in_ok-by_shape::read_node-in-Some t c =
     let d = c.args.field.now in
     let f = field_of d in
     let ts = c.args.items.now in
@@ -102,7 +103,7 @@ fields::read_place-returns-in_ok-read_node-in-Some t c =
     let xs = items_from (map tree_of (drop i ts)) in
     ap (λ s. read_place f.2 (reads c.args.reject_duplicates s) xs) (field_shape d)
     ∙ place_some f.2 (reads c.args.reject_duplicates (shape_of (out-Field d).shape)) xs _ (tree_of n) (item_at ts i n look.3.0 look.1)
-    ∙ ap (option_map Some) c.in_ok-read_node-in-Some.ensures.gives
+    ∙ ap (option_map Some) c.in_ok-by_shape::read_node-in-Some.ensures.gives
 
 pub fields::read_place-returns-then-field : goal.fields::read_place-returns-then-field
 fields::read_place-returns-then-field t c =
@@ -118,7 +119,7 @@ fields::read_place-returns-else-field t c =
     let f = field_of d in
     let none = no_item_at c.args.items.now c.args.place c.in-None.ensures.lookup.3 in
     let o : f.2 ≡ false = field_optional d ∙ c.if-field.false in
-    fault (items_are_text (items_from (map tree_of c.args.items.now))) c.error.result _ c.error.ensures
+    custom (items_are_text (items_from (map tree_of c.args.items.now))) c.error.result _ c.error.ensures
     (ap (read_place f.2 (reads c.args.reject_duplicates f.1)) none ∙ ap (λ b. read_place b (reads c.args.reject_duplicates f.1) no_items) o)
 
 pub fields::read_places-loop-i-preserved-in_default : goal.fields::read_places-loop-i-preserved-in_default
@@ -149,17 +150,17 @@ fields::read_places-loop-i-preserved t c =
     l.invariant ∙ turn ∙ before-front ws ((field_of d).0, data_of x) rest
     ∙ ap (λ b. before (ws ++ (b, data_of x) ∷ []) rest) name ∙ ap (λ ys. before ys rest) (sym pushed)
 
-pub read_node-returns-in-Option-clause-gives : goal.read_node-returns-in-Option-clause-gives
+pub by_shape::read_node-returns-in-Option-clause-gives : goal.by_shape::read_node-returns-in-Option-clause-gives
 unfolding reads
-read_node-returns-in-Option-clause-gives t c =
+by_shape::read_node-returns-in-Option-clause-gives t c =
     let n = tree_of c.args.value.now in
     let shaped : shape_of c.args.shape.now ≡ Shape.option (shape_of c.in-Option.part.value) = ap shape_of c.in-Option.is ∙ search (rules, shape.the_lemmas) in
-    let held = subst (λ x. Gives data_of (is_text n) c.read_option.result (read_option (reads c.args.reject_duplicates (shape_of x)) n)) c.deref.ensures c.read_option.ensures in
-    subst (λ x. Gives data_of (is_text n) c.read_option.result (reads c.args.reject_duplicates x n)) (sym shaped) held
+    let held = subst (λ x. ReadGives data_of (is_text n) c.read_option.result (read_option (reads c.args.reject_duplicates (shape_of x)) n)) c.deref.ensures c.read_option.ensures in
+    subst (λ x. ReadGives data_of (is_text n) c.read_option.result (reads c.args.reject_duplicates x n)) (sym shaped) held
 
-pub struct_data-returns : goal.struct_data-returns
+pub by_shape::struct_data-returns : goal.by_shape::struct_data-returns
 unfolding reads
-struct_data-returns t c =
+by_shape::struct_data-returns t c =
     let k = c.in_ok-read_struct in
     ap (λ r. option_map (λ ms. d.struct (d.members_of ms)) r) k.ensures ∙ ap Some (sym (data_of_struct k.field-0))
 
@@ -174,7 +175,7 @@ variants::read_least-returns-in_err-place t c =
     let exit = gives_exit data_of (is_utf8 name) (entries_are_text es) c.from_residual.result c.in_err-place.field-0.0 (option_map Some (variant_named name (variants_in ds)))
     (read_enum (variants_in ds) (reads_variant c.args.reject_duplicates (variants_in ds)) (mapping es)) c.from_residual.ensures.1 c.in_err-place.ensures.named
     (enum_none c.args.reject_duplicates (variants_in ds) es (entries_after 1 es) key.seg key.mark n least) (least_key_bad c.args.reject_duplicates (variants_in ds) es (entries_after 1 es) key.seg key.mark n least) in
-    subst (λ ys. Gives data_of (entries_are_text es) c.from_residual.result (read_enum (variants_in ys) (reads_variant c.args.reject_duplicates (variants_in ys)) (mapping es))) c.deref.ensures.value exit
+    subst (λ ys. ReadGives data_of (entries_are_text es) c.from_residual.result (read_enum (variants_in ys) (reads_variant c.args.reject_duplicates (variants_in ys)) (mapping es))) c.deref.ensures.value exit
 
 pub variants::read_least-returns : goal.variants::read_least-returns
 variants::read_least-returns t c =

@@ -1,10 +1,11 @@
 use Rattle.std.proofs.Common.{◌≡◌, map, drop}
 use Rattle.qs_spec.specs.internal.ReadFunction.{reads, read_each, read_pairs, reads_names, reads_places, reads_tuple}
 use Rattle.qs_tree.specs.tree.Views.{tree_of, items_from, entries_of_map}
-use Rattle.qs_data.specs.Views.{data_of, named, fields_in, key_shape_of, pair_of, shape_of, shapes_in}
-use Rattle.qs_data.specs.Items.{items_in}
-use Rattle.qs_data.specs.Keys.{entries_of, entries_after}
-use Rattle.qs_data.proofs.Steps.{before}
+use Rattle.qs_data.specs.data.Views.{data_of, named, pair_of}
+use Rattle.qs_data.specs.shape.Views.{fields_in, key_shape_of, shape_of, shapes_in}
+use Rattle.qs_data.specs.read.internal.Items.{items_in}
+use Rattle.qs_data.specs.read.internal.Keys.{entries_of, entries_after}
+use Rattle.qs_data.proofs.lemmas.read.Steps.{before}
 use Rattle.qs_data.proofs.read.+read.Given as goal
 
 abbrev pub invariant-fields::read_names-loop-field : goal.invariant-fields::read_names-loop-field

@@ -3,7 +3,7 @@ use Rattle.qs_spec.specs.Tree.Tree.{sequence, mapping}
 use Rattle.qs_spec.specs.Node.{items, placed}
 use Rattle.qs_tree.specs.tree.Views.{tree_of, items_from, entries_of_map}
 use Rattle.qs_tree.specs.declared.tree.value.ParsedValue as value
-use Rattle.qs_data.proofs.Items.{each_length, places_length}
+use Rattle.qs_data.proofs.lemmas.read.Items.{each_length, places_length}
 use Rattle.qs_explain.proofs.items.count_items.Goals as goal
 
 pub returns-in-Sequence : goal.returns-in-Sequence

@@ -2,7 +2,7 @@ use Rattle.std.proofs.Common.{Some, sym, ap, ◌∙◌, arith}
 use Rattle.qs_spec.specs.Segment.{Step}
 use Rattle.qs_spec.specs.Tree.{Tree}
 use Rattle.qs_tree.specs.tree.Views.{tree_of, entries_of_map, step_of_key}
-use Rattle.qs_data.specs.Views.{fields_in}
+use Rattle.qs_data.specs.shape.Views.{fields_in}
 use Rattle.qs_explain.specs.Unexpected.{is_allowed, unknown_of}
 use Rattle.qs_explain.proofs.KeysAllowed.{other_here, other_later, other_none, other_end}
 use Rattle.qs_explain.proofs.keys.find_unknown_field.Goals as goal

@@ -1,7 +1,7 @@
 use Rattle.std.proofs.Common.{◌≡◌}
 use Rattle.qs_tree.specs.tree.Views.{entries_of_map}
-use Rattle.qs_data.specs.Keys.{entries_after}
-use Rattle.qs_data.specs.Views.{key_shape_of}
+use Rattle.qs_data.specs.read.internal.Keys.{entries_after}
+use Rattle.qs_data.specs.shape.Views.{key_shape_of}
 use Rattle.qs_explain.specs.Unexpected.{first_other, is_key}
 use Rattle.qs_explain.proofs.keys.find_unread_key.Given as goal
 

@@ -5,7 +5,7 @@ use Rattle.qs_spec.specs.Tree.Tree.{leaf}
 use Rattle.qs_tree.specs.tree.Views.{tree_of}
 use Rattle.qs_tree.specs.declared.tree.value.ParsedValue as value
 use Rattle.std.specs.declared.borrow.CowSlice.TheVariants.{Borrowed}
-use Rattle.qs_data.specs.Views.{shape_of}
+use Rattle.qs_data.specs.shape.Views.{shape_of}
 use Rattle.qs_explain.proofs.KeysAllowed.{if_tests}
 use Rattle.qs_explain.proofs.keys.is_text_read.Goals as goal
 

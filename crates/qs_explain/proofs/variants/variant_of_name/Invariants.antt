@@ -1,6 +1,6 @@
 use Rattle.std.proofs.Common.{◌≡◌, drop}
-use Rattle.qs_data.specs.Views.{variants_in}
-use Rattle.qs_data.specs.Variants.{variant_named}
+use Rattle.qs_data.specs.shape.Views.{variants_in}
+use Rattle.qs_data.specs.shape.Variants.{variant_named}
 use Rattle.qs_explain.proofs.variants.variant_of_name.Given as goal
 
 abbrev pub invariant-loop-variant : goal.invariant-loop-variant

@@ -3,8 +3,9 @@ use Rattle.std.proofs.lemmas.Result.{err_from_is_err_and, IfOk-weaker}
 use Rattle.qs_spec.specs.Config.{Config}
 use Rattle.qs_spec.specs.Shape.{Shape}
 use Rattle.qs_spec.specs.Relation.{ReadsBy, ReadsNothing}
-use Rattle.qs_data.specs.Views.{data_of, shape_of}
-use Rattle.qs_data.specs.Parsed.{parsed_of}
+use Rattle.qs_data.specs.data.Views.{data_of}
+use Rattle.qs_data.specs.shape.Views.{shape_of}
+use Rattle.qs_data.specs.read.Parsed.{parsed_of}
 use Rattle.qs_tool.specs.Line.{IsPrinted}
 use Rattle.qs_tool.specs.Line.IsFaulty.{not_read, not_printed}
 use Rattle.qs_tool.proofs.Refusals.{reading_told, fault_is}

@@ -5,7 +5,7 @@ use Rattle.qs_spec.specs.Config.{Config}
 use Rattle.qs_spec.specs.Data.{Data}
 use Rattle.qs_spec.specs.Entry.{Refusal, entries}
 use Rattle.qs_spec.specs.Written.{written}
-use Rattle.qs_data.specs.Views.{data_of}
+use Rattle.qs_data.specs.data.Views.{data_of}
 use Rattle.qs_tool.specs.Line.{rewritten, unless_refused}
 use Rattle.qs_tool.proofs.Refusals.{refusal_told}
 use Rattle.qs_tool.proofs.printing.rewritten.Goals as goal

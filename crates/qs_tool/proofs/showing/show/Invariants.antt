@@ -1,5 +1,5 @@
 use Rattle.std.proofs.Common.{◌≡◌, ◌++◌, length}
-use Rattle.qs_data.specs.Views.{data_of}
+use Rattle.qs_data.specs.data.Views.{data_of}
 use Rattle.qs_tool.specs.Shown.{shown}
 use Rattle.qs_tool.specs.Pieces.{text_of_pile}
 use Rattle.qs_tool.proofs.showing.show.Given as goal

@@ -1,4 +1,4 @@
-use Rattle.qs_data.proofs.ReadBack.{in_order}
+use Rattle.qs_data.proofs.lemmas.read.ReadBack.{in_order}
 use Rattle.serde_qs.proofs.laws.value_comes_back.Goals as goal
 
 pub returns : goal.returns

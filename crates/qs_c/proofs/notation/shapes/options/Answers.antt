@@ -1,7 +1,7 @@
 use Rattle.std.proofs.Common.{◌≡◌, ◌+◌, ◌-◌, ap, sym, ◌∙◌, true, arith, rules}
 use Rattle.qs_spec.specs.Shape as s
-use Rattle.qs_data.specs.declared.shape.Shape as r
-use Rattle.qs_data.specs.Views.{shape_of}
+use Rattle.qs_data.specs.declared.shape.shape.Shape as r
+use Rattle.qs_data.specs.shape.Views.{shape_of}
 use Rattle.qs_c.specs.Notation as n
 use Rattle.qs_c.proofs.Listing.{options-more}
 use Rattle.qs_c.proofs.notation.shapes.options.Goals as goal

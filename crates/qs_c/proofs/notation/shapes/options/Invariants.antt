@@ -1,5 +1,5 @@
 use Rattle.std.proofs.Common.{◌≡◌, ◌-◌}
-use Rattle.qs_data.specs.Views.{shape_of}
+use Rattle.qs_data.specs.shape.Views.{shape_of}
 use Rattle.qs_c.specs.Notation.{options}
 use Rattle.qs_c.proofs.notation.shapes.options.Given as goal
 

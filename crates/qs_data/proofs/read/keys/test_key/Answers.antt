@@ -2,7 +2,7 @@ use Rattle.std.proofs.Common.{◌<◌, ◌^◌, ap, ◌∙◌, arith}
 use Rattle.std.specs.Str.{is_utf8}
 use Rattle.qs_spec.specs.Segment.{segment_text}
 use Rattle.qs_tree.specs.tree.Views.{segment_of_key}
-use Rattle.qs_data.proofs.Numbers.{decimal_text}
+use Rattle.qs_data.proofs.lemmas.read.Numbers.{decimal_text}
 use Rattle.qs_data.proofs.read.keys.test_key.Goals as goal
 
 pub returns-in-Int-clause-text : goal.returns-in-Int-clause-text

@@ -1,7 +1,7 @@
 use Rattle.std.proofs.Common.{ap, ◌&&◌, true, ◌∙◌}
 use Rattle.qs_spec.specs.Node.{keys_are_text}
-use Rattle.qs_data.specs.Keys.{entries_of}
-use Rattle.qs_data.proofs.Numbers.{empty_text}
+use Rattle.qs_data.specs.read.internal.Keys.{entries_of}
+use Rattle.qs_data.proofs.lemmas.read.Numbers.{empty_text}
 use Rattle.qs_data.proofs.read.keys.test_keys.Goals as goal
 
 pub returns-in-Leaf-clause-text : goal.returns-in-Leaf-clause-text

@@ -3,8 +3,8 @@ use Rattle.qs_spec.specs.Tree.Tree.{sequence, mapping}
 use Rattle.qs_spec.specs.Node.{items, sequence_items, placed}
 use Rattle.qs_tree.specs.tree.Views.{tree_of, items_from, entries_of_map}
 use Rattle.qs_tree.specs.declared.tree.value.ParsedValue as value
-use Rattle.qs_data.proofs.Anything.{is_list}
-use Rattle.qs_data.proofs.Nesting.{begins_list, begins_map}
+use Rattle.qs_data.proofs.lemmas.read.Anything.{is_list}
+use Rattle.qs_data.proofs.lemmas.read.Nesting.{begins_list, begins_map}
 use Rattle.qs_data.proofs.read.nested.visit.Goals as goal
 
 pub returns-in-Sequence : goal.returns-in-Sequence

@@ -1,9 +1,9 @@
 use Rattle.std.specs.Str.{is_utf8}
 use Rattle.qs_spec.specs.Scalar.{boolean_data}
-use Rattle.qs_data.specs.Views.{data_of}
-use Rattle.qs_data.specs.ScalarText.{utf8_text}
-use Rattle.qs_data.proofs.ReadErrors.{gives_exit, frugal_exit}
-use Rattle.qs_data.proofs.Scalars.{boolean_none}
+use Rattle.qs_data.specs.data.Views.{data_of}
+use Rattle.qs_data.specs.read.internal.SourceText.{utf8_text}
+use Rattle.qs_data.proofs.lemmas.read.ReadErrors.{gives_exit, frugal_exit}
+use Rattle.qs_data.proofs.lemmas.read.Scalars.{boolean_none}
 use Rattle.qs_data.proofs.read.scalar.bool_data.Goals as goal
 
 pub returns-in_err-as_text-clause-gives : goal.returns-in_err-as_text-clause-gives

@@ -1,7 +1,7 @@
 use Rattle.std.specs.Str.{is_utf8}
 use Rattle.qs_spec.specs.Scalar.{character_data}
-use Rattle.qs_data.proofs.ReadErrors.{fault, fault_spared}
-use Rattle.qs_data.proofs.Scalars.{character_is, character_none}
+use Rattle.qs_data.proofs.lemmas.read.ReadErrors.{custom, custom_spared}
+use Rattle.qs_data.proofs.lemmas.read.Scalars.{character_is, character_none}
 use Rattle.qs_data.proofs.read.scalar.char_data.Goals as goal
 
 pub returns-in-Ok-clause-gives : goal.returns-in-Ok-clause-gives
@@ -10,9 +10,9 @@ returns-in-Ok-clause-gives c = character_is c.args.bytes.now c.in_ok-as_text.fie
 pub returns-in-Err-clause-gives : goal.returns-in-Err-clause-gives
 returns-in-Err-clause-gives c =
     let b = c.args.bytes.now in
-    fault (is_utf8 b) c.unreadable.result (character_data b) c.unreadable.ensures (character_none b c.in_ok-as_text.field-0.now c.in_ok-as_text.ensures.gives c.in-Err.ensures.value)
+    custom (is_utf8 b) c.unreadable.result (character_data b) c.unreadable.ensures (character_none b c.in_ok-as_text.field-0.now c.in_ok-as_text.ensures.gives c.in-Err.ensures.value)
 
 pub returns-in-Err-clause-frugal : goal.returns-in-Err-clause-frugal
 returns-in-Err-clause-frugal c =
     let b = c.args.bytes.now in
-    fault_spared c.unreadable.result (character_data b) (character_none b c.in_ok-as_text.field-0.now c.in_ok-as_text.ensures.gives c.in-Err.ensures.value)
+    custom_spared c.unreadable.result (character_data b) (character_none b c.in_ok-as_text.field-0.now c.in_ok-as_text.ensures.gives c.in-Err.ensures.value)

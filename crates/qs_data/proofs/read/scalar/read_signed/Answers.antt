@@ -1,15 +1,15 @@
 use Rattle.std.proofs.Common.{◌≡◌, ◌∙◌, ap, Some, None, option_map}
 use Rattle.qs_spec.specs.Scalar.{signed_data}
-use Rattle.qs_data.specs.Widths.{bits_of}
+use Rattle.qs_data.specs.shape.internal.Widths.{bits_of}
 use Rattle.qs_tree.specs.tree.Views.{tree_of}
-use Rattle.qs_data.specs.Views.{data_of}
-use Rattle.qs_data.specs.ScalarText.{scalar_text}
-use Rattle.qs_data.proofs.Scalars.{scalar_gives}
+use Rattle.qs_data.specs.data.Views.{data_of}
+use Rattle.qs_data.specs.read.internal.SourceText.{source_text}
+use Rattle.qs_data.proofs.lemmas.read.Scalars.{scalar_gives}
 use Rattle.qs_data.proofs.read.scalar.read_signed.Goals as goal
 
 pub returns-in-Some-clause-gives : goal.returns-in-Some-clause-gives
 returns-in-Some-clause-gives c =
     let t = tree_of c.args.value.now in
     let b = c.in-Some.bytes.now in
-    let h : scalar_text c.args.reject_duplicates t ≡ Some (Some b) = c.in_ok-bytes.ensures.gives ∙ ap (λ o. Some (option_map (λ x. x.now) o)) c.in-Some.is in
+    let h : source_text c.args.reject_duplicates t ≡ Some (Some b) = c.in_ok-bytes.ensures.gives ∙ ap (λ o. Some (option_map (λ x. x.now) o)) c.in-Some.is in
     scalar_gives data_of c.args.reject_duplicates None (signed_data (bits_of c.args.width)) t b c.signed_data.result h c.signed_data.ensures.gives

@@ -1,6 +1,6 @@
 use Rattle.std.proofs.Common.{◌≤◌, ◌<◌, ◌-◌, ◌^◌, sym, subst}
-use Rattle.qs_data.specs.Widths.{bits_of}
-use Rattle.qs_data.proofs.Numbers.{unsigned_ok, unsigned_past, unsigned_err, width_fits}
+use Rattle.qs_data.specs.shape.internal.Widths.{bits_of}
+use Rattle.qs_data.proofs.lemmas.read.Numbers.{unsigned_ok, unsigned_past, unsigned_err, width_fits}
 use Rattle.qs_data.proofs.read.scalar.unsigned.Goals as goal
 
 pub returns-in-Err : goal.returns-in-Err

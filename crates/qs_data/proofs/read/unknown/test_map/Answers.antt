@@ -4,12 +4,12 @@ use Rattle.qs_spec.specs.Segment.{segment_text}
 use Rattle.qs_spec.specs.Shape.{is_field_name}
 use Rattle.qs_spec.specs.Node.{keys_are_names}
 use Rattle.qs_tree.specs.tree.Views.{entries_of_map, step_of_key, tree_of}
-use Rattle.qs_data.specs.Views.{fields_in}
-use Rattle.qs_data.specs.Text.{entries_are_text}
-use Rattle.qs_data.specs.Gives.{when}
-use Rattle.qs_data.proofs.Pairs.{key_bad}
-use Rattle.qs_data.proofs.ReadErrors.{gives_exit}
-use Rattle.qs_data.proofs.Unknown.{passes, fails, name_more, name_fails, names_all, names_end}
+use Rattle.qs_data.specs.shape.Views.{fields_in}
+use Rattle.qs_data.specs.read.Text.{entries_are_text}
+use Rattle.qs_data.specs.read.internal.Keys.{when}
+use Rattle.qs_data.proofs.lemmas.read.Pairs.{key_bad}
+use Rattle.qs_data.proofs.lemmas.read.ReadErrors.{gives_exit}
+use Rattle.qs_data.proofs.lemmas.read.Unknown.{passes, fails, name_more, name_fails, names_all, names_end}
 use Rattle.qs_data.proofs.read.unknown.test_map.Goals as goal
 use Rattle.qs_data.proofs.read.unknown.test_map.Goals.{else-loop-i-test, then-loop-i-test+in_default}
 

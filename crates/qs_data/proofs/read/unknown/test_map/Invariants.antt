@@ -1,8 +1,8 @@
 use Rattle.std.proofs.Common.{◌≡◌}
 use Rattle.qs_spec.specs.Node.{keys_are_names}
 use Rattle.qs_tree.specs.tree.Views.{entries_of_map}
-use Rattle.qs_data.specs.Keys.{entries_after}
-use Rattle.qs_data.specs.Views.{fields_in}
+use Rattle.qs_data.specs.read.internal.Keys.{entries_after}
+use Rattle.qs_data.specs.shape.Views.{fields_in}
 use Rattle.qs_data.proofs.read.unknown.test_map.Given as goal
 
 abbrev pub invariant-loop-i : goal.invariant-loop-i

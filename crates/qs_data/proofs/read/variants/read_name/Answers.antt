@@ -4,13 +4,14 @@ use Rattle.std.specs.Str.{is_utf8}
 use Rattle.qs_spec.specs.Data as d
 use Rattle.qs_spec.specs.Shape.{unit_kind}
 use Rattle.qs_spec.specs.internal.ReadFunction.{unit_variant_data, is_unit_kind}
-use Rattle.qs_data.specs.declared.data.Data as data_type
-use Rattle.qs_data.specs.declared.shape.VariantKind as kind
-use Rattle.qs_data.specs.declared.shape.Variant.{out-Variant}
-use Rattle.qs_data.specs.Views.{data_of, kind_of, variants_in}
-use Rattle.qs_data.specs.Variants.{variant_named}
-use Rattle.qs_data.proofs.ReadErrors.{gives_exit, fault}
-use Rattle.qs_data.proofs.Variants.{named_is, unit_at, no_unit}
+use Rattle.qs_data.specs.declared.data.data.Data as data_type
+use Rattle.qs_data.specs.declared.shape.shape.VariantKind as kind
+use Rattle.qs_data.specs.declared.shape.shape.Variant.{out-Variant}
+use Rattle.qs_data.specs.data.Views.{data_of}
+use Rattle.qs_data.specs.shape.Views.{kind_of, variants_in}
+use Rattle.qs_data.specs.shape.Variants.{variant_named}
+use Rattle.qs_data.proofs.lemmas.read.ReadErrors.{gives_exit, custom}
+use Rattle.qs_data.proofs.lemmas.read.Variants.{named_is, unit_at, no_unit}
 use Rattle.qs_data.proofs.read.variants.read_name.Goals as goal
 use Rattle.qs_data.proofs.read.variants.read_name.Goals.{in-Newtype, in-Tuple, in-Struct, in-StrictStruct}
 
@@ -46,5 +47,5 @@ returns c =
       | in-Struct w ↦ ap (λ k. is_unit_kind (kind_of k)) w.in-Struct.is ∙ search (rules, kind.the_lemmas)
       | in-StrictStruct w ↦ ap (λ k. is_unit_kind (kind_of k)) w.in-StrictStruct.is ∙ search (rules, kind.the_lemmas)
     ] in
-    fault (is_utf8 b) c.error.result _ c.error.ensures
+    custom (is_utf8 b) c.error.result _ c.error.ensures
     (unit_at b vs v here ∙ ap (λ k. cond k (Some (d.unit_variant (string_bytes (out-Variant v).name))) None) other)

@@ -1,8 +1,8 @@
 use Rattle.std.proofs.Common.{◌∙◌, ◌++◌, List, ℕ, ap, sym, subst}
 use Rattle.std.specs.List.{All}
 use Rattle.std.proofs.lemmas.List.Elements.{All-append}
-use Rattle.qs_data.specs.Writes.{IsVisible}
-use Rattle.qs_data.proofs.Visible.{open_visible, close_visible}
+use Rattle.qs_data.specs.write.State.{IsVisible}
+use Rattle.qs_data.proofs.lemmas.write.Visible.{open_visible, close_visible}
 use Rattle.qs_data.proofs.write.entry.append_segment.Goals as goal
 
 pub returns-clause-visible : goal.returns-clause-visible

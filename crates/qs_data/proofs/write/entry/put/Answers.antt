@@ -8,10 +8,10 @@ use Rattle.std.specs.List.{All}
 use Rattle.qs_spec.specs.Entry.{one}
 use Rattle.qs_spec.specs.Written.{value_text}
 use Rattle.qs_data.specs.declared.write.stop.Stop.TheVariants.{OutOfMemory}
-use Rattle.qs_data.specs.Scalars.{scalar_text}
-use Rattle.qs_data.specs.Writes.{IsVisible}
-use Rattle.qs_data.proofs.Wrote.{writes_exit, some_none}
-use Rattle.qs_data.proofs.Entry.{entry_is, has_key_is, at_back, adds_one, part_one, io_stops}
+use Rattle.qs_data.specs.write.internal.Scalars.{scalar_text}
+use Rattle.qs_data.specs.write.State.{IsVisible}
+use Rattle.qs_data.proofs.lemmas.write.Wrote.{writes_exit, some_none}
+use Rattle.qs_data.proofs.lemmas.write.Entry.{entry_is, has_key_is, at_back, adds_one, part_one, io_stops}
 use Rattle.qs_data.proofs.write.entry.put.Goals as goal
 
 pub returns-in_err-append_value-clause-writes : goal.returns-in_err-append_value-clause-writes

@@ -2,9 +2,9 @@ use Rattle.std.proofs.Common.{◌≡◌, ◌∙◌, sym, refl, length, [], Some,
 use Rattle.std.proofs.Math.Bool.{or-false, or-true}
 use Rattle.std.proofs.lemmas.Bool.{eqb-true}
 use Rattle.qs_spec.specs.Entry.{one}
-use Rattle.qs_data.proofs.Wrote.{writes_exit}
-use Rattle.qs_data.proofs.Visible.{equals_visible}
-use Rattle.qs_data.proofs.Entry.{at_top, part_one, adds_one, entry_empty, no_key, io_stops}
+use Rattle.qs_data.proofs.lemmas.write.Wrote.{writes_exit}
+use Rattle.qs_data.proofs.lemmas.write.Visible.{equals_visible}
+use Rattle.qs_data.proofs.lemmas.write.Entry.{at_top, part_one, adds_one, entry_empty, no_key, io_stops}
 use Rattle.qs_data.proofs.write.entry.put_empty.Goals as goal
 
 pub returns-in_err-put_all-clause-writes : goal.returns-in_err-put_all-clause-writes

@@ -1,8 +1,8 @@
 use Rattle.std.proofs.Common.{◌≡◌, ◌++◌, ◌-◌, ◌∙◌, sym, ap, ap₂, length, take, drop, append_assoc}
 use Rattle.std.proofs.lemmas.List.{take_rest}
 use Rattle.qs_spec.specs.Escape.{encoded}
-use Rattle.qs_data.proofs.Kept.{kept_front, kept_all}
-use Rattle.qs_data.proofs.Visible.{encoded_visible, extended, on_ok}
+use Rattle.qs_data.proofs.lemmas.write.Kept.{kept_front, kept_all}
+use Rattle.qs_data.proofs.lemmas.write.Visible.{encoded_visible, extended, on_ok}
 use Rattle.qs_data.proofs.write.scalar.append_encoded.Goals as goal
 
 pub returns-in_default-clause-ok : goal.returns-in_default-clause-ok

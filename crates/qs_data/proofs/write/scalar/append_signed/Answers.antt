@@ -2,7 +2,7 @@ use Rattle.std.proofs.Common.{◌≡◌, ◌∙◌, ◌<◌, ◌+◌, ◌^◌, s
 use Rattle.std.specs.Fmt.{signed_decimal}
 use Rattle.std.specs.Int.Signed.{mag}
 use Rattle.std.proofs.lemmas.Int.{ints}
-use Rattle.qs_data.proofs.Visible.{signed_plain, extended}
+use Rattle.qs_data.proofs.lemmas.write.Visible.{signed_plain, extended}
 use Rattle.qs_data.proofs.write.scalar.append_signed.Goals as goal
 
 pub returns-clause-ok : goal.returns-clause-ok

@@ -1,6 +1,6 @@
 use Rattle.std.proofs.Common.{◌≡◌, ◌∙◌, ◌<◌, ◌^◌, sym, arith, rules}
 use Rattle.std.specs.Fmt.{decimal}
-use Rattle.qs_data.proofs.Visible.{unsigned_plain, extended}
+use Rattle.qs_data.proofs.lemmas.write.Visible.{unsigned_plain, extended}
 use Rattle.qs_data.proofs.write.scalar.append_unsigned.Goals as goal
 
 pub returns-clause-ok : goal.returns-clause-ok

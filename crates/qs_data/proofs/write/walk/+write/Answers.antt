@@ -5,18 +5,18 @@ use Rattle.std.specs.declared.string.String.{String}
 use Rattle.std.specs.declared.alloc.Global.{Global}
 use Rattle.qs_spec.specs.Config.{element_segment}
 use Rattle.qs_spec.specs.Entry.{Path, Output, refused, bad_key, entries_at, elements_from, pair_entries, member_entries, deeper, maybe_deeper}
-use Rattle.qs_data.specs.declared.data.Data.{Data}
+use Rattle.qs_data.specs.declared.data.data.Data.{Data}
 use Rattle.qs_data.specs.declared.write.stop.Stop.TheVariants.{BadKey}
-use Rattle.qs_data.specs.Views.{data_of, values_in, pairs_in, members_in}
-use Rattle.qs_data.specs.Scalars.{scalar_text}
-use Rattle.qs_data.specs.Writes.{IsAt, Writes, Stops, text_in}
-use Rattle.qs_data.proofs.Wrote.{continue_step, continue_stop, continue_end, writes_exit, adds_nothing}
-use Rattle.qs_data.proofs.Walk.{stops_entering, writes_under, stops_under, elements_here, elements_end, pairs_with_key, pairs_without_key, pairs_end, members_here, members_end, seq_elements, tup_elements, map_pairs}
+use Rattle.qs_data.specs.data.Views.{data_of, values_in, pairs_in, members_in}
+use Rattle.qs_data.specs.write.internal.Scalars.{scalar_text}
+use Rattle.qs_data.specs.write.internal.Writes.{IsAt, Writes, Stops, state_in}
+use Rattle.qs_data.proofs.lemmas.write.Wrote.{continue_step, continue_stop, continue_end, writes_exit, adds_nothing}
+use Rattle.qs_data.proofs.lemmas.write.Walk.{stops_entering, writes_under, stops_under, elements_here, elements_end, pairs_with_key, pairs_without_key, pairs_end, members_here, members_end, seq_elements, tup_elements, map_pairs}
 use Rattle.qs_data.proofs.write.walk.+write.Goals as goal
 
 pub write_data-returns-else-is_empty-clause-writes : goal.write_data-returns-else-is_empty-clause-writes
 write_data-returns-else-is_empty-clause-writes g t c =
-    let view = text_in g.S.Sink.taken g.S.Sink.failed g.S.Sink.writer_name in
+    let view = state_in g.S.Sink.taken g.S.Sink.failed g.S.Sink.writer_name in
     let config = c.args.config in
     let v = c.in-Map.pairs in
     let some : 0 < length v.items = omega (arith, v.ok.0, eqb-false (vec_len v) 0 (sym c.if-is_empty.ensures)) in
@@ -25,7 +25,7 @@ write_data-returns-else-is_empty-clause-writes g t c =
 
 pub write_data-returns-else-is_empty-2-clause-writes : goal.write_data-returns-else-is_empty-2-clause-writes
 write_data-returns-else-is_empty-2-clause-writes g t c =
-    let view = text_in g.S.Sink.taken g.S.Sink.failed g.S.Sink.writer_name in
+    let view = state_in g.S.Sink.taken g.S.Sink.failed g.S.Sink.writer_name in
     let config = c.args.config in
     let v = c.in-Seq.items in
     let some : 0 < length v.items = omega (arith, v.ok.0, eqb-false (vec_len v) 0 (sym c.if-is_empty-2.ensures)) in
@@ -38,7 +38,7 @@ write_data-returns-else-is_empty-2-clause-writes g t c =
 
 pub write_under-returns : goal.write_under-returns
 write_under-returns g t c =
-    let view = text_in g.S.Sink.taken g.S.Sink.failed g.S.Sink.writer_name in
+    let view = state_in g.S.Sink.taken g.S.Sink.failed g.S.Sink.writer_name in
     let config = c.args.config in
     record {
       writes = writes_under config (scalar_text c.args.segment) (entries_at config.max_depth config.array_format (data_of c.args.part.now)) (view c.args.stream.now) (view c.write_data.new.stream) c.args.walk.now c.enter.new.self c.in_ok-enter.ensures.ok
@@ -47,7 +47,7 @@ write_under-returns g t c =
 
 pub write_under-returns-in_err-enter : goal.write_under-returns-in_err-enter
 write_under-returns-in_err-enter g t c =
-    let view = text_in g.S.Sink.taken g.S.Sink.failed g.S.Sink.writer_name in
+    let view = state_in g.S.Sink.taken g.S.Sink.failed g.S.Sink.writer_name in
     let config = c.args.config in
     record {
       writes = writes_exit _ c.in_err-enter.field-0.0 config _ _ c.args.walk.now c.enter.new.self (λ p. deeper config.max_depth p (scalar_text c.args.segment) (entries_at config.max_depth config.array_format (data_of c.args.part.now))) c.from_residual.ensures.1
@@ -56,7 +56,7 @@ write_under-returns-in_err-enter g t c =
 
 pub write_under-returns-in_err-write_data : goal.write_under-returns-in_err-write_data
 write_under-returns-in_err-write_data g t c =
-    let view = text_in g.S.Sink.taken g.S.Sink.failed g.S.Sink.writer_name in
+    let view = state_in g.S.Sink.taken g.S.Sink.failed g.S.Sink.writer_name in
     let config = c.args.config in
     let e = c.in_err-write_data.field-0.0 in
     record {
@@ -66,7 +66,7 @@ write_under-returns-in_err-write_data g t c =
 
 pub write_tuple_variant-returns : goal.write_tuple_variant-returns
 write_tuple_variant-returns g t c =
-    let view = text_in g.S.Sink.taken g.S.Sink.failed g.S.Sink.writer_name in
+    let view = state_in g.S.Sink.taken g.S.Sink.failed g.S.Sink.writer_name in
     let config = c.args.config in
     record {
       writes = writes_under config c.args.name.now (elements_from config.max_depth config.array_format 0 (values_in c.args.items.now.items)) (view c.args.stream.now) (view c.write_elements.new.stream) c.args.walk.now c.enter.new.self c.in_ok-enter.ensures.ok
@@ -75,7 +75,7 @@ write_tuple_variant-returns g t c =
 
 pub write_tuple_variant-returns-in_err-enter : goal.write_tuple_variant-returns-in_err-enter
 write_tuple_variant-returns-in_err-enter g t c =
-    let view = text_in g.S.Sink.taken g.S.Sink.failed g.S.Sink.writer_name in
+    let view = state_in g.S.Sink.taken g.S.Sink.failed g.S.Sink.writer_name in
     let config = c.args.config in
     record {
       writes = writes_exit _ c.in_err-enter.field-0.0 config _ _ c.args.walk.now c.enter.new.self (λ p. deeper config.max_depth p c.args.name.now (elements_from config.max_depth config.array_format 0 (values_in c.args.items.now.items))) c.from_residual.ensures.1
@@ -84,7 +84,7 @@ write_tuple_variant-returns-in_err-enter g t c =
 
 pub write_tuple_variant-returns-in_err-write_elements : goal.write_tuple_variant-returns-in_err-write_elements
 write_tuple_variant-returns-in_err-write_elements g t c =
-    let view = text_in g.S.Sink.taken g.S.Sink.failed g.S.Sink.writer_name in
+    let view = state_in g.S.Sink.taken g.S.Sink.failed g.S.Sink.writer_name in
     let config = c.args.config in
     let e = c.in_err-write_elements.field-0.0 in
     record {
@@ -94,7 +94,7 @@ write_tuple_variant-returns-in_err-write_elements g t c =
 
 pub write_struct_variant-returns : goal.write_struct_variant-returns
 write_struct_variant-returns g t c =
-    let view = text_in g.S.Sink.taken g.S.Sink.failed g.S.Sink.writer_name in
+    let view = state_in g.S.Sink.taken g.S.Sink.failed g.S.Sink.writer_name in
     let config = c.args.config in
     record {
       writes = writes_under config c.args.name.now (member_entries config.max_depth config.array_format (members_in c.args.members.now.items)) (view c.args.stream.now) (view c.write_members.new.stream) c.args.walk.now c.enter.new.self c.in_ok-enter.ensures.ok
@@ -103,7 +103,7 @@ write_struct_variant-returns g t c =
 
 pub write_struct_variant-returns-in_err-enter : goal.write_struct_variant-returns-in_err-enter
 write_struct_variant-returns-in_err-enter g t c =
-    let view = text_in g.S.Sink.taken g.S.Sink.failed g.S.Sink.writer_name in
+    let view = state_in g.S.Sink.taken g.S.Sink.failed g.S.Sink.writer_name in
     let config = c.args.config in
     record {
       writes = writes_exit _ c.in_err-enter.field-0.0 config _ _ c.args.walk.now c.enter.new.self (λ p. deeper config.max_depth p c.args.name.now (member_entries config.max_depth config.array_format (members_in c.args.members.now.items))) c.from_residual.ensures.1
@@ -112,7 +112,7 @@ write_struct_variant-returns-in_err-enter g t c =
 
 pub write_struct_variant-returns-in_err-write_members : goal.write_struct_variant-returns-in_err-write_members
 write_struct_variant-returns-in_err-write_members g t c =
-    let view = text_in g.S.Sink.taken g.S.Sink.failed g.S.Sink.writer_name in
+    let view = state_in g.S.Sink.taken g.S.Sink.failed g.S.Sink.writer_name in
     let config = c.args.config in
     let e = c.in_err-write_members.field-0.0 in
     record {
@@ -122,7 +122,7 @@ write_struct_variant-returns-in_err-write_members g t c =
 
 pub write_elements-returns : goal.write_elements-returns
 write_elements-returns g t c =
-    let view = text_in g.S.Sink.taken g.S.Sink.failed g.S.Sink.writer_name in
+    let view = state_in g.S.Sink.taken g.S.Sink.failed g.S.Sink.writer_name in
     let config = c.args.config in
     let l = c.loop-place in
     let xs = c.deref-item-items.result.now in
@@ -131,7 +131,7 @@ write_elements-returns g t c =
 
 pub write_elements-loop-place-preserved : goal.write_elements-loop-place-preserved
 write_elements-loop-place-preserved g t c =
-    let view = text_in g.S.Sink.taken g.S.Sink.failed g.S.Sink.writer_name in
+    let view = state_in g.S.Sink.taken g.S.Sink.failed g.S.Sink.writer_name in
     let config = c.args.config in
     let l = c.loop-place in
     let xs = c.deref-item-items.result.now in
@@ -140,7 +140,7 @@ write_elements-loop-place-preserved g t c =
 
 pub write_elements-returns-in_err-write_element : goal.write_elements-returns-in_err-write_element
 write_elements-returns-in_err-write_element g t c =
-    let view = text_in g.S.Sink.taken g.S.Sink.failed g.S.Sink.writer_name in
+    let view = state_in g.S.Sink.taken g.S.Sink.failed g.S.Sink.writer_name in
     let config = c.args.config in
     let l = c.loop-place in
     let xs = c.deref-item-items.result.now in
@@ -154,7 +154,7 @@ write_elements-returns-in_err-write_element g t c =
 
 pub write_members-returns : goal.write_members-returns
 write_members-returns g t c =
-    let view = text_in g.S.Sink.taken g.S.Sink.failed g.S.Sink.writer_name in
+    let view = state_in g.S.Sink.taken g.S.Sink.failed g.S.Sink.writer_name in
     let config = c.args.config in
     let l = c.loop-member in
     let xs = c.deref-member-items.result.now in
@@ -163,7 +163,7 @@ write_members-returns g t c =
 
 pub write_members-loop-member-preserved : goal.write_members-loop-member-preserved
 write_members-loop-member-preserved g t c =
-    let view = text_in g.S.Sink.taken g.S.Sink.failed g.S.Sink.writer_name in
+    let view = state_in g.S.Sink.taken g.S.Sink.failed g.S.Sink.writer_name in
     let config = c.args.config in
     let l = c.loop-member in
     let xs = c.deref-member-items.result.now in
@@ -172,7 +172,7 @@ write_members-loop-member-preserved g t c =
 
 pub write_members-returns-in_err-write_under : goal.write_members-returns-in_err-write_under
 write_members-returns-in_err-write_under g t c =
-    let view = text_in g.S.Sink.taken g.S.Sink.failed g.S.Sink.writer_name in
+    let view = state_in g.S.Sink.taken g.S.Sink.failed g.S.Sink.writer_name in
     let config = c.args.config in
     let l = c.loop-member in
     let xs = c.deref-member-items.result.now in
@@ -186,7 +186,7 @@ write_members-returns-in_err-write_under g t c =
 
 pub write_pairs-returns : goal.write_pairs-returns
 write_pairs-returns g t c =
-    let view = text_in g.S.Sink.taken g.S.Sink.failed g.S.Sink.writer_name in
+    let view = state_in g.S.Sink.taken g.S.Sink.failed g.S.Sink.writer_name in
     let config = c.args.config in
     let l = c.loop-pair in
     let xs = c.deref-pair-items.result.now in
@@ -195,7 +195,7 @@ write_pairs-returns g t c =
 
 pub write_pairs-loop-pair-preserved : goal.write_pairs-loop-pair-preserved
 write_pairs-loop-pair-preserved g t c =
-    let view = text_in g.S.Sink.taken g.S.Sink.failed g.S.Sink.writer_name in
+    let view = state_in g.S.Sink.taken g.S.Sink.failed g.S.Sink.writer_name in
     let config = c.args.config in
     let l = c.loop-pair in
     let xs = c.deref-pair-items.result.now in
@@ -204,7 +204,7 @@ write_pairs-loop-pair-preserved g t c =
 
 pub write_pairs-returns-in_err-write_under : goal.write_pairs-returns-in_err-write_under
 write_pairs-returns-in_err-write_under g t c =
-    let view = text_in g.S.Sink.taken g.S.Sink.failed g.S.Sink.writer_name in
+    let view = state_in g.S.Sink.taken g.S.Sink.failed g.S.Sink.writer_name in
     let config = c.args.config in
     let l = c.loop-pair in
     let xs = c.deref-pair-items.result.now in
@@ -218,7 +218,7 @@ write_pairs-returns-in_err-write_under g t c =
 
 pub write_pairs-returns-in_default : goal.write_pairs-returns-in_default
 write_pairs-returns-in_default g t c =
-    let view = text_in g.S.Sink.taken g.S.Sink.failed g.S.Sink.writer_name in
+    let view = state_in g.S.Sink.taken g.S.Sink.failed g.S.Sink.writer_name in
     let config = c.args.config in
     let l = c.loop-pair in
     let xs = c.deref-pair-items.result.now in

@@ -1,6 +1,7 @@
 use Rattle.std.proofs.lemmas.Result.{err_from_is_err_and}
-use Rattle.qs_data.specs.Views.{data_of, shape_of}
-use Rattle.qs_data.specs.Parsed.{parsed_of}
+use Rattle.qs_data.specs.data.Views.{data_of}
+use Rattle.qs_data.specs.shape.Views.{shape_of}
+use Rattle.qs_data.specs.read.Parsed.{parsed_of}
 use Rattle.serde_qs.proofs.TypedRead.{not_read, what_is_meant}
 use Rattle.serde_qs.proofs.calls.reading.read_value.Goals as goal
 

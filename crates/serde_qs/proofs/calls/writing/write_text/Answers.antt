@@ -1,6 +1,6 @@
 use Rattle.std.proofs.Common.{◌∙◌, sym, subst, Err}
 use Rattle.std.proofs.lemmas.Bool.{false≢true}
-use Rattle.qs_data.specs.Views.{data_of}
+use Rattle.qs_data.specs.data.Views.{data_of}
 use Rattle.serde_qs.specs.WrittenText.{ReturnsText}
 use Rattle.serde_qs.proofs.WriteErrors.{Reported, written_error}
 use Rattle.serde_qs.proofs.calls.writing.write_text.Goals as goal

@@ -1,6 +1,6 @@
 use Rattle.std.proofs.Common.{true, [], ◌∷◌, ◌++◌, append-nil, map, Some, sym, ap, ◌∙◌, rules}
 use Rattle.std.specs.Str.{IsUtf8}
-use Rattle.qs_data.proofs.Refusals.{gives_exit}
+use Rattle.qs_data.proofs.lemmas.read.Errors.{gives_exit}
 use Rattle.serde_qs.specs.Items.{items_in, pieces, listed_in}
 use Rattle.serde_qs.proofs.Pieces.{piece_before, only_piece, before-item, no-item, map_more}
 use Rattle.serde_qs.specs.internal.Pieces.{listed_pieces}

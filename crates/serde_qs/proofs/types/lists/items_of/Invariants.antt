@@ -1,6 +1,6 @@
 use Rattle.std.proofs.Common.{◌≡◌, map, length}
 use Rattle.std.specs.Vec.Iter.{into_iter_items, into_iter_len}
-use Rattle.qs_data.specs.Views.{values_in as values_in_list}
+use Rattle.qs_data.specs.data.Views.{values_in as values_in_list}
 use Rattle.serde_qs.specs.Meaning.{values_in}
 use Rattle.serde_qs.proofs.Steps.{before}
 use Rattle.serde_qs.proofs.types.lists.items_of.Given as goal

@@ -1,6 +1,6 @@
 use Rattle.std.proofs.Common.{◌≡◌, length}
 use Rattle.std.specs.Vec.Iter.{into_iter_items, into_iter_len}
-use Rattle.qs_data.specs.Views.{pairs_in}
+use Rattle.qs_data.specs.data.Views.{pairs_in}
 use Rattle.serde_qs.specs.Maps.{values_by_text, pairs_onto, nowhere}
 use Rattle.serde_qs.proofs.types.maps.map_of.Given as goal
 

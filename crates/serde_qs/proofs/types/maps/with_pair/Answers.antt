@@ -1,5 +1,5 @@
 use Rattle.std.proofs.Common.{◌∙◌, ap, string_bytes}
-use Rattle.qs_data.specs.Views.{data_of}
+use Rattle.qs_data.specs.data.Views.{data_of}
 use Rattle.serde_qs.specs.Maps.{values_by_text, pair_onto}
 use Rattle.serde_qs.proofs.Levels.{data_of_text}
 use Rattle.serde_qs.proofs.PairsPut.{pair_put}

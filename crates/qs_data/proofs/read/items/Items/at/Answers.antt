@@ -1,6 +1,6 @@
 use Rattle.std.proofs.Common.{drop, ap, ◌∙◌}
-use Rattle.qs_data.specs.Items.{items_in, first_item}
-use Rattle.qs_data.proofs.Items.{item_first}
+use Rattle.qs_data.specs.read.internal.Items.{items_in, first_item}
+use Rattle.qs_data.proofs.lemmas.read.Items.{item_first}
 use Rattle.qs_data.proofs.read.items.Items.at.Goals as goal
 
 pub returns-in-Sequence : goal.returns-in-Sequence

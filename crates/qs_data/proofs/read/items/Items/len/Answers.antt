@@ -1,7 +1,7 @@
 use Rattle.std.proofs.Common.{length, ap, sym, ◌∙◌}
 use Rattle.qs_tree.specs.tree.Views.{entries_of_map}
-use Rattle.qs_data.specs.Items.{items_in}
-use Rattle.qs_data.proofs.Items.{each_length, places_length}
+use Rattle.qs_data.specs.read.internal.Items.{items_in}
+use Rattle.qs_data.proofs.lemmas.read.Items.{each_length, places_length}
 use Rattle.qs_data.proofs.read.items.Items.len.Goals as goal
 
 pub returns-in-Sequence : goal.returns-in-Sequence

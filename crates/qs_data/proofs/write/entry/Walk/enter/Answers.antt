@@ -1,7 +1,7 @@
 use Rattle.std.proofs.Common.{◌≡◌, ◌∙◌, ◌≤◌, ap, sym, length, length-append, ◌++◌, ◌∷◌, [], arith}
-use Rattle.qs_data.specs.Scalars.{scalar_text}
-use Rattle.qs_data.specs.Writes.{grown, path_behind}
-use Rattle.qs_data.proofs.Entry.{path_grown, path_long}
+use Rattle.qs_data.specs.write.internal.Scalars.{scalar_text}
+use Rattle.qs_data.specs.write.internal.Writes.{grown, path_after}
+use Rattle.qs_data.proofs.lemmas.write.Entry.{path_grown, path_long}
 use Rattle.qs_data.proofs.write.entry.Walk.enter.Goals as goal
 
 pub returns-clause-ok : goal.returns-clause-ok
@@ -9,7 +9,7 @@ returns-clause-ok c = λ path at.
     let form = c.args.config.form in
     let s = scalar_text c.args.segment in
     let out = c.append_segment.new.out in
-    let same : out.items ≡ path_behind form (path ++ s ∷ []) =
+    let same : out.items ≡ path_after form (path ++ s ∷ []) =
     c.in_ok-append_segment.ensures.ok ∙ ap (λ f. grown f c.args.self.now.text.items s) c.get_form.ensures ∙ ap (λ t. grown form t s) at.text ∙ sym (path_grown form path s) in
     let short : length path ≤ c.args.config.max_depth = omega (arith, at.depth, c.get_max_depth.ensures) in
     let long = path_long form (path ++ s ∷ []) in

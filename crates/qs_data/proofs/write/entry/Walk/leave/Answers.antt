@@ -1,8 +1,9 @@
 use Rattle.std.proofs.Common.{◌∙◌, ap, sym, subst, take, ◌++◌, length-append, ◌∷◌, [], arith}
 use Rattle.std.specs.List.{All}
 use Rattle.std.proofs.lemmas.List.Elements.{All-take}
-use Rattle.qs_data.specs.Writes.{IsVisible, path_behind}
-use Rattle.qs_data.proofs.Entry.{path_left}
+use Rattle.qs_data.specs.write.State.{IsVisible}
+use Rattle.qs_data.specs.write.internal.Writes.{path_after}
+use Rattle.qs_data.proofs.lemmas.write.Entry.{path_left}
 use Rattle.qs_data.proofs.write.entry.Walk.leave.Goals as goal
 
 pub returns : goal.returns
@@ -11,6 +12,6 @@ returns c = λ form path s at len.
     let cut = c.truncate.ensures.items in
     record {
       depth = omega (arith, at.depth, length-append path (s ∷ []));
-      text = cut ∙ ap (take c.args.len) at.text ∙ ap (λ n. take n (path_behind form (path ++ s ∷ []))) len ∙ path_left form path s;
+      text = cut ∙ ap (take c.args.len) at.text ∙ ap (λ n. take n (path_after form (path ++ s ∷ []))) len ∙ path_left form path s;
       visible = subst (All IsVisible) (sym cut) (All-take IsVisible c.args.len items at.visible);
     }

@@ -1,6 +1,6 @@
 use Rattle.std.proofs.Common.{true, w8, refl, arith}
 use Rattle.qs_spec.specs.Scalar.{signed_number}
-use Rattle.qs_data.proofs.Refusals.{fault}
+use Rattle.qs_data.proofs.lemmas.read.Errors.{fault}
 use Rattle.serde_qs.proofs.NumberItems.{signed_read, signed_unread}
 use Rattle.serde_qs.proofs.helpers.signed.I8Item.parse.Goals as goal
 

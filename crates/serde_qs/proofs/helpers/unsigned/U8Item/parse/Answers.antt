@@ -1,6 +1,6 @@
 use Rattle.std.proofs.Common.{true}
 use Rattle.qs_spec.specs.Scalar.{unsigned_number}
-use Rattle.qs_data.proofs.Refusals.{fault}
+use Rattle.qs_data.proofs.lemmas.read.Errors.{fault}
 use Rattle.serde_qs.proofs.NumberItems.{unsigned_read, unsigned_unread}
 use Rattle.serde_qs.proofs.helpers.unsigned.U8Item.parse.Goals as goal
 

@@ -1,5 +1,5 @@
 use Rattle.std.proofs.Common.{◌≡◌, map, take}
-use Rattle.qs_data.specs.Views.{data_of}
+use Rattle.qs_data.specs.data.Views.{data_of}
 use Rattle.serde_qs.proofs.types.lists.VecSerialize.to_data.Given as goal
 
 abbrev pub invariant-loop-item : goal.invariant-loop-item

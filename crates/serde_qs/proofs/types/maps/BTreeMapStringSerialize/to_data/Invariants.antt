@@ -1,5 +1,5 @@
 use Rattle.std.proofs.Common.{◌≡◌, ◌++◌, map}
-use Rattle.qs_data.specs.Views.{pair_of}
+use Rattle.qs_data.specs.data.Views.{pair_of}
 use Rattle.serde_qs.specs.Maps.{entry_data}
 use Rattle.serde_qs.proofs.types.maps.BTreeMapStringSerialize.to_data.Given as goal
 

@@ -1,0 +1,7 @@
+use Rattle.std.proofs.Common.{◌≡◌, drop}
+use Rattle.qs_spec.specs.Listed.{are_scalars}
+use Rattle.qs_data.specs.data.Views.{values_in}
+use Rattle.qs_data.proofs.data.listed.are_scalars.Given as goal
+
+abbrev pub invariant-loop-item : goal.invariant-loop-item
+invariant-loop-item l = are_scalars (values_in l.items) ≡ are_scalars (values_in (drop l.item-index l.items))

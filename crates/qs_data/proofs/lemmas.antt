@@ -1,0 +1,5 @@
+-- Lemmas, by the folder of the sources that they serve.
+pub mod «data»
+pub mod shape
+pub mod read
+pub mod write

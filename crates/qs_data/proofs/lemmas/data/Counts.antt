@@ -1,0 +1,23 @@
+-- How many elements a list has, and whether there are any.
+use Rattle.std.proofs.Common.{◌≡◌, ◌==◌, false, not, List, [], ◌∷◌, length, refl, sym, ap, arith}
+use Rattle.std.proofs.lemmas.Bool.Decides.{nat_tests}
+use Rattle.std.specs.declared.string.String.{String}
+use Rattle.std.specs.declared.alloc.Global.{Global}
+use Rattle.qs_spec.specs.Plain.{count, has_values, has_members}
+use Rattle.qs_data.specs.data.Views.{values_in, members_in}
+use Rattle.qs_data.specs.declared.data.data.Data.{Data}
+
+pub count_is : (xs : List Data) → count (values_in xs) ≡ length xs
+count_is [] = refl
+count_is (x ∷ xs) = let e = count_is xs in grind (arith, e)
+
+pub not_empty : {X : Type 0} (x : X) (xs : List X) → (length (x ∷ xs) == 0) ≡ false
+not_empty x xs = grind (arith, nat_tests)
+
+pub some_values : (xs : List Data) → has_values (values_in xs) ≡ not (length xs == 0)
+some_values [] = refl
+some_values (x ∷ xs) = sym (ap not (not_empty x xs))
+
+pub some_members : (xs : List (String Global × Data)) → has_members (members_in xs) ≡ not (length xs == 0)
+some_members [] = refl
+some_members (x ∷ xs) = sym (ap not (not_empty x xs))

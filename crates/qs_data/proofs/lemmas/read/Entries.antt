@@ -1,0 +1,79 @@
+-- The entries of a map, place by place.
+use Rattle.std.proofs.Common.{◌≡◌, ℕ, zero, suc, ◌+◌, ◌≤◌, Bool, false, cond, ◌&&◌, length, slice_get, Option, Some, None, Result, Ok, Err, refl, sym, ap, subst, ◌∙◌, arith, add-one, inl, inr}
+use Rattle.std.proofs.lemmas.Bool.{cases_Bool}
+use Rattle.std.specs.Result.{MatchResult, result_and}
+use Rattle.std.specs.Option.{option_and_then}
+use Rattle.std.specs.Str.{is_utf8}
+use Rattle.qs_spec.specs.Segment.{Segment, Step, segment_text}
+use Rattle.qs_spec.specs.Tree.{Tree, Entries}
+use Rattle.qs_spec.specs.Tree.Entries.{no_entries, entry}
+use Rattle.qs_spec.specs.Node.{keys_are_text}
+use Rattle.qs_tree.specs.tree.Views.{entry_list}
+use Rattle.qs_data.specs.read.Text.{is_text, entries_are_text}
+use Rattle.qs_data.specs.read.internal.Keys.{NumbersFit, KeyFits, PassesTest, entries_after}
+use Rattle.qs_data.proofs.lemmas.read.Errors.{and_left, and_right}
+
+some_is : {A : Type 0} (a b : A) → Some a ≡ Some b → a ≡ b
+some_is a b h = cc
+
+pub after_some : (i : ℕ) (es : Entries) (x : Step × Tree) → slice_get (entry_list es) i ≡ Some x → entries_after i es ≡ entry x.0.seg x.0.mark x.1 (entries_after (i + 1) es)
+after_some zero no_entries x h = absurd cc
+after_some zero (entry k m t es) x h =
+    let first : Step × Tree = (record { seg = k; mark = m }, t) in
+    let e : first ≡ x = some_is first x h in
+    ap (λ (y : Step × Tree). entry y.0.seg y.0.mark y.1 es) e
+after_some (suc i) no_entries x h = absurd cc
+after_some (suc i) (entry k m t es) x h = rw add-one (after_some i es x h ∙ rw add-one)
+
+pub after_none : (i : ℕ) (es : Entries) → slice_get (entry_list es) i ≡ None → entries_after i es ≡ no_entries
+after_none zero no_entries h = refl
+after_none zero (entry k m t es) h = absurd cc
+after_none (suc i) no_entries h = refl
+after_none (suc i) (entry k m t es) h = after_none i es h
+
+pub after_all : (i : ℕ) (es : Entries) → length (entry_list es) ≤ i → entries_after i es ≡ no_entries
+after_all zero no_entries h = refl
+after_all zero (entry k m t es) h = absurd (omega arith)
+after_all (suc i) no_entries h = refl
+after_all (suc i) (entry k m t es) h = after_all i es (omega arith)
+
+-- a key that isn't a text stands among entries that aren't
+pub keys_bad : (es : Entries) → keys_are_text es ≡ false → entries_are_text es ≡ false
+keys_bad no_entries n = absurd cc
+keys_bad (entry k m t es) n = elim (cases_Bool (is_utf8 (segment_text k))) [
+  | inl is ↦ and_right (is_utf8 (segment_text k) && is_text t) (entries_are_text es) (keys_bad es (sym (ap (λ b. b && keys_are_text es) is) ∙ n))
+  | inr not ↦ and_left (is_utf8 (segment_text k) && is_text t) (entries_are_text es) (and_left (is_utf8 (segment_text k)) (is_text t) not)
+]
+
+-- nothing is read where a test fails
+pub untested : {A : Type 0} (test : Bool) (r : Option A) → test ≡ false → option_and_then (λ x. cond test (Some x) None) r ≡ None
+untested test None h = refl
+untested test (Some x) h = ap (λ b. cond b (Some x) None) h
+
+-- the keys before some that are left were tested
+pub record Tested {E : Type 0} (es rest : Entries) (tested : Result (Unit {0}) E) : Type 0 where
+  pub text : MatchResult tested (λ _. keys_are_text es ≡ keys_are_text rest) (λ _. keys_are_text es ≡ false)
+  pub fit : NumbersFit rest → NumbersFit es
+
+pub tested_all : {E : Type 0} (es : Entries) → Tested {E = E} es es (Ok tt)
+tested_all es = record { text = refl; fit = λ h. h }
+
+pub tested_done : {E : Type 0} (es rest : Entries) (x : Result (Unit {0}) E) → rest ≡ no_entries → Tested es rest x → PassesTest x (keys_are_text es)
+tested_done es rest (Ok y) h t = t.text ∙ ap keys_are_text h
+tested_done es rest (Err e) h t = t.text
+
+pub fit_done : {E : Type 0} (es rest : Entries) (x : Result (Unit {0}) E) → rest ≡ no_entries → Tested es rest x → NumbersFit es
+fit_done es rest x h t = t.fit (subst NumbersFit (sym h) tt)
+
+-- one more
+pub tested_more : {E : Type 0} (es more : Entries) (k : Segment) (m : Bool) (t : Tree) (x y : Result (Unit {0}) E) → Tested es (entry k m t more) x
+    → PassesTest y (is_utf8 (segment_text k)) → KeyFits k → Tested es more (result_and x y)
+tested_more {E = E} es more k m t x y h g f = record {
+  text = text x y h.text g;
+  fit = λ n. h.fit (f, n);
+} where
+  text : (x y : Result (Unit {0}) E) → MatchResult x (λ _. keys_are_text es ≡ keys_are_text (entry k m t more)) (λ _. keys_are_text es ≡ false)
+      → PassesTest y (is_utf8 (segment_text k)) → MatchResult (result_and x y) (λ _. keys_are_text es ≡ keys_are_text more) (λ _. keys_are_text es ≡ false)
+  text (Ok u) (Ok v) a b = a ∙ rw b refl
+  text (Ok u) (Err e) a b = a ∙ and_left (is_utf8 (segment_text k)) (keys_are_text more) b
+  text (Err e) y a b = a

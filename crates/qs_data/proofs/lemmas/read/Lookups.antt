@@ -1,0 +1,103 @@
+-- What a map has under a name is found by two look-ups.
+use Rattle.std.proofs.Common.{◌≡◌, ℕ, ◌<◌, ◌^◌, true, false, List, [], ◌∷◌, ◌++◌, Option, Some, None, decimal, Less, Equal, Greater, refl, sym, ap, subst, ltb, ◌∙◌, inl, inr, arith}
+use Rattle.std.specs.Str.{bytes_eq}
+use Rattle.std.specs.Ordering.{is_eq}
+use Rattle.std.specs.Cmp.{nat_cmp_is}
+use Rattle.std.proofs.lemmas.Bool.{cases_Bool, false≢true}
+use Rattle.std.proofs.lemmas.Bool.Decides.{nat_tests}
+use Rattle.std.proofs.lemmas.Fmt.{decimal_injective}
+use Rattle.std.proofs.lemmas.Map.Text.{is_eq-slice_cmp}
+use Rattle.std.proofs.lemmas.Slice.Eq.{bytes_eq-Decides}
+use Rattle.qs_spec.specs.Segment.{Segment, is_same_segment}
+use Rattle.qs_spec.specs.Segment.Segment.{Int, Str}
+use Rattle.qs_spec.specs.Tree.{Tree, Entries}
+use Rattle.qs_spec.specs.Tree.Entries.{no_entries, entry}
+use Rattle.qs_spec.specs.Node.{found}
+use Rattle.std.specs.Option.{option_map}
+use Rattle.std.specs.Borrow.{Bor}
+use Rattle.qs_tree.specs.declared.tree.value.ParsedValue.{ParsedValue}
+use Rattle.qs_tree.specs.tree.Views.{find, tree_of}
+use Rattle.qs_tree.specs.tree.Ordered.{IsBefore, AreOrdered}
+use Rattle.qs_data.specs.read.internal.Keys.{NumbersFit, value_in}
+
+-- what comes after a key is not that key
+absent : (s : Segment) (es : Entries) → IsBefore s es → find s es ≡ None
+absent s no_entries h = refl
+absent s (entry k m t es) h = rw h.0 (absent s es h.1)
+
+-- no number comes after a text
+no_number : (b : List ℕ) (n : ℕ) (es : Entries) → IsBefore (Str b) es → find (Int n) es ≡ None
+no_number b n no_entries h = refl
+no_number b n (entry (Int j) m t es) h = absurd cc
+no_number b n (entry (Str c) m t es) h = no_number b n es h.1
+
+abbrev pub list : Option Tree → List Tree
+list None = []
+list (Some t) = t ∷ []
+
+pub bytes_eq_true : (a b : List ℕ) → bytes_eq a b ≡ true → a ≡ b
+bytes_eq_true a b h = (bytes_eq-Decides a b).0 h
+
+pub bytes_eq_same : (a b : List ℕ) → a ≡ b → bytes_eq a b ≡ true
+bytes_eq_same a b h = (bytes_eq-Decides a b).1 h
+
+bytes_eq_sym : (a b : List ℕ) → bytes_eq a b ≡ bytes_eq b a
+bytes_eq_sym a b = elim (cases_Bool (bytes_eq a b)) [
+  | inl is ↦ is ∙ sym (bytes_eq_same b a (sym (bytes_eq_true a b is)))
+  | inr not ↦ elim (cases_Bool (bytes_eq b a)) [
+    | inl is ↦ absurd (false≢true (sym not ∙ bytes_eq_same a b (sym (bytes_eq_true b a is))))
+    | inr both ↦ not ∙ sym both
+  ]
+]
+
+number_same : (n j : ℕ) → n ≡ j → is_same_segment (Int n) (Int j) ≡ true
+number_same n j h = ap is_eq (sym (nat_cmp_is n j Equal h))
+
+number_other : (n j : ℕ) → (n ≡ j → ⊥) → is_same_segment (Int n) (Int j) ≡ false
+number_other n j h = elim (cases_Bool (ltb n j)) [
+  | inl is ↦ ap is_eq (sym (nat_cmp_is n j Less (grind (arith, nat_tests))))
+  | inr not ↦ let gt : j < n = grind (arith, nat_tests, h) in ap is_eq (sym (nat_cmp_is n j Greater gt))
+]
+
+same_text : (b name : List ℕ) → is_same_segment (Str name) (Str b) ≡ bytes_eq b name
+same_text b name = is_eq-slice_cmp name b ∙ bytes_eq_sym name b
+
+-- a name that is no number
+pub found_text : (name : List ℕ) (es : Entries) → AreOrdered es → NumbersFit es → ((n : ℕ) → n < 2 ^ 32 → decimal n ≡ name → ⊥) → found name es ≡ list (find (Str name) es)
+found_text name no_entries o f h = refl
+found_text name (entry (Int j) m t es) o f h = elim (cases_Bool (bytes_eq (decimal j) name)) [
+  | inl is ↦ absurd (h j f.0 (bytes_eq_true (decimal j) name is))
+  | inr not ↦ rw not (found_text name es o.1 f.1 h)
+]
+found_text name (entry (Str b) m t es) o f h = elim (cases_Bool (bytes_eq b name)) [
+  | inl is ↦
+      let before : IsBefore (Str name) es = subst (λ x. IsBefore (Str x) es) (bytes_eq_true b name is) o.0 in
+      let rest : found name es ≡ [] = found_text name es o.1 f.1 h ∙ ap list (absent (Str name) es before) in
+      rw (same_text b name, is) (ap (λ ts. t ∷ ts) rest)
+  | inr not ↦ rw (same_text b name, not) (found_text name es o.1 f.1 h)
+]
+
+-- a name that is a number
+pub found_number : (name : List ℕ) (n : ℕ) (es : Entries) → AreOrdered es → NumbersFit es → n < 2 ^ 32 → decimal n ≡ name → found name es ≡ list (find (Int n) es) ++ list (find (Str name) es)
+found_number name n no_entries o f lt is = refl
+found_number name n (entry (Int j) m t es) o f lt is = elim (cases_Bool (bytes_eq (decimal j) name)) [
+  | inl here ↦
+      let same : n ≡ j = decimal_injective n j (omega arith) (omega (arith, f.0)) (is ∙ sym (bytes_eq_true (decimal j) name here)) in
+      let before : IsBefore (Int n) es = subst (λ x. IsBefore (Int x) es) (sym same) o.0 in
+      let rest : found name es ≡ list (find (Str name) es) = found_number name n es o.1 f.1 lt is ∙ ap (λ r. list r ++ list (find (Str name) es)) (absent (Int n) es before) in
+      rw (number_same n j same, here) (ap (λ ts. t ∷ ts) rest)
+  | inr not ↦
+      let other : n ≡ j → ⊥ = λ e. false≢true (sym not ∙ bytes_eq_same (decimal j) name (ap decimal (sym e) ∙ is)) in
+      rw (number_other n j other, not) (found_number name n es o.1 f.1 lt is)
+]
+found_number name n (entry (Str b) m t es) o f lt is = elim (cases_Bool (bytes_eq b name)) [
+  | inl here ↦
+      let before : IsBefore (Str name) es = subst (λ x. IsBefore (Str x) es) (bytes_eq_true b name here) o.0 in
+      let rest : found name es ≡ [] = found_number name n es o.1 f.1 lt is ∙ ap (λ r. list r ++ list (find (Str name) es)) (no_number b n es o.0) ∙ ap list (absent (Str name) es before) in
+      rw (same_text b name, here, no_number b n es o.0) (ap (λ ts. t ∷ ts) rest)
+  | inr not ↦ rw (same_text b name, not) (found_number name n es o.1 f.1 lt is)
+]
+
+pub value_list : (r : Option (Bor ParsedValue)) (s k : Segment) (es : Entries) → option_map (λ v. tree_of v.now) r ≡ find s es → s ≡ k → value_in r ≡ list (find k es)
+value_list None s k es h e = ap list (h ∙ ap (λ x. find x es) e)
+value_list (Some v) s k es h e = ap list (h ∙ ap (λ x. find x es) e)

@@ -1,0 +1,237 @@
+-- What std reads as a number is what the definitions read.
+use Rattle.std.proofs.Common.{◌≡◌, ℕ, zero, suc, slice_index, ◌+◌, ◌-◌, ◌*◌, ◌^◌, ◌<◌, ◌≤◌, ◌⊎◌, inl, inr, Bool, true, false, cond, decimal, List, [], ◌∷◌, fold, Some, None, ℤ, pos, neg_ℤ, ◌≤ℤ◌, ◌<ℤ◌, w64, refl, sym, ap, ◌∙◌, subst, arith, rules, eqb}
+use Rattle.std.specs.List.{list_all}
+use Rattle.std.specs.Str.{IsAscii, is_utf8}
+use Rattle.std.specs.Str.Parse.{IsNumeral, digits_value, signed_digits_value, starts_with_minus, without_leading_plus, without_leading_sign}
+use Rattle.std.specs.Int.RustNames.{FitsSigned}
+use Rattle.std.specs.Option.{option_map}
+use Rattle.std.proofs.lemmas.Int.{ints}
+use Rattle.std.proofs.lemmas.Fmt.{IsAscii-decimal}
+use Rattle.std.proofs.lemmas.Bool.{cases_Bool, false≢true}
+use Rattle.std.proofs.lemmas.Bool.Decides.{nat_tests}
+use Rattle.std.proofs.lemmas.Str.Parse.{IsNumeralModel, numerals_by_fold}
+use Rattle.std.proofs.lemmas.Str.{IsUtf8-from_ascii, is_utf8-from_IsUtf8}
+use Rattle.qs_data.specs.declared.shape.width.Width.{Width}
+use Rattle.qs_data.specs.declared.shape.width.Width.TheVariants.{Bits8, Bits16, Bits32, Bits64}
+use Rattle.qs_data.specs.shape.internal.Widths.{bits_of}
+use Rattle.qs_spec.specs.Escape.{is_between}
+use Rattle.qs_spec.specs.Segment.{number}
+use Rattle.qs_spec.specs.Scalar.{is_numeral, numeral_up_to, unsigned_number, signed_number}
+
+abbrev AreDigits : List ℕ → Type 0
+AreDigits ds = list_all (is_between 48 57) ds ≡ true
+
+abbrev number_after : ℕ → List ℕ → ℕ
+number_after n ds = fold (λ m b. 10 * m + (b - 48)) n ds
+
+own : IsNumeralModel AreDigits (number_after 0)
+own = numerals_by_fold AreDigits (search rules) number_after (search rules)
+
+-- a numeral by the test is one by std
+numeral_holds : (ds : List ℕ) → is_numeral ds ≡ true → IsNumeral 10 ds
+numeral_holds [] h = absurd (search rules)
+numeral_holds (d ∷ ds) h = (omega arith, own.to (d ∷ ds) h)
+
+numeral_is : (ds : List ℕ) → IsNumeral 10 ds → is_numeral ds ≡ true
+numeral_is [] h = absurd (omega (arith, h.0))
+numeral_is (d ∷ ds) h = own.from (d ∷ ds) h.1
+
+value_is : (ds : List ℕ) → IsNumeral 10 ds → number ds ≡ digits_value 10 ds
+value_is ds h = own.same ds h.1
+
+pub numeral_within : (most : ℕ) (ds : List ℕ) → IsNumeral 10 ds → digits_value 10 ds ≤ most → numeral_up_to most ds ≡ Some (digits_value 10 ds)
+numeral_within most ds h le = let e = numeral_is ds h in let v = value_is ds h in grind (arith, nat_tests)
+
+pub numeral_past : (most : ℕ) (ds : List ℕ) → IsNumeral 10 ds → most < digits_value 10 ds → numeral_up_to most ds ≡ None
+numeral_past most ds h lt = let e = numeral_is ds h in let v = value_is ds h in grind (arith, nat_tests)
+
+pub numeral_none : (most : ℕ) (ds : List ℕ) → ¬ (IsNumeral 10 ds) → numeral_up_to most ds ≡ None
+numeral_none most ds h = elim (cases_Bool (is_numeral ds)) [
+  | inl is ↦ absurd (h (numeral_holds ds is))
+  | inr not ↦ rw not
+]
+
+pub unsigned_is : (bits : ℕ) (bs : List ℕ) → unsigned_number bits bs ≡ numeral_up_to (2 ^ bits - 1) (without_leading_plus bs)
+unsigned_is bits [] = refl
+unsigned_is bits (b ∷ bs) = elim (cases_Bool (eqb b 43)) [
+  | inl plus ↦ rw plus
+  | inr plain ↦ rw plain
+]
+
+-- digits are text
+digit_ascii : (d : ℕ) (ds : List ℕ) → AreDigits (d ∷ ds) → d < 128
+digit_ascii d ds h = grind (arith, nat_tests, h)
+
+digits_left : (d : ℕ) (ds : List ℕ) → AreDigits (d ∷ ds) → AreDigits ds
+digits_left d ds h = grind (arith, nat_tests, h)
+
+digits_ascii : (ds : List ℕ) → AreDigits ds → IsAscii ds
+digits_ascii [] h i = omega arith
+digits_ascii (d ∷ ds) h i = by_place (digit_ascii d ds h) (digits_ascii ds (digits_left d ds h)) i where
+  by_place : d < 128 → IsAscii ds → (j : ℕ) → slice_index (d ∷ ds) j < 128
+  by_place lt rest zero = lt
+  by_place lt rest (suc j) = rest j
+
+numeral_digits : (ds : List ℕ) → is_numeral ds ≡ true → AreDigits ds
+numeral_digits [] h = absurd (search rules)
+numeral_digits (d ∷ ds) h = h
+
+byte_ascii : (b : ℕ) (bs : List ℕ) → list_all (is_between 0 127) (b ∷ bs) ≡ true → (b < 128) × (list_all (is_between 0 127) bs ≡ true)
+byte_ascii b bs h = (grind (arith, nat_tests, h), grind (arith, nat_tests, h))
+
+all_ascii : (bs : List ℕ) → list_all (is_between 0 127) bs ≡ true → IsAscii bs
+all_ascii [] h i = omega arith
+all_ascii (b ∷ bs) h i = by_place (byte_ascii b bs h).0 (all_ascii bs (byte_ascii b bs h).1) i where
+  by_place : b < 128 → IsAscii bs → (j : ℕ) → slice_index (b ∷ bs) j < 128
+  by_place lt rest zero = lt
+  by_place lt rest (suc j) = rest j
+
+pub word_text : (bs : List ℕ) → list_all (is_between 0 127) bs ≡ true → is_utf8 bs ≡ true
+word_text bs h = is_utf8-from_IsUtf8 bs (IsUtf8-from_ascii bs (all_ascii bs h))
+
+ascii_text : (bs : List ℕ) → IsAscii bs → is_utf8 bs ≡ true
+ascii_text bs h = is_utf8-from_IsUtf8 bs (IsUtf8-from_ascii bs h)
+
+-- and so they are after a sign
+sign_text : (b : ℕ) (ds : List ℕ) → b < 128 → is_numeral ds ≡ true → is_utf8 (b ∷ ds) ≡ true
+sign_text b ds lt h = ascii_text (b ∷ ds) by_place where
+  by_place : IsAscii (b ∷ ds)
+  by_place zero = lt
+  by_place (suc i) = digits_ascii ds (numeral_digits ds h) i
+
+plain_text : (ds : List ℕ) → is_numeral ds ≡ true → is_utf8 ds ≡ true
+plain_text ds h = ascii_text ds (digits_ascii ds (numeral_digits ds h))
+
+plus_text : (bs : List ℕ) → is_numeral (without_leading_plus bs) ≡ true → is_utf8 bs ≡ true
+plus_text [] h = absurd (search rules)
+plus_text (b ∷ bs) h = elim (cases_Bool (eqb b 43)) [
+  | inl plus ↦ sign_text b bs (grind (arith, nat_tests)) (rw plus at h)
+  | inr plain ↦ plain_text (b ∷ bs) (rw plain at h)
+]
+
+-- an unsigned number, by what std reads
+pub unsigned_ok : (bits : ℕ) (bs : List ℕ) (n : ℕ) → IsNumeral 10 (without_leading_plus bs) → n ≡ digits_value 10 (without_leading_plus bs) → n ≤ 2 ^ bits - 1 → unsigned_number bits bs ≡ Some n
+unsigned_ok bits bs n h is le = unsigned_is bits bs ∙ numeral_within (2 ^ bits - 1) (without_leading_plus bs) h (subst (λ m. m ≤ 2 ^ bits - 1) is le) ∙ ap Some (sym is)
+
+pub unsigned_past : (bits : ℕ) (bs : List ℕ) (n : ℕ) → IsNumeral 10 (without_leading_plus bs) → n ≡ digits_value 10 (without_leading_plus bs) → 2 ^ bits - 1 < n → unsigned_number bits bs ≡ None
+unsigned_past bits bs n h is lt = unsigned_is bits bs ∙ numeral_past (2 ^ bits - 1) (without_leading_plus bs) h (subst (λ m. 2 ^ bits - 1 < m) is lt)
+
+pub unsigned_err : (bits : ℕ) (bs : List ℕ) → ¬ (IsNumeral 10 (without_leading_plus bs) × (digits_value 10 (without_leading_plus bs) < 2 ^ 64)) → 2 ^ bits ≤ 2 ^ 64 → unsigned_number bits bs ≡ None
+unsigned_err bits bs h le = elim (cases_Bool (is_numeral (without_leading_plus bs))) [
+  | inl is ↦ let v = digits_value 10 (without_leading_plus bs) in
+      let held = numeral_holds (without_leading_plus bs) is in
+      let large : v < 2 ^ 64 → ⊥ = λ lt. h (held, lt) in
+      unsigned_is bits bs ∙ numeral_past (2 ^ bits - 1) (without_leading_plus bs) held (omega arith)
+  | inr not ↦ unsigned_is bits bs ∙ rw not
+]
+
+pub unsigned_text : (bits : ℕ) (bs : List ℕ) → is_utf8 bs ≡ false → unsigned_number bits bs ≡ None
+unsigned_text bits bs h = elim (cases_Bool (is_numeral (without_leading_plus bs))) [
+  | inl is ↦ let same = plus_text bs is in absurd (false≢true (sym h ∙ same))
+  | inr not ↦ unsigned_is bits bs ∙ rw not
+]
+
+pub width_fits : (w : Width) → 2 ^ bits_of w ≤ 2 ^ 64
+width_fits Bits8 = omega arith
+width_fits Bits16 = omega arith
+width_fits Bits32 = omega arith
+width_fits Bits64 = omega arith
+
+-- a signed number by its sign
+signed_is : (bits : ℕ) (bs : List ℕ) → signed_number bits bs
+    ≡ cond (starts_with_minus bs) (option_map (λ n. neg_ℤ (pos n)) (numeral_up_to (2 ^ (bits - 1)) (without_leading_sign bs))) (option_map pos (numeral_up_to (2 ^ (bits - 1) - 1) (without_leading_sign bs)))
+signed_is bits [] = refl
+signed_is bits (b ∷ bs) = elim (cases_Bool (eqb b 45)) [
+  | inl minus ↦ rw minus
+  | inr other ↦ elim (cases_Bool (eqb b 43)) [
+    | inl plus ↦ rw (other, plus)
+    | inr plain ↦ rw (other, plain)
+  ]
+]
+
+minus_is : (bits : ℕ) (bs : List ℕ) → starts_with_minus bs ≡ true → signed_number bits bs ≡ option_map (λ n. neg_ℤ (pos n)) (numeral_up_to (2 ^ (bits - 1)) (without_leading_sign bs))
+minus_is bits bs h = signed_is bits bs ∙ rw h
+
+plain_is : (bits : ℕ) (bs : List ℕ) → starts_with_minus bs ≡ false → signed_number bits bs ≡ option_map pos (numeral_up_to (2 ^ (bits - 1) - 1) (without_leading_sign bs))
+plain_is bits bs h = signed_is bits bs ∙ rw h
+
+abbrev size_of : List ℕ → ℕ
+size_of bs = digits_value 10 (without_leading_sign bs)
+
+minus_value : (bs : List ℕ) → starts_with_minus bs ≡ true → signed_digits_value 10 bs ≡ neg_ℤ (pos (size_of bs))
+minus_value bs h = rw h
+
+plain_value : (bs : List ℕ) → starts_with_minus bs ≡ false → signed_digits_value 10 bs ≡ pos (size_of bs)
+plain_value bs h = rw h
+
+pub signed_ok : (bits : ℕ) (bs : List ℕ) (z : ℤ) → IsNumeral 10 (without_leading_sign bs) → z ≡ signed_digits_value 10 bs → neg_ℤ (pos (2 ^ (bits - 1))) ≤ℤ z → z ≤ℤ pos (2 ^ (bits - 1) - 1) → signed_number bits bs ≡ Some z
+signed_ok bits bs z h is low high = elim (cases_Bool (starts_with_minus bs)) [
+  | inl minus ↦ let e = is ∙ minus_value bs minus in
+      let le : size_of bs ≤ 2 ^ (bits - 1) = omega (arith, ints) in
+      minus_is bits bs minus ∙ ap (option_map (λ n. neg_ℤ (pos n))) (numeral_within (2 ^ (bits - 1)) (without_leading_sign bs) h le) ∙ ap Some (sym e)
+  | inr plain ↦ let e = is ∙ plain_value bs plain in
+      let le : size_of bs ≤ 2 ^ (bits - 1) - 1 = omega (arith, ints) in
+      plain_is bits bs plain ∙ ap (option_map pos) (numeral_within (2 ^ (bits - 1) - 1) (without_leading_sign bs) h le) ∙ ap Some (sym e)
+]
+
+pub signed_past : (bits : ℕ) (bs : List ℕ) (z : ℤ) → IsNumeral 10 (without_leading_sign bs) → z ≡ signed_digits_value 10 bs → (z <ℤ neg_ℤ (pos (2 ^ (bits - 1)))) ⊎ (pos (2 ^ (bits - 1) - 1) <ℤ z) → signed_number bits bs ≡ None
+signed_past bits bs z h is out = elim (cases_Bool (starts_with_minus bs)) [
+  | inl minus ↦ let e = is ∙ minus_value bs minus in
+      let lt : 2 ^ (bits - 1) < size_of bs = omega (arith, ints) in
+      minus_is bits bs minus ∙ ap (option_map (λ n. neg_ℤ (pos n))) (numeral_past (2 ^ (bits - 1)) (without_leading_sign bs) h lt)
+  | inr plain ↦ let e = is ∙ plain_value bs plain in
+      let lt : 2 ^ (bits - 1) - 1 < size_of bs = omega (arith, ints) in
+      plain_is bits bs plain ∙ ap (option_map pos) (numeral_past (2 ^ (bits - 1) - 1) (without_leading_sign bs) h lt)
+]
+
+same_either : {A : Type 0} (b : Bool) (x : A) → cond b x x ≡ x
+same_either true x = refl
+same_either false x = refl
+
+negative_fits : (n : ℕ) → n ≤ 2 ^ 63 → FitsSigned w64 (neg_ℤ (pos n))
+negative_fits zero h = record { sfits = omega arith }
+negative_fits (suc n) h = record { sfits = omega arith }
+
+positive_fits : (n : ℕ) → n < 2 ^ 63 → FitsSigned w64 (pos n)
+positive_fits n h = record { sfits = h }
+
+sign_is_text : (bs : List ℕ) → is_numeral (without_leading_sign bs) ≡ true → is_utf8 bs ≡ true
+sign_is_text [] h = absurd (search rules)
+sign_is_text (b ∷ bs) h = elim (cases_Bool (eqb b 45)) [
+  | inl minus ↦ sign_text b bs (grind (arith, nat_tests)) (rw minus at h)
+  | inr other ↦ plus_text (b ∷ bs) (rw other at h)
+]
+
+pub signed_text : (bits : ℕ) (bs : List ℕ) → is_utf8 bs ≡ false → signed_number bits bs ≡ None
+signed_text bits bs h = elim (cases_Bool (is_numeral (without_leading_sign bs))) [
+  | inl is ↦ absurd (false≢true (sym h ∙ sign_is_text bs is))
+  | inr not ↦ signed_is bits bs ∙ rw not (same_either (starts_with_minus bs) None)
+]
+
+pub signed_err : (bits : ℕ) (bs : List ℕ) → ¬ (IsNumeral 10 (without_leading_sign bs) × FitsSigned w64 (signed_digits_value 10 bs)) → 2 ^ (bits - 1) ≤ 2 ^ 63 → signed_number bits bs ≡ None
+signed_err bits bs h le = elim (cases_Bool (is_numeral (without_leading_sign bs))) [
+  | inl is ↦
+      let held = numeral_holds (without_leading_sign bs) is in
+      elim (cases_Bool (starts_with_minus bs)) [
+        | inl minus ↦
+            let large : size_of bs ≤ 2 ^ 63 → ⊥ = λ small. h (held, rw (minus_value bs minus) (negative_fits (size_of bs) small)) in
+            minus_is bits bs minus ∙ ap (option_map (λ n. neg_ℤ (pos n))) (numeral_past (2 ^ (bits - 1)) (without_leading_sign bs) held (omega arith))
+        | inr plain ↦
+            let large : size_of bs < 2 ^ 63 → ⊥ = λ small. h (held, rw (plain_value bs plain) (positive_fits (size_of bs) small)) in
+            plain_is bits bs plain ∙ ap (option_map pos) (numeral_past (2 ^ (bits - 1) - 1) (without_leading_sign bs) held (omega arith))
+      ]
+  | inr not ↦ signed_is bits bs ∙ rw not (same_either (starts_with_minus bs) None)
+]
+
+pub signed_width_fits : (w : Width) → 2 ^ (bits_of w - 1) ≤ 2 ^ 63
+signed_width_fits Bits8 = omega arith
+signed_width_fits Bits16 = omega arith
+signed_width_fits Bits32 = omega arith
+signed_width_fits Bits64 = omega arith
+
+-- a number's digits are text
+pub decimal_text : (n : ℕ) → n < 2 ^ 32 → is_utf8 (decimal n) ≡ true
+decimal_text n lt = ascii_text (decimal n) (IsAscii-decimal n (omega arith))
+
+pub empty_text : is_utf8 [] ≡ true
+empty_text = word_text [] refl

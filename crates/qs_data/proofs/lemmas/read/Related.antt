@@ -1,0 +1,30 @@
+-- From the function of reading, of which the reader's own functions speak, to the relation, of which callers read.
+use Rattle.std.proofs.Common.{◌≡◌, true, Result, Ok, Err, None}
+use Rattle.qs_spec.specs.Config.{are_rejected}
+use Rattle.qs_spec.specs.Shape.{Shape, is_distinct}
+use Rattle.qs_spec.specs.Relation.{ReadsNothing}
+use Rattle.qs_spec.specs.internal.ReadFunction.{read_by}
+use Rattle.qs_spec.proofs.ReadingIsRelation.{related, none_related}
+use Rattle.qs_tree.specs.declared.error.Error.{Error}
+use Rattle.qs_tree.specs.declared.error.Error.TheVariants.{Custom, Utf8, OutOfMemory}
+use Rattle.qs_data.specs.declared.data.data.Data.{Data}
+use Rattle.qs_data.specs.data.Views.{data_of}
+use Rattle.qs_data.specs.read.Text.{is_text}
+use Rattle.qs_data.specs.read.Gives.{Gives}
+use Rattle.qs_data.specs.read.internal.Frugal.{IsFrugal}
+use Rattle.qs_data.specs.read.Parsed.{Parsed, ReturnsData, SparesMemory}
+
+nothing : (parsed : Parsed) (shape : Shape) → is_distinct shape ≡ true → read_by parsed.config shape parsed.tree ≡ None → ReadsNothing parsed.config shape parsed.tree
+nothing parsed shape dist = (none_related (are_rejected parsed.config.duplicates) shape parsed.tree dist).1
+
+pub returns_data : (parsed : Parsed) (shape : Shape) (result : Result Data Error) → is_distinct shape ≡ true
+    → Gives data_of (is_text parsed.tree) result (read_by parsed.config shape parsed.tree) → ReturnsData parsed shape result
+returns_data parsed shape (Ok d) dist g = related (are_rejected parsed.config.duplicates) shape parsed.tree (data_of d) g
+returns_data parsed shape (Err (Custom message)) dist g = nothing parsed shape dist g
+returns_data parsed shape (Err (Utf8 cause)) dist g = (nothing parsed shape dist g.0, g.1)
+returns_data parsed shape (Err OutOfMemory) dist g = tt
+returns_data parsed shape (Err _) dist g = absurd g
+
+pub spares_memory : (parsed : Parsed) (shape : Shape) (result : Result Data Error) → is_distinct shape ≡ true → IsFrugal result (read_by parsed.config shape parsed.tree) → SparesMemory parsed shape result
+spares_memory parsed shape (Err OutOfMemory) dist f = nothing parsed shape dist f
+spares_memory parsed shape _ dist f = tt

@@ -1,0 +1,32 @@
+-- The parts of a tuple, one after the other.
+use Rattle.std.proofs.Common.{◌≡◌, ℕ, Bool, ◌+◌, ◌<◌, List, [], ◌∷◌, ◌++◌, length, get_or, drop, Option, Some, None, sym, ap, ◌∙◌}
+use Rattle.std.proofs.lemmas.List.{drop_more}
+use Rattle.std.specs.Option.{option_and_then}
+use Rattle.qs_spec.specs.Data.{Data}
+use Rattle.qs_spec.specs.Tree.{Tree}
+use Rattle.qs_spec.specs.internal.ReadFunction.{reads, reads_tuple, with_front}
+use Rattle.qs_data.specs.declared.shape.shape.Shape.{Shape}
+use Rattle.qs_data.specs.shape.Views.{shape_of, shapes_in}
+use Rattle.qs_data.specs.read.internal.Items.{first_item}
+use Rattle.qs_data.proofs.lemmas.read.Items.{first_some}
+use Rattle.qs_data.proofs.lemmas.read.Steps.{before, before-front}
+
+module _ (st : Bool) (ss : List Shape) (i : ℕ) (s : Shape) (xs : List (Option Tree)) (ws : List Data) (here : i < length ss) (is : s ≡ get_or ss i s) where
+  abbrev rest : Option (List Data)
+  rest = reads_tuple st (shapes_in (drop (i + 1) ss)) (drop (i + 1) xs)
+
+  parts_at : (t : Tree) → first_item (drop i xs) ≡ Some (Some t)
+      → before ws (reads_tuple st (shapes_in (drop i ss)) (drop i xs)) ≡ before ws (option_and_then (λ d. with_front d rest) (reads st (shape_of s) t))
+  unfolding reads
+  parts_at t h =
+      let split : drop i ss ≡ s ∷ drop (i + 1) ss = drop_more ss i s here ∙ ap (λ y. y ∷ drop (i + 1) ss) (sym is) in
+      ap (λ ys. before ws (reads_tuple st (shapes_in ys) (drop i xs))) split
+      ∙ ap (λ ys. before ws (reads_tuple st (shapes_in (s ∷ drop (i + 1) ss)) ys)) (first_some xs i t h)
+
+  pub parts_more : (t : Tree) (d : Data) → first_item (drop i xs) ≡ Some (Some t) → reads st (shape_of s) t ≡ Some d
+      → before ws (reads_tuple st (shapes_in (drop i ss)) (drop i xs)) ≡ before (ws ++ d ∷ []) rest
+  parts_more t d h g = parts_at t h ∙ ap (λ o. before ws (option_and_then (λ d. with_front d rest) o)) g ∙ before-front ws d rest
+
+  pub parts_unread : (t : Tree) → first_item (drop i xs) ≡ Some (Some t) → reads st (shape_of s) t ≡ None
+      → before ws (reads_tuple st (shapes_in (drop i ss)) (drop i xs)) ≡ None
+  parts_unread t h g = parts_at t h ∙ ap (λ o. before ws (option_and_then (λ d. with_front d rest) o)) g

@@ -1,0 +1,37 @@
+-- Keys that are fields' names, one after the other.
+use Rattle.std.proofs.Common.{◌≡◌, ℕ, ◌+◌, ◌≤◌, Bool, true, false, ◌&&◌, length, slice_get, Some, None, refl, ap, ◌∙◌}
+use Rattle.qs_spec.specs.Segment.{Step, segment_text}
+use Rattle.qs_spec.specs.Shape.{Fields, is_field_name}
+use Rattle.qs_spec.specs.Tree.{Tree, Entries}
+use Rattle.qs_spec.specs.Node.{keys_are_names}
+use Rattle.qs_tree.specs.tree.Views.{entry_list}
+use Rattle.qs_data.specs.read.internal.Keys.{when}
+use Rattle.qs_data.specs.read.internal.Keys.{entries_after}
+use Rattle.qs_data.proofs.lemmas.read.Entries.{after_some, after_none, after_all}
+use Rattle.qs_data.proofs.lemmas.read.Errors.{and_left}
+
+-- what passes a test, and what doesn't
+pub passes : (test : Bool) → when test ≡ Some tt → test ≡ true
+passes true h = refl
+passes false h = absurd cc
+
+pub fails : (test : Bool) → when test ≡ None → test ≡ false
+fails true h = absurd cc
+fails false h = refl
+
+module _ (fs : Fields) (es : Entries) (i : ℕ) where
+  pub names_end : slice_get (entry_list es) i ≡ None → keys_are_names fs (entries_after i es) ≡ true
+  names_end h = ap (keys_are_names fs) (after_none i es h)
+
+  pub names_all : length (entry_list es) ≤ i → keys_are_names fs (entries_after i es) ≡ true
+  names_all h = ap (keys_are_names fs) (after_all i es h)
+
+  module _ (x : Step × Tree) (here : slice_get (entry_list es) i ≡ Some x) where
+    abbrev rest : Bool
+    rest = keys_are_names fs (entries_after (i + 1) es)
+
+    pub name_more : is_field_name (segment_text x.0.seg) fs ≡ true → keys_are_names fs (entries_after i es) ≡ rest
+    name_more is = ap (keys_are_names fs) (after_some i es x here) ∙ ap (λ b. b && rest) is
+
+    pub name_fails : is_field_name (segment_text x.0.seg) fs ≡ false → keys_are_names fs (entries_after i es) ≡ false
+    name_fails not = ap (keys_are_names fs) (after_some i es x here) ∙ and_left (is_field_name (segment_text x.0.seg) fs) rest not

@@ -1,0 +1,132 @@
+-- One entry: where the walk is, how the entry is written there, and what its puts leave.
+use Rattle.std.proofs.Common.{◌≡◌, ℕ, ◌<◌, ◌≤◌, Bool, true, false, not, eqb, cond, List, [], ◌∷◌, ◌++◌, length, take, drop, refl, sym, ap, ◌∙◌, subst, Option, Some, append_assoc, append-nil, length-append, arith}
+use Rattle.std.proofs.Math.Seq.{take-append_seam}
+use Rattle.std.proofs.Math.Bool.{or-false}
+use Rattle.std.proofs.lemmas.Bool.{ne_eqb}
+use Rattle.std.proofs.lemmas.List.Elements.{All-take}
+use Rattle.std.specs.Prelude.{◌||◌}
+use Rattle.std.specs.List.{All}
+use Rattle.std.specs.Io.KnownBytes.{Appends}
+use Rattle.qs_spec.specs.Escape.{encoded}
+use Rattle.qs_spec.specs.Config.{Config}
+use Rattle.qs_spec.specs.Entry.{Path, Output}
+use Rattle.qs_spec.specs.Written.{written, started_after, entry_text, path_text, brackets_text, value_text, has_key, open_bytes, close_bytes}
+use Rattle.qs_data.specs.declared.write.entry.Walk.{Walk}
+use Rattle.qs_data.specs.declared.write.stop.Stop.{Stop}
+use Rattle.qs_data.specs.declared.write.stop.Stop.TheVariants.{Io}
+use Rattle.qs_data.specs.write.State.{IsVisible}
+use Rattle.qs_data.specs.write.internal.Writes.{IsAt, StreamState, Adds, AddsPart, Stops, path_after, grown}
+
+-- a segment in brackets
+abbrev bracketed : Bool → List ℕ → List ℕ
+bracketed form s = open_bytes form ++ (encoded form s ++ close_bytes form)
+
+brackets-append : (form : Bool) (path : Path) (s : List ℕ) → brackets_text form (path ++ s ∷ []) ≡ brackets_text form path ++ bracketed form s
+brackets-append form [] s = ap (λ t. open_bytes form ++ (encoded form s ++ t)) (append-nil (close_bytes form))
+brackets-append form (x ∷ path) s =
+    ap (λ t. open_bytes form ++ (encoded form x ++ (close_bytes form ++ t))) (brackets-append form path s)
+    ∙ sym (append_assoc (open_bytes form) (encoded form x ++ (close_bytes form ++ brackets_text form path)) (bracketed form s)
+    ∙ ap (λ t. open_bytes form ++ t) (append_assoc (encoded form x) (close_bytes form ++ brackets_text form path) (bracketed form s)
+    ∙ ap (λ t. encoded form x ++ t) (append_assoc (close_bytes form) (brackets_text form path) (bracketed form s))))
+
+-- one more segment
+pub path_grown : (form : Bool) (path : Path) (s : List ℕ) → path_after form (path ++ s ∷ []) ≡ grown form (path_after form path) s
+path_grown form [] s = ap (λ t. 38 ∷ t) (append-nil (encoded form s))
+path_grown form (x ∷ path) s =
+    ap (λ t. 38 ∷ (encoded form x ++ t)) (brackets-append form path s)
+    ∙ ap (λ t. 38 ∷ t) (sym (append_assoc (encoded form x) (brackets_text form path) (bracketed form s)))
+
+-- without the last segment
+pub path_left : (form : Bool) (path : Path) (s : List ℕ) → take (length (path_after form path)) (path_after form (path ++ s ∷ [])) ≡ path_after form path
+path_left form [] s = refl
+path_left form (x ∷ path) s = ap (take (length (path_after form (x ∷ path)))) (path_grown form (x ∷ path) s) ∙ take-append_seam (path_after form (x ∷ path)) (bracketed form s)
+
+brackets_long : (form : Bool) (path : Path) → length path ≤ length (brackets_text form path)
+brackets_long form [] = omega arith
+brackets_long true (x ∷ path) = let e = length-append (encoded true x) (close_bytes true ++ brackets_text true path) in omega (arith, brackets_long true path)
+brackets_long false (x ∷ path) = let e = length-append (encoded false x) (close_bytes false ++ brackets_text false path) in omega (arith, brackets_long false path)
+
+-- a path has no more segments than bytes
+pub path_long : (form : Bool) (path : Path) → length path ≤ length (path_after form path)
+path_long form [] = omega arith
+path_long form (x ∷ path) = let e = length-append (encoded form x) (brackets_text form path) in omega (arith, brackets_long form path)
+
+some_text : (form : Bool) (x : List ℕ) (path : Path) → eqb (length (path_after form (x ∷ path))) 0 ≡ false
+some_text form x path = ne_eqb (length (path_after form (x ∷ path))) 0 (λ e. absurd (omega (arith, e)))
+
+led : (form started : Bool) (path : Path) (value : Option (List ℕ)) → drop (cond (started || eqb (length (path_after form path)) 0) 0 1) (path_after form path ++ value_text form value)
+    ≡ entry_text form started path value
+unfolding entry_text path_text
+led form true [] value = refl
+led form false [] value = refl
+led form true (x ∷ path) value = refl
+led form false (x ∷ path) value = ap (λ b. drop (cond b 0 1) (path_after form (x ∷ path) ++ value_text form value)) (some_text form x path)
+
+-- the entry begins with the path's `&`, or after it
+pub entry_is : (form started : Bool) (path : Path) (value : Option (List ℕ)) (walk : Walk) (all : List ℕ) (len start : ℕ) → IsAt form path walk → all ≡ walk.text.items ++ value_text form value
+    → len ≡ length walk.text.items → start ≡ cond (started || eqb len 0) 0 1 → drop start all ≡ entry_text form started path value
+entry_is form started path value walk all len start at is l n =
+    ap (λ k. drop k all) (n ∙ ap (λ m. cond (started || eqb m 0) 0 1) (l ∙ ap length at.text))
+    ∙ ap (drop (cond (started || eqb (length (path_after form path)) 0) 0 1)) (is ∙ ap (λ t. t ++ value_text form value) at.text) ∙ led form started path value
+
+key_is : (form : Bool) (path : Path) → not (eqb (length (path_after form path)) 0) ≡ has_key path
+key_is form [] = refl
+key_is form (x ∷ path) = ap not (some_text form x path)
+
+-- there is a key where there is text
+pub has_key_is : (form : Bool) (path : Path) (walk : Walk) (len : ℕ) → IsAt form path walk → len ≡ length walk.text.items → not (eqb len 0) ≡ has_key path
+has_key_is form path walk len at l = ap (λ n. not (eqb n 0)) (l ∙ ap length at.text) ∙ key_is form path
+
+pub at_top : (form : Bool) (path : Path) (walk : Walk) → IsAt form path walk → length walk.text.items ≡ 0 → path ≡ []
+at_top form [] walk at h = refl
+at_top form (x ∷ path) walk at h = let e = ap length at.text in absurd (omega (arith, e, h))
+
+-- the walk is back where it was, when the value is cut off
+pub at_back : (form : Bool) (path : Path) (walk back : Walk) (len : ℕ) (more : List ℕ) → IsAt form path walk → back.depth ≡ walk.depth → back.text.items ≡ take len (walk.text.items ++ more)
+    → len ≡ length walk.text.items → IsAt form path back
+at_back form path walk back len more at d is l =
+    let same : back.text.items ≡ walk.text.items = is ∙ ap (λ n. take n (walk.text.items ++ more)) l ∙ take-append_seam walk.text.items more in
+    record { depth = d ∙ at.depth; text = same ∙ at.text; visible = subst (All IsVisible) (sym same) at.visible }
+
+written-one : (form started : Bool) (path : Path) (value : Option (List ℕ)) → written form started (record { path = path; value = value } ∷ []) ≡ entry_text form started path value
+unfolding written
+written-one form started path value = append-nil (entry_text form started path value)
+
+-- an empty value at the top
+pub entry_empty : (form started : Bool) (path : Path) → path ≡ [] → 61 ∷ [] ≡ entry_text form started path (Some [])
+unfolding entry_text path_text
+entry_empty form started path h = rw h
+
+pub no_key : (path : Path) (started : Bool) → path ≡ [] → started ≡ (started || has_key path)
+no_key path started h = rw h (sym (or-false started))
+
+pub adds_one : (form : Bool) (a b : StreamState) (path : Path) (value : Option (List ℕ)) (text : List ℕ) → text ≡ entry_text form a.started path value
+    → Appends a.taken b.taken text → All IsVisible text → b.started ≡ (a.started || has_key path) → b.failed ≡ a.failed → b.writer ≡ a.writer
+    → Adds form a b (record { path = path; value = value } ∷ [])
+unfolding started_after
+adds_one form a b path value text is added visible started failed writer =
+    let same = is ∙ sym (written-one form a.started path value) in
+    record { text = subst (Appends a.taken b.taken) same added; visible = subst (All IsVisible) same visible; started = started; failed = failed; writer = writer }
+
+pub part_one : (form : Bool) (a b : StreamState) (path : Path) (value : Option (List ℕ)) (text : List ℕ) → text ≡ entry_text form a.started path value
+    → (n : ℕ) → n < length text → Appends a.taken b.taken (take n text) → All IsVisible text → b.failed ≡ true → b.writer ≡ a.writer
+    → AddsPart form a b (record { path = path; value = value } ∷ [])
+part_one form a b path value text is n proper added visible failed writer =
+    let same = is ∙ sym (written-one form a.started path value) in
+    record {
+      count = n;
+      proper = subst (λ t. n < length t) same proper;
+      text = subst (λ t. Appends a.taken b.taken (take n t)) same added;
+      visible = subst (λ t. All IsVisible (take n t)) same (All-take IsVisible n text visible);
+      failed = failed;
+      writer = writer;
+    }
+
+pub io_stops : (config : Config) (a b : StreamState) (o : Output) (e : Stop) → e ≡ Io → AddsPart config.form a b o.entries → Stops e config a b o
+io_stops config a b o e is part = subst (λ (z : Stop). Stops z config a b o) (sym is) part
+
+-- one more segment in a text that holds some
+pub grown_more : (form : Bool) (text s : List ℕ) → ¬ (length text ≡ 0) → ((text ++ open_bytes form) ++ encoded form s) ++ close_bytes form ≡ grown form text s
+grown_more form [] s h = absurd (h refl)
+grown_more form (b ∷ text) s h =
+    append_assoc ((b ∷ text) ++ open_bytes form) (encoded form s) (close_bytes form) ∙ append_assoc (b ∷ text) (open_bytes form) (encoded form s ++ close_bytes form)

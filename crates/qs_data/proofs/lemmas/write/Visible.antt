@@ -1,0 +1,100 @@
+-- What is encoded is visible.
+use Rattle.std.proofs.Common.{suc, ◌+◌, ◌^◌, ℤ, pos, negsuc, ◌++◌, sym, ap, ◌∙◌, subst, ◌≡◌, ℕ, ◌<◌, Bool, true, false, ◌&&◌, leb, List, [], ◌∷◌, get_or, refl, arith, Fits, w8}
+use Rattle.std.specs.List.{All, AllByRecursion, list_all}
+use Rattle.std.specs.Fmt.{decimal, signed_decimal}
+use Rattle.std.specs.Int.Signed.{mag}
+use Rattle.std.specs.Prelude.{Result, Ok, Err, OnOk, is_ok, cond}
+use Rattle.std.proofs.lemmas.Fmt.{digits_decimal}
+use Rattle.std.proofs.lemmas.Bool.{agree_below_at}
+use Rattle.std.proofs.lemmas.Bool.Decides.{nat_tests}
+use Rattle.std.proofs.lemmas.List.Elements.{All-nil, All-cons, All-append, All-head, All-tail, All-from_get_or}
+use Rattle.qs_spec.specs.Escape.{spelling, encoded, is_between}
+use Rattle.qs_spec.proofs.Numerals.{AreDigits, numerals}
+use Rattle.qs_spec.proofs.KeysBack.{encoded_digits}
+use Rattle.qs_spec.specs.Written.{open_bytes, close_bytes}
+use Rattle.qs_data.specs.write.State.{IsVisible}
+
+abbrev is_visible : ℕ → Bool
+is_visible b = leb 33 b && leb b 126
+
+spelling_test : (form : Bool) (b : ℕ) → b < 256 → list_all is_visible (spelling form b) ≡ true
+spelling_test true b l = agree_below_at (λ b. list_all is_visible (spelling true b)) (λ b. true) 256 b refl l
+spelling_test false b l = agree_below_at (λ b. list_all is_visible (spelling false b)) (λ b. true) 256 b refl l
+
+both : (a b : Bool) → (a && b) ≡ true → (a ≡ true) × (b ≡ true)
+both true true e = (refl, refl)
+both true false e = cc
+both false b e = cc
+
+visible_of : (b : ℕ) → is_visible b ≡ true → IsVisible b
+visible_of b e = let h = both (leb 33 b) (leb b 126) e in (grind (arith, nat_tests), grind (arith, nat_tests))
+
+all_visible : (bs : List ℕ) → list_all is_visible bs ≡ true → All IsVisible bs
+all_visible [] e = All-nil IsVisible
+all_visible (b ∷ bs) e = let h = both (is_visible b) (list_all is_visible bs) e in All-cons IsVisible b bs (visible_of b h.0) (all_visible bs h.1)
+
+abbrev IsByte : ℕ → Type 0
+IsByte b = b < 256
+
+encoded_all : (form : Bool) (bs : List ℕ) → All IsByte bs → All IsVisible (encoded form bs)
+encoded_all form [] h = All-nil IsVisible
+encoded_all form (b ∷ bs) h =
+    All-append IsVisible (spelling form b) (encoded form bs) (all_visible (spelling form b) (spelling_test form b (All-head IsByte b bs h))) (encoded_all form bs (All-tail IsByte b bs h))
+
+pub encoded_visible : (form : Bool) (bs : List ℕ) → ((k : ℕ) → Fits w8 (get_or bs k 0)) → All IsVisible (encoded form bs)
+encoded_visible form bs h = encoded_all form bs (All-from_get_or IsByte bs 0 (λ k l. omega (arith, h k)))
+
+pub open_visible : (form : Bool) → All IsVisible (open_bytes form)
+open_visible true = all_visible (open_bytes true) refl
+open_visible false = all_visible (open_bytes false) refl
+
+pub close_visible : (form : Bool) → All IsVisible (close_bytes form)
+close_visible true = all_visible (close_bytes true) refl
+close_visible false = all_visible (close_bytes false) refl
+
+pub equals_visible : All IsVisible (61 ∷ [])
+equals_visible = all_visible (61 ∷ []) refl
+
+-- what was appended, by another name
+pub extended : {E : Type 0} (r : Result (Unit {0}) E) (new old added text : List ℕ) → new ≡ cond (is_ok r) (old ++ added) old → added ≡ text → OnOk r (new ≡ old ++ text)
+extended (Ok x) new old added text h e = h ∙ ap (λ t. old ++ t) e
+extended (Err x) new old added text h e = tt
+
+-- a text that is written as it is
+abbrev pub IsPlain : Bool → List ℕ → Type 0
+IsPlain form text = (encoded form text ≡ text) × All IsVisible (encoded form text)
+
+digits_bytes : (ds : List ℕ) → AreDigits ds → AllByRecursion (λ b. b < 256) ds
+digits_bytes [] e = tt
+digits_bytes (b ∷ ds) e = let h = both (is_between 48 57 b) (list_all (is_between 48 57) ds) e in
+    let r = both (leb 48 b) (leb b 57) h.0 in (grind (arith, nat_tests), digits_bytes ds h.1)
+
+digits_visible : (ds : List ℕ) → AreDigits ds → All IsVisible ds
+digits_visible [] e = All-nil IsVisible
+digits_visible (b ∷ ds) e = let h = both (is_between 48 57 b) (list_all (is_between 48 57) ds) e in
+    let r = both (leb 48 b) (leb b 57) h.0 in
+    All-cons IsVisible b ds (grind (arith, nat_tests), grind (arith, nat_tests)) (digits_visible ds h.1)
+
+pub unsigned_plain : (form : Bool) (n : ℕ) → n < 2 ^ 64 → IsPlain form (decimal n)
+unsigned_plain form n l =
+    let digits = digits_decimal numerals n l in
+    let same = encoded_digits form (decimal n) (digits_bytes (decimal n) digits) digits in
+    (same, subst (All IsVisible) (sym same) (digits_visible (decimal n) digits))
+
+minus : (form : Bool) → spelling form 45 ≡ 45 ∷ []
+minus true = refl
+minus false = refl
+
+pub signed_plain : (form : Bool) (z : ℤ) → mag z + 1 < 2 ^ 64 → IsPlain form (signed_decimal z)
+signed_plain form (pos n) l = unsigned_plain form n (omega (arith, l))
+signed_plain form (negsuc n) l =
+    let p = unsigned_plain form (suc n) (omega (arith, l)) in
+    let same : encoded form (45 ∷ decimal (suc n)) ≡ 45 ∷ decimal (suc n) = ap (λ t. t ++ encoded form (decimal (suc n))) (minus form) ∙ ap (λ t. 45 ∷ t) p.0 in
+    (same, subst (All IsVisible) (sym same) (All-cons IsVisible 45 (decimal (suc n)) (omega arith, omega arith) (subst (All IsVisible) p.0 p.1)))
+
+-- what holds where one call went well holds where another does that goes well with it
+pub on_ok : {A B E F : Type 0} (r : Result A E) (s : Result B F) (P Q : Type 0) → is_ok s ≡ is_ok r → (P → Q) → OnOk r P → OnOk s Q
+on_ok (Ok x) (Ok y) P Q same then holds = then holds
+on_ok (Ok x) (Err e) P Q same then holds = tt
+on_ok (Err e) (Ok y) P Q same then holds = absurd (cc)
+on_ok (Err e) (Err f) P Q same then holds = tt

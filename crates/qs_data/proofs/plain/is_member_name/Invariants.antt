@@ -1,7 +1,0 @@
-use Rattle.std.proofs.Common.{◌≡◌, drop}
-use Rattle.qs_spec.specs.Plain.{is_member_name}
-use Rattle.qs_data.specs.Views.{members_in}
-use Rattle.qs_data.proofs.plain.is_member_name.Given as goal
-
-abbrev pub invariant-loop-member : goal.invariant-loop-member
-invariant-loop-member l = is_member_name l.name (members_in l.members) ≡ is_member_name l.name (members_in (drop l.member-index l.members))

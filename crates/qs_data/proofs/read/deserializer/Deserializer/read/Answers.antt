@@ -1,0 +1,33 @@
+use Rattle.std.proofs.Common.{◌≡◌, true, rules}
+use Rattle.qs_spec.specs.internal.ReadFunction.{read_by}
+use Rattle.qs_data.specs.data.Views.{data_of}
+use Rattle.qs_data.specs.shape.Views.{shape_of}
+use Rattle.qs_data.specs.read.Text.{is_text}
+use Rattle.qs_data.specs.read.Gives.{Gives}
+use Rattle.qs_data.specs.read.internal.Frugal.{IsFrugal}
+use Rattle.qs_data.specs.read.Parsed.{takes_no_memory}
+use Rattle.qs_data.specs.read.Parsed.{parsed_of}
+use Rattle.qs_data.proofs.lemmas.read.Related.{returns_data, spares_memory}
+use Rattle.qs_data.proofs.lemmas.read.ReadBack.{reads_back}
+use Rattle.qs_data.proofs.read.deserializer.Deserializer.read.Goals as goal
+
+pub returns-clause-exact : goal.returns-clause-exact
+returns-clause-exact c =
+    let parsed = parsed_of c.args.self in
+    let shape = shape_of c.args.shape.now in
+    let g : Gives data_of (is_text parsed.tree) c.read.result (read_by parsed.config shape parsed.tree) = search rules in
+    returns_data parsed shape c.read.result c.requires g
+
+pub returns-clause-back : goal.returns-clause-back
+returns-clause-back c =
+    let parsed = parsed_of c.args.self in
+    let shape = shape_of c.args.shape.now in
+    let g : Gives data_of (is_text parsed.tree) c.read.result (read_by parsed.config shape parsed.tree) = search rules in
+    reads_back parsed shape c.read.result c.requires (returns_data parsed shape c.read.result c.requires g)
+
+pub returns-clause-no_memory : goal.returns-clause-no_memory
+returns-clause-no_memory c =
+    let parsed = parsed_of c.args.self in
+    let shape = shape_of c.args.shape.now in
+    let f : takes_no_memory shape ≡ true → IsFrugal c.read.result (read_by parsed.config shape parsed.tree) = search rules in
+    λ small. spares_memory parsed shape c.read.result c.requires (f small)

@@ -1,0 +1,6 @@
+use Rattle.std.proofs.Common.{◌≡◌, drop, map, string_bytes}
+use Rattle.qs_spec.specs.Shape.{names_differ}
+use Rattle.qs_data.proofs.shape.distinct.names_differ.Given as goal
+
+abbrev pub invariant-loop-i : goal.invariant-loop-i
+invariant-loop-i l = names_differ (map string_bytes l.names) ≡ names_differ (map string_bytes (drop l.i l.names))

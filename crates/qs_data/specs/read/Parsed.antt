@@ -1,0 +1,49 @@
+-- What callers see of a deserializer, and what reading it returns.
+use Rattle.std.specs.Prelude.{◌≡◌, ⊤, Bool, true, false, List, Result, Ok, Err}
+use Rattle.qs_spec.specs.Config.{Config}
+use Rattle.qs_spec.specs.Shape.{Shape}
+use Rattle.qs_spec.specs.Tree.{Tree}
+use Rattle.qs_spec.specs.Relation.{ReadsBy, ReadsNothing}
+use Rattle.qs_tree.specs.declared.error.Error.{Error}
+use Rattle.qs_tree.specs.declared.error.Error.TheVariants.{Custom, Utf8, OutOfMemory}
+use Rattle.qs_tree.specs.tree.Owned.{owns}
+use Rattle.qs_tree.specs.tree.Views.{tree_of}
+use Rattle.qs_data.specs.declared.data.data.Data.{Data}
+use Rattle.qs_data.specs.declared.read.deserializer.Deserializer.{Deserializer}
+use Rattle.qs_data.specs.read.Text.{is_text}
+use Rattle.qs_data.specs.data.Views.{data_of}
+
+-- how it reads, and the tree that it reads from
+pub record Parsed : Type 0 where
+  pub config : Config
+  pub tree : Tree
+
+abbrev pub parsed_of : Deserializer → Parsed
+parsed_of d = record { config = d.config; tree = tree_of d.tree }
+
+-- of the texts in its tree, from left to right, which it owns
+abbrev pub owned_by : Deserializer → List Bool
+owned_by d = owns d.tree
+
+-- Ok holds data that the shape relates to the tree, and an error comes where the shape relates it to none, or memory ran out; `Utf8`
+-- only where not every text and key in the tree is UTF-8.
+abbrev pub ReturnsData : Parsed → Shape → Result Data Error → Type 0
+ReturnsData parsed shape (Ok d) = ReadsBy parsed.config shape parsed.tree (data_of d)
+ReturnsData parsed shape (Err (Custom message)) = ReadsNothing parsed.config shape parsed.tree
+ReturnsData parsed shape (Err (Utf8 cause)) = ReadsNothing parsed.config shape parsed.tree × (is_text parsed.tree ≡ false)
+ReturnsData parsed shape (Err OutOfMemory) = ⊤
+ReturnsData parsed shape (Err _) = ⊥
+
+-- memory runs out only where the shape relates the tree to no data
+abbrev pub SparesMemory : Parsed → Shape → Result Data Error → Type 0
+SparesMemory parsed shape (Err OutOfMemory) = ReadsNothing parsed.config shape parsed.tree
+SparesMemory parsed shape _ = ⊤
+
+-- reading data of the shape doesn't allocate
+abbrev pub takes_no_memory : Shape → Bool
+takes_no_memory Shape.unit = true
+takes_no_memory Shape.boolean = true
+takes_no_memory (Shape.unsigned bits) = true
+takes_no_memory (Shape.signed bits) = true
+takes_no_memory Shape.character = true
+takes_no_memory _ = false

@@ -1,0 +1,82 @@
+-- What a call that writes leaves.
+use Rattle.std.specs.Prelude.{◌≡◌, ℕ, ◌<◌, Bool, true, List, [], ◌∷◌, ◌++◌, length, take, Option, Some, None, Result, Ok, Err}
+use Rattle.std.specs.List.{All}
+use Rattle.std.specs.Io.KnownBytes.{Appends}
+use Rattle.qs_spec.specs.Config.{Config}
+use Rattle.qs_spec.specs.Escape.{encoded}
+use Rattle.qs_spec.specs.Entry.{Path, Entry, Output, too_deep, bad_key}
+use Rattle.qs_spec.specs.Written.{open_bytes, close_bytes, brackets_text, written, started_after}
+use Rattle.qs_data.specs.declared.write.entry.Stream.{Stream}
+use Rattle.qs_data.specs.declared.write.entry.Walk.{Walk}
+use Rattle.qs_data.specs.declared.write.stop.Stop.{Stop}
+use Rattle.qs_data.specs.declared.write.stop.Stop.TheVariants as stop
+use Rattle.qs_data.specs.write.State.{IsVisible}
+
+-- what is known of a sink and of the text in it: the bytes where the sink reports them, whether a put failed, the name of a
+-- lent writer, and whether an entry with a key was written
+pub record StreamState : Type 0 where
+  pub taken : Option (List ℕ)
+  pub failed : Bool
+  pub writer : ℕ
+  pub started : Bool
+
+-- exactly the text of these entries was added
+pub record Adds (form : Bool) (old new : StreamState) (es : List Entry) : Type 0 where
+  pub text : Appends old.taken new.taken (written form old.started es)
+  pub visible : All IsVisible (written form old.started es)
+  pub started : new.started ≡ started_after old.started es
+  pub failed : new.failed ≡ old.failed
+  pub writer : new.writer ≡ old.writer
+
+-- the text of some first entries was added
+pub record AddsSome (form : Bool) (old new : StreamState) (es : List Entry) : Type 0 where
+  pub front : List Entry
+  pub rest : List Entry
+  pub parts : es ≡ front ++ rest
+  pub adds : Adds form old new front
+
+-- a proper beginning of the text was added, and then a put failed
+pub record AddsPart (form : Bool) (old new : StreamState) (es : List Entry) : Type 0 where
+  pub count : ℕ
+  pub proper : count < length (written form old.started es)
+  pub text : Appends old.taken new.taken (take count (written form old.started es))
+  pub visible : All IsVisible (take count (written form old.started es))
+  pub failed : new.failed ≡ true
+  pub writer : new.writer ≡ old.writer
+
+-- what stands after each stop
+abbrev pub Stops : Stop → Config → StreamState → StreamState → Output → Type 0
+Stops stop.TooDeep config old new o = (o.refusal ≡ Some too_deep) × Adds config.form old new o.entries
+Stops stop.BadKey config old new o = (o.refusal ≡ Some bad_key) × Adds config.form old new o.entries
+Stops stop.Io config old new o = AddsPart config.form old new o.entries
+Stops stop.OutOfMemory config old new o = AddsSome config.form old new o.entries
+
+-- a path after `&`
+abbrev pub path_after : Bool → Path → List ℕ
+path_after form [] = []
+path_after form (s ∷ path) = 38 ∷ (encoded form s ++ brackets_text form path)
+
+-- such a text with one more segment
+abbrev pub grown : Bool → List ℕ → List ℕ → List ℕ
+grown form [] s = 38 ∷ encoded form s
+grown form (b ∷ text) s = (b ∷ text) ++ (open_bytes form ++ (encoded form s ++ close_bytes form))
+
+-- the walk is at this path
+pub record IsAt (form : Bool) (path : Path) (walk : Walk) : Type 0 where
+  pub depth : walk.depth ≡ length path
+  pub text : walk.text.items ≡ path_after form path
+  pub visible : All IsVisible walk.text.items
+
+-- all entries were written, there is no refusal and the walk is where it was, or what the stop says
+abbrev pub Writes : Result (Unit {0}) Stop → Config → Path → StreamState → StreamState → Walk → Output → Type 0
+Writes (Ok x) config path old new walk o = (o.refusal ≡ None) × Adds config.form old new o.entries × IsAt config.form path walk
+Writes (Err e) config path old new walk o = Stops e config old new o
+
+-- a stream and the text in it, by what its sink reports
+abbrev pub state_in : {S : Type 0} → (S → Option (List ℕ)) → (S → Bool) → (S → ℕ) → Stream S → StreamState
+state_in taken failed name stream = record { taken = taken stream.sink; failed = failed stream.sink; writer = name stream.sink; started = stream.started }
+
+-- what a call leaves that writes a part of the data to a stream, wherever the walk is
+abbrev pub WritesTo : {S : Type 0} → (S → Option (List ℕ)) → (S → Bool) → (S → ℕ) → Result (Unit {0}) Stop → Config → Stream S → Stream S → Walk → Walk → (Path → Output) → Type 0
+WritesTo taken failed name result config old new from to part =
+    (path : Path) → IsAt config.form path from → Writes result config path (state_in taken failed name old) (state_in taken failed name new) to (part path)

@@ -1,0 +1,65 @@
+//! Data: what is read by a shape, and what is written.
+ghost use Rattle.std.specs.Cmp.{on_per, on_equiv};
+ghost use Rattle.qs_data.specs.data.Equality.{data_same};
+ghost use Rattle.qs_data.specs.data.internal.EqualityLaws.{data_per, data_equivalence};
+ghost use Rattle.qs_data.specs.data.Views.{data_of};
+
+use crate::data::sameness::same_data;
+
+/// A value as a querystring carries it.
+///
+/// Two data are equal where they hold the same, whatever room they have to grow.
+#[derive(Debug, Drop)]
+pub enum Data {
+    /// No value.
+    Unit,
+    /// An absent value.
+    None,
+    /// A value that might be absent.
+    Some(Box<Data>),
+    /// A boolean.
+    Bool(bool),
+    /// A whole number of an unsigned type.
+    Unsigned(u64),
+    /// A whole number of a signed type.
+    Signed(i64),
+    /// A character.
+    Char(char),
+    /// A text.
+    Text(String),
+    /// A string of bytes, which need not be a text.
+    Bytes(Vec<u8>),
+    /// A list of any length.
+    Seq(Vec<Data>),
+    /// A list whose length its type fixes.
+    Tuple(Vec<Data>),
+    /// Keys and their values, in order.
+    Map(Vec<(Data, Data)>),
+    /// Fields by name, in order; one that was left out is not there.
+    Struct(Vec<(String, Data)>),
+    /// A value in a type of its own.
+    Newtype(Box<Data>),
+    /// A variant, by name, that holds nothing.
+    UnitVariant(String),
+    /// A variant that holds a value.
+    NewtypeVariant(String, Box<Data>),
+    /// A variant that holds a list whose length its type fixes.
+    TupleVariant(String, Vec<Data>),
+    /// A variant that holds fields.
+    StructVariant(String, Vec<(String, Data)>),
+}
+
+/// Calls itself for each level of the data, and doesn't allocate.
+impl PartialEq for Data {
+    ghost eq = { λ a b. data_same (data_of a) (data_of b) };
+
+    ghost laws = { on_per data_of data_per };
+
+    fn eq(&self, other: &Data) -> bool {
+        same_data(self, other)
+    }
+}
+
+impl Eq for Data {
+    ghost laws = { on_equiv data_of data_equivalence };
+}

@@ -1,0 +1,152 @@
+//! Data whose lists can be read back where no index is written.
+
+ghost use Rattle.std.specs.Prelude.{◌≡◌, false};
+ghost use Rattle.qs_spec.specs.Entry.{key_text};
+ghost use Rattle.qs_spec.specs.Listed.{is_listed, are_listed, are_listed_pairs, are_listed_members, is_placed, is_list, are_scalars, is_one_empty, is_empty_text, has_text};
+ghost use Rattle.qs_data.specs.data.Views.{data_of, values_in, pairs_in, members_in};
+ghost use Rattle.qs_tree.specs.Settings.{array_format_of};
+
+use crate::data::Data;
+use crate::write::Scalar;
+use qs_tree::{ArrayFormat, Config};
+
+impl Data {
+    /// Whether the lists in these data can be read back in the array format of the configuration.
+    ///
+    /// In the indexed format all can. In the other two, at every depth:
+    /// - each list and tuple has a key, of its own or of what it stands in, so it isn't the whole;
+    /// - lists, tuples and tuple variants hold booleans, whole numbers, characters, texts, bytes and unit variants alone;
+    /// - without brackets, none of them is one empty text or byte string, which is written as an empty list is.
+    ///
+    /// [Plain](Data::is_plain) data for which this holds, written within the depth limit, are read by each shape that they
+    /// [fit](crate::Shape::fits), from their entries in every order that keeps entries with one path as they were.
+    ///
+    /// It takes time with the size of the data, and stack with their depth. It doesn't allocate.
+    ///
+    /// ```
+    /// let config = Config::new().array_format(ArrayFormat::EmptyIndexed);
+    /// if !(data.is_plain(config) && data.is_listed(config)) {
+    ///     return Err(Refused::NotReadBack);
+    /// }
+    /// ```
+    pub fn is_listed(&self, config: Config) -> bool
+        ensures { result ≡ is_listed config.array_format false (data_of self.now) }
+    {
+        is_listed(self, config.get_array_format(), false)
+    }
+}
+
+// Whether lists come back; `below` says that a key stands above.
+#[cycle(listed)]
+#[tactic(auto, using(crate::proofs::lemmas::data::Levels::levels))]
+fn is_listed(datum: &Data, format: ArrayFormat, below: bool) -> bool
+    ensures { result ≡ is_listed (array_format_of format) below (data_of datum.now) }
+{
+    match datum {
+        Data::Some(part) | Data::Newtype(part) => is_listed(part, format, below),
+        Data::Seq(items) | Data::Tuple(items) => {
+            is_placed(format, below) && (is_list(items, format) && are_listed(items, format))
+        }
+        Data::Map(pairs) => are_listed_pairs(pairs, format),
+        Data::Struct(members) | Data::StructVariant(_, members) => {
+            are_listed_members(members, format)
+        }
+        Data::NewtypeVariant(_, part) => is_listed(part, format, true),
+        Data::TupleVariant(_, items) => is_list(items, format) && are_listed(items, format),
+        _ => true,
+    }
+}
+
+#[cycle(listed)]
+fn are_listed(items: &Vec<Data>, format: ArrayFormat) -> bool
+    ensures { result ≡ are_listed (array_format_of format) (values_in items.now.items) }
+{
+    for item in items {
+        if !is_listed(item, format, true) {
+            return false;
+        }
+    }
+    true
+}
+
+#[cycle(listed)]
+fn are_listed_pairs(pairs: &Vec<(Data, Data)>, format: ArrayFormat) -> bool
+    ensures { result ≡ are_listed_pairs (array_format_of format) (pairs_in pairs.now.items) }
+{
+    for pair in pairs {
+        if !is_listed(&pair.1, format, true) {
+            return false;
+        }
+    }
+    true
+}
+
+#[cycle(listed)]
+fn are_listed_members(members: &Vec<(String, Data)>, format: ArrayFormat) -> bool
+    ensures { result ≡ are_listed_members (array_format_of format) (members_in members.now.items) }
+{
+    for member in members {
+        if !is_listed(&member.1, format, true) {
+            return false;
+        }
+    }
+    true
+}
+
+// Where no index is written, a list needs a key above it.
+fn is_placed(format: ArrayFormat, below: bool) -> bool
+    ensures { result ≡ is_placed (array_format_of format) below }
+{
+    match format {
+        ArrayFormat::Indexed => true,
+        ArrayFormat::EmptyIndexed | ArrayFormat::Unindexed => below,
+    }
+}
+
+// Whether a list of these elements is read as them.
+fn is_list(items: &[Data], format: ArrayFormat) -> bool
+    ensures { result ≡ is_list (array_format_of format) (values_in items.now) }
+{
+    match format {
+        ArrayFormat::Indexed => true,
+        ArrayFormat::EmptyIndexed => are_scalars(items),
+        ArrayFormat::Unindexed => are_scalars(items) && !is_one_empty(items),
+    }
+}
+
+fn are_scalars(items: &[Data]) -> bool
+    ensures { result ≡ are_scalars (values_in items.now) }
+{
+    for item in items {
+        if !has_text(item) {
+            return false;
+        }
+    }
+    true
+}
+
+// Whether the data are written as one text.
+fn has_text(datum: &Data) -> bool
+    ensures { result ≡ has_text (key_text (data_of datum.now)) }
+{
+    Scalar::of(datum).is_some()
+}
+
+// Whether this is one empty text.
+fn is_one_empty(items: &[Data]) -> bool
+    ensures { result ≡ is_one_empty (values_in items.now) }
+{
+    match items {
+        [item] => is_empty_text(item),
+        _ => false,
+    }
+}
+
+fn is_empty_text(datum: &Data) -> bool
+    ensures { result ≡ is_empty_text (key_text (data_of datum.now)) }
+{
+    match Scalar::of(datum) {
+        Some(scalar) => scalar.is_empty(),
+        None => false,
+    }
+}

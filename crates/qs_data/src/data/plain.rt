@@ -1,0 +1,302 @@
+//! Data that can be read back.
+
+ghost use Rattle.std.specs.Prelude.{◌≡◌, ◌&&◌, Some};
+ghost use Rattle.std.specs.List.{list_any};
+ghost use Rattle.std.specs.Str.{bytes_eq};
+ghost use Rattle.qs_spec.specs.Plain.{is_plain, are_plain, are_plain_pairs, are_plain_members, is_optional, is_plain_name, is_plain_key, is_text_of, is_written_key, is_member_name, written_keys_differ, member_names_differ, has_members, has_values, are_few};
+ghost use Rattle.qs_spec.specs.Entry.{key_text};
+ghost use Rattle.qs_spec.specs.Scalar.{is_numeral};
+ghost use Rattle.qs_spec.specs.Token.{is_bracket};
+ghost use Rattle.qs_data.specs.data.Views.{data_of, values_in, pairs_in, members_in};
+ghost use Rattle.qs_data.specs.write.internal.Scalars.{scalar_text};
+
+use crate::data::Data;
+use crate::write::{Scalar, word};
+use itoa::Buffer;
+use qs_tree::Config;
+
+impl Data {
+    /// Whether these data can be read back: written in the indexed format, within the depth limit, they are read by each shape
+    /// that they [fit](Shape::fits) from their entries in any order.
+    ///
+    /// That takes all of these, at every depth:
+    /// - no option stands directly in an option, also within newtypes;
+    /// - each struct, struct variant and tuple variant has a part;
+    /// - names are distinct in a struct, and the texts of keys in a map, whose keys are not bytes;
+    /// - names and keys are not empty, nor digits after a leading zero; at form encoding they hold no bracket;
+    /// - a unit variant has a name;
+    /// - a list has at most 4,294,967,295 elements.
+    ///
+    /// Of the configuration only the encoding matters. The keys of a map are compared two by two, as are the names of a struct;
+    /// all else takes time with the size of the data, and stack with their depth. It doesn't allocate.
+    ///
+    /// ```
+    /// if !data.is_plain(config) {
+    ///     return Err(Refused::NotReadBack);
+    /// }
+    /// ```
+    pub fn is_plain(&self, config: Config) -> bool
+        ensures { result ≡ is_plain config.form (data_of self.now) }
+    {
+        is_plain(self, config.get_form())
+    }
+}
+
+#[cycle(plain)]
+#[tactic(auto, using(crate::proofs::lemmas::data::Levels::levels))]
+fn is_plain(datum: &Data, form: bool) -> bool
+    ensures { result ≡ is_plain form (data_of datum.now) }
+{
+    match datum {
+        Data::Some(part) => !is_optional(part) && is_plain(part, form),
+        Data::Newtype(part) => is_plain(part, form),
+        Data::Seq(items) | Data::Tuple(items) => are_plain_items(items, form),
+        Data::Map(pairs) => written_keys_differ(pairs) && are_plain_pairs(pairs, form),
+        Data::Struct(members) => are_plain_fields(members, form),
+        Data::UnitVariant(name) => !name.is_empty(),
+        Data::NewtypeVariant(name, part) => {
+            is_plain_name(name.as_bytes(), form) && is_plain(part, form)
+        }
+        Data::TupleVariant(name, items) => {
+            is_plain_name(name.as_bytes(), form)
+                && (has_values(items) && are_plain_items(items, form))
+        }
+        Data::StructVariant(name, members) => {
+            is_plain_name(name.as_bytes(), form) && are_plain_fields(members, form)
+        }
+        _ => true,
+    }
+}
+
+// The elements of a list.
+#[cycle(plain)]
+fn are_plain_items(items: &Vec<Data>, form: bool) -> bool
+    ensures { let ds = values_in items.now.items in result ≡ (are_few ds && are_plain form ds) }
+{
+    are_few(items) && are_plain(items, form)
+}
+
+#[cycle(plain)]
+fn are_plain(items: &Vec<Data>, form: bool) -> bool
+    ensures { result ≡ are_plain form (values_in items.now.items) }
+{
+    for item in items {
+        if !is_plain(item, form) {
+            return false;
+        }
+    }
+    true
+}
+
+// The keys and values of a map.
+#[cycle(plain)]
+fn are_plain_pairs(pairs: &Vec<(Data, Data)>, form: bool) -> bool
+    ensures { result ≡ are_plain_pairs form (pairs_in pairs.now.items) }
+{
+    for pair in pairs {
+        if !is_plain_key(&pair.0, form) || !is_plain(&pair.1, form) {
+            return false;
+        }
+    }
+    true
+}
+
+// The fields of a struct or of a struct variant: some, with names that differ.
+#[cycle(plain)]
+fn are_plain_fields(members: &Vec<(String, Data)>, form: bool) -> bool
+    ensures { let ms = members_in members.now.items in
+        result ≡ (has_members ms && member_names_differ ms && are_plain_members form ms) }
+{
+    has_members(members) && (member_names_differ(members) && are_plain_members(members, form))
+}
+
+#[cycle(plain)]
+fn are_plain_members(members: &Vec<(String, Data)>, form: bool) -> bool
+    ensures { result ≡ are_plain_members form (members_in members.now.items) }
+{
+    for member in members {
+        if !is_plain_name(member.0.as_bytes(), form) || !is_plain(&member.1, form) {
+            return false;
+        }
+    }
+    true
+}
+
+fn has_values(items: &[Data]) -> bool
+    ensures { result ≡ has_values (values_in items.now) }
+{
+    !items.is_empty()
+}
+
+fn has_members(members: &[(String, Data)]) -> bool
+    ensures { result ≡ has_members (members_in members.now) }
+{
+    !members.is_empty()
+}
+
+// Whether the data are an option, also within newtypes.
+fn is_optional(datum: &Data) -> bool
+    ensures { result ≡ is_optional (data_of datum.now) }
+{
+    match datum {
+        Data::None | Data::Some(_) => true,
+        Data::Newtype(part) => is_optional(part),
+        _ => false,
+    }
+}
+
+// Whether there is an index for each element.
+fn are_few(items: &[Data]) -> bool
+    ensures { result ≡ are_few (values_in items.now) }
+{
+    items.len() <= u32::MAX as usize
+}
+
+// Whether a name or the text of a key is read back.
+fn is_plain_name(name: &[u8], form: bool) -> bool
+    ensures { result ≡ is_plain_name form name.now }
+{
+    !name.is_empty()
+        && !(is_numeral(name) && name.len() > 1 && name[0] == b'0')
+        && !(form && holds_bracket(name))
+}
+
+// Whether these are digits.
+fn is_numeral(bytes: &[u8]) -> bool
+    ensures { result ≡ is_numeral bytes.now }
+{
+    for byte in bytes {
+        if !byte.is_ascii_digit() {
+            return false;
+        }
+    }
+    !bytes.is_empty()
+}
+
+fn holds_bracket(bytes: &[u8]) -> bool
+    ensures { result ≡ list_any is_bracket bytes.now }
+{
+    for byte in bytes {
+        if *byte == b'[' || *byte == b']' {
+            return true;
+        }
+    }
+    false
+}
+
+// Whether the key of a map is read back.
+fn is_plain_key(key: &Data, form: bool) -> bool
+    ensures { result ≡ is_plain_key form (data_of key.now) }
+{
+    match key {
+        Data::Bytes(_) => false,
+        _ => match Scalar::of(key) {
+            Some(key) => is_plain_text(key, form),
+            None => false,
+        },
+    }
+}
+
+// Whether the text of a key is read back.
+fn is_plain_text(key: Scalar<'_>, form: bool) -> bool
+    ensures { result ≡ is_plain_name form (scalar_text key.entry) }
+{
+    match key {
+        Scalar::Bytes(bytes) => is_plain_name(bytes, form),
+        Scalar::Bool(value) => is_plain_name(word(value).as_bytes(), form),
+        Scalar::Unsigned(n) => is_plain_name(Buffer::new().format(n).as_bytes(), form),
+        Scalar::Signed(n) => is_plain_name(Buffer::new().format(n).as_bytes(), form),
+        Scalar::Char(c) => is_plain_name(c.encode_utf8(&mut [0; 4]).as_bytes(), form),
+    }
+}
+
+// Whether the keys of a map are written differently.
+fn written_keys_differ(pairs: &[(Data, Data)]) -> bool
+    ensures { result ≡ written_keys_differ (pairs_in pairs.now) }
+{
+    for (i, pair) in pairs.iter().enumerate() {
+        if is_among(&pair.0, &pairs[i + 1..]) {
+            return false;
+        }
+    }
+    true
+}
+
+// Whether a key is written as one of the others.
+fn is_among(key: &Data, others: &[(Data, Data)]) -> bool
+    ensures { result ≡ is_written_key (key_text (data_of key.now)) (pairs_in others.now) }
+{
+    match Scalar::of(key) {
+        Some(key) => is_written_key(key, others),
+        None => false,
+    }
+}
+
+fn is_written_key(key: Scalar<'_>, pairs: &[(Data, Data)]) -> bool
+    ensures { result ≡ is_written_key (Some (scalar_text key.entry)) (pairs_in pairs.now) }
+{
+    for pair in pairs {
+        if is_key_text(&pair.0, key) {
+            return true;
+        }
+    }
+    false
+}
+
+// Whether a key has this text.
+fn is_key_text(key: &Data, text: Scalar<'_>) -> bool
+    ensures { result ≡ is_text_of (scalar_text text.entry) (key_text (data_of key.now)) }
+{
+    match Scalar::of(key) {
+        Some(key) => are_same(key, text),
+        None => false,
+    }
+}
+
+// Whether two scalars have the same text.
+fn are_same(a: Scalar<'_>, b: Scalar<'_>) -> bool
+    ensures { result ≡ bytes_eq (scalar_text a.entry) (scalar_text b.entry) }
+{
+    match b {
+        Scalar::Bytes(bytes) => has_text(a, bytes),
+        Scalar::Bool(value) => has_text(a, word(value).as_bytes()),
+        Scalar::Unsigned(n) => has_text(a, Buffer::new().format(n).as_bytes()),
+        Scalar::Signed(n) => has_text(a, Buffer::new().format(n).as_bytes()),
+        Scalar::Char(c) => has_text(a, c.encode_utf8(&mut [0; 4]).as_bytes()),
+    }
+}
+
+// Whether this is the text of a scalar.
+fn has_text(scalar: Scalar<'_>, text: &[u8]) -> bool
+    ensures { result ≡ bytes_eq (scalar_text scalar.entry) text.now }
+{
+    match scalar {
+        Scalar::Bytes(bytes) => bytes == text,
+        Scalar::Bool(value) => word(value).as_bytes() == text,
+        Scalar::Unsigned(n) => Buffer::new().format(n).as_bytes() == text,
+        Scalar::Signed(n) => Buffer::new().format(n).as_bytes() == text,
+        Scalar::Char(c) => c.encode_utf8(&mut [0; 4]).as_bytes() == text,
+    }
+}
+
+fn member_names_differ(members: &[(String, Data)]) -> bool
+    ensures { result ≡ member_names_differ (members_in members.now) }
+{
+    for (i, member) in members.iter().enumerate() {
+        if is_member_name(&members[i + 1..], &member.0) {
+            return false;
+        }
+    }
+    true
+}
+
+fn is_member_name(members: &[(String, Data)], name: &str) -> bool
+    ensures { result ≡ is_member_name name.now (members_in members.now) }
+{
+    for member in members {
+        if member.0.as_str() == name {
+            return true;
+        }
+    }
+    false
+}

@@ -1,0 +1,105 @@
+//! When two data are the same.
+
+ghost use Rattle.std.specs.Prelude.{◌≡◌, ◌&&◌, string_bytes};
+ghost use Rattle.std.specs.Str.{bytes_eq};
+ghost use Rattle.qs_data.specs.data.Equality.{data_same, values_same, pairs_same, members_same};
+ghost use Rattle.qs_data.specs.data.Views.{data_of, values_in, pairs_in, members_in};
+
+use crate::data::Data;
+
+/// Whether two data are of one kind and hold the same.
+#[cycle(sameness)]
+#[tactic(auto, using(crate::proofs::lemmas::data::Levels::levels, crate::proofs::lemmas::data::Weights::weights))]
+pub(crate) fn same_data(left: &Data, right: &Data) -> bool
+    ensures { result ≡ data_same (data_of left.now) (data_of right.now) }
+{
+    match (left, right) {
+        (Data::Unit, Data::Unit) => true,
+        (Data::None, Data::None) => true,
+        (Data::Some(left), Data::Some(right)) => same_data(left, right),
+        (Data::Bool(left), Data::Bool(right)) => left == right,
+        (Data::Unsigned(left), Data::Unsigned(right)) => left == right,
+        (Data::Signed(left), Data::Signed(right)) => left == right,
+        (Data::Char(left), Data::Char(right)) => left == right,
+        (Data::Text(left), Data::Text(right)) => left == right,
+        (Data::Bytes(left), Data::Bytes(right)) => left == right,
+        (Data::Seq(left), Data::Seq(right)) => same_items(left, right),
+        (Data::Tuple(left), Data::Tuple(right)) => same_items(left, right),
+        (Data::Map(left), Data::Map(right)) => same_pairs(left, right),
+        (Data::Struct(left), Data::Struct(right)) => same_members(left, right),
+        (Data::Newtype(left), Data::Newtype(right)) => same_data(left, right),
+        (Data::UnitVariant(left), Data::UnitVariant(right)) => left == right,
+        (Data::NewtypeVariant(name, left), Data::NewtypeVariant(other, right)) => {
+            name == other && same_data(left, right)
+        }
+        (Data::TupleVariant(name, left), Data::TupleVariant(other, right)) => {
+            name == other && same_items(left, right)
+        }
+        (Data::StructVariant(name, left), Data::StructVariant(other, right)) => {
+            name == other && same_members(left, right)
+        }
+        _ => false,
+    }
+}
+
+#[cycle(sameness)]
+fn same_items(left: &[Data], right: &[Data]) -> bool
+    ensures { result ≡ values_same (values_in left.now) (values_in right.now) }
+{
+    if left.len() != right.len() {
+        return false;
+    }
+    for (at, item) in left.iter().enumerate() {
+        let other = &right[at];
+        if !same_data(item, other) {
+            return false;
+        }
+    }
+    true
+}
+
+#[cycle(sameness)]
+fn same_pairs(left: &[(Data, Data)], right: &[(Data, Data)]) -> bool
+    ensures { result ≡ pairs_same (pairs_in left.now) (pairs_in right.now) }
+{
+    if left.len() != right.len() {
+        return false;
+    }
+    for (at, pair) in left.iter().enumerate() {
+        let other = &right[at];
+        if !same_pair(pair, other) {
+            return false;
+        }
+    }
+    true
+}
+
+#[cycle(sameness)]
+fn same_pair(left: &(Data, Data), right: &(Data, Data)) -> bool
+    ensures { result ≡ (data_same (data_of left.now.0) (data_of right.now.0) && data_same (data_of left.now.1) (data_of right.now.1)) }
+{
+    same_data(&left.0, &right.0) && same_data(&left.1, &right.1)
+}
+
+#[cycle(sameness)]
+fn same_members(left: &[(String, Data)], right: &[(String, Data)]) -> bool
+    ensures { result ≡ members_same (members_in left.now) (members_in right.now) }
+{
+    if left.len() != right.len() {
+        return false;
+    }
+    for (at, member) in left.iter().enumerate() {
+        let other = &right[at];
+        if !same_member(member, other) {
+            return false;
+        }
+    }
+    true
+}
+
+#[cycle(sameness)]
+fn same_member(left: &(String, Data), right: &(String, Data)) -> bool
+    ensures { result ≡ (bytes_eq (string_bytes left.now.0) (string_bytes right.now.0) && data_same (data_of left.now.1) (data_of right.now.1)) }
+{
+    left.0 == right.0 && same_data(&left.1, &right.1)
+}

@@ -1,0 +1,104 @@
+//! The deserializer: a querystring that was parsed, and is to be read by a shape.
+
+ghost use Rattle.std.specs.Prelude.{◌≡◌, ◌≢◌, ◌+◌, ◌≤◌, ◌⊎◌, ℕ, List, [], true, length, IfOk, IsOk};
+ghost use Rattle.qs_spec.specs.Config.{default};
+ghost use Rattle.qs_spec.specs.Holds.{IsSound, leaf_count, nesting};
+ghost use Rattle.qs_spec.specs.Input.{HasPairs, IsReordered};
+ghost use Rattle.qs_spec.specs.Marks.{marks};
+ghost use Rattle.qs_spec.specs.Order.{AreAlike, unmarked};
+ghost use Rattle.qs_spec.specs.Shape.{is_distinct};
+ghost use Rattle.qs_spec.specs.Tree.{Tree, IsTree, IsRefused};
+ghost use Rattle.qs_tree.specs.Error.{IsParse, IfParse, IsOutOfMemory, OnlyOutOfMemory, OnlyParseOrOutOfMemory};
+ghost use Rattle.qs_tree.specs.Parsing.{TakesNoMemory};
+ghost use Rattle.qs_data.specs.shape.Views.{shape_of};
+ghost use Rattle.qs_data.specs.read.Errors.{OnlyCustomUtf8OrOutOfMemory};
+ghost use Rattle.qs_data.specs.read.Parsed.{takes_no_memory};
+ghost use Rattle.qs_data.specs.read.Parsed.{ReturnsData, SparesMemory, owned_by, parsed_of};
+ghost use Rattle.qs_data.specs.read.ReadBack.{ReadsBack};
+
+use crate::data::Data;
+use crate::read::by_shape::read;
+use crate::shape::Shape;
+use qs_tree::{Config, DuplicateKeyBehavior, ParsedValue, Result, parse};
+use std::alloc::Global;
+
+/// A querystring that was parsed, to be read by a [`Shape`].
+///
+/// ```
+/// let deserializer = Deserializer::with_config(alloc, Config::new(), b"age=24&name=Alice")?;
+/// let person = deserializer.read(alloc, &shape)?;
+/// ```
+#[derive(Debug, Drop)]
+pub struct Deserializer<'qs> {
+    config: Config,
+    tree: ParsedValue<'qs>,
+}
+
+impl<'qs> Deserializer<'qs> {
+    /// The querystring, parsed with the default configuration: see [`with_config`](Deserializer::with_config).
+    pub fn new(alloc: Global, input: &'qs [u8]) -> Result<Deserializer<'qs>>
+        ensures config { IfOk result (λ d. (parsed_of d).config ≡ default) }
+        ensures tree { IfOk result (λ d. IsTree default.form default.max_depth input.now (parsed_of d).tree) }
+        ensures refused { IsParse result → IsRefused default.form default.max_depth input.now }
+        ensures position { IfParse result (λ position. position ≤ length input.now + 1) }
+        ensures no_memory { TakesNoMemory input.now → IsOk result }
+        ensures errors { OnlyParseOrOutOfMemory result }
+    {
+        Deserializer::with_config(alloc, Config::new(), input)
+    }
+
+    /// The querystring, parsed.
+    ///
+    /// It is rejected, with [`Parse`](Error::Parse) and the position of the first fault, exactly where it has no tree. Texts and
+    /// keys that hold neither `+` nor `%` are borrowed from it. The time grows with the input's length and the depth of its keys.
+    ///
+    /// The clauses are those of [`parse`](qs_tree::parse) about the tree. Pairs in another order that keeps those with overlapping
+    /// paths have the same tree, or are rejected too (`alike`). Steps aren't counted: [`parse_with`](qs_tree::parse_with) counts them.
+    pub fn with_config(alloc: Global, config: Config, input: &'qs [u8]) -> Result<Deserializer<'qs>>
+        ensures config { IfOk result (λ d. (parsed_of d).config ≡ config) }
+        ensures tree { IfOk result (λ d. IsTree config.form config.max_depth input.now (parsed_of d).tree) }
+        ensures refused { IsParse result → IsRefused config.form config.max_depth input.now }
+        ensures accepted { (t : Tree) → IsTree config.form config.max_depth input.now t → OnlyOutOfMemory result }
+        ensures rejected { IsRefused config.form config.max_depth input.now → IsParse result ⊎ IsOutOfMemory result }
+        ensures position { IfParse result (λ position. position ≤ length input.now + 1) }
+        ensures no_memory { TakesNoMemory input.now → IsOk result }
+        ensures errors { OnlyParseOrOutOfMemory result }
+        ensures borrowed { (t : Tree) → IsTree config.form config.max_depth input.now t → IfOk result (λ d. owned_by d ≡ marks t) }
+        ensures leaves { input.now ≢ [] → IfOk result (λ d. HasPairs config.form config.max_depth input.now (leaf_count (parsed_of d).tree)) }
+        ensures nesting { IfOk result (λ d. nesting (parsed_of d).tree ≤ config.max_depth + 2) }
+        ensures sound { IfOk result (λ d. IsSound (parsed_of d).tree) }
+        ensures alike { (other : List ℕ) → IsReordered config.form config.max_depth input.now other → AreAlike config.form config.max_depth input.now other }
+        ensures reordered { (other : List ℕ) → IsReordered config.form config.max_depth input.now other
+            → IfOk result (λ d. (t : Tree) × IsTree config.form config.max_depth other t × (unmarked t ≡ unmarked (parsed_of d).tree)) }
+    {
+        let tree = parse(alloc, input, config)?;
+        Ok(Deserializer { config, tree })
+    }
+
+    /// Reads the querystring by a shape whose names differ.
+    ///
+    /// The data are those that docs/QUERYSTRINGS.md has for the shape and the tree. Where there are none, that is
+    /// [`Custom`](Error::Custom) with the first fault that was met, or [`Utf8`](Error::Utf8) where a text that is read isn't
+    /// UTF-8. Fields are read in the shape's order, then the other keys are looked at.
+    ///
+    /// The items of a list are read in their order, and the pairs of a map in the order of its keys, of each the key first. The
+    /// message of a key that holds `[` is reported with a hint at form encoding.
+    ///
+    /// Where the querystring was written of [plain](Data::is_plain) data that [fit](Shape::fits) the shape, under the same
+    /// configuration, these data are read back: in the indexed format from their entries in any order, and in each format where
+    /// their [lists can be](Data::is_listed) from an order that keeps entries with one path as they were. A map has its pairs in
+    /// the order of its keys.
+    ///
+    /// Memory is allocated for what the data keep, for a struct with room for each field of its shape, and for a fault's message; data
+    /// of a scalar without bytes take none.
+    pub fn read(self, alloc: Global, shape: &Shape) -> Result<Data>
+        requires { is_distinct (shape_of shape.now) ≡ true }
+        ensures exact { ReturnsData (parsed_of self.entry) (shape_of shape.now) result }
+        ensures back { ReadsBack (parsed_of self.entry) (shape_of shape.now) result }
+        ensures no_memory { takes_no_memory (shape_of shape.now) ≡ true → SparesMemory (parsed_of self.entry) (shape_of shape.now) result }
+        ensures errors { OnlyCustomUtf8OrOutOfMemory result }
+    {
+        let reject_duplicates = self.config.get_duplicates() == DuplicateKeyBehavior::Error;
+        read(alloc, reject_duplicates, shape, &self.tree)
+    }
+}

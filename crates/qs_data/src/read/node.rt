@@ -1,0 +1,55 @@
+//! One node of a tree: what a shape reads from it, and what stands under a name in it.
+
+ghost use Rattle.qs_spec.specs.Node.{found};
+ghost use Rattle.qs_spec.specs.internal.ReadFunction.{read_by};
+ghost use Rattle.qs_tree.specs.tree.Views.{tree_of, entries_of_map};
+ghost use Rattle.qs_data.specs.data.Views.{data_of};
+ghost use Rattle.qs_data.specs.shape.Views.{shape_of};
+ghost use Rattle.qs_data.specs.read.Text.{is_text};
+ghost use Rattle.qs_data.specs.read.Gives.{Gives};
+ghost use Rattle.qs_data.specs.read.Errors.{OnlyCustomUtf8OrOutOfMemory};
+ghost use Rattle.qs_data.specs.read.Found.{Finds};
+
+use crate::data::Data;
+use crate::read::by_shape::read;
+use crate::read::keys::{Entries, Found, find, test_keys};
+use crate::shape::Shape;
+use qs_tree::{Config, DuplicateKeyBehavior, ParsedMap, ParsedValue, Result};
+use std::alloc::Global;
+
+/// Reads one node of a tree by a shape, as [`Deserializer::read`](crate::Deserializer::read) does with the whole tree.
+///
+/// The data are those that docs/QUERYSTRINGS.md has for the shape and the node. Where there are none, that is
+/// [`Custom`](qs_tree::Error::Custom), or [`Utf8`](qs_tree::Error::Utf8) where a text that is read isn't UTF-8. It allocates for
+/// what the data keep and for an error's message.
+///
+/// ```
+/// let age = read_value(alloc, Config::new(), &Shape::U8, &ParsedValue::Null); // an error: u8 is expected
+/// ```
+pub fn read_value(
+    alloc: Global,
+    config: Config,
+    shape: &Shape,
+    node: &ParsedValue<'_>,
+) -> Result<Data>
+    ensures exact { Gives data_of (is_text (tree_of node.now)) result (read_by config (shape_of shape.now) (tree_of node.now)) }
+    ensures errors { OnlyCustomUtf8OrOutOfMemory result }
+{
+    let reject_duplicates = config.get_duplicates() == DuplicateKeyBehavior::Error;
+    read(alloc, reject_duplicates, shape, node)
+}
+
+/// Looks up the value under a name, as a field of a struct is looked up: under the text, or under the integer that is written so.
+///
+/// It doesn't allocate, and looks at each key once.
+///
+/// ```
+/// let found = find_value(&map, "age"); // Found::Missing, Found::One(value) or Found::Several
+/// ```
+pub fn find_value<'t, 'qs>(map: &'t ParsedMap<'qs>, name: &str) -> Found<'t, 'qs>
+    ensures { Finds result (found name.now (entries_of_map map.now)) }
+{
+    let entries = Entries::Map(map);
+    let _numbers_fit = test_keys(entries);
+    find(entries, name)
+}

@@ -1,0 +1,293 @@
+//! Data that fit a shape.
+
+mod scalar;
+
+ghost use Rattle.std.specs.Prelude.{◌≡◌, ◌≤◌, Some, drop, length, IfSome};
+ghost use Rattle.qs_spec.specs.Shape as s;
+ghost use Rattle.qs_spec.specs.Fits.{fits, each_fits, fits_tuple, fits_pairs, fits_fields, variant_kind};
+ghost use Rattle.qs_data.specs.data.Views.{data_of, values_in, pairs_in, members_in};
+ghost use Rattle.qs_data.specs.shape.Views.{shape_of, key_shape_of, field_of, shapes_in, fields_in, variants_in};
+ghost use Rattle.qs_data.specs.shape.Views as view;
+ghost use Rattle.qs_data.specs.shape.internal.Fitting.{fits_variant, is_next, FitsField};
+
+use crate::data::Data;
+use crate::shape::fits::scalar::{
+    fits_key, is_any_text, is_bool, is_bytes, is_char, is_signed, is_text, is_unit, is_unsigned,
+};
+use crate::shape::{Field, KeyShape, Shape, Variant, VariantKind, Width};
+
+impl Shape {
+    /// Whether the data are such as this shape reads: the same kinds at each place.
+    ///
+    /// Numbers lie in their width, an `Unsigned` in that of an unsigned shape and a `Signed` in that of a signed one. Variants and
+    /// keys are of the shape. A tuple has the shape's length. The fields of a struct, and of a struct variant, are fields of the
+    /// shape in its order, and each that isn't optional is there. Nothing fits [`Any`](Shape::Any) or [`Ignored`](Shape::Ignored).
+    ///
+    /// [Plain](Data::is_plain) data that fit a shape, of which the names differ, are read back by it. It takes time with the size of
+    /// the data and of the shape, and stack with their depth. It doesn't allocate.
+    ///
+    /// ```
+    /// if !shape.fits(&data) {
+    ///     return Err(Refused::OtherKind);
+    /// }
+    /// ```
+    pub fn fits(&self, datum: &Data) -> bool
+        ensures { result ≡ fits (shape_of self.now) (data_of datum.now) }
+    {
+        fits(self, datum)
+    }
+}
+
+#[cycle(fits)]
+fn fits(shape: &Shape, datum: &Data) -> bool
+    ensures { result ≡ fits (shape_of shape.now) (data_of datum.now) }
+{
+    match shape {
+        Shape::Unit => is_unit(datum),
+        Shape::Bool => is_bool(datum),
+        Shape::U8 => is_unsigned(Width::Bits8, datum),
+        Shape::U16 => is_unsigned(Width::Bits16, datum),
+        Shape::U32 => is_unsigned(Width::Bits32, datum),
+        Shape::U64 => is_unsigned(Width::Bits64, datum),
+        Shape::I8 => is_signed(Width::Bits8, datum),
+        Shape::I16 => is_signed(Width::Bits16, datum),
+        Shape::I32 => is_signed(Width::Bits32, datum),
+        Shape::I64 => is_signed(Width::Bits64, datum),
+        Shape::Char => is_char(datum),
+        Shape::Text => is_text(datum),
+        Shape::Bytes => is_bytes(datum),
+        Shape::Option(part) => fits_option(part, datum),
+        Shape::Seq(part) => fits_seq(part, datum),
+        Shape::Tuple(parts) => fits_tuple(parts, datum),
+        Shape::Map(key, part) => fits_map(key, part, datum),
+        Shape::Struct(fields) | Shape::StrictStruct(fields) => fits_struct(fields, datum),
+        Shape::Newtype(part) => fits_newtype(part, datum),
+        Shape::Enum(variants) => fits_enum(variants, datum),
+        Shape::Any | Shape::Ignored => false,
+    }
+}
+
+#[cycle(fits)]
+fn fits_option(part: &Shape, datum: &Data) -> bool
+    ensures { result ≡ fits (s.Shape.option (shape_of part.now)) (data_of datum.now) }
+{
+    match datum {
+        Data::None => true,
+        Data::Some(held) => fits(part, held),
+        _ => false,
+    }
+}
+
+#[cycle(fits)]
+fn fits_newtype(part: &Shape, datum: &Data) -> bool
+    ensures { result ≡ fits (s.Shape.newtype (shape_of part.now)) (data_of datum.now) }
+{
+    match datum {
+        Data::Newtype(held) => fits(part, held),
+        _ => false,
+    }
+}
+
+#[cycle(fits)]
+fn fits_seq(part: &Shape, datum: &Data) -> bool
+    ensures { result ≡ fits (s.Shape.sequence (shape_of part.now)) (data_of datum.now) }
+{
+    match datum {
+        Data::Seq(items) => each_fits(part, items),
+        _ => false,
+    }
+}
+
+#[cycle(fits)]
+fn each_fits(part: &Shape, items: &Vec<Data>) -> bool
+    ensures { result ≡ each_fits (shape_of part.now) (values_in items.now.items) }
+{
+    for item in items {
+        if !fits(part, item) {
+            return false;
+        }
+    }
+    true
+}
+
+#[cycle(fits)]
+fn fits_tuple(parts: &Vec<Shape>, datum: &Data) -> bool
+    ensures { result ≡ fits (s.Shape.tuple (shapes_in parts.now.items)) (data_of datum.now) }
+{
+    match datum {
+        Data::Tuple(items) => fits_items(parts, items),
+        _ => false,
+    }
+}
+
+// As many items as there are shapes, each by its shape.
+#[cycle(fits)]
+fn fits_items(parts: &Vec<Shape>, items: &Vec<Data>) -> bool
+    ensures { result ≡ fits_tuple (shapes_in parts.now.items) (values_in items.now.items) }
+{
+    for (i, part) in parts.iter().enumerate() {
+        let Some(item) = items.get(i) else {
+            return false;
+        };
+        if !fits(part, item) {
+            return false;
+        }
+    }
+    items[parts.len()..].is_empty()
+}
+
+#[cycle(fits)]
+fn fits_map(key: &KeyShape, part: &Shape, datum: &Data) -> bool
+    ensures { result ≡ fits (s.Shape.mapping (key_shape_of key.now) (shape_of part.now)) (data_of datum.now) }
+{
+    match datum {
+        Data::Map(pairs) => fits_pairs(key, part, pairs),
+        _ => false,
+    }
+}
+
+#[cycle(fits)]
+fn fits_pairs(key: &KeyShape, part: &Shape, pairs: &Vec<(Data, Data)>) -> bool
+    ensures { result ≡ fits_pairs (key_shape_of key.now) (shape_of part.now) (pairs_in pairs.now.items) }
+{
+    for pair in pairs {
+        if !fits_key(key, &pair.0) || !fits(part, &pair.1) {
+            return false;
+        }
+    }
+    true
+}
+
+#[cycle(fits)]
+#[tactic(auto, using(crate::proofs::lemmas::data::Levels::levels))]
+fn fits_struct(fields: &Vec<Field>, datum: &Data) -> bool
+    ensures plain { result ≡ fits (s.Shape.struct s.UnknownKeys.ignored (fields_in fields.now.items)) (data_of datum.now) }
+    ensures strict { result ≡ fits (s.Shape.struct s.UnknownKeys.rejected (fields_in fields.now.items)) (data_of datum.now) }
+{
+    match datum {
+        Data::Struct(members) => fits_fields(fields, members),
+        _ => false,
+    }
+}
+
+// The members are fields in their order, and each field that isn't optional is there.
+#[cycle(fits)]
+fn fits_fields(fields: &Vec<Field>, members: &Vec<(String, Data)>) -> bool
+    ensures { result ≡ fits_fields (fields_in fields.now.items) (members_in members.now.items) }
+{
+    let mut at = 0;
+    for field in fields {
+        let Some(next) = fits_field(field, members, at) else {
+            return false;
+        };
+        at = next;
+    }
+    members[at..].is_empty()
+}
+
+// Where the members that are left begin, if the next one fits the field or the field is optional.
+#[cycle(fits)]
+fn fits_field(field: &Field, members: &Vec<(String, Data)>, at: usize) -> Option<usize>
+    requires { at ≤ length members.now.items }
+    ensures within { IfSome result (λ next. next ≤ length members.now.items) }
+    ensures fits { FitsField (field_of field.now) (members_in (drop at members.now.items)) result (λ next. members_in (drop next members.now.items)) }
+{
+    if !is_next(&members[at..], &field.name) {
+        return if field.optional { Some(at) } else { None };
+    }
+    if fits(&field.shape, &members[at].1) {
+        Some(at + 1)
+    } else {
+        None
+    }
+}
+
+// Whether the first member has this name.
+fn is_next(members: &[(String, Data)], name: &str) -> bool
+    ensures { result ≡ is_next name.now (members_in members.now) }
+{
+    match members.first() {
+        Some(member) => name == member.0.as_str(),
+        None => false,
+    }
+}
+
+#[cycle(fits)]
+#[tactic(auto, using(crate::proofs::lemmas::data::Levels::levels))]
+fn fits_enum(variants: &Vec<Variant>, datum: &Data) -> bool
+    ensures { result ≡ fits (s.Shape.enumeration (variants_in variants.now.items)) (data_of datum.now) }
+{
+    match datum {
+        Data::UnitVariant(name) => is_any_text(name) && fits_named(variants, name, datum),
+        Data::NewtypeVariant(name, _) => is_any_text(name) && fits_named(variants, name, datum),
+        Data::TupleVariant(name, _) => is_any_text(name) && fits_named(variants, name, datum),
+        Data::StructVariant(name, _) => is_any_text(name) && fits_named(variants, name, datum),
+        _ => false,
+    }
+}
+
+// The variant of a name is of the kind of the data.
+#[cycle(fits)]
+#[tactic(auto, using(crate::proofs::lemmas::shape::Fitting::no_kind))]
+fn fits_named(variants: &Vec<Variant>, name: &str, datum: &Data) -> bool
+    ensures { result ≡ fits_variant (variant_kind name.now (variants_in variants.now.items)) (data_of datum.now) }
+{
+    for variant in variants {
+        if variant.name.as_str() == name {
+            return fits_kind(&variant.kind, datum);
+        }
+    }
+    false
+}
+
+#[cycle(fits)]
+fn fits_kind(kind: &VariantKind, datum: &Data) -> bool
+    ensures { result ≡ fits_variant (Some (view.kind_of kind.now)) (data_of datum.now) }
+{
+    match kind {
+        VariantKind::Unit => is_unit_variant(datum),
+        VariantKind::Newtype(part) => fits_newtype_variant(part, datum),
+        VariantKind::Tuple(parts) => fits_tuple_variant(parts, datum),
+        VariantKind::Struct(fields) | VariantKind::StrictStruct(fields) => {
+            fits_struct_variant(fields, datum)
+        }
+    }
+}
+
+fn is_unit_variant(datum: &Data) -> bool
+    ensures { result ≡ fits_variant (Some s.unit_kind) (data_of datum.now) }
+{
+    matches!(datum, Data::UnitVariant(_))
+}
+
+#[cycle(fits)]
+fn fits_newtype_variant(part: &Shape, datum: &Data) -> bool
+    ensures { result ≡ fits_variant (Some (s.newtype_kind (shape_of part.now))) (data_of datum.now) }
+{
+    match datum {
+        Data::NewtypeVariant(_, held) => fits(part, held),
+        _ => false,
+    }
+}
+
+#[cycle(fits)]
+fn fits_tuple_variant(parts: &Vec<Shape>, datum: &Data) -> bool
+    ensures { result ≡ fits_variant (Some (s.tuple_kind (shapes_in parts.now.items))) (data_of datum.now) }
+{
+    match datum {
+        Data::TupleVariant(_, items) => fits_items(parts, items),
+        _ => false,
+    }
+}
+
+#[cycle(fits)]
+#[tactic(auto, using(crate::proofs::lemmas::data::Levels::levels))]
+fn fits_struct_variant(fields: &Vec<Field>, datum: &Data) -> bool
+    ensures plain { result ≡ fits_variant (Some (s.struct_kind s.UnknownKeys.ignored (fields_in fields.now.items))) (data_of datum.now) }
+    ensures strict { result ≡ fits_variant (Some (s.struct_kind s.UnknownKeys.rejected (fields_in fields.now.items))) (data_of datum.now) }
+{
+    match datum {
+        Data::StructVariant(_, members) => fits_fields(fields, members),
+        _ => false,
+    }
+}

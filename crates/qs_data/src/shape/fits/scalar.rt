@@ -1,0 +1,151 @@
+//! Scalars and keys that fit a shape.
+
+ghost use Rattle.std.specs.Prelude.{◌≡◌, map, string_bytes};
+ghost use Rattle.std.specs.List.{list_all, list_any};
+ghost use Rattle.std.specs.Str.{bytes_eq, is_utf8};
+ghost use Rattle.qs_spec.specs.Shape as s;
+ghost use Rattle.qs_spec.specs.Fits.{fits, fits_key, fits_unsigned, fits_signed, is_scalar, is_byte};
+ghost use Rattle.qs_data.specs.data.Views.{data_of};
+ghost use Rattle.qs_data.specs.shape.Views.{key_shape_of};
+ghost use Rattle.qs_data.specs.shape.internal.Widths.{bits_of};
+
+use crate::data::Data;
+use crate::shape::{KeyShape, Width};
+
+pub(super) fn is_unit(datum: &Data) -> bool
+    ensures { result ≡ fits s.Shape.unit (data_of datum.now) }
+{
+    matches!(datum, Data::Unit)
+}
+
+pub(super) fn is_bool(datum: &Data) -> bool
+    ensures shape { result ≡ fits s.Shape.boolean (data_of datum.now) }
+    ensures key { result ≡ fits_key s.KeyShape.boolean (data_of datum.now) }
+{
+    matches!(datum, Data::Bool(_))
+}
+
+pub(super) fn is_unsigned(width: Width, datum: &Data) -> bool
+    ensures shape { result ≡ fits (s.Shape.unsigned (bits_of width)) (data_of datum.now) }
+    ensures key { result ≡ fits_key (s.KeyShape.unsigned (bits_of width)) (data_of datum.now) }
+{
+    match datum {
+        Data::Unsigned(n) => has_width(width, *n),
+        _ => false,
+    }
+}
+
+fn has_width(width: Width, n: u64) -> bool
+    ensures { result ≡ fits_unsigned (bits_of width) n }
+{
+    n <= width.unsigned_max()
+}
+
+pub(super) fn is_signed(width: Width, datum: &Data) -> bool
+    ensures shape { result ≡ fits (s.Shape.signed (bits_of width)) (data_of datum.now) }
+    ensures key { result ≡ fits_key (s.KeyShape.signed (bits_of width)) (data_of datum.now) }
+{
+    match datum {
+        Data::Signed(n) => has_signed_width(width, *n),
+        _ => false,
+    }
+}
+
+fn has_signed_width(width: Width, n: i64) -> bool
+    ensures { result ≡ fits_signed (bits_of width) n }
+{
+    width.signed_min() <= n && n <= width.signed_max()
+}
+
+pub(super) fn is_char(datum: &Data) -> bool
+    ensures shape { result ≡ fits s.Shape.character (data_of datum.now) }
+    ensures key { result ≡ fits_key s.KeyShape.character (data_of datum.now) }
+{
+    match datum {
+        Data::Char(c) => is_any_char(*c),
+        _ => false,
+    }
+}
+
+// Each character is a Unicode scalar value.
+fn is_any_char(c: char) -> bool
+    ensures { result ≡ is_scalar c }
+{
+    let _code = c;
+    true
+}
+
+pub(super) fn is_text(datum: &Data) -> bool
+    ensures shape { result ≡ fits s.Shape.text (data_of datum.now) }
+    ensures key { result ≡ fits_key s.KeyShape.text (data_of datum.now) }
+{
+    match datum {
+        Data::Text(text) => is_any_text(text),
+        _ => false,
+    }
+}
+
+// Each text, also a name, is UTF-8.
+pub(super) fn is_any_text(text: &String) -> bool
+    ensures { result ≡ is_utf8 (string_bytes text.now) }
+{
+    let _text = text;
+    true
+}
+
+pub(super) fn is_bytes(datum: &Data) -> bool
+    ensures { result ≡ fits s.Shape.bytes (data_of datum.now) }
+{
+    match datum {
+        Data::Bytes(bytes) => are_bytes(bytes),
+        _ => false,
+    }
+}
+
+// Each byte is below 256.
+fn are_bytes(bytes: &[u8]) -> bool
+    ensures { result ≡ list_all is_byte bytes.now }
+{
+    let _bytes = bytes;
+    true
+}
+
+pub(super) fn fits_key(key: &KeyShape, datum: &Data) -> bool
+    ensures { result ≡ fits_key (key_shape_of key.now) (data_of datum.now) }
+{
+    match key {
+        KeyShape::Bool => is_bool(datum),
+        KeyShape::U8 => is_unsigned(Width::Bits8, datum),
+        KeyShape::U16 => is_unsigned(Width::Bits16, datum),
+        KeyShape::U32 => is_unsigned(Width::Bits32, datum),
+        KeyShape::U64 => is_unsigned(Width::Bits64, datum),
+        KeyShape::I8 => is_signed(Width::Bits8, datum),
+        KeyShape::I16 => is_signed(Width::Bits16, datum),
+        KeyShape::I32 => is_signed(Width::Bits32, datum),
+        KeyShape::I64 => is_signed(Width::Bits64, datum),
+        KeyShape::Char => is_char(datum),
+        KeyShape::Text => is_text(datum),
+        KeyShape::Variants(names) => is_named(names, datum),
+    }
+}
+
+// A unit variant of one of the names.
+fn is_named(names: &Vec<String>, datum: &Data) -> bool
+    ensures { result ≡ fits_key (s.KeyShape.variants (map string_bytes names.now.items)) (data_of datum.now) }
+{
+    match datum {
+        Data::UnitVariant(name) => is_listed(names, name) && is_any_text(name),
+        _ => false,
+    }
+}
+
+fn is_listed(names: &[String], name: &str) -> bool
+    ensures { result ≡ list_any (bytes_eq name.now) (map string_bytes names.now) }
+{
+    for other in names {
+        if name == other.as_str() {
+            return true;
+        }
+    }
+    false
+}

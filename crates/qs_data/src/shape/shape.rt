@@ -1,0 +1,120 @@
+//! Shapes: what is to be read.
+
+/// What is to be read of a querystring, and so what its text means.
+#[cycle(shape)]
+#[derive(Debug, PartialEq, Eq, Drop)]
+pub enum Shape {
+    /// No value: a key alone, or one with nothing after `=`.
+    Unit,
+    /// `true` or `false`; a key alone, or one with nothing after `=`, is true.
+    Bool,
+    /// A whole number of 8 bits.
+    U8,
+    /// A whole number of 16 bits.
+    U16,
+    /// A whole number of 32 bits.
+    U32,
+    /// A whole number of 64 bits.
+    U64,
+    /// A signed number of 8 bits.
+    I8,
+    /// A signed number of 16 bits.
+    I16,
+    /// A signed number of 32 bits.
+    I32,
+    /// A signed number of 64 bits.
+    I64,
+    /// A text of one character.
+    Char,
+    /// A text, which must be UTF-8.
+    Text,
+    /// A string of bytes.
+    Bytes,
+    /// A value that may be absent.
+    Option(Box<Shape>),
+    /// A list.
+    Seq(Box<Shape>),
+    /// The first items of a list, each of its own shape.
+    Tuple(Vec<Shape>),
+    /// Keys and values.
+    Map(KeyShape, Box<Shape>),
+    /// Fields, by their names or by their places.
+    Struct(Vec<Field>),
+    /// Fields as those of a [`Struct`](Shape::Struct), where a map's keys that no field has are rejected.
+    StrictStruct(Vec<Field>),
+    /// A value in a type of its own.
+    Newtype(Box<Shape>),
+    /// One of these variants, by its name.
+    Enum(Vec<Variant>),
+    /// Whatever is there.
+    Any,
+    /// Whatever is there, which is passed over.
+    Ignored,
+}
+
+/// A field of a struct.
+#[cycle(shape)]
+#[derive(Debug, PartialEq, Eq, Drop)]
+pub struct Field {
+    /// Its name, which is the text of its key.
+    pub name: String,
+    /// What is read of it.
+    pub shape: Shape,
+    /// Whether it is left out where it is not there.
+    pub optional: bool,
+}
+
+/// A variant of an enum.
+#[cycle(shape)]
+#[derive(Debug, PartialEq, Eq, Drop)]
+pub struct Variant {
+    /// Its name, which is the text of its key.
+    pub name: String,
+    /// What it holds.
+    pub kind: VariantKind,
+}
+
+/// What a variant holds.
+#[cycle(shape)]
+#[derive(Debug, PartialEq, Eq, Drop)]
+pub enum VariantKind {
+    /// Nothing.
+    Unit,
+    /// A value.
+    Newtype(Box<Shape>),
+    /// The first items of a list, each of its own shape.
+    Tuple(Vec<Shape>),
+    /// Fields, by their names or by their places.
+    Struct(Vec<Field>),
+    /// Fields as those of a [`Struct`](VariantKind::Struct), where a map's keys that no field has are rejected.
+    StrictStruct(Vec<Field>),
+}
+
+/// How the text of a map's key is read.
+#[derive(Debug, PartialEq, Eq, Drop)]
+pub enum KeyShape {
+    /// `true` or `false`.
+    Bool,
+    /// A whole number of 8 bits.
+    U8,
+    /// A whole number of 16 bits.
+    U16,
+    /// A whole number of 32 bits.
+    U32,
+    /// A whole number of 64 bits.
+    U64,
+    /// A signed number of 8 bits.
+    I8,
+    /// A signed number of 16 bits.
+    I16,
+    /// A signed number of 32 bits.
+    I32,
+    /// A signed number of 64 bits.
+    I64,
+    /// A text of one character.
+    Char,
+    /// A text, which must be UTF-8.
+    Text,
+    /// One of these names.
+    Variants(Vec<String>),
+}

@@ -1,0 +1,64 @@
+//! How many bits a number has.
+
+ghost use Rattle.std.specs.Prelude.{◌≡◌, ◌+◌, ◌-◌, ◌^◌, pos, neg_ℤ};
+ghost use Rattle.qs_data.specs.shape.internal.Widths.{bits_of};
+
+use std::fmt;
+
+/// The width of a number.
+#[derive(Clone, Copy)]
+pub(crate) enum Width {
+    Bits8,
+    Bits16,
+    Bits32,
+    Bits64,
+}
+
+impl Width {
+    /// The greatest unsigned number of this width.
+    pub(crate) fn unsigned_max(self) -> u64
+        ensures { result ≡ 2 ^ bits_of self - 1 }
+    {
+        match self {
+            Width::Bits8 => u64::from(u8::MAX),
+            Width::Bits16 => u64::from(u16::MAX),
+            Width::Bits32 => u64::from(u32::MAX),
+            Width::Bits64 => u64::MAX,
+        }
+    }
+
+    /// The greatest signed number of this width.
+    pub(crate) fn signed_max(self) -> i64
+        ensures { result ≡ pos (2 ^ (bits_of self - 1) - 1) }
+    {
+        match self {
+            Width::Bits8 => i64::from(i8::MAX),
+            Width::Bits16 => i64::from(i16::MAX),
+            Width::Bits32 => i64::from(i32::MAX),
+            Width::Bits64 => i64::MAX,
+        }
+    }
+
+    /// The least signed number of this width.
+    pub(crate) fn signed_min(self) -> i64
+        ensures { result ≡ neg_ℤ (pos (2 ^ (bits_of self - 1))) }
+    {
+        match self {
+            Width::Bits8 => i64::from(i8::MIN),
+            Width::Bits16 => i64::from(i16::MIN),
+            Width::Bits32 => i64::from(i32::MIN),
+            Width::Bits64 => i64::MIN,
+        }
+    }
+}
+
+impl fmt::Display for Width {
+    fn fmt<W: fmt::Write>(&self, f: &mut fmt::Formatter<W>) -> fmt::Result {
+        f.write_str(match self {
+            Width::Bits8 => "8",
+            Width::Bits16 => "16",
+            Width::Bits32 => "32",
+            Width::Bits64 => "64",
+        })
+    }
+}

@@ -1,0 +1,119 @@
+//! Where written text goes.
+
+ghost use Rattle.std.specs.Prelude.{◌≡◌, ℕ, ◌<◌, List, length, take, Bool, false, ◌||◌, OnOk, IfErr, is_err};
+ghost use Rattle.std.specs.declared.option.Option.{Option};
+ghost use Rattle.std.specs.Io.{WritesAtMost};
+ghost use Rattle.std.specs.Io.KnownBytes.{Appends, WriteAppends};
+ghost use Rattle.qs_data.specs.write.Put.{put_fails};
+ghost use Rattle.qs_data.specs.declared.write.stop.Stop.TheVariants.{Io};
+
+use crate::write::stop::Stop;
+use std::io;
+use std::io::Write;
+
+/// Takes bytes, and remembers whether it ever failed to.
+///
+/// [`ByWrite`] makes a sink of any writer. A type of its own may be one too, such as a buffer with a
+/// limit; its [`put`](Sink::put) returns what a writer's `write` returns.
+pub trait Sink {
+    // The bytes that it took so far, where the sink reports them.
+    ghost taken: { Self → Option (List ℕ) };
+
+    // Whether a put failed.
+    ghost failed: { Self → Bool };
+
+    // Which writer of a caller's it writes to, where it holds one by reference.
+    ghost writer_name: { Self → ℕ } = { λ _. 0 };
+
+    /// Takes the first bytes of `bytes`, and returns how many; with an error it takes none.
+    ///
+    /// A put of some bytes that takes none, or that returns an error of any kind, fails: from then
+    /// on the sink has failed.
+    fn put(&mut self, bytes: &[u8]) -> io::Result<usize>
+        ensures bound { WritesAtMost result bytes.now }
+        ensures takes { WriteAppends (taken self.old) (taken self.new) result bytes.now }
+        ensures fails { failed self.new ≡ (failed self.old || put_fails result bytes.now) }
+        ensures same_writer { writer_name self.new ≡ writer_name self.old };
+
+    /// Whether a put ever failed.
+    fn has_failed(&self) -> bool
+        ensures { result ≡ failed self.now };
+}
+
+/// The sink of a writer: each put is one `write`, which is never repeated.
+#[derive(Drop)]
+pub struct ByWrite<W: Write + Drop> {
+    writer: W,
+    failed: bool,
+}
+
+impl<W: Write + Drop> ByWrite<W> {
+    /// The sink of this writer. Nothing is written yet, and nothing is allocated.
+    pub fn new(writer: W) -> ByWrite<W>
+        ensures writer { result.writer ≡ writer }
+        ensures fresh { result.failed ≡ false }
+    {
+        ByWrite {
+            writer,
+            failed: false,
+        }
+    }
+
+    /// The writer.
+    pub fn into_writer(self) -> W
+        ensures { result ≡ self.writer }
+    {
+        self.writer
+    }
+}
+
+impl<W: Write + Drop> Sink for ByWrite<W> {
+    ghost taken = { λ s. W.contents s.writer };
+
+    ghost failed = { λ s. s.failed };
+
+    fn put(&mut self, bytes: &[u8]) -> io::Result<usize> {
+        let result = self.writer.write(bytes);
+        let count = match &result {
+            Ok(count) => *count,
+            Err(_) => 0,
+        };
+        if count == 0 && !bytes.is_empty() {
+            self.failed = true;
+        }
+        result
+    }
+
+    fn has_failed(&self) -> bool {
+        self.failed
+    }
+}
+
+/// Puts all of these bytes, one put after another, until one fails; `cause` then says why.
+pub(crate) fn put_all<S: Sink>(
+    sink: &mut S,
+    bytes: &[u8],
+    cause: &mut io::Error,
+) -> Result<(), Stop>
+    ensures all { OnOk result (Appends (S.taken sink.old) (S.taken sink.new) bytes.now) }
+    ensures part { IfErr result (λ stop. (stop ≡ Io) × (n : ℕ) × (n < length bytes.now)
+        × Appends (S.taken sink.old) (S.taken sink.new) (take n bytes.now)) }
+    ensures fails { S.failed sink.new ≡ (S.failed sink.old || is_err result) }
+    ensures same_writer { S.writer_name sink.new ≡ S.writer_name sink.old }
+{
+    let mut rest = bytes;
+    while !rest.is_empty() {
+        match sink.put(rest) {
+            Ok(0) => {
+                *cause = io::Error::from(io::ErrorKind::WriteZero);
+                return Err(Stop::Io);
+            }
+            Ok(count) => rest = &rest[count..],
+            Err(error) => {
+                *cause = error;
+                return Err(Stop::Io);
+            }
+        }
+    }
+    Ok(())
+}

@@ -23,24 +23,28 @@ pub(crate) enum Kind {
 }
 
 impl Kind {
+    /// Whether it is `&`.
     pub fn is_ampersand(self) -> bool
         ensures { result ≡ is_amp (kind_of_token self) }
     {
         matches!(self, Kind::Ampersand)
     }
 
+    /// Whether it is `=`.
     pub fn is_equals(self) -> bool
         ensures { result ≡ is_equals (kind_of_token self) }
     {
         matches!(self, Kind::Equals)
     }
 
+    /// Whether it is an opening bracket.
     pub fn is_open(self) -> bool
         ensures { result ≡ is_open (kind_of_token self) }
     {
         matches!(self, Kind::Open)
     }
 
+    /// Whether it is a closing bracket.
     pub fn is_close(self) -> bool
         ensures { result ≡ is_close (kind_of_token self) }
     {
@@ -75,6 +79,7 @@ pub(crate) enum Until {
 }
 
 impl Until {
+    // Whether a token of this kind ends the run.
     fn is_at(self, kind: Kind) -> bool
         ensures { result ≡ ends_of self (kind_of_token kind) }
     {

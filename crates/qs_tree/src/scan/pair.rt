@@ -30,6 +30,7 @@ pub(crate) enum Manner {
 }
 
 impl Manner {
+    /// Whether the leaf isn't pushed.
     pub fn is_plain(self) -> bool
         ensures { result ≡ not (is_push self) }
     {

@@ -7,7 +7,7 @@ use Rattle.std.specs.Option.{option_map, option_and_then}
 use Rattle.std.specs.Str.{is_utf8}
 use Rattle.std.specs.Result.{IsErrAnd}
 use Rattle.std.specs.declared.alloc.Global.{Global}
-use Rattle.qs_spec.specs.Data.{Data, values_of, entry_list}
+use Rattle.qs_spec.specs.Data.{Data, values_of, pairs_of}
 use Rattle.qs_spec.specs.Scalar.{key_data}
 use Rattle.qs_spec.specs.Segment.{Step, segment_text}
 use Rattle.qs_spec.specs.Shape.{KeyShape}
@@ -17,7 +17,7 @@ use Rattle.qs_spec.specs.Tree.Entries.{entry}
 use Rattle.qs_spec.specs.Node.{items, are_ints, placed, sequence_items}
 use Rattle.qs_spec.specs.internal.ReadFunction.{any_data, read_each, read_pairs, with_front}
 use Rattle.qs_data.specs.declared.read.error.ReadError.{ReadError}
-use Rattle.qs_tree.specs.tree.Views.{entries_of_map, entry_list as steps_of}
+use Rattle.qs_tree.specs.tree.Views.{entries_of_map, entry_list}
 use Rattle.qs_data.specs.declared.data.data.Data as r
 use Rattle.qs_data.specs.declared.read.items.Items.{Items as Visited}
 use Rattle.qs_data.specs.declared.read.nested.MapFrame.{MapFrame}
@@ -88,7 +88,7 @@ module _ (xs : List (Option Tree)) (i : ℕ) (t : Tree) (here : first_item (drop
       ap (λ ys. list_with ws (read_each any_data ys)) item_is ∙ ap (λ o. list_with ws (option_and_then (λ d. with_front d (read_each any_data (drop (i + 1) xs))) o)) h
 
 -- a map from the entry on that is due
-module _ (es : Entries) (i : ℕ) (x : Step × Tree) (here : slice_get (steps_of es) i ≡ Some x) where
+module _ (es : Entries) (i : ℕ) (x : Step × Tree) (here : slice_get (entry_list es) i ≡ Some x) where
   pub entry_is : entries_after i es ≡ entry x.0.seg x.0.mark x.1 (entries_after (i + 1) es)
   entry_is = after_some i es x here
 
@@ -148,7 +148,7 @@ begins_list l t xs w h value text size = record {
 
 -- a frame of all entries of a map
 pub begins_map : (l : Frame) (t : Tree) (es : Entries) → t ≡ mapping es → are_ints es ≡ false
-    → frame_data l ≡ option_map (λ ps. Data.mapping (entry_list ps)) (read_pairs KeyShape.text any_data es) → frame_is_text l ≡ entries_are_text es → frame_size l ≡ entries_size es → Begins l t
+    → frame_data l ≡ option_map (λ ps. Data.mapping (pairs_of ps)) (read_pairs KeyShape.text any_data es) → frame_is_text l ≡ entries_are_text es → frame_size l ≡ entries_size es → Begins l t
 begins_map l t es is not value text size = record {
   value = ap any_data is ∙ any_map es not ∙ sym value;
   text = λ n. ap is_text is ∙ sym text ∙ n;
@@ -169,7 +169,7 @@ enters_list old inner node values i t here value text size b =
     }
 
 -- after some leaves of a map a further frame begins
-pub enters_map : (old inner : Frame) (new : MapFrame) (es : Entries) (i : ℕ) (x : Step × Tree) → slice_get (steps_of es) i ≡ Some x
+pub enters_map : (old inner : Frame) (new : MapFrame) (es : Entries) (i : ℕ) (x : Step × Tree) → slice_get (entry_list es) i ≡ Some x
     → entries_of_map new.entries.now ≡ es → new.next ≡ i + 1 → key_data KeyShape.text (segment_text x.0.seg) ≡ Some (data_of new.key)
     → frame_data old ≡ map_with (map pair_of new.pairs.items) (read_pairs KeyShape.text any_data (entries_after i es)) → (entries_are_text (entries_after i es) ≡ false → frame_is_text old ≡ false)
     → entries_size (entries_after i es) ≤ frame_size old → Begins inner x.1 → Enters inner old (frame.Map new)

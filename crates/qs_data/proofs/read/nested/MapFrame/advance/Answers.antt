@@ -25,7 +25,7 @@ returns-in_err-key c =
     let es = entries_of_map l.self.entries.now in
     let x : Step × Tree = (step_of_key c.in-Some.key.now, tree_of c.in-Some.value.now) in
     let here = sym c.in-Some.ensures in
-    let whole = option_map (λ ps. d.Data.mapping (d.entry_list ps)) in
+    let whole = option_map (λ ps. d.Data.mapping (d.pairs_of ps)) in
     advance_exit (is_utf8 (segment_text x.0.seg)) c.from_residual.result c.in_err-key.field-0.0 (key_data KeyShape.text (segment_text x.0.seg)) (frame.Map c.args.self.now) (frame.Map l.self)
     c.from_residual.ensures.1 c.in_err-key.ensures (λ e. l.invariant.value ∙ ap whole (pairs_no_key KeyShape.text any_data es l.place (map pair_of l.self.pairs.items) x here e))
     (λ e. l.invariant.text (map_text_key es l.place x here e))
@@ -36,7 +36,7 @@ returns-in_err-data c =
     let es = entries_of_map l.self.entries.now in
     let x : Step × Tree = (step_of_key c.in-Some.key.now, tree_of c.in-Some.value.now) in
     let here = sym c.in-Some.ensures in
-    let whole = option_map (λ ps. d.Data.mapping (d.entry_list ps)) in
+    let whole = option_map (λ ps. d.Data.mapping (d.pairs_of ps)) in
     advance_exit (is_text x.1) c.from_residual-in_err-data.result c.in_err-data.field-0.0 (any_data x.1) (frame.Map c.args.self.now) (frame.Map l.self) c.from_residual-in_err-data.ensures.1
     c.in_err-data.ensures (λ e. l.invariant.value ∙ ap whole (pairs_no_value KeyShape.text any_data es l.place (map pair_of l.self.pairs.items) x here e))
     (λ e. l.invariant.text (map_text es l.place x here e))
@@ -67,7 +67,7 @@ loop-place-preserved c =
     let leaf : any_data x.1 ≡ Some b = subst P c.in-Leaf.is c.in_ok-data.ensures in
     let pushed : map pair_of c.push.new.self.items ≡ ws ++ (a, b) ∷ [] = grind (arith, common_steps) in
     record {
-      value = l.invariant.value ∙ ap (option_map (λ ps. d.Data.mapping (d.entry_list ps))) (pairs_more KeyShape.text any_data es l.place ws x here a b c.in_ok-key.ensures leaf)
+      value = l.invariant.value ∙ ap (option_map (λ ps. d.Data.mapping (d.pairs_of ps))) (pairs_more KeyShape.text any_data es l.place ws x here a b c.in_ok-key.ensures leaf)
           ∙ ap (λ ys. map_with ys (read_pairs KeyShape.text any_data (entries_after (l.place + 1) es))) (sym pushed);
       text = λ e. l.invariant.text (map_text_after es l.place x here e);
       size = let parts = map_parts es l.place x here in let within = l.invariant.size in omega arith;
@@ -79,7 +79,7 @@ returns c =
     let l = c.loop-place in
     let es = entries_of_map l.self.entries.now in
     let ws = map pair_of l.self.pairs.items in
-    let whole = option_map (λ ps. d.Data.mapping (d.entry_list ps)) in
+    let whole = option_map (λ ps. d.Data.mapping (d.pairs_of ps)) in
     elim c.loop-place-test.branch [
       | else-loop-place-test w ↦
           let same : length (entry_list es) ≡ length (entry_list (entries_of_map c.args.self.now.entries.now)) = ap (λ m. length (entry_list (entries_of_map m))) l.invariant.same in

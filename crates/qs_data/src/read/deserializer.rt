@@ -17,7 +17,7 @@ ghost use Rattle.qs_data.specs.read.Parsed.{ReturnsData, SparesMemory, owned_by,
 ghost use Rattle.qs_data.specs.read.ReadBack.{ReadsBack};
 
 use crate::data::Data;
-use crate::read::by_shape::read;
+use crate::read::by_shape::{Reader, read};
 use crate::shape::Shape;
 use qs_tree::{Config, DuplicateKeyBehavior, ParsedValue, Result, parse};
 use std::alloc::Global;
@@ -99,6 +99,10 @@ impl<'qs> Deserializer<'qs> {
         ensures errors { OnlyCustomUtf8OrOutOfMemory result }
     {
         let reject_duplicates = self.config.get_duplicates() == DuplicateKeyBehavior::Error;
-        read(alloc, reject_duplicates, shape, &self.tree)
+        let reader = Reader {
+            alloc,
+            reject_duplicates,
+        };
+        read(reader, shape, &self.tree)
     }
 }

@@ -151,7 +151,8 @@ fn names_differ(names: &[String]) -> bool
     true
 }
 
-fn is_name(names: &[String], name: &str) -> bool
+/// Whether a name is one of these.
+pub(crate) fn is_name(names: &[String], name: &str) -> bool
     ensures { result ≡ list_any (bytes_eq name.now) (map string_bytes names.now) }
 {
     for other in names {

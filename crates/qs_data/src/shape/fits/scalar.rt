@@ -1,8 +1,8 @@
 //! Scalars and keys that fit a shape.
 
 ghost use Rattle.std.specs.Prelude.{◌≡◌, map, string_bytes};
-ghost use Rattle.std.specs.List.{list_all, list_any};
-ghost use Rattle.std.specs.Str.{bytes_eq, is_utf8};
+ghost use Rattle.std.specs.List.{list_all};
+ghost use Rattle.std.specs.Str.{is_utf8};
 ghost use Rattle.qs_spec.specs.Shape as s;
 ghost use Rattle.qs_spec.specs.Fits.{fits, fits_key, fits_unsigned, fits_signed, is_scalar, is_byte};
 ghost use Rattle.qs_data.specs.data.Views.{data_of};
@@ -10,6 +10,7 @@ ghost use Rattle.qs_data.specs.shape.Views.{key_shape_of};
 ghost use Rattle.qs_data.specs.shape.internal.Widths.{bits_of};
 
 use crate::data::Data;
+use crate::shape::distinct::is_name;
 use crate::shape::{KeyShape, Width};
 
 pub(super) fn is_unit(datum: &Data) -> bool
@@ -134,18 +135,7 @@ fn is_named(names: &Vec<String>, datum: &Data) -> bool
     ensures { result ≡ fits_key (s.KeyShape.variants (map string_bytes names.now.items)) (data_of datum.now) }
 {
     match datum {
-        Data::UnitVariant(name) => is_listed(names, name) && is_any_text(name),
+        Data::UnitVariant(name) => is_name(names, name) && is_any_text(name),
         _ => false,
     }
-}
-
-fn is_listed(names: &[String], name: &str) -> bool
-    ensures { result ≡ list_any (bytes_eq name.now) (map string_bytes names.now) }
-{
-    for other in names {
-        if name == other.as_str() {
-            return true;
-        }
-    }
-    false
 }

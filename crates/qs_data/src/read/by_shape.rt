@@ -78,6 +78,7 @@ pub(crate) fn read_node(reader: Reader, shape: &Shape, value: &ParsedValue<'_>) 
     }
 }
 
+// Reads a list.
 #[cycle(read)]
 #[inline(always)]
 #[tactic(auto, unfolding(qs_spec::specs::toward::ReadFunction::reads))]
@@ -87,6 +88,7 @@ fn seq_data(reader: Reader, part: &Shape, value: &ParsedValue<'_>) -> Result<Dat
     Ok(Data::Seq(read_list(reader, part, value)?))
 }
 
+// Reads a tuple.
 #[cycle(read)]
 #[inline(always)]
 #[tactic(auto, unfolding(qs_spec::specs::toward::ReadFunction::reads))]
@@ -97,6 +99,7 @@ fn tuple_data(reader: Reader, parts: &Vec<Shape>, value: &ParsedValue<'_>) -> Re
     Ok(Data::Tuple(read_tuple(reader, parts, value, expected)?))
 }
 
+// Reads a map.
 #[cycle(read)]
 #[inline(always)]
 #[tactic(auto, using(crate::proofs::lemmas::data::Levels::levels), unfolding(qs_spec::specs::toward::ReadFunction::reads))]
@@ -112,6 +115,7 @@ fn map_data(
     Ok(Data::Map(read_map(reader, key_shape, part, value)?))
 }
 
+// Reads a struct, whose unknown keys are ignored or rejected.
 #[cycle(read)]
 #[inline(always)]
 #[tactic(auto, using(crate::proofs::lemmas::data::Levels::levels), unfolding(qs_spec::specs::toward::ReadFunction::reads))]
@@ -127,6 +131,7 @@ fn struct_data(
     Ok(Data::Struct(read_struct(reader, unknown, fields, value)?))
 }
 
+// Reads a value in a type of its own.
 #[cycle(read)]
 #[inline(always)]
 #[tactic(auto, unfolding(qs_spec::specs::toward::ReadFunction::reads))]

@@ -22,7 +22,7 @@ use crate::read::unknown::UnknownKeys;
 use crate::shape::{Field, Shape};
 use qs_tree::ParsedValue;
 
-/// The fields of a node: by their names among keys, and by their places among items.
+/// The fields of a node: by their names among keys, and by their indexes among items.
 #[cycle(read)]
 #[tactic(auto, unfolding(qs_spec::specs::toward::ReadFunction::struct_members))]
 #[inline(always)]
@@ -121,6 +121,7 @@ fn read_field(reader: Reader, field: &Field, entries: Entries<'_, '_>) -> Result
     }
 }
 
+// Whether a shape is an option.
 fn is_option(shape: &Shape) -> bool
     ensures { result ≡ is_option_shape (shape_of shape.now) }
 {
@@ -130,7 +131,7 @@ fn is_option(shape: &Shape) -> bool
     }
 }
 
-// The fields by their places.
+// The fields by their indexes.
 #[cycle(read)]
 #[tactic(auto, unfolding(qs_spec::specs::toward::ReadFunction::reads))]
 fn read_places(
@@ -152,7 +153,7 @@ fn read_places(
     Ok(members)
 }
 
-// A field by its place, if it isn't left out.
+// A field by its index, if it isn't left out.
 #[cycle(read)]
 fn read_place(
     reader: Reader,

@@ -1,4 +1,4 @@
-//! One node of a tree: what a shape reads from it, and what stands under a name in it.
+//! One node of a tree: what a shape reads from it, and what is found under a name in it.
 
 ghost use Rattle.qs_spec.specs.Node.{found};
 ghost use Rattle.qs_spec.specs.toward.ReadFunction.{read_by};

@@ -175,7 +175,7 @@ pub(crate) fn as_text(bytes: &[u8]) -> Result<&str>
     }
 }
 
-/// The boolean that a text stands for.
+/// Parses a boolean.
 pub(crate) fn bool_data(alloc: Global, bytes: &[u8]) -> Result<Data>
     ensures gives { ReadGives data_of (is_utf8 bytes.now) result (boolean_data bytes.now) }
     ensures frugal { ReadIsFrugal result (boolean_data bytes.now) }
@@ -186,7 +186,7 @@ pub(crate) fn bool_data(alloc: Global, bytes: &[u8]) -> Result<Data>
     }
 }
 
-/// The unsigned number that a text stands for: digits, and a `+` before them or none.
+/// Parses an unsigned number: digits, and a `+` before them or none.
 #[inline(always)]
 pub(crate) fn unsigned_data(alloc: Global, width: Width, bytes: &[u8]) -> Result<Data>
     ensures gives { ReadGives data_of (is_utf8 bytes.now) result (unsigned_data (bits_of width) bytes.now) }
@@ -198,7 +198,7 @@ pub(crate) fn unsigned_data(alloc: Global, width: Width, bytes: &[u8]) -> Result
     }
 }
 
-/// The signed number that a text stands for: digits, and a `+` or a `-` before them or none.
+/// Parses a signed number: digits, and a `+` or a `-` before them or none.
 #[inline(always)]
 pub(crate) fn signed_data(alloc: Global, width: Width, bytes: &[u8]) -> Result<Data>
     ensures gives { ReadGives data_of (is_utf8 bytes.now) result (signed_data (bits_of width) bytes.now) }

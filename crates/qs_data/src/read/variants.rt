@@ -80,7 +80,7 @@ fn read_least(reader: Reader, variants: &Vec<Variant>, map: &ParsedMap<'_>) -> R
     read_variant(reader, &variants[place], value)
 }
 
-// The place of the variant that a key names.
+// The index of the variant that a key names.
 fn place_of_key(alloc: Global, variants: &[Variant], key: &Key<'_>) -> Result<usize>
     ensures place { IfOk result (λ i. i < length variants.now) }
     ensures named { let name = segment_text (segment_of_key key.now) in
@@ -96,7 +96,7 @@ fn place_of_key(alloc: Global, variants: &[Variant], key: &Key<'_>) -> Result<us
     }
 }
 
-// The place of the variant of a name.
+// The index of the variant of a name.
 fn place_of(alloc: Global, variants: &[Variant], name: &[u8]) -> Result<usize>
     ensures place { IfOk result (λ i. i < length variants.now) }
     ensures named { ReadGives (λ i. option_map variant_of (slice_get variants.now i)) (is_utf8 name.now) result
@@ -145,6 +145,7 @@ fn read_variant(reader: Reader, variant: &Variant, value: &ParsedValue<'_>) -> R
     }
 }
 
+// Reads the fields of a struct variant of this name.
 #[cycle(read)]
 #[inline(always)]
 #[tactic(auto, using(crate::proofs::lemmas::data::Levels::levels), unfolding(qs_spec::specs::toward::ReadFunction::reads))]

@@ -1,4 +1,4 @@
--- To be believed: what shapes of a program stand for, and the variant of a name.
+-- To be believed: which shapes of the specification a program's shapes are, and the variant of a name.
 pub mod Views
 pub mod Variants
 pub mod internal

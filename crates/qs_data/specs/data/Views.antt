@@ -1,11 +1,11 @@
--- What data of a program stand for.
+-- The data of the specification that data of a program are.
 use Rattle.std.specs.Prelude.{ℕ, List, map, string_bytes}
 use Rattle.std.specs.declared.string.String.{String}
 use Rattle.std.specs.declared.alloc.Global.{Global}
 use Rattle.qs_spec.specs.Data as d
 use Rattle.qs_data.specs.declared.data.data.Data.{Data, Data-F, fold-Data}
 
--- a name with what stands under it
+-- a name with what is under it
 abbrev pub named : {A B : Type 0} → (A → B) → String Global × A → List ℕ × B
 named view x = (string_bytes x.0, view x.1)
 
@@ -32,7 +32,7 @@ data_layer (Data-F.NewtypeVariant name x) = d.newtype_variant (string_bytes name
 data_layer (Data-F.TupleVariant name xs) = d.tuple_variant (string_bytes name) (d.values_of xs.items)
 data_layer (Data-F.StructVariant name ms) = d.struct_variant (string_bytes name) (d.members_of (map (named unchanged) ms.items))
 
--- the data that a value stands for
+-- the data that a value is
 abbrev pub data_of : Data → d.Data
 data_of = fold-Data d.Data data_layer
 

@@ -3,13 +3,13 @@ use Rattle.std.specs.Prelude.{⊤, Result, Ok, Err}
 use Rattle.qs_tree.specs.declared.error.Error.{Error}
 use Rattle.qs_tree.specs.declared.error.Error.TheVariants.{Custom, Utf8, OutOfMemory}
 
--- the error says that a tree doesn't fit a shape, or that its message found no memory
+-- the error says that a tree doesn't fit a shape, or that an allocation failed
 abbrev pub IsCustomOrOutOfMemory : Error → Type 0
 IsCustomOrOutOfMemory (Custom message) = ⊤
 IsCustomOrOutOfMemory OutOfMemory = ⊤
 IsCustomOrOutOfMemory _ = ⊥
 
--- no other error than a fault, a text that isn't UTF-8, and want of memory
+-- no other error than that a tree doesn't fit a shape, that a text isn't UTF-8, or that an allocation failed
 abbrev pub OnlyCustomUtf8OrOutOfMemory : {X : Type 0} → Result X Error → Type 0
 OnlyCustomUtf8OrOutOfMemory (Ok x) = ⊤
 OnlyCustomUtf8OrOutOfMemory (Err (Custom message)) = ⊤

@@ -3,7 +3,7 @@ use Rattle.std.specs.Prelude.{◌≡◌, ⊤, Bool, false, Result, Ok, Err, Opti
 use Rattle.qs_tree.specs.declared.error.Error.{Error}
 use Rattle.qs_tree.specs.declared.error.Error.TheVariants.{Custom, Utf8, OutOfMemory}
 
--- The error says that there is nothing to return, unless it says that memory ran out; and `Utf8` comes only where not all
+-- The error says that there is nothing to return, unless it says that an allocation failed; and `Utf8` comes only where not all
 -- that was read is text.
 abbrev pub Rejects : {Y : Type 0} → Bool → Error → Option Y → Type 0
 Rejects all_text (Custom message) r = r ≡ None

@@ -1,4 +1,4 @@
--- What shapes of a program stand for.
+-- The shapes of the specification that shapes of a program are.
 use Rattle.std.specs.Prelude.{List, map, string_bytes}
 use Rattle.qs_spec.specs.Shape as s
 use Rattle.qs_data.specs.declared.shape.shape.Shape.{Shape, Shape-F, fold-Shape}
@@ -60,7 +60,7 @@ kind_layer (VariantKind-F.VariantKind::Tuple xs) = s.tuple_kind (s.shapes_of xs.
 kind_layer (VariantKind-F.VariantKind::Struct fs) = s.struct_kind s.UnknownKeys.ignored (s.fields_of fs.items)
 kind_layer (VariantKind-F.VariantKind::StrictStruct fs) = s.struct_kind s.UnknownKeys.rejected (s.fields_of fs.items)
 
--- the shape that a value stands for
+-- the shape that a value is
 abbrev pub shape_of : Shape → s.Shape
 shape_of = fold-Shape s.Shape s.VariantKind s.Field s.Variant shape_layer kind_layer field_layer variant_layer
 

@@ -12,7 +12,7 @@ pub record State (S : Type 0) : Type 0 where
   pub failed : Bool
   pub started : Bool
 
--- the entries of data as the serializer is configured, and the first refusal
+-- the entries of data as the serializer is configured, and the first error
 abbrev pub output_of : {S : Type 0} → State S → Data → Output
 output_of s d = entries s.config d
 
@@ -24,7 +24,7 @@ text_of s d = written s.config.form s.started (output_of s d).entries
 abbrev pub IsVisible : ℕ → Type 0
 IsVisible b = (33 ≤ b) × (b ≤ 126)
 
--- no value or nothing, also in options and types of their own: what doesn't allocate where it stands alone
+-- no value or nothing, also in options and types of their own: what doesn't allocate where it is alone
 abbrev pub IsBare : Data → Type 0
 IsBare Data.unit = Unit {0}
 IsBare Data.none = Unit {0}

@@ -42,6 +42,7 @@ impl Data {
     }
 }
 
+// Copies boxed data.
 #[cycle(copy)]
 fn copy_part(alloc: Global, part: &Data) -> Result<Box<Data>, AllocError>
     ensures { IfOk result (λ copy. data_of copy.value ≡ data_of part.now) }
@@ -50,6 +51,7 @@ fn copy_part(alloc: Global, part: &Data) -> Result<Box<Data>, AllocError>
     Ok(Box::new(alloc, copy)?)
 }
 
+// Copies the items of a list.
 #[cycle(copy)]
 fn copy_items(alloc: Global, items: &Vec<Data>) -> Result<Vec<Data>, AllocError>
     ensures { IfOk result (λ copies. map data_of copies.items ≡ map data_of items.now.items) }
@@ -62,6 +64,7 @@ fn copy_items(alloc: Global, items: &Vec<Data>) -> Result<Vec<Data>, AllocError>
     Ok(copies)
 }
 
+// Copies the keys and values of a map.
 #[cycle(copy)]
 fn copy_pairs(alloc: Global, pairs: &Vec<(Data, Data)>) -> Result<Vec<(Data, Data)>, AllocError>
     ensures { IfOk result
@@ -76,6 +79,7 @@ fn copy_pairs(alloc: Global, pairs: &Vec<(Data, Data)>) -> Result<Vec<(Data, Dat
     Ok(copies)
 }
 
+// Copies the names and values of fields.
 #[cycle(copy)]
 fn copy_members(
     alloc: Global,

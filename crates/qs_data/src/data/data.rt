@@ -25,7 +25,7 @@ pub enum Data {
     Signed(i64),
     /// A character.
     Char(char),
-    /// A text.
+    /// A string.
     Text(String),
     /// A string of bytes, which need not be a text.
     Bytes(Vec<u8>),

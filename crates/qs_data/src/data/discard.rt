@@ -7,7 +7,7 @@ ghost use Rattle.qs_data.specs.data.internal.Weight.{weight, is_leaf, parts_weig
 use crate::data::Data;
 use std::alloc::Global;
 
-/// The data that stood in data.
+/// The data that were in data.
 enum Parts {
     /// One.
     One(Box<Data>),
@@ -20,10 +20,10 @@ enum Parts {
 }
 
 impl Data {
-    /// Drops the data by a loop over a stack on the heap, so they may be nested as deep as they like. A plain drop calls itself once
-    /// for each level.
+    /// Drops the data by a loop over a stack on the heap, so they may be nested to any depth. A plain drop calls itself once for each
+    /// level.
     ///
-    /// Allocates the stack, which holds lists, maps and the like, and no leaves. What the stack finds no memory for is
+    /// Allocates the stack, which holds lists, maps and the like, and no leaves. One for which an allocation fails is
     /// dropped plainly.
     pub fn discard(self) {
         let Some((alloc, parts)) = self.into_parts() else {
@@ -52,7 +52,7 @@ impl Data {
         }
     }
 
-    // The data that stand in it, and the allocator that they came from. A leaf is dropped.
+    // The data in it, and their allocator. A leaf is dropped.
     #[tactic(auto, using(crate::proofs::lemmas::data::Weights::weights))]
     fn into_parts(self) -> Option<(Global, Parts)>
         ensures { MatchOption result (weight self ≡ 1) (λ p. parts_weight p.1 + 1 ≡ weight self) }
@@ -79,15 +79,15 @@ impl Data {
         }
     }
 
-    // Puts it on the stack. A leaf is dropped at once, and so are data for which the stack finds no memory.
+    // Puts it on the stack. A leaf is dropped at once, and so are data for which an allocation fails.
     fn put_on(self, stack: &mut Vec<Data>)
         ensures leaf { is_leaf self ≡ true → stack.new.items ≡ stack.old.items }
         ensures weight { sum_by weight stack.new.items ≤ sum_by weight stack.old.items + weight self }
     {
         if self.is_leaf() {
             drop(self);
-        } else if let Err(refused) = stack.push(self) {
-            drop(refused.value);
+        } else if let Err(failed) = stack.push(self) {
+            drop(failed.value);
         }
     }
 }

@@ -14,7 +14,7 @@ impl Data {
     /// Whether the lists in these data can be read back in the array format of the configuration.
     ///
     /// In the indexed format all can. In the other two, at every depth:
-    /// - each list and tuple has a key, of its own or of what it stands in, so it isn't the whole;
+    /// - each list and tuple has a key, of its own or of what it is in, so it isn't the whole;
     /// - lists, tuples and tuple variants hold booleans, whole numbers, characters, texts, bytes and unit variants alone;
     /// - without brackets, none of them is one empty text or byte string, which is written as an empty list is.
     ///
@@ -26,7 +26,7 @@ impl Data {
     /// ```
     /// let config = Config::new().array_format(ArrayFormat::EmptyIndexed);
     /// if !(data.is_plain(config) && data.is_listed(config)) {
-    ///     return Err(Refused::NotReadBack);
+    ///     return Err(Rejected::NotReadBack);
     /// }
     /// ```
     pub fn is_listed(&self, config: Config) -> bool
@@ -36,7 +36,7 @@ impl Data {
     }
 }
 
-// Whether lists come back; `below` says that a key stands above.
+// Whether lists can be read back; `below` says that they are under a key.
 #[cycle(listed)]
 #[tactic(auto, using(crate::proofs::lemmas::data::Levels::levels))]
 fn is_listed(datum: &Data, format: ArrayFormat, below: bool) -> bool
@@ -57,6 +57,7 @@ fn is_listed(datum: &Data, format: ArrayFormat, below: bool) -> bool
     }
 }
 
+// Whether the lists in each item can be read back.
 #[cycle(listed)]
 fn are_listed(items: &Vec<Data>, format: ArrayFormat) -> bool
     ensures { result ≡ are_listed (array_format_of format) (values_in items.now.items) }
@@ -69,6 +70,7 @@ fn are_listed(items: &Vec<Data>, format: ArrayFormat) -> bool
     true
 }
 
+// Whether the lists in each value of a map can be read back.
 #[cycle(listed)]
 fn are_listed_pairs(pairs: &Vec<(Data, Data)>, format: ArrayFormat) -> bool
     ensures { result ≡ are_listed_pairs (array_format_of format) (pairs_in pairs.now.items) }
@@ -81,6 +83,7 @@ fn are_listed_pairs(pairs: &Vec<(Data, Data)>, format: ArrayFormat) -> bool
     true
 }
 
+// Whether the lists in each field can be read back.
 #[cycle(listed)]
 fn are_listed_members(members: &Vec<(String, Data)>, format: ArrayFormat) -> bool
     ensures { result ≡ are_listed_members (array_format_of format) (members_in members.now.items) }
@@ -114,6 +117,7 @@ fn is_list(items: &[Data], format: ArrayFormat) -> bool
     }
 }
 
+// Whether each item is written as one text.
 fn are_scalars(items: &[Data]) -> bool
     ensures { result ≡ are_scalars (values_in items.now) }
 {
@@ -142,6 +146,7 @@ fn is_one_empty(items: &[Data]) -> bool
     }
 }
 
+// Whether the data are written as one empty text.
 fn is_empty_text(datum: &Data) -> bool
     ensures { result ≡ is_empty_text (key_text (data_of datum.now)) }
 {

@@ -20,7 +20,7 @@ impl Data {
     /// that they [fit](Shape::fits) from their entries in any order.
     ///
     /// That takes all of these, at every depth:
-    /// - no option stands directly in an option, also within newtypes;
+    /// - no option is directly in an option, also within newtypes;
     /// - each struct, struct variant and tuple variant has a part;
     /// - names are distinct in a struct, and the texts of keys in a map, whose keys are not bytes;
     /// - names and keys are not empty, nor digits after a leading zero; at form encoding they hold no bracket;
@@ -32,7 +32,7 @@ impl Data {
     ///
     /// ```
     /// if !data.is_plain(config) {
-    ///     return Err(Refused::NotReadBack);
+    ///     return Err(Rejected::NotReadBack);
     /// }
     /// ```
     pub fn is_plain(&self, config: Config) -> bool
@@ -42,6 +42,7 @@ impl Data {
     }
 }
 
+// Whether data can be read back, at form encoding or without it.
 #[cycle(plain)]
 #[tactic(auto, using(crate::proofs::lemmas::data::Levels::levels))]
 fn is_plain(datum: &Data, form: bool) -> bool
@@ -76,6 +77,7 @@ fn are_plain_items(items: &Vec<Data>, form: bool) -> bool
     are_few(items) && are_plain(items, form)
 }
 
+// Whether each item can be read back.
 #[cycle(plain)]
 fn are_plain(items: &Vec<Data>, form: bool) -> bool
     ensures { result ≡ are_plain form (values_in items.now.items) }
@@ -110,6 +112,7 @@ fn are_plain_fields(members: &Vec<(String, Data)>, form: bool) -> bool
     has_members(members) && (member_names_differ(members) && are_plain_members(members, form))
 }
 
+// Whether each name and its value can be read back.
 #[cycle(plain)]
 fn are_plain_members(members: &Vec<(String, Data)>, form: bool) -> bool
     ensures { result ≡ are_plain_members form (members_in members.now.items) }
@@ -122,12 +125,14 @@ fn are_plain_members(members: &Vec<(String, Data)>, form: bool) -> bool
     true
 }
 
+// Whether there is an item.
 fn has_values(items: &[Data]) -> bool
     ensures { result ≡ has_values (values_in items.now) }
 {
     !items.is_empty()
 }
 
+// Whether there is a field.
 fn has_members(members: &[(String, Data)]) -> bool
     ensures { result ≡ has_members (members_in members.now) }
 {
@@ -173,6 +178,7 @@ fn is_numeral(bytes: &[u8]) -> bool
     !bytes.is_empty()
 }
 
+// Whether one of the bytes is a bracket.
 fn holds_bracket(bytes: &[u8]) -> bool
     ensures { result ≡ list_any is_bracket bytes.now }
 {
@@ -232,6 +238,7 @@ fn is_among(key: &Data, others: &[(Data, Data)]) -> bool
     }
 }
 
+// Whether one of the keys has the text of this one.
 fn is_written_key(key: Scalar<'_>, pairs: &[(Data, Data)]) -> bool
     ensures { result ≡ is_written_key (Some (scalar_text key.entry)) (pairs_in pairs.now) }
 {
@@ -279,6 +286,7 @@ fn has_text(scalar: Scalar<'_>, text: &[u8]) -> bool
     }
 }
 
+// Whether the names of fields differ.
 fn member_names_differ(members: &[(String, Data)]) -> bool
     ensures { result ≡ member_names_differ (members_in members.now) }
 {
@@ -290,6 +298,7 @@ fn member_names_differ(members: &[(String, Data)]) -> bool
     true
 }
 
+// Whether one of the fields has this name.
 fn is_member_name(members: &[(String, Data)], name: &str) -> bool
     ensures { result ≡ is_member_name name.now (members_in members.now) }
 {

@@ -17,7 +17,7 @@ use std::mem;
 /// Whatever is there: a text as a text, and an empty one where nothing follows `=`. A sequence is a list, and so is a map
 /// whose keys are all numbers; another map keeps its keys as texts.
 ///
-/// Takes the same stack at any depth: lists and maps that hold others keep_key on the heap.
+/// Iterative: it takes constant stack at any depth, and keeps the lists and maps around on the heap.
 #[inline(always)]
 pub(crate) fn read_any(alloc: Global, value: &ParsedValue<'_>) -> Result<Data>
     ensures { ReadGives data_of (is_text (tree_of value.now)) result (any_data (tree_of value.now)) }
@@ -28,7 +28,7 @@ pub(crate) fn read_any(alloc: Global, value: &ParsedValue<'_>) -> Result<Data>
     }
 }
 
-// What a frame gives. Those around the innermost one keep_key.
+// Reads a list or a map. Those around the innermost one are on a stack.
 fn read_frame(alloc: Global, outermost: Frame<'_, '_>) -> Result<Data>
     ensures { ReadGives data_of (frame_is_text outermost.entry) result (frame_data outermost.entry) }
 {

@@ -29,166 +29,134 @@ use crate::shape::{Field, KeyShape, Shape, Width};
 use qs_tree::{Error, ParsedValue};
 use std::alloc::Global;
 
-/// Reads a value by a shape. Several values for one are rejected under `reject_duplicates`.
-pub(crate) fn read(
-    alloc: Global,
-    reject_duplicates: bool,
-    shape: &Shape,
-    value: &ParsedValue<'_>,
-) -> Result<Data, Error>
-    ensures gives { Gives data_of (is_text (tree_of value.now)) result (reads reject_duplicates (shape_of shape.now) (tree_of value.now)) }
-    ensures frugal { IsTrue (takes_no_memory (shape_of shape.now)) → IsFrugal result (reads reject_duplicates (shape_of shape.now) (tree_of value.now)) }
+/// How a tree is read: from where memory comes, and whether several values for one are rejected.
+#[derive(Clone, Copy)]
+pub(crate) struct Reader {
+    pub(crate) alloc: Global,
+    pub(crate) reject_duplicates: bool,
+}
+
+/// Reads a value by a shape.
+pub(crate) fn read(reader: Reader, shape: &Shape, value: &ParsedValue<'_>) -> Result<Data, Error>
+    ensures gives { Gives data_of (is_text (tree_of value.now)) result (reads reader.reject_duplicates (shape_of shape.now) (tree_of value.now)) }
+    ensures frugal { IsTrue (takes_no_memory (shape_of shape.now)) → IsFrugal result (reads reader.reject_duplicates (shape_of shape.now) (tree_of value.now)) }
 {
-    Ok(read_node(alloc, reject_duplicates, shape, value)?)
+    Ok(read_node(reader, shape, value)?)
 }
 
 /// The same, on the way through the levels of a tree.
 #[cycle(read)]
 #[tactic(auto, using(crate::proofs::lemmas::data::Levels::levels), unfolding(qs_spec::specs::internal::ReadFunction::reads))]
-pub(crate) fn read_node(
-    alloc: Global,
-    reject_duplicates: bool,
-    shape: &Shape,
-    value: &ParsedValue<'_>,
-) -> Result<Data>
-    ensures gives { ReadGives data_of (is_text (tree_of value.now)) result (reads reject_duplicates (shape_of shape.now) (tree_of value.now)) }
-    ensures frugal { IsTrue (takes_no_memory (shape_of shape.now)) → ReadIsFrugal result (reads reject_duplicates (shape_of shape.now) (tree_of value.now)) }
+pub(crate) fn read_node(reader: Reader, shape: &Shape, value: &ParsedValue<'_>) -> Result<Data>
+    ensures gives { ReadGives data_of (is_text (tree_of value.now)) result (reads reader.reject_duplicates (shape_of shape.now) (tree_of value.now)) }
+    ensures frugal { IsTrue (takes_no_memory (shape_of shape.now)) → ReadIsFrugal result (reads reader.reject_duplicates (shape_of shape.now) (tree_of value.now)) }
 {
     match shape {
-        Shape::Unit => read_unit(alloc, value),
-        Shape::Bool => read_bool(alloc, reject_duplicates, value),
-        Shape::U8 => read_unsigned(alloc, reject_duplicates, Width::Bits8, value),
-        Shape::U16 => read_unsigned(alloc, reject_duplicates, Width::Bits16, value),
-        Shape::U32 => read_unsigned(alloc, reject_duplicates, Width::Bits32, value),
-        Shape::U64 => read_unsigned(alloc, reject_duplicates, Width::Bits64, value),
-        Shape::I8 => read_signed(alloc, reject_duplicates, Width::Bits8, value),
-        Shape::I16 => read_signed(alloc, reject_duplicates, Width::Bits16, value),
-        Shape::I32 => read_signed(alloc, reject_duplicates, Width::Bits32, value),
-        Shape::I64 => read_signed(alloc, reject_duplicates, Width::Bits64, value),
-        Shape::Char => read_char(alloc, value),
-        Shape::Text => read_text(alloc, reject_duplicates, value),
-        Shape::Bytes => read_bytes(alloc, reject_duplicates, value),
-        Shape::Option(part) => read_option(alloc, reject_duplicates, part, value),
-        Shape::Seq(part) => seq_data(alloc, reject_duplicates, part, value),
-        Shape::Tuple(parts) => tuple_data(alloc, reject_duplicates, parts, value),
-        Shape::Map(key_shape, part) => map_data(alloc, reject_duplicates, key_shape, part, value),
-        Shape::Struct(fields) => struct_data(
-            alloc,
-            reject_duplicates,
-            UnknownKeys::Ignored,
-            fields,
-            value,
-        ),
-        Shape::StrictStruct(fields) => struct_data(
-            alloc,
-            reject_duplicates,
-            UnknownKeys::Rejected,
-            fields,
-            value,
-        ),
-        Shape::Newtype(part) => newtype_data(alloc, reject_duplicates, part, value),
-        Shape::Enum(variants) => read_enum(alloc, reject_duplicates, variants, value),
-        Shape::Any => read_any(alloc, value),
-        Shape::Ignored => read_ignored(alloc, value),
+        Shape::Unit => read_unit(reader.alloc, value),
+        Shape::Bool => read_bool(reader, value),
+        Shape::U8 => read_unsigned(reader, Width::Bits8, value),
+        Shape::U16 => read_unsigned(reader, Width::Bits16, value),
+        Shape::U32 => read_unsigned(reader, Width::Bits32, value),
+        Shape::U64 => read_unsigned(reader, Width::Bits64, value),
+        Shape::I8 => read_signed(reader, Width::Bits8, value),
+        Shape::I16 => read_signed(reader, Width::Bits16, value),
+        Shape::I32 => read_signed(reader, Width::Bits32, value),
+        Shape::I64 => read_signed(reader, Width::Bits64, value),
+        Shape::Char => read_char(reader.alloc, value),
+        Shape::Text => read_text(reader, value),
+        Shape::Bytes => read_bytes(reader, value),
+        Shape::Option(part) => read_option(reader, part, value),
+        Shape::Seq(part) => seq_data(reader, part, value),
+        Shape::Tuple(parts) => tuple_data(reader, parts, value),
+        Shape::Map(key_shape, part) => map_data(reader, key_shape, part, value),
+        Shape::Struct(fields) => struct_data(reader, UnknownKeys::Ignored, fields, value),
+        Shape::StrictStruct(fields) => struct_data(reader, UnknownKeys::Rejected, fields, value),
+        Shape::Newtype(part) => newtype_data(reader, part, value),
+        Shape::Enum(variants) => read_enum(reader, variants, value),
+        Shape::Any => read_any(reader.alloc, value),
+        Shape::Ignored => read_ignored(reader.alloc, value),
     }
 }
 
+// Reads a list.
 #[cycle(read)]
 #[inline(always)]
 #[tactic(auto, unfolding(qs_spec::specs::internal::ReadFunction::reads))]
-fn seq_data(
-    alloc: Global,
-    reject_duplicates: bool,
-    part: &Shape,
-    value: &ParsedValue<'_>,
-) -> Result<Data>
-    ensures { ReadGives data_of (is_text (tree_of value.now)) result (reads reject_duplicates (s.Shape.sequence (shape_of part.now)) (tree_of value.now)) }
+fn seq_data(reader: Reader, part: &Shape, value: &ParsedValue<'_>) -> Result<Data>
+    ensures { ReadGives data_of (is_text (tree_of value.now)) result (reads reader.reject_duplicates (s.Shape.sequence (shape_of part.now)) (tree_of value.now)) }
 {
-    Ok(Data::Seq(read_list(alloc, reject_duplicates, part, value)?))
+    Ok(Data::Seq(read_list(reader, part, value)?))
 }
 
+// Reads a tuple.
 #[cycle(read)]
 #[inline(always)]
 #[tactic(auto, unfolding(qs_spec::specs::internal::ReadFunction::reads))]
-fn tuple_data(
-    alloc: Global,
-    reject_duplicates: bool,
-    parts: &Vec<Shape>,
-    value: &ParsedValue<'_>,
-) -> Result<Data>
-    ensures { ReadGives data_of (is_text (tree_of value.now)) result (reads reject_duplicates (s.Shape.tuple (shapes_in parts.now.items)) (tree_of value.now)) }
+fn tuple_data(reader: Reader, parts: &Vec<Shape>, value: &ParsedValue<'_>) -> Result<Data>
+    ensures { ReadGives data_of (is_text (tree_of value.now)) result (reads reader.reject_duplicates (s.Shape.tuple (shapes_in parts.now.items)) (tree_of value.now)) }
 {
     let expected = Expected::Tuple(parts.len());
-    Ok(Data::Tuple(read_tuple(alloc, reject_duplicates, parts, value, expected)?))
+    Ok(Data::Tuple(read_tuple(reader, parts, value, expected)?))
 }
 
+// Reads a map.
 #[cycle(read)]
 #[inline(always)]
 #[tactic(auto, using(crate::proofs::lemmas::data::Levels::levels), unfolding(qs_spec::specs::internal::ReadFunction::reads))]
 fn map_data(
-    alloc: Global,
-    reject_duplicates: bool,
+    reader: Reader,
     key_shape: &KeyShape,
     part: &Shape,
     value: &ParsedValue<'_>,
 ) -> Result<Data>
     ensures { ReadGives data_of (is_text (tree_of value.now)) result
-        (reads reject_duplicates (s.Shape.mapping (key_shape_of key_shape.now) (shape_of part.now)) (tree_of value.now)) }
+        (reads reader.reject_duplicates (s.Shape.mapping (key_shape_of key_shape.now) (shape_of part.now)) (tree_of value.now)) }
 {
-    Ok(Data::Map(read_map(alloc, reject_duplicates, key_shape, part, value)?))
+    Ok(Data::Map(read_map(reader, key_shape, part, value)?))
 }
 
+// Reads a struct, whose unknown keys are ignored or rejected.
 #[cycle(read)]
 #[inline(always)]
 #[tactic(auto, using(crate::proofs::lemmas::data::Levels::levels), unfolding(qs_spec::specs::internal::ReadFunction::reads))]
 fn struct_data(
-    alloc: Global,
-    reject_duplicates: bool,
+    reader: Reader,
     unknown: UnknownKeys,
     fields: &Vec<Field>,
     value: &ParsedValue<'_>,
 ) -> Result<Data>
     ensures { ReadGives data_of (is_text (tree_of value.now)) result
-        (reads reject_duplicates (s.Shape.struct (unknown_of unknown) (fields_in fields.now.items)) (tree_of value.now)) }
+        (reads reader.reject_duplicates (s.Shape.struct (unknown_of unknown) (fields_in fields.now.items)) (tree_of value.now)) }
 {
-    Ok(Data::Struct(read_struct(alloc, reject_duplicates, unknown, fields, value)?))
+    Ok(Data::Struct(read_struct(reader, unknown, fields, value)?))
 }
 
+// Reads a value in a type of its own.
 #[cycle(read)]
 #[inline(always)]
 #[tactic(auto, unfolding(qs_spec::specs::internal::ReadFunction::reads))]
-fn newtype_data(
-    alloc: Global,
-    reject_duplicates: bool,
-    part: &Shape,
-    value: &ParsedValue<'_>,
-) -> Result<Data>
-    ensures { ReadGives data_of (is_text (tree_of value.now)) result (reads reject_duplicates (s.Shape.newtype (shape_of part.now)) (tree_of value.now)) }
+fn newtype_data(reader: Reader, part: &Shape, value: &ParsedValue<'_>) -> Result<Data>
+    ensures { ReadGives data_of (is_text (tree_of value.now)) result (reads reader.reject_duplicates (s.Shape.newtype (shape_of part.now)) (tree_of value.now)) }
 {
-    let held = read_node(alloc, reject_duplicates, part, value)?;
-    Ok(Data::Newtype(Box::new(alloc, held)?))
+    let held = read_node(reader, part, value)?;
+    Ok(Data::Newtype(Box::new(reader.alloc, held)?))
 }
 
 // A value that may be absent: it is where there is no value, and an empty one is read as none.
 #[cycle(read)]
-fn read_option(
-    alloc: Global,
-    reject_duplicates: bool,
-    part: &Shape,
-    value: &ParsedValue<'_>,
-) -> Result<Data>
-    ensures { ReadGives data_of (is_text (tree_of value.now)) result (read_option (reads reject_duplicates (shape_of part.now)) (tree_of value.now)) }
+fn read_option(reader: Reader, part: &Shape, value: &ParsedValue<'_>) -> Result<Data>
+    ensures { ReadGives data_of (is_text (tree_of value.now)) result (read_option (reads reader.reject_duplicates (shape_of part.now)) (tree_of value.now)) }
 {
     match value {
-        ParsedValue::Uninitialized => Err(Message::Uninitialized.error(alloc)),
+        ParsedValue::Uninitialized => Err(Message::Uninitialized.error(reader.alloc)),
         ParsedValue::NoValue => Ok(Data::None),
         ParsedValue::Null => {
-            let held = read_node(alloc, reject_duplicates, part, &ParsedValue::NoValue)?;
-            Ok(Data::Some(Box::new(alloc, held)?))
+            let held = read_node(reader, part, &ParsedValue::NoValue)?;
+            Ok(Data::Some(Box::new(reader.alloc, held)?))
         }
         ParsedValue::String(_) | ParsedValue::Sequence(_) | ParsedValue::Map(_) => {
-            let held = read_node(alloc, reject_duplicates, part, value)?;
-            Ok(Data::Some(Box::new(alloc, held)?))
+            let held = read_node(reader, part, value)?;
+            Ok(Data::Some(Box::new(reader.alloc, held)?))
         }
     }
 }

@@ -17,7 +17,7 @@ ghost use Rattle.qs_data.specs.read.Parsed.{ReturnsData, SparesMemory, owned_by,
 ghost use Rattle.qs_data.specs.read.ReadBack.{ReadsBack};
 
 use crate::data::Data;
-use crate::read::by_shape::read;
+use crate::read::by_shape::{Reader, read};
 use crate::shape::Shape;
 use qs_tree::{Config, DuplicateKeyBehavior, ParsedValue, Result, parse};
 use std::alloc::Global;
@@ -49,7 +49,7 @@ impl<'qs> Deserializer<'qs> {
 
     /// The querystring, parsed.
     ///
-    /// It is rejected, with [`Parse`](Error::Parse) and the position of the first fault, exactly where it has no tree. Texts and
+    /// It is rejected, with [`Parse`](Error::Parse) and the position of the first error, exactly where it has no tree. Texts and
     /// keys that hold neither `+` nor `%` are borrowed from it. The time grows with the input's length and the depth of its keys.
     ///
     /// The clauses are those of [`parse`](qs_tree::parse) about the tree. Pairs in another order that keeps those with overlapping
@@ -78,19 +78,19 @@ impl<'qs> Deserializer<'qs> {
     /// Reads the querystring by a shape whose names differ.
     ///
     /// The data are those that docs/QUERYSTRINGS.md has for the shape and the tree. Where there are none, that is
-    /// [`Custom`](Error::Custom) with the first fault that was met, or [`Utf8`](Error::Utf8) where a text that is read isn't
+    /// [`Custom`](Error::Custom) with the first mismatch, or [`Utf8`](Error::Utf8) where a text that is read isn't
     /// UTF-8. Fields are read in the shape's order, then the other keys are looked at.
     ///
     /// The items of a list are read in their order, and the pairs of a map in the order of its keys, of each the key first. The
-    /// message of a key that holds `[` is reported with a hint at form encoding.
+    /// error of a key that holds `[` has a hint at form encoding.
     ///
     /// Where the querystring was written of [plain](Data::is_plain) data that [fit](Shape::fits) the shape, under the same
     /// configuration, these data are read back: in the indexed format from their entries in any order, and in each format where
     /// their [lists can be](Data::is_listed) from an order that keeps entries with one path as they were. A map has its pairs in
     /// the order of its keys.
     ///
-    /// Memory is allocated for what the data keep, for a struct with room for each field of its shape, and for a fault's message; data
-    /// of a scalar without bytes take none.
+    /// Memory is allocated for what the data keep, for a struct with room for each field of its shape, and for an error's message. A
+    /// scalar without bytes is read without an allocation.
     pub fn read(self, alloc: Global, shape: &Shape) -> Result<Data>
         requires { is_distinct (shape_of shape.now) ≡ true }
         ensures exact { ReturnsData (parsed_of self.entry) (shape_of shape.now) result }
@@ -99,6 +99,10 @@ impl<'qs> Deserializer<'qs> {
         ensures errors { OnlyCustomUtf8OrOutOfMemory result }
     {
         let reject_duplicates = self.config.get_duplicates() == DuplicateKeyBehavior::Error;
-        read(alloc, reject_duplicates, shape, &self.tree)
+        let reader = Reader {
+            alloc,
+            reject_duplicates,
+        };
+        read(reader, shape, &self.tree)
     }
 }

@@ -25,7 +25,7 @@ pub(crate) enum ReadError {
 }
 
 impl ReadError {
-    /// The error with this message, or that it found no memory.
+    /// The error with this message, or that an allocation failed.
     pub(crate) fn saying<T: Display + Drop>(alloc: Global, message: T) -> ReadError
         ensures { IsCustomSaying (error_of result) (T.output message) }
     {
@@ -51,7 +51,7 @@ impl From<ReadError> for Error {
 impl From<AllocError> for ReadError {
     ghost from_gives = { λ _ e. e ≡ OutOfMemory };
 
-    fn from(_refused: AllocError) -> ReadError {
+    fn from(_failed: AllocError) -> ReadError {
         ReadError::OutOfMemory
     }
 }
@@ -59,7 +59,7 @@ impl From<AllocError> for ReadError {
 impl<T: Drop> From<AllocFailed<T>> for ReadError {
     ghost from_gives = { λ _ e. e ≡ OutOfMemory };
 
-    fn from(_refused: AllocFailed<T>) -> ReadError {
+    fn from(_failed: AllocFailed<T>) -> ReadError {
         ReadError::OutOfMemory
     }
 }

@@ -13,7 +13,7 @@ ghost use Rattle.qs_data.specs.read.internal.Keys.{NumbersFit, entries_of, unkno
 ghost use Rattle.std.specs.Prelude.{◌≡◌};
 
 use crate::data::Data;
-use crate::read::by_shape::read_node;
+use crate::read::by_shape::{Reader, read_node};
 use crate::read::error::Result;
 use crate::read::keys::{Entries, Found, find, test_keys};
 use crate::read::message::{Expected, Message};
@@ -21,44 +21,35 @@ use crate::read::scalar::as_text;
 use crate::read::unknown::UnknownKeys;
 use crate::shape::{Field, Shape};
 use qs_tree::ParsedValue;
-use std::alloc::Global;
 
-/// The fields of a node: by their names among keys, and by their places among items.
+/// The fields of a node: by their names among keys, and by their indexes among items.
 #[cycle(read)]
 #[tactic(auto, unfolding(qs_spec::specs::internal::ReadFunction::struct_members))]
 #[inline(always)]
 pub(crate) fn read_struct(
-    alloc: Global,
-    reject_duplicates: bool,
+    reader: Reader,
     unknown: UnknownKeys,
     fields: &Vec<Field>,
     value: &ParsedValue<'_>,
 ) -> Result<Vec<(String, Data)>>
     ensures { ReadGives (λ v. map (named data_of) v.items) (is_text (tree_of value.now)) result
-        (struct_members (keys_are_allowed (unknown_of unknown) (fields_in fields.now.items)) (reads_names reject_duplicates (fields_in fields.now.items))
-        (reads_places reject_duplicates (fields_in fields.now.items)) (tree_of value.now)) }
+        (struct_members (keys_are_allowed (unknown_of unknown) (fields_in fields.now.items)) (reads_names reader.reject_duplicates (fields_in fields.now.items))
+        (reads_places reader.reject_duplicates (fields_in fields.now.items)) (tree_of value.now)) }
 {
     match value {
         ParsedValue::NoValue | ParsedValue::Null => read_entries(
-            alloc,
-            reject_duplicates,
+            reader,
             unknown,
             fields,
             Entries::Empty,
         ),
-        ParsedValue::Map(map) => read_entries(
-            alloc,
-            reject_duplicates,
-            unknown,
-            fields,
-            Entries::Map(map),
-        ),
-        ParsedValue::Sequence(items) => read_places(alloc, reject_duplicates, fields, items),
+        ParsedValue::Map(map) => read_entries(reader, unknown, fields, Entries::Map(map)),
+        ParsedValue::Sequence(items) => read_places(reader, fields, items),
         ParsedValue::String(text) => {
             as_text(text.as_slice())?;
-            Err(Message::mismatch(alloc, value, Expected::Struct))
+            Err(Message::mismatch(reader.alloc, value, Expected::Struct))
         }
-        ParsedValue::Uninitialized => Err(Message::mismatch(alloc, value, Expected::Struct)),
+        ParsedValue::Uninitialized => Err(Message::mismatch(reader.alloc, value, Expected::Struct)),
     }
 }
 
@@ -66,22 +57,21 @@ pub(crate) fn read_struct(
 /// a text.
 #[cycle(read)]
 pub(crate) fn read_entries(
-    alloc: Global,
-    reject_duplicates: bool,
+    reader: Reader,
     unknown: UnknownKeys,
     fields: &Vec<Field>,
     entries: Entries<'_, '_>,
 ) -> Result<Vec<(String, Data)>>
     ensures { ReadGives (λ v. map (named data_of) v.items) (entries_are_text (entries_of entries.entry)) result
         (option_and_then (λ ms. cond (keys_are_allowed (unknown_of unknown) (fields_in fields.now.items) (entries_of entries.entry)) (Some ms) None)
-        (reads_names reject_duplicates (fields_in fields.now.items) (entries_of entries.entry))) }
+        (reads_names reader.reject_duplicates (fields_in fields.now.items) (entries_of entries.entry))) }
 {
     let tested = test_keys(entries);
-    let members = read_names(alloc, reject_duplicates, fields, entries)?;
-    unknown.test(alloc, fields, entries)?;
+    let members = read_names(reader, fields, entries)?;
+    unknown.test(reader.alloc, fields, entries)?;
     match tested {
         Ok(()) => Ok(members),
-        Err(key) => Err(key.error(alloc)),
+        Err(key) => Err(key.error(reader.alloc)),
     }
 }
 
@@ -89,18 +79,17 @@ pub(crate) fn read_entries(
 #[cycle(read)]
 #[tactic(auto, unfolding(qs_spec::specs::internal::ReadFunction::reads))]
 fn read_names(
-    alloc: Global,
-    reject_duplicates: bool,
+    reader: Reader,
     fields: &Vec<Field>,
     entries: Entries<'_, '_>,
 ) -> Result<Vec<(String, Data)>>
     requires { NumbersFit (entries_of entries) }
     ensures { ReadGives (λ v. map (named data_of) v.items) (entries_are_text (entries_of entries.entry)) result
-        (reads_names reject_duplicates (fields_in fields.now.items) (entries_of entries.entry)) }
+        (reads_names reader.reject_duplicates (fields_in fields.now.items) (entries_of entries.entry)) }
 {
-    let mut members = Vec::with_capacity(alloc, fields.len())?;
+    let mut members = Vec::with_capacity(reader.alloc, fields.len())?;
     for field in fields {
-        let Some(value) = read_field(alloc, reject_duplicates, field, entries)? else {
+        let Some(value) = read_field(reader, field, entries)? else {
             continue;
         };
         let name = field.name.clone()?;
@@ -111,16 +100,11 @@ fn read_names(
 
 // A field by its name, if it isn't left out.
 #[cycle(read)]
-fn read_field(
-    alloc: Global,
-    reject_duplicates: bool,
-    field: &Field,
-    entries: Entries<'_, '_>,
-) -> Result<Option<Data>>
+fn read_field(reader: Reader, field: &Field, entries: Entries<'_, '_>) -> Result<Option<Data>>
     requires { NumbersFit (entries_of entries) }
     ensures { let f = field_of field.now in
         ReadGives (option_map data_of) (entries_are_text (entries_of entries.entry)) result
-        (read_field f.2 (is_option_shape f.1) (reads reject_duplicates f.1) (found f.0 (entries_of entries.entry))) }
+        (read_field f.2 (is_option_shape f.1) (reads reader.reject_duplicates f.1) (found f.0 (entries_of entries.entry))) }
 {
     match find(entries, &field.name) {
         Found::Missing => {
@@ -129,14 +113,15 @@ fn read_field(
             } else if is_option(&field.shape) {
                 Ok(Some(Data::None))
             } else {
-                Err(Message::MissingField(&field.name).error(alloc))
+                Err(Message::MissingField(&field.name).error(reader.alloc))
             }
         }
-        Found::One(value) => Ok(Some(read_node(alloc, reject_duplicates, &field.shape, value)?)),
-        Found::Several => Err(Message::DuplicateField(&field.name).error(alloc)),
+        Found::One(value) => Ok(Some(read_node(reader, &field.shape, value)?)),
+        Found::Several => Err(Message::DuplicateField(&field.name).error(reader.alloc)),
     }
 }
 
+// Whether a shape is an option.
 fn is_option(shape: &Shape) -> bool
     ensures { result ≡ is_option_shape (shape_of shape.now) }
 {
@@ -146,21 +131,20 @@ fn is_option(shape: &Shape) -> bool
     }
 }
 
-// The fields by their places.
+// The fields by their indexes.
 #[cycle(read)]
 #[tactic(auto, unfolding(qs_spec::specs::internal::ReadFunction::reads))]
 fn read_places(
-    alloc: Global,
-    reject_duplicates: bool,
+    reader: Reader,
     fields: &Vec<Field>,
     items: &[ParsedValue<'_>],
 ) -> Result<Vec<(String, Data)>>
     ensures { ReadGives (λ v. map (named data_of) v.items) (items_are_text (items_from (map tree_of items.now))) result
-        (reads_places reject_duplicates (fields_in fields.now.items) (items_from (map tree_of items.now))) }
+        (reads_places reader.reject_duplicates (fields_in fields.now.items) (items_from (map tree_of items.now))) }
 {
-    let mut members = Vec::new(alloc);
+    let mut members = Vec::new(reader.alloc);
     for (i, field) in fields.iter().enumerate() {
-        let Some(value) = read_place(alloc, reject_duplicates, field, items, i)? else {
+        let Some(value) = read_place(reader, field, items, i)? else {
             continue;
         };
         let name = field.name.clone()?;
@@ -169,26 +153,25 @@ fn read_places(
     Ok(members)
 }
 
-// A field by its place, if it isn't left out.
+// A field by its index, if it isn't left out.
 #[cycle(read)]
 fn read_place(
-    alloc: Global,
-    reject_duplicates: bool,
+    reader: Reader,
     field: &Field,
     items: &[ParsedValue<'_>],
     place: usize,
 ) -> Result<Option<Data>>
     ensures { let f = field_of field.now in
         ReadGives (option_map data_of) (items_are_text (items_from (map tree_of items.now))) result
-        (read_place f.2 (reads reject_duplicates f.1) (items_from (map tree_of (drop place items.now)))) }
+        (read_place f.2 (reads reader.reject_duplicates f.1) (items_from (map tree_of (drop place items.now)))) }
 {
     match items.get(place) {
-        Some(item) => Ok(Some(read_node(alloc, reject_duplicates, &field.shape, item)?)),
+        Some(item) => Ok(Some(read_node(reader, &field.shape, item)?)),
         None => {
             if field.optional {
                 Ok(None)
             } else {
-                Err(Message::InvalidLength(items.len()).error(alloc))
+                Err(Message::InvalidLength(items.len()).error(reader.alloc))
             }
         }
     }

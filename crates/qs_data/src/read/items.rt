@@ -76,7 +76,7 @@ impl<'t, 'qs> Items<'t, 'qs> {
         }
     }
 
-    /// The item at a place, if there are so many; rejected where a map has another key there.
+    /// The item at an index, if there are so many; rejected where a map has another key there.
     #[inline(always)]
     pub(crate) fn at(self, alloc: Global, place: usize) -> Result<Option<&'t ParsedValue<'qs>>>
         ensures { ReadGives (option_map (λ v. tree_of v.now)) true result (first_item (drop place (items_in self.entry))) }
@@ -96,7 +96,7 @@ impl<'t, 'qs> Items<'t, 'qs> {
     }
 }
 
-// The value at a place of a map, whose key must be that place.
+// The value at an index of a map, whose key must be that index.
 fn value_at<'t, 'qs>(
     alloc: Global,
     map: &'t ParsedMap<'qs>,
@@ -111,7 +111,7 @@ fn value_at<'t, 'qs>(
     Ok(Some(value))
 }
 
-// Whether a key is the place that is due, of which there are 4,294,967,295 at most.
+// Whether a key is the index that is due, of which there are 4,294,967,295 at most.
 fn test_place(alloc: Global, key: &Key<'_>, due: usize) -> Result<()>
     ensures { ReadGives (λ _. true) true result (passed (is_place due (segment_of_key key.now))) }
 {

@@ -1,4 +1,4 @@
-//! What the key of a map stands for.
+//! Reading the key of a map.
 
 ghost use Rattle.std.specs.Prelude.{map, string_bytes};
 ghost use Rattle.std.specs.Str.{is_utf8};
@@ -18,7 +18,7 @@ use itoa::Buffer;
 use qs_tree::Key;
 use std::alloc::Global;
 
-/// Reads a key by its text; that of a number is its digits. The fault of a key that holds a bracket is reported with a hint.
+/// Reads a key by its text; that of a number is its digits. The error of a key that holds a bracket has a hint.
 #[inline(always)]
 pub(crate) fn read_key(alloc: Global, shape: &KeyShape, key: &Key<'_>) -> Result<Data>
     ensures { ReadGives data_of (is_utf8 (segment_text (segment_of_key key.now))) result
@@ -39,7 +39,7 @@ pub(crate) fn read_key(alloc: Global, shape: &KeyShape, key: &Key<'_>) -> Result
     }
 }
 
-/// What the text of a key stands for.
+/// Reads the text of a key.
 #[inline(always)]
 pub(crate) fn key_data(alloc: Global, shape: &KeyShape, bytes: &[u8]) -> Result<Data>
     ensures { ReadGives data_of (is_utf8 bytes.now) result (key_data (key_shape_of shape.now) bytes.now) }

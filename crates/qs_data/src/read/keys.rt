@@ -29,14 +29,14 @@ pub(crate) enum Entries<'t, 'qs> {
     Leaf(&'t ParsedValue<'qs>),
 }
 
-/// What stands under a name.
+/// What is found under a name.
 #[derive(Clone, Copy)]
 pub enum Found<'t, 'qs> {
     /// Nothing.
     Missing,
     /// This value.
     One(&'t ParsedValue<'qs>),
-    /// Two values, one under the text and one under the number that is written so.
+    /// Two values, one under the text and one under the integer that is written so.
     Several,
 }
 
@@ -58,7 +58,7 @@ pub(crate) fn find<'t, 'qs>(entries: Entries<'t, 'qs>, name: &str) -> Found<'t, 
     }
 }
 
-// The same in a map: by the text, and by the number that is written so.
+// The same in a map: by the text, and by the integer that is written so.
 fn find_in_map<'t, 'qs>(map: &'t ParsedMap<'qs>, name: &str) -> Found<'t, 'qs>
     requires { NumbersFit (entries_of_map map.now) }
     ensures { Finds result (found name.now (entries_of_map map.now)) }

@@ -11,47 +11,36 @@ ghost use Rattle.qs_data.specs.read.internal.Items.{items_in, are_text};
 ghost use Rattle.qs_data.specs.read.internal.ReadError.{ReadGives};
 
 use crate::data::Data;
-use crate::read::by_shape::read_node;
+use crate::read::by_shape::{Reader, read_node};
 use crate::read::error::Result;
 use crate::read::items::{Items, items_of};
 use crate::read::message::{Expected, Message};
 use crate::shape::Shape;
 use qs_tree::ParsedValue;
-use std::alloc::Global;
 
 /// A list: the items of a node, all by one shape.
 #[cycle(read)]
 #[tactic(auto, unfolding(qs_spec::specs::internal::ReadFunction::read_list))]
-pub(crate) fn read_list(
-    alloc: Global,
-    reject_duplicates: bool,
-    part: &Shape,
-    value: &ParsedValue<'_>,
-) -> Result<Vec<Data>>
+pub(crate) fn read_list(reader: Reader, part: &Shape, value: &ParsedValue<'_>) -> Result<Vec<Data>>
     ensures { ReadGives (λ v. map data_of v.items) (is_text (tree_of value.now)) result
-        (read_list (reads reject_duplicates (shape_of part.now)) (tree_of value.now)) }
+        (read_list (reads reader.reject_duplicates (shape_of part.now)) (tree_of value.now)) }
 {
-    let items = items_of(alloc, value, Expected::Sequence)?;
-    read_each(alloc, reject_duplicates, part, items)
+    let items = items_of(reader.alloc, value, Expected::Sequence)?;
+    read_each(reader, part, items)
 }
 
 /// Each item, by one shape.
 #[cycle(read)]
-pub(crate) fn read_each(
-    alloc: Global,
-    reject_duplicates: bool,
-    part: &Shape,
-    items: Items<'_, '_>,
-) -> Result<Vec<Data>>
+pub(crate) fn read_each(reader: Reader, part: &Shape, items: Items<'_, '_>) -> Result<Vec<Data>>
     ensures { ReadGives (λ v. map data_of v.items) (are_text (items_in items.entry)) result
-        (read_each (reads reject_duplicates (shape_of part.now)) (items_in items.entry)) }
+        (read_each (reads reader.reject_duplicates (shape_of part.now)) (items_in items.entry)) }
 {
-    let mut values = Vec::with_capacity(alloc, items.len())?;
+    let mut values = Vec::with_capacity(reader.alloc, items.len())?;
     for i in 0..items.len() {
-        let Some(item) = items.at(alloc, i)? else {
+        let Some(item) = items.at(reader.alloc, i)? else {
             break;
         };
-        values.push(read_node(alloc, reject_duplicates, part, item)?)?;
+        values.push(read_node(reader, part, item)?)?;
     }
     Ok(values)
 }
@@ -60,37 +49,31 @@ pub(crate) fn read_each(
 #[cycle(read)]
 #[inline(always)]
 pub(crate) fn read_tuple(
-    alloc: Global,
-    reject_duplicates: bool,
+    reader: Reader,
     parts: &Vec<Shape>,
     value: &ParsedValue<'_>,
     expected: Expected,
 ) -> Result<Vec<Data>>
     ensures { ReadGives (λ v. map data_of v.items) (is_text (tree_of value.now)) result
-        (option_and_then (reads_tuple reject_duplicates (shapes_in parts.now.items)) (items (tree_of value.now))) }
+        (option_and_then (reads_tuple reader.reject_duplicates (shapes_in parts.now.items)) (items (tree_of value.now))) }
 {
-    let items = items_of(alloc, value, expected)?;
-    read_parts(alloc, reject_duplicates, parts, items)
+    let items = items_of(reader.alloc, value, expected)?;
+    read_parts(reader, parts, items)
 }
 
 // The first items, each by its own shape.
 #[cycle(read)]
 #[tactic(auto, unfolding(qs_spec::specs::internal::ReadFunction::reads))]
-fn read_parts(
-    alloc: Global,
-    reject_duplicates: bool,
-    parts: &Vec<Shape>,
-    items: Items<'_, '_>,
-) -> Result<Vec<Data>>
+fn read_parts(reader: Reader, parts: &Vec<Shape>, items: Items<'_, '_>) -> Result<Vec<Data>>
     ensures { ReadGives (λ v. map data_of v.items) (are_text (items_in items.entry)) result
-        (reads_tuple reject_duplicates (shapes_in parts.now.items) (items_in items.entry)) }
+        (reads_tuple reader.reject_duplicates (shapes_in parts.now.items) (items_in items.entry)) }
 {
-    let mut values = Vec::with_capacity(alloc, parts.len())?;
+    let mut values = Vec::with_capacity(reader.alloc, parts.len())?;
     for (i, part) in parts.iter().enumerate() {
-        let Some(item) = items.at(alloc, i)? else {
-            return Err(Message::InvalidLength(i).error(alloc));
+        let Some(item) = items.at(reader.alloc, i)? else {
+            return Err(Message::InvalidLength(i).error(reader.alloc));
         };
-        values.push(read_node(alloc, reject_duplicates, part, item)?)?;
+        values.push(read_node(reader, part, item)?)?;
     }
     Ok(values)
 }

@@ -10,39 +10,31 @@ ghost use Rattle.qs_data.specs.read.Text.{is_text, entries_are_text};
 ghost use Rattle.qs_data.specs.read.internal.ReadError.{ReadGives};
 
 use crate::data::Data;
-use crate::read::by_shape::read_node;
+use crate::read::by_shape::{Reader, read_node};
 use crate::read::error::Result;
 use crate::read::key::{key_data, read_key};
 use crate::read::message::{Expected, Message};
 use crate::shape::{KeyShape, Shape};
 use qs_tree::{ParsedMap, ParsedValue};
-use std::alloc::Global;
 
 /// The pairs of a node: those of a map, and a text under the empty key.
 #[cycle(read)]
 #[tactic(auto, unfolding(qs_spec::specs::internal::ReadFunction::read_map))]
 pub(crate) fn read_map(
-    alloc: Global,
-    reject_duplicates: bool,
+    reader: Reader,
     key_shape: &KeyShape,
     part: &Shape,
     value: &ParsedValue<'_>,
 ) -> Result<Vec<(Data, Data)>>
     ensures { ReadGives (λ v. map pair_of v.items) (is_text (tree_of value.now)) result
-        (read_map (key_shape_of key_shape.now) (reads reject_duplicates (shape_of part.now)) (tree_of value.now)) }
+        (read_map (key_shape_of key_shape.now) (reads reader.reject_duplicates (shape_of part.now)) (tree_of value.now)) }
 {
     match value {
-        ParsedValue::NoValue | ParsedValue::Null => Ok(Vec::new(alloc)),
-        ParsedValue::String(_) => read_under_empty(
-            alloc,
-            reject_duplicates,
-            key_shape,
-            part,
-            value,
-        ),
-        ParsedValue::Map(entries) => read_pairs(alloc, reject_duplicates, key_shape, part, entries),
+        ParsedValue::NoValue | ParsedValue::Null => Ok(Vec::new(reader.alloc)),
+        ParsedValue::String(_) => read_under_empty(reader, key_shape, part, value),
+        ParsedValue::Map(entries) => read_pairs(reader, key_shape, part, entries),
         ParsedValue::Sequence(_) | ParsedValue::Uninitialized => Err(Message::mismatch(
-            alloc,
+            reader.alloc,
             value,
             Expected::Map,
         )),
@@ -52,22 +44,21 @@ pub(crate) fn read_map(
 /// The pairs of a map, in the order of its keys: of each the key first, and then the value.
 #[cycle(read)]
 pub(crate) fn read_pairs(
-    alloc: Global,
-    reject_duplicates: bool,
+    reader: Reader,
     key_shape: &KeyShape,
     part: &Shape,
     entries: &ParsedMap<'_>,
 ) -> Result<Vec<(Data, Data)>>
     ensures { ReadGives (λ v. map pair_of v.items) (entries_are_text (entries_of_map entries.now)) result
-        (read_pairs (key_shape_of key_shape.now) (reads reject_duplicates (shape_of part.now)) (entries_of_map entries.now)) }
+        (read_pairs (key_shape_of key_shape.now) (reads reader.reject_duplicates (shape_of part.now)) (entries_of_map entries.now)) }
 {
-    let mut pairs = Vec::with_capacity(alloc, entries.len())?;
+    let mut pairs = Vec::with_capacity(reader.alloc, entries.len())?;
     for i in 0..entries.len() {
         let Some((key, value)) = entries.at(i) else {
             break;
         };
-        let key = read_key(alloc, key_shape, key)?;
-        let value = read_node(alloc, reject_duplicates, part, value)?;
+        let key = read_key(reader.alloc, key_shape, key)?;
+        let value = read_node(reader, part, value)?;
         pairs.push((key, value))?;
     }
     Ok(pairs)
@@ -76,18 +67,17 @@ pub(crate) fn read_pairs(
 // A value under the empty key.
 #[cycle(read)]
 fn read_under_empty(
-    alloc: Global,
-    reject_duplicates: bool,
+    reader: Reader,
     key_shape: &KeyShape,
     part: &Shape,
     value: &ParsedValue<'_>,
 ) -> Result<Vec<(Data, Data)>>
     ensures { ReadGives (λ v. map pair_of v.items) (is_text (tree_of value.now)) result
-        (read_pairs (key_shape_of key_shape.now) (reads reject_duplicates (shape_of part.now)) (under_empty (tree_of value.now))) }
+        (read_pairs (key_shape_of key_shape.now) (reads reader.reject_duplicates (shape_of part.now)) (under_empty (tree_of value.now))) }
 {
-    let key = key_data(alloc, key_shape, &[])?;
-    let value = read_node(alloc, reject_duplicates, part, value)?;
-    let mut pairs = Vec::new(alloc);
+    let key = key_data(reader.alloc, key_shape, &[])?;
+    let value = read_node(reader, part, value)?;
+    let mut pairs = Vec::new(reader.alloc);
     pairs.push((key, value))?;
     Ok(pairs)
 }

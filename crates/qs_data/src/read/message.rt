@@ -1,4 +1,4 @@
-//! What a tree can lack of a shape, and what is said of it.
+//! The messages of reading.
 
 ghost use Rattle.qs_data.specs.read.internal.ReadError.{ReadIsCustom};
 ghost use Rattle.qs_data.specs.read.internal.Hint.{IsKeyError};
@@ -9,21 +9,21 @@ use qs_tree::{Error, ParsedValue};
 use std::alloc::Global;
 use std::fmt;
 
-/// Why a tree doesn't give what a shape asks for.
+/// Why a tree doesn't fit a shape.
 #[derive(Clone, Copy)]
 pub(crate) enum Message<'a> {
     /// The tree holds nothing at all.
     Uninitialized,
-    /// A key that isn't the place that is due.
+    /// A key that isn't the index that is due.
     MissingIndex {
         due: usize,
         index: u32,
     },
-    /// A place past the ones that are read.
+    /// More items than there are indexes.
     TooManyElements,
     /// Several values where one is asked for.
     SeveralValues,
-    /// Another kind of value, or a text that stands for no such value.
+    /// Another kind of value, or a string that can't be parsed as one.
     InvalidType {
         found: Unexpected,
         expected: Expected,
@@ -40,7 +40,7 @@ pub(crate) enum Message<'a> {
     InvalidLength(usize),
 }
 
-/// What is there.
+/// What is there instead.
 #[derive(Clone, Copy)]
 pub(crate) enum Unexpected {
     /// A key without a value.
@@ -76,7 +76,7 @@ pub(crate) enum Expected {
 }
 
 impl Message<'_> {
-    /// The error that says so, or that its message found no memory.
+    /// The error with this message, or that an allocation failed.
     pub(crate) fn error(self, alloc: Global) -> ReadError
         ensures { ReadIsCustom result }
     {
@@ -97,7 +97,7 @@ impl Message<'_> {
         Message::InvalidType { found, expected }.error(alloc)
     }
 
-    /// The error of a text that stands for no value of the kind that is asked for.
+    /// The error of a string that can't be parsed as what is asked for.
     pub(crate) fn unreadable(alloc: Global, expected: Expected) -> ReadError
         ensures { ReadIsCustom result }
     {

@@ -44,7 +44,7 @@ pub(crate) enum Frame<'t, 'qs> {
 /// A list of which the first items are read.
 pub(crate) struct ListFrame<'t, 'qs> {
     items: Items<'t, 'qs>,
-    /// The place of the first item that wasn't visited.
+    /// The index of the first item that wasn't visited.
     next: usize,
     values: Vec<Data>,
 }
@@ -52,14 +52,14 @@ pub(crate) struct ListFrame<'t, 'qs> {
 /// A map of which the first entries are read.
 pub(crate) struct MapFrame<'t, 'qs> {
     entries: &'t ParsedMap<'qs>,
-    /// The place of the first entry that wasn't visited.
+    /// The index of the first entry that wasn't visited.
     next: usize,
     /// The key of the list or map that is being read.
     key: Data,
     pairs: Vec<(Data, Data)>,
 }
 
-/// Reads a leaf, or begins a list or a map. A text is copied, which allocates, as the message of a fault does; nothing else does.
+/// Reads a leaf, or begins a list or a map. A text is copied, which allocates, as an error's message does; nothing else does.
 #[tactic(auto, unfolding(qs_spec::specs::internal::ReadFunction::any_data))]
 pub(crate) fn visit<'t, 'qs>(alloc: Global, value: &'t ParsedValue<'qs>) -> Result<Visited<'t, 'qs>>
     ensures { Visits result (tree_of value.now) }
@@ -111,7 +111,7 @@ impl<'t, 'qs> Frame<'t, 'qs> {
         })
     }
 
-    /// Reads leaves up to the next list or map, and returns that; nothing where the frame ends.
+    /// Reads leaves up to the next list or map, and returns that; nothing where the list or map ends.
     pub fn advance(&mut self, alloc: Global) -> Result<Option<Frame<'t, 'qs>>>
         ensures { Advances result self.old self.new }
     {
@@ -121,7 +121,7 @@ impl<'t, 'qs> Frame<'t, 'qs> {
         }
     }
 
-    /// Extends what the list or map that came last was read as.
+    /// Adds what the list or map that came last was read as.
     pub fn add(&mut self, value: Data) -> Result<()>
         ensures ok { OnOk result (Extends (data_of value) self.old self.new) }
         ensures err { IfErr result (λ e. e ≡ OutOfMemory) }
@@ -144,7 +144,7 @@ impl<'t, 'qs> Frame<'t, 'qs> {
 }
 
 impl Drop for ListFrame<'_, '_> {
-    // What is dropped after a fault may be nested deep.
+    // What is dropped after an error may be nested deep.
     fn drop(self) {
         for value in self.into_values() {
             value.discard();
@@ -192,7 +192,7 @@ impl<'t, 'qs> ListFrame<'t, 'qs> {
         Ok(None)
     }
 
-    // Extends one more value.
+    // Adds one more value.
     fn add(&mut self, value: Data) -> Result<()>
         ensures ok { OnOk result (Extends (data_of value) (frame.List self.old) (frame.List self.new)) }
         ensures err { IfErr result (λ e. e ≡ OutOfMemory) }
@@ -236,7 +236,7 @@ impl<'t, 'qs> MapFrame<'t, 'qs> {
         Ok(None)
     }
 
-    // Keeps the key of a list or map until that is read, and the place after it.
+    // Keeps the key of a list or map until that is read, and the index after it.
     fn keep_key(&mut self, next: usize, key: Data)
         ensures entries { self.new.entries ≡ self.old.entries }
         ensures next { self.new.next ≡ next }
@@ -247,7 +247,7 @@ impl<'t, 'qs> MapFrame<'t, 'qs> {
         self.key = key;
     }
 
-    // Extends the value of the key that waits.
+    // Adds the value of the key that was kept.
     fn add(&mut self, value: Data) -> Result<()>
         ensures ok { OnOk result (Extends (data_of value) (frame.Map self.old) (frame.Map self.new)) }
         ensures err { IfErr result (λ e. e ≡ OutOfMemory) }

@@ -1,4 +1,4 @@
-//! One node of a tree: what a shape reads from it, and what stands under a name in it.
+//! One node of a tree: what a shape reads from it, and what is found under a name in it.
 
 ghost use Rattle.qs_spec.specs.Node.{found};
 ghost use Rattle.qs_spec.specs.internal.ReadFunction.{read_by};
@@ -11,7 +11,7 @@ ghost use Rattle.qs_data.specs.read.Errors.{OnlyCustomUtf8OrOutOfMemory};
 ghost use Rattle.qs_data.specs.read.Found.{Finds};
 
 use crate::data::Data;
-use crate::read::by_shape::read;
+use crate::read::by_shape::{Reader, read};
 use crate::read::keys::{Entries, Found, find, test_keys};
 use crate::shape::Shape;
 use qs_tree::{Config, DuplicateKeyBehavior, ParsedMap, ParsedValue, Result};
@@ -36,7 +36,11 @@ pub fn read_value(
     ensures errors { OnlyCustomUtf8OrOutOfMemory result }
 {
     let reject_duplicates = config.get_duplicates() == DuplicateKeyBehavior::Error;
-    read(alloc, reject_duplicates, shape, node)
+    let reader = Reader {
+        alloc,
+        reject_duplicates,
+    };
+    read(reader, shape, node)
 }
 
 /// Looks up the value under a name, as a field of a struct is looked up: under the text, or under the integer that is written so.

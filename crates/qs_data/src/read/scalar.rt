@@ -15,6 +15,7 @@ ghost use Rattle.qs_data.specs.read.internal.SourceText.{source_text, utf8_text}
 ghost use Rattle.std.specs.Prelude.{map};
 
 use crate::data::Data;
+use crate::read::by_shape::Reader;
 use crate::read::error::{ReadError, Result};
 use crate::read::message::{Expected, Message, Unexpected};
 use crate::shape::Width;
@@ -38,56 +39,42 @@ pub(crate) fn read_unit(alloc: Global, value: &ParsedValue<'_>) -> Result<Data>
 }
 
 /// A boolean: the last text, and true where there is none.
-pub(crate) fn read_bool(
-    alloc: Global,
-    reject_duplicates: bool,
-    value: &ParsedValue<'_>,
-) -> Result<Data>
+pub(crate) fn read_bool(reader: Reader, value: &ParsedValue<'_>) -> Result<Data>
     ensures gives { ReadGives data_of (is_text (tree_of value.now)) result
-        (read_scalar reject_duplicates (Some (d.boolean true)) boolean_data (tree_of value.now)) }
-    ensures frugal { ReadIsFrugal result (read_scalar reject_duplicates (Some (d.boolean true)) boolean_data (tree_of value.now)) }
+        (read_scalar reader.reject_duplicates (Some (d.boolean true)) boolean_data (tree_of value.now)) }
+    ensures frugal { ReadIsFrugal result (read_scalar reader.reject_duplicates (Some (d.boolean true)) boolean_data (tree_of value.now)) }
 {
-    match source_text(alloc, reject_duplicates, value, Expected::Bool)? {
-        Some(bytes) => bool_data(alloc, bytes),
+    match source_text(reader, value, Expected::Bool)? {
+        Some(bytes) => bool_data(reader.alloc, bytes),
         None => Ok(Data::Bool(true)),
     }
 }
 
 /// An unsigned number: the last text.
 #[inline(always)]
-pub(crate) fn read_unsigned(
-    alloc: Global,
-    reject_duplicates: bool,
-    width: Width,
-    value: &ParsedValue<'_>,
-) -> Result<Data>
+pub(crate) fn read_unsigned(reader: Reader, width: Width, value: &ParsedValue<'_>) -> Result<Data>
     ensures gives { ReadGives data_of (is_text (tree_of value.now)) result
-        (read_scalar reject_duplicates None (unsigned_data (bits_of width)) (tree_of value.now)) }
-    ensures frugal { ReadIsFrugal result (read_scalar reject_duplicates None (unsigned_data (bits_of width)) (tree_of value.now)) }
+        (read_scalar reader.reject_duplicates None (unsigned_data (bits_of width)) (tree_of value.now)) }
+    ensures frugal { ReadIsFrugal result (read_scalar reader.reject_duplicates None (unsigned_data (bits_of width)) (tree_of value.now)) }
 {
     let expected = Expected::Unsigned(width);
-    match source_text(alloc, reject_duplicates, value, expected)? {
-        Some(bytes) => unsigned_data(alloc, width, bytes),
-        None => Err(Message::mismatch(alloc, value, expected)),
+    match source_text(reader, value, expected)? {
+        Some(bytes) => unsigned_data(reader.alloc, width, bytes),
+        None => Err(Message::mismatch(reader.alloc, value, expected)),
     }
 }
 
 /// A signed number: the last text.
 #[inline(always)]
-pub(crate) fn read_signed(
-    alloc: Global,
-    reject_duplicates: bool,
-    width: Width,
-    value: &ParsedValue<'_>,
-) -> Result<Data>
+pub(crate) fn read_signed(reader: Reader, width: Width, value: &ParsedValue<'_>) -> Result<Data>
     ensures gives { ReadGives data_of (is_text (tree_of value.now)) result
-        (read_scalar reject_duplicates None (signed_data (bits_of width)) (tree_of value.now)) }
-    ensures frugal { ReadIsFrugal result (read_scalar reject_duplicates None (signed_data (bits_of width)) (tree_of value.now)) }
+        (read_scalar reader.reject_duplicates None (signed_data (bits_of width)) (tree_of value.now)) }
+    ensures frugal { ReadIsFrugal result (read_scalar reader.reject_duplicates None (signed_data (bits_of width)) (tree_of value.now)) }
 {
     let expected = Expected::Signed(width);
-    match source_text(alloc, reject_duplicates, value, expected)? {
-        Some(bytes) => signed_data(alloc, width, bytes),
-        None => Err(Message::mismatch(alloc, value, expected)),
+    match source_text(reader, value, expected)? {
+        Some(bytes) => signed_data(reader.alloc, width, bytes),
+        None => Err(Message::mismatch(reader.alloc, value, expected)),
     }
 }
 
@@ -103,78 +90,65 @@ pub(crate) fn read_char(alloc: Global, value: &ParsedValue<'_>) -> Result<Data>
 }
 
 /// A text: the last one, and the empty one where there is none.
-pub(crate) fn read_text(
-    alloc: Global,
-    reject_duplicates: bool,
-    value: &ParsedValue<'_>,
-) -> Result<Data>
-    ensures { ReadGives data_of (is_text (tree_of value.now)) result (read_scalar reject_duplicates (Some (d.text [])) text_data (tree_of value.now)) }
+pub(crate) fn read_text(reader: Reader, value: &ParsedValue<'_>) -> Result<Data>
+    ensures { ReadGives data_of (is_text (tree_of value.now)) result (read_scalar reader.reject_duplicates (Some (d.text [])) text_data (tree_of value.now)) }
 {
-    match source_text(alloc, reject_duplicates, value, Expected::Text)? {
-        Some(bytes) => text_data(alloc, bytes),
-        None => Ok(Data::Text(String::new(alloc))),
+    match source_text(reader, value, Expected::Text)? {
+        Some(bytes) => text_data(reader.alloc, bytes),
+        None => Ok(Data::Text(String::new(reader.alloc))),
     }
 }
 
 /// Bytes: those of the last text, and none where there is none.
-pub(crate) fn read_bytes(
-    alloc: Global,
-    reject_duplicates: bool,
-    value: &ParsedValue<'_>,
-) -> Result<Data>
+pub(crate) fn read_bytes(reader: Reader, value: &ParsedValue<'_>) -> Result<Data>
     ensures { ReadGives data_of (is_text (tree_of value.now)) result
-        (read_scalar reject_duplicates (Some (d.bytes [])) (λ b. Some (d.bytes b)) (tree_of value.now)) }
+        (read_scalar reader.reject_duplicates (Some (d.bytes [])) (λ b. Some (d.bytes b)) (tree_of value.now)) }
 {
-    match source_text(alloc, reject_duplicates, value, Expected::Bytes)? {
-        Some(bytes) => Ok(Data::Bytes(Vec::from_slice(alloc, bytes)?)),
-        None => Ok(Data::Bytes(Vec::new(alloc))),
+    match source_text(reader, value, Expected::Bytes)? {
+        Some(bytes) => Ok(Data::Bytes(Vec::from_slice(reader.alloc, bytes)?)),
+        None => Ok(Data::Bytes(Vec::new(reader.alloc))),
     }
 }
 
 // The last text of a node, if it has one; none where there is no value or an empty one.
 #[inline(always)]
 fn source_text<'t>(
-    alloc: Global,
-    reject_duplicates: bool,
+    reader: Reader,
     value: &'t ParsedValue<'_>,
     expected: Expected,
 ) -> Result<Option<&'t [u8]>>
-    ensures gives { ReadGives (option_map (λ b. b.now)) true result (source_text reject_duplicates (tree_of value.now)) }
-    ensures frugal { ReadIsFrugal result (source_text reject_duplicates (tree_of value.now)) }
+    ensures gives { ReadGives (option_map (λ b. b.now)) true result (source_text reader.reject_duplicates (tree_of value.now)) }
+    ensures frugal { ReadIsFrugal result (source_text reader.reject_duplicates (tree_of value.now)) }
 {
     match value {
         ParsedValue::NoValue | ParsedValue::Null => Ok(None),
         ParsedValue::String(text) => Ok(Some(text.as_slice())),
-        ParsedValue::Sequence(items) => Ok(Some(last_text(
-            alloc,
-            reject_duplicates,
-            items,
-            expected,
-        )?)),
+        ParsedValue::Sequence(items) => Ok(Some(last_text(reader, items, expected)?)),
         ParsedValue::Map(_) | ParsedValue::Uninitialized => Err(Message::mismatch(
-            alloc, value, expected,
+            reader.alloc,
+            value,
+            expected,
         )),
     }
 }
 
 // The text of the last item; several items are rejected under `reject_duplicates`.
 fn last_text<'t>(
-    alloc: Global,
-    reject_duplicates: bool,
+    reader: Reader,
     items: &'t [ParsedValue<'_>],
     expected: Expected,
 ) -> Result<&'t [u8]>
-    ensures gives { ReadGives (λ b. b.now) true result (last_item reject_duplicates (items_from (map tree_of items.now))) }
-    ensures frugal { ReadIsFrugal result (last_item reject_duplicates (items_from (map tree_of items.now))) }
+    ensures gives { ReadGives (λ b. b.now) true result (last_item reader.reject_duplicates (items_from (map tree_of items.now))) }
+    ensures frugal { ReadIsFrugal result (last_item reader.reject_duplicates (items_from (map tree_of items.now))) }
 {
     let Some(last) = items.last() else {
         let found = Unexpected::Sequence;
-        return Err(Message::InvalidType { found, expected }.error(alloc));
+        return Err(Message::InvalidType { found, expected }.error(reader.alloc));
     };
-    if reject_duplicates && items.len() > 1 {
-        return Err(Message::SeveralValues.error(alloc));
+    if reader.reject_duplicates && items.len() > 1 {
+        return Err(Message::SeveralValues.error(reader.alloc));
     }
-    item_text(alloc, last, expected)
+    item_text(reader.alloc, last, expected)
 }
 
 // The text of an item, which is empty where there is no value or an empty one.
@@ -201,7 +175,7 @@ pub(crate) fn as_text(bytes: &[u8]) -> Result<&str>
     }
 }
 
-/// The boolean that a text stands for.
+/// Parses a boolean.
 pub(crate) fn bool_data(alloc: Global, bytes: &[u8]) -> Result<Data>
     ensures gives { ReadGives data_of (is_utf8 bytes.now) result (boolean_data bytes.now) }
     ensures frugal { ReadIsFrugal result (boolean_data bytes.now) }
@@ -212,7 +186,7 @@ pub(crate) fn bool_data(alloc: Global, bytes: &[u8]) -> Result<Data>
     }
 }
 
-/// The unsigned number that a text stands for: digits, and a `+` before them or none.
+/// Parses an unsigned number: digits, and a `+` before them or none.
 #[inline(always)]
 pub(crate) fn unsigned_data(alloc: Global, width: Width, bytes: &[u8]) -> Result<Data>
     ensures gives { ReadGives data_of (is_utf8 bytes.now) result (unsigned_data (bits_of width) bytes.now) }
@@ -224,7 +198,7 @@ pub(crate) fn unsigned_data(alloc: Global, width: Width, bytes: &[u8]) -> Result
     }
 }
 
-/// The signed number that a text stands for: digits, and a `+` or a `-` before them or none.
+/// Parses a signed number: digits, and a `+` or a `-` before them or none.
 #[inline(always)]
 pub(crate) fn signed_data(alloc: Global, width: Width, bytes: &[u8]) -> Result<Data>
     ensures gives { ReadGives data_of (is_utf8 bytes.now) result (signed_data (bits_of width) bytes.now) }

@@ -16,7 +16,7 @@ ghost use Rattle.qs_data.specs.read.internal.Keys.{unknown_of};
 ghost use Rattle.qs_data.specs.shape.Variants.{variant_named};
 
 use crate::data::Data;
-use crate::read::by_shape::read_node;
+use crate::read::by_shape::{Reader, read_node};
 use crate::read::error::Result;
 use crate::read::fields::{read_entries, read_struct};
 use crate::read::keys::Entries;
@@ -33,18 +33,17 @@ use std::alloc::Global;
 #[cycle(read)]
 #[tactic(auto, unfolding(qs_spec::specs::internal::ReadFunction::read_enum))]
 pub(crate) fn read_enum(
-    alloc: Global,
-    reject_duplicates: bool,
+    reader: Reader,
     variants: &Vec<Variant>,
     value: &ParsedValue<'_>,
 ) -> Result<Data>
     ensures { let vs = variants_in variants.now.items in
-        ReadGives data_of (is_text (tree_of value.now)) result (read_enum vs (reads_variant reject_duplicates vs) (tree_of value.now)) }
+        ReadGives data_of (is_text (tree_of value.now)) result (read_enum vs (reads_variant reader.reject_duplicates vs) (tree_of value.now)) }
 {
     match value {
-        ParsedValue::String(text) => read_name(alloc, variants, text.as_slice()),
-        ParsedValue::Map(map) => read_least(alloc, reject_duplicates, variants, map),
-        _ => Err(Message::mismatch(alloc, value, Expected::Enum)),
+        ParsedValue::String(text) => read_name(reader.alloc, variants, text.as_slice()),
+        ParsedValue::Map(map) => read_least(reader, variants, map),
+        _ => Err(Message::mismatch(reader.alloc, value, Expected::Enum)),
     }
 }
 
@@ -68,25 +67,20 @@ fn read_name(alloc: Global, variants: &[Variant], name: &[u8]) -> Result<Data>
 // The variant that the smallest key of a map names, of the value there. The other keys are passed over.
 #[cycle(read)]
 #[tactic(auto, unfolding(qs_spec::specs::internal::ReadFunction::read_enum))]
-fn read_least(
-    alloc: Global,
-    reject_duplicates: bool,
-    variants: &Vec<Variant>,
-    map: &ParsedMap<'_>,
-) -> Result<Data>
+fn read_least(reader: Reader, variants: &Vec<Variant>, map: &ParsedMap<'_>) -> Result<Data>
     ensures { let vs = variants_in variants.now.items in let es = entries_of_map map.now in
-        ReadGives data_of (entries_are_text es) result (read_enum vs (reads_variant reject_duplicates vs) (mapping es)) }
+        ReadGives data_of (entries_are_text es) result (read_enum vs (reads_variant reader.reject_duplicates vs) (mapping es)) }
 {
     let Some((key, value)) = map.at(0) else {
         let found = Unexpected::Map;
         let expected = Expected::Enum;
-        return Err(Message::InvalidType { found, expected }.error(alloc));
+        return Err(Message::InvalidType { found, expected }.error(reader.alloc));
     };
-    let place = place_of_key(alloc, variants, key)?;
-    read_variant(alloc, reject_duplicates, &variants[place], value)
+    let place = place_of_key(reader.alloc, variants, key)?;
+    read_variant(reader, &variants[place], value)
 }
 
-// The place of the variant that a key names.
+// The index of the variant that a key names.
 fn place_of_key(alloc: Global, variants: &[Variant], key: &Key<'_>) -> Result<usize>
     ensures place { IfOk result (λ i. i < length variants.now) }
     ensures named { let name = segment_text (segment_of_key key.now) in
@@ -102,7 +96,7 @@ fn place_of_key(alloc: Global, variants: &[Variant], key: &Key<'_>) -> Result<us
     }
 }
 
-// The place of the variant of a name.
+// The index of the variant of a name.
 fn place_of(alloc: Global, variants: &[Variant], name: &[u8]) -> Result<usize>
     ensures place { IfOk result (λ i. i < length variants.now) }
     ensures named { ReadGives (λ i. option_map variant_of (slice_get variants.now i)) (is_utf8 name.now) result
@@ -119,43 +113,30 @@ fn place_of(alloc: Global, variants: &[Variant], name: &[u8]) -> Result<usize>
 // What a variant holds, of the value under its name.
 #[cycle(read)]
 #[tactic(auto, using(crate::proofs::lemmas::data::Levels::levels), unfolding(qs_spec::specs::internal::ReadFunction::reads))]
-fn read_variant(
-    alloc: Global,
-    reject_duplicates: bool,
-    variant: &Variant,
-    value: &ParsedValue<'_>,
-) -> Result<Data>
+fn read_variant(reader: Reader, variant: &Variant, value: &ParsedValue<'_>) -> Result<Data>
     ensures { let v = variant_of variant.now in
-        ReadGives data_of (is_text (tree_of value.now)) result (reads_kind reject_duplicates v.1 v.0 (tree_of value.now)) }
+        ReadGives data_of (is_text (tree_of value.now)) result (reads_kind reader.reject_duplicates v.1 v.0 (tree_of value.now)) }
 {
     let name = variant.name.clone()?;
     match &variant.kind {
         VariantKind::Unit => Ok(Data::UnitVariant(name)),
         VariantKind::Newtype(part) => {
-            let held = read_node(alloc, reject_duplicates, part, value)?;
-            Ok(Data::NewtypeVariant(name, Box::new(alloc, held)?))
+            let held = read_node(reader, part, value)?;
+            Ok(Data::NewtypeVariant(name, Box::new(reader.alloc, held)?))
         }
         VariantKind::Tuple(parts) => {
-            let items = read_tuple(
-                alloc,
-                reject_duplicates,
-                parts,
-                value,
-                Expected::TupleVariant,
-            )?;
+            let items = read_tuple(reader, parts, value, Expected::TupleVariant)?;
             Ok(Data::TupleVariant(name, items))
         }
         VariantKind::Struct(fields) => struct_variant_data(
-            alloc,
-            reject_duplicates,
+            reader,
             UnknownKeys::Ignored,
             name,
             fields,
             value,
         ),
         VariantKind::StrictStruct(fields) => struct_variant_data(
-            alloc,
-            reject_duplicates,
+            reader,
             UnknownKeys::Rejected,
             name,
             fields,
@@ -164,21 +145,21 @@ fn read_variant(
     }
 }
 
+// Reads the fields of a struct variant of this name.
 #[cycle(read)]
 #[inline(always)]
 #[tactic(auto, using(crate::proofs::lemmas::data::Levels::levels), unfolding(qs_spec::specs::internal::ReadFunction::reads))]
 fn struct_variant_data(
-    alloc: Global,
-    reject_duplicates: bool,
+    reader: Reader,
     unknown: UnknownKeys,
     name: String,
     fields: &Vec<Field>,
     value: &ParsedValue<'_>,
 ) -> Result<Data>
     ensures { ReadGives data_of (is_text (tree_of value.now)) result
-        (reads_kind reject_duplicates (struct_kind (unknown_of unknown) (fields_in fields.now.items)) (string_bytes name) (tree_of value.now)) }
+        (reads_kind reader.reject_duplicates (struct_kind (unknown_of unknown) (fields_in fields.now.items)) (string_bytes name) (tree_of value.now)) }
 {
-    let members = read_variant_fields(alloc, reject_duplicates, unknown, fields, value)?;
+    let members = read_variant_fields(reader, unknown, fields, value)?;
     Ok(Data::StructVariant(name, members))
 }
 
@@ -186,24 +167,17 @@ fn struct_variant_data(
 #[cycle(read)]
 #[tactic(auto, unfolding(qs_spec::specs::internal::ReadFunction::struct_members))]
 fn read_variant_fields(
-    alloc: Global,
-    reject_duplicates: bool,
+    reader: Reader,
     unknown: UnknownKeys,
     fields: &Vec<Field>,
     value: &ParsedValue<'_>,
 ) -> Result<Vec<(String, Data)>>
     ensures { let fs = fields_in fields.now.items in
         ReadGives (λ v. map (named data_of) v.items) (is_text (tree_of value.now)) result
-        (struct_members (keys_are_allowed (unknown_of unknown) fs) (reads_names reject_duplicates fs) (reads_places reject_duplicates fs) (as_map (tree_of value.now))) }
+        (struct_members (keys_are_allowed (unknown_of unknown) fs) (reads_names reader.reject_duplicates fs) (reads_places reader.reject_duplicates fs) (as_map (tree_of value.now))) }
 {
     match value {
-        ParsedValue::String(_) => read_entries(
-            alloc,
-            reject_duplicates,
-            unknown,
-            fields,
-            Entries::Leaf(value),
-        ),
-        _ => read_struct(alloc, reject_duplicates, unknown, fields, value),
+        ParsedValue::String(_) => read_entries(reader, unknown, fields, Entries::Leaf(value)),
+        _ => read_struct(reader, unknown, fields, value),
     }
 }

@@ -29,6 +29,7 @@ impl Shape {
     }
 }
 
+// Whether names differ in each shape.
 #[cycle(distinct)]
 fn are_distinct(shapes: &Vec<Shape>) -> bool
     ensures { result ≡ are_distinct (shapes_in shapes.now.items) }
@@ -41,6 +42,7 @@ fn are_distinct(shapes: &Vec<Shape>) -> bool
     true
 }
 
+// Whether the names of fields differ, and those in the shape of each.
 #[cycle(distinct)]
 fn is_distinct_struct(fields: &Vec<Field>) -> bool
     ensures { result ≡ (field_names_differ (fields_in fields.now.items) && are_distinct_fields (fields_in fields.now.items)) }
@@ -48,6 +50,7 @@ fn is_distinct_struct(fields: &Vec<Field>) -> bool
     field_names_differ(fields) && are_distinct_fields(fields)
 }
 
+// Whether names differ in the shape of each field.
 #[cycle(distinct)]
 fn are_distinct_fields(fields: &Vec<Field>) -> bool
     ensures { result ≡ are_distinct_fields (fields_in fields.now.items) }
@@ -60,6 +63,7 @@ fn are_distinct_fields(fields: &Vec<Field>) -> bool
     true
 }
 
+// Whether names differ in what each variant holds.
 #[cycle(distinct)]
 fn are_distinct_variants(variants: &Vec<Variant>) -> bool
     ensures { result ≡ are_distinct_variants (variants_in variants.now.items) }
@@ -72,6 +76,7 @@ fn are_distinct_variants(variants: &Vec<Variant>) -> bool
     true
 }
 
+// Whether names differ in what a variant holds.
 #[cycle(distinct)]
 fn is_distinct_kind(kind: &VariantKind) -> bool
     ensures { result ≡ is_distinct_kind (kind_of kind.now) }
@@ -86,6 +91,7 @@ fn is_distinct_kind(kind: &VariantKind) -> bool
     }
 }
 
+// Whether names differ in the shape of a key.
 fn is_distinct_key(key: &KeyShape) -> bool
     ensures { result ≡ is_distinct_key (key_shape_of key.now) }
 {
@@ -95,6 +101,7 @@ fn is_distinct_key(key: &KeyShape) -> bool
     }
 }
 
+// Whether the names of fields differ.
 fn field_names_differ(fields: &[Field]) -> bool
     ensures { result ≡ field_names_differ (fields_in fields.now) }
 {
@@ -118,6 +125,7 @@ pub(crate) fn is_field_name(fields: &[Field], name: &[u8]) -> bool
     false
 }
 
+// Whether the names of variants differ.
 fn variant_names_differ(variants: &[Variant]) -> bool
     ensures { result ≡ variant_names_differ (variants_in variants.now) }
 {
@@ -129,6 +137,7 @@ fn variant_names_differ(variants: &[Variant]) -> bool
     true
 }
 
+// Whether one of the variants has this name.
 fn is_variant_name(variants: &[Variant], name: &str) -> bool
     ensures { result ≡ is_variant_name name.now (variants_in variants.now) }
 {
@@ -140,6 +149,7 @@ fn is_variant_name(variants: &[Variant], name: &str) -> bool
     false
 }
 
+// Whether names differ.
 fn names_differ(names: &[String]) -> bool
     ensures { result ≡ names_differ (map string_bytes names.now) }
 {
@@ -151,7 +161,8 @@ fn names_differ(names: &[String]) -> bool
     true
 }
 
-fn is_name(names: &[String], name: &str) -> bool
+/// Whether a name is one of these.
+pub(crate) fn is_name(names: &[String], name: &str) -> bool
     ensures { result ≡ list_any (bytes_eq name.now) (map string_bytes names.now) }
 {
     for other in names {

@@ -17,7 +17,7 @@ use crate::shape::fits::scalar::{
 use crate::shape::{Field, KeyShape, Shape, Variant, VariantKind, Width};
 
 impl Shape {
-    /// Whether the data are such as this shape reads: the same kinds at each place.
+    /// Whether the data are such as this shape reads: the same kinds in each position.
     ///
     /// Numbers lie in their width, an `Unsigned` in that of an unsigned shape and a `Signed` in that of a signed one. Variants and
     /// keys are of the shape. A tuple has the shape's length. The fields of a struct, and of a struct variant, are fields of the
@@ -28,7 +28,7 @@ impl Shape {
     ///
     /// ```
     /// if !shape.fits(&data) {
-    ///     return Err(Refused::OtherKind);
+    ///     return Err(Rejected::OtherKind);
     /// }
     /// ```
     pub fn fits(&self, datum: &Data) -> bool
@@ -38,6 +38,7 @@ impl Shape {
     }
 }
 
+// Whether data fit a shape.
 #[cycle(fits)]
 fn fits(shape: &Shape, datum: &Data) -> bool
     ensures { result ≡ fits (shape_of shape.now) (data_of datum.now) }
@@ -67,6 +68,7 @@ fn fits(shape: &Shape, datum: &Data) -> bool
     }
 }
 
+// Whether data fit an option.
 #[cycle(fits)]
 fn fits_option(part: &Shape, datum: &Data) -> bool
     ensures { result ≡ fits (s.Shape.option (shape_of part.now)) (data_of datum.now) }
@@ -78,6 +80,7 @@ fn fits_option(part: &Shape, datum: &Data) -> bool
     }
 }
 
+// Whether data fit a value in a type of its own.
 #[cycle(fits)]
 fn fits_newtype(part: &Shape, datum: &Data) -> bool
     ensures { result ≡ fits (s.Shape.newtype (shape_of part.now)) (data_of datum.now) }
@@ -88,6 +91,7 @@ fn fits_newtype(part: &Shape, datum: &Data) -> bool
     }
 }
 
+// Whether data fit a list.
 #[cycle(fits)]
 fn fits_seq(part: &Shape, datum: &Data) -> bool
     ensures { result ≡ fits (s.Shape.sequence (shape_of part.now)) (data_of datum.now) }
@@ -98,6 +102,7 @@ fn fits_seq(part: &Shape, datum: &Data) -> bool
     }
 }
 
+// Whether each item fits a shape.
 #[cycle(fits)]
 fn each_fits(part: &Shape, items: &Vec<Data>) -> bool
     ensures { result ≡ each_fits (shape_of part.now) (values_in items.now.items) }
@@ -110,6 +115,7 @@ fn each_fits(part: &Shape, items: &Vec<Data>) -> bool
     true
 }
 
+// Whether data fit a tuple.
 #[cycle(fits)]
 fn fits_tuple(parts: &Vec<Shape>, datum: &Data) -> bool
     ensures { result ≡ fits (s.Shape.tuple (shapes_in parts.now.items)) (data_of datum.now) }
@@ -136,6 +142,7 @@ fn fits_items(parts: &Vec<Shape>, items: &Vec<Data>) -> bool
     items[parts.len()..].is_empty()
 }
 
+// Whether data fit a map.
 #[cycle(fits)]
 fn fits_map(key: &KeyShape, part: &Shape, datum: &Data) -> bool
     ensures { result ≡ fits (s.Shape.mapping (key_shape_of key.now) (shape_of part.now)) (data_of datum.now) }
@@ -146,6 +153,7 @@ fn fits_map(key: &KeyShape, part: &Shape, datum: &Data) -> bool
     }
 }
 
+// Whether each key and each value fits.
 #[cycle(fits)]
 fn fits_pairs(key: &KeyShape, part: &Shape, pairs: &Vec<(Data, Data)>) -> bool
     ensures { result ≡ fits_pairs (key_shape_of key.now) (shape_of part.now) (pairs_in pairs.now.items) }
@@ -158,6 +166,7 @@ fn fits_pairs(key: &KeyShape, part: &Shape, pairs: &Vec<(Data, Data)>) -> bool
     true
 }
 
+// Whether data fit a struct.
 #[cycle(fits)]
 #[tactic(auto, using(crate::proofs::lemmas::data::Levels::levels))]
 fn fits_struct(fields: &Vec<Field>, datum: &Data) -> bool
@@ -212,6 +221,7 @@ fn is_next(members: &[(String, Data)], name: &str) -> bool
     }
 }
 
+// Whether data fit an enum.
 #[cycle(fits)]
 #[tactic(auto, using(crate::proofs::lemmas::data::Levels::levels))]
 fn fits_enum(variants: &Vec<Variant>, datum: &Data) -> bool
@@ -240,6 +250,7 @@ fn fits_named(variants: &Vec<Variant>, name: &str, datum: &Data) -> bool
     false
 }
 
+// Whether data are a variant of this kind, and what they hold fits.
 #[cycle(fits)]
 fn fits_kind(kind: &VariantKind, datum: &Data) -> bool
     ensures { result ≡ fits_variant (Some (view.kind_of kind.now)) (data_of datum.now) }
@@ -254,12 +265,14 @@ fn fits_kind(kind: &VariantKind, datum: &Data) -> bool
     }
 }
 
+// Whether data are a variant that holds nothing.
 fn is_unit_variant(datum: &Data) -> bool
     ensures { result ≡ fits_variant (Some s.unit_kind) (data_of datum.now) }
 {
     matches!(datum, Data::UnitVariant(_))
 }
 
+// Whether data are a variant with a value that fits.
 #[cycle(fits)]
 fn fits_newtype_variant(part: &Shape, datum: &Data) -> bool
     ensures { result ≡ fits_variant (Some (s.newtype_kind (shape_of part.now))) (data_of datum.now) }
@@ -270,6 +283,7 @@ fn fits_newtype_variant(part: &Shape, datum: &Data) -> bool
     }
 }
 
+// Whether data are a variant with items that fit.
 #[cycle(fits)]
 fn fits_tuple_variant(parts: &Vec<Shape>, datum: &Data) -> bool
     ensures { result ≡ fits_variant (Some (s.tuple_kind (shapes_in parts.now.items))) (data_of datum.now) }
@@ -280,6 +294,7 @@ fn fits_tuple_variant(parts: &Vec<Shape>, datum: &Data) -> bool
     }
 }
 
+// Whether data are a variant with fields that fit.
 #[cycle(fits)]
 #[tactic(auto, using(crate::proofs::lemmas::data::Levels::levels))]
 fn fits_struct_variant(fields: &Vec<Field>, datum: &Data) -> bool

@@ -1,4 +1,4 @@
-//! The serializer: what is written stands until the first error, and nothing is written after it.
+//! The serializer: it writes value after value until the first error, and nothing after it.
 
 ghost use Rattle.std.specs.Prelude.{◌≡◌, ℕ, ◌<◌, ◌↔◌, true, false, not, List, length, take, Some, None, OnOk, is_ok};
 ghost use Rattle.std.specs.List.{All};
@@ -44,8 +44,8 @@ impl<S: Sink> Model for Serializer<S> {
 }
 
 impl<W: Write + Drop> Serializer<ByWrite<W>> {
-    /// A serializer that writes to this writer, one `write` for each put. Nothing is written yet, and no memory
-    /// is taken.
+    /// A serializer that writes to this writer, one `write` for each put. Nothing is written yet, and nothing is
+    /// allocated.
     pub fn new(writer: W, config: Config) -> Serializer<ByWrite<W>>
         ensures config { result.config ≡ config }
         ensures writer { result.sink.writer ≡ writer }
@@ -94,17 +94,17 @@ impl<S: Sink> Serializer<S> {
 
     /// Writes the entries of the data after what was written before.
     ///
-    /// An entry stands for each scalar in the data, under the names, keys and places that lead to it; `&` stands
-    /// before each that has a key, but the first. What is written holds only bytes from 0x21 to 0x7E.
+    /// Each scalar in the data is one entry, under the names, keys and indexes that lead to it; `&` precedes
+    /// each that has a key, but the first. What is written holds only bytes from 0x21 to 0x7E.
     ///
     /// The walk stops at the first error:
     /// - [`Failed`](Error::Failed): an earlier call returned an error. Nothing is written.
     /// - [`MaxSerializationDepthExceeded`](Error::MaxSerializationDepthExceeded): a path is longer than the
     ///   configuration's `max_depth` allows; [`Unsupported`](Error::Unsupported): a map's key is no scalar, which is
-    ///   reported whatever the depth. The entries before it stand.
+    ///   reported whatever the depth. The entries before it are written.
     /// - [`Io`](Error::Io): the sink failed in this call: a put took nothing, was interrupted or failed. It is not
-    ///   repeated. A proper beginning of the text stands.
-    /// - [`OutOfMemory`](Error::OutOfMemory): an allocation failed. Some first entries stand, each whole: an entry is
+    ///   repeated. A proper beginning of the text is written.
+    /// - [`OutOfMemory`](Error::OutOfMemory): an allocation failed. Some first entries are written, each whole: an entry is
     ///   made before its first byte is put.
     ///
     /// It allocates for the path and for the longest entry, and not at all for `Unit` or `None` alone (also within

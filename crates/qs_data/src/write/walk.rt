@@ -95,7 +95,7 @@ fn write_elements<'a, S: Sink>(
     Ok(())
 }
 
-/// Writes the element with this place in its list.
+/// Writes the element at this index of its list.
 #[cycle(write)]
 fn write_element<'a, S: Sink>(
     stream: &mut Stream<S>,

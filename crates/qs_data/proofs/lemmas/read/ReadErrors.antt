@@ -51,7 +51,7 @@ custom t (Custom m) r h n = n
 custom t (Utf8 c) r h n = absurd h
 custom t OutOfMemory r h n = tt
 
--- an error that says something of a tree is a custom
+-- an error with a message is `Custom`, or an allocation failed
 says : (e : ReadError) (text : Option (List ℕ)) → IsCustomSaying (error_of e) text → ReadIsCustom e
 says (Custom m) text h = tt
 says (Utf8 c) text h = h

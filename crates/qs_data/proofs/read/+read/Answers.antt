@@ -44,20 +44,20 @@ fields::read_entries-returns-in-Err t c =
     let bad : keys_are_text es ≡ false = c.in-Err.ensures.text in
     let u = unknown_of c.args.unknown in
     let fs = fields_in c.args.fields.now.items in
-    let none = untested (keys_are_allowed u fs es) (reads_names c.args.reject_duplicates fs es) (and_left (keys_are_text es) (keys_are_names fs es || are_ignored u) bad) in
+    let none = untested (keys_are_allowed u fs es) (reads_names c.args.reader.reject_duplicates fs es) (and_left (keys_are_text es) (keys_are_names fs es || are_ignored u) bad) in
     key_error (entries_are_text es) c.in-Err.key.text.now (Utf8 c.in-Err.key.cause) c.error.result _ c.error.ensures (none, keys_bad es bad)
 
-pub fields::read_field-returns-in_err-by_shape::read_node-in-One : goal.fields::read_field-returns-in_err-by_shape::read_node-in-One
-fields::read_field-returns-in_err-by_shape::read_node-in-One t c =
+pub fields::read_field-returns-in_err-read_node-in-One : goal.fields::read_field-returns-in_err-read_node-in-One
+fields::read_field-returns-in_err-read_node-in-One t c =
     let d = c.args.field.now in
     let f = field_of d in
     let es = entries_of c.args.entries in
     let n = tree_of c.in-One.value.now in
-    let r = reads c.args.reject_duplicates (shape_of (out-Field d).shape) in
+    let r = reads c.args.reader.reject_duplicates (shape_of (out-Field d).shape) in
     let one : found f.0 es ≡ n ∷ [] = ap (λ name. found name es) (field_name d ∙ sym c.deref.ensures) ∙ c.in-One.ensures in
-    let given = gives_exit (option_map data_of) (is_text n) (entries_are_text es) c.from_residual.result c.in_err-by_shape::read_node-in-One.field-0.0 (r n) (read_field f.2 (is_option_shape f.1) r (found f.0 es))
-    c.from_residual.ensures.1 c.in_err-by_shape::read_node-in-One.ensures.gives (field_none f.2 (is_option_shape f.1) r (found f.0 es) n one) (found_bad f.0 es n [] one) in
-    subst (λ s. ReadGives (option_map data_of) (entries_are_text es) c.from_residual.result (read_field f.2 (is_option_shape f.1) (reads c.args.reject_duplicates s) (found f.0 es))) (sym (field_shape d)) given
+    let given = gives_exit (option_map data_of) (is_text n) (entries_are_text es) c.from_residual.result c.in_err-read_node-in-One.field-0.0 (r n) (read_field f.2 (is_option_shape f.1) r (found f.0 es))
+    c.from_residual.ensures.1 c.in_err-read_node-in-One.ensures.gives (field_none f.2 (is_option_shape f.1) r (found f.0 es) n one) (found_bad f.0 es n [] one) in
+    subst (λ s. ReadGives (option_map data_of) (entries_are_text es) c.from_residual.result (read_field f.2 (is_option_shape f.1) (reads c.args.reader.reject_duplicates s) (found f.0 es))) (sym (field_shape d)) given
 
 pub fields::read_names-loop-field-preserved : goal.fields::read_names-loop-field-preserved
 fields::read_names-loop-field-preserved t c =
@@ -68,17 +68,17 @@ fields::read_names-loop-field-preserved t c =
     let ws = map (named data_of) l.members.items in
     let x = c.in-Some.value in
     let m = c.in_ok-name.name in
-    let rest = reads_names c.args.reject_duplicates (fields_in (drop (l.field-index + 1) fs)) es in
+    let rest = reads_names c.args.reader.reject_duplicates (fields_in (drop (l.field-index + 1) fs)) es in
     let got = c.in_ok-value.ensures ∙ ap (λ o. Some (option_map data_of o)) c.in-Some.is in
-    let turn = names_more c.args.reject_duplicates fs l.field-index d es ws (omega arith) c.field-item.is (Some (data_of x)) got in
+    let turn = names_more c.args.reader.reject_duplicates fs l.field-index d es ws (omega arith) c.field-item.is (Some (data_of x)) got in
     let copied : string_bytes m ≡ string_bytes (out-Field d).name = c.in_ok-name.ensures.cases in
     let name : (field_of d).0 ≡ string_bytes m = field_name d ∙ sym copied in
     let pushed : map (named data_of) c.push.new.self.items ≡ ws ++ (string_bytes m, data_of x) ∷ [] = grind (arith, common_steps) in
     l.invariant ∙ turn ∙ before-front ws ((field_of d).0, data_of x) rest
     ∙ ap (λ b. before (ws ++ (b, data_of x) ∷ []) rest) name ∙ ap (λ ys. before ys rest) (sym pushed)
 
-pub fields::read_place-returns-in_err-by_shape::read_node-in-Some : goal.fields::read_place-returns-in_err-by_shape::read_node-in-Some
-fields::read_place-returns-in_err-by_shape::read_node-in-Some t c =
+pub fields::read_place-returns-in_err-read_node-in-Some : goal.fields::read_place-returns-in_err-read_node-in-Some
+fields::read_place-returns-in_err-read_node-in-Some t c =
     let d = c.args.field.now in
     let f = field_of d in
     let ts = c.args.items.now in
@@ -86,14 +86,14 @@ fields::read_place-returns-in_err-by_shape::read_node-in-Some t c =
     let n = c.in-Some.item.now in
     let look = c.in-Some.ensures.lookup in
     let xs = items_from (map tree_of (drop i ts)) in
-    let r = reads c.args.reject_duplicates (shape_of (out-Field d).shape) in
+    let r = reads c.args.reader.reject_duplicates (shape_of (out-Field d).shape) in
     let here = item_at ts i n look.3.0 look.1 in
-    let given = gives_exit (option_map data_of) (is_text (tree_of n)) (items_are_text (items_from (map tree_of ts))) c.from_residual.result c.in_err-by_shape::read_node-in-Some.field-0.0 (r (tree_of n)) (read_place f.2 r xs)
-    c.from_residual.ensures.1 c.in_err-by_shape::read_node-in-Some.ensures.gives (λ e. place_some f.2 r xs _ (tree_of n) here ∙ ap (option_map Some) e) (item_bad ts i n look.3.0 look.1) in
-    subst (λ s. ReadGives (option_map data_of) (items_are_text (items_from (map tree_of ts))) c.from_residual.result (read_place f.2 (reads c.args.reject_duplicates s) xs)) (sym (field_shape d)) given
+    let given = gives_exit (option_map data_of) (is_text (tree_of n)) (items_are_text (items_from (map tree_of ts))) c.from_residual.result c.in_err-read_node-in-Some.field-0.0 (r (tree_of n)) (read_place f.2 r xs)
+    c.from_residual.ensures.1 c.in_err-read_node-in-Some.ensures.gives (λ e. place_some f.2 r xs _ (tree_of n) here ∙ ap (option_map Some) e) (item_bad ts i n look.3.0 look.1) in
+    subst (λ s. ReadGives (option_map data_of) (items_are_text (items_from (map tree_of ts))) c.from_residual.result (read_place f.2 (reads c.args.reader.reject_duplicates s) xs)) (sym (field_shape d)) given
 
-pub fields::read_place-returns-in_ok-by_shape::read_node-in-Some : goal.fields::read_place-returns-in_ok-by_shape::read_node-in-Some
-fields::read_place-returns-in_ok-by_shape::read_node-in-Some t c =
+pub fields::read_place-returns-in_ok-read_node-in-Some : goal.fields::read_place-returns-in_ok-read_node-in-Some
+fields::read_place-returns-in_ok-read_node-in-Some t c =
     let d = c.args.field.now in
     let f = field_of d in
     let ts = c.args.items.now in
@@ -101,9 +101,9 @@ fields::read_place-returns-in_ok-by_shape::read_node-in-Some t c =
     let n = c.in-Some.item.now in
     let look = c.in-Some.ensures.lookup in
     let xs = items_from (map tree_of (drop i ts)) in
-    ap (λ s. read_place f.2 (reads c.args.reject_duplicates s) xs) (field_shape d)
-    ∙ place_some f.2 (reads c.args.reject_duplicates (shape_of (out-Field d).shape)) xs _ (tree_of n) (item_at ts i n look.3.0 look.1)
-    ∙ ap (option_map Some) c.in_ok-by_shape::read_node-in-Some.ensures.gives
+    ap (λ s. read_place f.2 (reads c.args.reader.reject_duplicates s) xs) (field_shape d)
+    ∙ place_some f.2 (reads c.args.reader.reject_duplicates (shape_of (out-Field d).shape)) xs _ (tree_of n) (item_at ts i n look.3.0 look.1)
+    ∙ ap (option_map Some) c.in_ok-read_node-in-Some.ensures.gives
 
 pub fields::read_place-returns-then-field : goal.fields::read_place-returns-then-field
 fields::read_place-returns-then-field t c =
@@ -111,7 +111,7 @@ fields::read_place-returns-then-field t c =
     let f = field_of d in
     let none = no_item_at c.args.items.now c.args.place c.in-None.ensures.lookup.3 in
     let o : f.2 ≡ true = field_optional d ∙ c.if-field.true in
-    ap (read_place f.2 (reads c.args.reject_duplicates f.1)) none ∙ ap (λ b. read_place b (reads c.args.reject_duplicates f.1) no_items) o
+    ap (read_place f.2 (reads c.args.reader.reject_duplicates f.1)) none ∙ ap (λ b. read_place b (reads c.args.reader.reject_duplicates f.1) no_items) o
 
 pub fields::read_place-returns-else-field : goal.fields::read_place-returns-else-field
 fields::read_place-returns-else-field t c =
@@ -120,7 +120,7 @@ fields::read_place-returns-else-field t c =
     let none = no_item_at c.args.items.now c.args.place c.in-None.ensures.lookup.3 in
     let o : f.2 ≡ false = field_optional d ∙ c.if-field.false in
     custom (items_are_text (items_from (map tree_of c.args.items.now))) c.error.result _ c.error.ensures
-    (ap (read_place f.2 (reads c.args.reject_duplicates f.1)) none ∙ ap (λ b. read_place b (reads c.args.reject_duplicates f.1) no_items) o)
+    (ap (read_place f.2 (reads c.args.reader.reject_duplicates f.1)) none ∙ ap (λ b. read_place b (reads c.args.reader.reject_duplicates f.1) no_items) o)
 
 pub fields::read_places-loop-i-preserved-in_default : goal.fields::read_places-loop-i-preserved-in_default
 fields::read_places-loop-i-preserved-in_default t c =
@@ -130,7 +130,7 @@ fields::read_places-loop-i-preserved-in_default t c =
     let ts = c.args.items.now in
     let ws = map (named data_of) l.members.items in
     let got = c.in_ok-value.ensures ∙ ap (λ o. Some (option_map data_of o)) c.in_default.is in
-    l.invariant ∙ places_more c.args.reject_duplicates fs l.i d ts ws (omega arith) c.field-item.is None got
+    l.invariant ∙ places_more c.args.reader.reject_duplicates fs l.i d ts ws (omega arith) c.field-item.is None got
 
 pub fields::read_places-loop-i-preserved : goal.fields::read_places-loop-i-preserved
 fields::read_places-loop-i-preserved t c =
@@ -141,9 +141,9 @@ fields::read_places-loop-i-preserved t c =
     let ws = map (named data_of) l.members.items in
     let x = c.in-Some.value in
     let m = c.in_ok-name.name in
-    let rest = reads_places c.args.reject_duplicates (fields_in (drop (l.i + 1) fs)) (items_from (map tree_of (drop (l.i + 1) ts))) in
+    let rest = reads_places c.args.reader.reject_duplicates (fields_in (drop (l.i + 1) fs)) (items_from (map tree_of (drop (l.i + 1) ts))) in
     let got = c.in_ok-value.ensures ∙ ap (λ o. Some (option_map data_of o)) c.in-Some.is in
-    let turn = places_more c.args.reject_duplicates fs l.i d ts ws (omega arith) c.field-item.is (Some (data_of x)) got in
+    let turn = places_more c.args.reader.reject_duplicates fs l.i d ts ws (omega arith) c.field-item.is (Some (data_of x)) got in
     let copied : string_bytes m ≡ string_bytes (out-Field d).name = c.in_ok-name.ensures.cases in
     let name : (field_of d).0 ≡ string_bytes m = field_name d ∙ sym copied in
     let pushed : map (named data_of) c.push.new.self.items ≡ ws ++ (string_bytes m, data_of x) ∷ [] = grind (arith, common_steps) in
@@ -155,8 +155,8 @@ unfolding reads
 by_shape::read_node-returns-in-Option-clause-gives t c =
     let n = tree_of c.args.value.now in
     let shaped : shape_of c.args.shape.now ≡ Shape.option (shape_of c.in-Option.part.value) = ap shape_of c.in-Option.is ∙ search (rules, shape.the_lemmas) in
-    let held = subst (λ x. ReadGives data_of (is_text n) c.read_option.result (read_option (reads c.args.reject_duplicates (shape_of x)) n)) c.deref.ensures c.read_option.ensures in
-    subst (λ x. ReadGives data_of (is_text n) c.read_option.result (reads c.args.reject_duplicates x n)) (sym shaped) held
+    let held = subst (λ x. ReadGives data_of (is_text n) c.read_option.result (read_option (reads c.args.reader.reject_duplicates (shape_of x)) n)) c.deref.ensures c.read_option.ensures in
+    subst (λ x. ReadGives data_of (is_text n) c.read_option.result (reads c.args.reader.reject_duplicates x n)) (sym shaped) held
 
 pub by_shape::struct_data-returns : goal.by_shape::struct_data-returns
 unfolding reads
@@ -173,9 +173,9 @@ variants::read_least-returns-in_err-place t c =
     let least : es ≡ entry key.seg key.mark n (entries_after 1 es) = after_some 0 es (key, n) (sym c.in-Some.ensures) in
     let name = segment_text key.seg in
     let exit = gives_exit data_of (is_utf8 name) (entries_are_text es) c.from_residual.result c.in_err-place.field-0.0 (option_map Some (variant_named name (variants_in ds)))
-    (read_enum (variants_in ds) (reads_variant c.args.reject_duplicates (variants_in ds)) (mapping es)) c.from_residual.ensures.1 c.in_err-place.ensures.named
-    (enum_none c.args.reject_duplicates (variants_in ds) es (entries_after 1 es) key.seg key.mark n least) (least_key_bad c.args.reject_duplicates (variants_in ds) es (entries_after 1 es) key.seg key.mark n least) in
-    subst (λ ys. ReadGives data_of (entries_are_text es) c.from_residual.result (read_enum (variants_in ys) (reads_variant c.args.reject_duplicates (variants_in ys)) (mapping es))) c.deref.ensures.value exit
+    (read_enum (variants_in ds) (reads_variant c.args.reader.reject_duplicates (variants_in ds)) (mapping es)) c.from_residual.ensures.1 c.in_err-place.ensures.named
+    (enum_none c.args.reader.reject_duplicates (variants_in ds) es (entries_after 1 es) key.seg key.mark n least) (least_key_bad c.args.reader.reject_duplicates (variants_in ds) es (entries_after 1 es) key.seg key.mark n least) in
+    subst (λ ys. ReadGives data_of (entries_are_text es) c.from_residual.result (read_enum (variants_in ys) (reads_variant c.args.reader.reject_duplicates (variants_in ys)) (mapping es))) c.deref.ensures.value exit
 
 pub variants::read_least-returns : goal.variants::read_least-returns
 variants::read_least-returns t c =
@@ -191,8 +191,8 @@ variants::read_least-returns t c =
     let found = subst (λ ys. option_map Some (variant_named name (variants_in ys)) ≡ Some (option_map variant_of (slice_get ys i))) c.deref.ensures.value c.in_ok-place.ensures.named in
     let inside = subst (λ ys. i < length ys) c.deref.ensures.value c.in_ok-place.ensures.place in
     let named = named_is name ds i v found inside c.index.ensures in
-    gives_as data_of (is_text n) (entries_are_text es) c.read_variant.result (reads_kind c.args.reject_duplicates (variant_of v).1 (variant_of v).0 n) (read_enum vs (reads_variant c.args.reject_duplicates vs) (mapping es))
-    c.read_variant.ensures (sym (enum_some c.args.reject_duplicates vs es (entries_after 1 es) key.seg key.mark n least v named)) (least_value_bad c.args.reject_duplicates vs es (entries_after 1 es) key.seg key.mark n least)
+    gives_as data_of (is_text n) (entries_are_text es) c.read_variant.result (reads_kind c.args.reader.reject_duplicates (variant_of v).1 (variant_of v).0 n) (read_enum vs (reads_variant c.args.reader.reject_duplicates vs) (mapping es))
+    c.read_variant.ensures (sym (enum_some c.args.reader.reject_duplicates vs es (entries_after 1 es) key.seg key.mark n least v named)) (least_value_bad c.args.reader.reject_duplicates vs es (entries_after 1 es) key.seg key.mark n least)
 
 pub variants::struct_variant_data-returns : goal.variants::struct_variant_data-returns
 unfolding reads
@@ -206,8 +206,8 @@ variants::read_variant_fields-returns-in-String t c =
     let fs = fields_in c.args.fields.now.items in
     let n = tree_of c.args.value.now in
     let allowed = keys_are_allowed (unknown_of c.args.unknown) fs in
-    let names = reads_names c.args.reject_duplicates fs in
-    let places = reads_places c.args.reject_duplicates fs in
+    let names = reads_names c.args.reader.reject_duplicates fs in
+    let places = reads_places c.args.reader.reject_duplicates fs in
     let seen : as_map n ≡ mapping (under_empty n) = ap (λ x. as_map (tree_of x)) c.in-String.is ∙ text_as_map c.in-String.field-0 ∙ ap (λ x. mapping (under_empty (tree_of x))) (sym c.in-String.is) in
     gives_as (λ x. map (named data_of) x.items) (entries_are_text (under_empty n)) (is_text n) c.read_entries.result _ (struct_members allowed names places (as_map n))
     c.read_entries.ensures (ap (struct_members allowed names places) (sym seen)) (under_bad n)
@@ -217,7 +217,7 @@ unfolding read_list
 lists::read_list-returns t c =
     let n = tree_of c.args.value.now in
     let xs = items_in c.in_ok-items.items in
-    let r = reads c.args.reject_duplicates (shape_of c.args.part.now) in
+    let r = reads c.args.reader.reject_duplicates (shape_of c.args.part.now) in
     let h : items n ≡ Some xs = c.in_ok-items.ensures in
     gives_as (λ v. map data_of v.items) (are_text xs) (is_text n) c.read_each.result (read_each r xs) (read_list r n)
     c.read_each.ensures (sym (ap (option_and_then (read_each r)) h)) (items_bad n xs h)
@@ -227,7 +227,7 @@ lists::read_each-returns-in_err-read_node t c =
     let l = c.loop-i in
     let xs = items_in c.args.items in
     let n = tree_of c.in-Some.item.now in
-    let r = reads c.args.reject_duplicates (shape_of c.args.part.now) in
+    let r = reads c.args.reader.reject_duplicates (shape_of c.args.part.now) in
     let h : first_item (drop l.i xs) ≡ Some (Some n) = c.in_ok-item.ensures ∙ ap (λ o. Some (option_map (λ v. tree_of v.now) o)) c.in-Some.is in
     gives_exit (λ v. map data_of v.items) (is_text n) (are_text xs) c.from_residual-in_err-read_node.result c.in_err-read_node.field-0.0 (r n) (read_each r xs)
     c.from_residual-in_err-read_node.ensures.1 c.in_err-read_node.ensures.gives (λ e. l.invariant ∙ each_unread r xs l.i (map data_of l.values.items) n h e) (due_bad l.i xs n h)
@@ -237,7 +237,7 @@ lists::read_each-loop-i-preserved t c =
     let l = c.loop-i in
     let xs = items_in c.args.items in
     let n = tree_of c.in-Some.item.now in
-    let r = reads c.args.reject_duplicates (shape_of c.args.part.now) in
+    let r = reads c.args.reader.reject_duplicates (shape_of c.args.part.now) in
     let ws = map data_of l.values.items in
     let d = data_of c.in_ok-read_node.field-0 in
     let h : first_item (drop l.i xs) ≡ Some (Some n) = c.in_ok-item.ensures ∙ ap (λ o. Some (option_map (λ v. tree_of v.now) o)) c.in-Some.is in
@@ -248,7 +248,7 @@ pub lists::read_each-returns : goal.lists::read_each-returns
 lists::read_each-returns t c =
     let l = c.loop-i in
     let xs = items_in c.args.items in
-    let r = reads c.args.reject_duplicates (shape_of c.args.part.now) in
+    let r = reads c.args.reader.reject_duplicates (shape_of c.args.part.now) in
     let ws = map data_of l.values.items in
     elim c.loop-i-test.branch [
       | lists::read_each-else-loop-i-test w ↦ l.invariant ∙ each_all r xs l.i ws (omega (arith, c.len-i-end.ensures, w.loop-i-test.false))
@@ -261,7 +261,7 @@ pub lists::read_tuple-returns : goal.lists::read_tuple-returns
 lists::read_tuple-returns t c =
     let n = tree_of c.args.value.now in
     let xs = items_in c.in_ok-items.items in
-    let r = reads_tuple c.args.reject_duplicates (shapes_in c.args.parts.now.items) in
+    let r = reads_tuple c.args.reader.reject_duplicates (shapes_in c.args.parts.now.items) in
     let h : items n ≡ Some xs = c.in_ok-items.ensures in
     gives_as (λ v. map data_of v.items) (are_text xs) (is_text n) c.read_parts.result (r xs) (option_and_then r (items n))
     c.read_parts.ensures (sym (ap (option_and_then r) h)) (items_bad n xs h)
@@ -275,9 +275,9 @@ lists::read_parts-returns-in_err-read_node t c =
     let n = tree_of c.in-Some.item.now in
     let h : first_item (drop l.i xs) ≡ Some (Some n) = c.in_ok-item.ensures ∙ ap (λ o. Some (option_map (λ v. tree_of v.now) o)) c.in-Some.is in
     gives_exit (λ v. map data_of v.items) (is_text n) (are_text xs) c.from_residual-in_err-read_node.result c.in_err-read_node.field-0.0
-    (reads c.args.reject_duplicates (shape_of s) n) (reads_tuple c.args.reject_duplicates (shapes_in c.args.parts.now.items) xs)
+    (reads c.args.reader.reject_duplicates (shape_of s) n) (reads_tuple c.args.reader.reject_duplicates (shapes_in c.args.parts.now.items) xs)
     c.from_residual-in_err-read_node.ensures.1 c.in_err-read_node.ensures.gives
-    (λ e. l.invariant ∙ parts_unread c.args.reject_duplicates ss l.i s xs (map data_of l.values.items) (omega arith) c.part-item.is n h e) (due_bad l.i xs n h)
+    (λ e. l.invariant ∙ parts_unread c.args.reader.reject_duplicates ss l.i s xs (map data_of l.values.items) (omega arith) c.part-item.is n h e) (due_bad l.i xs n h)
 
 pub lists::read_parts-loop-i-preserved : goal.lists::read_parts-loop-i-preserved
 lists::read_parts-loop-i-preserved t c =
@@ -290,15 +290,15 @@ lists::read_parts-loop-i-preserved t c =
     let d = data_of c.in_ok-read_node.field-0 in
     let h : first_item (drop l.i xs) ≡ Some (Some n) = c.in_ok-item.ensures ∙ ap (λ o. Some (option_map (λ v. tree_of v.now) o)) c.in-Some.is in
     let pushed : map data_of c.push.new.self.items ≡ ws ++ d ∷ [] = grind (arith, common_steps) in
-    l.invariant ∙ parts_more c.args.reject_duplicates ss l.i s xs ws (omega arith) c.part-item.is n d h c.in_ok-read_node.ensures.gives
-    ∙ ap (λ ys. before ys (reads_tuple c.args.reject_duplicates (shapes_in (drop (l.i + 1) ss)) (drop (l.i + 1) xs))) (sym pushed)
+    l.invariant ∙ parts_more c.args.reader.reject_duplicates ss l.i s xs ws (omega arith) c.part-item.is n d h c.in_ok-read_node.ensures.gives
+    ∙ ap (λ ys. before ys (reads_tuple c.args.reader.reject_duplicates (shapes_in (drop (l.i + 1) ss)) (drop (l.i + 1) xs))) (sym pushed)
 
 pub maps::read_pairs-returns-in_err-key : goal.maps::read_pairs-returns-in_err-key
 maps::read_pairs-returns-in_err-key t c =
     let l = c.loop-i in
     let es = entries_of_map c.args.entries.now in
     let k = key_shape_of c.args.key_shape.now in
-    let r = reads c.args.reject_duplicates (shape_of c.args.part.now) in
+    let r = reads c.args.reader.reject_duplicates (shape_of c.args.part.now) in
     let x : Step × Tree = (step_of_key c.in-Some.key.now, tree_of c.in-Some.value.now) in
     let here = sym c.in-Some.ensures in
     gives_exit (λ v. map pair_of v.items) (is_utf8 (segment_text x.0.seg)) (entries_are_text es) c.from_residual-in_err-key.result c.in_err-key.field-0.0 (key_data k (segment_text x.0.seg)) (read_pairs k r es)
@@ -309,7 +309,7 @@ maps::read_pairs-returns-in_err-value t c =
     let l = c.loop-i in
     let es = entries_of_map c.args.entries.now in
     let k = key_shape_of c.args.key_shape.now in
-    let r = reads c.args.reject_duplicates (shape_of c.args.part.now) in
+    let r = reads c.args.reader.reject_duplicates (shape_of c.args.part.now) in
     let x : Step × Tree = (step_of_key c.in-Some.key.now, tree_of c.in-Some.value.now) in
     let here = sym c.in-Some.ensures in
     gives_exit (λ v. map pair_of v.items) (is_text x.1) (entries_are_text es) c.from_residual-in_err-value.result c.in_err-value.field-0.0 (r x.1) (read_pairs k r es)
@@ -320,7 +320,7 @@ maps::read_pairs-loop-i-preserved t c =
     let l = c.loop-i in
     let es = entries_of_map c.args.entries.now in
     let k = key_shape_of c.args.key_shape.now in
-    let r = reads c.args.reject_duplicates (shape_of c.args.part.now) in
+    let r = reads c.args.reader.reject_duplicates (shape_of c.args.part.now) in
     let x : Step × Tree = (step_of_key c.in-Some.key.now, tree_of c.in-Some.value.now) in
     let ws = map pair_of l.pairs.items in
     let a = data_of c.in_ok-key.key in
@@ -334,7 +334,7 @@ maps::read_pairs-returns t c =
     let l = c.loop-i in
     let es = entries_of_map c.args.entries.now in
     let k = key_shape_of c.args.key_shape.now in
-    let r = reads c.args.reject_duplicates (shape_of c.args.part.now) in
+    let r = reads c.args.reader.reject_duplicates (shape_of c.args.part.now) in
     let ws = map pair_of l.pairs.items in
     elim c.loop-i-test.branch [
       | maps::read_pairs-else-loop-i-test w ↦ l.invariant ∙ pairs_all k r es l.i ws (omega (arith, c.len-i-end.ensures, w.loop-i-test.false))
@@ -345,6 +345,6 @@ pub maps::read_under_empty-returns-in_err-key : goal.maps::read_under_empty-retu
 maps::read_under_empty-returns-in_err-key t c =
     let n = tree_of c.args.value.now in
     let k = key_shape_of c.args.key_shape.now in
-    let r = reads c.args.reject_duplicates (shape_of c.args.part.now) in
+    let r = reads c.args.reader.reject_duplicates (shape_of c.args.part.now) in
     gives_exit (λ v. map pair_of v.items) (is_utf8 []) (is_text n) c.from_residual.result c.in_err-key.field-0.0 (key_data k []) (read_pairs k r (under_empty n))
     c.from_residual.ensures.1 c.in_err-key.ensures (lone_no_key k r n) (λ f. absurd (false≢true (sym f ∙ empty_text)))

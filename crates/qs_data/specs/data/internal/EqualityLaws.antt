@@ -1,5 +1,5 @@
 -- Being the same is an equality of data: the same are equal, and the other way round.
-use Rattle.std.proofs.Common.{◌≡◌, ℕ, true, ◌&&◌, ◌==◌, List, [], ◌∷◌, get_or, bytes_eq, int_eq, refl, sym, ap, ◌∙◌}
+use Rattle.std.proofs.Common.{◌≡◌, ℕ, Bool, true, ◌&&◌, ◌==◌, List, [], ◌∷◌, get_or, bytes_eq, int_eq, refl, sym, ap, ◌∙◌}
 use Rattle.std.specs.Bool.{Decides, beq}
 use Rattle.std.specs.Cmp.{IsPartialEquivalence, IsEquivalence, partial_equiv_from_equiv, decided, unsigned_Decides, signed_Decides, booleans_Decides}
 use Rattle.std.proofs.lemmas.Slice.Eq.{bytes_eq-Decides}
@@ -53,62 +53,41 @@ both f p q = cc
 all_three : {A B C D : Type 0} (f : A → B → C → D) {a x : A} {b y : B} {c z : C} → a ≡ x → b ≡ y → c ≡ z → f a b c ≡ f x y z
 all_three f p q r = cc
 
+-- data that hold one thing, and it is the same
+part : {A : Type 0} (make : A → Data) (n : ℕ) (e : Data) (x y : A) (test : Bool) → rebuilt n e ≡ make y → (test ≡ true → x ≡ y) → ((kind_number e == n) && test) ≡ true → make x ≡ e
+part make n e x y test is same h =
+    let parts = and_both (kind_number e == n) test h in
+    ap make (same parts.1) ∙ sym is ∙ of_kind n e parts.0
+
+-- variants of one name that hold the same
+variant : {A : Type 0} (make : List ℕ → A → Data) (n : ℕ) (e : Data) (name : List ℕ) (x y : A) (test : Bool) → rebuilt n e ≡ make (held_bytes e) y → (test ≡ true → x ≡ y)
+    → ((kind_number e == n) && (bytes_eq name (held_bytes e) && test)) ≡ true → make name x ≡ e
+variant make n e name x y test is same h =
+    let parts = and_both (kind_number e == n) (bytes_eq name (held_bytes e) && test) h in
+    let inside = and_both (bytes_eq name (held_bytes e)) test parts.1 in
+    both make (bytes_sound name (held_bytes e) inside.0) (same inside.1) ∙ sym is ∙ of_kind n e parts.0
+
 -- the same are equal
 mutual
   sound : (d e : Data) → data_same d e ≡ true → d ≡ e
   sound unit e h = of_kind 0 e h
   sound none e h = of_kind 1 e h
-  sound (some d) e h =
-      let parts = and_both (kind_number e == 2) (data_same d (held_one e)) h in
-      ap some (sound d (held_one e) parts.1) ∙ of_kind 2 e parts.0
-  sound (boolean b) e h =
-      let parts = and_both (kind_number e == 3) (beq b (held_boolean e)) h in
-      ap boolean ((booleans_Decides b (held_boolean e)).0 parts.1) ∙ of_kind 3 e parts.0
-  sound (unsigned n) e h =
-      let parts = and_both (kind_number e == 4) (n == held_number e) h in
-      ap unsigned ((unsigned_Decides n (held_number e)).0 parts.1) ∙ of_kind 4 e parts.0
-  sound (signed z) e h =
-      let parts = and_both (kind_number e == 5) (int_eq z (held_integer e)) h in
-      ap signed ((signed_Decides z (held_integer e)).0 parts.1) ∙ of_kind 5 e parts.0
-  sound (character c) e h =
-      let parts = and_both (kind_number e == 6) (c == held_number e) h in
-      ap character ((unsigned_Decides c (held_number e)).0 parts.1) ∙ of_kind 6 e parts.0
-  sound (text t) e h =
-      let parts = and_both (kind_number e == 7) (bytes_eq t (held_bytes e)) h in
-      ap text (bytes_sound t (held_bytes e) parts.1) ∙ of_kind 7 e parts.0
-  sound (bytes b) e h =
-      let parts = and_both (kind_number e == 8) (bytes_eq b (held_bytes e)) h in
-      ap bytes (bytes_sound b (held_bytes e) parts.1) ∙ of_kind 8 e parts.0
-  sound (sequence ds) e h =
-      let parts = and_both (kind_number e == 9) (values_same ds (held_values e)) h in
-      ap sequence (values_sound ds (held_values e) parts.1) ∙ of_kind 9 e parts.0
-  sound (tuple ds) e h =
-      let parts = and_both (kind_number e == 10) (values_same ds (held_values e)) h in
-      ap tuple (values_sound ds (held_values e) parts.1) ∙ of_kind 10 e parts.0
-  sound (mapping ps) e h =
-      let parts = and_both (kind_number e == 11) (pairs_same ps (held_pairs e)) h in
-      ap mapping (pairs_sound ps (held_pairs e) parts.1) ∙ of_kind 11 e parts.0
-  sound (struct ms) e h =
-      let parts = and_both (kind_number e == 12) (members_same ms (held_members e)) h in
-      ap struct (members_sound ms (held_members e) parts.1) ∙ of_kind 12 e parts.0
-  sound (newtype d) e h =
-      let parts = and_both (kind_number e == 13) (data_same d (held_one e)) h in
-      ap newtype (sound d (held_one e) parts.1) ∙ of_kind 13 e parts.0
-  sound (unit_variant name) e h =
-      let parts = and_both (kind_number e == 14) (bytes_eq name (held_bytes e)) h in
-      ap unit_variant (bytes_sound name (held_bytes e) parts.1) ∙ of_kind 14 e parts.0
-  sound (newtype_variant name d) e h =
-      let parts = and_both (kind_number e == 15) (bytes_eq name (held_bytes e) && data_same d (held_one e)) h in
-      let inside = and_both (bytes_eq name (held_bytes e)) (data_same d (held_one e)) parts.1 in
-      both newtype_variant (bytes_sound name (held_bytes e) inside.0) (sound d (held_one e) inside.1) ∙ of_kind 15 e parts.0
-  sound (tuple_variant name ds) e h =
-      let parts = and_both (kind_number e == 16) (bytes_eq name (held_bytes e) && values_same ds (held_values e)) h in
-      let inside = and_both (bytes_eq name (held_bytes e)) (values_same ds (held_values e)) parts.1 in
-      both tuple_variant (bytes_sound name (held_bytes e) inside.0) (values_sound ds (held_values e) inside.1) ∙ of_kind 16 e parts.0
-  sound (struct_variant name ms) e h =
-      let parts = and_both (kind_number e == 17) (bytes_eq name (held_bytes e) && members_same ms (held_members e)) h in
-      let inside = and_both (bytes_eq name (held_bytes e)) (members_same ms (held_members e)) parts.1 in
-      both struct_variant (bytes_sound name (held_bytes e) inside.0) (members_sound ms (held_members e) inside.1) ∙ of_kind 17 e parts.0
+  sound (some d) e h = part some 2 e d (held_one e) _ refl (sound d (held_one e)) h
+  sound (boolean b) e h = part boolean 3 e b (held_boolean e) _ refl (booleans_Decides b (held_boolean e)).0 h
+  sound (unsigned n) e h = part unsigned 4 e n (held_number e) _ refl (unsigned_Decides n (held_number e)).0 h
+  sound (signed z) e h = part signed 5 e z (held_integer e) _ refl (signed_Decides z (held_integer e)).0 h
+  sound (character c) e h = part character 6 e c (held_number e) _ refl (unsigned_Decides c (held_number e)).0 h
+  sound (text t) e h = part text 7 e t (held_bytes e) _ refl (bytes_sound t (held_bytes e)) h
+  sound (bytes b) e h = part bytes 8 e b (held_bytes e) _ refl (bytes_sound b (held_bytes e)) h
+  sound (sequence ds) e h = part sequence 9 e ds (held_values e) _ refl (values_sound ds (held_values e)) h
+  sound (tuple ds) e h = part tuple 10 e ds (held_values e) _ refl (values_sound ds (held_values e)) h
+  sound (mapping ps) e h = part mapping 11 e ps (held_pairs e) _ refl (pairs_sound ps (held_pairs e)) h
+  sound (struct ms) e h = part struct 12 e ms (held_members e) _ refl (members_sound ms (held_members e)) h
+  sound (newtype d) e h = part newtype 13 e d (held_one e) _ refl (sound d (held_one e)) h
+  sound (unit_variant name) e h = part unit_variant 14 e name (held_bytes e) _ refl (bytes_sound name (held_bytes e)) h
+  sound (newtype_variant name d) e h = variant newtype_variant 15 e name d (held_one e) _ refl (sound d (held_one e)) h
+  sound (tuple_variant name ds) e h = variant tuple_variant 16 e name ds (held_values e) _ refl (values_sound ds (held_values e)) h
+  sound (struct_variant name ms) e h = variant struct_variant 17 e name ms (held_members e) _ refl (members_sound ms (held_members e)) h
 
   values_sound : (ds es : Values) → values_same ds es ≡ true → ds ≡ es
   values_sound no_values no_values h = refl

@@ -1,4 +1,4 @@
--- The items of a node, place by place.
+-- The items of a node, index by index.
 use Rattle.std.specs.Prelude.{Bool, true, cond, ◌&&◌, List, [], ◌∷◌, map, Option, Some, None}
 use Rattle.qs_spec.specs.Tree.{Tree}
 use Rattle.qs_spec.specs.Node.{sequence_items, placed}
@@ -7,7 +7,7 @@ use Rattle.qs_data.specs.declared.read.items.Items.{Items}
 use Rattle.qs_data.specs.declared.read.items.Items.TheVariants.{Empty, One, Sequence, Places}
 use Rattle.qs_data.specs.read.Text.{is_text}
 
--- each item, and none at a place that isn't the one that is due
+-- each item, and none at an index that isn't the one that is due
 abbrev pub items_in : Items → List (Option Tree)
 items_in Empty = []
 items_in (One value) = Some (tree_of value.now) ∷ []
@@ -26,6 +26,6 @@ are_text [] = true
 are_text (None ∷ xs) = are_text xs
 are_text (Some t ∷ xs) = is_text t && are_text xs
 
--- a test as an answer
+-- a test as a result
 abbrev pub passed : Bool → Option Bool
 passed b = cond b (Some true) None

@@ -44,7 +44,7 @@ abbrev pub ParsesNumber : Option ℕ → List ℕ → Type 0
 ParsesNumber None name = (n : ℕ) → n < 2 ^ 32 → decimal n ≡ name → ⊥
 ParsesNumber (Some n) name = (n < 2 ^ 32) × (decimal n ≡ name)
 
--- the answer to a test
+-- a test passed, or failed
 abbrev pub PassesTest : {X E : Type 0} → Result X E → Bool → Type 0
 PassesTest (Ok x) test = test ≡ true
 PassesTest (Err e) test = test ≡ false
@@ -55,7 +55,7 @@ entries_after zero es = es
 entries_after (suc i) no_entries = no_entries
 entries_after (suc i) (entry k mark t es) = entries_after i es
 
--- an answer that says nothing, where a test is passed
+-- nothing more to return, where a test is passed
 abbrev pub when : Bool → Option (Unit {0})
 when true = Some tt
 when false = None

@@ -44,7 +44,7 @@ pub record AddsPart (form : Bool) (old new : StreamState) (es : List Entry) : Ty
   pub failed : new.failed ≡ true
   pub writer : new.writer ≡ old.writer
 
--- what stands after each stop
+-- what was written at each stop
 abbrev pub Stops : Stop → Config → StreamState → StreamState → Output → Type 0
 Stops stop.TooDeep config old new o = (o.refusal ≡ Some too_deep) × Adds config.form old new o.entries
 Stops stop.BadKey config old new o = (o.refusal ≡ Some bad_key) × Adds config.form old new o.entries
@@ -67,7 +67,7 @@ pub record IsAt (form : Bool) (path : Path) (walk : Walk) : Type 0 where
   pub text : walk.text.items ≡ path_after form path
   pub visible : All IsVisible walk.text.items
 
--- all entries were written, there is no refusal and the walk is where it was, or what the stop says
+-- all entries were written, there is no error and the walk is where it was, or what the stop says
 abbrev pub Writes : Result (Unit {0}) Stop → Config → Path → StreamState → StreamState → Walk → Output → Type 0
 Writes (Ok x) config path old new walk o = (o.refusal ≡ None) × Adds config.form old new o.entries × IsAt config.form path walk
 Writes (Err e) config path old new walk o = Stops e config old new o

@@ -1,8 +1,8 @@
 //! Scalars and keys that fit a shape.
 
 ghost use Rattle.std.specs.Prelude.{◌≡◌, map, string_bytes};
-ghost use Rattle.std.specs.List.{list_all, list_any};
-ghost use Rattle.std.specs.Str.{bytes_eq, is_utf8};
+ghost use Rattle.std.specs.List.{list_all};
+ghost use Rattle.std.specs.Str.{is_utf8};
 ghost use Rattle.qs_spec.specs.Shape as s;
 ghost use Rattle.qs_spec.specs.Fits.{fits, fits_key, fits_unsigned, fits_signed, is_scalar, is_byte};
 ghost use Rattle.qs_data.specs.data.Views.{data_of};
@@ -10,14 +10,17 @@ ghost use Rattle.qs_data.specs.shape.Views.{key_shape_of};
 ghost use Rattle.qs_data.specs.shape.internal.Widths.{bits_of};
 
 use crate::data::Data;
+use crate::shape::distinct::is_name;
 use crate::shape::{KeyShape, Width};
 
+/// Whether data are no value.
 pub(super) fn is_unit(datum: &Data) -> bool
     ensures { result ≡ fits s.Shape.unit (data_of datum.now) }
 {
     matches!(datum, Data::Unit)
 }
 
+/// Whether data are a boolean.
 pub(super) fn is_bool(datum: &Data) -> bool
     ensures shape { result ≡ fits s.Shape.boolean (data_of datum.now) }
     ensures key { result ≡ fits_key s.KeyShape.boolean (data_of datum.now) }
@@ -25,6 +28,7 @@ pub(super) fn is_bool(datum: &Data) -> bool
     matches!(datum, Data::Bool(_))
 }
 
+/// Whether data are an unsigned number of this width.
 pub(super) fn is_unsigned(width: Width, datum: &Data) -> bool
     ensures shape { result ≡ fits (s.Shape.unsigned (bits_of width)) (data_of datum.now) }
     ensures key { result ≡ fits_key (s.KeyShape.unsigned (bits_of width)) (data_of datum.now) }
@@ -35,12 +39,14 @@ pub(super) fn is_unsigned(width: Width, datum: &Data) -> bool
     }
 }
 
+// Whether an unsigned number has this width.
 fn has_width(width: Width, n: u64) -> bool
     ensures { result ≡ fits_unsigned (bits_of width) n }
 {
     n <= width.unsigned_max()
 }
 
+/// Whether data are a signed number of this width.
 pub(super) fn is_signed(width: Width, datum: &Data) -> bool
     ensures shape { result ≡ fits (s.Shape.signed (bits_of width)) (data_of datum.now) }
     ensures key { result ≡ fits_key (s.KeyShape.signed (bits_of width)) (data_of datum.now) }
@@ -51,12 +57,14 @@ pub(super) fn is_signed(width: Width, datum: &Data) -> bool
     }
 }
 
+// Whether a signed number has this width.
 fn has_signed_width(width: Width, n: i64) -> bool
     ensures { result ≡ fits_signed (bits_of width) n }
 {
     width.signed_min() <= n && n <= width.signed_max()
 }
 
+/// Whether data are a character.
 pub(super) fn is_char(datum: &Data) -> bool
     ensures shape { result ≡ fits s.Shape.character (data_of datum.now) }
     ensures key { result ≡ fits_key s.KeyShape.character (data_of datum.now) }
@@ -75,6 +83,7 @@ fn is_any_char(c: char) -> bool
     true
 }
 
+/// Whether data are a text.
 pub(super) fn is_text(datum: &Data) -> bool
     ensures shape { result ≡ fits s.Shape.text (data_of datum.now) }
     ensures key { result ≡ fits_key s.KeyShape.text (data_of datum.now) }
@@ -93,6 +102,7 @@ pub(super) fn is_any_text(text: &String) -> bool
     true
 }
 
+/// Whether data are bytes.
 pub(super) fn is_bytes(datum: &Data) -> bool
     ensures { result ≡ fits s.Shape.bytes (data_of datum.now) }
 {
@@ -110,6 +120,7 @@ fn are_bytes(bytes: &[u8]) -> bool
     true
 }
 
+/// Whether data fit the shape of a key.
 pub(super) fn fits_key(key: &KeyShape, datum: &Data) -> bool
     ensures { result ≡ fits_key (key_shape_of key.now) (data_of datum.now) }
 {
@@ -134,18 +145,7 @@ fn is_named(names: &Vec<String>, datum: &Data) -> bool
     ensures { result ≡ fits_key (s.KeyShape.variants (map string_bytes names.now.items)) (data_of datum.now) }
 {
     match datum {
-        Data::UnitVariant(name) => is_listed(names, name) && is_any_text(name),
+        Data::UnitVariant(name) => is_name(names, name) && is_any_text(name),
         _ => false,
     }
-}
-
-fn is_listed(names: &[String], name: &str) -> bool
-    ensures { result ≡ list_any (bytes_eq name.now) (map string_bytes names.now) }
-{
-    for other in names {
-        if name == other.as_str() {
-            return true;
-        }
-    }
-    false
 }

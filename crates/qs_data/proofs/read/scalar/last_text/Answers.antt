@@ -9,12 +9,12 @@ pub returns-clause-gives : goal.returns-clause-gives
 returns-clause-gives c =
     let ts = c.args.items.now in
     let d = c.in-Some.last.now in
-    gives_as (λ b. b.now) true true c.item_text.result (item_text (tree_of d)) (last_item c.args.reject_duplicates (items_from (map tree_of ts)))
-    c.item_text.ensures.gives (sym (last_item_is c.args.reject_duplicates ts d c.in-Some.ensures.value c.else-reject_duplicates.either)) (λ n. n)
+    gives_as (λ b. b.now) true true c.item_text.result (item_text (tree_of d)) (last_item c.args.reader.reject_duplicates (items_from (map tree_of ts)))
+    c.item_text.ensures.gives (sym (last_item_is c.args.reader.reject_duplicates ts d c.in-Some.ensures.value c.else-reader.either)) (λ n. n)
 
 pub returns-clause-frugal : goal.returns-clause-frugal
 returns-clause-frugal c =
     let ts = c.args.items.now in
     let d = c.in-Some.last.now in
-    frugal_as c.item_text.result (item_text (tree_of d)) (last_item c.args.reject_duplicates (items_from (map tree_of ts)))
-    c.item_text.ensures.frugal (sym (last_item_is c.args.reject_duplicates ts d c.in-Some.ensures.value c.else-reject_duplicates.either))
+    frugal_as c.item_text.result (item_text (tree_of d)) (last_item c.args.reader.reject_duplicates (items_from (map tree_of ts)))
+    c.item_text.ensures.frugal (sym (last_item_is c.args.reader.reject_duplicates ts d c.in-Some.ensures.value c.else-reader.either))

@@ -1,6 +1,6 @@
 use Rattle.std.proofs.Common.{true, w16, refl, arith}
 use Rattle.qs_spec.specs.Scalar.{signed_number}
-use Rattle.qs_data.proofs.lemmas.read.Errors.{fault}
+use Rattle.qs_data.proofs.lemmas.read.Errors.{custom}
 use Rattle.serde_qs.proofs.NumberItems.{signed_read, signed_unread}
 use Rattle.serde_qs.proofs.helpers.signed.I16Item.parse.Goals as goal
 
@@ -10,4 +10,4 @@ returns-in-Ok c = signed_read w16 16 c.args.text.now c.in-Ok.number refl c.in-Ok
 pub returns-in-Err : goal.returns-in-Err
 returns-in-Err c =
     let t = c.args.text.now in
-    fault true c.invalid.result (signed_number 16 t) c.invalid.ensures (signed_unread w16 16 t refl (omega arith) c.in-Err.ensures.value.0)
+    custom true c.invalid.result (signed_number 16 t) c.invalid.ensures (signed_unread w16 16 t refl (omega arith) c.in-Err.ensures.value.0)

@@ -1,4 +1,5 @@
 pub mod Found
 mod Levels
 pub mod Listing
+pub mod Stopping
 pub mod Unwritten

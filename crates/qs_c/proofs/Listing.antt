@@ -94,3 +94,7 @@ items-behind x (fault why s) xs rest e = ap (seen (λ ss. tuple_kind (shapes_of 
 pub nothing-left : (t : List ℕ) → length t ≡ 0 → is_empty t ≡ true
 nothing-left [] h = refl
 nothing-left (b ∷ bs) h = let never : ⊥ = omega (arith, h) in absurd never
+
+pub something-left : (t : List ℕ) → 0 < length t → is_empty t ≡ false
+something-left [] h = let never : ⊥ = omega (arith, h) in absurd never
+something-left (b ∷ bs) h = refl

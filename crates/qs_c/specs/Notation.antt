@@ -1,5 +1,5 @@
 -- The notation of shapes, which docs/LIBRARY.md describes: what shape a text is, or where it stops being one, and why.
-use Rattle.std.specs.Prelude.{◌≡◌, ℕ, zero, suc, Bool, true, false, not, ◌||◌, ◌==◌, nat_le, cond, List, [], ◌∷◌, length, take, drop, codes, Option, Some, None}
+use Rattle.std.specs.Prelude.{◌≡◌, ◌-◌, ℕ, zero, suc, Bool, true, false, not, ◌||◌, ◌==◌, nat_le, cond, List, [], ◌∷◌, length, take, drop, codes, Option, Some, None}
 use Rattle.std.specs.List.{prefix_len}
 use Rattle.std.specs.Str.{bytes_eq, is_utf8}
 use Rattle.qs_spec.specs.Escape.{decoded, is_between}
@@ -57,7 +57,7 @@ is_empty [] = true
 is_empty (b ∷ bs) = false
 
 abbrev pub word_name : Parser (List ℕ)
-word_name t = cond (is_empty (word t)) (fault (codes "a name is wanted") t) (name_of (word t) (after_word t))
+word_name t = cond (is_empty (word t)) (fault (codes "a name is wanted") (after_word t)) (name_of (word t) (after_word t))
 
 -- a name: a word, or between two quotes
 unfoldable pub name : Parser (List ℕ)
@@ -223,3 +223,9 @@ notation text = and_then (shape 32 (trimmed text)) whole
 -- the text is this shape
 abbrev pub IsNotation : List ℕ → Shape → Type 0
 IsNotation text s = notation text ≡ found s []
+
+-- The text is no shape, for this reason, and so many bytes come before the rest that wasn't read.
+pub record IsNoNotation (text reason : List ℕ) (position : ℕ) : Type 0 where
+  pub rest : List ℕ
+  pub stops : notation text ≡ fault reason rest
+  pub is_before : position ≡ length text - length rest

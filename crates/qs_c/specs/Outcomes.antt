@@ -13,7 +13,7 @@ use Rattle.qs_spec.specs.Written.{written}
 use Rattle.qs_c.specs.declared.failure.Kind.{Kind}
 use Rattle.qs_c.specs.declared.failure.Kind.TheVariants as kind
 use Rattle.qs_c.specs.declared.settings.Settings.{Settings}
-use Rattle.qs_c.specs.Notation.{IsNotation}
+use Rattle.qs_c.specs.Notation.{IsNotation, IsNoNotation}
 use Rattle.qs_c.specs.Settings.{config_of, AreNone}
 use Rattle.qs_c.specs.Shown.{json_text}
 use Rattle.qs_c.specs.Taken.{IsJsonOf}
@@ -55,7 +55,7 @@ WhyNotParsed k position settings input = WhyUnread k position (config_of setting
 abbrev pub WhyNotRead : Kind → ℕ → Settings → List ℕ → List ℕ → Type 0
 WhyNotRead kind.OutOfMemory position settings notation input = ⊤
 WhyNotRead kind.Settings position settings notation input = AreNone settings
-WhyNotRead kind.Shape position settings notation input = ⊤
+WhyNotRead kind.Shape position settings notation input = (reason : List ℕ) × IsNoNotation notation reason position
 WhyNotRead k position settings notation input = (shape : Shape) × IsNotation notation shape × WhyUnread k position (config_of settings) shape input
 
 -- the JSON is data whose entries are written as the text

@@ -1,5 +1,5 @@
 -- The numbers that calls return.
-use Rattle.std.specs.Prelude.{ℕ, ◌<◌, List, [], Option, Some, None, string_bytes}
+use Rattle.std.specs.Prelude.{◌≡◌, ◌⊎◌, ℕ, ◌<◌, List, [], Option, Some, None, string_bytes}
 use Rattle.std.specs.declared.alloc.Global.{Global}
 use Rattle.std.specs.declared.string.String.{String}
 use Rattle.qs_c.specs.declared.failure.Failure.{Failure}
@@ -20,6 +20,10 @@ code_of TooDeep = 9
 -- the call found what it was asked for, whether that fits in the caller's buffer (0) or not (1)
 abbrev pub IsDone : ℕ → Type 0
 IsDone status = status < 2
+
+-- The settings are none, or an allocation failed.
+abbrev pub IsStoppedEarly : ℕ → Type 0
+IsStoppedEarly status = (status ≡ 3) ⊎ (status ≡ 2)
 
 -- an error's text, of which one has none
 abbrev pub text_or_none : Option (String Global) → List ℕ

@@ -1,8 +1,8 @@
 //! Why a call failed.
 
-ghost use Rattle.std.specs.Prelude.{◌≡◌, ◌⊎◌};
+ghost use Rattle.std.specs.Prelude.{◌≡◌, ◌⊎◌, string_bytes};
 ghost use Rattle.qs_c.specs.declared.failure.Kind.TheVariants.{OutOfMemory};
-ghost use Rattle.qs_c.specs.Status.{code_of, IsDone};
+ghost use Rattle.qs_c.specs.Status.{code_of, text_of, IsDone};
 
 use std::alloc::{AllocError, AllocFailed, Global};
 
@@ -74,6 +74,7 @@ impl Failure {
     pub(crate) fn new(kind: Kind, text: String, position: usize) -> Failure
         ensures kind { result.kind ≡ kind }
         ensures position { result.position ≡ position }
+        ensures text { text_of result ≡ string_bytes text }
     {
         Failure {
             kind,
@@ -85,7 +86,7 @@ impl Failure {
 
 /// The error of this kind, with this text, at this place, or that there was no memory for the text.
 pub(crate) fn failure_at(alloc: Global, kind: Kind, text: &str, position: usize) -> Failure
-    ensures { (result.kind ≡ OutOfMemory) ⊎ ((result.kind ≡ kind) × (result.position ≡ position)) }
+    ensures { (result.kind ≡ OutOfMemory) ⊎ ((result.kind ≡ kind) × (result.position ≡ position) × (text_of result ≡ text.now)) }
 {
     match String::from_str(alloc, text) {
         Ok(text) => Failure::new(kind, text, position),

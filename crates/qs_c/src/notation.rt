@@ -12,9 +12,10 @@ ghost use Rattle.std.specs.Prelude.{◌≡◌, ◌⊎◌, [], true, IfOk, IfErr,
 ghost use Rattle.qs_spec.specs.Shape.{is_distinct};
 ghost use Rattle.qs_data.specs.shape.Views.{shape_of};
 ghost use Rattle.qs_c.specs.declared.failure.Kind.TheVariants as kind;
-ghost use Rattle.qs_c.specs.Notation.{IsNotation, shape, whole};
+ghost use Rattle.qs_c.specs.Notation.{IsNotation, IsNoNotation, shape, whole};
 ghost use Rattle.qs_c.specs.Found.{and_then};
 ghost use Rattle.qs_c.specs.Parses.{Parses};
+ghost use Rattle.qs_c.specs.Status.{text_of};
 
 use crate::failure::{Failure, Kind, failure_at};
 use cursor::Cursor;
@@ -29,7 +30,7 @@ const MOST_LEVELS: usize = 32;
 pub(crate) fn shape_of_text(alloc: Global, text: &[u8]) -> std::result::Result<Shape, Failure>
     ensures shape { IfOk result (λ shape. IsNotation text.now (shape_of shape)) }
     ensures distinct { IfOk result (λ shape. is_distinct (shape_of shape) ≡ true) }
-    ensures none { IfErr result (λ failure. (failure.kind ≡ kind.OutOfMemory) ⊎ (failure.kind ≡ kind.Shape)) }
+    ensures none { IfErr result (λ failure. (failure.kind ≡ kind.OutOfMemory) ⊎ ((failure.kind ≡ kind.Shape) × IsNoNotation text.now (text_of failure) failure.position)) }
 {
     let mut cursor = Cursor::new(text);
     match whole_shape(alloc, &mut cursor) {

@@ -7,10 +7,12 @@ ghost use Rattle.qs_data.specs.data.Views.{data_of};
 ghost use Rattle.qs_data.specs.shape.Views.{shape_of};
 ghost use Rattle.qs_c.specs.Answer.{IsHandedOut, IsLaidOut};
 ghost use Rattle.qs_c.specs.Faults.{kind_of, position_of};
+ghost use Rattle.qs_c.specs.Notation.{IsNoNotation};
 ghost use Rattle.qs_c.specs.Outcomes.{IsRead, IsReadBy, IsReadByText, WhyNotParsed, WhyNotRead, WhyUnread};
-ghost use Rattle.qs_c.specs.Settings.{config_of};
-ghost use Rattle.qs_c.specs.Status.{code_of, IsDone};
+ghost use Rattle.qs_c.specs.Settings.{config_of, AreNone};
+ghost use Rattle.qs_c.specs.Status.{code_of, text_of, IsDone, IsStoppedEarly};
 ghost use Rattle.qs_c.specs.declared.failure.Kind.{Kind as KindOfError};
+ghost use Rattle.qs_c.specs.declared.failure.Kind.TheVariants as kind;
 
 use crate::answer::{Answer, fail, give};
 use crate::failure::Failure;
@@ -35,6 +37,7 @@ pub extern "C" fn qs_parse(
     ensures position { IsDone result → answer.new.position ≡ 0 }
     ensures failed { (IsDone result → ⊥) → (kind : KindOfError) × (result ≡ code_of kind) × WhyNotParsed kind answer.new.position settings.now input.now }
     ensures told { (IsDone result → ⊥) → (text : List ℕ) × IsLaidOut text out.old out.new answer.new.len }
+    ensures settings { AreNone settings.now → IsStoppedEarly result }
 {
     match parsed(alloc, settings, input) {
         Ok(text) => give(&text, out, answer),
@@ -57,6 +60,8 @@ pub extern "C" fn qs_read(
     ensures position { IsDone result → answer.new.position ≡ 0 }
     ensures failed { (IsDone result → ⊥) → (kind : KindOfError) × (result ≡ code_of kind) × WhyNotRead kind answer.new.position settings.now shape.now input.now }
     ensures told { (IsDone result → ⊥) → (text : List ℕ) × IsLaidOut text out.old out.new answer.new.len }
+    ensures settings { AreNone settings.now → IsStoppedEarly result }
+    ensures reason { result ≡ code_of kind.Shape → (reason : List ℕ) × IsNoNotation shape.now reason answer.new.position × IsLaidOut reason out.old out.new answer.new.len }
 {
     match read(alloc, settings, shape, input) {
         Ok(text) => give(&text, out, answer),
@@ -67,6 +72,8 @@ pub extern "C" fn qs_read(
 fn parsed(alloc: Global, settings: &Settings, input: &[u8]) -> Result<Vec<u8>, Failure>
     ensures text { IfOk result (λ text. IsRead (config_of settings.now) any input.now text.items) }
     ensures none { IfErr result (λ failure. WhyNotParsed failure.kind failure.position settings.now input.now) }
+    ensures sound { IfOk result (λ text. AreNone settings.now → ⊥) }
+    ensures early { IfErr result (λ failure. AreNone settings.now → IsStoppedEarly (code_of failure.kind)) }
 {
     let config = settings.config(alloc)?;
     read_json(alloc, config, &Shape::Any, input)
@@ -75,6 +82,9 @@ fn parsed(alloc: Global, settings: &Settings, input: &[u8]) -> Result<Vec<u8>, F
 fn read(alloc: Global, settings: &Settings, shape: &[u8], input: &[u8]) -> Result<Vec<u8>, Failure>
     ensures text { IfOk result (λ text. IsReadByText (config_of settings.now) shape.now input.now text.items) }
     ensures none { IfErr result (λ failure. WhyNotRead failure.kind failure.position settings.now shape.now input.now) }
+    ensures sound { IfOk result (λ text. AreNone settings.now → ⊥) }
+    ensures early { IfErr result (λ failure. AreNone settings.now → IsStoppedEarly (code_of failure.kind)) }
+    ensures reason { IfErr result (λ failure. failure.kind ≡ kind.Shape → IsNoNotation shape.now (text_of failure) failure.position) }
 {
     let config = settings.config(alloc)?;
     let shape = shape_of_text(alloc, shape)?;

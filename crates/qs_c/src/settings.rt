@@ -30,6 +30,7 @@ impl Settings {
     /// The configuration, unless a number in the settings is too large.
     pub(crate) fn config(&self, alloc: Global) -> Result<Config, Failure>
         ensures config { IfOk result (λ config. config ≡ config_of self.now) }
+        ensures sound { IfOk result (λ config. AreNone self.now → ⊥) }
         ensures limit { IfOk result (λ config. config.max_depth ≤ most_levels) }
         ensures none { IfErr result (λ failure. (failure.kind ≡ OutOfMemory) ⊎ ((failure.kind ≡ BadSettings) × AreNone self.now)) }
     {
@@ -48,6 +49,7 @@ impl Settings {
 
     fn elements(&self, alloc: Global) -> Result<ArrayFormat, Failure>
         ensures format { IfOk result (λ format. array_format_of format ≡ format_of self.now.array_format) }
+        ensures sound { IfOk result (λ format. 2 < self.now.array_format → ⊥) }
         ensures none { IfErr result (λ failure. (failure.kind ≡ OutOfMemory) ⊎ ((failure.kind ≡ BadSettings) × (2 < self.now.array_format))) }
     {
         match self.array_format {

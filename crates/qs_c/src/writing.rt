@@ -7,8 +7,8 @@ ghost use Rattle.qs_data.specs.data.Views.{data_of};
 ghost use Rattle.qs_c.specs.Answer.{IsHandedOut, IsLaidOut};
 ghost use Rattle.qs_c.specs.Faults.{kind_of};
 ghost use Rattle.qs_c.specs.Outcomes.{IsWritten, WhyNotWritten, WhyUnwritten};
-ghost use Rattle.qs_c.specs.Settings.{config_of};
-ghost use Rattle.qs_c.specs.Status.{code_of, IsDone};
+ghost use Rattle.qs_c.specs.Settings.{config_of, AreNone};
+ghost use Rattle.qs_c.specs.Status.{code_of, IsDone, IsStoppedEarly};
 ghost use Rattle.qs_c.specs.declared.failure.Kind.{Kind as KindOfError};
 
 use crate::answer::{Answer, fail, give};
@@ -33,6 +33,7 @@ pub extern "C" fn qs_write(
     ensures position { IsDone result → answer.new.position ≡ 0 }
     ensures failed { (IsDone result → ⊥) → (kind : KindOfError) × (result ≡ code_of kind) × WhyNotWritten kind settings.now json.now }
     ensures told { (IsDone result → ⊥) → (text : List ℕ) × IsLaidOut text out.old out.new answer.new.len }
+    ensures settings { AreNone settings.now → IsStoppedEarly result }
 {
     match written(alloc, settings, json) {
         Ok(text) => give(&text, out, answer),
@@ -43,6 +44,8 @@ pub extern "C" fn qs_write(
 fn written(alloc: Global, settings: &Settings, json: &[u8]) -> Result<Vec<u8>, Failure>
     ensures text { IfOk result (λ text. IsWritten (config_of settings.now) json.now text.items) }
     ensures none { IfErr result (λ failure. WhyNotWritten failure.kind settings.now json.now) }
+    ensures sound { IfOk result (λ text. AreNone settings.now → ⊥) }
+    ensures early { IfErr result (λ failure. AreNone settings.now → IsStoppedEarly (code_of failure.kind)) }
 {
     let config = settings.config(alloc)?;
     let datum = taken(alloc, json)?;

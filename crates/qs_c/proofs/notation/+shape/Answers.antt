@@ -10,7 +10,8 @@ use Rattle.qs_data.specs.shape.Views.{field_of, key_shape_of, kind_of, shape_of,
 use Rattle.qs_c.specs.Found.{found, before}
 use Rattle.qs_c.specs.Notation as n
 use Rattle.qs_c.specs.Parses.{Parses}
-use Rattle.qs_c.proofs.Found.{cond-false, cond-true, seen-found, then-found}
+use Rattle.qs_c.proofs.Found.{cond-false, cond-true, seen-fault, seen-found, then-fault, then-found}
+use Rattle.qs_c.proofs.Stopping.{before-fault, exits, shape-fault, turn-fault, turn-none, turn-sign}
 use Rattle.qs_c.proofs.Listing.{before-nil, fields-some, items-behind, items-none, items-some, shape-below, turn-last, turn-more}
 use Rattle.qs_c.proofs.notation.+shape.Goals as goal
 
@@ -291,3 +292,296 @@ shapes::named-returns-then-eq-4 t c =
     let seen : shape_of (r.Enum vs) ≡ s.Shape.enumeration (s.variants_of (map variant_of vs.items)) = search (rules, r.the_lemmas) in
     cond-false (bytes_eq w (codes "map")) _ _ _ no_map (cond-false (bytes_eq w (codes "newtype")) _ _ _ no_newtype (cond-false (bytes_eq w (codes "strict")) _ _ _ no_strict
     (cond-true (bytes_eq w (codes "enum")) _ _ _ yes (then-found _ _ _ tt a c.in_ok-expect-2.ensures (seen-found _ _ _ e c.in_ok-variants.ensures ∙ ap (λ y. found y e) (sym seen))))))
+
+pub shapes::shape-returns-in_err-shape : goal.shapes::shape-returns-in_err-shape
+shapes::shape-returns-in_err-shape t c =
+    let start = c.args.cursor.now.rest.now in
+    let below = n.plain (n.shape (c.args.levels - 1)) start in
+    exits shape_of c.from_residual.result below (n.shape c.args.levels start) c.in_err-shape.field-0.0 c.plain.new.cursor.rest.now c.from_residual.ensures.1 c.in_err-shape.ensures
+    (λ w q e. shape-fault c.args.levels (c.args.levels - 1) start w q (omega arith) e)
+
+pub shapes::list-returns-in_err-expect : goal.shapes::list-returns-in_err-expect
+unfolding n.list
+shapes::list-returns-in_err-expect t c =
+    let start = c.args.cursor.now.rest.now in
+    let a = c.shape.new.cursor.rest.now in
+    let x = c.from_residual-in_err-expect in
+    exits shape_of x.result (n.wanted 93 (codes "`]` is wanted") a) (n.list (n.shape c.args.levels) start) c.in_err-expect.field-0.0 c.expect.new.self.rest.now x.ensures.1 c.in_err-expect.ensures
+    (λ w q e. then-found _ _ _ (shape_of c.in_ok-item.item) a c.in_ok-item.ensures (then-fault _ _ w q e))
+
+pub shapes::newtype-returns-in_err-inner : goal.shapes::newtype-returns-in_err-inner
+unfolding n.newtype
+shapes::newtype-returns-in_err-inner t c =
+    let start = c.args.cursor.now.rest.now in
+    let inner = n.shape c.args.levels in
+    let a = c.expect.new.self.rest.now in
+    let x = c.from_residual-in_err-inner in
+    exits shape_of x.result (inner a) (n.newtype inner start) c.in_err-inner.field-0.0 c.shape.new.cursor.rest.now x.ensures.1 c.in_err-inner.ensures
+    (λ w q e. then-found _ _ _ tt a c.in_ok-expect.ensures (then-fault _ _ w q e))
+
+pub shapes::newtype-returns-in_err-expect-2 : goal.shapes::newtype-returns-in_err-expect-2
+unfolding n.newtype
+shapes::newtype-returns-in_err-expect-2 t c =
+    let start = c.args.cursor.now.rest.now in
+    let a = c.expect.new.self.rest.now in
+    let b = c.shape.new.cursor.rest.now in
+    let x = c.from_residual-in_err-expect-2 in
+    exits shape_of x.result (n.wanted 41 (codes "`)` is wanted") b) (n.newtype (n.shape c.args.levels) start) c.in_err-expect-2.field-0.0 c.expect-2.new.self.rest.now x.ensures.1 c.in_err-expect-2.ensures
+    (λ w q e. then-found _ _ _ tt a c.in_ok-expect.ensures (then-found _ _ _ (shape_of c.in_ok-inner.inner) b c.in_ok-inner.ensures (then-fault _ _ w q e)))
+
+pub shapes::map-returns-in_err-key : goal.shapes::map-returns-in_err-key
+unfolding n.map
+shapes::map-returns-in_err-key t c =
+    let start = c.args.cursor.now.rest.now in
+    let a = c.expect.new.self.rest.now in
+    let x = c.from_residual-in_err-key in
+    exits shape_of x.result (n.key a) (n.map (n.shape c.args.levels) start) c.in_err-key.field-0.0 c.map_key.new.cursor.rest.now x.ensures.1 c.in_err-key.ensures
+    (λ w q e. then-found _ _ _ tt a c.in_ok-expect.ensures (then-fault _ _ w q e))
+
+pub shapes::map-returns-in_err-expect-2 : goal.shapes::map-returns-in_err-expect-2
+unfolding n.map
+shapes::map-returns-in_err-expect-2 t c =
+    let start = c.args.cursor.now.rest.now in
+    let a = c.expect.new.self.rest.now in
+    let b = c.map_key.new.cursor.rest.now in
+    let x = c.from_residual-in_err-expect-2 in
+    exits shape_of x.result (n.wanted 44 (codes "`,` is wanted") b) (n.map (n.shape c.args.levels) start) c.in_err-expect-2.field-0.0 c.expect-2.new.self.rest.now x.ensures.1 c.in_err-expect-2.ensures
+    (λ w q e. then-found _ _ _ tt a c.in_ok-expect.ensures (then-found _ _ _ (key_shape_of c.in_ok-key.key) b c.in_ok-key.ensures (then-fault _ _ w q e)))
+
+pub shapes::map-returns-in_err-value : goal.shapes::map-returns-in_err-value
+unfolding n.map
+shapes::map-returns-in_err-value t c =
+    let start = c.args.cursor.now.rest.now in
+    let inner = n.shape c.args.levels in
+    let a = c.expect.new.self.rest.now in
+    let b = c.map_key.new.cursor.rest.now in
+    let d = c.expect-2.new.self.rest.now in
+    let x = c.from_residual-in_err-value in
+    exits shape_of x.result (inner d) (n.map inner start) c.in_err-value.field-0.0 c.shape.new.cursor.rest.now x.ensures.1 c.in_err-value.ensures
+    (λ w q e. then-found _ _ _ tt a c.in_ok-expect.ensures (then-found _ _ _ (key_shape_of c.in_ok-key.key) b c.in_ok-key.ensures (then-found _ _ _ tt d c.in_ok-expect-2.ensures (then-fault _ _ w q e))))
+
+pub shapes::map-returns-in_err-expect-3 : goal.shapes::map-returns-in_err-expect-3
+unfolding n.map
+shapes::map-returns-in_err-expect-3 t c =
+    let start = c.args.cursor.now.rest.now in
+    let a = c.expect.new.self.rest.now in
+    let b = c.map_key.new.cursor.rest.now in
+    let d = c.expect-2.new.self.rest.now in
+    let f = c.shape.new.cursor.rest.now in
+    let x = c.from_residual-in_err-expect-3 in
+    exits shape_of x.result (n.wanted 41 (codes "`)` is wanted") f) (n.map (n.shape c.args.levels) start) c.in_err-expect-3.field-0.0 c.expect-3.new.self.rest.now x.ensures.1 c.in_err-expect-3.ensures
+    (λ w q e. then-found _ _ _ tt a c.in_ok-expect.ensures (then-found _ _ _ (key_shape_of c.in_ok-key.key) b c.in_ok-key.ensures (then-found _ _ _ tt d c.in_ok-expect-2.ensures
+    (then-found _ _ _ (shape_of c.in_ok-value.value) f c.in_ok-value.ensures (then-fault _ _ w q e)))))
+
+pub shapes::field-returns-in_err-expect : goal.shapes::field-returns-in_err-expect
+unfolding n.field
+shapes::field-returns-in_err-expect t c =
+    let start = c.args.cursor.now.rest.now in
+    let a = c.name.new.self.rest.now in
+    let m = c.take-optional.new.self.rest.now in
+    let mark : m ≡ n.optional_mark a = grind arith in
+    let x = c.from_residual-in_err-expect in
+    exits field_of x.result (n.wanted 58 (codes "`:` is wanted") m) (n.field (n.shape c.args.levels) start) c.in_err-expect.field-0.0 c.expect.new.self.rest.now x.ensures.1 c.in_err-expect.ensures
+    (λ w q e. then-found _ _ _ (string_bytes c.in_ok-name.name) a c.in_ok-name.ensures (then-fault _ _ w q (ap (n.wanted 58 (codes "`:` is wanted")) (sym mark) ∙ e)))
+
+pub shapes::field-returns-in_err-shape : goal.shapes::field-returns-in_err-shape
+unfolding n.field
+shapes::field-returns-in_err-shape t c =
+    let start = c.args.cursor.now.rest.now in
+    let inner = n.shape c.args.levels in
+    let a = c.name.new.self.rest.now in
+    let b = c.expect.new.self.rest.now in
+    let mark : c.take-optional.new.self.rest.now ≡ n.optional_mark a = grind arith in
+    let opened : n.wanted 58 (codes "`:` is wanted") (n.optional_mark a) ≡ found tt b = ap (n.wanted 58 (codes "`:` is wanted")) (sym mark) ∙ c.in_ok-expect.ensures in
+    let x = c.from_residual-in_err-shape in
+    exits field_of x.result (inner b) (n.field inner start) c.in_err-shape.field-0.0 c.shape.new.cursor.rest.now x.ensures.1 c.in_err-shape.ensures
+    (λ w q e. then-found _ _ _ (string_bytes c.in_ok-name.name) a c.in_ok-name.ensures (then-found _ _ _ tt b opened (seen-fault _ _ w q e)))
+
+pub shapes::items-returns-in_err-shape : goal.shapes::items-returns-in_err-shape
+shapes::items-returns-in_err-shape t c =
+    let l = c.loop-at in
+    let start = c.args.cursor.now.rest.now in
+    let inner = n.shape c.args.levels in
+    let no : n.comes 41 start ≡ false = grind arith in
+    let same : c.take.new.self.rest.now ≡ start = grind arith in
+    let whole = items-some inner start no ∙ ap (λ z. n.listed inner 41 n.comma_or_parenthesis (length z) z) (sym same) in
+    let all = before (map shape_of c.args.items.items) (n.items inner start) in
+    exits (λ items. map shape_of items.items) c.from_residual.result (inner l.cursor.rest.now) all c.in_err-shape.field-0.0 c.shape.new.cursor.rest.now c.from_residual.ensures.1 c.in_err-shape.ensures
+    (turn-fault inner 41 n.comma_or_parenthesis all (map shape_of l.items.items) (length c.take.new.self.rest.now - l.at) l.cursor.rest.now (ap (before (map shape_of c.args.items.items)) whole ∙ l.invariant) (omega arith))
+
+pub shapes::items-returns-in_err-goes_on : goal.shapes::items-returns-in_err-goes_on
+shapes::items-returns-in_err-goes_on t c =
+    let l = c.loop-at in
+    let start = c.args.cursor.now.rest.now in
+    let inner = n.shape c.args.levels in
+    let s = c.shape.new.cursor.rest.now in
+    let no : n.comes 41 start ≡ false = grind arith in
+    let same : c.take.new.self.rest.now ≡ start = grind arith in
+    let whole = items-some inner start no ∙ ap (λ z. n.listed inner 41 n.comma_or_parenthesis (length z) z) (sym same) in
+    let all = before (map shape_of c.args.items.items) (n.items inner start) in
+    let x = c.from_residual-in_err-goes_on in
+    exits (λ items. map shape_of items.items) x.result (n.goes_on 41 n.comma_or_parenthesis s) all c.in_err-goes_on.field-0.0 c.goes_on.new.self.rest.now x.ensures.1 c.in_err-goes_on.ensures
+    (turn-sign inner 41 n.comma_or_parenthesis all (map shape_of l.items.items) (length c.take.new.self.rest.now - l.at) l.cursor.rest.now (ap (before (map shape_of c.args.items.items)) whole ∙ l.invariant) (omega arith)
+    (shape_of c.in_ok-shape.field-0) s c.in_ok-shape.ensures)
+
+pub shapes::items-returns : goal.shapes::items-returns
+shapes::items-returns t c =
+    let l = c.loop-at in
+    let start = c.args.cursor.now.rest.now in
+    let inner = n.shape c.args.levels in
+    let no : n.comes 41 start ≡ false = grind arith in
+    let same : c.take.new.self.rest.now ≡ start = grind arith in
+    let whole = items-some inner start no ∙ ap (λ z. n.listed inner 41 n.comma_or_parenthesis (length z) z) (sym same) in
+    turn-none inner 41 n.comma_or_parenthesis (before (map shape_of c.args.items.items) (n.items inner start)) (map shape_of l.items.items) (length c.take.new.self.rest.now - l.at) l.cursor.rest.now
+    (ap (before (map shape_of c.args.items.items)) whole ∙ l.invariant) (omega arith)
+
+pub shapes::fields-returns-in_err-field : goal.shapes::fields-returns-in_err-field
+shapes::fields-returns-in_err-field t c =
+    let l = c.loop-at in
+    let start = c.args.cursor.now.rest.now in
+    let inner = n.shape c.args.levels in
+    let no : n.comes 125 start ≡ false = grind arith in
+    let same : c.take.new.self.rest.now ≡ start = grind arith in
+    let whole = fields-some inner start no ∙ ap (λ z. n.listed (n.field inner) 125 n.comma_or_brace (length z) z) (sym same) ∙ l.invariant in
+    exits (λ fields. map field_of fields.items) c.from_residual.result (n.field inner l.cursor.rest.now) (n.fields inner start) c.in_err-field.field-0.0 c.field.new.cursor.rest.now c.from_residual.ensures.1 c.in_err-field.ensures
+    (turn-fault (n.field inner) 125 n.comma_or_brace (n.fields inner start) (map field_of l.fields.items) (length c.take.new.self.rest.now - l.at) l.cursor.rest.now whole (omega arith))
+
+pub shapes::fields-returns-in_err-goes_on : goal.shapes::fields-returns-in_err-goes_on
+shapes::fields-returns-in_err-goes_on t c =
+    let l = c.loop-at in
+    let start = c.args.cursor.now.rest.now in
+    let inner = n.shape c.args.levels in
+    let s = c.field.new.cursor.rest.now in
+    let no : n.comes 125 start ≡ false = grind arith in
+    let same : c.take.new.self.rest.now ≡ start = grind arith in
+    let whole = fields-some inner start no ∙ ap (λ z. n.listed (n.field inner) 125 n.comma_or_brace (length z) z) (sym same) ∙ l.invariant in
+    let x = c.from_residual-in_err-goes_on in
+    exits (λ fields. map field_of fields.items) x.result (n.goes_on 125 n.comma_or_brace s) (n.fields inner start) c.in_err-goes_on.field-0.0 c.goes_on.new.self.rest.now x.ensures.1 c.in_err-goes_on.ensures
+    (turn-sign (n.field inner) 125 n.comma_or_brace (n.fields inner start) (map field_of l.fields.items) (length c.take.new.self.rest.now - l.at) l.cursor.rest.now whole (omega arith)
+    (field_of c.in_ok-field.field-0) s c.in_ok-field.ensures)
+
+pub shapes::fields-returns : goal.shapes::fields-returns
+shapes::fields-returns t c =
+    let l = c.loop-at in
+    let start = c.args.cursor.now.rest.now in
+    let inner = n.shape c.args.levels in
+    let no : n.comes 125 start ≡ false = grind arith in
+    let same : c.take.new.self.rest.now ≡ start = grind arith in
+    let whole = fields-some inner start no ∙ ap (λ z. n.listed (n.field inner) 125 n.comma_or_brace (length z) z) (sym same) ∙ l.invariant in
+    turn-none (n.field inner) 125 n.comma_or_brace (n.fields inner start) (map field_of l.fields.items) (length c.take.new.self.rest.now - l.at) l.cursor.rest.now whole (omega arith)
+
+pub variants::variants-returns-in_err-variant : goal.variants::variants-returns-in_err-variant
+unfolding n.variants
+variants::variants-returns-in_err-variant t c =
+    let l = c.loop-at in
+    let start = c.args.cursor.now.rest.now in
+    let one = n.variant (n.shape c.args.levels) in
+    exits (λ variants. map variant_of variants.items) c.from_residual.result (one l.cursor.rest.now) (n.variants (n.shape c.args.levels) start) c.in_err-variant.field-0.0 c.variant.new.cursor.rest.now
+    c.from_residual.ensures.1 c.in_err-variant.ensures
+    (turn-fault one 41 n.comma_or_parenthesis (n.variants (n.shape c.args.levels) start) (map variant_of l.variants.items) (length start - l.at) l.cursor.rest.now l.invariant (omega arith))
+
+pub variants::variants-returns-in_err-goes_on : goal.variants::variants-returns-in_err-goes_on
+unfolding n.variants
+variants::variants-returns-in_err-goes_on t c =
+    let l = c.loop-at in
+    let start = c.args.cursor.now.rest.now in
+    let one = n.variant (n.shape c.args.levels) in
+    let s = c.variant.new.cursor.rest.now in
+    let x = c.from_residual-in_err-goes_on in
+    exits (λ variants. map variant_of variants.items) x.result (n.goes_on 41 n.comma_or_parenthesis s) (n.variants (n.shape c.args.levels) start) c.in_err-goes_on.field-0.0 c.goes_on.new.self.rest.now x.ensures.1 c.in_err-goes_on.ensures
+    (turn-sign one 41 n.comma_or_parenthesis (n.variants (n.shape c.args.levels) start) (map variant_of l.variants.items) (length start - l.at) l.cursor.rest.now l.invariant (omega arith)
+    (variant_of c.in_ok-variant.field-0) s c.in_ok-variant.ensures)
+
+pub variants::variants-returns : goal.variants::variants-returns
+unfolding n.variants
+variants::variants-returns t c =
+    let l = c.loop-at in
+    let start = c.args.cursor.now.rest.now in
+    turn-none (n.variant (n.shape c.args.levels)) 41 n.comma_or_parenthesis (n.variants (n.shape c.args.levels) start) (map variant_of l.variants.items) (length start - l.at) l.cursor.rest.now l.invariant (omega arith)
+
+pub variants::variant-returns-in_err-kind : goal.variants::variant-returns-in_err-kind
+unfolding n.variant
+variants::variant-returns-in_err-kind t c =
+    let start = c.args.cursor.now.rest.now in
+    let inner = n.shape c.args.levels in
+    let a = c.name.new.self.rest.now in
+    let x = c.from_residual-in_err-kind in
+    exits variant_of x.result (n.kind inner a) (n.variant inner start) c.in_err-kind.field-0.0 c.kind.new.cursor.rest.now x.ensures.1 c.in_err-kind.ensures
+    (λ w q e. then-found _ _ _ (string_bytes c.in_ok-name.name) a c.in_ok-name.ensures (seen-fault _ _ w q e))
+
+pub variants::held-returns-in_err-expect : goal.variants::held-returns-in_err-expect
+unfolding n.held
+variants::held-returns-in_err-expect t c =
+    let start = c.args.cursor.now.rest.now in
+    let inner = n.shape c.args.levels in
+    let a = c.shape.new.cursor.rest.now in
+    let m = c.take-2.new.self.rest.now in
+    let none : n.comes 41 start ≡ false = grind arith in
+    let first : inner start ≡ found (shape_of c.in_ok-first.first) a = grind arith in
+    let no : n.comes 41 a ≡ false = grind arith in
+    let same : m ≡ a = grind arith in
+    let x = c.from_residual-in_err-expect in
+    exits kind_of x.result (n.wanted 44 n.comma_or_parenthesis m) (n.held inner start) c.in_err-expect.field-0.0 c.expect.new.self.rest.now x.ensures.1 c.in_err-expect.ensures
+    (λ w q e. cond-false (n.comes 41 start) _ _ _ none (then-found _ _ _ (shape_of c.in_ok-first.first) a first
+    (cond-false (n.comes 41 a) _ _ _ no (then-fault _ _ w q (ap (n.wanted 44 n.comma_or_parenthesis) (sym same) ∙ e)))))
+
+pub variants::held-returns-in_err-items : goal.variants::held-returns-in_err-items
+unfolding n.held
+variants::held-returns-in_err-items t c =
+    let start = c.args.cursor.now.rest.now in
+    let inner = n.shape c.args.levels in
+    let a = c.shape.new.cursor.rest.now in
+    let b = c.expect.new.self.rest.now in
+    let front = map shape_of c.push.new.self.items in
+    let none : n.comes 41 start ≡ false = grind arith in
+    let first : inner start ≡ found (shape_of c.in_ok-first.first) a = grind arith in
+    let no : n.comes 41 a ≡ false = grind arith in
+    let comma : n.wanted 44 n.comma_or_parenthesis a ≡ found tt b = grind arith in
+    let x = c.from_residual-in_err-items in
+    exits kind_of x.result (before front (n.items inner b)) (n.held inner start) c.in_err-items.field-0.0 c.items.new.cursor.rest.now x.ensures.1 c.in_err-items.ensures
+    (λ w q e. cond-false (n.comes 41 start) _ _ _ none (then-found _ _ _ (shape_of c.in_ok-first.first) a first
+    (cond-false (n.comes 41 a) _ _ _ no (then-found _ _ _ tt b comma (seen-fault _ _ w q (before-fault front (n.items inner b) w q e))))))
+
+pub variants::kind-returns-in_err-fields-2 : goal.variants::kind-returns-in_err-fields-2
+unfolding n.kind
+variants::kind-returns-in_err-fields-2 t c =
+    let start = c.args.cursor.now.rest.now in
+    let inner = n.shape c.args.levels in
+    let a = c.expect.new.self.rest.now in
+    let no : n.comes 123 start ≡ false = grind arith in
+    let yes : bytes_eq (n.word start) (codes "strict") ≡ true = grind arith in
+    let opened : n.brace_wanted (n.after_word start) ≡ found tt a = grind arith in
+    let x = c.from_residual-in_err-fields-2 in
+    exits kind_of x.result (n.fields inner a) (n.kind inner start) c.in_err-fields-2.field-0.0 c.fields-then-take_word.new.cursor.rest.now x.ensures.1 c.in_err-fields-2.ensures
+    (λ w q e. cond-false (n.comes 123 start) _ _ _ no (cond-true (bytes_eq (n.word start) (codes "strict")) _ _ _ yes (then-found _ _ _ tt a opened (seen-fault _ _ w q e))))
+
+pub shapes::named-returns-in_err-fields : goal.shapes::named-returns-in_err-fields
+unfolding n.named
+shapes::named-returns-in_err-fields t c =
+    let start = c.args.cursor.now.rest.now in
+    let w = c.args.word.now in
+    let inner = n.shape c.args.levels in
+    let a = c.expect.new.self.rest.now in
+    let no_map : bytes_eq w (codes "map") ≡ false = grind arith in
+    let no_newtype : bytes_eq w (codes "newtype") ≡ false = grind arith in
+    let yes : bytes_eq w (codes "strict") ≡ true = grind arith in
+    let x = c.from_residual-in_err-fields in
+    exits shape_of x.result (n.fields inner a) (n.named inner w start) c.in_err-fields.field-0.0 c.fields.new.cursor.rest.now x.ensures.1 c.in_err-fields.ensures
+    (λ why q e. cond-false (bytes_eq w (codes "map")) _ _ _ no_map (cond-false (bytes_eq w (codes "newtype")) _ _ _ no_newtype (cond-true (bytes_eq w (codes "strict")) _ _ _ yes
+    (then-found _ _ _ tt a c.in_ok-expect.ensures (seen-fault _ _ why q e)))))
+
+pub shapes::named-returns-in_err-variants : goal.shapes::named-returns-in_err-variants
+unfolding n.named
+shapes::named-returns-in_err-variants t c =
+    let start = c.args.cursor.now.rest.now in
+    let w = c.args.word.now in
+    let inner = n.shape c.args.levels in
+    let a = c.expect-then-eq-4.new.self.rest.now in
+    let no_map : bytes_eq w (codes "map") ≡ false = grind arith in
+    let no_newtype : bytes_eq w (codes "newtype") ≡ false = grind arith in
+    let no_strict : bytes_eq w (codes "strict") ≡ false = grind arith in
+    let yes : bytes_eq w (codes "enum") ≡ true = grind arith in
+    let x = c.from_residual-in_err-variants in
+    exits shape_of x.result (n.variants inner a) (n.named inner w start) c.in_err-variants.field-0.0 c.variants.new.cursor.rest.now x.ensures.1 c.in_err-variants.ensures
+    (λ why q e. cond-false (bytes_eq w (codes "map")) _ _ _ no_map (cond-false (bytes_eq w (codes "newtype")) _ _ _ no_newtype (cond-false (bytes_eq w (codes "strict")) _ _ _ no_strict
+    (cond-true (bytes_eq w (codes "enum")) _ _ _ yes (then-found _ _ _ tt a c.in_ok-expect-2.ensures (seen-fault _ _ why q e))))))

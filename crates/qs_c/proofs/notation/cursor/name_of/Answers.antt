@@ -2,7 +2,7 @@ use Rattle.std.proofs.Common.{◌≡◌, ap, refl, sym, ◌∙◌, string_bytes}
 use Rattle.std.specs.Str.{is_utf8}
 use Rattle.std.proofs.lemmas.Str.{is_utf8-from_IsUtf8}
 use Rattle.qs_c.specs.Found.{found}
-use Rattle.qs_data.proofs.Refusals.{is_utf8_not}
+use Rattle.qs_data.proofs.lemmas.read.Errors.{is_utf8_not}
 use Rattle.qs_c.proofs.Found.{cond-false, cond-true}
 use Rattle.qs_c.proofs.notation.cursor.name_of.Goals as goal
 

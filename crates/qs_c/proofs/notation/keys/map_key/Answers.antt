@@ -2,7 +2,7 @@ use Rattle.std.proofs.Common.{◌≡◌, true, arith, codes, map, string_bytes}
 use Rattle.std.specs.Str.{bytes_eq}
 use Rattle.qs_c.specs.Found.{found}
 use Rattle.qs_c.specs.Notation.{after_word, comma_or_parenthesis, key, list_of, name, open_wanted, word}
-use Rattle.qs_data.specs.Views.{key_shape_of}
+use Rattle.qs_data.specs.shape.Views.{key_shape_of}
 use Rattle.qs_c.proofs.Found.{cond-true, seen-fault, seen-found, then-found}
 use Rattle.qs_c.proofs.Stopping.{exits}
 use Rattle.qs_c.proofs.notation.keys.map_key.Goals as goal

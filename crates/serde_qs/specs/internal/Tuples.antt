@@ -5,7 +5,6 @@ use Rattle.qs_spec.specs.Data as v
 use Rattle.qs_spec.specs.Data.{Values, no_values, one_value, values_of}
 use Rattle.qs_spec.specs.Same.{Same, SameValues}
 use Rattle.qs_spec.specs.Shape.{Shape, one_shape, shapes_of}
-use Rattle.qs_data.specs.declared.data.data.Data.{Data}
 use Rattle.serde_qs.specs.ComesBack.{ComesBack}
 use Rattle.serde_qs.specs.Fits.{fits, fit_parts}
 use Rattle.serde_qs.specs.Meaning.{both}

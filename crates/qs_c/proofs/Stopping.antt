@@ -1,7 +1,6 @@
 -- Where a text isn't parsed on, step by step.
-use Rattle.std.proofs.Common.{◌≡◌, ℕ, zero, suc, ◌+◌, ◌-◌, ◌<◌, List, [], ◌∷◌, ◌++◌, refl, ap, sym, subst, ◌∙◌, arith, Result, Ok, Err}
+use Rattle.std.proofs.Common.{◌≡◌, ℕ, zero, suc, ◌+◌, ◌<◌, List, refl, ap, sym, subst, ◌∙◌, arith, Result, Ok, Err}
 use Rattle.std.specs.Result.{IsErrAnd}
-use Rattle.qs_spec.specs.Shape.{Shape}
 use Rattle.qs_c.specs.declared.notation.stop.Stop.{Stop}
 use Rattle.qs_c.specs.declared.notation.stop.Stop.TheVariants.{Fault, OutOfMemory}
 use Rattle.qs_c.specs.Found.{Found, found, fault, Parser, and_then, seen, before}

@@ -1,3 +1,5 @@
+pub mod Depths
+pub mod Held
 pub mod ItemsThere
 pub mod KeysAllowed
 pub mod OneByOne

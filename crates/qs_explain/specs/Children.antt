@@ -1,13 +1,14 @@
 -- What stands below a node: each part that a segment leads to.
-use Rattle.std.specs.Prelude.{ℕ, ◌+◌, Bool, ◌||◌, cond, List, [], ◌∷◌, ◌++◌, Option, Some, None}
-use Rattle.qs_spec.specs.Segment.{Segment}
+use Rattle.std.specs.Prelude.{ℕ, ◌+◌, Bool, true, false, ◌||◌, cond, List, [], ◌∷◌, ◌++◌, Option, Some, None}
+use Rattle.qs_spec.specs.Segment.{Segment, segment_text}
 use Rattle.qs_spec.specs.Segment.Segment.{Int, Str}
 use Rattle.qs_spec.specs.Leaf.Leaf.{NoValue, Null, Text}
-use Rattle.qs_spec.specs.Shape.{Shape, Shapes, no_shapes, one_shape, Fields, no_fields, one_field, is_option}
+use Rattle.qs_spec.specs.Shape.{Shape, Shapes, no_shapes, one_shape, Fields, no_fields, one_field, Variant, Variants, VariantKind, unit_kind, newtype_kind, tuple_kind, struct_kind, UnknownKeys, is_option}
 use Rattle.qs_spec.specs.Tree.{Tree, Entries}
 use Rattle.qs_spec.specs.Tree.Tree.{leaf, sequence, mapping, uninitialized}
 use Rattle.qs_spec.specs.Tree.Entries.{no_entries, entry}
 use Rattle.qs_spec.specs.Node.{items, found, under_empty}
+use Rattle.qs_data.specs.Variants.{variant_named}
 
 -- the segment, and the shape and the node of the part that it leads to; a missing part is the tree without pairs
 abbrev pub Child : Type 0
@@ -63,6 +64,30 @@ map_children s (leaf (Text bytes mark)) = pair_children s (under_empty (leaf (Te
 map_children s (mapping es) = pair_children s es
 map_children s _ = []
 
+abbrev pub is_text : Tree → Bool
+is_text (leaf (Text bytes mark)) = true
+is_text _ = false
+
+-- what a variant's fields are read from, unless it is a text, which counts as a map that isn't in the tree
+abbrev pub held_fields : Segment → UnknownKeys → Fields → Tree → List Child
+held_fields key u fs n = cond (is_text n) [] ((key, Shape.struct u fs, n) ∷ [])
+
+-- what a variant holds, under its name: a value, a tuple or fields
+abbrev pub held_children : Segment → VariantKind → Tree → List Child
+held_children key unit_kind n = []
+held_children key (newtype_kind s) n = (key, s, n) ∷ []
+held_children key (tuple_kind ss) n = (key, Shape.tuple ss, n) ∷ []
+held_children key (struct_kind u fs) n = held_fields key u fs n
+
+abbrev pub named_children : Segment → Option Variant → Tree → List Child
+named_children key None n = []
+named_children key (Some v) n = held_children key v.1 n
+
+-- the value of the variant that the first key names
+abbrev pub enum_children : Variants → Tree → List Child
+enum_children vs (mapping (entry key mark n es)) = named_children key (variant_named (segment_text key) vs) n
+enum_children vs _ = []
+
 abbrev pub listed : (List (Option Tree) → List Child) → Option (List (Option Tree)) → List Child
 listed children None = []
 listed children (Some xs) = children xs
@@ -72,4 +97,5 @@ children (Shape.sequence s) n = listed (item_children 0 s) (items n)
 children (Shape.tuple ss) n = listed (tuple_children 0 ss) (items n)
 children (Shape.mapping k s) n = map_children s n
 children (Shape.struct u fs) n = struct_children fs n
+children (Shape.enumeration vs) n = enum_children vs n
 children _ n = []

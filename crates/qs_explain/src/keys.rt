@@ -8,6 +8,7 @@ ghost use Rattle.std.specs.Option.{is_some};
 ghost use Rattle.qs_spec.specs.internal.ReadFunction.{reads};
 ghost use Rattle.qs_spec.specs.Leaf.Leaf.{Text};
 ghost use Rattle.qs_spec.specs.Segment.{segment_text};
+ghost use Rattle.qs_spec.specs.Shape as s;
 ghost use Rattle.qs_spec.specs.Shape.{are_ignored, is_field_name};
 ghost use Rattle.qs_spec.specs.Tree.Tree.{leaf};
 ghost use Rattle.qs_tree.specs.tree.Views.{tree_of, entries_of_map, segment_of_key};
@@ -27,7 +28,7 @@ use std::str;
 
 /// What becomes of a key that no field has.
 #[derive(Clone, Copy)]
-enum UnknownKeys {
+pub(crate) enum UnknownKeys {
     Ignored,
     Rejected,
 }
@@ -43,6 +44,25 @@ pub(crate) fn find_unexpected_key(
 {
     match node {
         ParsedValue::Map(map) => find_among_keys(alloc, config, shape, map),
+        ParsedValue::Uninitialized
+        | ParsedValue::NoValue
+        | ParsedValue::Null
+        | ParsedValue::String(_)
+        | ParsedValue::Sequence(_) => Ok(None),
+    }
+}
+
+/// The same of a struct with these fields.
+pub(crate) fn find_unknown_key(
+    alloc: Global,
+    unknown: UnknownKeys,
+    fields: &[Field],
+    node: &ParsedValue<'_>,
+) -> Result<Option<Segment>, AllocError>
+    ensures { IfOk result (λ found. option_map segment_of found ≡ unexpected_key (s.Shape.struct (unknown_of unknown) (fields_in fields.now)) (tree_of node.now)) }
+{
+    match node {
+        ParsedValue::Map(map) => find_unknown_field(alloc, unknown, fields, map),
         ParsedValue::Uninitialized
         | ParsedValue::NoValue
         | ParsedValue::Null

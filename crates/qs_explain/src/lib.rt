@@ -12,6 +12,7 @@
 #![tactic(auto)]
 
 mod children;
+mod enums;
 mod expected;
 mod explaining;
 mod explanation;

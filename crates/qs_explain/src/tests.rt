@@ -190,9 +190,73 @@ fn variants(rt: HostRuntime) {
     let shape = only(&rt, alloc, "by", Shape::Enum(variants));
     let cases = [
         ("by[Card]=7", ""),
-        ("by[Card]=x", "by: expected a variant, found nested keys"),
+        ("by[Card]=x", "by[Card]: expected u8, found the text \"x\""),
         ("by[Cash]=1", "by: unexpected key \"Cash\""),
         ("by=Cash", "by: expected a variant, found the text \"Cash\""),
+    ];
+    for (input, line) in cases.iter() {
+        says(&rt, alloc, &shape, input, line);
+    }
+}
+
+#[test]
+fn tuples_of_variants(rt: HostRuntime) {
+    let alloc = rt.alloc();
+    let at = variant(&rt, alloc, "At", VariantKind::Tuple(point(&rt, alloc)));
+    let nowhere = variant(&rt, alloc, "Nowhere", VariantKind::Unit);
+    let variants = Vec::from_array(alloc, [at, nowhere]).expect(&rt, "memory");
+    let shape = only(&rt, alloc, "place", Shape::Enum(variants));
+    let cases = [
+        ("place[At][]=1&place[At][]=2", ""),
+        ("place=Nowhere", ""),
+        ("place[Nowhere]=x", ""),
+        ("place[At][]=1", "place[At][1]: expected i8, found nothing"),
+        (
+            "place[At][]=1&place[At][]=x",
+            "place[At][1]: expected i8, found the text \"x\"",
+        ),
+        (
+            "place[At][x]=1",
+            "place[At]: expected a list of fixed length, found nested keys",
+        ),
+        (
+            "place=At",
+            "place: expected a variant, found the text \"At\"",
+        ),
+    ];
+    for (input, line) in cases.iter() {
+        says(&rt, alloc, &shape, input, line);
+    }
+}
+
+#[test]
+fn fields_of_variants(rt: HostRuntime) {
+    let alloc = rt.alloc();
+    let name = field(&rt, alloc, "name", Shape::Text);
+    let age = field(&rt, alloc, "age", Shape::U8);
+    let lax = VariantKind::Struct(two_fields(&rt, alloc, name, age));
+    let lax = variant(&rt, alloc, "Lax", lax);
+    let zip = field(&rt, alloc, "zip", Shape::U32);
+    let strict = VariantKind::StrictStruct(Vec::from_array(alloc, [zip]).expect(&rt, "memory"));
+    let strict = variant(&rt, alloc, "Strict", strict);
+    let variants = Vec::from_array(alloc, [lax, strict]).expect(&rt, "memory");
+    let shape = only(&rt, alloc, "who", Shape::Enum(variants));
+    let cases = [
+        ("who[Lax][name]=Alice&who[Lax][age]=7&who[Lax][zip]=1", ""),
+        (
+            "who[Lax][name]=Alice&who[Lax][age]=300",
+            "who[Lax][age]: expected u8, found the text \"300\"",
+        ),
+        (
+            "who[Lax][name]=Alice",
+            "who[Lax][age]: expected u8, found nothing",
+        ),
+        (
+            "who[Strict][zip]=1&who[Strict][zap]=2",
+            "who[Strict]: unexpected key \"zap\"",
+        ),
+        ("who[Strict][]=1&who[Strict][]=2", ""),
+        ("who[Lax]=x", "who: expected a variant, found nested keys"),
     ];
     for (input, line) in cases.iter() {
         says(&rt, alloc, &shape, input, line);

@@ -1,6 +1,6 @@
-//! The variant that a key names.
+//! Which variant a key names.
 
-ghost use Rattle.std.specs.Prelude.{◌≡◌, option_map};
+ghost use Rattle.std.specs.Prelude.{◌≡◌, ◌<◌, Some, IfSome, length, option_map, slice_get};
 ghost use Rattle.qs_spec.specs.Segment.{segment_text};
 ghost use Rattle.qs_tree.specs.tree.Views.{segment_of_key};
 ghost use Rattle.qs_data.specs.shape.Variants.{variant_named};
@@ -10,9 +10,10 @@ use itoa::Buffer;
 use qs_data::Variant;
 use qs_tree::Key;
 
-/// The variant that a key names.
-pub(crate) fn find_variant<'v>(variants: &'v [Variant], key: &Key<'_>) -> Option<&'v Variant>
-    ensures { option_map (λ v. variant_of v.now) result ≡ variant_named (segment_text (segment_of_key key.now)) (variants_in variants.now) }
+/// The index of the variant that a key names.
+pub(crate) fn find_variant(variants: &[Variant], key: &Key<'_>) -> Option<usize>
+    ensures index { IfSome result (λ i. i < length variants.now) }
+    ensures named { option_map (λ i. option_map variant_of (slice_get variants.now i)) result ≡ option_map Some (variant_named (segment_text (segment_of_key key.now)) (variants_in variants.now)) }
 {
     match key {
         Key::Int(number) => {
@@ -23,13 +24,14 @@ pub(crate) fn find_variant<'v>(variants: &'v [Variant], key: &Key<'_>) -> Option
     }
 }
 
-// The variant of a name.
-fn variant_of_name<'v>(variants: &'v [Variant], name: &[u8]) -> Option<&'v Variant>
-    ensures { option_map (λ v. variant_of v.now) result ≡ variant_named name.now (variants_in variants.now) }
+// The index of the variant of a name.
+fn variant_of_name(variants: &[Variant], name: &[u8]) -> Option<usize>
+    ensures index { IfSome result (λ i. i < length variants.now) }
+    ensures named { option_map (λ i. option_map variant_of (slice_get variants.now i)) result ≡ option_map Some (variant_named name.now (variants_in variants.now)) }
 {
-    for variant in variants {
+    for (i, variant) in variants.iter().enumerate() {
         if variant.name.as_bytes() == name {
-            return Some(variant);
+            return Some(i);
         }
     }
     None

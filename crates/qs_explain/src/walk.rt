@@ -9,6 +9,7 @@ ghost use Rattle.qs_explain.specs.Explains.{Finds, FindsInside, IsHere, Tests, s
 ghost use Rattle.qs_spec.specs.internal.ReadFunction.{reads};
 ghost use Rattle.std.specs.Prelude.{◌≡◌, None};
 
+use crate::enums::find_in_enum;
 use crate::expected::Expected;
 use crate::explanation::{Mismatch, Problem};
 use crate::fields::find_in_struct;
@@ -60,7 +61,7 @@ pub(crate) fn is_read(
     }
 }
 
-// The first part inside a node that isn't read.
+// The first part that isn't read inside a node that isn't read either.
 #[cycle(walk)]
 #[tactic(auto, using(crate::proofs::Parts::parts))]
 fn find_inside(
@@ -69,6 +70,7 @@ fn find_inside(
     shape: &Shape,
     node: &ParsedValue<'_>,
 ) -> Result<Option<Mismatch>, AllocError>
+    requires { reads (are_refused config.duplicates) (shape_of shape.now) (tree_of node.now) ≡ None }
     ensures { FindsInside (are_rejected config.duplicates) (shape_of shape.now) (tree_of node.now) result }
 {
     match shape {
@@ -79,6 +81,7 @@ fn find_inside(
         Shape::Map(_, part) => find_in_map(alloc, config, part, node),
         Shape::Struct(fields) => find_in_struct(alloc, config, fields, node),
         Shape::StrictStruct(fields) => find_in_struct(alloc, config, fields, node),
+        Shape::Enum(variants) => find_in_enum(alloc, config, variants, node),
         Shape::Unit
         | Shape::Bool
         | Shape::U8
@@ -93,7 +96,6 @@ fn find_inside(
         | Shape::Text
         | Shape::Bytes
         | Shape::Any
-        | Shape::Enum(_)
         | Shape::Ignored => Ok(None),
     }
 }
@@ -118,8 +120,8 @@ fn find_in_option(
     }
 }
 
-// The mismatch of a node itself: an unexpected key, or else what is expected and what stands there.
-fn mismatch_here(
+/// The mismatch of a node itself: an unexpected key, or else what is expected and what stands there.
+pub(crate) fn mismatch_here(
     alloc: Global,
     unexpected: Option<Segment>,
     expected: Expected,

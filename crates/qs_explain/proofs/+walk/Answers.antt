@@ -1,4 +1,4 @@
-use Rattle.std.proofs.Common.{◌≡◌, ◌∷◌, [], ap, sym, subst, refl, ◌∙◌, false, cond, ◌||◌, Some, None, option_map, Ok, map, rules, arith}
+use Rattle.std.proofs.Common.{◌≡◌, ◌<◌, ◌∷◌, [], length, slice_get, ap, sym, subst, refl, ◌∙◌, false, cond, ◌||◌, Some, None, option_map, Ok, map, rules, arith}
 use Rattle.std.specs.declared.alloc.AllocError.{AllocError}
 use Rattle.qs_spec.specs.Config.{are_rejected}
 use Rattle.qs_spec.specs.Leaf.Leaf.{NoValue, Null}
@@ -13,13 +13,24 @@ use Rattle.qs_tree.specs.tree.Views.{tree_of, items_from, entries_of_map, segmen
 use Rattle.qs_tree.specs.declared.tree.value.ParsedValue as value
 use Rattle.qs_data.specs.declared.shape.shape.Shape as shape
 use Rattle.qs_data.specs.declared.shape.shape.Field.{out-Field}
-use Rattle.qs_data.specs.shape.Views.{field_of, fields_in, key_shape_of, shape_of, shapes_in}
+use Rattle.qs_data.specs.shape.Views.{field_of, fields_in, key_shape_of, kind_of, shape_of, shapes_in, variant_of, variants_in}
+use Rattle.qs_spec.specs.toward.ReadFunction.{reads, reads_kind}
 use Rattle.qs_data.proofs.lemmas.read.Fields.{field_name, field_optional, field_shape}
-use Rattle.qs_explain.specs.Children.{or_missing, item_children, tuple_children, name_child, map_children, listed}
+use Rattle.qs_explain.specs.Children.{or_missing, item_children, tuple_children, name_child, map_children, struct_children, held_children, is_text, listed}
+use Rattle.qs_explain.specs.Unexpected.{unexpected_key, unknown_of}
 use Rattle.qs_explain.specs.Parts.{IsRead}
 use Rattle.qs_explain.specs.Explains.{Finds, FindsAmong, FindsBelow, FindsInside, IsBelow, Tests, keys_of, node_of, segment_of}
 use Rattle.qs_explain.proofs.Parts.{below, among, mismatch_at, newtype_found, null_found, full_found, text_full}
 use Rattle.qs_explain.proofs.OneByOne as children
+use Rattle.qs_spec.specs.Segment.{segment_text}
+use Rattle.qs_spec.specs.Tree.Entries.{entry}
+use Rattle.qs_data.specs.Keys.{entries_after}
+use Rattle.qs_data.specs.Variants.{variant_named}
+use Rattle.qs_data.proofs.Entries.{after_some}
+use Rattle.qs_data.proofs.Variants.{named_is}
+use Rattle.qs_explain.proofs.Depths.{kind_within}
+use Rattle.qs_explain.proofs.Held.{enum_found, held_unread, struct_here, struct_unread, tuple_here, tuple_unread}
+use Rattle.qs_data.specs.declared.shape.VariantKind as kind
 use Rattle.qs_explain.proofs.+walk.Goals.{pairs::find_in_pairs-else-loop-i-test, pairs::find_in_pairs-then-loop-i-test+in_default}
 use Rattle.qs_explain.proofs.+walk.Goals as goal
 
@@ -295,3 +306,147 @@ walk::find_inside-returns-in-Map t c =
     let shaped : shape_of c.args.shape.now ≡ s.Shape.mapping k p = ap shape_of c.in-Map.is ∙ search (rules, shape.the_lemmas) in
     let held = subst (λ x. FindsAmong rd (map_children (shape_of x) n) r) c.deref-in-Map.ensures c.find_in_map.ensures in
     subst (λ x. FindsInside rd x n r) (sym shaped) (among rd (s.Shape.mapping k p) n r refl held)
+
+pub walk::find_mismatch-find_inside-requires : goal.walk::find_mismatch-find_inside-requires
+walk::find_mismatch-find_inside-requires t c =
+    let rd = are_refused c.args.config.duplicates in
+    (search rules, subst (λ b. Tests rd (shape_of c.args.shape.now) (tree_of c.args.node.now) b) c.if-branch.false c.in_ok-is_read.ensures)
+
+pub walk::find_inside-find_in_enum-requires : goal.walk::find_inside-find_in_enum-requires
+walk::find_inside-find_in_enum-requires t c =
+    let rd = are_refused c.args.config.duplicates in
+    let shaped : shape_of c.args.shape.now ≡ s.Shape.enumeration (variants_in c.in-Enum.variants.items) = ap shape_of c.in-Enum.is ∙ search (rules, shape.the_lemmas) in
+    (search (rules, shape.the_lemmas), subst (λ x. reads rd x (tree_of c.args.node.now) ≡ None) shaped c.requires)
+
+pub walk::find_inside-returns-in-Enum : goal.walk::find_inside-returns-in-Enum
+walk::find_inside-returns-in-Enum t c =
+    let rd = are_refused c.args.config.duplicates in
+    let n = tree_of c.args.node.now in
+    let r = c.find_in_enum.result in
+    let vs = variants_in c.in-Enum.variants.items in
+    let shaped : shape_of c.args.shape.now ≡ s.Shape.enumeration vs = ap shape_of c.in-Enum.is ∙ search (rules, shape.the_lemmas) in
+    subst (λ x. FindsInside rd x n r) (sym shaped) (among rd (s.Shape.enumeration vs) n r refl c.find_in_enum.ensures)
+
+pub enums::find_in_enum-find_in_named-requires : goal.enums::find_in_enum-find_in_named-requires
+enums::find_in_enum-find_in_named-requires t c =
+    let rd = are_refused c.args.config.duplicates in
+    let vs = variants_in c.args.variants.now.items in
+    let seen : tree_of c.args.node.now ≡ mapping (entries_of_map c.in-Map.map) = ap tree_of c.in-Map.is ∙ search (rules, value.the_lemmas) in
+    (search rules, subst (λ n. reads rd (s.Shape.enumeration vs) n ≡ None) seen c.requires)
+
+pub enums::find_in_held_tuple-returns-in-Some : goal.enums::find_in_held_tuple-returns-in-Some
+enums::find_in_held_tuple-returns-in-Some t c =
+    let rd = are_refused c.args.config.duplicates in
+    let ss = shapes_in c.args.parts.now.items in
+    let n = tree_of c.args.value.now in
+    let fails = subst (λ o. FindsAmong {E = AllocError} rd (listed (tuple_children 0 ss) (items n)) (Ok o)) c.in-Some.is c.in_ok-mismatch.ensures in
+    among {E = AllocError} rd (s.Shape.tuple ss) n (Ok (Some c.in-Some.mismatch)) refl fails
+
+pub enums::find_in_held_struct-returns-in-Some : goal.enums::find_in_held_struct-returns-in-Some
+enums::find_in_held_struct-returns-in-Some t c =
+    let rd = are_refused c.args.config.duplicates in
+    let u = unknown_of c.args.unknown in
+    let fs = fields_in c.args.fields.now.items in
+    let n = tree_of c.args.value.now in
+    let fails = subst (λ o. FindsAmong {E = AllocError} rd (struct_children fs n) (Ok o)) c.in-Some.is c.in_ok-mismatch.ensures in
+    among {E = AllocError} rd (s.Shape.struct u fs) n (Ok (Some c.in-Some.mismatch)) refl fails
+
+pub enums::find_in_held_tuple-returns-in-None : goal.enums::find_in_held_tuple-returns-in-None
+enums::find_in_held_tuple-returns-in-None t c =
+    let rd = are_refused c.args.config.duplicates in
+    let ss = shapes_in c.args.parts.now.items in
+    let n = tree_of c.args.value.now in
+    let all = subst (λ o. FindsAmong {E = AllocError} rd (listed (tuple_children 0 ss) (items n)) (Ok o)) c.in-None.is c.in_ok-mismatch.ensures in
+    tuple_here rd ss n c.mismatch_here.result c.requires (among {E = AllocError} rd (s.Shape.tuple ss) n (Ok None) refl all) c.mismatch_here.ensures
+
+pub enums::find_in_held_struct-returns-in_ok-unexpected-in-None : goal.enums::find_in_held_struct-returns-in_ok-unexpected-in-None
+enums::find_in_held_struct-returns-in_ok-unexpected-in-None t c =
+    let rd = are_refused c.args.config.duplicates in
+    let u = unknown_of c.args.unknown in
+    let fs = fields_in c.args.fields.now.items in
+    let n = tree_of c.args.value.now in
+    let all = subst (λ o. FindsAmong {E = AllocError} rd (struct_children fs n) (Ok o)) c.in-None.is c.in_ok-mismatch.ensures in
+    struct_here rd u fs n (option_map segment_of c.in_ok-unexpected-in-None.unexpected) c.mismatch_here.result
+    (subst (λ ys. option_map segment_of c.in_ok-unexpected-in-None.unexpected ≡ unexpected_key (s.Shape.struct u (fields_in ys)) n) c.deref.ensures.value c.in_ok-unexpected-in-None.ensures) c.requires
+    (among {E = AllocError} rd (s.Shape.struct u fs) n (Ok None) refl all) c.mismatch_here.ensures
+
+pub enums::find_in_variant-find_in_held_tuple-requires : goal.enums::find_in_variant-find_in_held_tuple-requires
+enums::find_in_variant-find_in_held_tuple-requires t c =
+    let rd = are_refused c.args.config.duplicates in
+    let ss = shapes_in c.in-Tuple.parts.items in
+    let n = tree_of c.args.value.now in
+    let is : kind_of c.args.kind.now ≡ s.tuple_kind ss = ap kind_of c.in-Tuple.is ∙ search (rules, kind.the_lemmas) in
+    (search (rules, kind.the_lemmas), tuple_unread rd ss n (subst (λ k. reads_kind rd k [] n ≡ None) is c.requires))
+
+pub enums::find_in_variant-returns-in-Newtype : goal.enums::find_in_variant-returns-in-Newtype
+enums::find_in_variant-returns-in-Newtype t c =
+    let rd = are_refused c.args.config.duplicates in
+    let key = segment_of_key c.args.key.now in
+    let n = tree_of c.args.value.now in
+    let p = shape_of c.in-Newtype.part.value in
+    let is : kind_of c.args.kind.now ≡ s.newtype_kind p = ap kind_of c.in-Newtype.is ∙ search (rules, kind.the_lemmas) in
+    let below = subst (λ x. FindsBelow rd key (shape_of x) n c.find_under.result) c.deref.ensures c.find_under.ensures in
+    subst (λ k. FindsAmong rd (held_children key k n) c.find_under.result) (sym is) (children.among_one rd key p n c.find_under.result below)
+
+pub enums::find_in_variant-returns-in_ok-put_under-in-Tuple : goal.enums::find_in_variant-returns-in_ok-put_under-in-Tuple
+enums::find_in_variant-returns-in_ok-put_under-in-Tuple t c =
+    let rd = are_refused c.args.config.duplicates in
+    let key = segment_of_key c.args.key.now in
+    let n = tree_of c.args.value.now in
+    let ss = shapes_in c.in-Tuple.parts.items in
+    let m = c.in_ok-put_under-in-Tuple.field-0 in
+    let is : kind_of c.args.kind.now ≡ s.tuple_kind ss = ap kind_of c.in-Tuple.is ∙ search (rules, kind.the_lemmas) in
+    let here = below rd key key (s.Shape.tuple ss) n c.in_ok-mismatch-in-Tuple.mismatch m c.in_ok-mismatch-in-Tuple.ensures c.in_ok-put_under-in-Tuple.ensures.path refl c.in_ok-put_under-in-Tuple.ensures.problem in
+    subst (λ k. FindsAmong {E = AllocError} rd (held_children key k n) (Ok (Some m))) (sym is) (children.among_one {E = AllocError} rd key (s.Shape.tuple ss) n (Ok (Some m)) here)
+
+pub enums::find_in_held_fields-find_in_held_struct-requires : goal.enums::find_in_held_fields-find_in_held_struct-requires
+enums::find_in_held_fields-find_in_held_struct-requires t c =
+    let rd = are_refused c.args.config.duplicates in
+    let n = tree_of c.args.value.now in
+    let other : is_text n ≡ false = grind arith in
+    (search rules, struct_unread rd (unknown_of c.args.unknown) (fields_in c.args.fields.now.items) n other c.requires)
+
+pub enums::find_in_held_fields-returns : goal.enums::find_in_held_fields-returns
+enums::find_in_held_fields-returns t c =
+    let rd = are_refused c.args.config.duplicates in
+    let key = segment_of_key c.args.key.now in
+    let n = tree_of c.args.value.now in
+    let shape = s.Shape.struct (unknown_of c.args.unknown) (fields_in c.args.fields.now.items) in
+    let m = c.in_ok-put_under.field-0 in
+    let other : is_text n ≡ false = grind arith in
+    let here = below rd key key shape n c.in_ok-mismatch.mismatch m c.in_ok-mismatch.ensures c.in_ok-put_under.ensures.path refl c.in_ok-put_under.ensures.problem in
+    subst (λ b. FindsAmong {E = AllocError} rd (cond b [] ((key, shape, n) ∷ [])) (Ok (Some m))) (sym other) (children.among_one {E = AllocError} rd key shape n (Ok (Some m)) here)
+
+pub enums::find_in_named-find_in_variant-requires : goal.enums::find_in_named-find_in_variant-requires
+enums::find_in_named-find_in_variant-requires t c =
+    let rd = are_refused c.args.config.duplicates in
+    let ds = c.args.variants.now.items in
+    let vs = variants_in ds in
+    let es = entries_of_map c.args.map.now in
+    let key = step_of_key c.in-Some.key.now in
+    let n = tree_of c.in-Some.value.now in
+    let first : es ≡ entry key.seg key.mark n (entries_after 1 es) = after_some 0 es (key, n) (sym c.in-Some.ensures) in
+    let name = segment_text key.seg in
+    let i = c.in-Some-find_variant.index in
+    let v = c.index-variant.result.now in
+    let found = subst (λ ys. option_map Some (variant_named name (variants_in ys)) ≡ Some (option_map variant_of (slice_get ys i))) c.deref.ensures.value (sym c.in-Some-find_variant.ensures.named) in
+    let inside = subst (λ ys. i < length ys) c.deref.ensures.value c.in-Some-find_variant.ensures.index in
+    let named = named_is name ds i v found inside c.index-variant.ensures in
+    (omega (arith, c.decreases, kind_within ds i v inside c.index-variant.ensures), held_unread rd vs es (entries_after 1 es) key.seg key.mark n v first named c.requires)
+
+pub enums::find_in_named-returns : goal.enums::find_in_named-returns
+enums::find_in_named-returns t c =
+    let rd = are_refused c.args.config.duplicates in
+    let ds = c.args.variants.now.items in
+    let vs = variants_in ds in
+    let es = entries_of_map c.args.map.now in
+    let key = step_of_key c.in-Some.key.now in
+    let n = tree_of c.in-Some.value.now in
+    let first : es ≡ entry key.seg key.mark n (entries_after 1 es) = after_some 0 es (key, n) (sym c.in-Some.ensures) in
+    let name = segment_text key.seg in
+    let i = c.in-Some-find_variant.index in
+    let v = c.index-variant.result.now in
+    let found = subst (λ ys. option_map Some (variant_named name (variants_in ys)) ≡ Some (option_map variant_of (slice_get ys i))) c.deref.ensures.value (sym c.in-Some-find_variant.ensures.named) in
+    let inside = subst (λ ys. i < length ys) c.deref.ensures.value c.in-Some-find_variant.ensures.index in
+    let named = named_is name ds i v found inside c.index-variant.ensures in
+    enum_found rd vs es (entries_after 1 es) key.seg key.mark n v c.find_in_variant.result first named c.find_in_variant.ensures

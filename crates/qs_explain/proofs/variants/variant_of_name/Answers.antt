@@ -1,0 +1,15 @@
+use Rattle.std.proofs.Common.{Some, ap, sym, ◌∙◌, arith}
+use Rattle.std.specs.Option.{option_map}
+use Rattle.std.specs.Str.{bytes_eq}
+use Rattle.qs_data.proofs.Variants.{named_here, named_later}
+use Rattle.qs_explain.proofs.variants.variant_of_name.Goals as goal
+
+pub returns-then-eq-clause-named : goal.returns-then-eq-clause-named
+returns-then-eq-clause-named c =
+    let same = ap (λ x. bytes_eq x c.args.name.now) (sym c.as_bytes.ensures.value) ∙ sym c.if-eq.ensures in
+    sym (ap (option_map Some) c.loop-i.invariant ∙ named_here c.args.name.now c.args.variants.now c.loop-i.i c.index-variants-i.result (omega arith) c.index-variants-i.is same)
+
+pub loop-i-preserved : goal.loop-i-preserved
+loop-i-preserved c =
+    let other = ap (λ x. bytes_eq x c.args.name.now) (sym c.as_bytes.ensures.value) ∙ sym c.if-eq.ensures in
+    c.loop-i.invariant ∙ named_later c.args.name.now c.args.variants.now c.loop-i.i c.index-variants-i.result (omega arith) c.index-variants-i.is other

@@ -1,9 +1,9 @@
 -- How deep a shape's parts are.
 use Rattle.std.proofs.Common.{◌≡◌, ℕ, ◌<◌, List, length, get_or, ap, rules, arith}
-use Rattle.qs_data.proofs.shape.Variant.TheLaws.{the_size as variant_depth}
-use Rattle.qs_data.proofs.shape.VariantKind.TheLaws.{the_size as kind_depth}
-use Rattle.qs_data.specs.declared.shape.Variant as variant
-use Rattle.qs_data.specs.declared.shape.Variant.{Variant, out-Variant}
+use Rattle.qs_data.proofs.shape.shape.Variant.TheLaws.{the_size as variant_depth}
+use Rattle.qs_data.proofs.shape.shape.VariantKind.TheLaws.{the_size as kind_depth}
+use Rattle.qs_data.specs.declared.shape.shape.Variant as variant
+use Rattle.qs_data.specs.declared.shape.shape.Variant.{Variant, out-Variant}
 use denote.Param.Weighed.{at_most, most}
 
 kind_below : (d : Variant) → kind_depth (out-Variant d).kind < variant_depth d

@@ -9,11 +9,11 @@ use Rattle.qs_spec.specs.Shape as s
 use Rattle.qs_spec.specs.Tree.{Tree, Entries}
 use Rattle.qs_spec.specs.Tree.Tree.{leaf, sequence, mapping, uninitialized}
 use Rattle.qs_spec.specs.Tree.Entries.{entry}
-use Rattle.qs_spec.specs.toward.ReadFunction.{reads, reads_kind, reads_tuple, reads_names, reads_places, struct_members}
-use Rattle.qs_data.specs.declared.shape.Variant.{Variant, out-Variant}
-use Rattle.qs_data.specs.Variants.{variant_named}
-use Rattle.qs_data.specs.Views.{kind_of, variant_of}
-use Rattle.qs_data.proofs.Variants.{enum_some, variant_kind}
+use Rattle.qs_spec.specs.internal.ReadFunction.{reads, reads_kind, reads_tuple, reads_names, reads_places, struct_members}
+use Rattle.qs_data.specs.declared.shape.shape.Variant.{Variant, out-Variant}
+use Rattle.qs_data.specs.shape.Variants.{variant_named}
+use Rattle.qs_data.specs.shape.Views.{kind_of, variant_of}
+use Rattle.qs_data.proofs.lemmas.read.Variants.{enum_some, variant_kind}
 use Rattle.qs_explain.specs.declared.explanation.Mismatch.{Mismatch}
 use Rattle.qs_explain.specs.declared.expected.Expected.TheVariants as e
 use Rattle.qs_explain.specs.Children.{enum_children, held_children, is_text, named_children}

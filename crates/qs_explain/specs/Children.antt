@@ -8,7 +8,7 @@ use Rattle.qs_spec.specs.Tree.{Tree, Entries}
 use Rattle.qs_spec.specs.Tree.Tree.{leaf, sequence, mapping, uninitialized}
 use Rattle.qs_spec.specs.Tree.Entries.{no_entries, entry}
 use Rattle.qs_spec.specs.Node.{items, found, under_empty}
-use Rattle.qs_data.specs.Variants.{variant_named}
+use Rattle.qs_data.specs.shape.Variants.{variant_named}
 
 -- the segment, and the shape and the node of the part that it leads to; a missing part is the tree without pairs
 abbrev pub Child : Type 0

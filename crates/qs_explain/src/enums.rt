@@ -1,12 +1,12 @@
 //! What isn't read of an enum's variant.
 
 ghost use Rattle.std.specs.Prelude.{◌≡◌, ◌∷◌, [], None, IfOk};
-ghost use Rattle.qs_spec.specs.Config.{are_refused};
+ghost use Rattle.qs_spec.specs.Config.{are_rejected};
 ghost use Rattle.qs_spec.specs.Shape as s;
 ghost use Rattle.qs_spec.specs.Tree.Tree.{mapping};
-ghost use Rattle.qs_spec.specs.toward.ReadFunction.{reads, reads_kind};
-ghost use Rattle.qs_tree.specs.Views.{tree_of, entries_of_map, segment_of_key};
-ghost use Rattle.qs_data.specs.Views.{fields_in, kind_of, shapes_in, variants_in};
+ghost use Rattle.qs_spec.specs.internal.ReadFunction.{reads, reads_kind};
+ghost use Rattle.qs_tree.specs.tree.Views.{tree_of, entries_of_map, segment_of_key};
+ghost use Rattle.qs_data.specs.shape.Views.{fields_in, kind_of, shapes_in, variants_in};
 ghost use Rattle.qs_explain.specs.Children.{enum_children, held_children, held_fields, is_text};
 ghost use Rattle.qs_explain.specs.Explains.{FindsAmong, IsMismatch, path_of};
 ghost use Rattle.qs_explain.specs.Unexpected.{unknown_of};
@@ -32,8 +32,8 @@ pub(crate) fn find_in_enum(
     variants: &Vec<Variant>,
     node: &ParsedValue<'_>,
 ) -> Result<Option<Mismatch>, AllocError>
-    requires { reads (are_refused config.duplicates) (s.Shape.enumeration (variants_in variants.now.items)) (tree_of node.now) ≡ None }
-    ensures { FindsAmong (are_refused config.duplicates) (enum_children (variants_in variants.now.items) (tree_of node.now)) result }
+    requires { reads (are_rejected config.duplicates) (s.Shape.enumeration (variants_in variants.now.items)) (tree_of node.now) ≡ None }
+    ensures { FindsAmong (are_rejected config.duplicates) (enum_children (variants_in variants.now.items) (tree_of node.now)) result }
 {
     match node {
         ParsedValue::Map(map) => find_in_named(alloc, config, variants, map),
@@ -53,8 +53,8 @@ fn find_in_named(
     variants: &Vec<Variant>,
     map: &ParsedMap<'_>,
 ) -> Result<Option<Mismatch>, AllocError>
-    requires { reads (are_refused config.duplicates) (s.Shape.enumeration (variants_in variants.now.items)) (mapping (entries_of_map map.now)) ≡ None }
-    ensures { FindsAmong (are_refused config.duplicates) (enum_children (variants_in variants.now.items) (mapping (entries_of_map map.now))) result }
+    requires { reads (are_rejected config.duplicates) (s.Shape.enumeration (variants_in variants.now.items)) (mapping (entries_of_map map.now)) ≡ None }
+    ensures { FindsAmong (are_rejected config.duplicates) (enum_children (variants_in variants.now.items) (mapping (entries_of_map map.now))) result }
 {
     let Some((key, value)) = map.at(0) else {
         return Ok(None);
@@ -75,8 +75,8 @@ fn find_in_variant(
     kind: &VariantKind,
     value: &ParsedValue<'_>,
 ) -> Result<Option<Mismatch>, AllocError>
-    requires { reads_kind (are_refused config.duplicates) (kind_of kind.now) [] (tree_of value.now) ≡ None }
-    ensures { FindsAmong (are_refused config.duplicates) (held_children (segment_of_key key.now) (kind_of kind.now) (tree_of value.now)) result }
+    requires { reads_kind (are_rejected config.duplicates) (kind_of kind.now) [] (tree_of value.now) ≡ None }
+    ensures { FindsAmong (are_rejected config.duplicates) (held_children (segment_of_key key.now) (kind_of kind.now) (tree_of value.now)) result }
 {
     match kind {
         VariantKind::Unit => Ok(None),
@@ -104,8 +104,8 @@ fn find_in_held_fields(
     fields: &Vec<Field>,
     value: &ParsedValue<'_>,
 ) -> Result<Option<Mismatch>, AllocError>
-    requires { reads_kind (are_refused config.duplicates) (s.struct_kind (unknown_of unknown) (fields_in fields.now.items)) [] (tree_of value.now) ≡ None }
-    ensures { FindsAmong (are_refused config.duplicates) (held_fields (segment_of_key key.now) (unknown_of unknown) (fields_in fields.now.items) (tree_of value.now)) result }
+    requires { reads_kind (are_rejected config.duplicates) (s.struct_kind (unknown_of unknown) (fields_in fields.now.items)) [] (tree_of value.now) ≡ None }
+    ensures { FindsAmong (are_rejected config.duplicates) (held_fields (segment_of_key key.now) (unknown_of unknown) (fields_in fields.now.items) (tree_of value.now)) result }
 {
     if is_text(value) {
         return Ok(None);
@@ -135,8 +135,8 @@ fn find_in_held_tuple(
     parts: &Vec<Shape>,
     value: &ParsedValue<'_>,
 ) -> Result<Mismatch, AllocError>
-    requires { reads (are_refused config.duplicates) (s.Shape.tuple (shapes_in parts.now.items)) (tree_of value.now) ≡ None }
-    ensures { IfOk result (IsMismatch (are_refused config.duplicates) (s.Shape.tuple (shapes_in parts.now.items)) (tree_of value.now)) }
+    requires { reads (are_rejected config.duplicates) (s.Shape.tuple (shapes_in parts.now.items)) (tree_of value.now) ≡ None }
+    ensures { IfOk result (IsMismatch (are_rejected config.duplicates) (s.Shape.tuple (shapes_in parts.now.items)) (tree_of value.now)) }
 {
     match find_in_tuple(alloc, config, parts, value)? {
         Some(mismatch) => Ok(mismatch),
@@ -153,8 +153,8 @@ fn find_in_held_struct(
     fields: &Vec<Field>,
     value: &ParsedValue<'_>,
 ) -> Result<Mismatch, AllocError>
-    requires { reads (are_refused config.duplicates) (s.Shape.struct (unknown_of unknown) (fields_in fields.now.items)) (tree_of value.now) ≡ None }
-    ensures { IfOk result (IsMismatch (are_refused config.duplicates) (s.Shape.struct (unknown_of unknown) (fields_in fields.now.items)) (tree_of value.now)) }
+    requires { reads (are_rejected config.duplicates) (s.Shape.struct (unknown_of unknown) (fields_in fields.now.items)) (tree_of value.now) ≡ None }
+    ensures { IfOk result (IsMismatch (are_rejected config.duplicates) (s.Shape.struct (unknown_of unknown) (fields_in fields.now.items)) (tree_of value.now)) }
 {
     match find_in_struct(alloc, config, fields, value)? {
         Some(mismatch) => Ok(mismatch),

@@ -14,7 +14,7 @@ use Rattle.qs_tree.specs.declared.tree.value.ParsedValue as value
 use Rattle.qs_data.specs.declared.shape.shape.Shape as shape
 use Rattle.qs_data.specs.declared.shape.shape.Field.{out-Field}
 use Rattle.qs_data.specs.shape.Views.{field_of, fields_in, key_shape_of, kind_of, shape_of, shapes_in, variant_of, variants_in}
-use Rattle.qs_spec.specs.toward.ReadFunction.{reads, reads_kind}
+use Rattle.qs_spec.specs.internal.ReadFunction.{reads, reads_kind}
 use Rattle.qs_data.proofs.lemmas.read.Fields.{field_name, field_optional, field_shape}
 use Rattle.qs_explain.specs.Children.{or_missing, item_children, tuple_children, name_child, map_children, struct_children, held_children, is_text, listed}
 use Rattle.qs_explain.specs.Unexpected.{unexpected_key, unknown_of}
@@ -24,13 +24,13 @@ use Rattle.qs_explain.proofs.Parts.{below, among, mismatch_at, newtype_found, nu
 use Rattle.qs_explain.proofs.OneByOne as children
 use Rattle.qs_spec.specs.Segment.{segment_text}
 use Rattle.qs_spec.specs.Tree.Entries.{entry}
-use Rattle.qs_data.specs.Keys.{entries_after}
-use Rattle.qs_data.specs.Variants.{variant_named}
-use Rattle.qs_data.proofs.Entries.{after_some}
-use Rattle.qs_data.proofs.Variants.{named_is}
+use Rattle.qs_data.specs.read.internal.Keys.{entries_after}
+use Rattle.qs_data.specs.shape.Variants.{variant_named}
+use Rattle.qs_data.proofs.lemmas.read.Entries.{after_some}
+use Rattle.qs_data.proofs.lemmas.read.Variants.{named_is}
 use Rattle.qs_explain.proofs.Depths.{kind_within}
 use Rattle.qs_explain.proofs.Held.{enum_found, held_unread, struct_here, struct_unread, tuple_here, tuple_unread}
-use Rattle.qs_data.specs.declared.shape.VariantKind as kind
+use Rattle.qs_data.specs.declared.shape.shape.VariantKind as kind
 use Rattle.qs_explain.proofs.+walk.Goals.{pairs::find_in_pairs-else-loop-i-test, pairs::find_in_pairs-then-loop-i-test+in_default}
 use Rattle.qs_explain.proofs.+walk.Goals as goal
 

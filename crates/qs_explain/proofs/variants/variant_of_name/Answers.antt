@@ -1,7 +1,7 @@
 use Rattle.std.proofs.Common.{Some, ap, sym, ◌∙◌, arith}
 use Rattle.std.specs.Option.{option_map}
 use Rattle.std.specs.Str.{bytes_eq}
-use Rattle.qs_data.proofs.Variants.{named_here, named_later}
+use Rattle.qs_data.proofs.lemmas.read.Variants.{named_here, named_later}
 use Rattle.qs_explain.proofs.variants.variant_of_name.Goals as goal
 
 pub returns-then-eq-clause-named : goal.returns-then-eq-clause-named

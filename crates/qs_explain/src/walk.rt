@@ -70,7 +70,7 @@ fn find_inside(
     shape: &Shape,
     node: &ParsedValue<'_>,
 ) -> Result<Option<Mismatch>, AllocError>
-    requires { reads (are_refused config.duplicates) (shape_of shape.now) (tree_of node.now) ≡ None }
+    requires { reads (are_rejected config.duplicates) (shape_of shape.now) (tree_of node.now) ≡ None }
     ensures { FindsInside (are_rejected config.duplicates) (shape_of shape.now) (tree_of node.now) result }
 {
     match shape {

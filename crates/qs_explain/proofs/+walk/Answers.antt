@@ -309,18 +309,18 @@ walk::find_inside-returns-in-Map t c =
 
 pub walk::find_mismatch-find_inside-requires : goal.walk::find_mismatch-find_inside-requires
 walk::find_mismatch-find_inside-requires t c =
-    let rd = are_refused c.args.config.duplicates in
+    let rd = are_rejected c.args.config.duplicates in
     (search rules, subst (λ b. Tests rd (shape_of c.args.shape.now) (tree_of c.args.node.now) b) c.if-branch.false c.in_ok-is_read.ensures)
 
 pub walk::find_inside-find_in_enum-requires : goal.walk::find_inside-find_in_enum-requires
 walk::find_inside-find_in_enum-requires t c =
-    let rd = are_refused c.args.config.duplicates in
+    let rd = are_rejected c.args.config.duplicates in
     let shaped : shape_of c.args.shape.now ≡ s.Shape.enumeration (variants_in c.in-Enum.variants.items) = ap shape_of c.in-Enum.is ∙ search (rules, shape.the_lemmas) in
     (search (rules, shape.the_lemmas), subst (λ x. reads rd x (tree_of c.args.node.now) ≡ None) shaped c.requires)
 
 pub walk::find_inside-returns-in-Enum : goal.walk::find_inside-returns-in-Enum
 walk::find_inside-returns-in-Enum t c =
-    let rd = are_refused c.args.config.duplicates in
+    let rd = are_rejected c.args.config.duplicates in
     let n = tree_of c.args.node.now in
     let r = c.find_in_enum.result in
     let vs = variants_in c.in-Enum.variants.items in
@@ -329,14 +329,14 @@ walk::find_inside-returns-in-Enum t c =
 
 pub enums::find_in_enum-find_in_named-requires : goal.enums::find_in_enum-find_in_named-requires
 enums::find_in_enum-find_in_named-requires t c =
-    let rd = are_refused c.args.config.duplicates in
+    let rd = are_rejected c.args.config.duplicates in
     let vs = variants_in c.args.variants.now.items in
     let seen : tree_of c.args.node.now ≡ mapping (entries_of_map c.in-Map.map) = ap tree_of c.in-Map.is ∙ search (rules, value.the_lemmas) in
     (search rules, subst (λ n. reads rd (s.Shape.enumeration vs) n ≡ None) seen c.requires)
 
 pub enums::find_in_held_tuple-returns-in-Some : goal.enums::find_in_held_tuple-returns-in-Some
 enums::find_in_held_tuple-returns-in-Some t c =
-    let rd = are_refused c.args.config.duplicates in
+    let rd = are_rejected c.args.config.duplicates in
     let ss = shapes_in c.args.parts.now.items in
     let n = tree_of c.args.value.now in
     let fails = subst (λ o. FindsAmong {E = AllocError} rd (listed (tuple_children 0 ss) (items n)) (Ok o)) c.in-Some.is c.in_ok-mismatch.ensures in
@@ -344,7 +344,7 @@ enums::find_in_held_tuple-returns-in-Some t c =
 
 pub enums::find_in_held_struct-returns-in-Some : goal.enums::find_in_held_struct-returns-in-Some
 enums::find_in_held_struct-returns-in-Some t c =
-    let rd = are_refused c.args.config.duplicates in
+    let rd = are_rejected c.args.config.duplicates in
     let u = unknown_of c.args.unknown in
     let fs = fields_in c.args.fields.now.items in
     let n = tree_of c.args.value.now in
@@ -353,7 +353,7 @@ enums::find_in_held_struct-returns-in-Some t c =
 
 pub enums::find_in_held_tuple-returns-in-None : goal.enums::find_in_held_tuple-returns-in-None
 enums::find_in_held_tuple-returns-in-None t c =
-    let rd = are_refused c.args.config.duplicates in
+    let rd = are_rejected c.args.config.duplicates in
     let ss = shapes_in c.args.parts.now.items in
     let n = tree_of c.args.value.now in
     let all = subst (λ o. FindsAmong {E = AllocError} rd (listed (tuple_children 0 ss) (items n)) (Ok o)) c.in-None.is c.in_ok-mismatch.ensures in
@@ -361,7 +361,7 @@ enums::find_in_held_tuple-returns-in-None t c =
 
 pub enums::find_in_held_struct-returns-in_ok-unexpected-in-None : goal.enums::find_in_held_struct-returns-in_ok-unexpected-in-None
 enums::find_in_held_struct-returns-in_ok-unexpected-in-None t c =
-    let rd = are_refused c.args.config.duplicates in
+    let rd = are_rejected c.args.config.duplicates in
     let u = unknown_of c.args.unknown in
     let fs = fields_in c.args.fields.now.items in
     let n = tree_of c.args.value.now in
@@ -372,7 +372,7 @@ enums::find_in_held_struct-returns-in_ok-unexpected-in-None t c =
 
 pub enums::find_in_variant-find_in_held_tuple-requires : goal.enums::find_in_variant-find_in_held_tuple-requires
 enums::find_in_variant-find_in_held_tuple-requires t c =
-    let rd = are_refused c.args.config.duplicates in
+    let rd = are_rejected c.args.config.duplicates in
     let ss = shapes_in c.in-Tuple.parts.items in
     let n = tree_of c.args.value.now in
     let is : kind_of c.args.kind.now ≡ s.tuple_kind ss = ap kind_of c.in-Tuple.is ∙ search (rules, kind.the_lemmas) in
@@ -380,7 +380,7 @@ enums::find_in_variant-find_in_held_tuple-requires t c =
 
 pub enums::find_in_variant-returns-in-Newtype : goal.enums::find_in_variant-returns-in-Newtype
 enums::find_in_variant-returns-in-Newtype t c =
-    let rd = are_refused c.args.config.duplicates in
+    let rd = are_rejected c.args.config.duplicates in
     let key = segment_of_key c.args.key.now in
     let n = tree_of c.args.value.now in
     let p = shape_of c.in-Newtype.part.value in
@@ -390,7 +390,7 @@ enums::find_in_variant-returns-in-Newtype t c =
 
 pub enums::find_in_variant-returns-in_ok-put_under-in-Tuple : goal.enums::find_in_variant-returns-in_ok-put_under-in-Tuple
 enums::find_in_variant-returns-in_ok-put_under-in-Tuple t c =
-    let rd = are_refused c.args.config.duplicates in
+    let rd = are_rejected c.args.config.duplicates in
     let key = segment_of_key c.args.key.now in
     let n = tree_of c.args.value.now in
     let ss = shapes_in c.in-Tuple.parts.items in
@@ -401,14 +401,14 @@ enums::find_in_variant-returns-in_ok-put_under-in-Tuple t c =
 
 pub enums::find_in_held_fields-find_in_held_struct-requires : goal.enums::find_in_held_fields-find_in_held_struct-requires
 enums::find_in_held_fields-find_in_held_struct-requires t c =
-    let rd = are_refused c.args.config.duplicates in
+    let rd = are_rejected c.args.config.duplicates in
     let n = tree_of c.args.value.now in
     let other : is_text n ≡ false = grind arith in
     (search rules, struct_unread rd (unknown_of c.args.unknown) (fields_in c.args.fields.now.items) n other c.requires)
 
 pub enums::find_in_held_fields-returns : goal.enums::find_in_held_fields-returns
 enums::find_in_held_fields-returns t c =
-    let rd = are_refused c.args.config.duplicates in
+    let rd = are_rejected c.args.config.duplicates in
     let key = segment_of_key c.args.key.now in
     let n = tree_of c.args.value.now in
     let shape = s.Shape.struct (unknown_of c.args.unknown) (fields_in c.args.fields.now.items) in
@@ -419,7 +419,7 @@ enums::find_in_held_fields-returns t c =
 
 pub enums::find_in_named-find_in_variant-requires : goal.enums::find_in_named-find_in_variant-requires
 enums::find_in_named-find_in_variant-requires t c =
-    let rd = are_refused c.args.config.duplicates in
+    let rd = are_rejected c.args.config.duplicates in
     let ds = c.args.variants.now.items in
     let vs = variants_in ds in
     let es = entries_of_map c.args.map.now in
@@ -436,7 +436,7 @@ enums::find_in_named-find_in_variant-requires t c =
 
 pub enums::find_in_named-returns : goal.enums::find_in_named-returns
 enums::find_in_named-returns t c =
-    let rd = are_refused c.args.config.duplicates in
+    let rd = are_rejected c.args.config.duplicates in
     let ds = c.args.variants.now.items in
     let vs = variants_in ds in
     let es = entries_of_map c.args.map.now in

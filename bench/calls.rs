@@ -1,6 +1,6 @@
 //! The calls of the static library `qs_bench`, as safe Rust.
 
-/// How many keys a tree has, at its root and behind its first key.
+/// How many keys a tree has, at its root and under its first key.
 #[repr(C)]
 #[derive(Clone, Copy, Debug, Default, PartialEq, Eq)]
 pub struct Keys {
@@ -19,9 +19,14 @@ unsafe extern "C" {
     fn qs_bench_write_numbers(times: usize, count: usize, out: *mut u8, out_len: usize, len: *mut usize) -> bool;
     fn qs_bench_read(times: usize, shape: usize, input: *const u8, input_len: usize, size: *mut usize) -> bool;
     fn qs_bench_write_bytes(times: usize, bytes: *const u8, bytes_len: usize, out: *mut u8, out_len: usize, len: *mut usize) -> bool;
+    fn qs_bench_person(reads: usize, writes: usize, kept: bool, input: *const u8, input_len: usize, out: *mut u8, out_len: usize, len: *mut usize) -> bool;
+    fn qs_bench_record(reads: usize, writes: usize, kept: bool, input: *const u8, input_len: usize, out: *mut u8, out_len: usize, len: *mut usize) -> bool;
+    fn qs_bench_ids(reads: usize, writes: usize, kept: bool, input: *const u8, input_len: usize, out: *mut u8, out_len: usize, len: *mut usize) -> bool;
+    fn qs_bench_map(reads: usize, writes: usize, kept: bool, input: *const u8, input_len: usize, out: *mut u8, out_len: usize, len: *mut usize) -> bool;
+    fn qs_bench_nested(reads: usize, writes: usize, kept: bool, input: *const u8, input_len: usize, out: *mut u8, out_len: usize, len: *mut usize) -> bool;
 }
 
-/// Parses the input: how many keys its tree has, or nothing where it is refused.
+/// Parses the input: how many keys its tree has, or nothing where it is rejected.
 pub fn parse(input: &[u8]) -> Option<Keys> {
     let mut keys = Keys::default();
     // SAFETY: the pointers and the length are those of borrows that last for the call.
@@ -29,7 +34,7 @@ pub fn parse(input: &[u8]) -> Option<Keys> {
     is_parsed.then_some(keys)
 }
 
-/// What the bytes stand for goes to the front of `out` where it fits: its length, or nothing where memory ran out.
+/// The decoded bytes go to the front of `out` where it fits: its length, or nothing where memory ran out.
 pub fn decode(bytes: &[u8], out: &mut [u8]) -> Option<usize> {
     handed_out(out, |text, room, len| {
         // SAFETY: the pointers and the lengths are those of borrows that last for the call.
@@ -113,6 +118,58 @@ pub fn read(times: usize, shape: Shape, input: &[u8]) -> Option<usize> {
         )
     };
     is_read.then_some(size)
+}
+
+/// A type whose values are read and written.
+#[derive(Clone, Copy)]
+pub enum Type {
+    /// A struct of three fields.
+    Person,
+    /// The record of ten entries.
+    Record,
+    /// `ids`, a list of numbers.
+    Ids,
+    /// A map of texts.
+    Map,
+    /// A text five keys deep.
+    Nested,
+}
+
+/// How often a value is read, by a shape that is made once (`kept`) or each time, and how often it is written: each once at least.
+#[derive(Clone, Copy)]
+pub struct Times {
+    pub reads: usize,
+    pub writes: usize,
+    pub kept: bool,
+}
+
+impl Type {
+    /// Reads the input so often, writes the last value so often, and puts the last text to the front of `out` where it fits: its length,
+    /// or nothing where the input can't be read.
+    pub fn read_and_write(self, times: Times, input: &[u8], out: &mut [u8]) -> Option<usize> {
+        let call = match self {
+            Type::Person => qs_bench_person,
+            Type::Record => qs_bench_record,
+            Type::Ids => qs_bench_ids,
+            Type::Map => qs_bench_map,
+            Type::Nested => qs_bench_nested,
+        };
+        handed_out(out, |text, room, len| {
+            // SAFETY: the pointers and the lengths are those of borrows that last for the call.
+            unsafe {
+                call(
+                    times.reads,
+                    times.writes,
+                    times.kept,
+                    input.as_ptr(),
+                    input.len(),
+                    text,
+                    room,
+                    len,
+                )
+            }
+        })
+    }
 }
 
 /// Makes a call with the place of `out`, its length and a place for the text's length: that length, where the call went well.

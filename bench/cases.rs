@@ -1,8 +1,9 @@
 //! What is measured.
 
 mod data;
+mod typed;
 
-use crate::calls::{self, Keys, Sample, Shape};
+use crate::calls::{self, Keys, Sample, Shape, Times, Type};
 use crate::inputs::{self, Generator, Order};
 use crate::timing::grouped;
 use std::hint::black_box;
@@ -21,6 +22,10 @@ enum Call {
     Write(Sample),
     /// Reads the case's bytes by the shape: so much.
     Read(Shape, usize),
+    /// Reads them as a value of the type, by a shape that is kept (`true`) or made each time: it is written as them.
+    ReadTyped(Type, bool),
+    /// Writes the value of the type that they are read as: as them.
+    WriteTyped(Type),
 }
 
 pub struct Case {
@@ -61,6 +66,11 @@ impl Case {
                 sample.write(1, &mut out) == Some(out.len()) && out == self.bytes
             }
             Call::Read(shape, size) => calls::read(1, *shape, &self.bytes) == Some(*size),
+            Call::ReadTyped(of, _) | Call::WriteTyped(of) => {
+                out.resize(self.bytes.len(), 0);
+                let len = of.read_and_write(self.times(1), &self.bytes, &mut out);
+                len == Some(out.len()) && out == self.bytes
+            }
         }
     }
 
@@ -70,7 +80,22 @@ impl Case {
         match &self.call {
             Call::Write(sample) => drop(black_box(sample.write(times + 1, &mut []))),
             Call::Read(shape, _) => drop(black_box(calls::read(times + 1, *shape, bytes))),
+            Call::ReadTyped(of, _) | Call::WriteTyped(of) => drop(black_box(of.read_and_write(
+                self.times(times + 1),
+                bytes,
+                &mut [],
+            ))),
             call => (0..times).for_each(|_| call.make(black_box(bytes))),
+        }
+    }
+
+    /// So many reads and one write, or one read and so many writes.
+    fn times(&self, times: usize) -> Times {
+        let is_write = matches!(self.call, Call::WriteTyped(_));
+        Times {
+            reads: if is_write { 1 } else { times },
+            writes: if is_write { times } else { 1 },
+            kept: matches!(self.call, Call::ReadTyped(_, true)),
         }
     }
 }
@@ -82,7 +107,7 @@ impl Call {
             Call::Parse(_) | Call::Reject => drop(black_box(calls::parse(bytes))),
             Call::Decode(_) => drop(black_box(calls::decode(bytes, &mut []))),
             Call::Encode { form, .. } => drop(black_box(calls::encode(*form, bytes, &mut []))),
-            Call::Write(_) | Call::Read(..) => {}
+            Call::Write(_) | Call::Read(..) | Call::ReadTyped(..) | Call::WriteTyped(_) => {}
         }
     }
 }
@@ -119,6 +144,7 @@ pub fn all(small: bool) -> Vec<Case> {
     let counts = &pairs[..pairs.len().min(4)];
     cases.extend(data::written(counts, many));
     cases.extend(data::read(counts, many, len));
+    cases.extend(typed::all(many));
     cases
 }
 

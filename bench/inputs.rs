@@ -113,7 +113,7 @@ pub fn escapes(len: usize) -> String {
     letters.bytes().map(|byte| format!("%{byte:02X}")).collect()
 }
 
-/// The text of fields whose names and texts tell their numbers.
+/// The text of fields whose names and texts have their numbers.
 pub fn fields(before: &str, after: &str, count: usize) -> String {
     let fields: Vec<String> = (0..count)
         .map(|number| format!("{before}key{number}{after}=value+{number}"))

@@ -1,7 +1,7 @@
 /* Nested querystrings for C: read as JSON, written of JSON, encoded and decoded. docs/LIBRARY.md has the whole.
  *
  * Each call is given its input, a buffer for its result, and a place for the answer, and returns a status. It keeps no memory and no
- * pointer, so there is nothing to free, and calls in several threads at once don't meet.
+ * pointer, so there is nothing to free, and calls in several threads at once don't share anything.
  *
  * QS_OK          the first `len` bytes of `out` are the result
  * QS_TOO_SMALL   the result has `len` bytes, which is more than `out_size`; `out` is unchanged

@@ -1,6 +1,6 @@
 #!/usr/bin/env bash
 # Inputs of 300,000 pairs, read by users' types and written again: a map, lists and structs in each order, keys that no field has, and a
-# list in one text.
+# list in one text. Inputs as long that aren't read, for what their last pair is or for a pair that is missing, and why.
 crate=qs_tests
 source "$(dirname "${BASH_SOURCE[0]}")/support/loads.sh"
 measure=map
@@ -69,5 +69,24 @@ unknown 'unknown keys, each with an escape' '%6bey&'
 numbers $count 'in order' | sed 's/^0*\(.\)/\1/' | joined , | between 'a=' '&b[a]=1&b[b]=2' >"$room/wanted"
 tr -d '\n' <"$room/wanted" >"$room/input"
 load "$count numbers in one text" 0 plain lists
+
+# explained NAME MEASURE TYPE LINE: why the type doesn't read the input.
+explained() {
+    printf '%s\n' "$4" >"$room/wanted"
+    load "$1, explained" 0 "$2" "$3" explained
+}
+
+{ printf '%s&' "$others"; items 'in order' | sed 's/[0-9]*$/x/'; } >"$room/input"
+explained "a list of $count whose last item is wrong" pairs=$count order "items[$((count - 1))]: expected u32, found the text \"x\""
+{ printf '%s&items[0]=7&' "$others"; items 'in order' | sed 's/^items\[0\]=0&//; s/items\[1\]=[0-9]*&//'; } >"$room/input"
+explained "a list of $count without its second item" pairs=$count order 'items[1]: expected u32, found nothing'
+numbers $count shuffled | sed 's/.*/key&=v/' | joined '&' >"$room/input"
+explained "$count unknown keys and no field" pairs=$count order 'name: expected a text, found nothing'
+{ ranges 'a[k%06d]' shuffled; printf '&b=&a[k999999][from]=1&a[k999999][to]=x'; } >"$room/input"
+explained "a map of $((count / 2)) structs whose last field is wrong" pairs=$count ranges 'a[k999999][to]: expected u32, found the text "x"'
+{ printf 'a=&'; ranges 'b[%d]' 'in order' | sed 's/[0-9]*$/x/'; } >"$room/input"
+explained "a list of $((count / 2)) structs whose last field is wrong" pairs=$count ranges "b[$((count / 2 - 1))][to]: expected u32, found the text \"x\""
+{ printf 'x=1'; times 1000000 '&a[+'; } >"$room/input"
+explained '4 MB of unclosed keys' plain map "parsing failed with error: 'unexpected end of input while parsing nested key' at position: $(($(wc -c <"$room/input") + 1))"
 
 report_loads

@@ -99,6 +99,9 @@ refuse_each '' 2 'usage: qs_tool flat|params|any [--form] [--strict] [--depth N]
 # Typed calls, over structs, maps, lists and enums of users, and lists in one text.
 program=${2:-$root/crates/qs_tests/out/qs_tests}
 [ -x "$program" ] || fail "there is no program $program: run 'rt run' in crates/qs_tests once"
+refuse_each 'name=Alice&age=24&occupation=Student' 0 'name=Alice&age=24&occupation=Student' query
+refuse_each 'age=24&name=Alice' 1 'error: missing field `occupation`' query
+refuse_each '1=a&%31=b' 0 '1=b' map
 refuse_each 'items=7&items=8&name=A%63me&address[city]=Carrot+City&address[street]=S' 0 \
     'name=Acme&address[street]=S&address[city]=Carrot+City&items[0]=7&items[1]=8' order
 refuse_each 'text=a%20b&page=2&ranges[0][]=1&ranges[0][]=-2&labels[b]=%20&labels[a]=x' 0 \
@@ -113,5 +116,13 @@ refuse_each 'a=1,2,3&b=' 0 'a=1,2,3&b=' values
 refuse_each 'a=1,,3' 1 'error: invalid item ``' values
 refuse_each 'name=a' 1 'error: missing field `address`' order
 refuse_each 'a=1&a[b' 1 "error: parsing failed with error: '$value_and_map' at position: 7" map
+
+# Why the typed calls read nothing.
+refuse_each 'name=a&address[street]=%20&items[0]=7' 0 'address[city]: expected a text, found nothing' order explained
+refuse_each 'name=a&address[street]=s&address[city]=c&items[0]=7&items[1]=%78' 0 'items[1]: expected u32, found the text "x"' order explained
+refuse_each 'x=Relevance&y[Between][from]=1&y[Between][to]=-' 0 'y[Between][to]: expected u32, found the text "-"' sorts explained
+refuse_each 'x[Under]=1' 0 'x: unexpected key "Under"' sorts explained
+refuse_each 'a=1&a[b' 0 "parsing failed with error: '$value_and_map' at position: 7" map explained
+refuse_each 'a=1' 0 'it is read' map explained
 
 report

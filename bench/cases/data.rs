@@ -5,7 +5,7 @@ use crate::calls::{Sample, Shape};
 use crate::inputs::{self, Generator, Order};
 use crate::timing::grouped;
 
-const RECORD: &str = "id=42&name=Acme&phone=12345&address[city]=Carrot+City&address[street]=Special-Street*+No.+11\
+pub(super) const RECORD: &str = "id=42&name=Acme&phone=12345&address[city]=Carrot+City&address[street]=Special-Street*+No.+11\
     &address[postcode]=12345&user_ids[0]=1&user_ids[1]=2&user_ids[2]=3&user_ids[3]=4";
 
 /// A struct, the record, maps, a list, a nested text and long texts.

@@ -1,25 +1,15 @@
-/* Makes the call that the argument names on a long text, and prints its status and the length of its answer. */
-#include <serde_qs.h>
+/* Makes the call of the line that is the standard input, once, and prints its status, its position and its text. */
+#include "call.h"
 #include <stdio.h>
-#include <string.h>
 
-int main(int count, char **arguments) {
-    static char text[600], out[4096];
-    const char *name = count > 1 ? arguments[1] : "";
-    const uint8_t *bytes = (const uint8_t *)text;
+int main(void) {
+    static char line[1024];
+    static uint8_t out[1024];
     qs_answer answer = {0, 0};
-    uint32_t status;
-    size_t len = (size_t)snprintf(text, sizeof text, strcmp(name, "write") == 0 ? "{\"a\":{\"b\":\"%0500d\"}}" : "a[b]=%%41+%0500d", 1);
-    if (strcmp(name, "parse") == 0)
-        status = qs_parse(&qs_default, bytes, len, QS_ROOM(out), &answer);
-    else if (strcmp(name, "read") == 0)
-        status = qs_read(&qs_default, QS_TEXT("{a: {b: text}}"), bytes, len, QS_ROOM(out), &answer);
-    else if (strcmp(name, "write") == 0)
-        status = qs_write(&qs_default, bytes, len, QS_ROOM(out), &answer);
-    else if (strcmp(name, "encode") == 0)
-        status = qs_encode(true, bytes, len, QS_ROOM(out), &answer);
-    else
-        status = qs_decode(bytes, len, QS_ROOM(out), &answer);
-    printf("%u %zu\n", (unsigned)status, answer.len);
+    if (fgets(line, sizeof line, stdin) == NULL)
+        return 1;
+    qs_call call = call_of(line);
+    uint32_t status = make(&call, out, sizeof out, &answer);
+    printf("%u\t%zu\t%.*s\n", (unsigned)status, answer.position, (int)answer.len, out);
     return 0;
 }

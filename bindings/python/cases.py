@@ -1,6 +1,7 @@
 """Makes the call of each line of the standard input, and prints its status, its position and its text.
 
-A line is a call, `form` or `query`, a shape and a text, with tabs between them.
+A line is a call, its settings, a shape and a text, with tabs between them. The settings are `query` or `form`, and words after a
+blank: `depth=N`, `empty` or `unindexed`, `reject`.
 """
 
 import json
@@ -13,19 +14,36 @@ def compact(value):
     return json.dumps(value, separators=(",", ":"), ensure_ascii=False)
 
 
+WORDS = {
+    "query": {},
+    "form": {"form": True},
+    "empty": {"array_format": serde_qs.EMPTY_INDEXED},
+    "unindexed": {"array_format": serde_qs.UNINDEXED},
+    "reject": {"reject_duplicates": True},
+}
+
+
+def settings_of(words):
+    settings = {}
+    for word in words.split(" "):
+        name, _, number = word.partition("depth=")
+        settings.update(WORDS[name] if name else {"max_depth": int(number)})
+    return settings
+
+
 for line in sys.stdin:
-    call, mode, shape, text = line.rstrip("\n").split("\t")
-    form = mode == "form"
+    call, words, shape, text = line.rstrip("\n").split("\t")
+    settings = settings_of(words)
     try:
         if call == "parse":
-            result = compact(serde_qs.parse(text, form=form))
+            result = compact(serde_qs.parse(text, **settings))
         elif call == "read":
-            result = compact(serde_qs.read(shape, text, form=form))
+            result = compact(serde_qs.read(shape, text, **settings))
         elif call == "write":
             # the module json would take what isn't JSON no further
-            result = serde_qs._result(serde_qs._library.qs_write, serde_qs._settings(form=form), *serde_qs._sized(text)).decode()
+            result = serde_qs._result(serde_qs._library.qs_write, serde_qs._settings(**settings), *serde_qs._sized(text)).decode()
         elif call == "encode":
-            result = serde_qs.encode(text, form=form)
+            result = serde_qs.encode(text, **settings)
         else:
             result = serde_qs.decode(text).decode()
         print(f"0\t0\t{result}")

@@ -89,8 +89,13 @@ def _result(call, *arguments):
     return text
 
 
+def _number(number):
+    """A number of the settings. One that has no room in its field, where ctypes would cut it off, is passed as one that the library rejects."""
+    return number if 0 <= number < 255 else 255
+
+
 def _settings(max_depth=5, form=False, array_format=INDEXED, reject_duplicates=False):
-    return ctypes.byref(_Settings(max_depth, form, array_format, reject_duplicates))
+    return ctypes.byref(_Settings(_number(max_depth), form, _number(array_format), reject_duplicates))
 
 
 def parse(query, **settings):

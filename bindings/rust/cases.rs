@@ -1,19 +1,35 @@
 //! Makes the call of each line of the standard input, and prints its status, its position and its text.
-//! A line is a call, `form` or `query`, a shape and a text, with tabs between them.
+//! A line is a call, its settings, a shape and a text, with tabs between them. The settings are `query` or `form`, and words after a
+//! blank: `depth=N`, `empty` or `unindexed`, `reject`.
 
-use serde_qs::{Settings, decode, encode, parse, read, write};
+use serde_qs::{ArrayFormat, Settings, decode, encode, parse, read, write};
+
+fn settings_of(words: &str) -> Settings {
+    let mut settings = Settings::default();
+    for word in words.split(' ') {
+        match word {
+            "form" => settings.form = true,
+            "empty" => settings.array_format = ArrayFormat::EmptyIndexed,
+            "unindexed" => settings.array_format = ArrayFormat::Unindexed,
+            "reject" => settings.reject_duplicates = true,
+            _ => {
+                if let Some(depth) = word.strip_prefix("depth=") {
+                    settings.max_depth = depth.parse().expect("a depth is a number");
+                }
+            }
+        }
+    }
+    settings
+}
 
 fn main() {
     for line in std::io::stdin().lines() {
         let line = line.expect("the input is text");
         let fields: Vec<&str> = line.split('\t').collect();
-        let [call, mode, shape, text] = fields[..] else {
+        let [call, words, shape, text] = fields[..] else {
             panic!("a line has four fields: {line}");
         };
-        let settings = Settings {
-            form: mode == "form",
-            ..Settings::default()
-        };
+        let settings = settings_of(words);
         let result = match call {
             "parse" => parse(&settings, text.as_bytes()),
             "read" => read(&settings, shape, text.as_bytes()),

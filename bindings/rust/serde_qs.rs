@@ -51,13 +51,13 @@ pub struct Error {
     pub status: u32,
     /// Where the error is in what was given.
     pub position: usize,
-    /// The text for a user.
+    /// The text for a user. It is empty where an allocation failed.
     pub message: String,
 }
 
 impl fmt::Display for Error {
     fn fmt(&self, f: &mut fmt::Formatter<'_>) -> fmt::Result {
-        f.write_str(&self.message)
+        f.write_str(if self.message.is_empty() { "out of memory" } else { &self.message })
     }
 }
 

@@ -4,3 +4,4 @@ pub mod Reads
 pub mod Samples
 pub mod Sizes
 pub mod Texts
+pub mod Typed

@@ -1,4 +1,4 @@
-//! Calls for a benchmark in another language: parsing, escapes, reading, writing.
+//! Calls for a benchmark in another language: parsing, escapes, reading, writing, without types and with them.
 #![tactic(auto)]
 
 pub mod escaping;
@@ -7,4 +7,6 @@ pub mod parsing;
 pub mod reading;
 mod samples;
 mod text;
+pub mod typed;
+pub mod types;
 pub mod writing;

@@ -1,3 +1,4 @@
+pub mod Composed
 pub mod Found
 mod Levels
 pub mod Listing

@@ -1,8 +1,8 @@
 -- Lists in the notation, turn by turn.
 use Rattle.std.proofs.Common.{◌≡◌, ℕ, zero, suc, ◌+◌, ◌-◌, ◌<◌, List, [], ◌∷◌, ◌++◌, true, false, cond, refl, ap, sym, ◌∙◌, append_assoc, append-nil, length, arith}
 use Rattle.qs_c.specs.Found.{Found, found, fault, Parser, and_then, seen, before}
-use Rattle.qs_spec.specs.Shape.{Shape, one_shape, shapes_of, tuple_kind}
-use Rattle.qs_c.specs.Notation.{behind, comes, comma_or_brace, comma_or_parenthesis, field, fields, goes_on, is_empty, items, listed, options, plain, shape}
+use Rattle.qs_spec.specs.Shape.{Shape, Field, one_shape, shapes_of, tuple_kind}
+use Rattle.qs_c.specs.Notation.{behind, comes, comma_or_brace, comma_or_parenthesis, field, fields, goes_on, is_empty, items, listed, options, base, shape}
 use Rattle.qs_c.proofs.Found.{cond-false, cond-true, seen-found, then-found}
 
 pub before-nil : {A : Type 0} (r : Found (List A)) → r ≡ before [] r
@@ -36,7 +36,7 @@ listed-last one sign reason (suc n) t a r s h e g =
     ap (λ x. and_then x (λ a rest. and_then (goes_on sign reason rest) (λ more rest. cond more (seen (λ xs. a ∷ xs) (listed one sign reason n rest)) (found (a ∷ []) rest)))) e
     ∙ ap (λ x. and_then x (λ more rest. cond more (seen (λ xs. a ∷ xs) (listed one sign reason n rest)) (found (a ∷ []) rest))) g
 
--- behind what was found before: one more
+-- after what was found before: one more
 pub turn-more : {A : Type 0} (one : Parser A) (sign : ℕ) (reason : List ℕ) (front : List A) (n m : ℕ) (t : List ℕ) (a : A) (r s : List ℕ)
     → m + 1 ≡ n → one t ≡ found a r → goes_on sign reason r ≡ found true s
     → before front (listed one sign reason n t) ≡ before (front ++ a ∷ []) (listed one sign reason m s)
@@ -52,6 +52,16 @@ pub turn-last : {A : Type 0} (one : Parser A) (sign : ℕ) (reason : List ℕ) (
 turn-last one sign reason front n t a r s k e g =
     ap (before front) (listed-last one sign reason n t a r s k e g) ∙ seen-found _ (λ xs. front ++ xs) (a ∷ []) s refl
 
+-- the same of a whole that is such a list, and of a front with one more
+pub turned-more : {A : Type 0} (one : Parser A) (sign : ℕ) (reason : List ℕ) (whole : Found (List A)) (front next : List A) (n m : ℕ) (t : List ℕ) (a : A) (r s : List ℕ)
+    → whole ≡ before front (listed one sign reason n t) → next ≡ front ++ a ∷ [] → m + 1 ≡ n → one t ≡ found a r → goes_on sign reason r ≡ found true s → whole ≡ before next (listed one sign reason m s)
+turned-more one sign reason whole front next n m t a r s e is k p g =
+    e ∙ turn-more one sign reason front n m t a r s k p g ∙ ap (λ xs. before xs (listed one sign reason m s)) (sym is)
+
+pub turned-last : {A : Type 0} (one : Parser A) (sign : ℕ) (reason : List ℕ) (whole : Found (List A)) (front next : List A) (n : ℕ) (t : List ℕ) (a : A) (r s : List ℕ)
+    → whole ≡ before front (listed one sign reason n t) → next ≡ front ++ a ∷ [] → 0 < n → one t ≡ found a r → goes_on sign reason r ≡ found false s → whole ≡ found next s
+turned-last one sign reason whole front next n t a r s e is k p g = e ∙ turn-last one sign reason front n t a r s k p g ∙ ap (λ xs. found xs s) (sym is)
+
 -- one more `?`
 pub options-more : (n m : ℕ) (s : Shape) (t : List ℕ) → m + 1 ≡ n → comes 63 t ≡ true → options n s t ≡ options m (Shape.option s) (behind t)
 unfolding options
@@ -61,16 +71,16 @@ options-more (suc n) m s t k e =
     ap (λ b. cond b (options n (Shape.option s) (behind t)) (found s t)) e ∙ ap (λ l. options l (Shape.option s) (behind t)) same
 
 -- a shape below the limit
-pub shape-below : (n m : ℕ) (t : List ℕ) (s : Shape) (r : List ℕ) → m + 1 ≡ n → plain (shape m) t ≡ found s r → shape n t ≡ options m s r
+pub shape-below : (n m : ℕ) (t : List ℕ) (s : Shape) (r : List ℕ) → m + 1 ≡ n → base (shape m) t ≡ found s r → shape n t ≡ options m s r
 unfolding shape
 shape-below zero m t s r k e = let never : ⊥ = omega (arith, k) in absurd never
 shape-below (suc n) m t s r k e =
     let same : m ≡ n = omega (arith, k) in
-    let here : plain (shape n) t ≡ found s r = ap (λ l. plain (shape l) t) (sym same) ∙ e in
-    let opened : shape (suc n) t ≡ and_then (plain (shape n) t) (options n) = refl in
-    opened ∙ then-found (plain (shape n) t) (options n) (options m s r) s r here (ap (λ l. options l s r) (sym same))
+    let here : base (shape n) t ≡ found s r = ap (λ l. base (shape l) t) (sym same) ∙ e in
+    let opened : shape (suc n) t ≡ and_then (base (shape n) t) (options n) = refl in
+    opened ∙ then-found (base (shape n) t) (options n) (options m s r) s r here (ap (λ l. options l s r) (sym same))
 
--- behind what was found, before a list that may be empty
+-- after what was found, in front of a list that may be empty
 pub items-none : (inner : Parser Shape) (front : List Shape) (t : List ℕ) → comes 41 t ≡ true → before front (items inner t) ≡ found front (behind t)
 unfolding items
 items-none inner front t e =
@@ -84,7 +94,15 @@ pub fields-some : (inner : Parser Shape) (t : List ℕ) → comes 125 t ≡ fals
 unfolding fields
 fields-some inner t e = cond-false (comes 125 t) _ _ _ e refl
 
--- a list behind its first, as the parts of a variant
+-- the same, with what the list is
+pub items-whole : (inner : Parser Shape) (front : List Shape) (t taken : List ℕ) (r : Found (List Shape)) → comes 41 t ≡ false → taken ≡ t
+    → before front (listed inner 41 comma_or_parenthesis (length taken) taken) ≡ r → before front (items inner t) ≡ r
+items-whole inner front t taken r absent same e = ap (before front) (items-some inner t absent ∙ ap (λ z. listed inner 41 comma_or_parenthesis (length z) z) (sym same)) ∙ e
+
+pub fields-whole : (inner : Parser Shape) (t taken : List ℕ) (r : Found (List Field)) → comes 125 t ≡ false → taken ≡ t → listed (field inner) 125 comma_or_brace (length taken) taken ≡ r → fields inner t ≡ r
+fields-whole inner t taken r absent same e = fields-some inner t absent ∙ ap (λ z. listed (field inner) 125 comma_or_brace (length z) z) (sym same) ∙ e
+
+-- a list after its first, as the parts of a variant
 pub items-behind : (x : Shape) (r : Found (List Shape)) (xs : List Shape) (rest : List ℕ) → before (x ∷ []) r ≡ found xs rest
     → seen (λ ss. tuple_kind (one_shape x (shapes_of ss))) r ≡ found (tuple_kind (shapes_of xs)) rest
 unfolding seen

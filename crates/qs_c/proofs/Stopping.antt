@@ -4,8 +4,8 @@ use Rattle.std.specs.Result.{IsErrAnd}
 use Rattle.qs_c.specs.declared.notation.stop.Stop.{Stop}
 use Rattle.qs_c.specs.declared.notation.stop.Stop.TheVariants.{Fault, OutOfMemory}
 use Rattle.qs_c.specs.Found.{Found, found, fault, Parser, and_then, seen, before}
-use Rattle.qs_c.specs.Parses.{Parses, Stops}
-use Rattle.qs_c.specs.Notation.{goes_on, listed, options, plain, shape}
+use Rattle.qs_c.specs.internal.Parses.{Parses, Stops}
+use Rattle.qs_c.specs.Notation.{goes_on, listed, options, base, shape}
 use Rattle.qs_c.proofs.Found.{then-fault, then-found}
 
 -- What stops at the same fault stops there too.
@@ -32,7 +32,7 @@ unfolding listed
 sign-fault one sign reason zero t a s why r k e h = let never : ⊥ = omega arith in absurd never
 sign-fault one sign reason (suc n) t a s why r k e h = then-found (one t) _ (fault why r) a s e (then-fault (goes_on sign reason s) _ why r h)
 
--- behind what was found before
+-- after what was found before
 module _ {A : Type 0} (one : Parser A) (sign : ℕ) (reason : List ℕ) (whole : Found (List A)) (front : List A) (n : ℕ) (t : List ℕ) (is : whole ≡ before front (listed one sign reason n t)) where
   seen-too : (why r : List ℕ) → listed one sign reason n t ≡ fault why r → whole ≡ fault why r
   unfolding seen
@@ -55,10 +55,10 @@ before-fault front (found xs s) why rest h = absurd cc
 before-fault front (fault w s) why rest h = h
 
 -- a shape below the limit
-pub shape-fault : (n m : ℕ) (t why r : List ℕ) → m + 1 ≡ n → plain (shape m) t ≡ fault why r → shape n t ≡ fault why r
+pub shape-fault : (n m : ℕ) (t why r : List ℕ) → m + 1 ≡ n → base (shape m) t ≡ fault why r → shape n t ≡ fault why r
 unfolding shape
 shape-fault zero m t why r k e = let never : ⊥ = omega (arith, k) in absurd never
 shape-fault (suc n) m t why r k e =
     let same : m ≡ n = omega (arith, k) in
-    let opened : shape (suc n) t ≡ and_then (plain (shape n) t) (options n) = refl in
-    opened ∙ then-fault (plain (shape n) t) (options n) why r (ap (λ l. plain (shape l) t) (sym same) ∙ e)
+    let opened : shape (suc n) t ≡ and_then (base (shape n) t) (options n) = refl in
+    opened ∙ then-fault (base (shape n) t) (options n) why r (ap (λ l. base (shape l) t) (sym same) ∙ e)

@@ -3,11 +3,11 @@ use Rattle.std.specs.Prelude.{◌≡◌, ◌⊎◌, ℕ}
 use Rattle.qs_tree.specs.declared.error.Error.{Error}
 use Rattle.qs_tree.specs.declared.error.Error.TheVariants as e
 use Rattle.qs_c.specs.declared.failure.Failure.{Failure}
-use Rattle.qs_c.specs.declared.failure.Kind.{Kind}
-use Rattle.qs_c.specs.declared.failure.Kind.TheVariants.{OutOfMemory, Parse, Mismatch, NotUtf8, TooDeep}
+use Rattle.qs_c.specs.declared.failure.FailureKind.{FailureKind}
+use Rattle.qs_c.specs.declared.failure.FailureKind.TheVariants.{OutOfMemory, Parse, Mismatch, NotUtf8, TooDeep}
 
 -- a write to memory fails only where an allocation does
-abbrev pub kind_of : Error → Kind
+abbrev pub kind_of : Error → FailureKind
 kind_of (e.Parse message position) = Parse
 kind_of (e.Utf8 cause) = NotUtf8
 kind_of (e.MaxSerializationDepthExceeded depth) = TooDeep

@@ -19,6 +19,6 @@ unfoldable pub seen : {A B : Type 0} → (A → B) → Found A → Found B
 seen f (found a rest) = found (f a) rest
 seen f (fault reason rest) = fault reason rest
 
--- the same behind these
+-- the same after these
 abbrev pub before : {A : Type 0} → List A → Found (List A) → Found (List A)
 before front r = seen (λ xs. front ++ xs) r

@@ -21,7 +21,7 @@ is_no_quote b = not (b == 34)
 unfoldable pub trimmed : List ℕ → List ℕ
 trimmed t = drop (prefix_len is_blank t) t
 
--- Blanks are free behind each sign, word and name, and in front of the whole.
+-- Blanks are free after each sign, word and name, and in front of the whole.
 
 -- the sign comes next, and what follows it
 abbrev pub comes : ℕ → List ℕ → Bool
@@ -63,7 +63,7 @@ word_name t = cond (is_empty (word t)) (fault (codes "a name is wanted") (after_
 unfoldable pub name : Parser (List ℕ)
 name t = cond (comes 34 t) (quoted (drop 1 t)) (word_name t)
 
--- after one of a list there is another, behind a comma, or the sign that closes the list
+-- after one of a list there is another, after a comma, or the sign that closes the list
 unfoldable pub goes_on : ℕ → List ℕ → Parser Bool
 goes_on sign reason t = cond (comes 44 t) (found true (behind t)) (and_then (wanted sign reason t) (λ u rest. found false rest))
 
@@ -136,15 +136,15 @@ unfoldable pub field : Parser Shape → Parser Field
 field inner t =
     and_then (name t) (λ n rest. and_then (wanted 58 (codes "`:` is wanted") (optional_mark rest)) (λ u value. seen (λ s. (n, s, comes 63 rest)) (inner value)))
 
--- fields, behind the brace that opens them
+-- fields, after the brace that opens them
 unfoldable pub fields : Parser Shape → Parser (List Field)
 fields inner t = maybe_list_of (field inner) 125 comma_or_brace t
 
--- shapes, behind the parenthesis that opens them
+-- shapes, after the parenthesis that opens them
 unfoldable pub items : Parser Shape → Parser (List Shape)
 items inner t = maybe_list_of inner 41 comma_or_parenthesis t
 
--- what a variant holds in parentheses: no items, a value, or items, of which the first has a comma behind it
+-- what a variant holds in parentheses: no items, a value, or items, of which the first has a comma after it
 unfoldable pub held : Parser Shape → Parser VariantKind
 held inner t =
     cond (comes 41 t) (found (tuple_kind no_shapes) (behind t))
@@ -161,7 +161,7 @@ kind inner t =
 unfoldable pub variant : Parser Shape → Parser Variant
 variant inner t = and_then (name t) (λ n rest. seen (λ k. (n, k)) (kind inner rest))
 
--- variants, behind the parenthesis that opens them
+-- variants, after the parenthesis that opens them
 unfoldable pub variants : Parser Shape → Parser (List Variant)
 variants inner t = list_of (variant inner) 41 comma_or_parenthesis t
 
@@ -187,9 +187,9 @@ named inner w t =
     (cond (bytes_eq w (codes "enum")) (and_then (open_wanted t) (λ u rest. seen (λ vs. Shape.enumeration (variants_of vs)) (variants inner rest)))
     (there (codes "the word before is no shape") t (scalar w)))))
 
--- a shape without `?` behind it
-unfoldable pub plain : Parser Shape → Parser Shape
-plain inner t =
+-- a shape without `?` after it
+unfoldable pub base : Parser Shape → Parser Shape
+base inner t =
     cond (comes 91 t) (list inner (behind t))
     (cond (comes 123 t) (seen (λ fs. Shape.struct UnknownKeys.ignored (fields_of fs)) (fields inner (behind t)))
     (cond (comes 40 t) (seen (λ ss. Shape.tuple (shapes_of ss)) (items inner (behind t)))
@@ -205,7 +205,7 @@ too_deep t = fault (codes "the shape nests more than 32 levels") t
 
 -- a shape whose parts nest so many levels deep at most
 abbrev pub level : ℕ → Parser Shape → Parser Shape
-level n inner t = and_then (plain inner t) (options n)
+level n inner t = and_then (base inner t) (options n)
 
 -- a shape that nests so many levels deep at most
 unfoldable pub shape : ℕ → Parser Shape

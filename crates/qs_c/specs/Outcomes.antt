@@ -10,8 +10,8 @@ use Rattle.qs_spec.specs.Shape.{Shape}
 use Rattle.qs_spec.specs.Shape.Shape.{any}
 use Rattle.qs_spec.specs.Tree.{Tree, IsTree, IsRefused}
 use Rattle.qs_spec.specs.Written.{written}
-use Rattle.qs_c.specs.declared.failure.Kind.{Kind}
-use Rattle.qs_c.specs.declared.failure.Kind.TheVariants as kind
+use Rattle.qs_c.specs.declared.failure.FailureKind.{FailureKind}
+use Rattle.qs_c.specs.declared.failure.FailureKind.TheVariants as kind
 use Rattle.qs_c.specs.declared.settings.Settings.{Settings}
 use Rattle.qs_c.specs.Notation.{IsNotation, IsNoNotation}
 use Rattle.qs_c.specs.Settings.{config_of, AreNone}
@@ -39,7 +39,7 @@ abbrev pub IsRejected : Config → List ℕ → ℕ → Type 0
 IsRejected config input position = IsRefused config.form config.max_depth input × (position ≤ length input + 1)
 
 -- what an error of this kind at this position says of an input that is read
-abbrev pub WhyUnread : Kind → ℕ → Config → Shape → List ℕ → Type 0
+abbrev pub WhyUnread : FailureKind → ℕ → Config → Shape → List ℕ → Type 0
 WhyUnread kind.OutOfMemory position config shape input = ⊤
 WhyUnread kind.Parse position config shape input = IsRejected config input position
 WhyUnread kind.Mismatch position config shape input = IsUnread config shape input
@@ -47,12 +47,12 @@ WhyUnread kind.NotUtf8 position config shape input = IsUnread config shape input
 WhyUnread _ position config shape input = ⊥
 
 -- the same where it is read as whatever is there
-abbrev pub WhyNotParsed : Kind → ℕ → Settings → List ℕ → Type 0
+abbrev pub WhyNotParsed : FailureKind → ℕ → Settings → List ℕ → Type 0
 WhyNotParsed kind.Settings position settings input = AreNone settings
 WhyNotParsed k position settings input = WhyUnread k position (config_of settings) any input
 
 -- the same where it is read by the shape that this text is
-abbrev pub WhyNotRead : Kind → ℕ → Settings → List ℕ → List ℕ → Type 0
+abbrev pub WhyNotRead : FailureKind → ℕ → Settings → List ℕ → List ℕ → Type 0
 WhyNotRead kind.OutOfMemory position settings notation input = ⊤
 WhyNotRead kind.Settings position settings notation input = AreNone settings
 WhyNotRead kind.Shape position settings notation input = (reason : List ℕ) × IsNoNotation notation reason position
@@ -66,14 +66,14 @@ pub record IsWritten (config : Config) (json text : List ℕ) : Type 0 where
   pub is_text : text ≡ written config.form false (entries config value).entries
 
 -- what an error of this kind says of data that are written
-abbrev pub WhyUnwritten : Kind → Config → Data → Type 0
+abbrev pub WhyUnwritten : FailureKind → Config → Data → Type 0
 WhyUnwritten kind.OutOfMemory config x = ⊤
 WhyUnwritten kind.TooDeep config x = (entries config x).refusal ≡ Some too_deep
 WhyUnwritten kind.Mismatch config x = (entries config x).refusal ≡ Some bad_key
 WhyUnwritten _ config x = ⊥
 
 -- what an error of this kind says of JSON that is written
-abbrev pub WhyNotWritten : Kind → Settings → List ℕ → Type 0
+abbrev pub WhyNotWritten : FailureKind → Settings → List ℕ → Type 0
 WhyNotWritten kind.OutOfMemory settings json = ⊤
 WhyNotWritten kind.Settings settings json = AreNone settings
 WhyNotWritten kind.Json settings json = IsUtf8 json → document json ≡ None

@@ -39,27 +39,27 @@ abbrev mutual
   json_of (d.character c) = string (encode_utf8 c)
   json_of (d.text t) = string t
   json_of (d.bytes b) = array (byte_items b)
-  json_of (d.sequence xs) = array (items_of xs)
-  json_of (d.tuple xs) = array (items_of xs)
-  json_of (d.mapping ps) = object (pairs_of ps)
-  json_of (d.struct ms) = object (members_of ms)
+  json_of (d.sequence xs) = array (json_items xs)
+  json_of (d.tuple xs) = array (json_items xs)
+  json_of (d.mapping ps) = object (json_pairs ps)
+  json_of (d.struct ms) = object (json_members ms)
   json_of (d.newtype x) = json_of x
   json_of (d.unit_variant name) = string name
   json_of (d.newtype_variant name x) = alone name (json_of x)
-  json_of (d.tuple_variant name xs) = alone name (array (items_of xs))
-  json_of (d.struct_variant name ms) = alone name (object (members_of ms))
+  json_of (d.tuple_variant name xs) = alone name (array (json_items xs))
+  json_of (d.struct_variant name ms) = alone name (object (json_members ms))
 
-  pub items_of : d.Values → Items
-  items_of d.no_values = no_items
-  items_of (d.one_value x xs) = item (json_of x) (items_of xs)
+  pub json_items : d.Values → Items
+  json_items d.no_values = no_items
+  json_items (d.one_value x xs) = item (json_of x) (json_items xs)
 
-  pub pairs_of : d.Pairs → Members
-  pairs_of d.no_pairs = no_members
-  pairs_of (d.one_pair k x ps) = member (key_of k) (json_of x) (pairs_of ps)
+  pub json_pairs : d.Pairs → Members
+  json_pairs d.no_pairs = no_members
+  json_pairs (d.one_pair k x ps) = member (key_of k) (json_of x) (json_pairs ps)
 
-  pub members_of : d.Members → Members
-  members_of d.no_members = no_members
-  members_of (d.one_member name x ms) = member name (json_of x) (members_of ms)
+  pub json_members : d.Members → Members
+  json_members d.no_members = no_members
+  json_members (d.one_member name x ms) = member name (json_of x) (json_members ms)
 
 abbrev pub array_tokens : Items → List Token
 array_tokens js = json_tokens (array js)

@@ -3,11 +3,11 @@ use Rattle.std.specs.Prelude.{◌≡◌, ◌⊎◌, ℕ, ◌<◌, List, [], Opti
 use Rattle.std.specs.declared.alloc.Global.{Global}
 use Rattle.std.specs.declared.string.String.{String}
 use Rattle.qs_c.specs.declared.failure.Failure.{Failure}
-use Rattle.qs_c.specs.declared.failure.Kind.{Kind}
-use Rattle.qs_c.specs.declared.failure.Kind.TheVariants.{OutOfMemory, Settings, Parse, Mismatch, NotUtf8, Shape, Json, TooDeep}
+use Rattle.qs_c.specs.declared.failure.FailureKind.{FailureKind}
+use Rattle.qs_c.specs.declared.failure.FailureKind.TheVariants.{OutOfMemory, Settings, Parse, Mismatch, NotUtf8, Shape, Json, TooDeep}
 
 -- of each kind of error
-abbrev pub code_of : Kind → ℕ
+abbrev pub code_of : FailureKind → ℕ
 code_of OutOfMemory = 2
 code_of Settings = 3
 code_of Parse = 4

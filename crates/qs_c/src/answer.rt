@@ -39,7 +39,7 @@ pub(crate) fn fail(failure: Failure, out: &mut [u8], answer: &mut Answer) -> u32
     failure.kind.code()
 }
 
-/// Copies the error's text to the front of `out`, where it fits there, and returns its length.
+// Copies the error's text to the front of `out`, where it fits there, and returns its length.
 fn say(failure: &Failure, out: &mut [u8]) -> usize
     ensures { IsLaidOut (text_of failure.now) out.old out.new result }
 {
@@ -52,7 +52,7 @@ fn say(failure: &Failure, out: &mut [u8]) -> usize
     }
 }
 
-/// Copies the bytes to the front of `out`, if they fit there.
+// Copies the bytes to the front of `out`, if they fit there.
 fn put(text: &[u8], out: &mut [u8]) -> bool
     ensures fits { IsTrue result → (length text.now ≤ length out.old) × (out.new ≡ text.now ++ drop (length text.now) out.old) }
     ensures too_long { IsFalse result → (length out.old < length text.now) × (out.new ≡ out.old) }

@@ -1,14 +1,14 @@
 //! Why a call failed.
 
 ghost use Rattle.std.specs.Prelude.{◌≡◌, ◌⊎◌, string_bytes};
-ghost use Rattle.qs_c.specs.declared.failure.Kind.TheVariants.{OutOfMemory};
+ghost use Rattle.qs_c.specs.declared.failure.FailureKind.TheVariants.{OutOfMemory};
 ghost use Rattle.qs_c.specs.Status.{code_of, text_of, IsDone};
 
 use std::alloc::{AllocError, AllocFailed, Global};
 
 /// The kinds of errors, each a status of the header.
 #[derive(Clone, Copy, Debug, PartialEq, Eq)]
-pub(crate) enum Kind {
+pub(crate) enum FailureKind {
     /// An allocation failed.
     OutOfMemory,
     /// The settings are none.
@@ -27,21 +27,21 @@ pub(crate) enum Kind {
     TooDeep,
 }
 
-impl Kind {
+impl FailureKind {
     /// The number that a call returns.
     pub(crate) fn code(self) -> u32
         ensures code { result ≡ code_of self }
         ensures failed { IsDone result → ⊥ }
     {
         match self {
-            Kind::OutOfMemory => 2,
-            Kind::Settings => 3,
-            Kind::Parse => 4,
-            Kind::Mismatch => 5,
-            Kind::NotUtf8 => 6,
-            Kind::Shape => 7,
-            Kind::Json => 8,
-            Kind::TooDeep => 9,
+            FailureKind::OutOfMemory => 2,
+            FailureKind::Settings => 3,
+            FailureKind::Parse => 4,
+            FailureKind::Mismatch => 5,
+            FailureKind::NotUtf8 => 6,
+            FailureKind::Shape => 7,
+            FailureKind::Json => 8,
+            FailureKind::TooDeep => 9,
         }
     }
 }
@@ -49,29 +49,29 @@ impl Kind {
 /// An error: its kind, its text, and where in the input it is.
 #[derive(Debug, Drop)]
 pub(crate) struct Failure {
-    pub(crate) kind: Kind,
+    pub(crate) kind: FailureKind,
     /// The text for a user; an allocation that failed has none.
     pub(crate) text: Option<String>,
-    /// Of an input that can't be parsed, the number of bytes before the fault; else 0.
+    /// Of an input that can't be parsed, the number of bytes before the error; else 0.
     pub(crate) position: usize,
 }
 
 impl Failure {
-    ghost use Rattle.qs_c.specs.declared.failure.Kind.TheVariants.{OutOfMemory};
+    ghost use Rattle.qs_c.specs.declared.failure.FailureKind.TheVariants.{OutOfMemory};
 
     /// The error that an allocation failed.
     pub(crate) fn out_of_memory() -> Failure
         ensures { result.kind ≡ OutOfMemory }
     {
         Failure {
-            kind: Kind::OutOfMemory,
+            kind: FailureKind::OutOfMemory,
             text: None,
             position: 0,
         }
     }
 
     /// The error of this kind, with this text, at this place.
-    pub(crate) fn new(kind: Kind, text: String, position: usize) -> Failure
+    pub(crate) fn new(kind: FailureKind, text: String, position: usize) -> Failure
         ensures kind { result.kind ≡ kind }
         ensures position { result.position ≡ position }
         ensures text { text_of result ≡ string_bytes text }
@@ -85,7 +85,7 @@ impl Failure {
 }
 
 /// The error of this kind, with this text, at this place, or that there was no memory for the text.
-pub(crate) fn failure_at(alloc: Global, kind: Kind, text: &str, position: usize) -> Failure
+pub(crate) fn failure_at(alloc: Global, kind: FailureKind, text: &str, position: usize) -> Failure
     ensures { (result.kind ≡ OutOfMemory) ⊎ ((result.kind ≡ kind) × (result.position ≡ position) × (text_of result ≡ text.now)) }
 {
     match String::from_str(alloc, text) {
@@ -96,22 +96,22 @@ pub(crate) fn failure_at(alloc: Global, kind: Kind, text: &str, position: usize)
 
 impl From<AllocError> for Failure {
     ghost use Rattle.std.specs.Prelude.{◌≡◌};
-    ghost use Rattle.qs_c.specs.declared.failure.Kind.TheVariants.{OutOfMemory};
+    ghost use Rattle.qs_c.specs.declared.failure.FailureKind.TheVariants.{OutOfMemory};
 
     ghost from_gives = { λ _ failure. failure.kind ≡ OutOfMemory };
 
-    fn from(_refused: AllocError) -> Failure {
+    fn from(_: AllocError) -> Failure {
         Failure::out_of_memory()
     }
 }
 
 impl<T: Drop> From<AllocFailed<T>> for Failure {
     ghost use Rattle.std.specs.Prelude.{◌≡◌};
-    ghost use Rattle.qs_c.specs.declared.failure.Kind.TheVariants.{OutOfMemory};
+    ghost use Rattle.qs_c.specs.declared.failure.FailureKind.TheVariants.{OutOfMemory};
 
     ghost from_gives = { λ _ failure. failure.kind ≡ OutOfMemory };
 
-    fn from(_refused: AllocFailed<T>) -> Failure {
+    fn from(_: AllocFailed<T>) -> Failure {
         Failure::out_of_memory()
     }
 }

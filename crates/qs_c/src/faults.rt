@@ -3,7 +3,7 @@
 ghost use Rattle.std.specs.Prelude.{◌≡◌};
 ghost use Rattle.qs_c.specs.Faults.{kind_of, position_of, IsFailureOf};
 
-use crate::failure::{Failure, Kind};
+use crate::failure::{Failure, FailureKind};
 use qs_data::Error;
 use std::alloc::Global;
 
@@ -12,7 +12,7 @@ pub(crate) fn failure_of(alloc: Global, error: Error) -> Failure
     ensures { IsFailureOf result error }
 {
     let kind = kind_of(&error);
-    if let Kind::OutOfMemory = kind {
+    if let FailureKind::OutOfMemory = kind {
         return Failure::out_of_memory();
     }
     let position = position_of(&error);
@@ -22,18 +22,20 @@ pub(crate) fn failure_of(alloc: Global, error: Error) -> Failure
     }
 }
 
-fn kind_of(error: &Error) -> Kind
+// The kind of an error of reading or writing.
+fn kind_of(error: &Error) -> FailureKind
     ensures { result ≡ kind_of error.now }
 {
     match error {
-        Error::Parse(_, _) => Kind::Parse,
-        Error::Utf8(_) => Kind::NotUtf8,
-        Error::MaxSerializationDepthExceeded(_) => Kind::TooDeep,
-        Error::OutOfMemory | Error::Io(_) => Kind::OutOfMemory,
-        _ => Kind::Mismatch,
+        Error::Parse(_, _) => FailureKind::Parse,
+        Error::Utf8(_) => FailureKind::NotUtf8,
+        Error::MaxSerializationDepthExceeded(_) => FailureKind::TooDeep,
+        Error::OutOfMemory | Error::Io(_) => FailureKind::OutOfMemory,
+        _ => FailureKind::Mismatch,
     }
 }
 
+// The position of a parse error; 0 for any other.
 fn position_of(error: &Error) -> usize
     ensures { result ≡ position_of error.now }
 {

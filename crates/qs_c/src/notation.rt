@@ -11,13 +11,13 @@ mod words;
 ghost use Rattle.std.specs.Prelude.{◌≡◌, ◌⊎◌, [], true, IfOk, IfErr, OnOk};
 ghost use Rattle.qs_spec.specs.Shape.{is_distinct};
 ghost use Rattle.qs_data.specs.shape.Views.{shape_of};
-ghost use Rattle.qs_c.specs.declared.failure.Kind.TheVariants as kind;
+ghost use Rattle.qs_c.specs.declared.failure.FailureKind.TheVariants as kind;
 ghost use Rattle.qs_c.specs.Notation.{IsNotation, IsNoNotation, shape, whole};
 ghost use Rattle.qs_c.specs.Found.{and_then};
-ghost use Rattle.qs_c.specs.Parses.{Parses};
+ghost use Rattle.qs_c.specs.internal.Parses.{Parses};
 ghost use Rattle.qs_c.specs.Status.{text_of};
 
-use crate::failure::{Failure, Kind, failure_at};
+use crate::failure::{Failure, FailureKind, failure_at};
 use cursor::Cursor;
 use qs_data::Shape;
 use std::alloc::Global;
@@ -37,13 +37,13 @@ pub(crate) fn shape_of_text(alloc: Global, text: &[u8]) -> std::result::Result<S
         Ok(shape) => Ok(shape),
         Err(Stop::Fault(reason)) => {
             let position = text.len().saturating_sub(cursor.len());
-            Err(failure_at(alloc, Kind::Shape, reason, position))
+            Err(failure_at(alloc, FailureKind::Shape, reason, position))
         }
         Err(Stop::OutOfMemory) => Err(Failure::out_of_memory()),
     }
 }
 
-/// A shape, and nothing after it.
+// A shape, and nothing after it.
 fn whole_shape(alloc: Global, cursor: &mut Cursor<'_>) -> Result<Shape>
     ensures shape { Parses shape_of (and_then (shape 32 cursor.old.rest.now) whole) result cursor.new.rest.now }
     ensures end { OnOk result (cursor.new.rest.now ≡ []) }

@@ -11,8 +11,8 @@ ghost use Rattle.qs_c.specs.Notation.{IsNoNotation};
 ghost use Rattle.qs_c.specs.Outcomes.{IsRead, IsReadBy, IsReadByText, WhyNotParsed, WhyNotRead, WhyUnread};
 ghost use Rattle.qs_c.specs.Settings.{config_of, AreNone};
 ghost use Rattle.qs_c.specs.Status.{code_of, text_of, IsDone, IsStoppedEarly};
-ghost use Rattle.qs_c.specs.declared.failure.Kind.{Kind as KindOfError};
-ghost use Rattle.qs_c.specs.declared.failure.Kind.TheVariants as kind;
+ghost use Rattle.qs_c.specs.declared.failure.FailureKind.{FailureKind};
+ghost use Rattle.qs_c.specs.declared.failure.FailureKind.TheVariants as kind;
 
 use crate::answer::{Answer, fail, give};
 use crate::failure::Failure;
@@ -35,8 +35,8 @@ pub extern "C" fn qs_parse(
     ensures done { IsDone result → (text : List ℕ) × IsRead (config_of settings.now) any input.now text
         × IsHandedOut text out.old out.new result answer.new.len }
     ensures position { IsDone result → answer.new.position ≡ 0 }
-    ensures failed { (IsDone result → ⊥) → (kind : KindOfError) × (result ≡ code_of kind) × WhyNotParsed kind answer.new.position settings.now input.now }
-    ensures told { (IsDone result → ⊥) → (text : List ℕ) × IsLaidOut text out.old out.new answer.new.len }
+    ensures failed { (IsDone result → ⊥) → (kind : FailureKind) × (result ≡ code_of kind) × WhyNotParsed kind answer.new.position settings.now input.now }
+    ensures message { (IsDone result → ⊥) → (text : List ℕ) × IsLaidOut text out.old out.new answer.new.len }
     ensures settings { AreNone settings.now → IsStoppedEarly result }
 {
     match parsed(alloc, settings, input) {
@@ -58,8 +58,8 @@ pub extern "C" fn qs_read(
     ensures done { IsDone result → (text : List ℕ) × IsReadByText (config_of settings.now) shape.now input.now text
         × IsHandedOut text out.old out.new result answer.new.len }
     ensures position { IsDone result → answer.new.position ≡ 0 }
-    ensures failed { (IsDone result → ⊥) → (kind : KindOfError) × (result ≡ code_of kind) × WhyNotRead kind answer.new.position settings.now shape.now input.now }
-    ensures told { (IsDone result → ⊥) → (text : List ℕ) × IsLaidOut text out.old out.new answer.new.len }
+    ensures failed { (IsDone result → ⊥) → (kind : FailureKind) × (result ≡ code_of kind) × WhyNotRead kind answer.new.position settings.now shape.now input.now }
+    ensures message { (IsDone result → ⊥) → (text : List ℕ) × IsLaidOut text out.old out.new answer.new.len }
     ensures settings { AreNone settings.now → IsStoppedEarly result }
     ensures reason { result ≡ code_of kind.Shape → (reason : List ℕ) × IsNoNotation shape.now reason answer.new.position × IsLaidOut reason out.old out.new answer.new.len }
 {
@@ -69,6 +69,7 @@ pub extern "C" fn qs_read(
     }
 }
 
+// The JSON of what `any` reads.
 fn parsed(alloc: Global, settings: &Settings, input: &[u8]) -> Result<Vec<u8>, Failure>
     ensures text { IfOk result (λ text. IsRead (config_of settings.now) any input.now text.items) }
     ensures none { IfErr result (λ failure. WhyNotParsed failure.kind failure.position settings.now input.now) }
@@ -79,6 +80,7 @@ fn parsed(alloc: Global, settings: &Settings, input: &[u8]) -> Result<Vec<u8>, F
     read_json(alloc, config, &Shape::Any, input)
 }
 
+// The JSON of what the shape in the notation reads.
 fn read(alloc: Global, settings: &Settings, shape: &[u8], input: &[u8]) -> Result<Vec<u8>, Failure>
     ensures text { IfOk result (λ text. IsReadByText (config_of settings.now) shape.now input.now text.items) }
     ensures none { IfErr result (λ failure. WhyNotRead failure.kind failure.position settings.now shape.now input.now) }
@@ -91,7 +93,7 @@ fn read(alloc: Global, settings: &Settings, shape: &[u8], input: &[u8]) -> Resul
     read_json(alloc, config, &shape, input)
 }
 
-/// The JSON of the data that the shape reads.
+// The JSON of the data that the shape reads.
 fn read_json(alloc: Global, config: Config, shape: &Shape, input: &[u8]) -> Result<Vec<u8>, Failure>
     requires { is_distinct (shape_of shape.now) ≡ true }
     ensures text { IfOk result (λ text. IsRead config (shape_of shape.now) input.now text.items) }
@@ -103,6 +105,7 @@ fn read_json(alloc: Global, config: Config, shape: &Shape, input: &[u8]) -> Resu
     }
 }
 
+// What a shape reads from the input.
 fn read_data(alloc: Global, config: Config, shape: &Shape, input: &[u8]) -> qs_data::Result<Data>
     requires { is_distinct (shape_of shape.now) ≡ true }
     ensures data { IfOk result (λ datum. IsReadBy config (shape_of shape.now) input.now (data_of datum)) }

@@ -3,9 +3,9 @@
 ghost use Rattle.std.specs.Prelude.{◌≡◌, ◌<◌, ◌≤◌, ◌⊎◌, IfOk, IfErr};
 ghost use Rattle.qs_tree.specs.Settings.{array_format_of, duplicates_of as behavior_of};
 ghost use Rattle.qs_c.specs.Settings.{config_of, format_of, duplicates_of, most_levels, AreNone};
-ghost use Rattle.qs_c.specs.declared.failure.Kind.TheVariants.{OutOfMemory, Settings as BadSettings};
+ghost use Rattle.qs_c.specs.declared.failure.FailureKind.TheVariants.{OutOfMemory, Settings as BadSettings};
 
-use crate::failure::{Failure, Kind, failure_at};
+use crate::failure::{Failure, FailureKind, failure_at};
 use qs_data::{ArrayFormat, Config, DuplicateKeyBehavior};
 use std::alloc::Global;
 
@@ -35,7 +35,12 @@ impl Settings {
         ensures none { IfErr result (λ failure. (failure.kind ≡ OutOfMemory) ⊎ ((failure.kind ≡ BadSettings) × AreNone self.now)) }
     {
         if self.max_depth > MOST_LEVELS {
-            return Err(failure_at(alloc, Kind::Settings, "max_depth is more than 100", 0));
+            return Err(failure_at(
+                alloc,
+                FailureKind::Settings,
+                "max_depth is more than 100",
+                0,
+            ));
         }
         let array_format = self.elements(alloc)?;
         Ok(
@@ -47,6 +52,7 @@ impl Settings {
         )
     }
 
+    // The array format of its number.
     fn elements(&self, alloc: Global) -> Result<ArrayFormat, Failure>
         ensures format { IfOk result (λ format. array_format_of format ≡ format_of self.now.array_format) }
         ensures sound { IfOk result (λ format. 2 < self.now.array_format → ⊥) }
@@ -58,13 +64,14 @@ impl Settings {
             2 => Ok(ArrayFormat::Unindexed),
             _ => Err(failure_at(
                 alloc,
-                Kind::Settings,
+                FailureKind::Settings,
                 "array_format is none of 0, 1 and 2",
                 0,
             )),
         }
     }
 
+    // What repeated keys are.
     fn duplicates(&self) -> DuplicateKeyBehavior
         ensures { behavior_of result ≡ duplicates_of self.now.reject_duplicates }
     {

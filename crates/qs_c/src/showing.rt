@@ -4,7 +4,7 @@ ghost use Rattle.std.specs.Prelude.{◌≡◌, ◌++◌, [], ◌∷◌, IfOk, On
 ghost use Rattle.json.specs.Token.{begin_object, key as a_key};
 ghost use Rattle.json.specs.Tree.{json_tokens};
 ghost use Rattle.qs_data.specs.data.Views.{data_of, values_in, pairs_in, members_in};
-ghost use Rattle.qs_c.specs.Shown.{json_of, items_of, pairs_of, members_of, byte_items, key_of, array_tokens, object_tokens, json_text};
+ghost use Rattle.qs_c.specs.Shown.{json_of, json_items, json_pairs, json_members, byte_items, key_of, array_tokens, object_tokens, json_text};
 
 use json::Writer;
 use qs_data::Data;
@@ -19,7 +19,7 @@ pub(crate) fn shown(alloc: Global, datum: &Data) -> Result<Vec<u8>, AllocError>
     Ok(writer.into_inner())
 }
 
-/// Writes the data. It calls itself for each level.
+// Writes the data. It calls itself for each level.
 #[cycle(show)]
 #[tactic(auto, using(qs_data::proofs::lemmas::data::Levels::levels))]
 fn show(alloc: Global, writer: &mut Writer, datum: &Data) -> Result<(), AllocError>
@@ -57,9 +57,10 @@ fn show(alloc: Global, writer: &mut Writer, datum: &Data) -> Result<(), AllocErr
     }
 }
 
+// Writes the items as an array.
 #[cycle(show)]
 fn show_items(alloc: Global, writer: &mut Writer, items: &Vec<Data>) -> Result<(), AllocError>
-    ensures tokens { OnOk result (writer.new.tokens ≡ writer.old.tokens ++ array_tokens (items_of (values_in items.now.items))) }
+    ensures tokens { OnOk result (writer.new.tokens ≡ writer.old.tokens ++ array_tokens (json_items (values_in items.now.items))) }
     ensures before { writer.new.before ≡ writer.old.before }
 {
     writer.begin_array()?;
@@ -69,13 +70,14 @@ fn show_items(alloc: Global, writer: &mut Writer, items: &Vec<Data>) -> Result<(
     writer.end_array()
 }
 
+// Writes the pairs of a map as an object, whose names are the texts of their keys.
 #[cycle(show)]
 fn show_pairs(
     alloc: Global,
     writer: &mut Writer,
     pairs: &Vec<(Data, Data)>,
 ) -> Result<(), AllocError>
-    ensures tokens { OnOk result (writer.new.tokens ≡ writer.old.tokens ++ object_tokens (pairs_of (pairs_in pairs.now.items))) }
+    ensures tokens { OnOk result (writer.new.tokens ≡ writer.old.tokens ++ object_tokens (json_pairs (pairs_in pairs.now.items))) }
     ensures before { writer.new.before ≡ writer.old.before }
 {
     writer.begin_object()?;
@@ -86,13 +88,14 @@ fn show_pairs(
     writer.end_object()
 }
 
+// Writes the fields as an object.
 #[cycle(show)]
 fn show_members(
     alloc: Global,
     writer: &mut Writer,
     members: &Vec<(String, Data)>,
 ) -> Result<(), AllocError>
-    ensures tokens { OnOk result (writer.new.tokens ≡ writer.old.tokens ++ object_tokens (members_of (members_in members.now.items))) }
+    ensures tokens { OnOk result (writer.new.tokens ≡ writer.old.tokens ++ object_tokens (json_members (members_in members.now.items))) }
     ensures before { writer.new.before ≡ writer.old.before }
 {
     writer.begin_object()?;
@@ -103,7 +106,7 @@ fn show_members(
     writer.end_object()
 }
 
-/// Begins the object of a variant, up to what it holds.
+// Begins the object of a variant, up to what it holds.
 fn begin_variant(writer: &mut Writer, name: &str) -> Result<(), AllocError>
     ensures tokens { OnOk result (writer.new.tokens ≡ writer.old.tokens ++ begin_object ∷ a_key name.now ∷ []) }
     ensures before { writer.new.before ≡ writer.old.before }
@@ -112,7 +115,7 @@ fn begin_variant(writer: &mut Writer, name: &str) -> Result<(), AllocError>
     writer.key(name)
 }
 
-/// Writes bytes as an array of numbers.
+// Writes bytes as an array of numbers.
 fn show_bytes(writer: &mut Writer, bytes: &Vec<u8>) -> Result<(), AllocError>
     ensures tokens { OnOk result (writer.new.tokens ≡ writer.old.tokens ++ array_tokens (byte_items bytes.now.items)) }
     ensures before { writer.new.before ≡ writer.old.before }
@@ -124,7 +127,7 @@ fn show_bytes(writer: &mut Writer, bytes: &Vec<u8>) -> Result<(), AllocError>
     writer.end_array()
 }
 
-/// Writes the key of a map: the text that it is read from, and the empty one for what is never a key.
+// Writes the key of a map: the text that it is read from, and the empty one for what is never a key.
 fn show_key(alloc: Global, writer: &mut Writer, key: &Data) -> Result<(), AllocError>
     ensures tokens { OnOk result (writer.new.tokens ≡ writer.old.tokens ++ a_key (key_of (data_of key.now)) ∷ []) }
     ensures before { writer.new.before ≡ writer.old.before }

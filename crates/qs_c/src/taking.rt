@@ -5,9 +5,9 @@ ghost use Rattle.std.specs.Str.{IsUtf8};
 ghost use Rattle.json.specs.Json.{document};
 ghost use Rattle.qs_data.specs.data.Views.{data_of, pair_of};
 ghost use Rattle.qs_c.specs.Taken.{item_data, member_data, IsJsonOf};
-ghost use Rattle.qs_c.specs.declared.failure.Kind.TheVariants as kind;
+ghost use Rattle.qs_c.specs.declared.failure.FailureKind.TheVariants as kind;
 
-use crate::failure::{Failure, Kind, failure_at};
+use crate::failure::{Failure, FailureKind, failure_at};
 use json::{MAX_DEPTH, Reader, Scratch, Value};
 use qs_data::Data;
 use std::alloc::{AllocError, Global};
@@ -18,30 +18,30 @@ pub(crate) fn taken(alloc: Global, text: &[u8]) -> Result<Data, Failure>
     ensures none { IfErr result (λ failure. (failure.kind ≡ kind.OutOfMemory) ⊎ ((failure.kind ≡ kind.Json) × (IsUtf8 text.now → document text.now ≡ None))) }
 {
     let Ok(text) = std::str::from_utf8(text) else {
-        return Err(failure_at(alloc, Kind::Json, "the JSON isn't UTF-8", 0));
+        return Err(failure_at(alloc, FailureKind::Json, "the JSON isn't UTF-8", 0));
     };
     let mut scratch = Scratch::new(alloc);
     match Value::parse(alloc, text, &mut scratch) {
         Ok(value) => Ok(take(alloc, &value)?),
         Err(json::Error::OutOfMemory) => Err(Failure::out_of_memory()),
         Err(_) => {
-            let position = fault_in(alloc, text);
-            Err(failure_at(alloc, Kind::Json, "the JSON is invalid", position))
+            let position = fault_in(alloc, text)?;
+            Err(failure_at(alloc, FailureKind::Json, "the JSON is invalid", position))
         }
     }
 }
 
-/// Where the JSON can't be read on.
-fn fault_in(alloc: Global, text: &str) -> usize {
+// Where the JSON can't be read on, which is read once more.
+fn fault_in(alloc: Global, text: &str) -> Result<usize, AllocError> {
     let mut scratch = Scratch::new(alloc);
-    let Ok(mut reader) = Reader::new(text, &mut scratch) else {
-        return 0;
-    };
-    let _ = Value::read(alloc, &mut reader, MAX_DEPTH);
-    reader.offset()
+    let mut reader = Reader::new(text, &mut scratch)?;
+    match Value::read(alloc, &mut reader, MAX_DEPTH) {
+        Err(json::Error::OutOfMemory) => Err(AllocError),
+        _ => Ok(reader.offset()),
+    }
 }
 
-/// The data that the value is. It calls itself for each level.
+// The data that the value is. It calls itself for each level.
 #[cycle(take)]
 #[tactic(auto, using(qs_data::proofs::lemmas::data::Levels::levels))]
 fn take(alloc: Global, value: &Value<'_>) -> Result<Data, AllocError>
@@ -56,6 +56,7 @@ fn take(alloc: Global, value: &Value<'_>) -> Result<Data, AllocError>
     }
 }
 
+// The data of each item.
 #[cycle(take)]
 fn take_items(alloc: Global, items: &Vec<Value<'_>>) -> Result<Vec<Data>, AllocError>
     ensures { IfOk result (λ taken. map data_of taken.items ≡ map item_data items.now.items) }
@@ -67,6 +68,7 @@ fn take_items(alloc: Global, items: &Vec<Value<'_>>) -> Result<Vec<Data>, AllocE
     Ok(taken)
 }
 
+// The data of each member, under its name as a text.
 #[cycle(take)]
 fn take_members(
     alloc: Global,

@@ -9,7 +9,7 @@ ghost use Rattle.qs_c.specs.Faults.{kind_of};
 ghost use Rattle.qs_c.specs.Outcomes.{IsWritten, WhyNotWritten, WhyUnwritten};
 ghost use Rattle.qs_c.specs.Settings.{config_of, AreNone};
 ghost use Rattle.qs_c.specs.Status.{code_of, IsDone, IsStoppedEarly};
-ghost use Rattle.qs_c.specs.declared.failure.Kind.{Kind as KindOfError};
+ghost use Rattle.qs_c.specs.declared.failure.FailureKind.{FailureKind};
 
 use crate::answer::{Answer, fail, give};
 use crate::failure::Failure;
@@ -31,8 +31,8 @@ pub extern "C" fn qs_write(
     ensures done { IsDone result → (text : List ℕ) × IsWritten (config_of settings.now) json.now text
         × IsHandedOut text out.old out.new result answer.new.len }
     ensures position { IsDone result → answer.new.position ≡ 0 }
-    ensures failed { (IsDone result → ⊥) → (kind : KindOfError) × (result ≡ code_of kind) × WhyNotWritten kind settings.now json.now }
-    ensures told { (IsDone result → ⊥) → (text : List ℕ) × IsLaidOut text out.old out.new answer.new.len }
+    ensures failed { (IsDone result → ⊥) → (kind : FailureKind) × (result ≡ code_of kind) × WhyNotWritten kind settings.now json.now }
+    ensures message { (IsDone result → ⊥) → (text : List ℕ) × IsLaidOut text out.old out.new answer.new.len }
     ensures settings { AreNone settings.now → IsStoppedEarly result }
 {
     match written(alloc, settings, json) {
@@ -41,6 +41,7 @@ pub extern "C" fn qs_write(
     }
 }
 
+// The querystring of data that are JSON.
 fn written(alloc: Global, settings: &Settings, json: &[u8]) -> Result<Vec<u8>, Failure>
     ensures text { IfOk result (λ text. IsWritten (config_of settings.now) json.now text.items) }
     ensures none { IfErr result (λ failure. WhyNotWritten failure.kind settings.now json.now) }
@@ -55,7 +56,7 @@ fn written(alloc: Global, settings: &Settings, json: &[u8]) -> Result<Vec<u8>, F
     }
 }
 
-/// The text that the data are written as.
+// The text that the data are written as.
 fn text_of(alloc: Global, config: Config, datum: &Data) -> qs_data::Result<Vec<u8>>
     ensures whole { IfOk result (λ text. (entries config (data_of datum.now)).refusal ≡ None) }
     ensures text { IfOk result (λ text. text.items ≡ written config.form false (entries config (data_of datum.now)).entries) }

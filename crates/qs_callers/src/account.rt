@@ -1,8 +1,9 @@
 //! An account, whose fields have other names in a querystring.
 
-ghost use Rattle.std.specs.Prelude.{◌∷◌, [], codes, refl};
+ghost use Rattle.qs_callers.specs.declared.account.TheConstants.{NAMES};
+ghost use Rattle.serde_qs.specs.PartTables.{made_of};
 
-use serde_qs::{Compound, Data, Result, RoundTrip, Struct, struct_of};
+use serde_qs::{Compound, Data, Out, Parts, Result, Shape, Source, Struct};
 use std::alloc::Global;
 
 /// An account.
@@ -13,38 +14,27 @@ pub struct Account {
     pub id: u32,
 }
 
+type AccountParts = Struct<(String, (String, (u32, ())))>;
+
+const NAMES: &[&str] = &["firstName", "lastName", "user-id"];
+
 impl Compound for Account {
-    type Parts = Struct<(String, (String, (u32, ())))>;
+    ghost table = { made_of ⟦<AccountParts as Parts>⟧.table NAMES.now (λ account. record { 0 = (account.first_name, (account.last_name, (account.id, tt))) }) _ };
 
-    ghost names = { codes "firstName" ∷ codes "lastName" ∷ codes "user-id" ∷ [] };
-
-    ghost parts = { λ account. record { 0 = (account.first_name, (account.last_name, (account.id, tt))) } };
-
-    ghost complete = { refl };
-
-    fn names() -> &'static [&'static str] {
-        &["firstName", "lastName", "user-id"]
+    fn form(alloc: Global) -> Result<Shape> {
+        AccountParts::shape(alloc, NAMES)
     }
 
-    fn from_parts(Struct((first_name, (last_name, (id, ())))): Self::Parts) -> Account {
-        Account {
+    fn read(source: Source) -> Result<Account> {
+        let Struct((first_name, (last_name, (id, ())))) = AccountParts::read(source, NAMES)?;
+        Ok(Account {
             first_name,
             last_name,
             id,
-        }
+        })
     }
 
-    fn written(&self, alloc: Global) -> Result<Data> {
-        struct_of(
-            alloc,
-            &["firstName", "lastName", "user-id"],
-            (&self.first_name, (&self.last_name, (&self.id, ()))),
-        )
-    }
-
-    fn fit(&self) {
-        self.first_name.fits();
-        self.last_name.fits();
-        self.id.fits();
+    fn written(&self, out: Out) -> Result<Data> {
+        out.fields(NAMES, (&self.first_name, (&self.last_name, (&self.id, ()))))
     }
 }

@@ -1,8 +1,9 @@
 //! A postal address.
 
-ghost use Rattle.std.specs.Prelude.{◌∷◌, [], codes, refl};
+ghost use Rattle.qs_callers.specs.declared.address.TheConstants.{NAMES};
+ghost use Rattle.serde_qs.specs.PartTables.{made_of};
 
-use serde_qs::{Compound, Data, Result, RoundTrip, Struct, struct_of};
+use serde_qs::{Compound, Data, Out, Parts, Result, Shape, Source, Struct};
 use std::alloc::Global;
 
 /// A postal address.
@@ -12,29 +13,23 @@ pub struct Address {
     pub city: String,
 }
 
+type AddressParts = Struct<(String, (String, ()))>;
+
+const NAMES: &[&str] = &["street", "city"];
+
 impl Compound for Address {
-    type Parts = Struct<(String, (String, ()))>;
+    ghost table = { made_of ⟦<AddressParts as Parts>⟧.table NAMES.now (λ address. record { 0 = (address.street, (address.city, tt)) }) _ };
 
-    ghost names = { codes "street" ∷ codes "city" ∷ [] };
-
-    ghost parts = { λ address. record { 0 = (address.street, (address.city, tt)) } };
-
-    ghost complete = { refl };
-
-    fn names() -> &'static [&'static str] {
-        &["street", "city"]
+    fn form(alloc: Global) -> Result<Shape> {
+        AddressParts::shape(alloc, NAMES)
     }
 
-    fn from_parts(Struct((street, (city, ()))): Self::Parts) -> Address {
-        Address { street, city }
+    fn read(source: Source) -> Result<Address> {
+        let Struct((street, (city, ()))) = AddressParts::read(source, NAMES)?;
+        Ok(Address { street, city })
     }
 
-    fn written(&self, alloc: Global) -> Result<Data> {
-        struct_of(alloc, &["street", "city"], (&self.street, (&self.city, ())))
-    }
-
-    fn fit(&self) {
-        self.street.fits();
-        self.city.fits();
+    fn written(&self, out: Out) -> Result<Data> {
+        out.fields(NAMES, (&self.street, (&self.city, ())))
     }
 }

@@ -6,21 +6,19 @@ ghost use Rattle.qs_callers.specs.Query.{query_form, query_in, query_value};
 
 use crate::query::Query;
 use crate::sort::Sort;
-use serde_qs::{Compound, Parts, Result, from_str, to_string};
+use serde_qs::{Compound, Result, from_str, to_string};
 use std::alloc::Global;
 
-/// Returns the query that a querystring stands for.
+/// Returns the query that is read from a querystring.
 pub fn asked(alloc: Global, input: &str) -> Result<Query>
     ensures { ReturnsValue query_value default query_form query_in input.now result }
 {
     from_str(alloc, input)
 }
 
-type SortParts = <Sort as Compound>::Parts;
-
-/// Returns the order that a querystring stands for.
+/// Returns the order that is read from a querystring.
 pub fn sorted(alloc: Global, input: &str) -> Result<Sort>
-    ensures { ReturnsValue (λ sort. ⟦<SortParts as Parts>⟧.value (⟦<Sort as Compound>⟧.parts sort)) default (⟦<SortParts as Parts>⟧.form ⟦<Sort as Compound>⟧.names) (⟦<SortParts as Parts>⟧.meaning ⟦<Sort as Compound>⟧.names) input.now result }
+    ensures { ReturnsValue ⟦<Sort as Compound>⟧.table.value default ⟦<Sort as Compound>⟧.table.form ⟦<Sort as Compound>⟧.table.meaning input.now result }
 {
     from_str(alloc, input)
 }

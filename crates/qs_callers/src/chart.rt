@@ -1,8 +1,9 @@
 //! A chart: a struct with a list in one text.
 
-ghost use Rattle.std.specs.Prelude.{◌∷◌, [], codes, refl};
+ghost use Rattle.qs_callers.specs.declared.chart.TheConstants.{NAMES};
+ghost use Rattle.serde_qs.specs.PartTables.{made_of};
 
-use serde_qs::{Comma, Compound, Data, Delimited, Result, RoundTrip, Struct, struct_of};
+use serde_qs::{Comma, Compound, Data, Delimited, Out, Parts, Result, Shape, Source, Struct};
 use std::alloc::Global;
 
 /// A chart, with its values in one text: `title=Rain&values=1,2,3`.
@@ -12,33 +13,23 @@ pub struct Chart {
     pub values: Delimited<u32, Comma>,
 }
 
+type ChartParts = Struct<(String, (Delimited<u32, Comma>, ()))>;
+
+const NAMES: &[&str] = &["title", "values"];
+
 impl Compound for Chart {
-    type Parts = Struct<(String, (Delimited<u32, Comma>, ()))>;
+    ghost table = { made_of ⟦<ChartParts as Parts>⟧.table NAMES.now (λ chart. record { 0 = (chart.title, (chart.values, tt)) }) _ };
 
-    ghost names = { codes "title" ∷ codes "values" ∷ [] };
-
-    ghost parts = { λ chart. record { 0 = (chart.title, (chart.values, tt)) } };
-
-    ghost complete = { refl };
-
-    fn names() -> &'static [&'static str] {
-        &["title", "values"]
+    fn form(alloc: Global) -> Result<Shape> {
+        ChartParts::shape(alloc, NAMES)
     }
 
-    fn from_parts(Struct((title, (values, ()))): Self::Parts) -> Chart {
-        Chart { title, values }
+    fn read(source: Source) -> Result<Chart> {
+        let Struct((title, (values, ()))) = ChartParts::read(source, NAMES)?;
+        Ok(Chart { title, values })
     }
 
-    fn written(&self, alloc: Global) -> Result<Data> {
-        struct_of(
-            alloc,
-            &["title", "values"],
-            (&self.title, (&self.values, ())),
-        )
-    }
-
-    fn fit(&self) {
-        self.title.fits();
-        self.values.fits();
+    fn written(&self, out: Out) -> Result<Data> {
+        out.fields(NAMES, (&self.title, (&self.values, ())))
     }
 }

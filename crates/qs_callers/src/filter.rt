@@ -1,8 +1,9 @@
 //! A filter: a struct with fields that may be left out.
 
-ghost use Rattle.std.specs.Prelude.{◌∷◌, [], codes, refl};
+ghost use Rattle.qs_callers.specs.declared.filter.TheConstants.{NAMES};
+ghost use Rattle.serde_qs.specs.PartTables.{made_of};
 
-use serde_qs::{Compound, Data, Optional, Result, RoundTrip, SkipNone, Struct, struct_of};
+use serde_qs::{Compound, Data, Optional, Out, Parts, Result, Shape, Source, Struct, fields};
 use std::alloc::Global;
 
 /// What is shown, and how much of it.
@@ -13,37 +14,23 @@ pub struct Filter {
     pub size: Option<u8>,
 }
 
+type FilterParts = Struct<(String, Optional<u32, Optional<u8, ()>>)>;
+
+const NAMES: &[&str] = &["text", "page", "size"];
+
 impl Compound for Filter {
-    type Parts = Struct<(String, Optional<u32, Optional<u8, ()>>)>;
+    ghost table = { made_of ⟦<FilterParts as Parts>⟧.table NAMES.now (λ filter. record { 0 = (filter.text, record { 0 = filter.page; 1 = record { 0 = filter.size; 1 = tt } }) }) _ };
 
-    ghost names = { codes "text" ∷ codes "page" ∷ codes "size" ∷ [] };
-
-    ghost parts = { λ filter. record { 0 = (filter.text, record { 0 = filter.page; 1 = record { 0 = filter.size; 1 = tt } }) } };
-
-    ghost complete = { refl };
-
-    fn names() -> &'static [&'static str] {
-        &["text", "page", "size"]
+    fn form(alloc: Global) -> Result<Shape> {
+        FilterParts::shape(alloc, NAMES)
     }
 
-    fn from_parts(Struct((text, Optional(page, Optional(size, ())))): Self::Parts) -> Filter {
-        Filter { text, page, size }
+    fn read(source: Source) -> Result<Filter> {
+        let Struct(fields!(text, page?, size?)) = FilterParts::read(source, NAMES)?;
+        Ok(Filter { text, page, size })
     }
 
-    fn written(&self, alloc: Global) -> Result<Data> {
-        struct_of(
-            alloc,
-            &["text", "page", "size"],
-            (
-                &self.text,
-                (SkipNone(&self.page), (SkipNone(&self.size), ())),
-            ),
-        )
-    }
-
-    fn fit(&self) {
-        self.text.fits();
-        self.page.fits();
-        self.size.fits();
+    fn written(&self, out: Out) -> Result<Data> {
+        out.fields(NAMES, fields!(self; text, page?, size?))
     }
 }

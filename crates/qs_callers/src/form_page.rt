@@ -1,4 +1,4 @@
-//! The answer of a web form: the value that was sent, or what its page says beside the field that is wrong.
+//! The reply to a web form: the value that was sent, or what its page says beside the field that is wrong.
 
 use qs_explain::{Explanation, Mismatch, explain, find_hint, find_pair};
 use serde_qs::{Config, ConfigExt, Deserialize, Error, Result};
@@ -13,7 +13,7 @@ pub struct FieldError {
     pub message: String,
 }
 
-/// Returns the value that a form stands for, or what its page says of the field that is wrong.
+/// Returns the value that is read from a form, or what its page says of the field that is wrong.
 ///
 /// An error is one of the type itself, which rejects what its shape read, or that an allocation failed.
 ///
@@ -31,7 +31,7 @@ pub fn submitted<T: Deserialize>(
     };
     let wrong = match explain(alloc, config, &T::shape(alloc)?, form)? {
         Some(Explanation::Mismatch(mismatch)) => of_mismatch(alloc, &mismatch)?,
-        Some(Explanation::Syntax(error)) => of_syntax(alloc, form, &error)?,
+        Some(Explanation::Syntax(error)) => of_syntax(alloc, config, form, &error)?,
         None => return Err(error),
     };
     Ok(Err(with_hint(alloc, config, form, wrong)?))
@@ -55,10 +55,10 @@ fn of_mismatch(alloc: Global, mismatch: &Mismatch) -> Result<FieldError> {
 }
 
 // Of a key that can't be parsed, or that is in the way of another.
-fn of_syntax(alloc: Global, form: &[u8], error: &Error) -> Result<FieldError> {
+fn of_syntax(alloc: Global, config: Config, form: &[u8], error: &Error) -> Result<FieldError> {
     let mut field = String::new(alloc);
     if let Error::Parse(_, position) = error {
-        let pair = find_pair(form, *position);
+        let pair = find_pair(config, form, *position);
         field = String::from_utf8_lossy(alloc, &form[pair.start..pair.key_end])?;
     }
     let message = error.to_string(alloc)?;

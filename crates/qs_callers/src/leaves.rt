@@ -33,7 +33,7 @@ pub fn leaf_paths(alloc: Global, input: &str) -> Result<String> {
     Ok(lines)
 }
 
-/// Keeps the entries of a map, the first one on top.
+// Keeps the entries of a map, the first one on top.
 fn enter_map<'t, 'qs>(
     alloc: Global,
     rest: &mut Vec<Place<'t, 'qs>>,
@@ -50,7 +50,7 @@ fn enter_map<'t, 'qs>(
     Ok(())
 }
 
-/// Keeps the items of a sequence, the first one on top.
+// Keeps the items of a sequence, the first one on top.
 fn enter_items<'t, 'qs>(
     alloc: Global,
     rest: &mut Vec<Place<'t, 'qs>>,

@@ -1,57 +1,43 @@
 //! A listing: a struct of four fields, of which one has an enum for its type.
 
-ghost use Rattle.std.specs.Prelude.{◌∷◌, [], codes, refl};
+ghost use Rattle.qs_callers.specs.declared.listing.TheConstants.{NAMES};
+ghost use Rattle.serde_qs.specs.PartTables.{made_of};
 
 use crate::sort::Sort;
-use serde_qs::{Compound, Data, Result, RoundTrip, Struct, struct_of};
+use serde_qs::{Compound, Data, Out, Parts, Result, Shape, Source, Struct, fields};
 use std::alloc::Global;
 
-/// A page of what was found, sorted by an `S`.
+/// A page of what was found.
 #[derive(Debug, PartialEq, Drop)]
-pub struct ListingOf<S> {
+pub struct Listing {
     pub text: String,
     pub page: u32,
-    pub sort: S,
+    pub sort: Sort,
     pub is_short: bool,
 }
 
-/// A page of what was found.
-pub type Listing = ListingOf<Sort>;
+type ListingParts = Struct<(String, (u32, (Sort, (bool, ()))))>;
 
-impl<S: RoundTrip + Drop> Compound for ListingOf<S> {
-    type Parts = Struct<(String, (u32, (S, (bool, ()))))>;
+const NAMES: &[&str] = &["text", "page", "sort", "short"];
 
-    ghost names = { codes "text" ∷ codes "page" ∷ codes "sort" ∷ codes "short" ∷ [] };
+impl Compound for Listing {
+    ghost table = { made_of ⟦<ListingParts as Parts>⟧.table NAMES.now (λ listing. record { 0 = (listing.text, (listing.page, (listing.sort, (listing.is_short, tt)))) }) _ };
 
-    ghost parts = { λ listing. record { 0 = (listing.text, (listing.page, (listing.sort, (listing.is_short, tt)))) } };
-
-    ghost complete = { refl };
-
-    fn names() -> &'static [&'static str] {
-        &["text", "page", "sort", "short"]
+    fn form(alloc: Global) -> Result<Shape> {
+        ListingParts::shape(alloc, NAMES)
     }
 
-    fn from_parts(Struct((text, (page, (sort, (is_short, ()))))): Self::Parts) -> ListingOf<S> {
-        ListingOf {
+    fn read(source: Source) -> Result<Listing> {
+        let Struct((text, (page, (sort, (is_short, ()))))) = ListingParts::read(source, NAMES)?;
+        Ok(Listing {
             text,
             page,
             sort,
             is_short,
-        }
+        })
     }
 
-    fn written(&self, alloc: Global) -> Result<Data> {
-        struct_of(
-            alloc,
-            &["text", "page", "sort", "short"],
-            (&self.text, (&self.page, (&self.sort, (&self.is_short, ())))),
-        )
-    }
-
-    fn fit(&self) {
-        self.text.fits();
-        self.page.fits();
-        self.sort.fits();
-        self.is_short.fits();
+    fn written(&self, out: Out) -> Result<Data> {
+        out.fields(NAMES, fields!(self; text, page, sort, is_short))
     }
 }

@@ -1,10 +1,11 @@
 //! An order, as a form posts it.
 
-ghost use Rattle.std.specs.Prelude.{◌∷◌, [], codes, refl};
+ghost use Rattle.qs_callers.specs.declared.order.TheConstants.{NAMES};
+ghost use Rattle.serde_qs.specs.PartTables.{made_of};
 
 use crate::address::Address;
 use serde_qs::web::QsForm;
-use serde_qs::{Compound, Config, ConfigExt, Data, Result, RoundTrip, Struct, struct_of};
+use serde_qs::{Compound, Config, ConfigExt, Data, Out, Parts, Result, Shape, Source, Struct};
 use std::alloc::Global;
 
 /// An order, with the address that it goes to.
@@ -15,39 +16,28 @@ pub struct Order {
     pub items: Vec<u32>,
 }
 
+type OrderParts = Struct<(String, (Address, (Vec<u32>, ())))>;
+
+const NAMES: &[&str] = &["name", "address", "items"];
+
 impl Compound for Order {
-    type Parts = Struct<(String, (Address, (Vec<u32>, ())))>;
+    ghost table = { made_of ⟦<OrderParts as Parts>⟧.table NAMES.now (λ order. record { 0 = (order.name, (order.address, (order.items, tt))) }) _ };
 
-    ghost names = { codes "name" ∷ codes "address" ∷ codes "items" ∷ [] };
-
-    ghost parts = { λ order. record { 0 = (order.name, (order.address, (order.items, tt))) } };
-
-    ghost complete = { refl };
-
-    fn names() -> &'static [&'static str] {
-        &["name", "address", "items"]
+    fn form(alloc: Global) -> Result<Shape> {
+        OrderParts::shape(alloc, NAMES)
     }
 
-    fn from_parts(Struct((name, (address, (items, ())))): Self::Parts) -> Order {
-        Order {
+    fn read(source: Source) -> Result<Order> {
+        let Struct((name, (address, (items, ())))) = OrderParts::read(source, NAMES)?;
+        Ok(Order {
             name,
             address,
             items,
-        }
+        })
     }
 
-    fn written(&self, alloc: Global) -> Result<Data> {
-        struct_of(
-            alloc,
-            &["name", "address", "items"],
-            (&self.name, (&self.address, (&self.items, ()))),
-        )
-    }
-
-    fn fit(&self) {
-        self.name.fits();
-        self.address.fits();
-        self.items.fits();
+    fn written(&self, out: Out) -> Result<Data> {
+        out.fields(NAMES, (&self.name, (&self.address, (&self.items, ()))))
     }
 }
 

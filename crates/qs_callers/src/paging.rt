@@ -1,11 +1,13 @@
 //! Which page is shown: a struct with fields that take a default where they are missing.
 
-ghost use Rattle.std.specs.Prelude.{◌∷◌, [], codes, refl};
+ghost use Rattle.qs_callers.specs.declared.paging.TheConstants.{NAMES};
+ghost use Rattle.serde_qs.specs.PartTables.{made_of};
+ghost use Rattle.std.specs.Prelude.{[]};
 ghost use Rattle.qs_spec.specs.Data as d;
 
 use serde_qs::{
-    Compound, Data, Defaulted, Newtype, OrDefault, Result, RoundTrip, Struct, newtype_struct,
-    struct_of,
+    Compound, Data, Defaulted, Newtype, OrDefault, Out, Parts, Result, Shape, Source, Struct,
+    fields,
 };
 use std::alloc::Global;
 
@@ -13,29 +15,22 @@ use std::alloc::Global;
 #[derive(Debug, PartialEq, Drop)]
 pub struct Page(pub u32);
 
+type PageParts = Newtype<u32>;
+
 impl Compound for Page {
-    type Parts = Newtype<u32>;
+    ghost table = { made_of ⟦<PageParts as Parts>⟧.table [] (λ page. record { 0 = page.0 }) _ };
 
-    ghost names = { [] };
-
-    ghost parts = { λ page. record { 0 = page.0 } };
-
-    ghost complete = { refl };
-
-    fn names() -> &'static [&'static str] {
-        &[]
+    fn form(alloc: Global) -> Result<Shape> {
+        PageParts::shape(alloc, &[])
     }
 
-    fn from_parts(Newtype(number): Self::Parts) -> Page {
-        Page(number)
+    fn read(source: Source) -> Result<Page> {
+        let Newtype(number) = PageParts::read(source, &[])?;
+        Ok(Page(number))
     }
 
-    fn written(&self, alloc: Global) -> Result<Data> {
-        newtype_struct(alloc, &self.0)
-    }
-
-    fn fit(&self) {
-        self.0.fits();
+    fn written(&self, out: Out) -> Result<Data> {
+        out.newtype(&self.0)
     }
 }
 
@@ -55,38 +50,29 @@ pub struct Paging {
     pub is_short: bool,
 }
 
+type PagingParts = Struct<(String, Defaulted<Page, Defaulted<bool, ()>>)>;
+
+const NAMES: &[&str] = &["text", "page", "short"];
+
 impl Compound for Paging {
-    type Parts = Struct<(String, Defaulted<Page, Defaulted<bool, ()>>)>;
+    ghost table = { made_of ⟦<PagingParts as Parts>⟧.table NAMES.now (λ paging. record { 0 = (paging.text, record { 0 = paging.page; 1 = record { 0 = paging.is_short; 1 = tt } }) }) _ };
 
-    ghost names = { codes "text" ∷ codes "page" ∷ codes "short" ∷ [] };
-
-    ghost parts = { λ paging. record { 0 = (paging.text, record { 0 = paging.page; 1 = record { 0 = paging.is_short; 1 = tt } }) } };
-
-    ghost complete = { refl };
-
-    fn names() -> &'static [&'static str] {
-        &["text", "page", "short"]
+    fn form(alloc: Global) -> Result<Shape> {
+        PagingParts::shape(alloc, NAMES)
     }
 
-    fn from_parts(Struct((text, Defaulted(page, Defaulted(is_short, ())))): Self::Parts) -> Paging {
-        Paging {
+    fn read(source: Source) -> Result<Paging> {
+        let Struct((text, Defaulted(page, Defaulted(is_short, ())))) = PagingParts::read(
+            source, NAMES,
+        )?;
+        Ok(Paging {
             text,
             page,
             is_short,
-        }
+        })
     }
 
-    fn written(&self, alloc: Global) -> Result<Data> {
-        struct_of(
-            alloc,
-            &["text", "page", "short"],
-            (&self.text, (&self.page, (&self.is_short, ()))),
-        )
-    }
-
-    fn fit(&self) {
-        self.text.fits();
-        self.page.fits();
-        self.is_short.fits();
+    fn written(&self, out: Out) -> Result<Data> {
+        out.fields(NAMES, fields!(self; text, page, is_short))
     }
 }

@@ -1,8 +1,9 @@
-//! Two values under the names `a` and `b`, of whatever types.
+//! Two values under the names `a` and `b`, of whatever types whose values come back.
 
-ghost use Rattle.std.specs.Prelude.{◌∷◌, [], codes, refl};
+ghost use Rattle.qs_callers.specs.declared.pair.TheConstants.{NAMES};
+ghost use Rattle.serde_qs.specs.PartTables.{made_of};
 
-use serde_qs::{Compound, Data, Result, RoundTrip, Struct, struct_of};
+use serde_qs::{Compound, Data, Out, Parts, Result, RoundTrip, Shape, Source, Struct};
 use std::alloc::Global;
 
 /// Two values.
@@ -12,29 +13,23 @@ pub struct Pair<A, B> {
     pub b: B,
 }
 
+type PairParts<A, B> = Struct<(A, (B, ()))>;
+
+const NAMES: &[&str] = &["a", "b"];
+
 impl<A: RoundTrip + Drop, B: RoundTrip + Drop> Compound for Pair<A, B> {
-    type Parts = Struct<(A, (B, ()))>;
+    ghost table = { made_of ⟦<PairParts<A, B> as Parts>⟧.table NAMES.now (λ pair. record { 0 = (pair.a, (pair.b, tt)) }) _ };
 
-    ghost names = { codes "a" ∷ codes "b" ∷ [] };
-
-    ghost parts = { λ pair. record { 0 = (pair.a, (pair.b, tt)) } };
-
-    ghost complete = { refl };
-
-    fn names() -> &'static [&'static str] {
-        &["a", "b"]
+    fn form(alloc: Global) -> Result<Shape> {
+        PairParts::<A, B>::shape(alloc, NAMES)
     }
 
-    fn from_parts(Struct((a, (b, ()))): Self::Parts) -> Pair<A, B> {
-        Pair { a, b }
+    fn read(source: Source) -> Result<Pair<A, B>> {
+        let Struct((a, (b, ()))) = PairParts::<A, B>::read(source, NAMES)?;
+        Ok(Pair { a, b })
     }
 
-    fn written(&self, alloc: Global) -> Result<Data> {
-        struct_of(alloc, &["a", "b"], (&self.a, (&self.b, ())))
-    }
-
-    fn fit(&self) {
-        self.a.fits();
-        self.b.fits();
+    fn written(&self, out: Out) -> Result<Data> {
+        out.fields(NAMES, (&self.a, (&self.b, ())))
     }
 }

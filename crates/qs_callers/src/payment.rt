@@ -2,12 +2,12 @@
 
 ghost use Rattle.qs_callers.specs.declared.payment.Method.TheVariants.{Cash, Card};
 ghost use Rattle.serde_qs.specs.declared.compound.variants.OneOf.TheVariants.{First, Later};
-ghost use Rattle.std.specs.Prelude.{◌∷◌, [], codes, refl};
+ghost use Rattle.qs_callers.specs.declared.payment.TheConstants.{PAYMENT, METHOD};
+ghost use Rattle.serde_qs.specs.PartTables.{made_of};
 
 use serde_qs::OneOf::{First, Later};
 use serde_qs::{
-    Compound, Data, Enum, Last, OneOf, Result, RoundTrip, StrictStruct, struct_of, struct_variant,
-    unit_variant,
+    Compound, Data, Enum, Last, OneOf, Out, Parts, Result, RoundTrip, Shape, Source, StrictStruct,
 };
 use std::alloc::Global;
 
@@ -18,34 +18,24 @@ pub struct Payment<M> {
     pub method: M,
 }
 
+type PaymentParts<M> = StrictStruct<(u32, (M, ()))>;
+
+const PAYMENT: &[&str] = &["amount", "method"];
+
 impl<M: RoundTrip + Drop> Compound for Payment<M> {
-    type Parts = StrictStruct<(u32, (M, ()))>;
+    ghost table = { made_of ⟦<PaymentParts<M> as Parts>⟧.table PAYMENT.now (λ payment. record { 0 = (payment.amount, (payment.method, tt)) }) _ };
 
-    ghost names = { codes "amount" ∷ codes "method" ∷ [] };
-
-    ghost parts = { λ payment. record { 0 = (payment.amount, (payment.method, tt)) } };
-
-    ghost complete = { refl };
-
-    fn names() -> &'static [&'static str] {
-        &["amount", "method"]
+    fn form(alloc: Global) -> Result<Shape> {
+        PaymentParts::<M>::shape(alloc, PAYMENT)
     }
 
-    fn from_parts(StrictStruct((amount, (method, ()))): Self::Parts) -> Payment<M> {
-        Payment { amount, method }
+    fn read(source: Source) -> Result<Payment<M>> {
+        let StrictStruct((amount, (method, ()))) = PaymentParts::<M>::read(source, PAYMENT)?;
+        Ok(Payment { amount, method })
     }
 
-    fn written(&self, alloc: Global) -> Result<Data> {
-        struct_of(
-            alloc,
-            &["amount", "method"],
-            (&self.amount, (&self.method, ())),
-        )
-    }
-
-    fn fit(&self) {
-        self.amount.fits();
-        self.method.fits();
+    fn written(&self, out: Out) -> Result<Data> {
+        out.fields(PAYMENT, (&self.amount, (&self.method, ())))
     }
 }
 
@@ -57,41 +47,30 @@ pub enum Method {
     Card { number: String, year: u16 },
 }
 
+type MethodParts = Enum<OneOf<(), Last<StrictStruct<(String, (u16, ()))>>>>;
+
+const METHOD: &[&str] = &["Cash", "Card", "number", "year"];
+
 impl Compound for Method {
-    type Parts = Enum<OneOf<(), Last<StrictStruct<(String, (u16, ()))>>>>;
+    ghost table = { made_of ⟦<MethodParts as Parts>⟧.table METHOD.now (elim [ Cash ↦ record { 0 = First tt } | Card number year ↦ record { 0 = Later (record { 0 = record { 0 = (number, (year, tt)) } }) } ]) _ };
 
-    ghost names = { codes "Cash" ∷ codes "Card" ∷ codes "number" ∷ codes "year" ∷ [] };
-
-    ghost parts = { elim [ Cash ↦ record { 0 = First tt } | Card number year ↦ record { 0 = Later (record { 0 = record { 0 = (number, (year, tt)) } }) } ] };
-
-    ghost complete = { refl };
-
-    fn names() -> &'static [&'static str] {
-        &["Cash", "Card", "number", "year"]
+    fn form(alloc: Global) -> Result<Shape> {
+        MethodParts::shape(alloc, METHOD)
     }
 
-    fn from_parts(Enum(variant): Self::Parts) -> Method {
-        match variant {
+    fn read(source: Source) -> Result<Method> {
+        let Enum(variant) = MethodParts::read(source, METHOD)?;
+        Ok(match variant {
             First(()) => Method::Cash,
             Later(Last(StrictStruct((number, (year, ()))))) => Method::Card { number, year },
-        }
+        })
     }
 
-    fn written(&self, alloc: Global) -> Result<Data> {
+    fn written(&self, out: Out) -> Result<Data> {
         match self {
-            Method::Cash => unit_variant(alloc, "Cash"),
+            Method::Cash => out.unit_variant("Cash"),
             Method::Card { number, year } => {
-                struct_variant(alloc, "Card", &["number", "year"], (number, (year, ())))
-            }
-        }
-    }
-
-    fn fit(&self) {
-        match self {
-            Method::Cash => {}
-            Method::Card { number, year } => {
-                number.fits();
-                year.fits();
+                out.struct_variant("Card", &["number", "year"], (number, (year, ())))
             }
         }
     }

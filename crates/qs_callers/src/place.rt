@@ -2,12 +2,11 @@
 
 ghost use Rattle.qs_callers.specs.declared.place.Place.TheVariants.{Anywhere, At};
 ghost use Rattle.serde_qs.specs.declared.compound.variants.OneOf.TheVariants.{First, Later};
-ghost use Rattle.std.specs.Prelude.{◌∷◌, [], codes, refl};
+ghost use Rattle.qs_callers.specs.declared.place.TheConstants.{NAMES};
+ghost use Rattle.serde_qs.specs.PartTables.{made_of};
 
 use serde_qs::OneOf::{First, Later};
-use serde_qs::{
-    Compound, Data, Enum, Last, OneOf, Result, RoundTrip, Tuple, tuple_variant, unit_variant,
-};
+use serde_qs::{Compound, Data, Enum, Last, OneOf, Out, Parts, Result, Shape, Source, Tuple};
 use std::alloc::Global;
 
 /// Where something is.
@@ -19,40 +18,29 @@ pub enum Place {
     At(i32, i32),
 }
 
+type PlaceParts = Enum<OneOf<(), Last<Tuple<(i32, (i32, ()))>>>>;
+
+const NAMES: &[&str] = &["Anywhere", "At"];
+
 impl Compound for Place {
-    type Parts = Enum<OneOf<(), Last<Tuple<(i32, (i32, ()))>>>>;
+    ghost table = { made_of ⟦<PlaceParts as Parts>⟧.table NAMES.now (elim [ Anywhere ↦ record { 0 = First tt } | At east north ↦ record { 0 = Later (record { 0 = record { 0 = (east, (north, tt)) } }) } ]) _ };
 
-    ghost names = { codes "Anywhere" ∷ codes "At" ∷ [] };
-
-    ghost parts = { elim [ Anywhere ↦ record { 0 = First tt } | At east north ↦ record { 0 = Later (record { 0 = record { 0 = (east, (north, tt)) } }) } ] };
-
-    ghost complete = { refl };
-
-    fn names() -> &'static [&'static str] {
-        &["Anywhere", "At"]
+    fn form(alloc: Global) -> Result<Shape> {
+        PlaceParts::shape(alloc, NAMES)
     }
 
-    fn from_parts(Enum(variant): Self::Parts) -> Place {
-        match variant {
+    fn read(source: Source) -> Result<Place> {
+        let Enum(variant) = PlaceParts::read(source, NAMES)?;
+        Ok(match variant {
             First(()) => Place::Anywhere,
             Later(Last(Tuple((east, (north, ()))))) => Place::At(east, north),
-        }
+        })
     }
 
-    fn written(&self, alloc: Global) -> Result<Data> {
+    fn written(&self, out: Out) -> Result<Data> {
         match self {
-            Place::Anywhere => unit_variant(alloc, "Anywhere"),
-            Place::At(east, north) => tuple_variant(alloc, "At", (east, (north, ()))),
-        }
-    }
-
-    fn fit(&self) {
-        match self {
-            Place::Anywhere => {}
-            Place::At(east, north) => {
-                east.fits();
-                north.fits();
-            }
+            Place::Anywhere => out.unit_variant("Anywhere"),
+            Place::At(east, north) => out.tuple_variant("At", (east, (north, ()))),
         }
     }
 }

@@ -1,36 +1,30 @@
 //! A price: a struct round one value.
 
-ghost use Rattle.std.specs.Prelude.{[], refl};
+ghost use Rattle.serde_qs.specs.PartTables.{made_of};
+ghost use Rattle.std.specs.Prelude.{[]};
 
-use serde_qs::{Compound, Data, Newtype, Result, RoundTrip, newtype_struct};
+use serde_qs::{Compound, Data, Newtype, Out, Parts, Result, Shape, Source};
 use std::alloc::Global;
 
 /// A price in cents, written as a plain number.
 #[derive(Debug, PartialEq, Drop)]
 pub struct Price(pub u32);
 
+type PriceParts = Newtype<u32>;
+
 impl Compound for Price {
-    type Parts = Newtype<u32>;
+    ghost table = { made_of ⟦<PriceParts as Parts>⟧.table [] (λ price. record { 0 = price.0 }) _ };
 
-    ghost names = { [] };
-
-    ghost parts = { λ price. record { 0 = price.0 } };
-
-    ghost complete = { refl };
-
-    fn names() -> &'static [&'static str] {
-        &[]
+    fn form(alloc: Global) -> Result<Shape> {
+        PriceParts::shape(alloc, &[])
     }
 
-    fn from_parts(Newtype(cents): Self::Parts) -> Price {
-        Price(cents)
+    fn read(source: Source) -> Result<Price> {
+        let Newtype(cents) = PriceParts::read(source, &[])?;
+        Ok(Price(cents))
     }
 
-    fn written(&self, alloc: Global) -> Result<Data> {
-        newtype_struct(alloc, &self.0)
-    }
-
-    fn fit(&self) {
-        self.0.fits();
+    fn written(&self, out: Out) -> Result<Data> {
+        out.newtype(&self.0)
     }
 }

@@ -1,11 +1,12 @@
 //! A page of products that were searched for.
 
-ghost use Rattle.std.specs.Prelude.{◌∷◌, [], codes, refl};
+ghost use Rattle.qs_callers.specs.declared.products.TheConstants.{NAMES};
+ghost use Rattle.serde_qs.specs.PartTables.{made_of};
 
 use crate::range::Range;
 use serde_qs::{
-    Comma, Compound, Data, Delimited, Optional, Result, RoundTrip, SkipNone, Struct, from_str,
-    struct_of, to_string,
+    Comma, Compound, Data, Delimited, Optional, Out, Parts, Result, Shape, Source, Struct, fields,
+    from_str, to_string,
 };
 use std::alloc::Global;
 use std::collections::BTreeMap;
@@ -23,54 +24,31 @@ pub struct Products {
     pub page: Option<u32>,
 }
 
+type ProductsParts = Struct<(BTreeMap<String, String>, Optional<Range, Rest>)>;
+
+type Rest = (Delimited<u32, Comma>, Optional<u32, ()>);
+
+const NAMES: &[&str] = &["filter", "price", "shops", "page"];
+
 impl Compound for Products {
-    type Parts = Struct<
-        (
-            BTreeMap<String, String>,
-            Optional<Range, (Delimited<u32, Comma>, Optional<u32, ()>)>,
-        ),
-    >;
+    ghost table = { made_of ⟦<ProductsParts as Parts>⟧.table NAMES.now (λ p. record { 0 = (p.filter, record { 0 = p.price; 1 = (p.shops, record { 0 = p.page; 1 = tt }) }) }) _ };
 
-    ghost names = { codes "filter" ∷ codes "price" ∷ codes "shops" ∷ codes "page" ∷ [] };
-
-    ghost parts = { λ p. record { 0 = (p.filter, record { 0 = p.price; 1 = (p.shops, record { 0 = p.page; 1 = tt }) }) } };
-
-    ghost complete = { refl };
-
-    fn names() -> &'static [&'static str] {
-        &["filter", "price", "shops", "page"]
+    fn form(alloc: Global) -> Result<Shape> {
+        ProductsParts::shape(alloc, NAMES)
     }
 
-    fn from_parts(
-        Struct((filter, Optional(price, (shops, Optional(page, ()))))): Self::Parts,
-    ) -> Products {
-        Products {
+    fn read(source: Source) -> Result<Products> {
+        let Struct(fields!(filter, price?, shops, page?)) = ProductsParts::read(source, NAMES)?;
+        Ok(Products {
             filter,
             price,
             shops,
             page,
-        }
+        })
     }
 
-    fn written(&self, alloc: Global) -> Result<Data> {
-        struct_of(
-            alloc,
-            &["filter", "price", "shops", "page"],
-            (
-                &self.filter,
-                (
-                    SkipNone(&self.price),
-                    (&self.shops, (SkipNone(&self.page), ())),
-                ),
-            ),
-        )
-    }
-
-    fn fit(&self) {
-        self.filter.fits();
-        self.price.fits();
-        self.shops.fits();
-        self.page.fits();
+    fn written(&self, out: Out) -> Result<Data> {
+        out.fields(NAMES, fields!(self; filter, price?, shops, page?))
     }
 }
 

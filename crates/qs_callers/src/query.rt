@@ -1,8 +1,9 @@
 //! Whom a search asks for: a struct by its fields.
 
-ghost use Rattle.std.specs.Prelude.{◌∷◌, [], codes, refl};
+ghost use Rattle.qs_callers.specs.declared.query.TheConstants.{NAMES};
+ghost use Rattle.serde_qs.specs.PartTables.{made_of};
 
-use serde_qs::{Compound, Data, Result, RoundTrip, Struct, struct_of};
+use serde_qs::{Compound, Data, Out, Parts, Result, Shape, Source, Struct, fields};
 use std::alloc::Global;
 
 /// Whom a search asks for.
@@ -13,38 +14,27 @@ pub struct Query {
     pub occupation: String,
 }
 
+type QueryParts = Struct<(String, (u8, (String, ())))>;
+
+const NAMES: &[&str] = &["name", "age", "occupation"];
+
 impl Compound for Query {
-    type Parts = Struct<(String, (u8, (String, ())))>;
+    ghost table = { made_of ⟦<QueryParts as Parts>⟧.table NAMES.now (λ query. record { 0 = (query.name, (query.age, (query.occupation, tt))) }) _ };
 
-    ghost names = { codes "name" ∷ codes "age" ∷ codes "occupation" ∷ [] };
-
-    ghost parts = { λ query. record { 0 = (query.name, (query.age, (query.occupation, tt))) } };
-
-    ghost complete = { refl };
-
-    fn names() -> &'static [&'static str] {
-        &["name", "age", "occupation"]
+    fn form(alloc: Global) -> Result<Shape> {
+        QueryParts::shape(alloc, NAMES)
     }
 
-    fn from_parts(Struct((name, (age, (occupation, ())))): Self::Parts) -> Query {
-        Query {
+    fn read(source: Source) -> Result<Query> {
+        let Struct(fields!(name, age, occupation)) = QueryParts::read(source, NAMES)?;
+        Ok(Query {
             name,
             age,
             occupation,
-        }
+        })
     }
 
-    fn written(&self, alloc: Global) -> Result<Data> {
-        struct_of(
-            alloc,
-            &["name", "age", "occupation"],
-            (&self.name, (&self.age, (&self.occupation, ()))),
-        )
-    }
-
-    fn fit(&self) {
-        self.name.fits();
-        self.age.fits();
-        self.occupation.fits();
+    fn written(&self, out: Out) -> Result<Data> {
+        out.fields(NAMES, fields!(self; name, age, occupation))
     }
 }

@@ -1,8 +1,9 @@
 //! A range of numbers.
 
-ghost use Rattle.std.specs.Prelude.{◌∷◌, [], codes, refl};
+ghost use Rattle.qs_callers.specs.declared.range.TheConstants.{NAMES};
+ghost use Rattle.serde_qs.specs.PartTables.{made_of};
 
-use serde_qs::{Compound, Data, Result, RoundTrip, Struct, struct_of};
+use serde_qs::{Compound, Data, Out, Parts, Result, Shape, Source, Struct};
 use std::alloc::Global;
 
 /// The numbers from one to another.
@@ -12,29 +13,23 @@ pub struct Range {
     pub to: u32,
 }
 
+type RangeParts = Struct<(u32, (u32, ()))>;
+
+const NAMES: &[&str] = &["from", "to"];
+
 impl Compound for Range {
-    type Parts = Struct<(u32, (u32, ()))>;
+    ghost table = { made_of ⟦<RangeParts as Parts>⟧.table NAMES.now (λ range. record { 0 = (range.from, (range.to, tt)) }) _ };
 
-    ghost names = { codes "from" ∷ codes "to" ∷ [] };
-
-    ghost parts = { λ range. record { 0 = (range.from, (range.to, tt)) } };
-
-    ghost complete = { refl };
-
-    fn names() -> &'static [&'static str] {
-        &["from", "to"]
+    fn form(alloc: Global) -> Result<Shape> {
+        RangeParts::shape(alloc, NAMES)
     }
 
-    fn from_parts(Struct((from, (to, ()))): Self::Parts) -> Range {
-        Range { from, to }
+    fn read(source: Source) -> Result<Range> {
+        let Struct((from, (to, ()))) = RangeParts::read(source, NAMES)?;
+        Ok(Range { from, to })
     }
 
-    fn written(&self, alloc: Global) -> Result<Data> {
-        struct_of(alloc, &["from", "to"], (&self.from, (&self.to, ())))
-    }
-
-    fn fit(&self) {
-        self.from.fits();
-        self.to.fits();
+    fn written(&self, out: Out) -> Result<Data> {
+        out.fields(NAMES, (&self.from, (&self.to, ())))
     }
 }

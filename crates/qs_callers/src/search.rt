@@ -1,8 +1,9 @@
 //! A search: a struct with a list of lists, a map and an optional value.
 
-ghost use Rattle.std.specs.Prelude.{◌∷◌, [], codes, refl};
+ghost use Rattle.qs_callers.specs.declared.search.TheConstants.{NAMES};
+ghost use Rattle.serde_qs.specs.PartTables.{made_of};
 
-use serde_qs::{Compound, Data, Result, RoundTrip, Struct, struct_of};
+use serde_qs::{Compound, Data, Out, Parts, Result, Shape, Source, Struct, fields};
 use std::alloc::Global;
 use std::collections::BTreeMap;
 
@@ -15,45 +16,30 @@ pub struct Search {
     pub labels: BTreeMap<String, String>,
 }
 
+type SearchParts = Struct<(String, (Option<u32>, (Vec<Vec<i64>>, Rest)))>;
+
+type Rest = (BTreeMap<String, String>, ());
+
+const NAMES: &[&str] = &["text", "page", "ranges", "labels"];
+
 impl Compound for Search {
-    type Parts = Struct<
-        (
-            String,
-            (Option<u32>, (Vec<Vec<i64>>, (BTreeMap<String, String>, ()))),
-        ),
-    >;
+    ghost table = { made_of ⟦<SearchParts as Parts>⟧.table NAMES.now (λ search. record { 0 = (search.text, (search.page, (search.ranges, (search.labels, tt)))) }) _ };
 
-    ghost names = { codes "text" ∷ codes "page" ∷ codes "ranges" ∷ codes "labels" ∷ [] };
-
-    ghost parts = { λ search. record { 0 = (search.text, (search.page, (search.ranges, (search.labels, tt)))) } };
-
-    ghost complete = { refl };
-
-    fn names() -> &'static [&'static str] {
-        &["text", "page", "ranges", "labels"]
+    fn form(alloc: Global) -> Result<Shape> {
+        SearchParts::shape(alloc, NAMES)
     }
 
-    fn from_parts(Struct((text, (page, (ranges, (labels, ()))))): Self::Parts) -> Search {
-        Search {
+    fn read(source: Source) -> Result<Search> {
+        let Struct(fields!(text, page, ranges, labels)) = SearchParts::read(source, NAMES)?;
+        Ok(Search {
             text,
             page,
             ranges,
             labels,
-        }
+        })
     }
 
-    fn written(&self, alloc: Global) -> Result<Data> {
-        struct_of(
-            alloc,
-            &["text", "page", "ranges", "labels"],
-            (&self.text, (&self.page, (&self.ranges, (&self.labels, ())))),
-        )
-    }
-
-    fn fit(&self) {
-        self.text.fits();
-        self.page.fits();
-        self.ranges.fits();
-        self.labels.fits();
+    fn written(&self, out: Out) -> Result<Data> {
+        out.fields(NAMES, fields!(self; text, page, ranges, labels))
     }
 }

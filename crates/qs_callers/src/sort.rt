@@ -2,12 +2,12 @@
 
 ghost use Rattle.qs_callers.specs.declared.sort.Sort.TheVariants.{Relevance, By, Between};
 ghost use Rattle.serde_qs.specs.declared.compound.variants.OneOf.TheVariants.{First, Later};
-ghost use Rattle.std.specs.Prelude.{◌∷◌, [], codes, refl};
+ghost use Rattle.qs_callers.specs.declared.sort.TheConstants.{NAMES};
+ghost use Rattle.serde_qs.specs.PartTables.{made_of};
 
 use serde_qs::OneOf::{First, Later};
 use serde_qs::{
-    Compound, Data, Enum, Last, Newtype, OneOf, Result, RoundTrip, Struct, newtype_variant,
-    struct_variant, unit_variant,
+    Compound, Data, Enum, Last, Newtype, OneOf, Out, Parts, Result, Shape, Source, Struct,
 };
 use std::alloc::Global;
 
@@ -22,44 +22,32 @@ pub enum Sort {
     Between { from: u32, to: u32 },
 }
 
+type SortParts = Enum<OneOf<(), OneOf<Newtype<String>, Last<Struct<(u32, (u32, ()))>>>>>;
+
+const NAMES: &[&str] = &["Relevance", "By", "Between", "from", "to"];
+
 impl Compound for Sort {
-    type Parts = Enum<OneOf<(), OneOf<Newtype<String>, Last<Struct<(u32, (u32, ()))>>>>>;
+    ghost table = { made_of ⟦<SortParts as Parts>⟧.table NAMES.now (elim [ Relevance ↦ record { 0 = First tt } | By name ↦ record { 0 = Later (First (record { 0 = name })) } | Between from to ↦ record { 0 = Later (Later (record { 0 = record { 0 = (from, (to, tt)) } })) } ]) _ };
 
-    ghost names = { codes "Relevance" ∷ codes "By" ∷ codes "Between" ∷ codes "from" ∷ codes "to" ∷ [] };
-
-    ghost parts = { elim [ Relevance ↦ record { 0 = First tt } | By name ↦ record { 0 = Later (First (record { 0 = name })) } | Between from to ↦ record { 0 = Later (Later (record { 0 = record { 0 = (from, (to, tt)) } })) } ] };
-
-    ghost complete = { refl };
-
-    fn names() -> &'static [&'static str] {
-        &["Relevance", "By", "Between", "from", "to"]
+    fn form(alloc: Global) -> Result<Shape> {
+        SortParts::shape(alloc, NAMES)
     }
 
-    fn from_parts(Enum(variant): Self::Parts) -> Sort {
-        match variant {
+    fn read(source: Source) -> Result<Sort> {
+        let Enum(variant) = SortParts::read(source, NAMES)?;
+        Ok(match variant {
             First(()) => Sort::Relevance,
             Later(First(Newtype(name))) => Sort::By(name),
             Later(Later(Last(Struct((from, (to, ())))))) => Sort::Between { from, to },
-        }
+        })
     }
 
-    fn written(&self, alloc: Global) -> Result<Data> {
+    fn written(&self, out: Out) -> Result<Data> {
         match self {
-            Sort::Relevance => unit_variant(alloc, "Relevance"),
-            Sort::By(name) => newtype_variant(alloc, "By", name),
+            Sort::Relevance => out.unit_variant("Relevance"),
+            Sort::By(name) => out.newtype_variant("By", name),
             Sort::Between { from, to } => {
-                struct_variant(alloc, "Between", &["from", "to"], (from, (to, ())))
-            }
-        }
-    }
-
-    fn fit(&self) {
-        match self {
-            Sort::Relevance => {}
-            Sort::By(name) => name.fits(),
-            Sort::Between { from, to } => {
-                from.fits();
-                to.fits();
+                out.struct_variant("Between", &["from", "to"], (from, (to, ())))
             }
         }
     }

@@ -1,6 +1,8 @@
 //! A visit, which is only read: a struct without writing and without a round trip.
 
-ghost use Rattle.std.specs.Prelude.{◌∷◌, [], codes, refl};
+ghost use Rattle.qs_callers.specs.declared.visit.TheConstants.{NAMES};
+ghost use Rattle.serde_qs.specs.PartTables.{names_in};
+ghost use Rattle.std.specs.Prelude.{refl};
 
 use serde_qs::{Data, Deserialize, Parts, Result, Shape, Struct};
 use std::alloc::Global;
@@ -16,24 +18,25 @@ pub struct Visit {
 
 type VisitParts = Struct<(String, (u32, (BTreeMap<String, String>, ())))>;
 
+const NAMES: &[&str] = &["path", "times", "labels"];
+
 impl Deserialize for Visit {
-    ghost Value = { ⟦<VisitParts as Parts>⟧.Value };
+    ghost Value = { ⟦<VisitParts as Parts>⟧.table.Value };
 
-    ghost value = { λ visit. ⟦<VisitParts as Parts>⟧.value (record { 0 = (visit.path, (visit.times, (visit.labels, tt))) }) };
+    ghost value = { λ visit. ⟦<VisitParts as Parts>⟧.table.value (record { 0 = (visit.path, (visit.times, (visit.labels, tt))) }) };
 
-    ghost form = { ⟦<VisitParts as Parts>⟧.form (codes "path" ∷ codes "times" ∷ codes "labels" ∷ []) };
+    ghost form = { ⟦<VisitParts as Parts>⟧.table.form (names_in NAMES.now) };
 
-    ghost meaning = { ⟦<VisitParts as Parts>⟧.meaning (codes "path" ∷ codes "times" ∷ codes "labels" ∷ []) };
+    ghost meaning = { ⟦<VisitParts as Parts>⟧.table.meaning (names_in NAMES.now) };
 
     ghost distinct = { refl };
 
     fn shape(alloc: Global) -> Result<Shape> {
-        VisitParts::shape(alloc, &["path", "times", "labels"])
+        VisitParts::shape(alloc, NAMES)
     }
 
     fn from_data(alloc: Global, datum: Data) -> Result<Visit> {
-        let names = &["path", "times", "labels"];
-        let Struct((path, (times, (labels, ())))) = VisitParts::from_data(alloc, names, datum)?;
+        let Struct((path, (times, (labels, ())))) = VisitParts::from_data(alloc, NAMES, datum)?;
         Ok(Visit {
             path,
             times,

@@ -8,6 +8,6 @@ mod write;
 
 pub use data::Data;
 pub use qs_tree::{ArrayFormat, Config, DuplicateKeyBehavior, Error, Result};
-pub use read::{Deserializer, Found, find_value, read_value};
-pub use shape::{Field, KeyShape, Shape, Variant, VariantKind};
+pub use read::{BrokenKey, Deserializer, Entries, Found, Items, Reader, find_value, read_value};
+pub use shape::{Field, KeyShape, Shape, Variant, VariantKind, Width};
 pub use write::{ByWrite, Serializer, Sink};

@@ -13,10 +13,13 @@ mod maps;
 mod message;
 mod nested;
 mod node;
+mod reader;
 mod scalar;
 mod unknown;
 mod variants;
 
+pub use by_shape::Reader;
 pub use deserializer::Deserializer;
-pub use keys::Found;
+pub use items::Items;
+pub use keys::{BrokenKey, Entries, Found};
 pub use node::{find_value, read_value};

@@ -7,4 +7,4 @@ mod width;
 
 pub(crate) use distinct::is_field_name;
 pub use shape::{Field, KeyShape, Shape, Variant, VariantKind};
-pub(crate) use width::Width;
+pub use width::Width;

@@ -5,6 +5,7 @@ mod scalar;
 mod serializer;
 mod sink;
 mod stop;
+mod text;
 mod walk;
 
 pub(crate) use scalar::{Scalar, word};

@@ -1,5 +1,5 @@
 -- What a variant holds, kind by kind.
-use Rattle.std.proofs.Common.{◌≡◌, Bool, false, List, [], ℕ, Option, Some, None, Result, Ok, Err, IfOk, refl, sym, ap, subst, ◌∙◌}
+use Rattle.std.proofs.Common.{◌≡◌, ◌<◌, Bool, false, List, [], ℕ, length, get_or, slice_get, Option, Some, None, Result, Ok, Err, IfOk, refl, sym, ap, subst, ◌∙◌}
 use Rattle.std.specs.Option.{option_map, option_and_then}
 use Rattle.qs_spec.specs.Data.{Data, values_of, members_of}
 use Rattle.qs_spec.specs.Leaf.Leaf.{NoValue, Null, Text}
@@ -12,12 +12,13 @@ use Rattle.qs_spec.specs.Tree.Entries.{entry}
 use Rattle.qs_spec.specs.internal.ReadFunction.{reads, reads_kind, reads_tuple, reads_names, reads_places, struct_members}
 use Rattle.qs_data.specs.declared.shape.shape.Variant.{Variant, out-Variant}
 use Rattle.qs_data.specs.shape.Variants.{variant_named}
-use Rattle.qs_data.specs.shape.Views.{kind_of, variant_of}
-use Rattle.qs_data.proofs.lemmas.read.Variants.{enum_some, variant_kind}
+use Rattle.qs_data.specs.shape.Views.{kind_of, variant_of, variants_in}
+use Rattle.qs_data.proofs.lemmas.read.Variants.{enum_some, named_is, variant_kind}
 use Rattle.qs_explain.specs.declared.explanation.Mismatch.{Mismatch}
 use Rattle.qs_explain.specs.declared.expected.Expected.TheVariants as e
 use Rattle.qs_explain.specs.Children.{enum_children, held_children, is_text, named_children}
-use Rattle.qs_explain.specs.Explains.{FindsAmong, IsHere, IsMismatch, PartsAreRead}
+use Rattle.qs_explain.specs.Explains.{IsMismatch, PartsAreRead}
+use Rattle.qs_explain.specs.internal.Finding.{FindsAmong, IsHere}
 use Rattle.qs_explain.specs.Unexpected.{unexpected_key}
 use Rattle.qs_explain.proofs.Parts.{mismatch_at}
 
@@ -71,6 +72,13 @@ no_key ss (leaf l) = refl
 no_key ss (sequence xs) = refl
 no_key ss (mapping es) = refl
 no_key ss uninitialized = refl
+
+-- the variant that was found by its name
+pub variant_at : (name : List ℕ) (ds ys : List Variant) (i : ℕ) (v : Variant) → ys ≡ ds → Some (option_map variant_of (slice_get ys i)) ≡ option_map Some (variant_named name (variants_in ys)) → i < length ys → v ≡ get_or ds i v
+    → (variant_named name (variants_in ds) ≡ Some (variant_of v)) × (i < length ds)
+variant_at name ds ys i v same named inside is =
+    let within = subst (λ zs. i < length zs) same inside in
+    (named_is name ds i v (subst (λ zs. option_map Some (variant_named name (variants_in zs)) ≡ Some (option_map variant_of (slice_get zs i))) same (sym named)) within is, within)
 
 -- what is found in an enum is found below its first key
 pub enum_found : {E : Type 0} (rd : Bool) (vs : s.Variants) (es more : Entries) (k : Segment) (m : Bool) (t : Tree) (d : Variant) (r : Result (Option Mismatch) E) → es ≡ entry k m t more → variant_named (segment_text k) vs ≡ Some (variant_of d)

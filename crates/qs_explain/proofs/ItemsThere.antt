@@ -10,7 +10,7 @@ use Rattle.qs_tree.specs.declared.tree.value.ParsedValue.{ParsedValue}
 use Rattle.qs_data.proofs.lemmas.read.Fields.{item_at, no_item_at}
 use Rattle.qs_data.proofs.lemmas.read.Items.{each_at, place_here, place_none}
 use Rattle.qs_explain.specs.Children.{first_there}
-use Rattle.qs_explain.specs.Explains.{node_of}
+use Rattle.qs_explain.specs.internal.Finding.{node_of}
 
 pub value_there : (ts : List ParsedValue) (i : ℕ) (r : Option (Bor ParsedValue)) → IsItemAt ts i r → node_of r ≡ first_there (drop i (sequence_items (items_from (map tree_of ts))))
 value_there ts i None h = sym (ap first_there (each_at i ts ∙ ap sequence_items (no_item_at ts i h.3)))

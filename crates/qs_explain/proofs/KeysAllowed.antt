@@ -9,7 +9,7 @@ use Rattle.qs_tree.specs.tree.Views.{entry_list}
 use Rattle.qs_data.specs.read.internal.Keys.{entries_after}
 use Rattle.qs_data.proofs.lemmas.read.Entries.{after_some, after_none, after_all}
 use Rattle.qs_explain.specs.Unexpected.{first_other}
-use Rattle.qs_explain.specs.Explains.{Tests}
+use Rattle.qs_explain.specs.internal.Finding.{Tests}
 
 module _ (test : List ℕ → Bool) (i : ℕ) (es : Entries) where
   pub other_here : (x : Step × Tree) → slice_get (entry_list es) i ≡ Some x → test (segment_text x.0.seg) ≡ false → first_other test (entries_after i es) ≡ Some x.0.seg

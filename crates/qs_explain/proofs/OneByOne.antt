@@ -23,7 +23,7 @@ use Rattle.qs_data.proofs.lemmas.read.Entries.{after_some, after_none, after_all
 use Rattle.qs_explain.specs.declared.explanation.Mismatch.{Mismatch}
 use Rattle.qs_explain.specs.Children.{Child, first_there, or_missing, item_children, tuple_children, name_child, name_children, pair_children, map_children, listed}
 use Rattle.qs_explain.specs.Parts.{IsRead, IsChild, AreRead}
-use Rattle.qs_explain.specs.Explains.{FindsAmong, FindsBelow, OneFails, IsBelow}
+use Rattle.qs_explain.specs.internal.Finding.{FindsAmong, FindsBelow, OneFails, IsBelow}
 
 -- no shape reads what is missing
 unread_missing : (rd : Bool) (s : shapes.Shape) → reads rd s uninitialized ≡ None
@@ -114,11 +114,18 @@ after_drop (suc i) (x ∷ xs) = let e : suc i + 1 ≡ suc (i + 1) = omega arith 
 
 -- one more item, part, field or pair
 module _ {E : Type 0} (rd : Bool) (i : ℕ) (r : Result (Option Mismatch) E) where
-  pub list_fails : (s : shapes.Shape) (xs : List (Option Tree)) (m : Mismatch) → i < length xs → IsBelow rd (Int i) s (or_missing (first_there (drop i xs))) m → OneFails rd (item_children i s (drop i xs)) m
-  list_fails s xs m h f = item_fails rd i s (drop i xs) m (omega (arith, length-drop i xs)) f
+  -- what was found below an item
+  below_is : (s : shapes.Shape) (x y : Option Tree) (o p : Option Mismatch) → x ≡ y → o ≡ p → FindsBelow {E = E} rd (Int i) s (or_missing x) (Ok o) → FindsBelow {E = E} rd (Int i) s (or_missing y) (Ok p)
+  below_is s x y o p e h f = subst (λ z. FindsBelow {E = E} rd (Int i) s (or_missing z) (Ok p)) e (subst (λ q. FindsBelow {E = E} rd (Int i) s (or_missing x) (Ok q)) h f)
 
-  pub list_more : (s : shapes.Shape) (xs : List (Option Tree)) → i < length xs → IsRead rd s (or_missing (first_there (drop i xs))) → FindsAmong rd (item_children (i + 1) s (drop (i + 1) xs)) r → FindsAmong rd (item_children i s (drop i xs)) r
-  list_more s xs h read f = item_more rd i s (drop i xs) r (omega (arith, length-drop i xs)) read (subst (λ ys. FindsAmong rd (item_children (i + 1) s ys) r) (sym (after_drop i xs)) f)
+  pub list_fails : (s : shapes.Shape) (xs : List (Option Tree)) (x : Option Tree) (o : Option Mismatch) (m : Mismatch) → i < length xs → x ≡ first_there (drop i xs) → o ≡ Some m → FindsBelow {E = E} rd (Int i) s (or_missing x) (Ok o)
+      → OneFails rd (item_children i s (drop i xs)) m
+  list_fails s xs x o m h e is f = item_fails rd i s (drop i xs) m (omega (arith, length-drop i xs)) (below_is s x (first_there (drop i xs)) o (Some m) e is f)
+
+  pub list_more : (s : shapes.Shape) (xs : List (Option Tree)) (x : Option Tree) (o : Option Mismatch) → i < length xs → x ≡ first_there (drop i xs) → o ≡ None → FindsBelow {E = E} rd (Int i) s (or_missing x) (Ok o)
+      → FindsAmong rd (item_children (i + 1) s (drop (i + 1) xs)) r → FindsAmong rd (item_children i s (drop i xs)) r
+  list_more s xs x o h e is read f =
+      item_more rd i s (drop i xs) r (omega (arith, length-drop i xs)) (below_is s x (first_there (drop i xs)) o None e is read) (subst (λ ys. FindsAmong rd (item_children (i + 1) s ys) r) (sym (after_drop i xs)) f)
 
   pub list_end : (s : shapes.Shape) (xs : List (Option Tree)) → length xs ≤ i → AreRead rd (item_children i s (drop i xs))
   list_end s xs h = subst (λ ys. AreRead rd (item_children i s ys)) (sym (drop_all i xs h)) tt
@@ -127,13 +134,16 @@ module _ {E : Type 0} (rd : Bool) (i : ℕ) (r : Result (Option Mismatch) E) whe
     parts_split : drop i ss ≡ d ∷ drop (i + 1) ss
     parts_split = drop_more ss i d here ∙ ap (λ y. y ∷ drop (i + 1) ss) (sym is)
 
-    pub parts_fails : (xs : List (Option Tree)) (m : Mismatch) → IsBelow rd (Int i) (shape_of d) (or_missing (first_there (drop i xs))) m → OneFails rd (tuple_children i (shapes_in (drop i ss)) (drop i xs)) m
-    parts_fails xs m f = subst (λ ys. OneFails rd (tuple_children i (shapes_in ys) (drop i xs)) m) (sym parts_split) (part_fails rd i (shape_of d) (shapes_in (drop (i + 1) ss)) (drop i xs) m f)
+    pub parts_fails : (xs : List (Option Tree)) (x : Option Tree) (o : Option Mismatch) (m : Mismatch) → x ≡ first_there (drop i xs) → o ≡ Some m → FindsBelow {E = E} rd (Int i) (shape_of d) (or_missing x) (Ok o)
+        → OneFails rd (tuple_children i (shapes_in (drop i ss)) (drop i xs)) m
+    parts_fails xs x o m e is f = subst (λ ys. OneFails rd (tuple_children i (shapes_in ys) (drop i xs)) m) (sym parts_split)
+        (part_fails rd i (shape_of d) (shapes_in (drop (i + 1) ss)) (drop i xs) m (below_is (shape_of d) x (first_there (drop i xs)) o (Some m) e is f))
 
-    pub parts_more : (xs : List (Option Tree)) → IsRead rd (shape_of d) (or_missing (first_there (drop i xs))) → FindsAmong rd (tuple_children (i + 1) (shapes_in (drop (i + 1) ss)) (drop (i + 1) xs)) r
-        → FindsAmong rd (tuple_children i (shapes_in (drop i ss)) (drop i xs)) r
-    parts_more xs read f = subst (λ ys. FindsAmong rd (tuple_children i (shapes_in ys) (drop i xs)) r) (sym parts_split)
-        (part_more rd i (shape_of d) (shapes_in (drop (i + 1) ss)) (drop i xs) r read (subst (λ ys. FindsAmong rd (tuple_children (i + 1) (shapes_in (drop (i + 1) ss)) ys) r) (sym (after_drop i xs)) f))
+    pub parts_more : (xs : List (Option Tree)) (x : Option Tree) (o : Option Mismatch) → x ≡ first_there (drop i xs) → o ≡ None → FindsBelow {E = E} rd (Int i) (shape_of d) (or_missing x) (Ok o)
+        → FindsAmong rd (tuple_children (i + 1) (shapes_in (drop (i + 1) ss)) (drop (i + 1) xs)) r → FindsAmong rd (tuple_children i (shapes_in (drop i ss)) (drop i xs)) r
+    parts_more xs x o e is read f = subst (λ ys. FindsAmong rd (tuple_children i (shapes_in ys) (drop i xs)) r) (sym parts_split)
+        (part_more rd i (shape_of d) (shapes_in (drop (i + 1) ss)) (drop i xs) r (below_is (shape_of d) x (first_there (drop i xs)) o None e is read)
+        (subst (λ ys. FindsAmong rd (tuple_children (i + 1) (shapes_in (drop (i + 1) ss)) ys) r) (sym (after_drop i xs)) f))
 
   pub parts_end : (ss : List Shape) (xs : List (Option Tree)) → length ss ≤ i → AreRead rd (tuple_children i (shapes_in (drop i ss)) (drop i xs))
   parts_end ss xs h = subst (λ ys. AreRead rd (tuple_children i (shapes_in ys) (drop i xs))) (sym (drop_all i ss h)) tt

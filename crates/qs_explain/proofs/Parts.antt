@@ -17,7 +17,8 @@ use Rattle.qs_explain.specs.declared.explanation.Explanation.TheVariants as e
 use Rattle.qs_spec.specs.Node.{IsFull}
 use Rattle.qs_explain.specs.Children.{Child, children}
 use Rattle.qs_explain.specs.Parts.{IsRead, IsChild, Part, Leads, AreRead}
-use Rattle.qs_explain.specs.Explains.{Explains, Finds, FindsAmong, FindsInside, IsBelow, IsHere, IsMismatch, PartsAreRead, path_of, segment_of, IsProblem, Says}
+use Rattle.qs_explain.specs.Explains.{Explains, IsMismatch, PartsAreRead, path_of, segment_of, IsProblem, Says}
+use Rattle.qs_explain.specs.internal.Finding.{Finds, FindsAmong, FindsInside, IsBelow, IsHere}
 use Rattle.qs_explain.specs.declared.explanation.Mismatch.{Mismatch}
 use Rattle.qs_explain.specs.declared.expected.Expected.{Expected}
 use Rattle.qs_explain.specs.Expected.{expected_of}
@@ -95,6 +96,13 @@ among rd s n (Ok None) h f = children_parts rd s n h f
 among rd s n (Ok (Some m)) h f = found_below rd s f.part n f.node f.key m (Part.child f.child) f.below
 among rd s n (Err e) h f = tt
 
+-- the same of a shape that is equal, and of what was found
+pub among_as : {E : Type 0} (rd : Bool) (s t : Shape) (n : Tree) (r : Result (Option Mismatch) E) → t ≡ s → is_wrapper s ≡ false → FindsAmong rd (children s n) r → FindsInside rd t n r
+among_as rd s t n r e h f = subst (λ x. FindsInside rd x n r) (sym e) (among rd s n r h f)
+
+pub among_is : (E : Type 0) (rd : Bool) (s : Shape) (n : Tree) (o p : Option Mismatch) → o ≡ p → is_wrapper s ≡ false → FindsAmong {E = E} rd (children s n) (Ok o) → FindsInside {E = E} rd s n (Ok p)
+among_is E rd s n o p e h f = among {E = E} rd s n (Ok p) h (subst (λ q. FindsAmong {E = E} rd (children s n) (Ok q)) e f)
+
 pub below : (rd : Bool) (key first : Segment) (s : Shape) (n : Tree) (inner m : Mismatch) → IsMismatch rd s n inner → path_of m ≡ first ∷ path_of inner → first ≡ key → m.problem ≡ inner.problem → IsBelow rd key s n m
 below rd key first s n inner m mismatch path is problem = record { inner = inner; mismatch = mismatch; path = path ∙ ap (λ x. x ∷ path_of inner) is; problem = problem }
 
@@ -124,6 +132,9 @@ null_found rd s r f = inside rd (Shape.option s) s (Tree.leaf Null) (Tree.leaf N
 
 pub full_found : {E : Type 0} (rd : Bool) (s : Shape) (n : Tree) (r : Result (Option Mismatch) E) → IsFull n → Finds rd s n r → FindsInside rd (Shape.option s) n r
 full_found rd s n r full f = inside rd (Shape.option s) s n n r (Part.option_full full) (full_parts rd s n full) f
+
+pub full_as : {E : Type 0} (rd : Bool) (s : Shape) (n m : Tree) (r : Result (Option Mismatch) E) → n ≡ m → IsFull m → Finds rd s n r → FindsInside rd (Shape.option s) n r
+full_as rd s n m r e full f = full_found rd s n r (subst IsFull (sym e) full) f
 
 -- a text is full
 pub text_full : (t : CowSlice ℕ Global) → IsFull (tree_of (value.String t))

@@ -5,7 +5,7 @@ ghost use Rattle.qs_spec.specs.Segment.Segment.{Int, Str};
 ghost use Rattle.qs_tree.specs.tree.Views.{tree_of, segment_of_key};
 ghost use Rattle.qs_data.specs.shape.Views.{shape_of};
 ghost use Rattle.qs_explain.specs.Children.{or_missing};
-ghost use Rattle.qs_explain.specs.Explains.{Finds, FindsBelow, node_of};
+ghost use Rattle.qs_explain.specs.internal.Finding.{Finds, FindsBelow, node_of};
 
 use crate::explanation::Mismatch;
 use crate::segment::Segment;

@@ -8,7 +8,8 @@ ghost use Rattle.qs_spec.specs.internal.ReadFunction.{reads, reads_kind};
 ghost use Rattle.qs_tree.specs.tree.Views.{tree_of, entries_of_map, segment_of_key};
 ghost use Rattle.qs_data.specs.shape.Views.{fields_in, kind_of, shapes_in, variants_in};
 ghost use Rattle.qs_explain.specs.Children.{enum_children, held_children, held_fields, is_text};
-ghost use Rattle.qs_explain.specs.Explains.{FindsAmong, IsMismatch, path_of};
+ghost use Rattle.qs_explain.specs.Explains.{IsMismatch, path_of};
+ghost use Rattle.qs_explain.specs.internal.Finding.{FindsAmong};
 ghost use Rattle.qs_explain.specs.Unexpected.{unknown_of};
 
 use crate::children::find_under;
@@ -114,6 +115,7 @@ fn find_in_held_fields(
     Ok(Some(put_under(alloc, key, mismatch)?))
 }
 
+// Whether the node is a text.
 fn is_text(value: &ParsedValue<'_>) -> bool
     ensures { result ≡ is_text (tree_of value.now) }
 {

@@ -5,10 +5,12 @@ ghost use Rattle.qs_explain.specs.Explains.{path_of, segment_of};
 
 use crate::expected::Expected;
 use crate::found::Found;
+use crate::line::OneLine;
 use crate::segment::Segment;
 use qs_data::Error;
 use std::alloc::AllocError;
 use std::fmt;
+use std::fmt::Write;
 
 /// Why an input isn't read.
 #[derive(Debug, Drop)]
@@ -50,17 +52,18 @@ impl Mismatch {
     }
 }
 
-/// One line: the error of an input without a tree, or the path and the problem, as `age: expected u8, found the text "300"`.
+/// One line: the error of an input without a tree, or the path and the problem, as `age: expected u8, found the text "300"`. A control
+/// character of the input stands as its escape.
 impl fmt::Display for Explanation {
     fn fmt<W: fmt::Write>(&self, f: &mut fmt::Formatter<W>) -> fmt::Result {
         match self {
-            Explanation::Syntax(error) => write!(f, "{error}"),
+            Explanation::Syntax(error) => write!(OneLine(f), "{error}"),
             Explanation::Mismatch(mismatch) => write!(f, "{mismatch}"),
         }
     }
 }
 
-/// The path as a key spells it, `user[address][zip]`, and the problem. Where the path is empty, the problem alone.
+/// The path as a key has it, `user[address][zip]`, and the problem. Where the path is empty, the problem alone.
 impl fmt::Display for Mismatch {
     fn fmt<W: fmt::Write>(&self, f: &mut fmt::Formatter<W>) -> fmt::Result {
         for (i, segment) in self.path.iter().enumerate() {

@@ -8,7 +8,7 @@ ghost use Rattle.qs_data.specs.read.Found as s;
 ghost use Rattle.qs_spec.specs.Node.{found};
 ghost use Rattle.qs_spec.specs.Shape.{is_option};
 ghost use Rattle.qs_explain.specs.Children.{name_child, name_children, struct_children};
-ghost use Rattle.qs_explain.specs.Explains.{FindsAmong, keys_of};
+ghost use Rattle.qs_explain.specs.internal.Finding.{FindsAmong, keys_of};
 
 use crate::children::find_under;
 use crate::explanation::Mismatch;

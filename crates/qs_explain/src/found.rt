@@ -4,7 +4,8 @@ ghost use Rattle.std.specs.Prelude.{IfOk};
 ghost use Rattle.qs_tree.specs.tree.Views.{tree_of};
 ghost use Rattle.qs_explain.specs.Expected.{Stands};
 
-use qs_tree::{Key, ParsedValue};
+use crate::line::write_bytes;
+use qs_tree::ParsedValue;
 use std::alloc::{AllocError, Global};
 use std::fmt;
 
@@ -41,13 +42,15 @@ impl Found {
     }
 }
 
-/// A text stands between double quotes, with U+FFFD for what is no UTF-8.
+/// A text stands between double quotes, and within one line: with U+FFFD for what is no UTF-8, and an escape such as `\u{a}` for a
+/// control character.
 impl fmt::Display for Found {
     fn fmt<W: fmt::Write>(&self, f: &mut fmt::Formatter<W>) -> fmt::Result {
         let name = match self {
             Found::Text(bytes) => {
-                let text = Key::from(bytes.as_slice());
-                return write!(f, "the text {text}");
+                f.write_str("the text \"")?;
+                write_bytes(bytes, f)?;
+                return f.write_str("\"");
             }
             Found::NoValue => "no value",
             Found::Empty => "an empty value",

@@ -69,7 +69,7 @@ fn is_in_key(in_key: bool, byte: u8) -> bool
     byte == b'&' || in_key && byte != b'='
 }
 
-/// One line, as `the escaped bracket before position 7 is part of the key; form mode reads it as a bracket`.
+/// One line, as ``the escaped bracket before position 7 is part of the key: write `[` and `]` as they are, or read in form mode``.
 impl fmt::Display for Hint {
     fn fmt<W: fmt::Write>(&self, f: &mut fmt::Formatter<W>) -> fmt::Result {
         match self {

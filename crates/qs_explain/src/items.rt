@@ -7,7 +7,7 @@ ghost use Rattle.qs_spec.specs.Tree.{Tree};
 ghost use Rattle.qs_tree.specs.tree.Views.{tree_of, entries_of_map, segment_of_key};
 ghost use Rattle.qs_data.specs.shape.Views.{shape_of, shapes_in};
 ghost use Rattle.qs_explain.specs.Children.{first_there, item_children, tuple_children, listed};
-ghost use Rattle.qs_explain.specs.Explains.{FindsAmong, node_of};
+ghost use Rattle.qs_explain.specs.internal.Finding.{FindsAmong, node_of};
 
 use crate::children::find_at;
 use crate::explanation::Mismatch;

@@ -13,7 +13,8 @@ ghost use Rattle.qs_spec.specs.Shape.{are_ignored, is_field_name};
 ghost use Rattle.qs_spec.specs.Tree.Tree.{leaf};
 ghost use Rattle.qs_tree.specs.tree.Views.{tree_of, entries_of_map, segment_of_key};
 ghost use Rattle.qs_data.specs.shape.Views.{fields_in, key_shape_of, shape_of, variants_in};
-ghost use Rattle.qs_explain.specs.Explains.{segment_of, Tests};
+ghost use Rattle.qs_explain.specs.Explains.{segment_of};
+ghost use Rattle.qs_explain.specs.internal.Finding.{Tests};
 ghost use Rattle.qs_explain.specs.Unexpected.{first_entry, first_other, is_allowed, is_key, is_variant, unexpected_among, unexpected_key, unknown_of};
 
 use crate::segment::Segment;
@@ -189,6 +190,7 @@ fn is_allowed_name(unknown: UnknownKeys, fields: &[Field], name: &[u8]) -> bool
     is_text(name) && (is_field_name(fields, name) || is_ignored(unknown))
 }
 
+// Whether unknown keys are ignored.
 fn is_ignored(unknown: UnknownKeys) -> bool
     ensures { result ≡ are_ignored (unknown_of unknown) }
 {
@@ -198,6 +200,7 @@ fn is_ignored(unknown: UnknownKeys) -> bool
     }
 }
 
+// Whether the bytes are UTF-8.
 #[tactic(auto, using(qs_data::proofs::lemmas::read::Errors::utf8_tests))]
 fn is_text(bytes: &[u8]) -> bool
     ensures { result ≡ is_utf8 bytes.now }
@@ -208,6 +211,7 @@ fn is_text(bytes: &[u8]) -> bool
     }
 }
 
+// Whether one of the fields has this name.
 fn is_field_name(fields: &[Field], name: &[u8]) -> bool
     ensures { result ≡ is_field_name name.now (fields_in fields.now) }
 {
@@ -280,6 +284,7 @@ fn is_text_read(
     )
 }
 
+// Whether this is one of the names.
 fn is_one_of(names: &[String], name: &[u8]) -> bool
     ensures { result ≡ list_any (bytes_eq name.now) (map string_bytes names.now) }
 {

@@ -21,8 +21,10 @@ mod found;
 mod hint;
 mod items;
 mod keys;
+mod line;
 mod pair_range;
 mod pairs;
+mod place;
 mod segment;
 #[cfg(test)]
 mod tests;

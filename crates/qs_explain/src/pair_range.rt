@@ -1,7 +1,10 @@
 //! Where the pair stands at which an error was found.
 
 ghost use Rattle.std.specs.Prelude.{◌≤◌, length};
-ghost use Rattle.qs_explain.specs.PairRange.{IsAfterLast, IsFirst, IsPairAt};
+ghost use Rattle.qs_explain.specs.PairRange.{IsFirst, IsPairAt};
+
+use crate::place::find_start;
+use qs_data::Config;
 
 /// Where a pair stands in an input: `input[start..end]`, without the `&` on either side.
 #[derive(Debug, Clone, Copy, PartialEq, Eq)]
@@ -14,20 +17,21 @@ pub struct PairRange {
     pub end: usize,
 }
 
-/// Returns where the pair stands at which parsing was given up, from the position of an error that is
-/// [`Parse`](qs_data::Error::Parse): the number of bytes that were read.
+/// Returns where the pair stands at which parsing was given up, under the configuration that the input was parsed by, from the
+/// position of the error, which is [`Parse`](qs_data::Error::Parse): the number of bytes that were read.
 ///
-/// The last byte that was read lies in the pair, or is the `&` or the end of the input after it. A pair is what stands between two
-/// `&`, also where one of them stands in a bracket. Doesn't allocate, and looks at the bytes of the pair alone.
+/// The last byte that was read lies in the pair, or is the `&` or the end of the input after it. An `&` in brackets is a byte of
+/// the key, so where brackets aren't closed the pair goes on over each `&` that follows. Doesn't allocate, and looks at each byte
+/// of the input up to the end of the pair at most twice.
 ///
 /// ```
-/// let pair = find_pair(b"a=1&b[=2&c=3", 7); // 4..8, with the key 4..6
+/// let pair = find_pair(Config::new(), b"a=1&b[=2&c=3", 13); // 4..12, with the key 4..6
 /// ```
-pub fn find_pair(input: &[u8], position: usize) -> PairRange
-    ensures { IsPairAt input.now position result }
+pub fn find_pair(config: Config, input: &[u8], position: usize) -> PairRange
+    ensures { IsPairAt config input.now position result }
 {
     let at = position.saturating_sub(1).min(input.len());
-    let start = find_last(input, b'&', at);
+    let start = find_start(config.get_form(), config.get_max_depth(), &input[..at]);
     let end = find_first(input, b'&', at, input.len());
     let key_end = find_first(input, b'=', start, end);
     PairRange {
@@ -35,21 +39,6 @@ pub fn find_pair(input: &[u8], position: usize) -> PairRange
         key_end,
         end,
     }
-}
-
-// After the last of such bytes before a position, or 0.
-fn find_last(input: &[u8], byte: u8, at: usize) -> usize
-    requires { at ≤ length input.now }
-    ensures { IsAfterLast byte input.now at result }
-{
-    let mut start = at;
-    while start > 0 {
-        if input[start - 1] == byte {
-            return start;
-        }
-        start -= 1;
-    }
-    0
 }
 
 // The first of such bytes between two positions, or the second position.

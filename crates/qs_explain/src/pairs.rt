@@ -4,7 +4,7 @@ ghost use Rattle.qs_spec.specs.Config.{are_rejected};
 ghost use Rattle.qs_tree.specs.tree.Views.{tree_of, entries_of_map};
 ghost use Rattle.qs_data.specs.shape.Views.{shape_of};
 ghost use Rattle.qs_explain.specs.Children.{map_children, pair_children};
-ghost use Rattle.qs_explain.specs.Explains.{FindsAmong};
+ghost use Rattle.qs_explain.specs.internal.Finding.{FindsAmong};
 
 use crate::children::find_under;
 use crate::explanation::Mismatch;

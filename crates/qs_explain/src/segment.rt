@@ -4,6 +4,7 @@ ghost use Rattle.std.specs.Prelude.{◌≡◌, IfOk};
 ghost use Rattle.qs_tree.specs.tree.Views.{segment_of_key};
 ghost use Rattle.qs_explain.specs.Explains.{segment_of};
 
+use crate::line::write_bytes;
 use qs_tree::Key;
 use std::alloc::{AllocError, Global};
 use std::fmt;
@@ -29,23 +30,12 @@ impl Segment {
     }
 }
 
-/// A key stands as a text, with U+FFFD for what is no UTF-8.
+/// A key stands as a text within one line, with U+FFFD for what is no UTF-8, and an escape such as `\u{a}` for a control character.
 impl fmt::Display for Segment {
     fn fmt<W: fmt::Write>(&self, f: &mut fmt::Formatter<W>) -> fmt::Result {
         match self {
             Segment::Index(index) => write!(f, "{index}"),
-            Segment::Key(key) => write_lossy(key, f),
+            Segment::Key(key) => write_bytes(key, f),
         }
     }
-}
-
-// Bytes as text, with U+FFFD for each run of bytes that is none.
-fn write_lossy<W: fmt::Write>(bytes: &[u8], f: &mut fmt::Formatter<W>) -> fmt::Result {
-    for chunk in bytes.utf8_chunks() {
-        f.write_str(chunk.valid())?;
-        if !chunk.invalid().is_empty() {
-            f.write_str("\u{FFFD}")?;
-        }
-    }
-    Ok(())
 }

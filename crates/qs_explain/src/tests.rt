@@ -5,7 +5,7 @@ use qs_data::{Config, Error, Field, KeyShape, Shape, Variant, VariantKind};
 use std::alloc::Global;
 use std::process::Abort;
 
-/// A field that must be there.
+// A field that must be there.
 fn field<R: Abort>(rt: &R, alloc: Global, name: &str, shape: Shape) -> Field {
     let name = String::from_str(alloc, name).expect(rt, "memory");
     Field {
@@ -15,23 +15,23 @@ fn field<R: Abort>(rt: &R, alloc: Global, name: &str, shape: Shape) -> Field {
     }
 }
 
-/// A shape in a box.
+// A shape in a box.
 fn boxed<R: Abort>(rt: &R, alloc: Global, shape: Shape) -> Box<Shape> {
     Box::new(alloc, shape).expect(rt, "memory")
 }
 
-/// Two fields that must be there.
+// Two fields that must be there.
 fn two_fields<R: Abort>(rt: &R, alloc: Global, first: Field, second: Field) -> Vec<Field> {
     Vec::from_array(alloc, [first, second]).expect(rt, "memory")
 }
 
-/// A struct with one field that must be there.
+// A struct with one field that must be there.
 fn only<R: Abort>(rt: &R, alloc: Global, name: &str, shape: Shape) -> Shape {
     let field = field(rt, alloc, name, shape);
     Shape::Struct(Vec::from_array(alloc, [field]).expect(rt, "memory"))
 }
 
-/// A struct with a name, and an address that has a number.
+// A struct with a name, and an address that has a number.
 fn person<R: Abort>(rt: &R, alloc: Global) -> Shape {
     let number = Shape::Option(boxed(rt, alloc, Shape::U8));
     let name = field(rt, alloc, "name", Shape::Text);
@@ -39,18 +39,18 @@ fn person<R: Abort>(rt: &R, alloc: Global) -> Shape {
     Shape::Struct(two_fields(rt, alloc, name, address))
 }
 
-/// Two coordinates.
+// Two coordinates.
 fn point<R: Abort>(rt: &R, alloc: Global) -> Vec<Shape> {
     Vec::from_array(alloc, [Shape::I8, Shape::I8]).expect(rt, "memory")
 }
 
-/// A variant.
+// A variant.
 fn variant<R: Abort>(rt: &R, alloc: Global, name: &str, kind: VariantKind) -> Variant {
     let name = String::from_str(alloc, name).expect(rt, "memory");
     Variant { name, kind }
 }
 
-/// Stops where the explanation of an input under the default configuration isn't this line, which is empty where it is read.
+// Stops where the explanation of an input under the default configuration isn't this line, which is empty where it is read.
 fn says<R: Abort>(rt: &R, alloc: Global, shape: &Shape, input: &str, line: &str) {
     let explained = explain(alloc, Config::new(), shape, input.as_bytes()).expect(rt, "memory");
     let text = match explained {
@@ -263,6 +263,35 @@ fn fields_of_variants(rt: HostRuntime) {
     }
 }
 
+// A control character of the input stands as its escape, and a byte that is no UTF-8 as U+FFFD.
+#[test]
+fn one_line(rt: HostRuntime) {
+    let alloc = rt.alloc();
+    let shape = only(&rt, alloc, "age", Shape::U8);
+    let strict = field(&rt, alloc, "age", Shape::U8);
+    let strict = Shape::StrictStruct(Vec::from_array(alloc, [strict]).expect(&rt, "memory"));
+    let cases = [
+        (
+            &shape,
+            "age=3%0A%1B[0m%E2%80%A8%FF",
+            "age: expected u8, found the text \"3\\u{a}\\u{1b}[0m\\u{2028}\u{FFFD}\"",
+        ),
+        (
+            &strict,
+            "age=3&%0D%7F%C3%A9=1",
+            "unexpected key \"\\u{d}\\u{7f}é\"",
+        ),
+        (
+            &shape,
+            "a[b]\n",
+            "parsing failed with error: 'unexpected character `\\u{a}` while parsing nested key: expected `&`, `=` or `[`' at position: 5",
+        ),
+    ];
+    for (shape, input, line) in cases {
+        says(&rt, alloc, shape, input, line);
+    }
+}
+
 #[test]
 fn inputs_without_a_tree(rt: HostRuntime) {
     let alloc = rt.alloc();
@@ -312,23 +341,57 @@ fn hints_as_text(rt: HostRuntime) {
     );
 }
 
-/// Where the pair of the error of an input without a tree stands: its start, the end of its key, and its end.
+// Where the pair of the error of an input without a tree stands: its start, the end of its key, and its end.
 fn wrong_pair<R: Abort>(rt: &R, alloc: Global, input: &[u8]) -> (usize, usize, usize) {
     let explained = explain(alloc, Config::new(), &Shape::Ignored, input).expect(rt, "memory");
     let Some(Explanation::Syntax(Error::Parse(_, position))) = &explained else {
         rt.abort();
     };
-    let pair = find_pair(input, *position);
+    let pair = find_pair(Config::new(), input, *position);
     (pair.start, pair.key_end, pair.end)
 }
 
 #[test]
 fn pairs_of_errors(rt: HostRuntime) {
     let alloc = rt.alloc();
-    let conflict = wrong_pair(&rt, alloc, b"a=1&a[b]=2&c=3");
-    assert!(rt; conflict == (4, 8, 10), "a[b]=2");
-    let open = wrong_pair(&rt, alloc, b"a=1&b[c=2");
-    assert!(rt; open == (4, 7, 9), "b[c=2");
-    let after = wrong_pair(&rt, alloc, b"a[b]c=1&d=2");
-    assert!(rt; after == (0, 5, 7), "a[b]c=1");
+    let cases: [(&[u8], (usize, usize, usize), &str); 7] = [
+        (b"a=1&a[b]=2&c=3", (4, 8, 10), "a[b]=2"),
+        (b"a=1&b[c=2", (4, 7, 9), "b[c=2"),
+        (b"a[b]c=1&d=2", (0, 5, 7), "a[b]c=1"),
+        // an `&` in brackets is a byte of the key
+        (b"a=1&b[c&d=2", (4, 9, 11), "b[c&d=2"),
+        (b"a=[&b[c]=1&d[e&f", (11, 16, 16), "d[e&f"),
+        // after brackets, and at the root after the value that closes a pair
+        (b"a[b]&a[]=1", (5, 8, 10), "a[]=1"),
+        (b"=1&a=2&b", (3, 4, 6), "a=2"),
+    ];
+    for (input, wanted, pair) in cases {
+        let found = wrong_pair(&rt, alloc, input);
+        assert!(rt; found == wanted, "{pair}: {found:?}");
+    }
+}
+
+// At the depth limit a key goes on to its end, and its first byte may be an `&`.
+#[test]
+fn pairs_at_the_depth_limit(rt: HostRuntime) {
+    let config = Config::new().max_depth(1);
+    let pair = find_pair(config, b"a[b][&c=1&d[", 13);
+    assert!(rt;
+        (pair.start, pair.key_end, pair.end) == (10, 12, 12),
+        "{pair:?}"
+    );
+    let pair = find_pair(
+        config.use_form_encoding(true),
+        b"a%5Bb%5D%5B&c=1&d%5Be&f",
+        24,
+    );
+    assert!(rt;
+        (pair.start, pair.key_end, pair.end) == (16, 23, 23),
+        "{pair:?}"
+    );
+    let pair = find_pair(config.max_depth(0), b"a[b&=1&c=1", 7);
+    assert!(rt;
+        (pair.start, pair.key_end, pair.end) == (4, 4, 6),
+        "{pair:?}"
+    );
 }

@@ -5,7 +5,8 @@ ghost use Rattle.qs_spec.specs.Config.{are_rejected};
 ghost use Rattle.qs_tree.specs.tree.Views.{tree_of};
 ghost use Rattle.qs_spec.specs.Shape as s;
 ghost use Rattle.qs_data.specs.shape.Views.{shape_of};
-ghost use Rattle.qs_explain.specs.Explains.{Finds, FindsInside, IsHere, Tests, segment_of};
+ghost use Rattle.qs_explain.specs.Explains.{segment_of};
+ghost use Rattle.qs_explain.specs.internal.Finding.{Finds, FindsInside, IsHere, Tests};
 ghost use Rattle.qs_spec.specs.internal.ReadFunction.{reads};
 ghost use Rattle.std.specs.Prelude.{◌≡◌, None};
 

@@ -6,7 +6,7 @@ use serde_qs::web::QsForm;
 use serde_qs::{Config, ConfigExt, Deserialize, Result};
 use std::alloc::Global;
 
-/// Returns the value that a request's body stands for under a configuration.
+/// Returns the value that is read from a request's body under a configuration.
 ///
 /// A body of the type `application/x-www-form-urlencoded` (URL Standard, section 5) needs
 /// [`use_form_encoding`](Config::use_form_encoding), since a browser escapes the brackets of names.

@@ -1,6 +1,6 @@
 //! The query and the form of a request, read as values.
 //!
-//! A request target, as [`http_uri`] parses it, has a query; a body may be a form. Each stands for a value of a type that
+//! A request target, as [`http_uri`] parses it, has a query; a body may be a form. Each is read as a value of a type that
 //! [`serde_qs`] reads:
 //!
 //! ```

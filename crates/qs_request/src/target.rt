@@ -9,10 +9,10 @@ use serde_qs::web::QsQuery;
 use serde_qs::{Config, ConfigExt, Deserialize, Result};
 use std::alloc::Global;
 
-/// Returns the value that the query of a request target stands for under a configuration.
+/// Returns the value that is read from the query of a request target under a configuration.
 ///
-/// The query is what follows the first `?` (RFC 3986, section 3.4); a fragment is no part of it. Where there is none, the
-/// empty querystring is read, so that a type without required fields has a value.
+/// The query is what follows the first `?` (RFC 3986, section 3.4); a fragment is no part of it, and a `Uri` keeps none. Where there
+/// is no query, the empty querystring is read, so that a type without required fields has a value.
 ///
 /// The default configuration reads brackets as they are. Clients that escape them need
 /// [`use_form_encoding`](Config::use_form_encoding), which reads both.

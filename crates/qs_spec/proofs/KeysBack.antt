@@ -29,7 +29,7 @@ digits_spelled : (form : Bool) (b : ℕ) → b < 256 → list_all is_digit_byte 
 digits_spelled true b l = agree_below_at (λ b. list_all is_digit_byte (spelling true b)) is_digit_byte 256 b refl l
 digits_spelled false b l = agree_below_at (λ b. list_all is_digit_byte (spelling false b)) is_digit_byte 256 b refl l
 
--- of each byte: a digit is spelled as itself
+-- of each byte: a digit is encoded as itself
 abbrev is_itself : Bool → ℕ → Bool
 is_itself form b = not (is_digit_byte b) || bytes_eq (spelling form b) (b ∷ [])
 

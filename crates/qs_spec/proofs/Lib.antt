@@ -44,6 +44,13 @@ pub mod Branches
 pub mod Tidy
 pub mod AtKeys
 pub mod GoodParts
+pub mod IsBack
+pub mod SameKeys
+pub mod IndexedItems
+pub mod NamedFields
+pub mod OptionsBack
+pub mod LeafLists
+pub mod ScalarsOfLeaves
 pub mod ReadBack
 pub mod Fitting
 pub mod PartOrders

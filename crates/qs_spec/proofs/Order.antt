@@ -7,7 +7,8 @@ use Rattle.std.proofs.lemmas.Map.Lookups.{exact_unsigned, exact_bytes}
 use Rattle.qs_spec.specs.Segment.{Segment}
 use Rattle.qs_spec.specs.Segment.Segment.{Int, Str}
 use Rattle.qs_spec.specs.Segment.{compare_segments, is_same_segment}
-use Rattle.qs_spec.specs.Tree.{put, put_by}
+use Rattle.std.specs.Ordering.{match_ordering}
+use Rattle.qs_spec.specs.Tree.{put}
 
 turned : (x y : Segment) → compare_segments x y ≡ ordering_reverse (compare_segments y x)
 turned (Int m) (Int n) = nat_cmp_total.antisymm m n
@@ -46,13 +47,13 @@ pub same_as_both : (k a b : Segment) → is_same_segment k a ≡ true → is_sam
 same_as_both k a b e f = sym ((eq_by_cmp_equiv segments_total).congr k a b e) ∙ f
 
 pub put_lt : (k x : Segment) (xs : List Segment) → compare_segments k x ≡ Less → put k (x ∷ xs) ≡ k ∷ x ∷ xs
-put_lt k x xs e = ap (λ o. put_by o k x xs (put k xs)) e
+put_lt k x xs e = ap (λ o. match_ordering o (k ∷ x ∷ xs) (x ∷ xs) (x ∷ put k xs)) e
 
 pub put_eq : (k x : Segment) (xs : List Segment) → compare_segments k x ≡ Equal → put k (x ∷ xs) ≡ x ∷ xs
-put_eq k x xs e = ap (λ o. put_by o k x xs (put k xs)) e
+put_eq k x xs e = ap (λ o. match_ordering o (k ∷ x ∷ xs) (x ∷ xs) (x ∷ put k xs)) e
 
 pub put_gt : (k x : Segment) (xs : List Segment) → compare_segments k x ≡ Greater → put k (x ∷ xs) ≡ x ∷ put k xs
-put_gt k x xs e = ap (λ o. put_by o k x xs (put k xs)) e
+put_gt k x xs e = ap (λ o. match_ordering o (k ∷ x ∷ xs) (x ∷ xs) (x ∷ put k xs)) e
 
 turned_less : (a b : Segment) → compare_segments a b ≡ Less → compare_segments b a ≡ Greater
 turned_less a b e = turned b a ∙ ap ordering_reverse e

@@ -8,7 +8,7 @@ use Rattle.qs_spec.specs.Leaf.{Leaf}
 use Rattle.qs_spec.specs.Token.Kind.{Amp, Equals, Open, Close, Other}
 use Rattle.qs_spec.specs.Leaf.Leaf.{NoValue}
 use Rattle.qs_spec.specs.Grammar.{Pair, direct, pushed, is_amp, is_open, is_close, ends_last, ends_root, IsRun, root, longer, IsValue, IsBrackets, IsPair, IsEnd, ArePairs}
-use Rattle.qs_spec.specs.internal.Parsing.{valued, value_at, parsed_value, with_leaf, Deeper, after_close_at, after_close, after_run, last_key, in_last, in_segment, parsed_brackets, after_root_at, after_root, parsed_pair, parsed_pairs_at, parsed_pairs_within, parsed_pairs}
+use Rattle.qs_spec.specs.internal.Parsing.{valued, value_at, parsed_value, with_leaf, Brackets, after_close_at, after_close, after_run, last_key, in_last, in_segment, parsed_brackets, after_root_at, after_root, parsed_pair, parsed_pairs_at, parsed_pairs_within, parsed_pairs}
 use Rattle.qs_spec.proofs.ReadIsRelated.{Stops, cut_run, Finds, pairs_read}
 use Rattle.qs_spec.proofs.Booleans.{and_both, not_of}
 
@@ -30,10 +30,10 @@ push_found zero path bracket t ts e = ap (λ b. in_last b path bracket t ts) (cl
 push_found (suc room) path bracket t ts e = ap (λ b. in_segment b (parsed_brackets room) path t ts) (close_at t.kind e)
 
 -- a value after a segment doesn't begin with a bracket
-after_value : (deeper : Deeper) (q : List Step) (value rest : List Token) (leaf : Leaf) → IsValue value leaf → IsEnd rest → after_close deeper q (value ++ rest) ≡ Some (direct q leaf, rest)
-after_value deeper q _ [] _ IsValue.none h = refl
-after_value deeper q _ (t ∷ rest) _ IsValue.none h = ap (λ k. after_close_at k deeper q t rest) h
-after_value deeper q _ rest _ (IsValue.some {t} {v} e r) h = ap (λ k. after_close_at k deeper q t (v ++ rest)) e ∙ ap (λ c. with_leaf (direct q) (valued c)) (cut_run is_amp v rest r (stops_at is_amp refl rest h))
+after_value : (brackets : Brackets) (q : List Step) (value rest : List Token) (leaf : Leaf) → IsValue value leaf → IsEnd rest → after_close brackets q (value ++ rest) ≡ Some (direct q leaf, rest)
+after_value brackets q _ [] _ IsValue.none h = refl
+after_value brackets q _ (t ∷ rest) _ IsValue.none h = ap (λ k. after_close_at k brackets q t rest) h
+after_value brackets q _ rest _ (IsValue.some {t} {v} e r) h = ap (λ k. after_close_at k brackets q t (v ++ rest)) e ∙ ap (λ c. with_leaf (direct q) (valued c)) (cut_run is_amp v rest r (stops_at is_amp refl rest h))
 
 segment_found : (room : ℕ) (path : List Step) (bracket : List ℕ) (s t : Token) (run more : List Token) → IsRun is_close (s ∷ run) → t.kind ≡ Close
     → parsed_brackets (suc room) path bracket (s ∷ (run ++ t ∷ more)) ≡ after_close (parsed_brackets room) (longer path (raw_of (s ∷ run))) more

@@ -1,4 +1,4 @@
--- An order of the pairs that keeps those that meet leaves each history, and so the tree.
+-- An order of the pairs that keeps those that overlap leaves each history, and so the tree.
 use Rattle.std.proofs.Common.{◌≡◌, ℕ, zero, suc, max, Bool, true, false, cond, ◌||◌, ◌&&◌, List, [], ◌∷◌, ◌++◌, map, refl, sym, ap, ap₂, ◌∙◌, subst, IsFalse, arith}
 use Rattle.std.specs.List.{AllByRecursion, list_any}
 use Rattle.qs_spec.specs.Segment.{Segment, Step}
@@ -8,21 +8,21 @@ use Rattle.qs_spec.specs.History.{Event, event, event_of, under, under_one, even
 use Rattle.qs_spec.specs.Tree.{Tree, Entries, flat, filled, filled_path, put_head, heads, entries_of, node_within, longest, node}
 use Rattle.qs_spec.specs.Segment.{is_same_segment}
 use Rattle.qs_spec.specs.Permutation.{IsReordering}
-use Rattle.qs_spec.specs.Order.{is_front, meet, unmarked, unmarked_entries}
+use Rattle.qs_spec.specs.Order.{is_front, overlap, unmarked, unmarked_entries}
 use Rattle.qs_spec.proofs.Order.{same_as_both, put_twice}
 
--- neighbours that don't meet change places, any number of times
+-- neighbours that don't overlap change places, any number of times
 pub data Swaps : List Pair → List Pair → Type 0 where
   same : (ps : List Pair) → Swaps ps ps
   keep : {ps qs : List Pair} (p : Pair) → Swaps ps qs → Swaps (p ∷ ps) (p ∷ qs)
-  swap : (p q : Pair) (ps : List Pair) → meet p q ≡ false → Swaps (p ∷ q ∷ ps) (q ∷ p ∷ ps)
+  swap : (p q : Pair) (ps : List Pair) → overlap p q ≡ false → Swaps (p ∷ q ∷ ps) (q ∷ p ∷ ps)
   both : {ps qs rs : List Pair} → Swaps ps qs → Swaps qs rs → Swaps ps rs
 
-to_place : (p : Pair) (front back : List Pair) → AllByRecursion (λ q. IsFalse (meet p q)) front → Swaps (p ∷ (front ++ back)) (front ++ p ∷ back)
+to_place : (p : Pair) (front back : List Pair) → AllByRecursion (λ q. IsFalse (overlap p q)) front → Swaps (p ∷ (front ++ back)) (front ++ p ∷ back)
 to_place p [] back h = same (p ∷ back)
 to_place p (q ∷ front) back h = both (swap p q (front ++ back) h.0) (keep q (to_place p front back h.1))
 
-pub swaps_of : (ps qs : List Pair) → IsReordering meet ps qs → Swaps ps qs
+pub swaps_of : (ps qs : List Pair) → IsReordering overlap ps qs → Swaps ps qs
 swaps_of [] qs h = subst (λ l. Swaps [] l) (sym h) (same [])
 swaps_of (p ∷ ps) qs h = subst (λ l. Swaps (p ∷ ps) l) (sym h.2) (both (keep p (swaps_of ps (h.0 ++ h.1) h.4)) (to_place p h.0 h.1 h.3))
 
@@ -35,7 +35,7 @@ under_keep k (s ∷ path) p {a} {b} w = by (is_same_segment k s.seg)
     by true = keep (record p { path = path }) w
     by false = w
 
--- paths of two that don't meet
+-- paths of two that don't overlap
 abbrev Apart : List Step → List Step → Type 0
 Apart a b = (is_front a b || is_front b a) ≡ false
 
@@ -126,10 +126,10 @@ node_within_swaps (suc n) {ps} {qs} w = either _ _ _ _ _ _
     (ap Tree.mapping (entries_same _ _ (λ k. node_within n (under k (filled ps))) (λ k. node_within n (under k (filled qs))) (λ k. node_within_swaps n (swaps_under k (swaps_filled w))) _ _ (heads_swaps (swaps_filled w))))
     (ap (λ h. unmarked (flat h)) (history_swaps w))
 
-pub node_reordered : (ps qs : List Pair) → IsReordering meet ps qs → unmarked (node ps) ≡ unmarked (node qs)
+pub node_reordered : (ps qs : List Pair) → IsReordering overlap ps qs → unmarked (node ps) ≡ unmarked (node qs)
 node_reordered ps qs h =
     let w = swaps_of ps qs h in
     node_within_swaps (longest ps) w ∙ ap (λ n. unmarked (node_within n qs)) (longest_swaps w)
 
-pub permitted_reordered : (ps qs : List Pair) → IsReordering meet ps qs → (path : List Segment) → permitted (events ps path) ≡ permitted (events qs path)
+pub permitted_reordered : (ps qs : List Pair) → IsReordering overlap ps qs → (path : List Segment) → permitted (events ps path) ≡ permitted (events qs path)
 permitted_reordered ps qs h path = ap permitted (events_swaps path (swaps_of ps qs h))

@@ -11,7 +11,7 @@ use Rattle.qs_spec.specs.internal.Entries.{entry_leaf, IsSegment, IsValueOf}
 use Rattle.qs_spec.specs.Grammar.{is_amp, IsValue}
 use Rattle.qs_spec.proofs.Booleans.{and_both, not_of}
 
--- one byte is a token by itself where no bracket is spelled
+-- one byte is a token by itself where it begins no escaped bracket
 abbrev begins_bracket : List ℕ → Bool
 begins_bracket [] = false
 begins_bracket (b ∷ []) = false

@@ -1,4 +1,4 @@
--- Escaped bytes stand for what was escaped.
+-- Encoded bytes are decoded to what was encoded.
 use Rattle.std.proofs.Common.{◌≡◌, ℕ, arith, ◌<◌, ◌+◌, ◌*◌, Bool, true, false, cond, not, ◌&&◌, ◌==◌, List, [], ◌∷◌, ◌++◌, refl, ap, ◌∙◌}
 use Rattle.std.specs.List.{AllByRecursion}
 use Rattle.std.proofs.lemmas.Bool.{agree_below_at}
@@ -7,7 +7,7 @@ use Rattle.std.specs.Char.{digit_value, is_digit}
 use Rattle.qs_spec.specs.Escape.{spelling, encoded, decoded, unplus}
 use Rattle.qs_spec.proofs.Booleans.{and_both, not_of}
 
--- what was escaped stands for itself
+-- what was encoded is decoded to itself
 abbrev is_back : ℕ → List ℕ → Bool
 is_back b (x ∷ []) = not (x == 37) && unplus x == b
 is_back b (x ∷ y ∷ z ∷ []) = x == 37 && is_digit y 16 && is_digit z 16 && (16 * digit_value y + digit_value z) == b

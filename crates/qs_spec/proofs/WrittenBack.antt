@@ -14,8 +14,8 @@ use Rattle.qs_spec.specs.Order.{is_front}
 use Rattle.qs_spec.specs.Data.{Data, Values, no_values, one_value, Pairs, no_pairs, one_pair, Members, no_members, one_member}
 use Rattle.qs_spec.specs.Shape.{Shape, is_distinct}
 use Rattle.qs_spec.specs.Entry.{Path, Entry, entries, entries_at}
-use Rattle.qs_spec.specs.Written.{written, entry_text, path_text}
-use Rattle.qs_spec.specs.internal.Entries.{steps, HasSegments, IsValueOf}
+use Rattle.qs_spec.specs.Written.{has_key, written, entry_text, path_text}
+use Rattle.qs_spec.specs.internal.Entries.{steps, IsValueOf}
 use Rattle.qs_spec.proofs.Order.{is_itself}
 use Rattle.qs_spec.proofs.Reorder.{Swaps}
 use Rattle.qs_spec.proofs.Booleans.{and_both, or_both}
@@ -55,15 +55,15 @@ parts_of limit fm d li r =
 
 -- all have a path, or there is one alone without
 abbrev IsRooted : List Part → Type 0
-IsRooted ps = AllByRecursion (λ (p : Part). HasSegments p.path) ps ⊎ ((v : Option (List ℕ)) × (ps ≡ leaf_part v ∷ []))
+IsRooted ps = AllByRecursion (λ (p : Part). has_key p.path ≡ true) ps ⊎ ((v : Option (List ℕ)) × (ps ≡ leaf_part v ∷ []))
 
-branches_paths : (bs : List Branch) → AllByRecursion (λ (p : Part). HasSegments p.path) (branches bs)
+branches_paths : (bs : List Branch) → AllByRecursion (λ (p : Part). has_key p.path ≡ true) (branches bs)
 branches_paths [] = tt
 branches_paths (b ∷ bs) = by b.1 (branches_paths bs)
   where
-    by : (ps : List Part) → AllByRecursion (λ (p : Part). HasSegments p.path) (branches bs) → AllByRecursion (λ (p : Part). HasSegments p.path) (map (under_segment b.0) ps ++ branches bs)
+    by : (ps : List Part) → AllByRecursion (λ (p : Part). has_key p.path ≡ true) (branches bs) → AllByRecursion (λ (p : Part). has_key p.path ≡ true) (map (under_segment b.0) ps ++ branches bs)
     by [] more = more
-    by (p ∷ ps) more = (tt, by ps more)
+    by (p ∷ ps) more = (refl, by ps more)
 
 -- a list at the root is written by places
 list_rooted : (fm : ArrayFormat) (ds : Values) → is_placed fm false ≡ true → IsRooted (value_parts fm ds)
@@ -103,7 +103,7 @@ pairs_tree fm form depth [] (p ∷ ps) g h a = absurd (none (same_Some [] (p ∷
     none e = cc
 pairs_tree fm form depth (b ∷ text) ps g h a = (ps, record { grammar = g; histories = alike_permitted fm ps a }, refl)
 
-readable : (form : Bool) (depth : ℕ) (p : Part) → HasSegments p.path → IsFine form p → length (entry_of p).path ≤ depth + 1 → IsReadable form depth p
+readable : (form : Bool) (depth : ℕ) (p : Part) → has_key p.path ≡ true → IsFine form p → length (entry_of p).path ≤ depth + 1 → IsReadable form depth p
 readable form depth p h f l = record { some = h; segments = f.0; short = l; value = by p.value f.1 }
   where
     by : (v : Option (List ℕ)) → IsByteValue v → IsValueOf ([] ∷ []) v
@@ -126,7 +126,7 @@ written_tree fm form depth ps qs r f l w h a = by r
     by (inl p) =
         pairs_tree fm form depth (written form false (map entry_of qs)) (pairs form qs)
         (parts_read form depth qs
-        (all_both (λ (p : Part). HasSegments p.path) (λ (p : Part). IsFine form p × (length (entry_of p).path ≤ depth + 1)) (IsReadable form depth) (λ e q r. readable form depth e q r.0 r.1) qs (perm_all (λ (p : Part). HasSegments p.path) w p)
+        (all_both (λ (p : Part). has_key p.path ≡ true) (λ (p : Part). IsFine form p × (length (entry_of p).path ≤ depth + 1)) (IsReadable form depth) (λ e q r. readable form depth e q r.0 r.1) qs (perm_all (λ (p : Part). has_key p.path ≡ true) w p)
         (all_both (IsFine form) (λ (p : Part). length (entry_of p).path ≤ depth + 1) (λ (p : Part). IsFine form p × (length (entry_of p).path ≤ depth + 1)) (λ e q r. (q, r)) qs (perm_all (IsFine form) w f) (perm_all (λ (p : Part). length (entry_of p).path ≤ depth + 1) w l)))) h a
     by (inr p) =
         let one : qs ≡ leaf_part p.0 ∷ [] = perm_one (leaf_part p.0) qs (subst (λ (l : List Part). Perm l qs) p.1 w) in
@@ -134,7 +134,7 @@ written_tree fm form depth ps qs r f l w h a = by r
         subst (λ (l : List Part). IsTree form depth (written form false (map entry_of l)) (node (pairs form l))) (sym one)
         (alone p.0 b.0.1 (subst (λ (l : List Part). HasSomePair (pairs form l)) one h) (subst (λ (l : List Part). AllAlike fm (pairs form l)) one a))
 
--- parts in an order that only swaps those that don't meet are read back
+-- parts in an order that only swaps those whose paths don't overlap are read back
 parts_back : (config : Config) (shape : Shape) (d : Data) (qs : List Part) → is_distinct shape ≡ true → IsPlainFor config shape d → is_listed config.array_format false d ≡ true
     → Perm (parts config.array_format d) qs → Swaps (pairs config.form (parts config.array_format d)) (pairs config.form qs) → IsReadBack config shape d (written config.form false (map entry_of qs))
 parts_back config shape d qs dist w li q s =
@@ -154,7 +154,7 @@ parts_back config shape d qs dist w li q s =
       same = b.same;
     }
 
--- Plain data that are written without a refusal are read back from their entries in every order that keeps those with one path.
+-- Plain data that are written without an error are read back from their entries in every order that keeps those with one path.
 pub lists_back : (config : Config) (shape : Shape) (d : Data) (es : List Entry) → is_distinct shape ≡ true → IsPlainFor config shape d → is_listed config.array_format false d ≡ true → KeepsPaths (entries config d).entries es
     → IsReadBack config shape d (written config.form false es)
 lists_back config shape d es dist w li k =

@@ -17,8 +17,8 @@ is_front (s ∷ p) [] = false
 is_front (s ∷ p) (t ∷ q) = is_same_segment s.seg t.seg && is_front p q
 
 -- two pairs with overlapping paths: equal, or one the front of the other
-abbrev pub meet : Pair → Pair → Bool
-meet p q = is_front p.path q.path || is_front q.path p.path
+abbrev pub overlap : Pair → Pair → Bool
+overlap p q = is_front p.path q.path || is_front q.path p.path
 
 -- a leaf, a pair, a tree without marks
 abbrev pub unmarked_leaf : Leaf → Leaf
@@ -49,7 +49,7 @@ abbrev mutual
 
 -- the same pairs but for their marks, in an order that keeps overlapping paths in order
 abbrev pub AreReordered : List Pair → List Pair → Type 0
-AreReordered ps qs = KeepsOrder meet (map unmarked_pair ps) (map unmarked_pair qs)
+AreReordered ps qs = KeepsOrder overlap (map unmarked_pair ps) (map unmarked_pair qs)
 
 -- two inputs have trees that differ at most in marks, or neither has one
 pub record AreAlike (form : Bool) (depth : ℕ) (a b : List ℕ) : Type 0 where

@@ -1,8 +1,7 @@
 -- The tree of an input: each node by the history of its own path.
 use Rattle.std.specs.Prelude.{◌≡◌, ℕ, zero, suc, max, Bool, true, false, List, [], ◌∷◌, ◌++◌, length, IsTrue, if◌then◌else◌}
 use Rattle.std.specs.List.{list_any}
-use Rattle.std.specs.declared.cmp.Ordering.{Ordering}
-use Rattle.std.specs.declared.cmp.Ordering.TheVariants.{Less, Equal, Greater}
+use Rattle.std.specs.Ordering.{match_ordering}
 use Rattle.qs_spec.specs.Token.{tokens}
 use Rattle.qs_spec.specs.Segment.{Segment, Step, compare_segments, is_same_segment}
 use Rattle.qs_spec.specs.Segment.Segment.{Str}
@@ -61,14 +60,9 @@ filled [] = []
 filled (p ∷ ps) = record p { path = filled_path p.path p.push } ∷ filled ps
 
 -- the segments that come first, each once, in order
-abbrev pub put_by : Ordering → Segment → Segment → List Segment → List Segment → List Segment
-put_by Less k x xs more = k ∷ x ∷ xs
-put_by Equal k x xs more = x ∷ xs
-put_by Greater k x xs more = x ∷ more
-
 abbrev pub put : Segment → List Segment → List Segment
 put k [] = k ∷ []
-put k (x ∷ xs) = put_by (compare_segments k x) k x xs (put k xs)
+put k (x ∷ xs) = match_ordering (compare_segments k x) (k ∷ x ∷ xs) (x ∷ xs) (x ∷ put k xs)
 
 abbrev pub put_head : List Step → List Segment → List Segment
 put_head [] ks = ks

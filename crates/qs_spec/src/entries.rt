@@ -9,7 +9,7 @@ ghost use Rattle.qs_spec.specs.Written.{written};
 ghost use Rattle.qs_spec.specs.internal.Entries.{IsWritable, HasPath, entry_pair};
 
 /// The text of entries with paths, or of a single entry, is parsed as their pairs.
-pub fn written_entries_are_read()
+pub fn written_entries_are_parsed()
     ensures entries { (form : Bool) (depth : ℕ) (es : List Entry) → AllByRecursion (IsWritable form depth) es → AllByRecursion HasPath es
         → ArePairs depth (tokens form (written form false es)) (map (entry_pair form) es) }
     ensures single { (form : Bool) (depth : ℕ) (e : Entry) → IsWritable form depth e → ArePairs depth (tokens form (written form false (e ∷ []))) (entry_pair form e ∷ []) }

@@ -20,6 +20,10 @@ pub fn deep_keys()
     ensures open_bracket { IsRefused false 5 (codes "a[b") }
     ensures push_at_the_limit { IsTree false 1 (codes "a[b][]=1") (only (codes "a") (only (codes "b") (text_leaves (codes "1" ∷ [])))) }
     ensures no_depth { IsTree false 0 (codes "a[b]=1") (only (codes "a[b]") (text_leaf (codes "1"))) }
+    ensures ampersand_first_in_the_last_key { IsTree false 1 (codes "a[b][&c]=1") (only (codes "a") (only (codes "b") (only (codes "[&c]") (text_leaf (codes "1"))))) }
+    ensures closing_bracket_in_a_root_key { IsTree false 5 (codes "a]=1") (only (codes "a]") (text_leaf (codes "1"))) }
+    ensures text_after_a_push { IsRefused false 5 (codes "a[]x=1") }
+    ensures bracket_after_a_push { IsRefused false 5 (codes "a[][b]=1") }
 {}
 
 /// In form mode `%5B` and `%5D` are brackets, in upper case alone; otherwise they are escapes.
@@ -27,6 +31,8 @@ pub fn brackets_in_form_mode()
     ensures escaped { IsTree true 5 (codes "abc%5Bdef%5D=ghi") (only (codes "abc") (only (codes "def") (text_leaf (codes "ghi")))) }
     ensures lower_case { IsTree true 5 (codes "abc%5bdef%5d=ghi") (mapping (entry (Str (codes "abc[def]")) true (text_leaf (codes "ghi")) no_entries)) }
     ensures in_query_mode { IsTree false 5 (codes "abc%5Bdef%5D=ghi") (mapping (entry (Str (codes "abc[def]")) true (text_leaf (codes "ghi")) no_entries)) }
+    ensures as_they_are { IsTree true 5 (codes "a[b]=1") (only (codes "a") (only (codes "b") (text_leaf (codes "1")))) }
+    ensures in_a_value { IsTree true 5 (codes "a=%5B") (only (codes "a") (leaf (Text (codes "[") true))) }
 {}
 
 /// A value may follow what is nested under its key, and is then the value of the empty key; it may not precede it.
@@ -36,6 +42,9 @@ pub fn values_beside_maps()
     ensures nothing_before { IsRefused false 5 (codes "a=&a[b]=1") }
     ensures push_before { IsRefused false 5 (codes "a[]=1&a[b]=2") }
     ensures value_at_the_root { IsRefused false 5 (codes "=1&a=2") }
+    ensures values_after { IsTree false 5 (codes "a[b]=1&a=2&a=3") (only (codes "a") (mapping (at_text [] (text_leaves (codes "2" ∷ codes "3" ∷ [])) (at_text (codes "b") (text_leaf (codes "1")) no_entries)))) }
+    ensures value_after_at_the_root { IsTree false 5 (codes "b=1&=2") (mapping (at_text [] (text_leaf (codes "2")) (at_text (codes "b") (text_leaf (codes "1")) no_entries))) }
+    ensures push_after { IsRefused false 5 (codes "a[b]=1&a[]=2") }
 {}
 
 /// Several values of a key are a sequence, and more may be pushed onto it; nothing is pushed onto a single value.
@@ -43,6 +52,7 @@ pub fn repeated_keys()
     ensures values_and_a_push { IsTree false 5 (codes "a=1&a=2&a[]=3") (only (codes "a") (text_leaves (codes "1" ∷ codes "2" ∷ codes "3" ∷ []))) }
     ensures pushes { IsTree false 5 (codes "a[]=1&b=x&a[]=2") (mapping (at_text (codes "a") (text_leaves (codes "1" ∷ codes "2" ∷ [])) (at_text (codes "b") (text_leaf (codes "x")) no_entries))) }
     ensures push_onto_a_value { IsRefused false 5 (codes "a=1&a[]=2") }
+    ensures value_after_a_push { IsTree false 5 (codes "a[]=1&a=2") (only (codes "a") (text_leaves (codes "1" ∷ codes "2" ∷ []))) }
 {}
 
 /// Digits of a number of 32 bits are an index, other keys and escaped digits are texts.
@@ -68,4 +78,6 @@ pub fn marks_of_keys_and_texts()
     ensures escaped_first { IsTree false 5 (codes "%61=1&a=2") (mapping (entry (Str (codes "a")) true (text_leaves (codes "1" ∷ codes "2" ∷ [])) no_entries)) }
     ensures text { IsTree false 5 (codes "a=%2B+") (only (codes "a") (leaf (Text (codes "+ ") true))) }
     ensures broken_escape { IsTree false 5 (codes "a=%") (only (codes "a") (leaf (Text (codes "%") true))) }
+    ensures plus_in_a_key { IsTree false 5 (codes "a+b=1") (mapping (entry (Str (codes "a b")) true (text_leaf (codes "1")) no_entries)) }
+    ensures plus_in_a_text { IsTree false 5 (codes "a=x+y") (only (codes "a") (leaf (Text (codes "x y") true))) }
 {}

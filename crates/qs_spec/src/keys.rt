@@ -23,14 +23,14 @@ pub fn digits_and_numbers()
 
 /// A key that is written is parsed as its number if it is an index, and else as itself. So its text comes back, unless it is an
 /// index with a leading zero; and an index comes back as that number.
-pub fn written_keys_are_read()
+pub fn written_keys_are_parsed()
     ensures segment { (form : Bool) (s : List ℕ) → AllByRecursion (λ b. b < 256) s → segment_of (encoded form s) ≡ written_segment s }
     ensures text { (form : Bool) (s : List ℕ) → AllByRecursion (λ b. b < 256) s → IsFalse (is_index s && has_leading_zero s) → segment_text (segment_of (encoded form s)) ≡ s }
     ensures place { (form : Bool) (i : ℕ) → i ≤ 4294967295 → segment_of (encoded form (decimal i)) ≡ Int i }
 {}
 
 /// A value that is written is parsed as its bytes.
-pub fn written_values_are_read()
+pub fn written_values_are_parsed()
     ensures leaf { (form : Bool) (b : ℕ) (s : List ℕ) → AllByRecursion (λ b. b < 256) (b ∷ s) → value_leaf (encoded form (b ∷ s)) ≡ Text (b ∷ s) (is_marked (encoded form (b ∷ s))) }
     ensures bytes { (form : Bool) (s : List ℕ) → AllByRecursion (λ b. b < 256) s → leaf_text (value_leaf (encoded form s)) ≡ s }
 {}

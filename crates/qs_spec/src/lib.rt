@@ -7,15 +7,15 @@ mod inputs;
 mod keys;
 mod losses;
 mod orders;
+mod parsing;
 mod read_back;
-mod reading;
 mod relation;
 mod scalars;
 mod shapes;
 mod texts;
 mod trees;
 
-pub use entries::written_entries_are_read;
+pub use entries::written_entries_are_parsed;
 pub use escapes::{
     broken_escapes_stay, decoded_texts, encoded_texts, escapes_round_trip, kept_bytes,
 };
@@ -24,26 +24,28 @@ pub use inputs::{
     nearly_empty_inputs, repeated_keys, values_beside_maps,
 };
 pub use keys::{
-    ascending_keys, digits_and_numbers, found_by_lookup, written_keys_are_read,
-    written_values_are_read,
+    ascending_keys, digits_and_numbers, found_by_lookup, written_keys_are_parsed,
+    written_values_are_parsed,
 };
 pub use losses::{
     lists_without_indices, not_fitting_is_lost, not_plain_is_lost, unstable_trees_are_lost,
 };
 pub use orders::{orders_by_place, reordered_inputs, reordered_pairs};
+pub use parsing::pairs_are_parsed;
 pub use read_back::{
-    data_that_are_not_plain, entries_are_apart, hostile_names_are_plain, plain_data_are_read_back,
-    stable_trees_come_back, writing_loses_nothing,
+    data_that_are_not_plain, data_that_fit, entries_are_apart, hostile_names_are_plain,
+    listed_data, lists_within_the_indices, plain_data_are_read_back, stable_trees_come_back,
+    writing_loses_nothing,
 };
-pub use reading::pairs_are_read;
 pub use relation::{one_data, reads_is_the_relation};
-pub use scalars::written_scalars_are_read;
+pub use scalars::written_scalars_are_parsed;
 pub use shapes::{
-    anything, fields_by_name, flags, items_by_place, kinds_of_variants, last_of_several,
-    least_key_names_the_variant, maps, numbers_in_range, options, small_shapes,
+    anything, distinct_shapes, fields_by_name, flags, items_by_place, kinds_of_variants,
+    last_of_several, least_key_names_the_variant, maps, numbers_in_range, options, small_shapes,
+    unknown_keys,
 };
 pub use texts::{
-    array_formats, depth_limit, keys_of_maps, optional_values, parts_without_fields, scalar_values,
-    variants,
+    array_formats, depth_limit, entries_after_others, keys_of_maps, optional_values,
+    parts_without_fields, scalar_values, variants,
 };
 pub use trees::{in_place, nothing_lost, one_reading, sound_trees};

@@ -47,12 +47,17 @@ pub fn not_fitting_is_lost()
 {}
 
 /// Where no index is written, a list without a path is read as other data, a list of lists loses how they were grouped or has no
-/// tree, the elements of a list come in the order of their entries, and without brackets a list of one empty text is an empty one.
+/// tree, the elements of a list come in the order of their entries, and without brackets a list of one empty text, or of one element
+/// without a text, is an empty one.
 pub fn lists_without_indices()
     ensures at_the_top { IsReadAs (record default { array_format = unindexed }) (Shape.sequence (Shape.unsigned 8)) (Data.sequence (values_of (Data.unsigned 1 ∷ Data.unsigned 2 ∷ []))) (codes "=1=2") None }
     ensures lists_in_a_list { IsReadAs (record default { array_format = unindexed }) (field (codes "v") (Shape.sequence (Shape.sequence (Shape.unsigned 8)))) (struct_with (codes "v") (Data.sequence (values_of (Data.sequence (values_of (Data.unsigned 1 ∷ Data.unsigned 2 ∷ [])) ∷ [])))) (codes "v=1&v=2") (Some (struct_with (codes "v") (Data.sequence (values_of (Data.sequence (values_of (Data.unsigned 1 ∷ [])) ∷ Data.sequence (values_of (Data.unsigned 2 ∷ [])) ∷ []))))) }
     ensures one_empty_text { IsReadAs (record default { array_format = unindexed }) (field (codes "v") (Shape.sequence Shape.text)) (struct_with (codes "v") (Data.sequence (values_of (Data.text [] ∷ [])))) (codes "v=") (Some (struct_with (codes "v") (Data.sequence (values_of [])))) }
     ensures one_empty_byte_string { IsReadAs (record default { array_format = unindexed }) (field (codes "v") (Shape.sequence Shape.bytes)) (struct_with (codes "v") (Data.sequence (values_of (Data.bytes [] ∷ [])))) (codes "v=") (Some (struct_with (codes "v") (Data.sequence (values_of [])))) }
+    ensures one_empty_text_in_a_tuple { IsReadAs (record default { array_format = unindexed }) (field (codes "v") (Shape.tuple (one_shape Shape.text no_shapes))) (struct_with (codes "v") (Data.tuple (values_of (Data.text [] ∷ [])))) (codes "v=") None }
+    ensures one_empty_text_in_a_variant { IsReadAs (record default { array_format = unindexed }) (field (codes "e") (Shape.enumeration (one_variant (codes "v") (tuple_kind (one_shape Shape.text no_shapes)) no_variants))) (struct_with (codes "e") (Data.tuple_variant (codes "v") (values_of (Data.text [] ∷ [])))) (codes "e[v]=") None }
+    ensures one_unit { IsReadAs (record default { array_format = unindexed }) (field (codes "v") (Shape.sequence Shape.unit)) (struct_with (codes "v") (Data.sequence (values_of (Data.unit ∷ [])))) (codes "v=") (Some (struct_with (codes "v") (Data.sequence (values_of [])))) }
+    ensures one_none { IsReadAs (record default { array_format = unindexed }) (field (codes "v") (Shape.sequence (Shape.option Shape.text))) (struct_with (codes "v") (Data.sequence (values_of (Data.none ∷ [])))) (codes "v") (Some (struct_with (codes "v") (Data.sequence (values_of [])))) }
     ensures at_the_top_in_brackets { IsReadAs (record default { array_format = empty_indexed }) (Shape.sequence Shape.text) (Data.sequence (values_of (Data.text [] ∷ []))) (codes "=") (Some (Data.sequence (values_of []))) }
     ensures lists_in_brackets { IsWritten (record default { array_format = empty_indexed }) (struct_with (codes "v") (Data.sequence (values_of (Data.sequence (values_of (Data.unsigned 1 ∷ Data.unsigned 2 ∷ [])) ∷ [])))) (codes "v[][]=1&v[][]=2") None
         × IsRefused false 5 (codes "v[][]=1&v[][]=2") }

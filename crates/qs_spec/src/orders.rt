@@ -7,17 +7,17 @@ ghost use Rattle.qs_spec.specs.Grammar.{Pair, ArePairs};
 ghost use Rattle.qs_spec.specs.History.{events};
 ghost use Rattle.qs_spec.specs.Tree.{node};
 ghost use Rattle.qs_spec.specs.Permutation.{IsReordering, KeepsOrder};
-ghost use Rattle.qs_spec.specs.Order.{meet, AreReordered, AreAlike, unmarked, unmarked_pair};
+ghost use Rattle.qs_spec.specs.Order.{overlap, AreReordered, AreAlike, unmarked, unmarked_pair};
 
 /// A permutation that keeps overlapping paths in order changes no history, and of the node at most marks.
 pub fn reordered_pairs()
-    ensures histories { (ps qs : List Pair) → IsReordering meet ps qs → (path : List Segment) → events ps path ≡ events qs path }
-    ensures nodes { (ps qs : List Pair) → IsReordering meet ps qs → unmarked (node ps) ≡ unmarked (node qs) }
+    ensures histories { (ps qs : List Pair) → IsReordering overlap ps qs → (path : List Segment) → events ps path ≡ events qs path }
+    ensures nodes { (ps qs : List Pair) → IsReordering overlap ps qs → unmarked (node ps) ≡ unmarked (node qs) }
 {}
 
 /// A permutation of indices that keeps overlapping paths in order is one by recursion too.
 pub fn orders_by_place()
-    ensures { (ps qs : List Pair) → KeepsOrder meet ps qs → IsReordering meet ps qs }
+    ensures { (ps qs : List Pair) → KeepsOrder overlap ps qs → IsReordering overlap ps qs }
 {}
 
 /// Inputs have equivalent trees, or both have none, if their pairs are, ignoring marks, permutations of one another that keep overlapping paths in order.
@@ -25,5 +25,5 @@ pub fn reordered_inputs()
     ensures by_places { (form : Bool) (depth : ℕ) (a b : List ℕ) (p : Pair) (ps qs : List Pair) → ArePairs depth (tokens form a) (p ∷ ps) → ArePairs depth (tokens form b) qs
         → AreReordered (p ∷ ps) qs → AreAlike form depth a b }
     ensures by_cases { (form : Bool) (depth : ℕ) (a b : List ℕ) (p : Pair) (ps qs : List Pair) → ArePairs depth (tokens form a) (p ∷ ps) → ArePairs depth (tokens form b) qs
-        → IsReordering meet (map unmarked_pair (p ∷ ps)) (map unmarked_pair qs) → AreAlike form depth a b }
+        → IsReordering overlap (map unmarked_pair (p ∷ ps)) (map unmarked_pair qs) → AreAlike form depth a b }
 {}

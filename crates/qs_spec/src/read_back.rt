@@ -1,17 +1,19 @@
 // Laws of reading back what was written.
 
-ghost use Rattle.std.specs.Prelude.{codes, [], ◌∷◌, ◌≡◌, ℕ, List, true, false, None};
+ghost use Rattle.std.specs.Prelude.{codes, [], ◌∷◌, ◌≡◌, ℕ, List, true, false, None, pos, neg_ℤ};
 ghost use Rattle.std.specs.List.Sorted.{IsPermutation};
 ghost use Rattle.qs_spec.specs.Config.{Config, default};
-ghost use Rattle.qs_spec.specs.Config.ArrayFormat.{indexed};
-ghost use Rattle.qs_spec.specs.Data.{Data, members_of, pairs_of, values_of};
-ghost use Rattle.qs_spec.specs.Plain.{is_plain};
-ghost use Rattle.qs_spec.specs.Shape.{Shape, KeyShape, newtype_kind, fields_of, variants_of, is_distinct};
+ghost use Rattle.qs_spec.specs.Config.ArrayFormat.{indexed, empty_indexed, unindexed};
+ghost use Rattle.qs_spec.specs.Data.{Data, Values, members_of, pairs_of, values_of};
+ghost use Rattle.qs_spec.specs.Plain.{is_plain, count, are_few};
+ghost use Rattle.qs_spec.specs.Shape.{Shape, KeyShape, no_shapes, one_shape, no_variants, one_variant, unit_kind, newtype_kind, tuple_kind, struct_kind, fields_of, variants_of, is_distinct};
 ghost use Rattle.qs_spec.specs.Shape.UnknownKeys.{ignored};
 ghost use Rattle.qs_spec.specs.Entry.{Entry, entries};
 ghost use Rattle.qs_spec.specs.Written.{written};
 ghost use Rattle.qs_spec.specs.Listed.{is_listed};
+ghost use Rattle.qs_spec.specs.Fits.{fits};
 ghost use Rattle.qs_spec.specs.Same.{Same};
+ghost use Rattle.qs_spec.specs.Worked.{struct_with, map_with};
 ghost use Rattle.qs_spec.specs.Tree.{Tree, IsTree};
 ghost use Rattle.qs_spec.specs.Stable.{is_stable};
 ghost use Rattle.qs_spec.specs.Relation.{ReadsBy};
@@ -76,4 +78,49 @@ pub fn data_that_are_not_plain()
     ensures one_text { is_plain false (Data.mapping (pairs_of ((Data.unsigned 1, Data.unit) ∷ (Data.text (codes "1"), Data.unit) ∷ []))) ≡ false }
     ensures bytes_key { is_plain false (Data.mapping (pairs_of ((Data.bytes (codes "a"), Data.unit) ∷ []))) ≡ false }
     ensures no_variant { is_plain false (Data.unit_variant []) ≡ false }
+    ensures one_name_in_a_variant { is_plain false (Data.struct_variant (codes "v") (members_of ((codes "a", Data.unit) ∷ (codes "a", Data.unit) ∷ []))) ≡ false }
+    ensures empty_variant { is_plain false (Data.struct_variant (codes "v") (members_of [])) ≡ false }
+    ensures empty_tuple_variant { is_plain false (Data.tuple_variant (codes "v") (values_of [])) ≡ false }
+    ensures empty_key { is_plain false (Data.mapping (pairs_of ((Data.text [], Data.unit) ∷ []))) ≡ false }
+    ensures unit_key { is_plain false (Data.mapping (pairs_of ((Data.unit, Data.unit) ∷ []))) ≡ false }
+    ensures zero_key { is_plain false (Data.mapping (pairs_of ((Data.text (codes "07"), Data.unit) ∷ []))) ≡ false }
+{}
+
+/// Which data of each kind fit a shape: numbers within its bits, Unicode scalar values, as many elements as a tuple has, fields in the order of the shape.
+pub fn data_that_fit()
+    ensures greatest { fits (Shape.unsigned 8) (Data.unsigned 255) ≡ true }
+    ensures too_great { fits (Shape.unsigned 8) (Data.unsigned 256) ≡ false }
+    ensures least { fits (Shape.signed 8) (Data.signed (neg_ℤ (pos 128))) ≡ true }
+    ensures too_small { fits (Shape.signed 8) (Data.signed (neg_ℤ (pos 129))) ≡ false }
+    ensures surrogate { fits Shape.character (Data.character 55296) ≡ false }
+    ensures last_character { fits Shape.character (Data.character 1114111) ≡ true }
+    ensures not_utf8 { fits Shape.text (Data.text (255 ∷ [])) ≡ false }
+    ensures bytes { fits Shape.bytes (Data.bytes (255 ∷ [])) ≡ true }
+    ensures tuple { fits (Shape.tuple (one_shape Shape.unit (one_shape Shape.boolean no_shapes))) (Data.tuple (values_of (Data.unit ∷ Data.boolean true ∷ []))) ≡ true }
+    ensures short_tuple { fits (Shape.tuple (one_shape Shape.unit (one_shape Shape.boolean no_shapes))) (Data.tuple (values_of (Data.unit ∷ []))) ≡ false }
+    ensures left_out { fits (Shape.struct ignored (fields_of ((codes "a", Shape.unit, true) ∷ (codes "b", Shape.unit, false) ∷ []))) (struct_with (codes "b") Data.unit) ≡ true }
+    ensures missing { fits (Shape.struct ignored (fields_of ((codes "a", Shape.unit, true) ∷ (codes "b", Shape.unit, false) ∷ []))) (struct_with (codes "a") Data.unit) ≡ false }
+    ensures keys { fits (Shape.mapping (KeyShape.signed 8) Shape.unit) (Data.mapping (pairs_of ((Data.signed (neg_ℤ (pos 5)), Data.unit) ∷ []))) ≡ true }
+    ensures key_of_a_character { fits (Shape.mapping KeyShape.character Shape.unit) (Data.mapping (pairs_of ((Data.character 233, Data.unit) ∷ []))) ≡ true }
+    ensures variants { fits (Shape.sequence (Shape.enumeration (one_variant (codes "a") unit_kind (one_variant (codes "b") (tuple_kind (one_shape Shape.unit no_shapes)) (one_variant (codes "c") (struct_kind ignored (fields_of ((codes "x", Shape.unit, false) ∷ []))) no_variants))))) (Data.sequence (values_of (Data.unit_variant (codes "a") ∷ Data.tuple_variant (codes "b") (values_of (Data.unit ∷ [])) ∷ Data.struct_variant (codes "c") (members_of ((codes "x", Data.unit) ∷ [])) ∷ []))) ≡ true }
+    ensures another_variant { fits (Shape.enumeration (one_variant (codes "a") unit_kind no_variants)) (Data.newtype_variant (codes "a") Data.unit) ≡ false }
+{}
+
+/// Where no index is written, lists have a path and hold scalars alone; without brackets, none is one empty text or byte string. In the indexed format they may be any.
+pub fn listed_data()
+    ensures indexed { is_listed indexed false (Data.sequence (values_of (Data.sequence (values_of (Data.none ∷ [])) ∷ []))) ≡ true }
+    ensures at_the_top { is_listed empty_indexed false (Data.tuple (values_of [])) ≡ false }
+    ensures in_a_field { is_listed unindexed false (struct_with (codes "a") (Data.some (Data.sequence (values_of (Data.unsigned 1 ∷ Data.unit_variant (codes "v") ∷ []))))) ≡ true }
+    ensures in_a_variant { is_listed unindexed false (Data.newtype_variant (codes "v") (Data.newtype (Data.sequence (values_of [])))) ≡ true }
+    ensures under_a_key { is_listed empty_indexed false (map_with (codes "k") (Data.tuple (values_of (Data.text [] ∷ [])))) ≡ true }
+    ensures of_units { is_listed empty_indexed false (Data.tuple_variant (codes "v") (values_of (Data.unit ∷ []))) ≡ false }
+    ensures of_options { is_listed unindexed false (struct_with (codes "a") (Data.sequence (values_of (Data.some (Data.unsigned 1) ∷ [])))) ≡ false }
+    ensures one_empty_text { is_listed unindexed false (Data.tuple_variant (codes "v") (values_of (Data.text [] ∷ []))) ≡ false }
+    ensures two_empty_texts { is_listed unindexed false (Data.tuple_variant (codes "v") (values_of (Data.text [] ∷ Data.bytes [] ∷ []))) ≡ true }
+{}
+
+/// A list has at most 4,294,967,295 elements, since so many have an index. A law, since no list of that length is written out here.
+pub fn lists_within_the_indices()
+    ensures as_many { (ds : Values) → count ds ≡ 4294967295 → are_few ds ≡ true }
+    ensures one_more { (ds : Values) → count ds ≡ 4294967296 → are_few ds ≡ false }
 {}

@@ -1,8 +1,13 @@
 // Worked shapes: what they read from inputs.
 
-ghost use Rattle.std.specs.Prelude.{true, false, codes, [], ◌∷◌, Some, None, pos, neg_ℤ};
+ghost use Rattle.std.specs.Prelude.{◌≡◌, true, false, codes, [], ◌∷◌, Some, None, pos, neg_ℤ};
 ghost use Rattle.qs_spec.specs.Config.{default, reject};
-ghost use Rattle.qs_spec.specs.Shape.{Shape, no_fields, one_field, no_shapes, one_shape, no_variants, one_variant, unit_kind, newtype_kind, tuple_kind, struct_kind, KeyShape};
+ghost use Rattle.qs_spec.specs.Segment.Segment.{Int};
+ghost use Rattle.qs_spec.specs.Leaf.Leaf.{Null};
+ghost use Rattle.qs_spec.specs.Tree.Tree.{leaf};
+ghost use Rattle.qs_spec.specs.Tree.Entries.{entry, no_entries};
+ghost use Rattle.qs_spec.specs.Node.{placed};
+ghost use Rattle.qs_spec.specs.Shape.{Shape, is_distinct, fields_of, no_fields, one_field, no_shapes, one_shape, no_variants, one_variant, unit_kind, newtype_kind, tuple_kind, struct_kind, KeyShape};
 ghost use Rattle.qs_spec.specs.Shape.UnknownKeys.{ignored, rejected};
 ghost use Rattle.qs_spec.specs.Data.{Data, values_of, pairs_of, members_of};
 ghost use Rattle.qs_spec.specs.Worked.{field, struct_with, IsRead};
@@ -24,6 +29,7 @@ pub fn options()
     ensures number { IsRead default (field (codes "a") (Shape.option (Shape.unsigned 8))) (codes "a=") None }
     ensures some_of_nothing { IsRead default (field (codes "a") (Shape.option Shape.any)) (codes "a=") (Some (struct_with (codes "a") (Data.some Data.unit))) }
     ensures some_of_a_sequence { IsRead default (field (codes "a") (Shape.option Shape.text)) (codes "a&a=x") (Some (struct_with (codes "a") (Data.some (Data.text (codes "x"))))) }
+    ensures nothing_at_all { IsRead default (Shape.option Shape.any) (codes "&") None }
 {}
 
 /// A field is found by the text of its key: twice is rejected, other keys are ignored where they are texts, and an optional field is left out.
@@ -81,6 +87,10 @@ pub fn items_by_place()
     ensures any_order { IsRead default (field (codes "v") (Shape.sequence (Shape.unsigned 8))) (codes "v[1]=2&v[0]=1") (Some (struct_with (codes "v") (Data.sequence (values_of (Data.unsigned 1 ∷ Data.unsigned 2 ∷ []))))) }
     ensures nothing { IsRead default (field (codes "v") (Shape.sequence (Shape.unsigned 8))) (codes "v=") (Some (struct_with (codes "v") (Data.sequence (values_of [])))) }
     ensures a_text { IsRead default (field (codes "v") (Shape.sequence (Shape.unsigned 8))) (codes "v=7") (Some (struct_with (codes "v") (Data.sequence (values_of (Data.unsigned 7 ∷ []))))) }
+    ensures beyond_the_end { IsRead default (field (codes "v") (Shape.tuple (one_shape (Shape.unsigned 8) (one_shape (Shape.unsigned 8) no_shapes)))) (codes "v=7") None }
+    ensures another_map { IsRead default (field (codes "v") (Shape.sequence (Shape.unsigned 8))) (codes "v[a]=1") None }
+    ensures last_place { placed 4294967294 (entry (Int 4294967294) false (leaf Null) no_entries) ≡ Some (leaf Null) ∷ [] }
+    ensures beyond_the_last_place { placed 4294967295 (entry (Int 4294967295) false (leaf Null) no_entries) ≡ None ∷ [] }
 {}
 
 /// The smallest key of a map names the variant, whatever comes first in the input.
@@ -116,6 +126,15 @@ pub fn maps()
     ensures listed_key { IsRead default (field (codes "m") (Shape.mapping (KeyShape.variants (codes "a" ∷ codes "b" ∷ [])) Shape.text)) (codes "m[b]=y")
         (Some (struct_with (codes "m") (Data.mapping (pairs_of ((Data.unit_variant (codes "b"), Data.text (codes "y")) ∷ []))))) }
     ensures key_is_no_text { IsRead default (field (codes "m") (Shape.mapping KeyShape.text Shape.text)) (codes "m[%FF]=y") None }
+    ensures boolean_key { IsRead default (field (codes "m") (Shape.mapping (KeyShape.boolean) Shape.text)) (codes "m[true]=x") (Some (struct_with (codes "m") (Data.mapping (pairs_of ((Data.boolean true, Data.text (codes "x")) ∷ []))))) }
+    ensures signed_key { IsRead default (field (codes "m") (Shape.mapping (KeyShape.signed 8) Shape.text)) (codes "m[-5]=x") (Some (struct_with (codes "m") (Data.mapping (pairs_of ((Data.signed (neg_ℤ (pos 5)), Data.text (codes "x")) ∷ []))))) }
+    ensures signed_key_without_a_sign { IsRead default (field (codes "m") (Shape.mapping (KeyShape.signed 8) Shape.text)) (codes "m[5]=x") (Some (struct_with (codes "m") (Data.mapping (pairs_of ((Data.signed (pos 5), Data.text (codes "x")) ∷ []))))) }
+    ensures key_beyond_its_bits { IsRead default (field (codes "m") (Shape.mapping (KeyShape.signed 8) Shape.text)) (codes "m[128]=x") None }
+    ensures character_key { IsRead default (field (codes "m") (Shape.mapping (KeyShape.character) Shape.text)) (codes "m[%C3%A9]=x") (Some (struct_with (codes "m") (Data.mapping (pairs_of ((Data.character 233, Data.text (codes "x")) ∷ []))))) }
+    ensures digit_as_a_character { IsRead default (field (codes "m") (Shape.mapping (KeyShape.character) Shape.text)) (codes "m[7]=x") (Some (struct_with (codes "m") (Data.mapping (pairs_of ((Data.character 55, Data.text (codes "x")) ∷ []))))) }
+    ensures two_characters { IsRead default (field (codes "m") (Shape.mapping (KeyShape.character) Shape.text)) (codes "m[ab]=x") None }
+    ensures key_that_is_not_listed { IsRead default (field (codes "m") (Shape.mapping (KeyShape.variants (codes "a" ∷ codes "b" ∷ [])) Shape.text)) (codes "m[c]=y") None }
+    ensures keys_of_one_text { IsRead default (field (codes "m") (Shape.mapping (KeyShape.text) Shape.text)) (codes "m[1]=x&m[%31]=y") (Some (struct_with (codes "m") (Data.mapping (pairs_of ((Data.text (codes "1"), Data.text (codes "x")) ∷ (Data.text (codes "1"), Data.text (codes "y")) ∷ []))))) }
 {}
 
 /// Anything is a list where all keys are indices, and else a map of texts.
@@ -138,6 +157,8 @@ pub fn small_shapes()
     ensures two_characters { IsRead default (field (codes "c") Shape.character) (codes "c=ab") None }
     ensures ignored { IsRead default (field (codes "i") Shape.ignored) (codes "i[x]=%FF") (Some (struct_with (codes "i") Data.unit)) }
     ensures newtype { IsRead default (field (codes "n") (Shape.newtype (Shape.unsigned 8))) (codes "n=7") (Some (struct_with (codes "n") (Data.newtype (Data.unsigned 7)))) }
+    ensures unit_alone { IsRead default (field (codes "u") (Shape.unit)) (codes "u") (Some (struct_with (codes "u") (Data.unit))) }
+    ensures several_characters { IsRead default (field (codes "c") (Shape.character)) (codes "c=a&c=b") None }
 {}
 
 /// A text names a unit variant; a key names any variant, and what it holds is read by its kind.
@@ -152,4 +173,23 @@ pub fn kinds_of_variants()
         (Some (struct_with (codes "e") (Data.struct_variant (codes "c") (members_of [])))) }
     ensures struct_field_of_a_text { IsRead default (field (codes "e") (Shape.enumeration (one_variant (codes "c") (struct_kind ignored (one_field [] Shape.text false no_fields)) no_variants))) (codes "e[c]=v")
         (Some (struct_with (codes "e") (Data.struct_variant (codes "c") (members_of (([], Data.text (codes "v")) ∷ []))))) }
+    ensures struct_of_a_map { IsRead default (field (codes "e") (Shape.enumeration (one_variant (codes "c") (struct_kind ignored (one_field (codes "x") (Shape.unsigned 8) false (one_field (codes "y") (Shape.unsigned 8) false no_fields))) no_variants))) (codes "e[c][y]=2&e[c][x]=1") (Some (struct_with (codes "e") (Data.struct_variant (codes "c") (members_of ((codes "x", Data.unsigned 1) ∷ (codes "y", Data.unsigned 2) ∷ []))))) }
+    ensures struct_of_a_sequence { IsRead default (field (codes "e") (Shape.enumeration (one_variant (codes "c") (struct_kind ignored (one_field (codes "x") (Shape.unsigned 8) false (one_field (codes "y") (Shape.unsigned 8) false no_fields))) no_variants))) (codes "e[c]=1&e[c]=2") (Some (struct_with (codes "e") (Data.struct_variant (codes "c") (members_of ((codes "x", Data.unsigned 1) ∷ (codes "y", Data.unsigned 2) ∷ []))))) }
+    ensures struct_of_a_short_sequence { IsRead default (field (codes "e") (Shape.enumeration (one_variant (codes "c") (struct_kind ignored (one_field (codes "x") (Shape.unsigned 8) false (one_field (codes "y") (Shape.unsigned 8) true no_fields))) no_variants))) (codes "e[c][]=1") (Some (struct_with (codes "e") (Data.struct_variant (codes "c") (members_of ((codes "x", Data.unsigned 1) ∷ []))))) }
+    ensures struct_beyond_the_end { IsRead default (field (codes "e") (Shape.enumeration (one_variant (codes "c") (struct_kind ignored (one_field (codes "x") (Shape.unsigned 8) false (one_field (codes "y") (Shape.unsigned 8) false no_fields))) no_variants))) (codes "e[c][]=1") None }
+    ensures struct_of_nothing { IsRead default (field (codes "e") (Shape.enumeration (one_variant (codes "c") (struct_kind ignored (one_field (codes "x") (Shape.unsigned 8) false (one_field (codes "y") (Shape.unsigned 8) false no_fields))) no_variants))) (codes "e[c]=") None }
+    ensures tuple_beyond_the_end { IsRead default (field (codes "e") (Shape.enumeration (one_variant (codes "d") (tuple_kind (one_shape (Shape.unsigned 8) (one_shape (Shape.unsigned 8) no_shapes))) no_variants))) (codes "e[d]=1") None }
+    ensures nothing { IsRead default (field (codes "e") (Shape.enumeration (one_variant (codes "a") unit_kind no_variants))) (codes "e=") None }
+    ensures no_value { IsRead default (field (codes "e") (Shape.enumeration (one_variant (codes "a") unit_kind no_variants))) (codes "e") None }
+    ensures several { IsRead default (field (codes "e") (Shape.enumeration (one_variant (codes "a") unit_kind no_variants))) (codes "e=a&e=a") None }
+{}
+
+/// The names of the fields differ in a struct and in a struct variant, those of the variants in an enum and in the shape of a key, wherever they are in a shape.
+pub fn distinct_shapes()
+    ensures struct_fields { is_distinct (Shape.struct ignored (fields_of ((codes "a", Shape.unit, false) ∷ (codes "a", Shape.text, true) ∷ []))) ≡ false }
+    ensures struct_variant { is_distinct (Shape.enumeration (one_variant (codes "v") (struct_kind ignored (fields_of ((codes "a", Shape.unit, false) ∷ (codes "a", Shape.unit, false) ∷ []))) no_variants)) ≡ false }
+    ensures variants { is_distinct (Shape.enumeration (one_variant (codes "v") unit_kind (one_variant (codes "v") (newtype_kind Shape.unit) no_variants))) ≡ false }
+    ensures names_of_a_key { is_distinct (Shape.mapping (KeyShape.variants (codes "a" ∷ codes "b" ∷ codes "a" ∷ [])) Shape.unit) ≡ false }
+    ensures within_others { is_distinct (Shape.option (Shape.sequence (Shape.tuple (one_shape Shape.unit (one_shape (Shape.mapping KeyShape.text (Shape.newtype (Shape.enumeration (one_variant (codes "v") unit_kind (one_variant (codes "v") unit_kind no_variants))))) no_shapes))))) ≡ false }
+    ensures one_name_at_two_places { is_distinct (Shape.struct ignored (fields_of ((codes "a", Shape.struct ignored (fields_of ((codes "a", Shape.unit, false) ∷ [])), false) ∷ (codes "b", Shape.enumeration (one_variant (codes "b") unit_kind no_variants), false) ∷ []))) ≡ true }
 {}

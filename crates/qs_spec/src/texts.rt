@@ -1,9 +1,10 @@
 // Worked texts: what is written of data.
 
-ghost use Rattle.std.specs.Prelude.{codes, [], ◌∷◌, Some, None, true, false, pos, neg_ℤ};
+ghost use Rattle.std.specs.Prelude.{◌≡◌, codes, [], ◌++◌, ◌∷◌, Some, None, true, false, pos, neg_ℤ};
 ghost use Rattle.qs_spec.specs.Config.{default, empty_indexed, unindexed};
 ghost use Rattle.qs_spec.specs.Data.{Data, values_of, pairs_of, members_of};
-ghost use Rattle.qs_spec.specs.Entry.{too_deep, bad_key};
+ghost use Rattle.qs_spec.specs.Entry.{entries, too_deep, bad_key};
+ghost use Rattle.qs_spec.specs.Written.{written, started_after};
 ghost use Rattle.qs_spec.specs.Worked.{struct_with, IsWritten};
 
 /// What is nested deeper than the limit is rejected, and the entries before it are written.
@@ -25,6 +26,8 @@ pub fn array_formats()
     ensures indexed { IsWritten default (Data.sequence (values_of (Data.unsigned 1 ∷ Data.unsigned 2 ∷ []))) (codes "0=1&1=2") None }
     ensures empty_indexed { IsWritten (record default { array_format = empty_indexed }) (Data.sequence (values_of (Data.unsigned 1 ∷ Data.unsigned 2 ∷ []))) (codes "=1&=2") None }
     ensures unindexed { IsWritten (record default { array_format = unindexed }) (Data.sequence (values_of (Data.unsigned 1 ∷ Data.unsigned 2 ∷ []))) (codes "=1=2") None }
+    ensures tuple_variant { IsWritten (record default { array_format = empty_indexed }) (struct_with (codes "e") (Data.tuple_variant (codes "d") (values_of (Data.unsigned 1 ∷ Data.unsigned 2 ∷ [])))) (codes "e[d][]=1&e[d][]=2") None }
+    ensures lists_in_a_list { IsWritten (record default { array_format = unindexed }) (struct_with (codes "v") (Data.sequence (values_of (Data.tuple (values_of (Data.unsigned 1 ∷ Data.unsigned 2 ∷ [])) ∷ [])))) (codes "v=1&v=2") None }
 {}
 
 /// A unit variant is written as its name, and any other variant under its name as a key.
@@ -41,6 +44,8 @@ pub fn optional_values()
     ensures some { IsWritten default (struct_with (codes "vec") (Data.some (Data.sequence (values_of (Data.unsigned 1 ∷ Data.unsigned 2 ∷ []))))) (codes "vec[0]=1&vec[1]=2") None }
     ensures empty { IsWritten default (struct_with (codes "vec") (Data.sequence (values_of []))) (codes "vec=") None }
     ensures percent { IsWritten default (struct_with (codes "name") (Data.text (codes "%41"))) (codes "name=%2541") None }
+    ensures empty_tuple { IsWritten default (struct_with (codes "vec") (Data.tuple (values_of []))) (codes "vec=") None }
+    ensures empty_map { IsWritten default (struct_with (codes "vec") (Data.mapping (pairs_of []))) (codes "vec=") None }
 {}
 
 /// A map's key is a scalar other than unit, which is tested before the depth.
@@ -66,4 +71,17 @@ pub fn parts_without_fields()
     ensures struct_alone { IsWritten default (struct_with (codes "s") (Data.struct (members_of []))) [] None }
     ensures variant { IsWritten default (struct_with (codes "e") (Data.struct_variant (codes "c") (members_of []))) [] None }
     ensures variant_too_deep { IsWritten (record default { max_depth = 0 }) (struct_with (codes "e") (Data.struct_variant (codes "c") (members_of []))) [] (Some too_deep) }
+    ensures tuple_variant { IsWritten default (struct_with (codes "e") (Data.tuple_variant (codes "d") (values_of []))) [] None }
+{}
+
+/// An entry with a key has `&` in front of it exactly where one with a key was written before; an empty key is a key.
+pub fn entries_after_others()
+    ensures after_a_key { written false true (entries default (struct_with (codes "b") (Data.unsigned 2))).entries ≡ codes "&b=2" }
+    ensures without_a_key { written false true (entries default (Data.unsigned 2)).entries ≡ codes "=2" }
+    ensures after_no_key { written false false ((entries default (Data.unsigned 1)).entries ++ (entries default (struct_with (codes "a") (Data.unsigned 2))).entries) ≡ codes "=1a=2" }
+    ensures empty_keys { IsWritten default (Data.struct (members_of (([], Data.unsigned 1) ∷ (codes "a", struct_with [] (Data.unsigned 2)) ∷ []))) (codes "=1&a[]=2") None }
+    ensures started_by_a_key { started_after false (entries default (struct_with [] Data.none)).entries ≡ true }
+    ensures started_by_no_key { started_after false (entries default Data.unit).entries ≡ false }
+    ensures started_before { started_after true [] ≡ true }
+    ensures after_a_key_and_none { written false false ((entries default (struct_with (codes "a") (Data.unsigned 1))).entries ++ ((entries default (Data.unsigned 2)).entries ++ (entries default (struct_with (codes "b") (Data.unsigned 3))).entries)) ≡ codes "a=1=2&b=3" }
 {}

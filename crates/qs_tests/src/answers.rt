@@ -1,7 +1,7 @@
-//! What the program answers.
+//! What the program prints.
 
 mod trees;
 mod typed;
 
 pub use trees::trees;
-pub use typed::rewritten;
+pub use typed::{Question, answer_about};

@@ -16,14 +16,17 @@ impl<'r, R: Abort> Build<'r, R> {
         Build { rt, alloc }
     }
 
+    // The data in a box.
     fn boxed<T: Drop>(&self, value: T) -> Box<T> {
         Box::new(self.alloc, value).expect(self.rt, "memory")
     }
 
+    // The items as a vector.
     fn vec<T: Drop, const N: usize>(&self, values: [T; N]) -> Vec<T> {
         Vec::from_array(self.alloc, values).expect(self.rt, "memory")
     }
 
+    // The text as a string.
     fn name(&self, name: &str) -> String {
         String::from_str(self.alloc, name).expect(self.rt, "memory")
     }

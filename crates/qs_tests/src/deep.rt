@@ -25,6 +25,7 @@ fn deeper<R: Abort>(b: &Build<'_, R>, level: usize, inner: Data) -> Data {
     }
 }
 
+// The data below as many levels, of each kind in turn.
 fn deep<R: Abort>(b: &Build<'_, R>, levels: usize, bottom: Data) -> Data {
     let mut datum = bottom;
     for level in 0..levels {
@@ -33,6 +34,7 @@ fn deep<R: Abort>(b: &Build<'_, R>, levels: usize, bottom: Data) -> Data {
     datum
 }
 
+// The data in as many options.
 fn deep_option<R: Abort>(b: &Build<'_, R>, levels: usize, bottom: Data) -> Data {
     let mut datum = bottom;
     for _ in 0..levels {
@@ -41,6 +43,7 @@ fn deep_option<R: Abort>(b: &Build<'_, R>, levels: usize, bottom: Data) -> Data 
     datum
 }
 
+// The data as the first item of as many lists.
 fn deep_list<R: Abort>(b: &Build<'_, R>, levels: usize, bottom: Data) -> Data {
     let mut datum = bottom;
     for _ in 0..levels {

@@ -73,6 +73,11 @@ fn makes_errors(rt: HostRuntime) -> Result<(), Fail> {
             ),
             "missing index, expected: 1 got 2",
         ),
+        (Error::custom(alloc, "m", &1u8), "m"),
+        (
+            Error::parse_err(alloc, "m", 3),
+            "parsing failed with error: 'm' at position: 3",
+        ),
         (
             Error::parse_err(alloc, "query string ended before expected", 3),
             "parsing failed with error: 'query string ended before expected' at position: 3",

@@ -1,7 +1,7 @@
 //! Bytes escaped, and what escaped bytes are decoded to.
 ghost use Rattle.std.specs.Prelude.{◌<◌, IfSome};
 
-use qs_tree::{decode, encode};
+use qs_tree::{decode, encode, encode_to};
 use std::alloc::{AllocError, Global};
 use std::borrow::CowSlice;
 use std::test::Fail;
@@ -33,6 +33,14 @@ fn escaped_after_what_is_there(rt: HostRuntime) -> Result<(), Fail> {
     encode(b"1 2", false, &mut out)?;
     assert_eq!(rt; out.as_slice(), b"x=1+2".as_slice());
     Ok(())
+}
+
+#[test]
+fn escaped_into_room(rt: HostRuntime) {
+    let mut room = *b"********";
+    let end = encode_to(b"1 &", false, &mut room, 1);
+    assert_eq!(rt; end, 6);
+    assert_eq!(rt; room.as_slice(), b"*1+%26**".as_slice());
 }
 
 #[test]
@@ -99,6 +107,7 @@ fn read_back(rt: HostRuntime) -> Result<(), Fail> {
     Ok(())
 }
 
+// The value of a hexadecimal digit.
 fn hexadecimal_digit(byte: u8) -> Option<u8>
     ensures { IfSome result (λ digit. digit < 16) }
 {
@@ -110,7 +119,7 @@ fn hexadecimal_digit(byte: u8) -> Option<u8>
     }
 }
 
-/// What `%` and these two bytes stand for.
+/// What `%` and these two bytes are decoded to.
 pub fn decoded(alloc: Global, first: u8, second: u8) -> Result<Vec<u8>, AllocError> {
     match (hexadecimal_digit(first), hexadecimal_digit(second)) {
         (Some(high), Some(low)) => Vec::from_slice(alloc, &[high * 16 + low]),

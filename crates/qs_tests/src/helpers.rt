@@ -7,7 +7,7 @@ use serde_qs::helpers::{comma_separated, pipe_delimited, space_delimited};
 use serde_qs::{Config, Data, Deserializer, Result, Shape};
 use std::process::Abort;
 
-/// The text of this field, and no other field.
+// The text of this field, and no other field.
 fn text_of<R: Abort>(b: &Build<'_, R>, input: &str, name: &str) -> Data {
     let shape = b.field(name, Shape::Text);
     assert!(b.rt; shape.is_distinct());
@@ -21,6 +21,7 @@ fn text_of<R: Abort>(b: &Build<'_, R>, input: &str, name: &str) -> Data {
     }
 }
 
+// The items that were read are these.
 fn are<R: Abort, T: PartialEq + Drop>(b: &Build<'_, R>, read: Result<Vec<T>>, wanted: &[T]) {
     let read = read.expect(b.rt, "a list");
     assert!(b.rt; read.as_slice() == wanted);
@@ -84,13 +85,18 @@ fn spaces(rt: HostRuntime) {
     for (word, wanted) in read.iter().zip(["hello", "world"]) {
         assert_eq!(&rt; word.as_str(), wanted);
     }
-    let text = text_of(b, "values=1%202%203", "values");
-    let numbers = [1u8, 2, 3].as_slice();
-    are(
-        b,
-        space_delimited::deserialize::<u8>(b.alloc, text),
-        numbers,
-    );
-    let data = space_delimited::serialize(b.alloc, numbers).expect(&rt, "memory");
-    writes(b, Config::new(), &b.one("values", data), "values=1+2+3");
+    let rows = [
+        ("values=1%202%203", "values=1+2+3", [1u8, 2, 3].as_slice()),
+        ("values=", "values=", &[]),
+    ];
+    for (input, written, numbers) in rows {
+        let text = text_of(b, input, "values");
+        are(
+            b,
+            space_delimited::deserialize::<u8>(b.alloc, text),
+            numbers,
+        );
+        let data = space_delimited::serialize(b.alloc, numbers).expect(&rt, "memory");
+        writes(b, Config::new(), &b.one("values", data), written);
+    }
 }

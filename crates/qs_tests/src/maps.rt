@@ -10,10 +10,12 @@ const DROPPED: usize = 100_000;
 // What is compared is compared by calls, level by level.
 const COMPARED: usize = 2_000;
 
+// A borrowed text.
 fn text(bytes: &'static [u8]) -> ParsedValue<'static> {
     ParsedValue::String(CowSlice::Borrowed(bytes))
 }
 
+// An owned string key.
 fn owned<'a>(alloc: Global, bytes: &[u8]) -> Result<Key<'a>, AllocError> {
     Ok(Key::String(CowSlice::Owned(Vec::from_slice(alloc, bytes)?)))
 }
@@ -100,7 +102,7 @@ fn a_value_alone_is_borrowed(rt: HostRuntime) -> Result<(), Fail> {
     Ok(())
 }
 
-/// An input of maps in one another, with a leaf at the bottom and one more in the outermost.
+// An input of maps in one another, with a leaf at the bottom and one more in the outermost.
 fn nested(alloc: Global, levels: usize, end: &'static str) -> Result<Vec<u8>, AllocError> {
     let mut input = Vec::from_slice(alloc, b"a")?;
     for _ in 0..levels {
@@ -122,7 +124,7 @@ fn deep_maps_are_dropped(rt: HostRuntime) -> Result<(), Fail> {
     Ok(())
 }
 
-/// Whether two inputs have one tree, ownership aside.
+// Whether two inputs have one tree, ownership aside.
 fn have_one_tree<'a>(alloc: Global, input: &'a [u8], other: &'a [u8]) -> Result<bool, Fail> {
     let config = Config::new().max_depth(COMPARED);
     let tree = parse(alloc, input, config)?;
@@ -141,7 +143,7 @@ fn deep_maps_are_compared(rt: HostRuntime) -> Result<(), Fail> {
     Ok(())
 }
 
-/// Sequences in one another.
+// Sequences in one another.
 fn nested_items(
     alloc: Global,
     levels: usize,

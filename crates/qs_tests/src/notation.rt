@@ -8,26 +8,28 @@ use qs_tree::decode;
 use serde_qs::{Data, Field, KeyShape, Shape, Variant, VariantKind};
 use std::process::Abort;
 
-/// What a text with escapes stands for.
+// What a text with escapes is decoded to.
 fn bytes<R: Abort>(b: &Build<'_, R>, text: &str) -> Vec<u8> {
     let decoded = decode(b.alloc, text.as_bytes()).expect(b.rt, "memory");
     Vec::from_slice(b.alloc, decoded.as_slice()).expect(b.rt, "memory")
 }
 
+// The text of a word, decoded.
 fn string<R: Abort>(b: &Build<'_, R>, text: &str) -> String {
     String::from_utf8(bytes(b, text)).expect(b.rt, "UTF-8")
 }
 
-/// The last one.
+// The last one.
 fn part<R: Abort, T: Drop>(b: &Build<'_, R>, parts: &mut Vec<T>) -> T {
     parts.pop().expect(b.rt, "a part")
 }
 
+// The last one in a box.
 fn boxed<R: Abort, T: Drop>(b: &Build<'_, R>, parts: &mut Vec<T>) -> Box<T> {
     Box::new(b.alloc, part(b, parts)).expect(b.rt, "memory")
 }
 
-/// As many as the text says, from the last one on.
+// As many as the text says, from the last one on.
 fn counted<R: Abort, T: Drop>(b: &Build<'_, R>, count: &str, parts: &mut Vec<T>) -> Vec<T> {
     let mut counted = Vec::new(b.alloc);
     for _ in 0..count.parse::<u32>().expect(b.rt, "a count") {
@@ -37,7 +39,7 @@ fn counted<R: Abort, T: Drop>(b: &Build<'_, R>, count: &str, parts: &mut Vec<T>)
     counted
 }
 
-/// A field for each name, with the shapes from the last one on.
+// A field for each name, with the shapes from the last one on.
 fn fields<R: Abort>(b: &Build<'_, R>, names: &str, shapes: &mut Vec<Shape>) -> Vec<Field> {
     let mut fields = Vec::new(b.alloc);
     for word in names.split(':').filter(|word| !word.is_empty()) {
@@ -51,6 +53,7 @@ fn fields<R: Abort>(b: &Build<'_, R>, names: &str, shapes: &mut Vec<Shape>) -> V
     fields
 }
 
+// The shape of a key of that name.
 fn key<R: Abort>(b: &Build<'_, R>, word: &str) -> KeyShape {
     match word {
         "Bool" => KeyShape::Bool,
@@ -75,7 +78,7 @@ fn key<R: Abort>(b: &Build<'_, R>, word: &str) -> KeyShape {
     }
 }
 
-/// The kind of a variant, and its name.
+// The kind of a variant, and its name.
 fn variant<R: Abort>(
     b: &Build<'_, R>,
     kind: &str,
@@ -93,7 +96,7 @@ fn variant<R: Abort>(
     Some(b.variant(string(b, name).as_str(), kind))
 }
 
-/// The shape of a scalar.
+// The shape of a scalar.
 fn scalar<R: Abort>(b: &Build<'_, R>, word: &str) -> Shape {
     match word {
         "Unit" => Shape::Unit,
@@ -138,7 +141,7 @@ pub fn shape<R: Abort>(b: &Build<'_, R>, words: &str) -> Shape {
     part(b, &mut shapes)
 }
 
-/// A member for each name, with the data from the last one on.
+// A member for each name, with the data from the last one on.
 fn members<R: Abort>(b: &Build<'_, R>, names: &str, data: &mut Vec<Data>) -> Vec<(String, Data)> {
     let mut members = Vec::new(b.alloc);
     for name in names.split(':').filter(|name| !name.is_empty()) {
@@ -148,7 +151,7 @@ fn members<R: Abort>(b: &Build<'_, R>, names: &str, data: &mut Vec<Data>) -> Vec
     members
 }
 
-/// As many keys, each with its value, as the text says.
+// As many keys, each with its value, as the text says.
 fn pairs<R: Abort>(b: &Build<'_, R>, count: &str, data: &mut Vec<Data>) -> Vec<(Data, Data)> {
     let mut pairs = Vec::new(b.alloc);
     for _ in 0..count.parse::<u32>().expect(b.rt, "a count") {
@@ -158,7 +161,7 @@ fn pairs<R: Abort>(b: &Build<'_, R>, count: &str, data: &mut Vec<Data>) -> Vec<(
     pairs
 }
 
-/// A variant that holds something.
+// A variant that holds something.
 fn holding<R: Abort>(b: &Build<'_, R>, kind: &str, rest: &str, data: &mut Vec<Data>) -> Data {
     let (name, parts) = rest.split_once(':').unwrap_or((rest, ""));
     let name = string(b, name);

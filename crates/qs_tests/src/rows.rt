@@ -5,7 +5,7 @@ use serde_qs::{Config, Data, Deserializer, DuplicateKeyBehavior, Error, Result, 
 use std::alloc::Global;
 use std::process::Abort;
 
-/// What is said after the fault of a key that holds a bracket.
+/// What is printed after the error of a key that holds a bracket.
 const HINT: &str =
     "\nInvalid field contains an encoded bracket -- consider using form encoding mode\n  https://docs.rs/serde_qs/latest/serde_qs/#query-string-vs-form-encoding";
 
@@ -25,6 +25,7 @@ impl<'r, R: Abort> Rows<'r, R> {
         }
     }
 
+    // The same under another configuration.
     fn with(&self, config: Config) -> Self {
         let rt = self.build.rt;
         let alloc = self.build.alloc;
@@ -54,6 +55,7 @@ impl<'r, R: Abort> Rows<'r, R> {
         self.with(config)
     }
 
+    // What the shape reads from the input.
     fn read(&self, input: &str, shape: &Shape) -> Result<Data> {
         let rt = self.build.rt;
         let alloc = self.build.alloc;

@@ -1,6 +1,7 @@
 //! Searches held against a plain loop, at every length up to 100 and every place.
 
 use qs_tree::{encode, find_ampersand, find_encoded, find_escape};
+use std::process::Abort;
 use std::test::Fail;
 
 /// What is searched for.
@@ -19,7 +20,7 @@ const CLASSES: [Class; 4] = [
 ];
 
 impl Class {
-    /// The search's answer.
+    // What the search returns.
     fn find(self, bytes: &[u8]) -> Option<usize> {
         match self {
             Class::Escape => find_escape(bytes),
@@ -28,7 +29,7 @@ impl Class {
         }
     }
 
-    /// The plain loop's answer.
+    // What the plain loop returns.
     fn find_plainly(self, bytes: &[u8]) -> Option<usize> {
         for (place, byte) in bytes.iter().enumerate() {
             if self.has(*byte) {
@@ -38,6 +39,7 @@ impl Class {
         None
     }
 
+    // Whether the byte is of the class.
     fn has(self, byte: u8) -> bool {
         match self {
             Class::Escape => byte == b'+' || byte == b'%',
@@ -54,6 +56,17 @@ impl Class {
     }
 }
 
+// The search for each class returns what the plain one does.
+fn agree<R: Abort>(rt: &R, bytes: &[u8]) {
+    for class in CLASSES {
+        assert_eq!(rt;
+            class.find(bytes),
+            class.find_plainly(bytes),
+            "{class:?} in {bytes:?}"
+        );
+    }
+}
+
 #[test]
 fn each_place(rt: HostRuntime) -> Result<(), Fail> {
     let mut bytes = Vec::new(rt.alloc());
@@ -64,10 +77,7 @@ fn each_place(rt: HostRuntime) -> Result<(), Fail> {
         for place in 0..bytes.len() {
             for byte in [b'+', b'%', b'&', b'[', b' '] {
                 bytes[place] = byte;
-                for class in CLASSES {
-                    let wanted = class.find_plainly(&bytes);
-                    assert_eq!(rt; class.find(&bytes), wanted, "{class:?} in {len}");
-                }
+                agree(&rt, &bytes);
             }
             bytes[place] = b'a';
         }

@@ -19,7 +19,7 @@ pub enum Texts {
 
 /// What is still to be written.
 #[derive(Clone, Copy)]
-enum Piece<'t, 'qs> {
+enum Pending<'t, 'qs> {
     Sign(&'static str),
     Key(&'t Key<'qs>),
     Value(&'t ParsedValue<'qs>),
@@ -30,22 +30,22 @@ enum Piece<'t, 'qs> {
 /// Its time and memory grow with the tree. No tree is too deep.
 pub fn line(alloc: Global, tree: &ParsedValue<'_>, texts: Texts) -> Result<String, AllocError> {
     let mut line = String::new(alloc);
-    let mut rest = vec![in alloc; Piece::Value(tree)]?;
+    let mut rest = vec![in alloc; Pending::Value(tree)]?;
     for _ in 0..u64::MAX {
         match rest.pop() {
             None => break,
-            Some(Piece::Sign(sign)) => line.push_str(sign)?,
-            Some(Piece::Key(Key::Int(index))) => line.push_str(&format!(in alloc; "{index}")?)?,
-            Some(Piece::Key(Key::String(text))) => push_text(&mut line, text, texts)?,
-            Some(Piece::Value(ParsedValue::String(text))) => push_text(&mut line, text, texts)?,
-            Some(Piece::Value(ParsedValue::Null)) => line.push_str("Null")?,
-            Some(Piece::Value(ParsedValue::NoValue)) => line.push_str("NoValue")?,
-            Some(Piece::Value(ParsedValue::Uninitialized)) => line.push_str("Uninit")?,
-            Some(Piece::Value(ParsedValue::Sequence(items))) => {
+            Some(Pending::Sign(sign)) => line.push_str(sign)?,
+            Some(Pending::Key(Key::Int(index))) => line.push_str(&format!(in alloc; "{index}")?)?,
+            Some(Pending::Key(Key::String(text))) => push_text(&mut line, text, texts)?,
+            Some(Pending::Value(ParsedValue::String(text))) => push_text(&mut line, text, texts)?,
+            Some(Pending::Value(ParsedValue::Null)) => line.push_str("Null")?,
+            Some(Pending::Value(ParsedValue::NoValue)) => line.push_str("NoValue")?,
+            Some(Pending::Value(ParsedValue::Uninitialized)) => line.push_str("Uninit")?,
+            Some(Pending::Value(ParsedValue::Sequence(items))) => {
                 line.push('[')?;
                 stack_items(&mut rest, items)?;
             }
-            Some(Piece::Value(ParsedValue::Map(map))) => {
+            Some(Pending::Value(ParsedValue::Map(map))) => {
                 line.push('{')?;
                 stack_entries(&mut rest, map)?;
             }
@@ -54,42 +54,42 @@ pub fn line(alloc: Global, tree: &ParsedValue<'_>, texts: Texts) -> Result<Strin
     Ok(line)
 }
 
-/// What a sequence is written as, the last piece first.
+// What a sequence is written as, the last piece first.
 fn stack_items<'t, 'qs>(
-    rest: &mut Vec<Piece<'t, 'qs>>,
+    rest: &mut Vec<Pending<'t, 'qs>>,
     items: &'t Vec<ParsedValue<'qs>>,
 ) -> Result<(), AllocError> {
-    rest.push(Piece::Sign("]"))?;
+    rest.push(Pending::Sign("]"))?;
     for (place, item) in items.iter().enumerate().rev() {
-        rest.push(Piece::Value(item))?;
+        rest.push(Pending::Value(item))?;
         if place > 0 {
-            rest.push(Piece::Sign(","))?;
+            rest.push(Pending::Sign(","))?;
         }
     }
     Ok(())
 }
 
-/// What a map is written as, the last piece first.
+// What a map is written as, the last piece first.
 fn stack_entries<'t, 'qs>(
-    rest: &mut Vec<Piece<'t, 'qs>>,
+    rest: &mut Vec<Pending<'t, 'qs>>,
     map: &'t ParsedMap<'qs>,
 ) -> Result<(), AllocError> {
-    rest.push(Piece::Sign("}"))?;
+    rest.push(Pending::Sign("}"))?;
     for place in (0..map.len()).rev() {
         let Some((key, value)) = map.at(place) else {
             continue;
         };
-        rest.push(Piece::Value(value))?;
-        rest.push(Piece::Sign(":"))?;
-        rest.push(Piece::Key(key))?;
+        rest.push(Pending::Value(value))?;
+        rest.push(Pending::Sign(":"))?;
+        rest.push(Pending::Key(key))?;
         if place > 0 {
-            rest.push(Piece::Sign(","))?;
+            rest.push(Pending::Sign(","))?;
         }
     }
     Ok(())
 }
 
-/// Writes a text after the line.
+// Writes a text after the line.
 fn push_text(line: &mut String, text: &CowSlice<'_, u8>, texts: Texts) -> Result<(), AllocError> {
     match texts {
         Texts::Quoted => push_quoted(line, text.as_slice())?,
@@ -101,6 +101,7 @@ fn push_text(line: &mut String, text: &CowSlice<'_, u8>, texts: Texts) -> Result
     }
 }
 
+// The bytes between single quotes, where those beyond printable ASCII are escaped.
 fn push_quoted(line: &mut String, bytes: &[u8]) -> Result<(), AllocError> {
     line.push('\'')?;
     for byte in bytes {
@@ -115,6 +116,7 @@ fn push_quoted(line: &mut String, bytes: &[u8]) -> Result<(), AllocError> {
     line.push('\'')
 }
 
+// The bytes between double quotes, in hexadecimal digits.
 fn push_hexadecimal(line: &mut String, bytes: &[u8]) -> Result<(), AllocError> {
     line.push('"')?;
     for byte in bytes {
@@ -123,12 +125,13 @@ fn push_hexadecimal(line: &mut String, bytes: &[u8]) -> Result<(), AllocError> {
     line.push('"')
 }
 
-/// Two hexadecimal digits.
+// Two hexadecimal digits.
 fn push_byte(line: &mut String, byte: u8) -> Result<(), AllocError> {
     line.push(digit(byte / 16))?;
     line.push(digit(byte % 16))
 }
 
+// A hexadecimal digit.
 fn digit(value: u8) -> char {
     char::from_digit(u32::from(value), 16).unwrap_or('?')
 }

@@ -8,7 +8,7 @@ mod large;
 mod nesting;
 mod orders;
 mod pushes;
-mod refusals;
+mod rejected;
 mod values;
 
 use crate::tree_line::{Texts, line};
@@ -19,7 +19,7 @@ use std::collections::BTreeMap;
 use std::process::Abort;
 use std::test::Fail;
 
-// the texts of refusals that several tests name
+// the texts of errors that several tests name
 const VALUE_AND_MAP: &str = "invalid input: the same key is used for both a value and a nested map";
 
 const UNIT_AND_MAP: &str =
@@ -40,12 +40,12 @@ const MAP_IN_SEQUENCE: &str = "unsupported: unable to parse nested maps of unind
 const MIXED_SEQUENCE: &str =
     "unsupported: cannot mix unindexed sequences `abc[]=...` with indexed sequences `abc[0]=...`";
 
-/// Query mode with this limit of depth.
+// Query mode with this limit of depth.
 fn query(max_depth: usize) -> Config {
     Config::new().max_depth(max_depth)
 }
 
-/// Form mode with this limit of depth.
+// Form mode with this limit of depth.
 fn form(max_depth: usize) -> Config {
     query(max_depth).use_form_encoding(true)
 }
@@ -59,13 +59,13 @@ pub fn repeated(alloc: Global, text: &str, times: usize) -> Result<String, Alloc
     Ok(all)
 }
 
-/// The tree of an input as a line, or its refusal.
+// The tree of an input as a line, or its error.
 fn tree(alloc: Global, config: Config, input: &[u8]) -> Result<String, Error> {
     let tree = parse(alloc, input, config)?;
     Ok(line(alloc, &tree, Texts::Quoted)?)
 }
 
-/// Where a typed call finds that an input has no tree.
+// Where a typed call finds that an input has no tree.
 fn typed_position(alloc: Global, config: Config, input: &[u8]) -> Option<usize> {
     let read: Result<BTreeMap<String, String>, Error> = config.deserialize_bytes(alloc, input);
     match read {
@@ -74,7 +74,7 @@ fn typed_position(alloc: Global, config: Config, input: &[u8]) -> Option<usize> 
     }
 }
 
-/// Each input has its tree.
+// Each input has its tree.
 fn accept(
     rt: &impl Abort,
     alloc: Global,
@@ -93,21 +93,21 @@ fn accept(
     Ok(())
 }
 
-/// Each input is rejected at its position with its text.
-fn refuse(
+// Each input is rejected at its position with its text.
+fn reject(
     rt: &impl Abort,
     alloc: Global,
     config: Config,
     rows: &[(&str, usize, &str)],
 ) -> Result<(), Fail> {
     for (input, position, text) in rows {
-        refuse_bytes(rt, alloc, config, input.as_bytes(), *position, text)?;
+        reject_bytes(rt, alloc, config, input.as_bytes(), *position, text)?;
     }
     Ok(())
 }
 
-/// The input is rejected at the position with the text.
-fn refuse_bytes(
+// The input is rejected at the position with the text.
+fn reject_bytes(
     rt: &impl Abort,
     alloc: Global,
     config: Config,
@@ -116,7 +116,7 @@ fn refuse_bytes(
     text: &str,
 ) -> Result<(), Fail> {
     let Err(Error::Parse(said, at)) = parse(alloc, input, config) else {
-        return Err(Fail::from("no refusal"));
+        return Err(Fail::from("no error"));
     };
     assert_eq!(rt; said.as_str(), text, "{input:?}");
     assert_eq!(rt; at, position, "{input:?}");

@@ -1,8 +1,8 @@
-//! Written texts, and what stands after a refusal.
+//! Written texts, and what was written before an error.
 
+mod errors;
 mod keys;
 mod lists;
-mod refusals;
 mod scalars;
 mod variants;
 mod writers;
@@ -11,12 +11,12 @@ use crate::build::Build;
 use serde_qs::{Config, Data, Error, Serializer};
 use std::process::Abort;
 
-/// Query mode, with the defaults.
+// Query mode, with the defaults.
 fn query() -> Config {
     Config::new()
 }
 
-/// Form mode.
+// Form mode.
 fn form() -> Config {
     Config::new().use_form_encoding(true)
 }
@@ -30,7 +30,7 @@ pub fn writes<R: Abort>(b: &Build<'_, R>, config: Config, datum: &Data, wanted: 
     assert_eq!(b.rt; written.as_slice(), wanted.as_bytes(), "{wanted}");
 }
 
-/// The error that the data meet. This text stands before it, and nothing is written after it.
+// The error that the data cause. This text stands before it, and nothing is written after it.
 fn stops<R: Abort>(b: &Build<'_, R>, config: Config, datum: &Data, wanted: &str) -> Error {
     let mut serializer = Serializer::new(Vec::new(b.alloc), config);
     let error = serializer

@@ -3,5 +3,5 @@ pub mod Lines
 pub mod Numbers
 pub mod Options
 pub mod Pieces
-pub mod Refusals
+pub mod Errors
 pub mod Taken

@@ -1,8 +1,10 @@
+-- The words that a reader must believe, beside those of qs_spec: all modules but `internal`, which has steps of proofs. `Line` says which
+-- line and status the program answers with, `Arguments` what its arguments ask for, `Shown` how `any` shows data.
 pub mod Arguments
-pub mod Fault
+pub mod InputError
 pub mod Information
 pub mod Line
 pub mod Misuse
-pub mod Pieces
 pub mod Shapes
 pub mod Shown
+pub mod internal

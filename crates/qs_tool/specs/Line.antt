@@ -34,16 +34,16 @@ abbrev pub IsErrorLine : List ℕ → Type 0
 IsErrorLine line = (text : List ℕ) × (line ≡ ended (codes "error: " ++ text))
 
 -- the line of this error, where its text is known
-abbrev pub TellsError : Error → List ℕ → Type 0
-TellsError error line = IfSome (error_text error) (λ text. line ≡ ended (codes "error: " ++ text))
+abbrev pub IsLineOfError : Error → List ℕ → Type 0
+IsLineOfError error line = IfSome (error_text error) (λ text. line ≡ ended (codes "error: " ++ text))
 
-abbrev pub unless_refused : Option Refusal → List ℕ → Option (List ℕ)
-unless_refused None text = Some text
-unless_refused (Some refusal) text = None
+abbrev pub unless_rejected : Option Refusal → List ℕ → Option (List ℕ)
+unless_rejected None text = Some text
+unless_rejected (Some refusal) text = None
 
 -- the querystring that the data are written as, unless they are rejected
 abbrev pub rewritten : Config → Data → Option (List ℕ)
-rewritten config value = unless_refused (entries config value).refusal (written config.form false (entries config value).entries)
+rewritten config value = unless_rejected (entries config value).refusal (written config.form false (entries config value).entries)
 
 -- what a command prints of the data that it read: `any` shows them, the others write them as a querystring again
 abbrev pub printed : Command → Config → Data → Option (List ℕ)

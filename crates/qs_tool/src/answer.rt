@@ -2,8 +2,8 @@
 
 ghost use Rattle.std.specs.Prelude.{◌≡◌, IfOk, IfSome, OnOk};
 ghost use Rattle.std.specs.Io.KnownBytes.{IsAtEnd};
-ghost use Rattle.qs_tool.specs.Fault.{is_memory};
-ghost use Rattle.qs_tool.specs.Line.{IsAnswer, IsErrorLine, TellsError, without_newline};
+ghost use Rattle.qs_tool.specs.InputError.{is_memory};
+ghost use Rattle.qs_tool.specs.Line.{IsAnswer, IsErrorLine, IsLineOfError, without_newline};
 
 use crate::arguments::Request;
 use crate::printing::printed;
@@ -29,7 +29,7 @@ pub fn respond<R: Read>(alloc: Global, request: Request, reader: &mut R) -> Resu
     Ok(answer_to(alloc, request, before_newline(input.as_slice()))?)
 }
 
-/// The result of this input.
+// The result of this input.
 fn answer_to(alloc: Global, request: Request, input: &[u8]) -> Result<Answer, AllocError>
     ensures { IfOk result (λ answer. IsAnswer request input.now answer.line.items answer.status) }
 {
@@ -48,17 +48,17 @@ fn answer_to(alloc: Global, request: Request, input: &[u8]) -> Result<Answer, Al
     }
 }
 
-/// Whether the error is that an allocation failed, or a write to memory, which fails for no other reason.
+// Whether the error is that an allocation failed, or a write to memory, which fails for no other reason.
 fn is_memory(error: &Error) -> bool
     ensures { result ≡ is_memory error.now }
 {
     matches!(error, Error::OutOfMemory | Error::Io(_))
 }
 
-/// The line that says why.
+// The line that says why.
 fn error_line(alloc: Global, error: &Error) -> Result<Vec<u8>, AllocError>
     ensures line { IfOk result (λ line. IsErrorLine line.items) }
-    ensures text { IfOk result (λ line. TellsError error.now line.items) }
+    ensures text { IfOk result (λ line. IsLineOfError error.now line.items) }
 {
     let text = format!(in alloc; "{error}")?;
     let mut line = Vec::from_slice(alloc, b"error: ")?;
@@ -67,7 +67,7 @@ fn error_line(alloc: Global, error: &Error) -> Result<Vec<u8>, AllocError>
     Ok(line)
 }
 
-/// The input without one final newline.
+// The input without one final newline.
 fn before_newline(input: &[u8]) -> &[u8]
     ensures { result.now ≡ without_newline input.now }
 {

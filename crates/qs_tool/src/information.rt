@@ -63,7 +63,7 @@ impl Information {
         Information::named(word.as_str())
     }
 
-    /// The one of this name.
+    // The one of this name.
     fn named(name: &str) -> Option<Information>
         ensures { result ≡ information_named name.now }
     {

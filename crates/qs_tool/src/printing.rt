@@ -8,7 +8,7 @@ ghost use Rattle.qs_data.specs.read.Errors.{OnlyCustomUtf8OrOutOfMemory};
 ghost use Rattle.qs_data.specs.read.Parsed.{ReturnsData, parsed_of};
 ghost use Rattle.qs_data.specs.data.Views.{data_of};
 ghost use Rattle.qs_data.specs.shape.Views.{shape_of};
-ghost use Rattle.qs_tool.specs.Fault.{IfFault};
+ghost use Rattle.qs_tool.specs.InputError.{IfInputError};
 ghost use Rattle.qs_tool.specs.Line.{IsFaulty, IsPrinted, printed, rewritten};
 ghost use Rattle.qs_tool.specs.Shown.{shown};
 
@@ -21,7 +21,7 @@ use std::alloc::Global;
 /// What is printed of the input, or why it is rejected.
 pub fn printed(alloc: Global, request: Request, input: &[u8]) -> Result<Vec<u8>>
     ensures text { IfOk result (λ text. IsPrinted request input.now text.items) }
-    ensures fault { IfFault result (IsFaulty request input.now) }
+    ensures fault { IfInputError result (IsFaulty request input.now) }
 {
     let shape = shape_for(alloc, request.command, request.strict)?;
     let deserializer = parsed(alloc, request.config, input)?;
@@ -50,10 +50,10 @@ fn read_data(alloc: Global, deserializer: Deserializer<'_>, shape: &Shape) -> Re
     deserializer.read(alloc, shape)
 }
 
-/// The text of the data: `any` shows them, the other commands write them as a querystring.
+// The text of the data: `any` shows them, the other commands write them as a querystring.
 fn text_of(alloc: Global, request: Request, value: &Data) -> Result<Vec<u8>>
     ensures text { IfOk result (λ text. printed request.command request.config (data_of value.now) ≡ Some text.items) }
-    ensures fault { IfFault result (printed request.command request.config (data_of value.now) ≡ None) }
+    ensures fault { IfInputError result (printed request.command request.config (data_of value.now) ≡ None) }
 {
     match request.command {
         Command::Flat | Command::Params => rewritten(alloc, request.config, value),
@@ -61,17 +61,17 @@ fn text_of(alloc: Global, request: Request, value: &Data) -> Result<Vec<u8>>
     }
 }
 
-/// The querystring that the data are written as.
+// The querystring that the data are written as.
 fn rewritten(alloc: Global, config: Config, value: &Data) -> Result<Vec<u8>>
     ensures text { IfOk result (λ text. rewritten config (data_of value.now) ≡ Some text.items) }
-    ensures fault { IfFault result (rewritten config (data_of value.now) ≡ None) }
+    ensures fault { IfInputError result (rewritten config (data_of value.now) ≡ None) }
 {
     let mut serializer = Serializer::new(Vec::new(alloc), config);
     serializer.serialize(alloc, value)?;
     Ok(serializer.into_sink().into_writer())
 }
 
-/// The data as they are shown.
+// The data as they are shown.
 fn shown(alloc: Global, value: &Data) -> Result<Vec<u8>>
     ensures text { IfOk result (λ text. text.items ≡ shown (data_of value.now)) }
     ensures errors { OnlyOutOfMemory result }

@@ -6,7 +6,7 @@ ghost use Rattle.std.specs.Prelude.{◌≡◌, ◌<◌, ◌++◌, length, OnOk};
 ghost use Rattle.qs_tree.specs.Error.{OnlyOutOfMemory};
 ghost use Rattle.qs_data.specs.data.Views.{data_of, values_in, pairs_in};
 ghost use Rattle.qs_tool.specs.Shown.{shown, quoted, in_brackets, in_braces, shown_values, shown_pairs};
-ghost use Rattle.qs_tool.specs.Pieces.{Begins, piece_text, items_left, pairs_left};
+ghost use Rattle.qs_tool.specs.internal.Pieces.{Begins, piece_text, items_left, pairs_left};
 
 use qs_tree::encode;
 use serde_qs::{Data, Result};
@@ -14,7 +14,7 @@ use std::alloc::Global;
 
 /// A piece of the line that is still to be written.
 #[derive(Clone, Copy)]
-enum Piece<'d> {
+enum Pending<'d> {
     /// The data.
     Datum(&'d Data),
     /// The items that are left of a list, each after a comma, and the bracket that closes it.
@@ -39,25 +39,25 @@ pub fn show(alloc: Global, line: &mut Vec<u8>, datum: &Data) -> Result<()>
     Ok(())
 }
 
-/// Appends what the piece begins with, and puts on the stack what is left of it.
-fn proceed<'d>(line: &mut Vec<u8>, pile: &mut Vec<Piece<'d>>, piece: Piece<'d>) -> Result<()>
+// Appends what the piece begins with, and puts on the stack what is left of it.
+fn proceed<'d>(line: &mut Vec<u8>, pile: &mut Vec<Pending<'d>>, piece: Pending<'d>) -> Result<()>
     ensures ok { OnOk result (Begins (piece_text piece.entry) line.old.items pile.old.items line.new.items pile.new.items) }
     ensures errors { OnlyOutOfMemory result }
 {
     match piece {
-        Piece::Datum(datum) => begin(line, pile, datum),
-        Piece::Items(items) => next_item(line, pile, items),
-        Piece::Value(value) => {
+        Pending::Datum(datum) => begin(line, pile, datum),
+        Pending::Items(items) => next_item(line, pile, items),
+        Pending::Value(value) => {
             line.push(b':')?;
             begin(line, pile, value)
         }
-        Piece::Pairs(pairs) => next_pair(line, pile, pairs),
+        Pending::Pairs(pairs) => next_pair(line, pile, pairs),
     }
 }
 
-/// Appends what the data begin with, and puts on the stack what is left of them.
+// Appends what the data begin with, and puts on the stack what is left of them.
 #[tactic(auto, using(qs_data::proofs::lemmas::data::Levels::levels, crate::proofs::Pieces::begins_whole))]
-fn begin<'d>(line: &mut Vec<u8>, pile: &mut Vec<Piece<'d>>, datum: &'d Data) -> Result<()>
+fn begin<'d>(line: &mut Vec<u8>, pile: &mut Vec<Pending<'d>>, datum: &'d Data) -> Result<()>
     ensures ok { OnOk result (Begins (shown (data_of datum.now)) line.old.items pile.old.items line.new.items pile.new.items) }
     ensures errors { OnlyOutOfMemory result }
 {
@@ -79,7 +79,7 @@ fn begin<'d>(line: &mut Vec<u8>, pile: &mut Vec<Piece<'d>>, datum: &'d Data) -> 
     }
 }
 
-/// Appends the text between quotes, escaped as form mode does.
+// Appends the text between quotes, escaped as form mode does.
 fn show_text(line: &mut Vec<u8>, text: &str) -> Result<()>
     ensures ok { OnOk result (line.new.items ≡ line.old.items ++ quoted text.now) }
     ensures errors { OnlyOutOfMemory result }
@@ -89,8 +89,8 @@ fn show_text(line: &mut Vec<u8>, text: &str) -> Result<()>
     Ok(line.push(b'\'')?)
 }
 
-/// Appends the bracket that opens a list, and puts its items on the stack.
-fn begin_list<'d>(line: &mut Vec<u8>, pile: &mut Vec<Piece<'d>>, items: &'d [Data]) -> Result<()>
+// Appends the bracket that opens a list, and puts its items on the stack.
+fn begin_list<'d>(line: &mut Vec<u8>, pile: &mut Vec<Pending<'d>>, items: &'d [Data]) -> Result<()>
     ensures ok { OnOk result (Begins (in_brackets (shown_values (values_in items.now))) line.old.items pile.old.items line.new.items pile.new.items) }
     ensures errors { OnlyOutOfMemory result }
 {
@@ -98,14 +98,14 @@ fn begin_list<'d>(line: &mut Vec<u8>, pile: &mut Vec<Piece<'d>>, items: &'d [Dat
     match items.split_first() {
         None => Ok(line.push(b']')?),
         Some((first, rest)) => {
-            pile.push(Piece::Items(rest))?;
-            Ok(pile.push(Piece::Datum(first))?)
+            pile.push(Pending::Items(rest))?;
+            Ok(pile.push(Pending::Datum(first))?)
         }
     }
 }
 
-/// Appends a comma and what the next item of a list begins with, or the bracket that closes the list.
-fn next_item<'d>(line: &mut Vec<u8>, pile: &mut Vec<Piece<'d>>, items: &'d [Data]) -> Result<()>
+// Appends a comma and what the next item of a list begins with, or the bracket that closes the list.
+fn next_item<'d>(line: &mut Vec<u8>, pile: &mut Vec<Pending<'d>>, items: &'d [Data]) -> Result<()>
     ensures ok { OnOk result (Begins (items_left (shown_values (values_in items.now))) line.old.items pile.old.items line.new.items pile.new.items) }
     ensures errors { OnlyOutOfMemory result }
 {
@@ -113,16 +113,16 @@ fn next_item<'d>(line: &mut Vec<u8>, pile: &mut Vec<Piece<'d>>, items: &'d [Data
         None => Ok(line.push(b']')?),
         Some((item, rest)) => {
             line.push(b',')?;
-            pile.push(Piece::Items(rest))?;
+            pile.push(Pending::Items(rest))?;
             begin(line, pile, item)
         }
     }
 }
 
-/// Appends the brace that opens a map, and puts its pairs on the stack.
+// Appends the brace that opens a map, and puts its pairs on the stack.
 fn begin_map<'d>(
     line: &mut Vec<u8>,
-    pile: &mut Vec<Piece<'d>>,
+    pile: &mut Vec<Pending<'d>>,
     pairs: &'d [(Data, Data)],
 ) -> Result<()>
     ensures ok { OnOk result (Begins (in_braces (shown_pairs (pairs_in pairs.now))) line.old.items pile.old.items line.new.items pile.new.items) }
@@ -132,17 +132,17 @@ fn begin_map<'d>(
     match pairs.split_first() {
         None => Ok(line.push(b'}')?),
         Some((pair, rest)) => {
-            pile.push(Piece::Pairs(rest))?;
-            pile.push(Piece::Value(&pair.1))?;
-            Ok(pile.push(Piece::Datum(&pair.0))?)
+            pile.push(Pending::Pairs(rest))?;
+            pile.push(Pending::Value(&pair.1))?;
+            Ok(pile.push(Pending::Datum(&pair.0))?)
         }
     }
 }
 
-/// Appends a comma and what the next pair of a map begins with, or the brace that closes the map.
+// Appends a comma and what the next pair of a map begins with, or the brace that closes the map.
 fn next_pair<'d>(
     line: &mut Vec<u8>,
-    pile: &mut Vec<Piece<'d>>,
+    pile: &mut Vec<Pending<'d>>,
     pairs: &'d [(Data, Data)],
 ) -> Result<()>
     ensures ok { OnOk result (Begins (pairs_left (shown_pairs (pairs_in pairs.now))) line.old.items pile.old.items line.new.items pile.new.items) }
@@ -152,8 +152,8 @@ fn next_pair<'d>(
         None => Ok(line.push(b'}')?),
         Some((pair, rest)) => {
             line.push(b',')?;
-            pile.push(Piece::Pairs(rest))?;
-            pile.push(Piece::Value(&pair.1))?;
+            pile.push(Pending::Pairs(rest))?;
+            pile.push(Pending::Value(&pair.1))?;
             begin(line, pile, &pair.0)
         }
     }

@@ -27,7 +27,7 @@ impl From<AllocError> for Stop {
 
     ghost from_gives = { λ _ stop. stop ≡ OutOfMemory };
 
-    fn from(_refused: AllocError) -> Stop {
+    fn from(_: AllocError) -> Stop {
         Stop::OutOfMemory
     }
 }

@@ -1,8 +1,10 @@
 //! From pairs to a tree: the tree under construction, adding a pair to it, and finishing it.
 
 pub(crate) mod add;
+mod add_to_value;
 pub(crate) mod builder;
 pub(crate) mod conflict;
 mod descent;
 mod dropping;
 mod finishing;
+mod unsorted;

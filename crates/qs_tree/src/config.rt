@@ -30,7 +30,8 @@ pub enum DuplicateKeyBehavior {
 
 /// How a querystring is parsed, read and written.
 ///
-/// No method allocates.
+/// A method that sets a part returns the configuration with that part changed and the others as they were. No method allocates, and
+/// each takes constant time.
 ///
 /// ```
 /// let config = Config::new().max_depth(2).use_form_encoding(true);

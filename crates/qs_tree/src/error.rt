@@ -42,7 +42,11 @@ impl Error {
 
     /// A [`Custom`](Error::Custom) error for a kind of value that can't be read at the top level.
     ///
-    /// Allocates the message. Returns [`OutOfMemory`](Error::OutOfMemory) where that failed.
+    /// Allocates the message, and takes time with its length. Returns [`OutOfMemory`](Error::OutOfMemory) where that failed.
+    ///
+    /// ```
+    /// Error::top_level(alloc, "primitive") // cannot deserialize primitive at the top level.Try deserializing into a struct.
+    /// ```
     pub fn top_level(alloc: Global, object: &'static str) -> Error
         ensures { IsCustomSaying result (Some (codes "cannot deserialize " ++ (object.now
             ++ codes " at the top level.Try deserializing into a struct."))) }
@@ -58,7 +62,12 @@ impl Error {
 
     /// A [`Parse`](Error::Parse) error with a message and a position.
     ///
-    /// Allocates the message. Returns [`OutOfMemory`](Error::OutOfMemory) where that failed, or where `msg.fmt` fails.
+    /// Allocates the message, and takes time with its length. Returns [`OutOfMemory`](Error::OutOfMemory) where that failed, or where
+    /// `msg.fmt` fails.
+    ///
+    /// ```
+    /// Error::parse_err(alloc, "m", 3) // parsing failed with error: 'm' at position: 3
+    /// ```
     pub fn parse_err<T: Display + Drop>(alloc: Global, msg: T, position: usize) -> Error
         ensures { IsParseSaying result (T.output msg) position }
     {
@@ -70,7 +79,12 @@ impl Error {
 
     /// A [`Custom`](Error::Custom) error with a message. The last argument isn't used.
     ///
-    /// Allocates the message. Returns [`OutOfMemory`](Error::OutOfMemory) where that failed, or where `msg.fmt` fails.
+    /// Allocates the message, and takes time with its length. Returns [`OutOfMemory`](Error::OutOfMemory) where that failed, or where
+    /// `msg.fmt` fails.
+    ///
+    /// ```
+    /// Error::custom(alloc, "no such page", &()) // no such page
+    /// ```
     pub fn custom<T: Display + Drop, D>(alloc: Global, msg: T, _parsed: &D) -> Error
         ensures { IsCustomSaying result (T.output msg) }
     {

@@ -7,5 +7,5 @@ mod search;
 
 pub use decoding::decode;
 pub(crate) use decoding::unescape;
-pub use encoding::encode;
+pub use encoding::{encode, encode_to};
 pub use search::{find_ampersand, find_encoded, find_escape};

@@ -21,7 +21,7 @@ mod tree;
 
 pub use crate::config::{ArrayFormat, Config, DuplicateKeyBehavior};
 pub use crate::error::{Error, Result};
-pub use crate::escape::{decode, encode, find_ampersand, find_encoded, find_escape};
+pub use crate::escape::{decode, encode, encode_to, find_ampersand, find_encoded, find_escape};
 pub use crate::parsing::{parse, parse_with};
 pub use crate::steps::Steps;
 pub use crate::tree::key::Key;

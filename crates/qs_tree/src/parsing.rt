@@ -8,8 +8,7 @@ ghost use Rattle.qs_spec.specs.internal.InPlace as in_place;
 ghost use Rattle.qs_tree.specs.tree.Views.{tree_of};
 ghost use Rattle.qs_tree.specs.internal.scan.Pairs.{IsBare, pair_of};
 ghost use Rattle.qs_tree.specs.internal.scan.Cursor.{left, KnowsEnd, in_all};
-ghost use Rattle.qs_tree.specs.declared.build.builder.TreeBuilder.TheVariants.{Empty};
-ghost use Rattle.qs_tree.specs.internal.build.Builder.{built_tree, IsFlat};
+ghost use Rattle.qs_tree.specs.internal.build.Builder.{built_tree, fresh, IsFlat};
 ghost use Rattle.qs_tree.specs.internal.Parsing.{grown, Returns, Finds};
 ghost use Rattle.qs_tree.specs.Parsing.{Parses, TakesNoMemory};
 
@@ -116,7 +115,7 @@ fn scan<'qs>(
     ensures end { IfOk result (λ _. in_all cursor.new ≡ cursor.new.steps) }
     ensures no_memory { TakesNoMemory cursor.old.rest.now → IsOk result }
 {
-    let mut tree = TreeBuilder::Empty;
+    let mut tree = TreeBuilder::fresh();
     let mut pair = Pair::new(alloc);
     loop {
         let item = match parse_item(alloc, cursor, max_depth, &mut pair) {
@@ -142,7 +141,7 @@ fn add<'qs>(
     cursor: &Cursor<'qs>,
 ) -> Result<(), ScanError<'qs>>
     ensures tree { let p = pair_of pair.old in Finds (λ _. built_tree tree.new) (in_place.add p.path p.push p.leaf (built_tree tree.old)) result }
-    ensures fresh { IsBare pair.old → tree.old ≡ Empty → IsOkAnd result (λ _. IsFlat tree.new) }
+    ensures fresh { IsBare pair.old → tree.old ≡ fresh → IsOkAnd result (λ _. IsFlat tree.new) }
 {
     match add_pair(alloc, tree, pair) {
         Ok(()) => Ok(()),

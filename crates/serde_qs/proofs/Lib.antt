@@ -1,5 +1,10 @@
 pub mod Levels
+pub mod NodeFields
+pub mod NodeItems
+pub mod NodeValues
+pub mod NodesRead
 pub mod NumberItems
+pub mod OwnValue
 pub mod PairsPut
 pub mod Pieces
 pub mod Steps

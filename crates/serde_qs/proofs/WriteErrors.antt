@@ -1,4 +1,4 @@
--- What an error of a serializer that hadn't failed tells.
+-- What an error of a serializer that hadn't failed means.
 use Rattle.std.proofs.Common.{◌≡◌, ℕ, Some, Err, refl}
 use Rattle.qs_spec.specs.Config.{Config}
 use Rattle.qs_spec.specs.Data.{Data}
@@ -9,7 +9,7 @@ use Rattle.qs_tree.specs.Error.{IsFailed, IsTooDeep, IsUnsupported}
 use Rattle.qs_data.specs.write.Errors.{IsWriteError}
 use Rattle.serde_qs.specs.WrittenText.{ReturnsText, memory_for_io}
 
--- what the refusals tell of the configuration and the data
+-- what the errors mean of the configuration and the data
 pub record Reported (e : Error) (config : Config) (x : Data) : Type 0 where
   pub deep : (n : ℕ) → IsTooDeep {T = Unit {0}} (Err e) n → (n ≡ config.max_depth) × ((entries config x).refusal ≡ Some too_deep)
   pub bad : IsUnsupported {T = Unit {0}} (Err e) → (entries config x).refusal ≡ Some bad_key

@@ -11,7 +11,11 @@ pub mod Defaulted
 pub mod Tuples
 pub mod Variants
 pub mod Compound
+pub mod Tables
+pub mod PartTables
 pub mod Typed
+pub mod Nodes
+pub mod Sources
 pub mod WrittenText
 pub mod Wrappers
 pub mod Items

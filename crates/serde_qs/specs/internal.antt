@@ -7,6 +7,7 @@ pub mod DelimitedComesBack
 pub mod MapsComeBack
 pub mod NumberLists
 pub mod Optional
+pub mod OwnTables
 pub mod Pieces
 pub mod Records
 pub mod Tuples

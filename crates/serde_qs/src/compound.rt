@@ -4,31 +4,43 @@ mod defaulted;
 mod defaults;
 mod fields;
 mod items;
+mod nodes;
 mod optional;
+mod out;
+mod own;
 mod parts;
 mod payloads;
 mod references;
+mod source;
 mod strict;
 mod variants;
 mod written;
 
-ghost use Rattle.std.specs.Prelude.{◌≡◌, ℕ, List, true, IfOk};
+ghost use Rattle.std.specs.Prelude.{◌≡◌, true, IfOk};
 ghost use Rattle.qs_tree.specs.Error.{OnlyOutOfMemory};
 ghost use Rattle.qs_data.specs.data.Views.{data_of};
-ghost use Rattle.serde_qs.specs.Compound.{data_by_parts};
-ghost use Rattle.serde_qs.specs.internal.Compound.{compound_back};
+ghost use Rattle.qs_data.specs.shape.Views.{shape_of};
+ghost use Rattle.serde_qs.specs.Compound.{data_by};
+ghost use Rattle.serde_qs.specs.internal.Compound.{data_by_back};
+ghost use Rattle.serde_qs.specs.internal.OwnTables.{itself};
 ghost use Rattle.serde_qs.specs.Fits.{fits};
-ghost use Rattle.serde_qs.specs.Records.{texts};
+ghost use Rattle.serde_qs.specs.Tables.{Table, closed};
+ghost use Rattle.qs_spec.specs.Shape.{is_distinct};
+ghost use Rattle.serde_qs.specs.Sources.{ReadsSource};
+ghost use Rattle.serde_qs.specs.declared.compound.out.Out.TheVariants.{Nothing};
 
 use crate::traits::{Deserialize, RoundTrip, Serialize};
 pub use defaulted::{Defaulted, OrDefault};
 pub use fields::Fields;
 pub use items::Items;
 pub use optional::Optional;
+pub use out::Out;
 pub use parts::{Enum, Parts};
 pub use payloads::{Newtype, Payload, Struct, Tuple};
-use qs_data::{Data, Result, Shape};
-pub use references::{ItemReferences, References, SkipNone};
+use qs_data::{Data, Reader, Result, Shape};
+use qs_tree::ParsedValue;
+pub use references::{FieldReferences, ItemReferences, ListedReferences, References, SkipNone};
+pub use source::Source;
 use std::alloc::Global;
 pub use strict::StrictStruct;
 pub use variants::{Last, OneOf, Variants};
@@ -42,30 +54,24 @@ pub use written::{
 /// A struct is made of its fields:
 ///
 /// ```
+/// type PointParts = Struct<(i64, (i64, ()))>;
+///
+/// const NAMES: &[&str] = &["x", "y"];
+///
 /// impl Compound for Point {
-///     type Parts = Struct<(i64, (i64, ()))>;
+///     ghost table = { made_of ⟦<PointParts as Parts>⟧.table NAMES.now (λ point. record { 0 = (point.x, (point.y, tt)) }) _ };
 ///
-///     ghost names = { codes "x" ∷ codes "y" ∷ [] };
-///
-///     ghost parts = { λ point. record { 0 = (point.x, (point.y, tt)) } };
-///
-///     ghost complete = { refl };
-///
-///     fn names() -> &'static [&'static str] {
-///         &["x", "y"]
+///     fn form(alloc: Global) -> Result<Shape> {
+///         PointParts::shape(alloc, NAMES)
 ///     }
 ///
-///     fn from_parts(Struct((x, (y, ()))): Self::Parts) -> Point {
-///         Point { x, y }
+///     fn read(source: Source) -> Result<Point> {
+///         let Struct((x, (y, ()))) = PointParts::read(source, NAMES)?;
+///         Ok(Point { x, y })
 ///     }
 ///
-///     fn written(&self, alloc: Global) -> Result<Data> {
-///         struct_of(alloc, &["x", "y"], (&self.x, (&self.y, ())))
-///     }
-///
-///     fn fit(&self) {
-///         self.x.fits();
-///         self.y.fits();
+///     fn written(&self, out: Out) -> Result<Data> {
+///         out.fields(NAMES, (&self.x, (&self.y, ())))
 ///     }
 /// }
 /// ```
@@ -73,71 +79,93 @@ pub use written::{
 /// An enum is made of its variants, by [`Enum`](crate::Enum). The check rejects a block where two parts are exchanged, one
 /// is left out, there are too few or too many names, or two names are equal.
 pub trait Compound: Sized {
-    /// The types of the fields, as nested pairs: `Struct<(String, (u8, ()))>`. Or the variants of an enum:
-    /// `Enum<OneOf<(), Last<Newtype<String>>>>`. Or the one value of a newtype: `Newtype<String>`.
-    type Parts: Parts;
+    // What it is made of, under which names, and its parts.
+    ghost table: { Table Self };
 
-    // The names, as bytes, and the parts.
-    ghost names: { List (List ℕ) };
-
-    ghost parts: { Self → Self.Parts };
-
-    /// Returns the names in the order of the parts. In an enum the names of a variant's fields follow its own.
-    fn names() -> &'static [&'static str]
-        ensures { texts result.now ≡ names };
-
-    /// Returns what is made of these parts.
-    fn from_parts(held: Self::Parts) -> Self
-        ensures { parts result ≡ held };
-
-    /// Returns the data of the parts under their names. The one error is [`OutOfMemory`](qs_data::Error::OutOfMemory).
-    fn written(&self, alloc: Global) -> Result<Data>
-        ensures exact { IfOk result (λ d. data_of d ≡ Self.Parts.written names (parts self.now)) }
+    /// Returns the shape that is read for a value. The one error is [`OutOfMemory`](qs_data::Error::OutOfMemory).
+    fn form(alloc: Global) -> Result<Shape>
+        ensures exact { IfOk result (λ s. shape_of s ≡ table.form) }
         ensures errors { OnlyOutOfMemory result };
 
-    /// Shows that each part fits, by a call of its own `fits`. It does nothing when it runs.
-    fn fit(&self)
-        ensures { fits (Self.Parts.form names) (Self.Parts.written names (parts self.now)) ≡ true };
+    /// Returns the value that comes from data, or from a node of a tree. Where there is none, the error is
+    /// [`Custom`](qs_data::Error::Custom), or [`Utf8`](qs_data::Error::Utf8) where a text of the node isn't UTF-8; where an allocation failed,
+    /// [`OutOfMemory`](qs_data::Error::OutOfMemory). There is no other error.
+    fn read(source: Source<'_, '_>) -> Result<Self>
+        requires { is_distinct table.form ≡ true }
+        ensures exact { ReadsSource table.value table.form table.meaning source.entry result };
 
-    // There are as many names as the parts need, and no two that belong together are equal.
-    ghost complete: { Self.Parts.are_named names ≡ true };
+    /// Passes the parts to `out`, and returns their data under their names. The one error is
+    /// [`OutOfMemory`](qs_data::Error::OutOfMemory). Where they go nowhere, it shows that they fit.
+    fn written(&self, out: Out) -> Result<Data>
+        ensures exact { IfOk result (λ d. data_of d ≡ table.datum self.now) }
+        ensures errors { OnlyOutOfMemory result }
+        ensures fits { out ≡ Nothing → fits table.form (table.datum self.now) ≡ true };
 }
 
 impl<C: Compound> Serialize for C {
-    ghost datum = { λ x. data_by_parts C.Parts.written C.names C.parts x };
+    ghost datum = { λ x. data_by C.table.datum x };
 
-    #[tactic(auto, unfolding(crate::specs::Compound::data_by_parts))]
+    #[tactic(auto, unfolding(crate::specs::Compound::data_by))]
     fn to_data(&self, alloc: Global) -> Result<Data> {
-        self.written(alloc)
+        self.written(Out::Data(alloc))
     }
 }
 
 impl<C: Compound> Deserialize for C {
-    ghost Value = { C.Parts.Value };
+    ghost Value = { C.table.Value };
 
-    ghost value = { λ x. C.Parts.value (C.parts x) };
+    ghost value = { λ x. C.table.value x };
 
-    ghost form = { C.Parts.form C.names };
+    ghost form = { C.table.form };
 
-    ghost meaning = { λ d. C.Parts.meaning C.names d };
+    ghost meaning = { λ d. C.table.meaning d };
 
-    ghost distinct = { C.Parts.distinct C.names C.complete };
+    ghost distinct = { C.table.distinct };
 
     fn shape(alloc: Global) -> Result<Shape> {
-        C::Parts::shape(alloc, C::names())
+        C::form(alloc)
     }
 
     fn from_data(alloc: Global, datum: Data) -> Result<C> {
-        let parts = C::Parts::from_data(alloc, C::names(), datum)?;
-        Ok(C::from_parts(parts))
+        C::read(Source::Data(alloc, datum))
+    }
+
+    fn from_node(reader: Reader, node: &ParsedValue<'_>) -> Result<C> {
+        C::read(Source::Node(reader, node))
     }
 }
 
 impl<C: Compound> RoundTrip for C {
-    ghost comes_back = { λ x e h p. compound_back C.Parts.are_named C.Parts.form C.Parts.written C.Parts.meaning C.Parts.value C.Parts.come_back C.names C.parts C.complete x e h p };
+    ghost table = { closed C.table };
 
-    #[tactic(auto, unfolding(crate::specs::Compound::data_by_parts))]
+    ghost is_own = { itself C.table.value (data_by C.table.datum) C.table.form C.table.meaning C.table.distinct (data_by_back C.table.datum C.table.form C.table.meaning C.table.value C.table.comes_back) };
+
+    ghost comes_back = { λ x e h p. data_by_back C.table.datum C.table.form C.table.meaning C.table.value C.table.comes_back x e h p };
+
+    #[tactic(auto, unfolding(crate::specs::Compound::data_by))]
     fn fits(&self) {
-        self.fit();
+        let _nothing = self.written(Out::Nothing);
     }
+}
+
+/// The nested pairs of a struct's fields: `fields!(self; x, y)` is `(&self.x, (&self.y, ()))`, and `fields!(x, y)` is `(x, (y, ()))`, as a
+/// pattern or a value.
+///
+/// A field that is left out where it is None has a question mark behind it: `fields!(self; x, y?)` is `(&self.x, (SkipNone(&self.y), ()))`, and
+/// `fields!(x, y?)` is `(x, Optional(y, ()))`.
+///
+/// ```
+/// let Struct(fields!(x, y)) = PointParts::read(source, NAMES)?;
+/// out.fields(NAMES, fields!(self; x, y))
+/// ```
+#[macro_export]
+macro_rules! fields {
+    () => { () };
+    ($value:ident;) => { () };
+    ($value:ident; $field:tt ? $(, $($others:tt)*)?) => {
+        ($crate::SkipNone(&$value.$field), $crate::fields!($value; $($($others)*)?))
+    };
+    ($value:ident; $field:tt $(, $($others:tt)*)?) => { (&$value.$field, $crate::fields!($value; $($($others)*)?)) };
+    ($field:ident ? $(, $($others:tt)*)?) => { $crate::Optional($field, $crate::fields!($($($others)*)?)) };
+    ($field:ident $(, $($others:tt)*)?) => { ($field, $crate::fields!($($($others)*)?)) };
 }

@@ -37,8 +37,8 @@
 //!
 //! # Two encodings
 //!
-//! By default a space is `+`, and only bytes that would be read as others are escaped: `name=John+Doe&langs[0]=en`. Form encoding,
-//! [`Config::use_form_encoding`], escapes all but letters, digits and `*-._`, the brackets of keys too:
+//! By default a space is `+`, and bytes that the query of a URL may hold as they are aren't escaped: `name=John+Doe&langs[0]=en`. Form
+//! encoding, [`Config::use_form_encoding`], escapes all but letters, digits and `*-._`, the brackets of keys too:
 //! `name=John%20Doe&langs%5B0%5D=en`. On reading it takes escaped brackets for brackets.
 //!
 //! # Repeated keys
@@ -51,8 +51,7 @@
 //!
 //! # Memory
 //!
-//! A call that allocates is passed the allocator, and returns [`Error::OutOfMemory`] where an allocation failed, and
-//! only there.
+//! A call that allocates is passed the allocator, and returns [`Error::OutOfMemory`] where an allocation failed.
 #![tactic(auto)]
 
 mod calls;
@@ -66,10 +65,10 @@ pub mod web;
 
 pub use calls::{ConfigExt, from_bytes, from_str, read_by, to_string, to_writer};
 pub use compound::{
-    Compound, Defaulted, Enum, Fields, ItemReferences, Items, Last, Newtype, OneOf, Optional,
-    OrDefault, Parts, Payload, References, SkipNone, StrictStruct, Struct, Tuple, Variants,
-    newtype_struct, newtype_variant, struct_of, struct_variant, tuple_struct, tuple_variant,
-    unit_variant,
+    Compound, Defaulted, Enum, FieldReferences, Fields, ItemReferences, Items, Last,
+    ListedReferences, Newtype, OneOf, Optional, OrDefault, Out, Parts, Payload, References,
+    SkipNone, Source, StrictStruct, Struct, Tuple, Variants, newtype_struct, newtype_variant,
+    struct_of, struct_variant, tuple_struct, tuple_variant, unit_variant,
 };
 pub use laws::value_comes_back;
 pub use limits::{LimitError, Limits};

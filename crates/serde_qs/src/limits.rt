@@ -13,11 +13,11 @@ use std::fmt;
 ///
 /// ```
 /// let limits = Limits::new().max_length(65_536).max_pairs(1_000);
-/// limits.check(body)?;
-/// let order: Order = from_bytes(alloc, body)?;
+/// limits.check(body).map_err(Rejected::TooLarge)?; // an error of your own
+/// let order: Order = from_bytes(alloc, body).map_err(Rejected::Unread)?;
 /// ```
 ///
-/// `Limits::new()` has no limits. What a querystring means doesn't depend on them: they are no part of a
+/// `Limits::new()` has no limits. No method allocates. What a querystring means doesn't depend on them: they are no part of a
 /// [`Config`](crate::Config).
 #[derive(Clone, Copy, Debug, PartialEq, Eq)]
 pub struct Limits {

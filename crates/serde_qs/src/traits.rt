@@ -1,6 +1,6 @@
 //! What a type is read by and written as.
 
-ghost use Rattle.std.specs.Prelude.{◌≡◌, true, IfOk, Option};
+ghost use Rattle.std.specs.Prelude.{◌≡◌, true, IfOk, Option, option_and_then};
 ghost use Rattle.qs_spec.specs.Data.{Data as Datum};
 ghost use Rattle.qs_spec.specs.Shape.{Shape as Form, is_distinct};
 ghost use Rattle.qs_tree.specs.Error.{OnlyOutOfMemory};
@@ -8,10 +8,14 @@ ghost use Rattle.qs_data.specs.read.Errors.{IsCustomOrOutOfMemory};
 ghost use Rattle.qs_data.specs.data.Views.{data_of};
 ghost use Rattle.qs_data.specs.shape.Views.{shape_of};
 ghost use Rattle.serde_qs.specs.ComesBack.{ComesBack};
+ghost use Rattle.qs_tree.specs.tree.Views.{tree_of};
 ghost use Rattle.serde_qs.specs.Fits.{fits};
+ghost use Rattle.serde_qs.specs.Nodes.{ReadsNode, missing_data};
+ghost use Rattle.serde_qs.specs.Tables.{IsTableOf, Table};
 ghost use Rattle.serde_qs.specs.Typed.{Means};
 
-use qs_data::{Data, Error, Result, Shape};
+use qs_data::{Data, Error, Reader, Result, Shape};
+use qs_tree::ParsedValue;
 use std::alloc::Global;
 
 /// A type whose values are written as a querystring.
@@ -64,9 +68,36 @@ pub trait Deserialize: Sized {
     /// Returns the value that data mean.
     ///
     /// Where they mean none, the error is [`Custom`](Error::Custom); where an allocation failed,
-    /// [`OutOfMemory`](Error::OutOfMemory). There is no other error. Strings are moved, not copied.
+    /// [`OutOfMemory`](Error::OutOfMemory). There is no other error. Strings are moved, not copied;
+    /// lists and maps are allocated anew. The time grows with the data.
     fn from_data(alloc: Global, datum: Data) -> Result<Self>
         ensures exact { Means value result (meaning (data_of datum)) };
+
+    /// Returns the value that is read from a node of a tree: the one that the data mean which the shape reads from it. Typed calls read by
+    /// this function.
+    ///
+    /// The errors are those of reading by the shape, and of [`from_data`](Deserialize::from_data). Unless a type has a function of its own, this
+    /// makes the shape and the data; the types of this crate read the node itself.
+    fn from_node(reader: Reader, node: &ParsedValue<'_>) -> Result<Self>
+        ensures node { ReadsNode value form meaning reader.reject_duplicates (tree_of node.now) result }
+    {
+        let shape = Self::shape(reader.alloc)?;
+        let datum = reader.read(&shape, node)?;
+        Self::from_data(reader.alloc, datum)
+    }
+
+    /// Returns the value of a field of this name that has no key. Unless the shape is an option, the error is
+    /// [`Custom`](Error::Custom), ``missing field `name` ``; where an allocation failed, [`OutOfMemory`](Error::OutOfMemory).
+    fn from_missing(reader: Reader, name: &str) -> Result<Self>
+        ensures missing { Means value result (option_and_then meaning (missing_data form)) }
+    {
+        let shape = Self::shape(reader.alloc)?;
+        if shape.is_option() {
+            Self::from_data(reader.alloc, Data::None)
+        } else {
+            Err(reader.missing_field(name))
+        }
+    }
 
     // No struct or enum in the shape has a name twice.
     ghost distinct: { is_distinct form ≡ true };
@@ -76,9 +107,16 @@ pub trait Deserialize: Sized {
 ///
 /// [`value_comes_back`](crate::value_comes_back) is what follows from it.
 pub trait RoundTrip: Serialize + Deserialize {
+    // What a value is read by and written as, with the proofs that belong to it, as one value. The table of a struct or an enum with such
+    // a field is made of it.
+    ghost table: { Table Self };
+
     /// Shows that the data of this value fit the shape. It does nothing when it runs.
     fn fits(&self)
         ensures { fits Self.form (Self.datum self.now) ≡ true };
+
+    // The table holds the type's own shape, data and meaning.
+    ghost is_own: { IsTableOf table Self.value Self.datum Self.form Self.meaning };
 
     // From data that are the same as those of a value, and fit, comes that value.
     ghost comes_back: { ComesBack Self.datum Self.form Self.meaning Self.value };
@@ -87,7 +125,7 @@ pub trait RoundTrip: Serialize + Deserialize {
 /// Returns the error of data that mean no value of a type: [`Custom`](Error::Custom) with the message `invalid type: data,
 /// expected ..`, or [`OutOfMemory`](Error::OutOfMemory) where the allocation of the message failed.
 ///
-/// It is for a [`from_data`](Deserialize::from_data) that is written by hand.
+/// It is for a [`from_data`](Deserialize::from_data) that is written by hand. It allocates the message.
 ///
 /// ```
 /// match datum {

@@ -3,7 +3,7 @@
 ghost use Rattle.std.specs.Prelude.{◌≡◌, ℕ, List, IsTrue, IsFalse, length, string_bytes};
 ghost use Rattle.qs_c.specs.Notation.{after_word, behind, comes, goes_on, name, name_of, quoted, trimmed, wanted, word, word as word_of, word_name};
 ghost use Rattle.std.specs.Str.{bytes_eq};
-ghost use Rattle.qs_c.specs.Parses.{Parses};
+ghost use Rattle.qs_c.specs.internal.Parses.{Parses};
 
 use super::class::{Class, run};
 use super::stop::{Result, Stop};
@@ -58,7 +58,7 @@ impl<'t> Cursor<'t> {
         }
     }
 
-    /// Whether a list goes on, behind a comma; else the sign has to come next.
+    /// Whether a list goes on, after a comma; else the sign has to come next.
     #[tactic(auto, using(crate::proofs::Found::steps), unfolding(crate::specs::Notation::goes_on))]
     pub(crate) fn goes_on(&mut self, sign: u8, reason: &'static str) -> Result<bool>
         ensures { Parses (λ more. more) (goes_on sign reason.now self.old.rest.now) result self.new.rest.now }
@@ -110,6 +110,7 @@ impl<'t> Cursor<'t> {
         }
     }
 
+    // The name up to the closing quote, decoded.
     #[tactic(auto, using(crate::proofs::Found::steps), unfolding(crate::specs::Notation::quoted))]
     fn quoted(&mut self, alloc: Global) -> Result<String>
         ensures { Parses string_bytes (quoted self.old.rest.now) result self.new.rest.now }
@@ -124,6 +125,7 @@ impl<'t> Cursor<'t> {
         }
     }
 
+    // The word as a name.
     fn word_name(&mut self, alloc: Global) -> Result<String>
         ensures { Parses string_bytes (word_name self.old.rest.now) result self.new.rest.now }
     {
@@ -135,7 +137,7 @@ impl<'t> Cursor<'t> {
     }
 }
 
-/// The bytes as a name.
+// The bytes as a name.
 fn name_of(alloc: Global, bytes: &[u8]) -> Result<String>
     ensures { (rest : List ℕ) → Parses string_bytes (name_of bytes.now rest) result rest }
 {
@@ -145,6 +147,7 @@ fn name_of(alloc: Global, bytes: &[u8]) -> Result<String>
     }
 }
 
+// The text without the white space in front.
 #[tactic(auto, using(crate::proofs::Found::steps), unfolding(crate::specs::Notation::trimmed))]
 fn without_blanks(text: &[u8]) -> &[u8]
     ensures { result.now ≡ trimmed text.now }

@@ -3,7 +3,7 @@
 ghost use Rattle.std.specs.Prelude.{map, string_bytes};
 ghost use Rattle.qs_data.specs.shape.Views.{key_shape_of};
 ghost use Rattle.qs_c.specs.Notation.{comma_or_parenthesis, key, list_of, name};
-ghost use Rattle.qs_c.specs.Parses.{Parses};
+ghost use Rattle.qs_c.specs.internal.Parses.{Parses};
 
 use super::cursor::Cursor;
 use super::stop::{Result, Stop};
@@ -24,7 +24,7 @@ pub(crate) fn map_key(alloc: Global, cursor: &mut Cursor<'_>) -> Result<KeyShape
     scalar_key(word).ok_or(Stop::Fault("the word before is no shape of a key"))
 }
 
-/// Names, up to the parenthesis that closes them.
+// Names, up to the parenthesis that closes them.
 fn names(alloc: Global, cursor: &mut Cursor<'_>) -> Result<Vec<String>>
     ensures { Parses (λ names. map string_bytes names.items) (list_of name 41 comma_or_parenthesis cursor.old.rest.now) result cursor.new.rest.now }
 {

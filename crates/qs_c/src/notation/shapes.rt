@@ -4,7 +4,7 @@ ghost use Rattle.std.specs.Prelude.{map, ◌++◌};
 ghost use Rattle.qs_data.specs.shape.Views.{field_of, shape_of};
 ghost use Rattle.qs_c.specs.Found.{before};
 ghost use Rattle.qs_c.specs.Notation as n;
-ghost use Rattle.qs_c.specs.Parses.{Parses};
+ghost use Rattle.qs_c.specs.internal.Parses.{Parses};
 
 use super::cursor::Cursor;
 use super::keys::map_key;
@@ -23,11 +23,11 @@ pub(crate) fn shape(alloc: Global, cursor: &mut Cursor<'_>, levels: usize) -> Re
     if levels == 0 {
         return Err(Stop::Fault("the shape nests more than 32 levels"));
     }
-    let shape = plain(alloc, cursor, levels - 1)?;
+    let shape = base(alloc, cursor, levels - 1)?;
     options(alloc, cursor, levels - 1, shape)
 }
 
-/// The shape with an option round it for each `?` that comes next, of which there are so many at most.
+// The shape with an option round it for each `?` that comes next, of which there are so many at most.
 #[tactic(auto, using(crate::proofs::Found::steps), unfolding(crate::specs::Notation::options))]
 fn options(alloc: Global, cursor: &mut Cursor<'_>, most: usize, shape: Shape) -> Result<Shape>
     ensures { Parses shape_of (n.options most (shape_of shape) cursor.old.rest.now) result cursor.new.rest.now }
@@ -42,11 +42,11 @@ fn options(alloc: Global, cursor: &mut Cursor<'_>, most: usize, shape: Shape) ->
     Ok(shape)
 }
 
-/// A shape before any `?`.
+// A shape before any `?`.
 #[cycle(shape)]
-#[tactic(auto, using(crate::proofs::Found::steps), unfolding(crate::specs::Notation::plain))]
-fn plain(alloc: Global, cursor: &mut Cursor<'_>, levels: usize) -> Result<Shape>
-    ensures { Parses shape_of (n.plain (n.shape levels) cursor.old.rest.now) result cursor.new.rest.now }
+#[tactic(auto, using(crate::proofs::Found::steps), unfolding(crate::specs::Notation::base))]
+fn base(alloc: Global, cursor: &mut Cursor<'_>, levels: usize) -> Result<Shape>
+    ensures { Parses shape_of (n.base (n.shape levels) cursor.old.rest.now) result cursor.new.rest.now }
 {
     if cursor.take(b'[') {
         return list(alloc, cursor, levels);
@@ -61,7 +61,7 @@ fn plain(alloc: Global, cursor: &mut Cursor<'_>, levels: usize) -> Result<Shape>
     named(alloc, cursor, levels, word)
 }
 
-/// A list, up to the bracket that closes it.
+// A list, up to the bracket that closes it.
 #[cycle(shape)]
 #[tactic(auto, using(crate::proofs::Found::steps), unfolding(crate::specs::Notation::list))]
 fn list(alloc: Global, cursor: &mut Cursor<'_>, levels: usize) -> Result<Shape>
@@ -72,7 +72,7 @@ fn list(alloc: Global, cursor: &mut Cursor<'_>, levels: usize) -> Result<Shape>
     Ok(Shape::Seq(Box::new(alloc, item)?))
 }
 
-/// A shape that begins with this word.
+// A shape that begins with this word.
 #[cycle(shape)]
 #[tactic(auto, using(crate::proofs::Found::steps), unfolding(crate::specs::Notation::named))]
 fn named(alloc: Global, cursor: &mut Cursor<'_>, levels: usize, word: &[u8]) -> Result<Shape>
@@ -95,7 +95,7 @@ fn named(alloc: Global, cursor: &mut Cursor<'_>, levels: usize, word: &[u8]) -> 
     scalar(word).ok_or(Stop::Fault("the word before is no shape"))
 }
 
-/// A value in a type of its own.
+// A value in a type of its own.
 #[cycle(shape)]
 #[tactic(auto, using(crate::proofs::Found::steps), unfolding(crate::specs::Notation::newtype))]
 fn newtype(alloc: Global, cursor: &mut Cursor<'_>, levels: usize) -> Result<Shape>
@@ -107,7 +107,7 @@ fn newtype(alloc: Global, cursor: &mut Cursor<'_>, levels: usize) -> Result<Shap
     Ok(Shape::Newtype(Box::new(alloc, inner)?))
 }
 
-/// The key and the value of a map.
+// The key and the value of a map.
 #[cycle(shape)]
 #[tactic(auto, using(crate::proofs::Found::steps), unfolding(crate::specs::Notation::map))]
 fn map(alloc: Global, cursor: &mut Cursor<'_>, levels: usize) -> Result<Shape>
@@ -140,7 +140,7 @@ pub(crate) fn fields(alloc: Global, cursor: &mut Cursor<'_>, levels: usize) -> R
     Err(Stop::Fault("`,` or `}` is wanted"))
 }
 
-/// A field: its name, `?` if it may be left out, and its shape.
+// A field: its name, `?` if it may be left out, and its shape.
 #[cycle(shape)]
 #[tactic(auto, using(crate::proofs::Found::steps), unfolding(crate::specs::Notation::field))]
 fn field(alloc: Global, cursor: &mut Cursor<'_>, levels: usize) -> Result<Field>

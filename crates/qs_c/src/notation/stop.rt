@@ -20,7 +20,7 @@ impl From<AllocError> for Stop {
 
     ghost from_gives = { λ _ stop. stop ≡ OutOfMemory };
 
-    fn from(_refused: AllocError) -> Stop {
+    fn from(_: AllocError) -> Stop {
         Stop::OutOfMemory
     }
 }
@@ -31,7 +31,7 @@ impl<T: Drop> From<AllocFailed<T>> for Stop {
 
     ghost from_gives = { λ _ stop. stop ≡ OutOfMemory };
 
-    fn from(_refused: AllocFailed<T>) -> Stop {
+    fn from(_: AllocFailed<T>) -> Stop {
         Stop::OutOfMemory
     }
 }

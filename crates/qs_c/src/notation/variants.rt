@@ -3,7 +3,7 @@
 ghost use Rattle.std.specs.Prelude.{map};
 ghost use Rattle.qs_data.specs.shape.Views.{kind_of, variant_of};
 ghost use Rattle.qs_c.specs.Notation as n;
-ghost use Rattle.qs_c.specs.Parses.{Parses};
+ghost use Rattle.qs_c.specs.internal.Parses.{Parses};
 
 use super::cursor::Cursor;
 use super::shapes::{fields, items, shape};
@@ -31,6 +31,7 @@ pub(crate) fn variants(
     Err(Stop::Fault("`,` or `)` is wanted"))
 }
 
+// One variant: its name and what it holds.
 #[cycle(shape)]
 #[tactic(auto, using(crate::proofs::Found::steps), unfolding(crate::specs::Notation::variant))]
 fn variant(alloc: Global, cursor: &mut Cursor<'_>, levels: usize) -> Result<Variant>
@@ -41,7 +42,7 @@ fn variant(alloc: Global, cursor: &mut Cursor<'_>, levels: usize) -> Result<Vari
     Ok(Variant { name, kind })
 }
 
-/// What a variant holds: nothing, a value, `(shape, ..)`, `{name: shape, ..}` or `strict {name: shape, ..}`.
+// What a variant holds: nothing, a value, `(shape, ..)`, `{name: shape, ..}` or `strict {name: shape, ..}`.
 #[cycle(shape)]
 #[tactic(auto, using(crate::proofs::Found::steps), unfolding(crate::specs::Notation::kind))]
 fn kind(alloc: Global, cursor: &mut Cursor<'_>, levels: usize) -> Result<VariantKind>
@@ -60,7 +61,7 @@ fn kind(alloc: Global, cursor: &mut Cursor<'_>, levels: usize) -> Result<Variant
     held(alloc, cursor, levels)
 }
 
-/// What a variant holds in parentheses: a tuple, or a value, which has no comma after it.
+// What a variant holds in parentheses: a tuple, or a value, which has no comma after it.
 #[cycle(shape)]
 #[tactic(auto, using(crate::proofs::Found::steps), unfolding(crate::specs::Notation::held))]
 fn held(alloc: Global, cursor: &mut Cursor<'_>, levels: usize) -> Result<VariantKind>

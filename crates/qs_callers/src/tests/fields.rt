@@ -2,8 +2,8 @@
 
 use super::round_trips::comes_back;
 use super::{is_custom, list, text};
-use crate::{Age, Chart, Page, Paging, Pair, Place, Span};
-use serde_qs::{Config, ConfigExt, Delimited, Pipe, Result, Space, from_str, to_string};
+use crate::{Age, Chart, Columns, Page, Paging, Pair, Place, Price, Profile, Sort, Span};
+use serde_qs::{Config, ConfigExt, Delimited, Result, from_str, to_string};
 
 #[test]
 fn a_list_in_one_text(rt: HostRuntime) {
@@ -32,30 +32,28 @@ fn a_list_in_one_text(rt: HostRuntime) {
 #[test]
 fn other_delimiters(rt: HostRuntime) {
     let alloc = rt.alloc();
-    let a: Delimited<i8, Pipe> = Delimited::new(list(&rt, alloc, [-1i8, 2]));
-    let b: Delimited<u64, Space> = Delimited::new(list(&rt, alloc, [3u64, 4]));
-    let pair = Pair { a, b };
-    let written = to_string(alloc, &pair).expect(&rt, "a text");
+    let columns = Columns {
+        left: Delimited::new(list(&rt, alloc, [-1i8, 2])),
+        right: Delimited::new(list(&rt, alloc, [3u64, 4])),
+    };
+    let written = to_string(alloc, &columns).expect(&rt, "a text");
     assert!(rt; written.as_str() == "a=-1|2&b=3+4", "{written}");
-    comes_back(&rt, alloc, &pair);
+    comes_back(&rt, alloc, &columns);
 }
 
 #[test]
 fn an_age_below_150(rt: HostRuntime) {
     let alloc = rt.alloc();
-    let pair: Pair<Age, bool> = from_str(alloc, "a=149&b=true").expect(&rt, "a pair");
+    let pair: Pair<Age, Price> = from_str(alloc, "a=149&b=7").expect(&rt, "a pair");
     assert!(rt; pair.a.years() == 149);
     comes_back(&rt, alloc, &pair);
     let rows = [
-        (
-            "a=150&b=true",
-            "invalid type: data, expected an age below 150",
-        ),
-        ("a=256&b=true", "invalid type: string, expected u8"),
-        ("b=true", "missing field `a`"),
+        ("a=150&b=7", "invalid type: data, expected an age below 150"),
+        ("a=256&b=7", "invalid type: string, expected u8"),
+        ("b=7", "missing field `a`"),
     ];
     for (input, wanted) in rows {
-        let result: Result<Pair<Age, bool>> = from_str(alloc, input);
+        let result: Result<Pair<Age, Price>> = from_str(alloc, input);
         assert!(rt; is_custom(&result, wanted), "{input}");
     }
 }
@@ -95,4 +93,19 @@ fn fields_with_a_default(rt: HostRuntime) {
     }
     let result: Result<Paging> = from_str(alloc, "text=a&page=");
     assert!(rt; is_custom(&result, "invalid type: string, expected u32"));
+}
+
+#[test]
+fn ten_fields(rt: HostRuntime) {
+    let alloc = rt.alloc();
+    let input =
+        "name=Alice&age=24&city=Ely&zip=7&langs[0]=en&langs[1]=fr&sort[By]=price&size&dark=true&news=false&visits=3";
+    let profile: Profile = from_str(alloc, input).expect(&rt, "a profile");
+    assert!(rt; profile.langs.len() == 2 && profile.visits == 3);
+    assert!(rt; profile.sort == Sort::By(text(&rt, alloc, "price")) && profile.size.is_none());
+    let written = to_string(alloc, &profile).expect(&rt, "a text");
+    assert!(rt; written.as_str() == input, "{written}");
+    comes_back(&rt, alloc, &profile);
+    let result: Result<Profile> = from_str(alloc, "name=Alice&age=24&city=Ely&zip=7&langs=");
+    assert!(rt; is_custom(&result, "missing field `sort`"));
 }

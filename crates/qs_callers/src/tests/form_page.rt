@@ -1,10 +1,10 @@
 //! What a form's page says of the field that is wrong.
 
-use crate::{FieldError, Order, submitted};
+use crate::{FieldError, Order, Query, explained, submitted};
 use std::alloc::Global;
 use std::process::Abort;
 
-/// What the page says of a form that stands for no order.
+// What the page says of a form from which no order is read.
 fn rejected<R: Abort>(rt: &R, alloc: Global, form: &[u8]) -> FieldError {
     match submitted::<Order>(alloc, form) {
         Ok(Err(report)) => report,
@@ -49,11 +49,28 @@ fn keys_and_brackets(rt: HostRuntime) {
     let alloc = rt.alloc();
     let conflict = rejected(&rt, alloc, b"name=Alice&name[first]=Bob");
     assert!(rt; conflict.field.as_str() == "name[first]", "{conflict:?}");
+    let open = rejected(&rt, alloc, b"name=Alice&items[=1&address[city=Ely");
+    assert!(rt; open.field.as_str() == "items[", "{open:?}");
     let hinted = rejected(&rt, alloc, b"name=Alice&address%5bcity%5d=Ely");
     assert!(rt; hinted.field.as_str() == "address", "{hinted:?}");
     assert!(rt;
         hinted.message.as_str()
             == "expected fields, found nothing; the escaped bracket before position 21 is part of the key: form mode reads `%5B` and `%5D` in upper case",
         "{hinted:?}"
+    );
+}
+
+#[test]
+fn one_line_for_the_user(rt: HostRuntime) {
+    let alloc = rt.alloc();
+    let read = explained::<Query>(alloc, "age=24&name=Alice&occupation=Student");
+    assert!(rt; matches!(read, Ok(Ok(_))), "a query");
+    let Ok(Err(line)) = explained::<Query>(alloc, "age=300&name=Alice&occupation=Student") else {
+        assert!(rt; false, "no line");
+        return;
+    };
+    assert!(rt;
+        line.as_str() == "age: expected u8, found the text \"300\"",
+        "{line}"
     );
 }

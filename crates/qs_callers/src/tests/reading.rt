@@ -11,6 +11,7 @@ use std::process::Abort;
 
 const TEXT: &str = "name=Alice&age=24&occupation=Student";
 
+// Whether the query is that of the text.
 fn is_alice(query: &Query) -> bool {
     query.name.as_str() == "Alice" && query.age == 24 && query.occupation.as_str() == "Student"
 }
@@ -96,6 +97,17 @@ fn the_later_pair_wins(rt: HostRuntime) {
     let map: BTreeMap<String, String> = from_str(alloc, "1=a&%31=b").expect(&rt, "a map");
     assert!(rt; map.len() == 1);
     assert!(rt; map.get("1").is_some_and(|value| value.as_str() == "b"));
+}
+
+#[test]
+fn a_depth_limit(rt: HostRuntime) {
+    let alloc = rt.alloc();
+    let map: BTreeMap<String, String> = Config::new()
+        .max_depth(0)
+        .deserialize_str(alloc, "a[b]=1")
+        .expect(&rt, "a map");
+    assert!(rt; map.len() == 1);
+    assert!(rt; map.get("a[b]").is_some_and(|value| value.as_str() == "1"));
 }
 
 #[test]

@@ -2,7 +2,7 @@
 
 use super::{list, one, text, with};
 use crate::{Account, Filter, Pair, Price, Sort};
-use serde_qs::{Config, ConfigExt, RoundTrip};
+use serde_qs::{Config, ConfigExt, RoundTrip, to_string};
 use std::alloc::Global;
 use std::collections::BTreeMap;
 use std::process::Abort;
@@ -17,7 +17,7 @@ pub(crate) fn comes_back<R: Abort, T: RoundTrip + PartialEq + Drop>(
     comes_back_by(rt, alloc, Config::new().use_form_encoding(true), value);
 }
 
-/// The value comes back from what this configuration writes of it.
+// The value comes back from what this configuration writes of it.
 fn comes_back_by<R: Abort, T: RoundTrip + PartialEq + Drop>(
     rt: &R,
     alloc: Global,
@@ -98,6 +98,11 @@ fn strings(rt: HostRuntime) {
         "50%",
     ];
     for row in rows {
+        let field = Pair {
+            a: text(&rt, alloc, row),
+            b: true,
+        };
+        comes_back(&rt, alloc, &field);
         let a = text(&rt, alloc, row);
         // an empty key in brackets would be a push
         let key = if row.is_empty() { "key" } else { row };
@@ -113,6 +118,11 @@ fn strings(rt: HostRuntime) {
     let keys = with(&rt, alloc, keys, "%5Bx%5D", 2);
     comes_back(&rt, alloc, &keys);
     let keys = with(&rt, alloc, keys, "[x]", 3);
+    let written = to_string(alloc, &keys).expect(&rt, "a text");
+    assert!(rt;
+        written.as_str() == "%255Bx%255D=2&K%2547=1&%5Bx%5D=3",
+        "{written}"
+    );
     comes_back_by(&rt, alloc, Config::new(), &keys);
 }
 

@@ -3,4 +3,3 @@ pub mod Wrote
 pub mod Visible
 pub mod Entry
 pub mod Walk
-pub mod Kept

@@ -8,6 +8,13 @@ use std::alloc::{AllocError, Global};
 
 impl Data {
     /// Data that are equal to these, in memory of their own.
+    ///
+    /// It allocates for each text, list and nested value. The one error is that an allocation failed; what was copied is dropped then.
+    /// It takes time with the size of the data, and stack with their depth.
+    ///
+    /// ```
+    /// let copy = data.try_clone(alloc)?; // copy == data
+    /// ```
     #[cycle(copy)]
     #[tactic(auto, using(crate::proofs::lemmas::data::Levels::levels))]
     pub fn try_clone(&self, alloc: Global) -> Result<Data, AllocError>

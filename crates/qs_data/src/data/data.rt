@@ -9,6 +9,10 @@ use crate::data::sameness::same_data;
 /// A value as a querystring carries it.
 ///
 /// Two data are equal where they hold the same, whatever room they have to grow.
+///
+/// ```
+/// let ids = Data::Seq(vec![in alloc; Data::Unsigned(7)]?); // a list of one number
+/// ```
 #[derive(Debug, Drop)]
 pub enum Data {
     /// No value.

@@ -24,7 +24,12 @@ impl Data {
     /// level.
     ///
     /// Allocates the stack, which holds lists, maps and the like, and no leaves. One for which an allocation fails is
-    /// dropped plainly.
+    /// dropped plainly. It takes time with the size of the data, and returns no error.
+    ///
+    /// ```
+    /// let data = deserializer.read(alloc, &Shape::Any)?;
+    /// data.discard();
+    /// ```
     pub fn discard(self) {
         let Some((alloc, parts)) = self.into_parts() else {
             return;

@@ -29,11 +29,13 @@ use crate::shape::{Field, KeyShape, Shape, Width};
 use qs_tree::{Error, ParsedValue};
 use std::alloc::Global;
 
-/// How a tree is read: from where memory comes, and whether several values for one are rejected.
+/// How a tree is read, node by node.
 #[derive(Clone, Copy)]
-pub(crate) struct Reader {
-    pub(crate) alloc: Global,
-    pub(crate) reject_duplicates: bool,
+pub struct Reader {
+    /// Where memory comes from.
+    pub alloc: Global,
+    /// Whether several values for a scalar are rejected.
+    pub reject_duplicates: bool,
 }
 
 /// Reads a value by a shape.

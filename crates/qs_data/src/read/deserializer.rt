@@ -19,7 +19,7 @@ ghost use Rattle.qs_data.specs.read.ReadBack.{ReadsBack};
 use crate::data::Data;
 use crate::read::by_shape::{Reader, read};
 use crate::shape::Shape;
-use qs_tree::{Config, DuplicateKeyBehavior, ParsedValue, Result, parse};
+use qs_tree::{Config, ParsedValue, Result, parse};
 use std::alloc::Global;
 
 /// A querystring that was parsed, to be read by a [`Shape`].
@@ -35,7 +35,9 @@ pub struct Deserializer<'qs> {
 }
 
 impl<'qs> Deserializer<'qs> {
-    /// The querystring, parsed with the default configuration: see [`with_config`](Deserializer::with_config).
+    /// The querystring, parsed with the default configuration.
+    ///
+    /// The errors are those of [`with_config`](Deserializer::with_config). It allocates, and takes time, as that call does.
     pub fn new(alloc: Global, input: &'qs [u8]) -> Result<Deserializer<'qs>>
         ensures config { IfOk result (λ d. (parsed_of d).config ≡ default) }
         ensures tree { IfOk result (λ d. IsTree default.form default.max_depth input.now (parsed_of d).tree) }
@@ -49,8 +51,10 @@ impl<'qs> Deserializer<'qs> {
 
     /// The querystring, parsed.
     ///
-    /// It is rejected, with [`Parse`](Error::Parse) and the position of the first error, exactly where it has no tree. Texts and
-    /// keys that hold neither `+` nor `%` are borrowed from it. The time grows with the input's length and the depth of its keys.
+    /// It is rejected, with [`Parse`](qs_tree::Error::Parse) and the position of the first error, exactly where it has no tree. The only
+    /// other error is [`OutOfMemory`](qs_tree::Error::OutOfMemory), where an allocation failed. It allocates as
+    /// [`parse`](qs_tree::parse) does: texts and keys that hold neither `+` nor `%` are borrowed from the input. The time grows with the
+    /// input's length and the depth of its keys.
     ///
     /// The clauses are those of [`parse`](qs_tree::parse) about the tree. Pairs in another order that keeps those with overlapping
     /// paths have the same tree, or are rejected too (`alike`). Steps aren't counted: [`parse_with`](qs_tree::parse_with) counts them.
@@ -77,9 +81,10 @@ impl<'qs> Deserializer<'qs> {
 
     /// Reads the querystring by a shape whose names differ.
     ///
-    /// The data are those that docs/QUERYSTRINGS.md has for the shape and the tree. Where there are none, that is
-    /// [`Custom`](Error::Custom) with the first mismatch, or [`Utf8`](Error::Utf8) where a text that is read isn't
-    /// UTF-8. Fields are read in the shape's order, then the other keys are looked at.
+    /// The data are those that docs/QUERYSTRINGS.md has for the shape and the tree. Where there are none, the error is
+    /// [`Custom`](qs_tree::Error::Custom) with the first mismatch, or [`Utf8`](qs_tree::Error::Utf8) where a text that is read isn't
+    /// UTF-8; where an allocation failed, it is [`OutOfMemory`](qs_tree::Error::OutOfMemory). Fields are read in the shape's order, then
+    /// the other keys are looked at.
     ///
     /// The items of a list are read in their order, and the pairs of a map in the order of its keys, of each the key first. The
     /// error of a key that holds `[` has a hint at form encoding.
@@ -90,7 +95,8 @@ impl<'qs> Deserializer<'qs> {
     /// the order of its keys.
     ///
     /// Memory is allocated for what the data keep, for a struct with room for each field of its shape, and for an error's message. A
-    /// scalar without bytes is read without an allocation.
+    /// unit, a boolean, a number or a character is read without an allocation. The time grows with the tree and the data: a field is
+    /// found by two look-ups at most.
     pub fn read(self, alloc: Global, shape: &Shape) -> Result<Data>
         requires { is_distinct (shape_of shape.now) ≡ true }
         ensures exact { ReturnsData (parsed_of self.entry) (shape_of shape.now) result }
@@ -98,11 +104,6 @@ impl<'qs> Deserializer<'qs> {
         ensures no_memory { takes_no_memory (shape_of shape.now) ≡ true → SparesMemory (parsed_of self.entry) (shape_of shape.now) result }
         ensures errors { OnlyCustomUtf8OrOutOfMemory result }
     {
-        let reject_duplicates = self.config.get_duplicates() == DuplicateKeyBehavior::Error;
-        let reader = Reader {
-            alloc,
-            reject_duplicates,
-        };
-        read(reader, shape, &self.tree)
+        read(Reader::new(alloc, self.config), shape, &self.tree)
     }
 }

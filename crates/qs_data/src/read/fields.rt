@@ -6,11 +6,10 @@ ghost use Rattle.qs_spec.specs.Node.{found, keys_are_allowed};
 ghost use Rattle.qs_spec.specs.internal.ReadFunction.{struct_members, reads, reads_names, reads_places, read_field, read_place};
 ghost use Rattle.qs_tree.specs.tree.Views.{tree_of, items_from};
 ghost use Rattle.qs_data.specs.data.Views.{data_of, named};
-ghost use Rattle.qs_data.specs.shape.Views.{field_of, fields_in, shape_of};
+ghost use Rattle.qs_data.specs.shape.Views.{field_of, fields_in};
 ghost use Rattle.qs_data.specs.read.Text.{is_text, items_are_text, entries_are_text};
 ghost use Rattle.qs_data.specs.read.internal.ReadError.{ReadGives};
 ghost use Rattle.qs_data.specs.read.internal.Keys.{NumbersFit, entries_of, unknown_of};
-ghost use Rattle.std.specs.Prelude.{◌≡◌};
 
 use crate::data::Data;
 use crate::read::by_shape::{Reader, read_node};
@@ -19,7 +18,7 @@ use crate::read::keys::{Entries, Found, find, test_keys};
 use crate::read::message::{Expected, Message};
 use crate::read::scalar::as_text;
 use crate::read::unknown::UnknownKeys;
-use crate::shape::{Field, Shape};
+use crate::shape::Field;
 use qs_tree::ParsedValue;
 
 /// The fields of a node: by their names among keys, and by their indexes among items.
@@ -110,7 +109,7 @@ fn read_field(reader: Reader, field: &Field, entries: Entries<'_, '_>) -> Result
         Found::Missing => {
             if field.optional {
                 Ok(None)
-            } else if is_option(&field.shape) {
+            } else if field.shape.is_option() {
                 Ok(Some(Data::None))
             } else {
                 Err(Message::MissingField(&field.name).error(reader.alloc))
@@ -118,16 +117,6 @@ fn read_field(reader: Reader, field: &Field, entries: Entries<'_, '_>) -> Result
         }
         Found::One(value) => Ok(Some(read_node(reader, &field.shape, value)?)),
         Found::Several => Err(Message::DuplicateField(&field.name).error(reader.alloc)),
-    }
-}
-
-// Whether a shape is an option.
-fn is_option(shape: &Shape) -> bool
-    ensures { result ≡ is_option_shape (shape_of shape.now) }
-{
-    match shape {
-        Shape::Option(_) => true,
-        _ => false,
     }
 }
 

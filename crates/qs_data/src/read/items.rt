@@ -3,18 +3,20 @@
 ghost use Rattle.std.specs.Prelude.{◌≡◌, length, drop, option_map, true};
 ghost use Rattle.qs_spec.specs.Node.{items, are_ints, is_place};
 ghost use Rattle.qs_tree.specs.tree.Views.{tree_of, entries_of_map, segment_of_key};
+ghost use Rattle.qs_data.specs.read.Gives.{Gives};
 ghost use Rattle.qs_data.specs.read.internal.ReadError.{ReadGives};
 ghost use Rattle.qs_data.specs.read.internal.Items.{items_in, first_item, passed};
 ghost use Rattle.qs_spec.specs.Node.{placed};
 
+use crate::read::by_shape::Reader;
 use crate::read::error::Result;
 use crate::read::message::{Expected, Message, Unexpected};
-use qs_tree::{Key, ParsedMap, ParsedValue};
+use qs_tree::{Error, Key, ParsedMap, ParsedValue};
 use std::alloc::Global;
 
 /// The items of a node.
 #[derive(Clone, Copy)]
-pub(crate) enum Items<'t, 'qs> {
+pub enum Items<'t, 'qs> {
     /// None.
     Empty,
     /// A text alone.
@@ -64,8 +66,8 @@ pub(crate) fn are_numbers(map: &ParsedMap<'_>) -> bool
 }
 
 impl<'t, 'qs> Items<'t, 'qs> {
-    /// How many items there are.
-    pub(crate) fn len(self) -> usize
+    /// Returns how many items there are.
+    pub fn len(self) -> usize
         ensures { result ≡ length (items_in self.entry) }
     {
         match self {
@@ -93,6 +95,19 @@ impl<'t, 'qs> Items<'t, 'qs> {
             Items::Sequence(values) => Ok(values.get(place)),
             Items::Places(map) => value_at(alloc, map, place),
         }
+    }
+
+    /// Returns the item at an index, if there are so many. Where a map has another key there, the error is
+    /// [`Custom`](qs_tree::Error::Custom).
+    #[inline(always)]
+    pub fn get(
+        self,
+        reader: Reader,
+        place: usize,
+    ) -> std::result::Result<Option<&'t ParsedValue<'qs>>, Error>
+        ensures { Gives (option_map (λ v. tree_of v.now)) true result (first_item (drop place (items_in self.entry))) }
+    {
+        Ok(self.at(reader.alloc, place)?)
     }
 }
 

@@ -1,26 +1,27 @@
 //! The keys of a map.
 
-ghost use Rattle.std.specs.Prelude.{◌++◌};
+ghost use Rattle.std.specs.Prelude.{◌++◌, Err};
 ghost use Rattle.std.specs.Str.{is_utf8};
 ghost use Rattle.qs_spec.specs.Segment.{segment_text};
 ghost use Rattle.qs_spec.specs.Node.{found, keys_are_text};
 ghost use Rattle.qs_tree.specs.tree.Views.{entries_of_map, segment_of_key};
 ghost use Rattle.qs_data.specs.declared.read.error.ReadError.TheVariants.{Utf8};
 ghost use Rattle.qs_data.specs.read.internal.Hint.{IsKeyError};
+ghost use Rattle.qs_data.specs.read.Errors.{OnlyCustomUtf8OrOutOfMemory};
 ghost use Rattle.qs_data.specs.read.Found.{Finds};
 ghost use Rattle.qs_data.specs.read.internal.Keys.{NumbersFit, ParsesNumber, KeyFits, PassesTest, entries_of, value_in};
 
 use crate::read::error::{ReadError, Result};
 use crate::read::message::key_error;
 use itoa::Buffer;
-use qs_tree::{Key, ParsedMap, ParsedValue};
+use qs_tree::{Error, Key, ParsedMap, ParsedValue};
 use std::alloc::Global;
 use std::str;
 use std::str::Utf8Error;
 
-/// Keys with their values.
+/// Keys with their values, of which the fields of a struct are read.
 #[derive(Clone, Copy)]
-pub(crate) enum Entries<'t, 'qs> {
+pub enum Entries<'t, 'qs> {
     /// None.
     Empty,
     /// Those of a map.
@@ -38,6 +39,24 @@ pub enum Found<'t, 'qs> {
     One(&'t ParsedValue<'qs>),
     /// Two values, one under the text and one under the integer that is written so.
     Several,
+}
+
+impl<'t, 'qs> Entries<'t, 'qs> {
+    /// Looks up the value under a name. It doesn't allocate.
+    pub fn find(self, name: &str) -> Found<'t, 'qs>
+        requires { NumbersFit (entries_of self) }
+        ensures { Finds result (found name.now (entries_of self.entry)) }
+    {
+        find(self, name)
+    }
+
+    /// Tests whether all keys are texts. It returns the first that isn't, and doesn't allocate.
+    pub fn test(self) -> std::result::Result<(), BrokenKey<'t>>
+        ensures text { PassesTest result (keys_are_text (entries_of self.entry)) }
+        ensures fit { NumbersFit (entries_of self.entry) }
+    {
+        test_keys(self)
+    }
 }
 
 /// The value under a name.
@@ -103,7 +122,7 @@ fn number_of(name: &str) -> Option<u32>
 
 /// A key that isn't a text.
 #[derive(Clone, Copy)]
-pub(crate) struct BrokenKey<'t> {
+pub struct BrokenKey<'t> {
     text: &'t [u8],
     cause: Utf8Error,
 }
@@ -114,6 +133,13 @@ impl BrokenKey<'_> {
         ensures { IsKeyError self.entry.text.now (Utf8 self.entry.cause) result }
     {
         key_error(alloc, self.text, ReadError::Utf8(self.cause))
+    }
+
+    /// Returns the error that says so: `Utf8`, or `Custom` with a hint where the key holds a bracket.
+    pub fn into_error(self, alloc: Global) -> Error
+        ensures { OnlyCustomUtf8OrOutOfMemory {X = Unit {0}} (Err result) }
+    {
+        Error::from(self.error(alloc))
     }
 }
 

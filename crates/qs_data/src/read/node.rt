@@ -14,14 +14,14 @@ use crate::data::Data;
 use crate::read::by_shape::{Reader, read};
 use crate::read::keys::{Entries, Found, find, test_keys};
 use crate::shape::Shape;
-use qs_tree::{Config, DuplicateKeyBehavior, ParsedMap, ParsedValue, Result};
+use qs_tree::{Config, ParsedMap, ParsedValue, Result};
 use std::alloc::Global;
 
 /// Reads one node of a tree by a shape, as [`Deserializer::read`](crate::Deserializer::read) does with the whole tree.
 ///
 /// The data are those that docs/QUERYSTRINGS.md has for the shape and the node. Where there are none, that is
 /// [`Custom`](qs_tree::Error::Custom), or [`Utf8`](qs_tree::Error::Utf8) where a text that is read isn't UTF-8. It allocates for
-/// what the data keep and for an error's message.
+/// what the data keep and for an error's message, and takes time as that call does.
 ///
 /// ```
 /// let age = read_value(alloc, Config::new(), &Shape::U8, &ParsedValue::Null); // an error: u8 is expected
@@ -35,12 +35,7 @@ pub fn read_value(
     ensures exact { Gives data_of (is_text (tree_of node.now)) result (read_by config (shape_of shape.now) (tree_of node.now)) }
     ensures errors { OnlyCustomUtf8OrOutOfMemory result }
 {
-    let reject_duplicates = config.get_duplicates() == DuplicateKeyBehavior::Error;
-    let reader = Reader {
-        alloc,
-        reject_duplicates,
-    };
-    read(reader, shape, node)
+    read(Reader::new(alloc, config), shape, node)
 }
 
 /// Looks up the value under a name, as a field of a struct is looked up: under the text, or under the integer that is written so.

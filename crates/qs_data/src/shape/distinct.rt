@@ -12,7 +12,13 @@ impl Shape {
     /// Whether names differ: those of the fields in each struct and struct variant, and those of the variants in each
     /// enum and key shape, at every depth. Only such a shape can be read.
     ///
-    /// Each name is compared with the ones after it in its list. Nothing is allocated.
+    /// Each name is compared with the ones after it in its list. It takes stack with the depth of the shape, and doesn't allocate.
+    ///
+    /// ```
+    /// if !shape.is_distinct() {
+    ///     return Err(Rejected::OneNameTwice);
+    /// }
+    /// ```
     #[cycle(distinct)]
     pub fn is_distinct(&self) -> bool
         ensures { result ≡ is_distinct (shape_of self.now) }

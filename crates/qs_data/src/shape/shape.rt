@@ -1,6 +1,14 @@
 //! Shapes: what is to be read.
 
+ghost use Rattle.std.specs.Prelude.{◌≡◌};
+ghost use Rattle.qs_spec.specs.Shape.{is_option};
+ghost use Rattle.qs_data.specs.shape.Views.{shape_of};
+
 /// What is to be read of a querystring, and so what its text means.
+///
+/// ```
+/// let ids = Shape::Seq(Box::new(alloc, Shape::U8)?); // a list of numbers of 8 bits
+/// ```
 #[cycle(shape)]
 #[derive(Debug, PartialEq, Eq, Drop)]
 pub enum Shape {
@@ -88,6 +96,22 @@ pub enum VariantKind {
     Struct(Vec<Field>),
     /// Fields as those of a [`Struct`](VariantKind::Struct), where a map's keys that no field has are rejected.
     StrictStruct(Vec<Field>),
+}
+
+impl Shape {
+    /// Returns whether this is an option: a field of such a shape is None where its key is missing.
+    ///
+    /// ```
+    /// assert!(!Shape::Text.is_option());
+    /// ```
+    pub fn is_option(&self) -> bool
+        ensures { result ≡ is_option (shape_of self.now) }
+    {
+        match self {
+            Shape::Option(_) => true,
+            _ => false,
+        }
+    }
 }
 
 /// How the text of a map's key is read.

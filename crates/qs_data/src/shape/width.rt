@@ -7,7 +7,7 @@ use std::fmt;
 
 /// The width of a number.
 #[derive(Clone, Copy)]
-pub(crate) enum Width {
+pub enum Width {
     Bits8,
     Bits16,
     Bits32,

@@ -1,7 +1,8 @@
-//! Entries, each made whole before it is put.
+//! Entries. Each is made whole before it is put, but for a long value, which is put in pieces after its key and allocates nothing.
 
-ghost use Rattle.std.specs.Prelude.{◌≡◌, ◌==◌, ◌||◌, cond, ◌<◌, ◌≤◌, ◌⊎◌, ◌++◌, [], ◌∷◌, ℕ, Bool, List, length, Some, Err, OnOk, OnErr, IfErr, IsNone, option_map};
+ghost use Rattle.std.specs.Prelude.{◌≡◌, ◌==◌, ◌||◌, cond, ◌<◌, ◌≤◌, ◌⊎◌, ◌++◌, [], ◌∷◌, ℕ, Bool, List, length, take, Some, Err, OnOk, OnErr, IfOk, IfErr, IsNone, option_map};
 ghost use Rattle.qs_spec.specs.Entry.{Path, one};
+ghost use Rattle.qs_spec.specs.Escape.{encoded};
 ghost use Rattle.std.specs.List.{All};
 ghost use Rattle.qs_spec.specs.Written.{open_bytes, close_bytes, value_text};
 ghost use Rattle.qs_data.specs.write.internal.Scalars.{scalar_text};
@@ -10,8 +11,9 @@ ghost use Rattle.qs_data.specs.write.internal.Writes.{IsAt, path_after, grown, W
 ghost use Rattle.qs_data.specs.declared.write.stop.Stop.TheVariants.{TooDeep, OutOfMemory};
 
 use crate::write::scalar::Scalar;
-use crate::write::sink::{Sink, put_all};
+use crate::write::sink::{Sink, put_all, put_encoded};
 use crate::write::stop::Stop;
+use crate::write::text::Text;
 use qs_tree::Config;
 use std::alloc::{AllocError, Global};
 use std::io;
@@ -29,7 +31,7 @@ pub(crate) struct Walk {
     /// How many segments lead there.
     depth: usize,
     /// Their text after an `&`. Going in appends, leaving truncates.
-    text: Vec<u8>,
+    text: Text,
     /// Why the sink failed, where it did.
     pub(crate) cause: io::Error,
 }
@@ -41,20 +43,14 @@ impl Walk {
     {
         Walk {
             depth: 0,
-            text: Vec::new(alloc),
+            text: Text::new(alloc),
             cause: io::Error::from(io::ErrorKind::WriteZero),
         }
     }
 
-    /// How long the text is.
-    pub(crate) fn len(&self) -> usize
-        ensures { result ≡ length self.now.text.items }
-    {
-        self.text.len()
-    }
-
-    /// Goes under one more segment, unless the path is as long as the limit allows.
-    pub(crate) fn enter(&mut self, config: Config, segment: Scalar<'_>) -> Result<(), Stop>
+    /// Goes under one more segment, unless the path is as long as the limit allows. Returns how long the text was before.
+    pub(crate) fn enter(&mut self, config: Config, segment: Scalar<'_>) -> Result<usize, Stop>
+        ensures len { IfOk result (λ len. len ≡ length self.old.text) }
         ensures ok { OnOk result ((path : Path) → IsAt config.form path self.old
             → (length path ≤ config.max_depth) × IsAt config.form (path ++ scalar_text segment.entry ∷ []) self.new) }
         ensures err { IfErr result (λ stop. (path : Path) → IsAt config.form path self.old
@@ -63,9 +59,10 @@ impl Walk {
         if config.get_max_depth() < self.depth {
             return Err(Stop::TooDeep);
         }
+        let len = self.text.len();
         append_segment(&mut self.text, config.get_form(), segment)?;
         self.depth = self.depth.saturating_add(1);
-        Ok(())
+        Ok(len)
     }
 
     /// Leaves the last segment; the text was this long before it.
@@ -79,19 +76,18 @@ impl Walk {
 }
 
 /// Appends one more segment: the first after an `&`, and the others in brackets.
-fn append_segment(out: &mut Vec<u8>, form: bool, segment: Scalar<'_>) -> Result<(), AllocError>
-    ensures ok { OnOk result (out.new.items ≡ grown form out.old.items (scalar_text segment.entry)) }
-    ensures visible { All IsVisible out.old.items → OnOk result (All IsVisible out.new.items) }
+fn append_segment(out: &mut Text, form: bool, segment: Scalar<'_>) -> Result<(), AllocError>
+    ensures ok { OnOk result (out.new ≡ grown form out.old (scalar_text segment.entry)) }
+    ensures visible { All IsVisible out.old → OnOk result (All IsVisible out.new) }
 {
-    if out.is_empty() {
-        out.reserve(128)?;
-        out.extend_from_slice(b"&")?;
+    if out.len() == 0 {
+        out.append(b"&")?;
         return segment.append(form, out);
     }
     let (open, close) = brackets(form);
-    out.extend_from_slice(open.as_bytes())?;
+    out.append(open.as_bytes())?;
     segment.append(form, out)?;
-    out.extend_from_slice(close.as_bytes())?;
+    out.append(close.as_bytes())?;
     Ok(())
 }
 
@@ -103,20 +99,30 @@ fn brackets(form: bool) -> (&'static str, &'static str)
     if form { ("%5B", "%5D") } else { ("[", "]") }
 }
 
-/// Appends the value after `=`, where there is one.
-fn append_value(out: &mut Vec<u8>, form: bool, value: Option<Scalar<'_>>) -> Result<(), AllocError>
-    ensures ok { OnOk result (out.new.items ≡ out.old.items ++ value_text form (option_map scalar_text value.entry)) }
-    ensures visible { All IsVisible out.old.items → OnOk result (All IsVisible out.new.items) }
+/// Appends the value after `=`, where there is one. Of a long value `=` alone, and the value is returned.
+fn append_value<'a>(
+    out: &mut Text,
+    form: bool,
+    value: Option<Scalar<'a>>,
+) -> Result<&'a [u8], AllocError>
+    ensures ok { IfOk result (λ rest. out.new ++ encoded form rest.now ≡ out.old ++ value_text form (option_map scalar_text value.entry)) }
+    ensures kept { IfOk result (λ rest. take (length out.old) out.new ≡ out.old) }
+    ensures visible { All IsVisible out.old → IfOk result (λ rest. All IsVisible (out.new ++ encoded form rest.now)) }
     ensures bare { IsNone value.entry → OnErr result ⊥ }
 {
     let Some(scalar) = value else {
-        return Ok(());
+        return Ok(&[]);
     };
-    out.extend_from_slice(b"=")?;
-    scalar.append(form, out)
+    out.append(b"=")?;
+    let rest = scalar.long_bytes();
+    if !rest.is_empty() {
+        return Ok(rest);
+    }
+    scalar.append(form, out)?;
+    Ok(&[])
 }
 
-/// Puts the entry with this value, or with none, where the walk is.
+/// Puts the entry with this value, or with none, where the walk is. A long value isn't copied: it is put in pieces.
 pub(crate) fn put<S: Sink>(
     stream: &mut Stream<S>,
     walk: &mut Walk,
@@ -125,12 +131,14 @@ pub(crate) fn put<S: Sink>(
 ) -> Result<(), Stop>
     ensures writes { WritesTo S.taken S.failed S.writer_name result config stream.old stream.new walk.old walk.new
         (λ path. one path (option_map scalar_text value.entry)) }
-    ensures bare { walk.old.text.items ≡ [] → IsNone value.entry → result ≡ Err OutOfMemory → ⊥ }
+    ensures bare { walk.old.text ≡ [] → IsNone value.entry → result ≡ Err OutOfMemory → ⊥ }
 {
+    let form = config.get_form();
     let len = walk.text.len();
-    append_value(&mut walk.text, config.get_form(), value)?;
+    let rest = append_value(&mut walk.text, form, value)?;
     let start = skipped(stream.started, len);
-    put_all(&mut stream.sink, &walk.text[start..], &mut walk.cause)?;
+    put_all(&mut stream.sink, walk.text.after(start), &mut walk.cause)?;
+    put_encoded(&mut stream.sink, rest, form, &mut walk.cause)?;
     walk.text.truncate(len);
     stream.started |= len != 0;
     Ok(())
@@ -144,9 +152,9 @@ pub(crate) fn put_empty<S: Sink>(
 ) -> Result<(), Stop>
     ensures writes { WritesTo S.taken S.failed S.writer_name result config stream.old stream.new walk.old walk.new
         (λ path. one path (Some [])) }
-    ensures bare { walk.old.text.items ≡ [] → result ≡ Err OutOfMemory → ⊥ }
+    ensures bare { walk.old.text ≡ [] → result ≡ Err OutOfMemory → ⊥ }
 {
-    if !walk.text.is_empty() {
+    if walk.text.len() != 0 {
         return put(stream, walk, config, Some(Scalar::Bytes(&[])));
     }
     put_all(&mut stream.sink, b"=", &mut walk.cause)?;

@@ -1,6 +1,6 @@
 //! Scalars: data that are written as one text.
 
-ghost use Rattle.std.specs.Prelude.{◌≡◌, ◌++◌, Bool, OnOk, Some, decimal, option_map};
+ghost use Rattle.std.specs.Prelude.{◌≡◌, ◌⊎◌, ◌++◌, length, Bool, OnOk, Some, decimal, option_map};
 ghost use Rattle.std.specs.Fmt.{signed_decimal};
 ghost use Rattle.std.specs.List.{All};
 ghost use Rattle.qs_spec.specs.Escape.{encoded};
@@ -11,8 +11,9 @@ ghost use Rattle.qs_data.specs.write.internal.Scalars.{scalar_text};
 ghost use Rattle.qs_data.specs.write.State.{IsVisible};
 
 use crate::data::Data;
+use crate::write::sink::PIECE;
+use crate::write::text::Text;
 use itoa::Buffer;
-use qs_tree::{encode, find_encoded};
 use std::alloc::AllocError;
 
 /// A value of one text, or a segment of a path.
@@ -60,15 +61,27 @@ impl<'a> Scalar<'a> {
         }
     }
 
+    /// Its bytes, where they are too many to be copied before they are put, or none.
+    #[inline(always)]
+    pub(crate) fn long_bytes(self) -> &'a [u8]
+        ensures which { (length result.now ≡ 0) ⊎ (result.now ≡ scalar_text self.entry) }
+        ensures visible { (form : Bool) → All IsVisible (encoded form result.now) }
+    {
+        match self {
+            Scalar::Bytes(bytes) => long(bytes),
+            _ => &[],
+        }
+    }
+
     /// Appends its text, encoded. Digits and words hold nothing to encode.
     #[inline(always)]
-    pub(crate) fn append(self, form: bool, out: &mut Vec<u8>) -> Result<(), AllocError>
-        ensures ok { OnOk result (out.new.items ≡ out.old.items ++ encoded form (scalar_text self.entry)) }
+    pub(crate) fn append(self, form: bool, out: &mut Text) -> Result<(), AllocError>
+        ensures ok { OnOk result (out.new ≡ out.old ++ encoded form (scalar_text self.entry)) }
         ensures visible { All IsVisible (encoded form (scalar_text self.entry)) }
     {
         match self {
             Scalar::Bytes(bytes) => append_encoded(bytes, form, out),
-            Scalar::Bool(value) => out.extend_from_slice(word(value).as_bytes()),
+            Scalar::Bool(value) => out.append(word(value).as_bytes()),
             Scalar::Unsigned(n) => append_unsigned(n, out),
             Scalar::Signed(n) => append_signed(n, out),
             Scalar::Char(c) => append_encoded(c.encode_utf8(&mut [0; 4]).as_bytes(), form, out),
@@ -83,30 +96,37 @@ pub(crate) fn word(value: bool) -> &'static str
     if value { "true" } else { "false" }
 }
 
+/// The bytes, where they are too many to be copied before they are put, or none.
+fn long(bytes: &[u8]) -> &[u8]
+    ensures which { (length result.now ≡ 0) ⊎ (result.now ≡ bytes.now) }
+    ensures visible { (form : Bool) → All IsVisible (encoded form result.now) }
+{
+    if bytes.len() <= PIECE {
+        return &[];
+    }
+    bytes
+}
+
 /// Appends the digits of the number.
-fn append_unsigned(n: u64, out: &mut Vec<u8>) -> Result<(), AllocError>
-    ensures ok { (form : Bool) → OnOk result (out.new.items ≡ out.old.items ++ encoded form (decimal n)) }
+fn append_unsigned(n: u64, out: &mut Text) -> Result<(), AllocError>
+    ensures ok { (form : Bool) → OnOk result (out.new ≡ out.old ++ encoded form (decimal n)) }
     ensures visible { (form : Bool) → All IsVisible (encoded form (decimal n)) }
 {
-    out.extend_from_slice(Buffer::new().format(n).as_bytes())
+    out.append(Buffer::new().format(n).as_bytes())
 }
 
 /// Appends the digits of the number, after `-` where it is negative.
-fn append_signed(n: i64, out: &mut Vec<u8>) -> Result<(), AllocError>
-    ensures ok { (form : Bool) → OnOk result (out.new.items ≡ out.old.items ++ encoded form (signed_decimal n)) }
+fn append_signed(n: i64, out: &mut Text) -> Result<(), AllocError>
+    ensures ok { (form : Bool) → OnOk result (out.new ≡ out.old ++ encoded form (signed_decimal n)) }
     ensures visible { (form : Bool) → All IsVisible (encoded form (signed_decimal n)) }
 {
-    out.extend_from_slice(Buffer::new().format(n).as_bytes())
+    out.append(Buffer::new().format(n).as_bytes())
 }
 
-/// Appends the bytes, encoded. Those before the first that doesn't stay as it is are copied at once.
-fn append_encoded(bytes: &[u8], form: bool, out: &mut Vec<u8>) -> Result<(), AllocError>
-    ensures ok { OnOk result (out.new.items ≡ out.old.items ++ encoded form bytes.now) }
+/// Appends the bytes, encoded.
+fn append_encoded(bytes: &[u8], form: bool, out: &mut Text) -> Result<(), AllocError>
+    ensures ok { OnOk result (out.new ≡ out.old ++ encoded form bytes.now) }
     ensures visible { All IsVisible (encoded form bytes.now) }
 {
-    let Some(at) = find_encoded(bytes, form) else {
-        return out.extend_from_slice(bytes);
-    };
-    out.extend_from_slice(&bytes[..at])?;
-    encode(&bytes[at..], form, out).map_err(|_| AllocError)
+    out.append_encoded(bytes, form)
 }

@@ -63,6 +63,10 @@ impl<S: Sink> Serializer<S> {
     ghost use Rattle.qs_data.specs.write.Errors.{IsWriteError};
 
     /// A serializer over a sink that has not failed. Nothing is put yet, and nothing is allocated.
+    ///
+    /// ```
+    /// let serializer = Serializer::over(ByWrite::new(out), Config::new());
+    /// ```
     pub fn over(sink: S, config: Config) -> Serializer<S>
         requires { S.failed sink ≡ false }
         ensures config { result.config ≡ config }
@@ -80,7 +84,11 @@ impl<S: Sink> Serializer<S> {
         }
     }
 
-    /// The sink, with all that was put to it.
+    /// The sink, with all that was put to it. Doesn't allocate.
+    ///
+    /// ```
+    /// let out = serializer.into_sink().into_writer();
+    /// ```
     pub fn into_sink(self) -> S
         ensures { result ≡ self.sink }
     {
@@ -104,11 +112,11 @@ impl<S: Sink> Serializer<S> {
     ///   reported whatever the depth. The entries before it are written.
     /// - [`Io`](Error::Io): the sink failed in this call: a put took nothing, was interrupted or failed. It is not
     ///   repeated. A proper beginning of the text is written.
-    /// - [`OutOfMemory`](Error::OutOfMemory): an allocation failed. Some first entries are written, each whole: an entry is
-    ///   made before its first byte is put.
+    /// - [`OutOfMemory`](Error::OutOfMemory): an allocation failed. Some first entries are written, each whole: what an entry
+    ///   takes is allocated before its first byte is put.
     ///
-    /// It allocates for the path and for the longest entry, and not at all for `Unit` or `None` alone (also within
-    /// `Some` or `Newtype`). Its time grows with the data and the length of what is written.
+    /// It allocates for the path and for values of up to 1,024 bytes; longer ones are put in pieces. It doesn't allocate
+    /// for `Unit` or `None` alone (also within `Some` or `Newtype`). Its time grows with the data and the length of what is written.
     pub fn serialize(&mut self, alloc: Global, datum: &Data) -> Result<()>
         ensures whole { OnOk result ((output_of self.old (data_of datum.now)).refusal ≡ None) }
         ensures text { OnOk result (Appends (S.taken self.old.sink) (S.taken self.new.sink) (text_of self.old (data_of datum.now))) }

@@ -1,15 +1,20 @@
 //! Where written text goes.
 
-ghost use Rattle.std.specs.Prelude.{◌≡◌, ℕ, ◌<◌, List, length, take, Bool, false, ◌||◌, OnOk, IfErr, is_err};
+ghost use Rattle.std.specs.Prelude.{◌≡◌, ℕ, ◌<◌, ◌≤◌, List, length, take, Bool, false, ◌||◌, OnOk, IfErr, is_err};
 ghost use Rattle.std.specs.declared.option.Option.{Option};
 ghost use Rattle.std.specs.Io.{WritesAtMost};
 ghost use Rattle.std.specs.Io.KnownBytes.{Appends, WriteAppends};
+ghost use Rattle.qs_spec.specs.Escape.{encoded};
 ghost use Rattle.qs_data.specs.write.Put.{put_fails};
 ghost use Rattle.qs_data.specs.declared.write.stop.Stop.TheVariants.{Io};
 
 use crate::write::stop::Stop;
+use qs_tree::encode_to;
 use std::io;
 use std::io::Write;
+
+/// How many bytes of a value are put at once, encoded; a shorter value is put with its key.
+pub(crate) const PIECE: usize = 1024;
 
 /// Takes bytes, and remembers whether it ever failed to.
 ///
@@ -59,7 +64,7 @@ impl<W: Write + Drop> ByWrite<W> {
         }
     }
 
-    /// The writer.
+    /// The writer, with all that was written to it. Doesn't allocate.
     pub fn into_writer(self) -> W
         ensures { result ≡ self.writer }
     {
@@ -116,4 +121,46 @@ pub(crate) fn put_all<S: Sink>(
         }
     }
     Ok(())
+}
+
+/// Puts all of these bytes, encoded, piece by piece, until a put fails; `cause` then says why. It doesn't allocate.
+pub(crate) fn put_encoded<S: Sink>(
+    sink: &mut S,
+    bytes: &[u8],
+    form: bool,
+    cause: &mut io::Error,
+) -> Result<(), Stop>
+    ensures all { OnOk result (Appends (S.taken sink.old) (S.taken sink.new) (encoded form bytes.now)) }
+    ensures part { IfErr result (λ stop. (stop ≡ Io) × (n : ℕ) × (n < length (encoded form bytes.now))
+        × Appends (S.taken sink.old) (S.taken sink.new) (take n (encoded form bytes.now))) }
+    ensures fails { S.failed sink.new ≡ (S.failed sink.old || is_err result) }
+    ensures same_writer { S.writer_name sink.new ≡ S.writer_name sink.old }
+{
+    let mut rest = bytes;
+    while !rest.is_empty() {
+        let (piece, tail) = rest.split_at(rest.len().min(PIECE));
+        put_piece(sink, piece, form, cause)?;
+        rest = tail;
+    }
+    Ok(())
+}
+
+/// Puts a piece of a text, encoded.
+#[inline(never)]
+fn put_piece<S: Sink>(
+    sink: &mut S,
+    bytes: &[u8],
+    form: bool,
+    cause: &mut io::Error,
+) -> Result<(), Stop>
+    requires { length bytes.now ≤ PIECE }
+    ensures all { OnOk result (Appends (S.taken sink.old) (S.taken sink.new) (encoded form bytes.now)) }
+    ensures part { IfErr result (λ stop. (stop ≡ Io) × (n : ℕ) × (n < length (encoded form bytes.now))
+        × Appends (S.taken sink.old) (S.taken sink.new) (take n (encoded form bytes.now))) }
+    ensures fails { S.failed sink.new ≡ (S.failed sink.old || is_err result) }
+    ensures same_writer { S.writer_name sink.new ≡ S.writer_name sink.old }
+{
+    let mut room = [0; 3 * PIECE];
+    let len = encode_to(bytes, form, &mut room, 0);
+    put_all(sink, &room[..len], cause)
 }

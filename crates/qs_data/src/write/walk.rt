@@ -42,7 +42,7 @@ fn write_data<'a, S: Sink>(
 ) -> Result<(), Stop>
     ensures writes { WritesTo S.taken S.failed S.writer_name result config stream.old stream.new walk.old walk.new
         (entries_at config.max_depth config.array_format (data_of datum.now)) }
-    ensures bare { IsBare (data_of datum.now) → walk.old.text.items ≡ [] → result ≡ Err OutOfMemory → ⊥ }
+    ensures bare { IsBare (data_of datum.now) → walk.old.text ≡ [] → result ≡ Err OutOfMemory → ⊥ }
 {
     match datum {
         Data::Unit => put_empty(stream, walk, config),
@@ -171,8 +171,7 @@ fn write_tuple_variant<'a, S: Sink>(
     ensures writes { WritesTo S.taken S.failed S.writer_name result config stream.old stream.new walk.old walk.new
         (λ path. deeper config.max_depth path name.now (elements_from config.max_depth config.array_format 0 (values_in items.now.items))) }
 {
-    let len = walk.len();
-    walk.enter(config, Scalar::Bytes(name))?;
+    let len = walk.enter(config, Scalar::Bytes(name))?;
     write_elements(stream, walk, config, items)?;
     walk.leave(len);
     Ok(())
@@ -190,8 +189,7 @@ fn write_struct_variant<'a, S: Sink>(
     ensures writes { WritesTo S.taken S.failed S.writer_name result config stream.old stream.new walk.old walk.new
         (λ path. deeper config.max_depth path name.now (member_entries config.max_depth config.array_format (members_in members.now.items))) }
 {
-    let len = walk.len();
-    walk.enter(config, Scalar::Bytes(name))?;
+    let len = walk.enter(config, Scalar::Bytes(name))?;
     write_members(stream, walk, config, members)?;
     walk.leave(len);
     Ok(())
@@ -209,8 +207,7 @@ fn write_under<'a, S: Sink>(
     ensures writes { WritesTo S.taken S.failed S.writer_name result config stream.old stream.new walk.old walk.new
         (λ path. deeper config.max_depth path (scalar_text segment.entry) (entries_at config.max_depth config.array_format (data_of part.now))) }
 {
-    let len = walk.len();
-    walk.enter(config, segment)?;
+    let len = walk.enter(config, segment)?;
     write_data(stream, walk, config, part)?;
     walk.leave(len);
     Ok(())

@@ -1,9 +1,8 @@
-use Rattle.std.proofs.Common.{◌≡◌, ◌<◌, ◌∷◌, [], length, slice_get, ap, sym, subst, refl, ◌∙◌, false, cond, ◌||◌, Some, None, option_map, Ok, map, rules, arith}
+use Rattle.std.proofs.Common.{◌≡◌, ◌∷◌, [], ap, sym, subst, refl, ◌∙◌, false, cond, ◌||◌, Some, None, option_map, Ok, map, rules, arith}
 use Rattle.std.specs.declared.alloc.AllocError.{AllocError}
 use Rattle.qs_spec.specs.Config.{are_rejected}
 use Rattle.qs_spec.specs.Leaf.Leaf.{NoValue, Null}
-use Rattle.qs_spec.specs.Node.{IsFull}
-use Rattle.qs_spec.specs.Node.{found, items}
+use Rattle.qs_spec.specs.Node.{IsFull, found, items}
 use Rattle.qs_spec.specs.Segment.{Step}
 use Rattle.qs_spec.specs.Segment.Segment.{Int, Str}
 use Rattle.qs_spec.specs.Shape as s
@@ -13,45 +12,35 @@ use Rattle.qs_tree.specs.tree.Views.{tree_of, items_from, entries_of_map, segmen
 use Rattle.qs_tree.specs.declared.tree.value.ParsedValue as value
 use Rattle.qs_data.specs.declared.shape.shape.Shape as shape
 use Rattle.qs_data.specs.declared.shape.shape.Field.{out-Field}
-use Rattle.qs_data.specs.shape.Views.{field_of, fields_in, key_shape_of, kind_of, shape_of, shapes_in, variant_of, variants_in}
+use Rattle.qs_data.specs.shape.Views.{field_of, fields_in, key_shape_of, kind_of, shape_of, shapes_in, variants_in}
 use Rattle.qs_spec.specs.internal.ReadFunction.{reads, reads_kind}
 use Rattle.qs_data.proofs.lemmas.read.Fields.{field_name, field_optional, field_shape}
-use Rattle.qs_explain.specs.Children.{or_missing, item_children, tuple_children, name_child, map_children, struct_children, held_children, is_text, listed}
+use Rattle.qs_explain.specs.Children.{or_missing, item_children, tuple_children, name_child, map_children, held_children, is_text, listed}
 use Rattle.qs_explain.specs.Unexpected.{unexpected_key, unknown_of}
-use Rattle.qs_explain.specs.Parts.{IsRead}
-use Rattle.qs_explain.specs.Explains.{Finds, FindsAmong, FindsBelow, FindsInside, IsBelow, Tests, keys_of, node_of, segment_of}
-use Rattle.qs_explain.proofs.Parts.{below, among, mismatch_at, newtype_found, null_found, full_found, text_full}
+use Rattle.qs_explain.specs.Explains.{segment_of}
+use Rattle.qs_explain.specs.internal.Finding.{Finds, FindsAmong, FindsBelow, FindsInside, Tests, keys_of, node_of}
+use Rattle.qs_explain.proofs.Parts.{below, among_as, among_is, full_as, mismatch_at, newtype_found, null_found, full_found, text_full}
 use Rattle.qs_explain.proofs.OneByOne as children
 use Rattle.qs_spec.specs.Segment.{segment_text}
 use Rattle.qs_spec.specs.Tree.Entries.{entry}
 use Rattle.qs_data.specs.read.internal.Keys.{entries_after}
-use Rattle.qs_data.specs.shape.Variants.{variant_named}
 use Rattle.qs_data.proofs.lemmas.read.Entries.{after_some}
-use Rattle.qs_data.proofs.lemmas.read.Variants.{named_is}
 use Rattle.qs_explain.proofs.Depths.{kind_within}
-use Rattle.qs_explain.proofs.Held.{enum_found, held_unread, struct_here, struct_unread, tuple_here, tuple_unread}
+use Rattle.qs_explain.proofs.Held.{enum_found, held_unread, struct_here, struct_unread, tuple_here, tuple_unread, variant_at}
 use Rattle.qs_data.specs.declared.shape.shape.VariantKind as kind
 use Rattle.qs_explain.proofs.+walk.Goals.{pairs::find_in_pairs-else-loop-i-test, pairs::find_in_pairs-then-loop-i-test+in_default}
 use Rattle.qs_explain.proofs.+walk.Goals as goal
 
 pub items::find_in_items-returns-in-loop-i : goal.items::find_in_items-returns-in-loop-i
 items::find_in_items-returns-in-loop-i t c xs h len =
-    let rd = are_rejected c.args.config.duplicates in
-    let s = shape_of c.args.part.now in
-    let i = c.loop-i.i in
-    let m = c.in-Some.mismatch in
-    let below = subst (λ o. FindsBelow {E = AllocError} rd (Int i) s (or_missing (node_of c.item_at.result)) (Ok o)) c.in-Some.is c.in_ok-mismatch.ensures in
-    let here = subst (λ x. IsBelow rd (Int i) s (or_missing x) m) (c.item_at.ensures xs h) below in
-    c.loop-i.invariant xs h len (Ok (Some m)) (children.list_fails {E = AllocError} rd i (Ok (Some m)) s xs m (omega (arith, len)) here)
+    let r = Ok (Some c.in-Some.mismatch) in
+    c.loop-i.invariant xs h len r (children.list_fails {E = AllocError} (are_rejected c.args.config.duplicates) c.loop-i.i r (shape_of c.args.part.now) xs (node_of c.item_at.result) _ c.in-Some.mismatch
+    (omega (arith, len)) (c.item_at.ensures xs h) c.in-Some.is c.in_ok-mismatch.ensures)
 
 pub items::find_in_items-loop-i-preserved : goal.items::find_in_items-loop-i-preserved
 items::find_in_items-loop-i-preserved t c xs h len r rest =
-    let rd = are_rejected c.args.config.duplicates in
-    let s = shape_of c.args.part.now in
-    let i = c.loop-i.i in
-    let read = subst (λ o. FindsBelow {E = AllocError} rd (Int i) s (or_missing (node_of c.item_at.result)) (Ok o)) c.in_default.is c.in_ok-mismatch.ensures in
-    let here = subst (λ x. IsRead rd s (or_missing x)) (c.item_at.ensures xs h) read in
-    c.loop-i.invariant xs h len r (children.list_more rd i r s xs (omega (arith, len)) here rest)
+    c.loop-i.invariant xs h len r (children.list_more (are_rejected c.args.config.duplicates) c.loop-i.i r (shape_of c.args.part.now) xs (node_of c.item_at.result) _
+    (omega (arith, len)) (c.item_at.ensures xs h) c.in_default.is c.in_ok-mismatch.ensures rest)
 
 pub items::find_in_items-returns : goal.items::find_in_items-returns
 items::find_in_items-returns t c xs h len =
@@ -61,26 +50,14 @@ items::find_in_items-returns t c xs h len =
 
 pub items::find_in_parts-returns-in-loop-i : goal.items::find_in_parts-returns-in-loop-i
 items::find_in_parts-returns-in-loop-i t c xs h =
-    let rd = are_rejected c.args.config.duplicates in
-    let d = c.part-item.result in
-    let ss = c.deref-part-items.result.now in
-    let s = shape_of d in
-    let i = c.loop-i.i in
-    let m = c.in-Some.mismatch in
-    let below = subst (λ o. FindsBelow {E = AllocError} rd (Int i) s (or_missing (node_of c.item_at.result)) (Ok o)) c.in-Some.is c.in_ok-mismatch.ensures in
-    let here = subst (λ x. IsBelow rd (Int i) s (or_missing x) m) (c.item_at.ensures xs h) below in
-    c.loop-i.invariant xs h (Ok (Some m)) (children.parts_fails {E = AllocError} rd i (Ok (Some m)) ss d (omega arith) c.part-item.is xs m here)
+    let r = Ok (Some c.in-Some.mismatch) in
+    c.loop-i.invariant xs h r (children.parts_fails {E = AllocError} (are_rejected c.args.config.duplicates) c.loop-i.i r c.deref-part-items.result.now c.part-item.result (omega arith) c.part-item.is xs
+    (node_of c.item_at.result) _ c.in-Some.mismatch (c.item_at.ensures xs h) c.in-Some.is c.in_ok-mismatch.ensures)
 
 pub items::find_in_parts-loop-i-preserved : goal.items::find_in_parts-loop-i-preserved
 items::find_in_parts-loop-i-preserved t c xs h r rest =
-    let rd = are_rejected c.args.config.duplicates in
-    let d = c.part-item.result in
-    let ss = c.deref-part-items.result.now in
-    let s = shape_of d in
-    let i = c.loop-i.i in
-    let read = subst (λ o. FindsBelow {E = AllocError} rd (Int i) s (or_missing (node_of c.item_at.result)) (Ok o)) c.in_default.is c.in_ok-mismatch.ensures in
-    let here = subst (λ x. IsRead rd s (or_missing x)) (c.item_at.ensures xs h) read in
-    c.loop-i.invariant xs h r (children.parts_more rd i r ss d (omega arith) c.part-item.is xs here rest)
+    c.loop-i.invariant xs h r (children.parts_more (are_rejected c.args.config.duplicates) c.loop-i.i r c.deref-part-items.result.now c.part-item.result (omega arith) c.part-item.is xs
+    (node_of c.item_at.result) _ (c.item_at.ensures xs h) c.in_default.is c.in_ok-mismatch.ensures rest)
 
 pub items::find_in_parts-returns : goal.items::find_in_parts-returns
 items::find_in_parts-returns t c xs h =
@@ -240,17 +217,13 @@ walk::find_in_option-returns-in-String t c =
 
 pub walk::find_in_option-returns-in-Sequence : goal.walk::find_in_option-returns-in-Sequence
 walk::find_in_option-returns-in-Sequence t c =
-    let rd = are_rejected c.args.config.duplicates in
-    let seen : tree_of c.args.node.now ≡ sequence (items_from (map tree_of c.in-Sequence.field-0.items)) = ap tree_of c.in-Sequence.is ∙ search (rules, value.the_lemmas) in
-    let full : IsFull (tree_of c.args.node.now) = subst IsFull (sym seen) tt in
-    full_found rd (shape_of c.args.part.now) (tree_of c.args.node.now) c.find_mismatch-in-Sequence.result full c.find_mismatch-in-Sequence.ensures
+    let is : tree_of c.args.node.now ≡ sequence (items_from (map tree_of c.in-Sequence.field-0.items)) = ap tree_of c.in-Sequence.is ∙ search (rules, value.the_lemmas) in
+    full_as (are_rejected c.args.config.duplicates) (shape_of c.args.part.now) _ _ c.find_mismatch-in-Sequence.result is tt c.find_mismatch-in-Sequence.ensures
 
 pub walk::find_in_option-returns-in-Map : goal.walk::find_in_option-returns-in-Map
 walk::find_in_option-returns-in-Map t c =
-    let rd = are_rejected c.args.config.duplicates in
-    let seen : tree_of c.args.node.now ≡ mapping (entries_of_map c.in-Map.field-0) = ap tree_of c.in-Map.is ∙ search (rules, value.the_lemmas) in
-    let full : IsFull (tree_of c.args.node.now) = subst IsFull (sym seen) tt in
-    full_found rd (shape_of c.args.part.now) (tree_of c.args.node.now) c.find_mismatch-in-Map.result full c.find_mismatch-in-Map.ensures
+    let is : tree_of c.args.node.now ≡ mapping (entries_of_map c.in-Map.field-0) = ap tree_of c.in-Map.is ∙ search (rules, value.the_lemmas) in
+    full_as (are_rejected c.args.config.duplicates) (shape_of c.args.part.now) _ _ c.find_mismatch-in-Map.result is tt c.find_mismatch-in-Map.ensures
 
 pub walk::find_inside-returns-in-Newtype : goal.walk::find_inside-returns-in-Newtype
 walk::find_inside-returns-in-Newtype t c =
@@ -264,48 +237,32 @@ walk::find_inside-returns-in-Newtype t c =
 
 pub walk::find_inside-returns-in-Tuple : goal.walk::find_inside-returns-in-Tuple
 walk::find_inside-returns-in-Tuple t c =
-    let rd = are_rejected c.args.config.duplicates in
-    let n = tree_of c.args.node.now in
-    let r = c.find_in_tuple.result in
-    let shaped : shape_of c.args.shape.now ≡ s.Shape.tuple (shapes_in c.in-Tuple.parts.items) = ap shape_of c.in-Tuple.is ∙ search (rules, shape.the_lemmas) in
-    subst (λ x. FindsInside rd x n r) (sym shaped) (among rd (s.Shape.tuple (shapes_in c.in-Tuple.parts.items)) n r refl c.find_in_tuple.ensures)
+    let is : shape_of c.args.shape.now ≡ s.Shape.tuple (shapes_in c.in-Tuple.parts.items) = ap shape_of c.in-Tuple.is ∙ search (rules, shape.the_lemmas) in
+    among_as (are_rejected c.args.config.duplicates) _ _ (tree_of c.args.node.now) c.find_in_tuple.result is refl c.find_in_tuple.ensures
 
 pub walk::find_inside-returns-in-Struct : goal.walk::find_inside-returns-in-Struct
 walk::find_inside-returns-in-Struct t c =
-    let rd = are_rejected c.args.config.duplicates in
-    let n = tree_of c.args.node.now in
-    let r = c.find_in_struct.result in
-    let shaped : shape_of c.args.shape.now ≡ s.Shape.struct s.UnknownKeys.ignored (fields_in c.in-Struct.fields.items) = ap shape_of c.in-Struct.is ∙ search (rules, shape.the_lemmas) in
-    subst (λ x. FindsInside rd x n r) (sym shaped) (among rd (s.Shape.struct s.UnknownKeys.ignored (fields_in c.in-Struct.fields.items)) n r refl c.find_in_struct.ensures)
+    let is : shape_of c.args.shape.now ≡ s.Shape.struct s.UnknownKeys.ignored (fields_in c.in-Struct.fields.items) = ap shape_of c.in-Struct.is ∙ search (rules, shape.the_lemmas) in
+    among_as (are_rejected c.args.config.duplicates) _ _ (tree_of c.args.node.now) c.find_in_struct.result is refl c.find_in_struct.ensures
 
 pub walk::find_inside-returns-in-StrictStruct : goal.walk::find_inside-returns-in-StrictStruct
 walk::find_inside-returns-in-StrictStruct t c =
-    let rd = are_rejected c.args.config.duplicates in
-    let n = tree_of c.args.node.now in
-    let r = c.find_in_struct-in-StrictStruct.result in
-    let shaped : shape_of c.args.shape.now ≡ s.Shape.struct s.UnknownKeys.rejected (fields_in c.in-StrictStruct.fields.items) = ap shape_of c.in-StrictStruct.is ∙ search (rules, shape.the_lemmas) in
-    subst (λ x. FindsInside rd x n r) (sym shaped) (among rd (s.Shape.struct s.UnknownKeys.rejected (fields_in c.in-StrictStruct.fields.items)) n r refl c.find_in_struct-in-StrictStruct.ensures)
+    let is : shape_of c.args.shape.now ≡ s.Shape.struct s.UnknownKeys.rejected (fields_in c.in-StrictStruct.fields.items) = ap shape_of c.in-StrictStruct.is ∙ search (rules, shape.the_lemmas) in
+    among_as (are_rejected c.args.config.duplicates) _ _ (tree_of c.args.node.now) c.find_in_struct-in-StrictStruct.result is refl c.find_in_struct-in-StrictStruct.ensures
 
 pub walk::find_inside-returns-in-Seq : goal.walk::find_inside-returns-in-Seq
 walk::find_inside-returns-in-Seq t c =
     let rd = are_rejected c.args.config.duplicates in
     let n = tree_of c.args.node.now in
-    let r = c.find_in_list.result in
-    let p = shape_of c.in-Seq.part.value in
-    let shaped : shape_of c.args.shape.now ≡ s.Shape.sequence p = ap shape_of c.in-Seq.is ∙ search (rules, shape.the_lemmas) in
-    let held = subst (λ x. FindsAmong rd (listed (item_children 0 (shape_of x)) (items n)) r) c.deref-in-Seq.ensures c.find_in_list.ensures in
-    subst (λ x. FindsInside rd x n r) (sym shaped) (among rd (s.Shape.sequence p) n r refl held)
+    let is : shape_of c.args.shape.now ≡ s.Shape.sequence (shape_of c.in-Seq.part.value) = ap shape_of c.in-Seq.is ∙ search (rules, shape.the_lemmas) in
+    among_as rd _ _ n c.find_in_list.result is refl (subst (λ x. FindsAmong rd (listed (item_children 0 (shape_of x)) (items n)) c.find_in_list.result) c.deref-in-Seq.ensures c.find_in_list.ensures)
 
 pub walk::find_inside-returns-in-Map : goal.walk::find_inside-returns-in-Map
 walk::find_inside-returns-in-Map t c =
     let rd = are_rejected c.args.config.duplicates in
     let n = tree_of c.args.node.now in
-    let r = c.find_in_map.result in
-    let p = shape_of c.in-Map.part.value in
-    let k = key_shape_of c.in-Map.field-0 in
-    let shaped : shape_of c.args.shape.now ≡ s.Shape.mapping k p = ap shape_of c.in-Map.is ∙ search (rules, shape.the_lemmas) in
-    let held = subst (λ x. FindsAmong rd (map_children (shape_of x) n) r) c.deref-in-Map.ensures c.find_in_map.ensures in
-    subst (λ x. FindsInside rd x n r) (sym shaped) (among rd (s.Shape.mapping k p) n r refl held)
+    let is : shape_of c.args.shape.now ≡ s.Shape.mapping (key_shape_of c.in-Map.field-0) (shape_of c.in-Map.part.value) = ap shape_of c.in-Map.is ∙ search (rules, shape.the_lemmas) in
+    among_as rd _ _ n c.find_in_map.result is refl (subst (λ x. FindsAmong rd (map_children (shape_of x) n) c.find_in_map.result) c.deref-in-Map.ensures c.find_in_map.ensures)
 
 pub walk::find_mismatch-find_inside-requires : goal.walk::find_mismatch-find_inside-requires
 walk::find_mismatch-find_inside-requires t c =
@@ -320,12 +277,8 @@ walk::find_inside-find_in_enum-requires t c =
 
 pub walk::find_inside-returns-in-Enum : goal.walk::find_inside-returns-in-Enum
 walk::find_inside-returns-in-Enum t c =
-    let rd = are_rejected c.args.config.duplicates in
-    let n = tree_of c.args.node.now in
-    let r = c.find_in_enum.result in
-    let vs = variants_in c.in-Enum.variants.items in
-    let shaped : shape_of c.args.shape.now ≡ s.Shape.enumeration vs = ap shape_of c.in-Enum.is ∙ search (rules, shape.the_lemmas) in
-    subst (λ x. FindsInside rd x n r) (sym shaped) (among rd (s.Shape.enumeration vs) n r refl c.find_in_enum.ensures)
+    let is : shape_of c.args.shape.now ≡ s.Shape.enumeration (variants_in c.in-Enum.variants.items) = ap shape_of c.in-Enum.is ∙ search (rules, shape.the_lemmas) in
+    among_as (are_rejected c.args.config.duplicates) _ _ (tree_of c.args.node.now) c.find_in_enum.result is refl c.find_in_enum.ensures
 
 pub enums::find_in_enum-find_in_named-requires : goal.enums::find_in_enum-find_in_named-requires
 enums::find_in_enum-find_in_named-requires t c =
@@ -336,28 +289,20 @@ enums::find_in_enum-find_in_named-requires t c =
 
 pub enums::find_in_held_tuple-returns-in-Some : goal.enums::find_in_held_tuple-returns-in-Some
 enums::find_in_held_tuple-returns-in-Some t c =
-    let rd = are_rejected c.args.config.duplicates in
     let ss = shapes_in c.args.parts.now.items in
-    let n = tree_of c.args.value.now in
-    let fails = subst (λ o. FindsAmong {E = AllocError} rd (listed (tuple_children 0 ss) (items n)) (Ok o)) c.in-Some.is c.in_ok-mismatch.ensures in
-    among {E = AllocError} rd (s.Shape.tuple ss) n (Ok (Some c.in-Some.mismatch)) refl fails
+    among_is AllocError (are_rejected c.args.config.duplicates) (s.Shape.tuple ss) (tree_of c.args.value.now) _ (Some c.in-Some.mismatch) c.in-Some.is refl c.in_ok-mismatch.ensures
 
 pub enums::find_in_held_struct-returns-in-Some : goal.enums::find_in_held_struct-returns-in-Some
 enums::find_in_held_struct-returns-in-Some t c =
-    let rd = are_rejected c.args.config.duplicates in
-    let u = unknown_of c.args.unknown in
-    let fs = fields_in c.args.fields.now.items in
-    let n = tree_of c.args.value.now in
-    let fails = subst (λ o. FindsAmong {E = AllocError} rd (struct_children fs n) (Ok o)) c.in-Some.is c.in_ok-mismatch.ensures in
-    among {E = AllocError} rd (s.Shape.struct u fs) n (Ok (Some c.in-Some.mismatch)) refl fails
+    let here = s.Shape.struct (unknown_of c.args.unknown) (fields_in c.args.fields.now.items) in
+    among_is AllocError (are_rejected c.args.config.duplicates) here (tree_of c.args.value.now) _ (Some c.in-Some.mismatch) c.in-Some.is refl c.in_ok-mismatch.ensures
 
 pub enums::find_in_held_tuple-returns-in-None : goal.enums::find_in_held_tuple-returns-in-None
 enums::find_in_held_tuple-returns-in-None t c =
     let rd = are_rejected c.args.config.duplicates in
     let ss = shapes_in c.args.parts.now.items in
     let n = tree_of c.args.value.now in
-    let all = subst (λ o. FindsAmong {E = AllocError} rd (listed (tuple_children 0 ss) (items n)) (Ok o)) c.in-None.is c.in_ok-mismatch.ensures in
-    tuple_here rd ss n c.mismatch_here.result c.requires (among {E = AllocError} rd (s.Shape.tuple ss) n (Ok None) refl all) c.mismatch_here.ensures
+    tuple_here rd ss n c.mismatch_here.result c.requires (among_is AllocError rd (s.Shape.tuple ss) n _ None c.in-None.is refl c.in_ok-mismatch.ensures) c.mismatch_here.ensures
 
 pub enums::find_in_held_struct-returns-in_ok-unexpected-in-None : goal.enums::find_in_held_struct-returns-in_ok-unexpected-in-None
 enums::find_in_held_struct-returns-in_ok-unexpected-in-None t c =
@@ -365,10 +310,10 @@ enums::find_in_held_struct-returns-in_ok-unexpected-in-None t c =
     let u = unknown_of c.args.unknown in
     let fs = fields_in c.args.fields.now.items in
     let n = tree_of c.args.value.now in
-    let all = subst (λ o. FindsAmong {E = AllocError} rd (struct_children fs n) (Ok o)) c.in-None.is c.in_ok-mismatch.ensures in
-    struct_here rd u fs n (option_map segment_of c.in_ok-unexpected-in-None.unexpected) c.mismatch_here.result
-    (subst (λ ys. option_map segment_of c.in_ok-unexpected-in-None.unexpected ≡ unexpected_key (s.Shape.struct u (fields_in ys)) n) c.deref.ensures.value c.in_ok-unexpected-in-None.ensures) c.requires
-    (among {E = AllocError} rd (s.Shape.struct u fs) n (Ok None) refl all) c.mismatch_here.ensures
+    let unexpected = option_map segment_of c.in_ok-unexpected-in-None.unexpected in
+    struct_here rd u fs n unexpected c.mismatch_here.result
+    (subst (λ ys. unexpected ≡ unexpected_key (s.Shape.struct u (fields_in ys)) n) c.deref.ensures.value c.in_ok-unexpected-in-None.ensures) c.requires
+    (among_is AllocError rd (s.Shape.struct u fs) n _ None c.in-None.is refl c.in_ok-mismatch.ensures) c.mismatch_here.ensures
 
 pub enums::find_in_variant-find_in_held_tuple-requires : goal.enums::find_in_variant-find_in_held_tuple-requires
 enums::find_in_variant-find_in_held_tuple-requires t c =
@@ -421,32 +366,24 @@ pub enums::find_in_named-find_in_variant-requires : goal.enums::find_in_named-fi
 enums::find_in_named-find_in_variant-requires t c =
     let rd = are_rejected c.args.config.duplicates in
     let ds = c.args.variants.now.items in
-    let vs = variants_in ds in
     let es = entries_of_map c.args.map.now in
     let key = step_of_key c.in-Some.key.now in
     let n = tree_of c.in-Some.value.now in
     let first : es ≡ entry key.seg key.mark n (entries_after 1 es) = after_some 0 es (key, n) (sym c.in-Some.ensures) in
-    let name = segment_text key.seg in
     let i = c.in-Some-find_variant.index in
     let v = c.index-variant.result.now in
-    let found = subst (λ ys. option_map Some (variant_named name (variants_in ys)) ≡ Some (option_map variant_of (slice_get ys i))) c.deref.ensures.value (sym c.in-Some-find_variant.ensures.named) in
-    let inside = subst (λ ys. i < length ys) c.deref.ensures.value c.in-Some-find_variant.ensures.index in
-    let named = named_is name ds i v found inside c.index-variant.ensures in
-    (omega (arith, c.decreases, kind_within ds i v inside c.index-variant.ensures), held_unread rd vs es (entries_after 1 es) key.seg key.mark n v first named c.requires)
+    let at = variant_at (segment_text key.seg) ds _ i v c.deref.ensures.value c.in-Some-find_variant.ensures.named c.in-Some-find_variant.ensures.index c.index-variant.ensures in
+    (omega (arith, c.decreases, kind_within ds i v at.1 c.index-variant.ensures), held_unread rd (variants_in ds) es (entries_after 1 es) key.seg key.mark n v first at.0 c.requires)
 
 pub enums::find_in_named-returns : goal.enums::find_in_named-returns
 enums::find_in_named-returns t c =
     let rd = are_rejected c.args.config.duplicates in
     let ds = c.args.variants.now.items in
-    let vs = variants_in ds in
     let es = entries_of_map c.args.map.now in
     let key = step_of_key c.in-Some.key.now in
     let n = tree_of c.in-Some.value.now in
     let first : es ≡ entry key.seg key.mark n (entries_after 1 es) = after_some 0 es (key, n) (sym c.in-Some.ensures) in
-    let name = segment_text key.seg in
     let i = c.in-Some-find_variant.index in
     let v = c.index-variant.result.now in
-    let found = subst (λ ys. option_map Some (variant_named name (variants_in ys)) ≡ Some (option_map variant_of (slice_get ys i))) c.deref.ensures.value (sym c.in-Some-find_variant.ensures.named) in
-    let inside = subst (λ ys. i < length ys) c.deref.ensures.value c.in-Some-find_variant.ensures.index in
-    let named = named_is name ds i v found inside c.index-variant.ensures in
-    enum_found rd vs es (entries_after 1 es) key.seg key.mark n v c.find_in_variant.result first named c.find_in_variant.ensures
+    let at = variant_at (segment_text key.seg) ds _ i v c.deref.ensures.value c.in-Some-find_variant.ensures.named c.in-Some-find_variant.ensures.index c.index-variant.ensures in
+    enum_found rd (variants_in ds) es (entries_after 1 es) key.seg key.mark n v c.find_in_variant.result first at.0 c.find_in_variant.ensures

@@ -8,7 +8,7 @@ use Rattle.qs_data.specs.read.internal.Keys.{entries_after}
 use Rattle.qs_data.specs.shape.Views.{fields_in, shape_of, shapes_in}
 use Rattle.qs_explain.specs.declared.explanation.Mismatch.{Mismatch}
 use Rattle.qs_explain.specs.Children.{item_children, tuple_children, name_children, pair_children}
-use Rattle.qs_explain.specs.Explains.{FindsAmong, keys_of}
+use Rattle.qs_explain.specs.internal.Finding.{FindsAmong, keys_of}
 use Rattle.qs_explain.proofs.+walk.Given as goal
 
 -- what the rest finds is found among all

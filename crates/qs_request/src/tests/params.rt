@@ -1,8 +1,9 @@
 //! A struct of five fields.
 
-ghost use Rattle.std.specs.Prelude.{◌∷◌, [], codes, refl};
+ghost use Rattle.qs_request.specs.declared.tests.params.TheConstants.{NAMES};
+ghost use Rattle.serde_qs.specs.PartTables.{made_of};
 
-use serde_qs::{Compound, Data, Result, RoundTrip, Struct, struct_of};
+use serde_qs::{Compound, Data, Out, Parts, Result, Shape, Source, Struct, fields};
 use std::alloc::Global;
 
 #[derive(Drop)]
@@ -14,50 +15,31 @@ pub struct Params {
     pub remaining: bool,
 }
 
+type ParamsParts = Struct<(u64, (Vec<u64>, (u64, (u64, (bool, ())))))>;
+
+const NAMES: &[&str] = &["foo", "bars", "limit", "offset", "remaining"];
+
 impl Compound for Params {
-    type Parts = Struct<(u64, (Vec<u64>, (u64, (u64, (bool, ())))))>;
+    ghost table = { made_of ⟦<ParamsParts as Parts>⟧.table NAMES.now (λ params. record { 0 = (params.foo, (params.bars, (params.limit, (params.offset, (params.remaining, tt))))) }) _ };
 
-    ghost names = { codes "foo" ∷ codes "bars" ∷ codes "limit" ∷ codes "offset" ∷ codes "remaining" ∷ [] };
-
-    ghost parts = { λ params. record { 0 = (params.foo, (params.bars, (params.limit, (params.offset, (params.remaining, tt))))) } };
-
-    ghost complete = { refl };
-
-    fn names() -> &'static [&'static str] {
-        &["foo", "bars", "limit", "offset", "remaining"]
+    fn form(alloc: Global) -> Result<Shape> {
+        ParamsParts::shape(alloc, NAMES)
     }
 
-    fn from_parts(
-        Struct((foo, (bars, (limit, (offset, (remaining, ())))))): Self::Parts,
-    ) -> Params {
-        Params {
+    fn read(source: Source) -> Result<Params> {
+        let Struct((foo, (bars, (limit, (offset, (remaining, ())))))) = ParamsParts::read(
+            source, NAMES,
+        )?;
+        Ok(Params {
             foo,
             bars,
             limit,
             offset,
             remaining,
-        }
+        })
     }
 
-    fn written(&self, alloc: Global) -> Result<Data> {
-        struct_of(
-            alloc,
-            &["foo", "bars", "limit", "offset", "remaining"],
-            (
-                &self.foo,
-                (
-                    &self.bars,
-                    (&self.limit, (&self.offset, (&self.remaining, ()))),
-                ),
-            ),
-        )
-    }
-
-    fn fit(&self) {
-        self.foo.fits();
-        self.bars.fits();
-        self.limit.fits();
-        self.offset.fits();
-        self.remaining.fits();
+    fn written(&self, out: Out) -> Result<Data> {
+        out.fields(NAMES, fields!(self; foo, bars, limit, offset, remaining))
     }
 }

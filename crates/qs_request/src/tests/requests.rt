@@ -1,5 +1,6 @@
-//! Targets and bodies, with what they stand for.
+//! Targets and bodies, with the values that are read from them.
 
+use super::basket::Basket;
 use super::params::Params;
 use super::users::{Note, Users};
 use crate::{form, query};
@@ -10,8 +11,13 @@ use std::process::Abort;
 
 const ESCAPED: &str = "/test?foo=1&bars%5B%5D=3&limit=100&offset=50&remaining=true";
 
-/// What the query of a target stands for.
-fn asked<R: Abort, T: Deserialize>(
+// Returns the value that is read from the query of a target.
+fn asked<T: Deserialize>(alloc: Global, target: &Uri) -> Result<T> {
+    Ok(query::<T>(alloc, target, Config::new())?.into_inner())
+}
+
+/// The value that is read from the query of a target under a configuration.
+fn asked_by<R: Abort, T: Deserialize>(
     rt: &R,
     alloc: Global,
     target: &str,
@@ -21,7 +27,7 @@ fn asked<R: Abort, T: Deserialize>(
     Ok(query::<T>(alloc, &uri, config)?.into_inner())
 }
 
-/// The result is an error with this text.
+// The result is an error with this text.
 fn fails<R: Abort, T: Drop>(rt: &R, alloc: Global, read: Result<T>, wanted: &str) {
     let Err(error) = read else {
         assert!(rt; false, "no error");
@@ -31,7 +37,7 @@ fn fails<R: Abort, T: Drop>(rt: &R, alloc: Global, read: Result<T>, wanted: &str
     assert!(rt; text.as_str() == wanted, "{text}");
 }
 
-/// The parameters are 100, 50 and true after these two.
+// The parameters are 100, 50 and true after these two.
 fn holds<R: Abort>(rt: &R, params: &Params, foo: u64, bars: &[u64]) {
     assert!(rt; params.foo == foo, "foo");
     assert!(rt; params.bars.as_slice() == bars, "bars");
@@ -44,9 +50,9 @@ fn holds<R: Abort>(rt: &R, params: &Params, foo: u64, bars: &[u64]) {
 fn a_query_with_pushes(rt: HostRuntime) {
     let alloc = rt.alloc();
     let target = "/test?foo=1&bars[]=0&bars[]=1&limit=100&offset=50&remaining=true";
-    let params: Params = asked(&rt, alloc, target, Config::new()).expect(&rt, "parameters");
+    let params: Params = asked_by(&rt, alloc, target, Config::new()).expect(&rt, "parameters");
     holds(&rt, &params, 1, &[0, 1]);
-    let users: Users = asked(&rt, alloc, "/users?id[]=1124&id[]=88", Config::new()).expect(
+    let users: Users = asked_by(&rt, alloc, "/users?id[]=1124&id[]=88", Config::new()).expect(
         &rt, "users",
     );
     assert!(rt; users.id.as_slice() == [1124, 88].as_slice(), "id");
@@ -55,26 +61,27 @@ fn a_query_with_pushes(rt: HostRuntime) {
 #[test]
 fn escaped_brackets(rt: HostRuntime) {
     let alloc = rt.alloc();
-    let unread = asked::<_, Params>(&rt, alloc, ESCAPED, Config::new());
+    let unread = asked_by::<_, Params>(&rt, alloc, ESCAPED, Config::new());
     fails(&rt, alloc, unread, "missing field `bars`");
     let config = Config::new().use_form_encoding(true);
-    let params: Params = asked(&rt, alloc, ESCAPED, config).expect(&rt, "parameters");
+    let params: Params = asked_by(&rt, alloc, ESCAPED, config).expect(&rt, "parameters");
     holds(&rt, &params, 1, &[3]);
 }
 
 #[test]
 fn no_query(rt: HostRuntime) {
     let alloc = rt.alloc();
-    let unread = asked::<_, Params>(&rt, alloc, "/test", Config::new());
+    let unread = asked_by::<_, Params>(&rt, alloc, "/test", Config::new());
     fails(&rt, alloc, unread, "missing field `foo`");
-    let note: Note = asked(&rt, alloc, "/test", Config::new()).expect(&rt, "a note");
+    let note: Note = asked_by(&rt, alloc, "/test", Config::new()).expect(&rt, "a note");
     assert!(rt; note.note.is_none(), "note");
 }
 
 #[test]
 fn a_fragment_is_no_part_of_the_query(rt: HostRuntime) {
     let alloc = rt.alloc();
-    let note: Note = asked(&rt, alloc, "/test?note=a#note=b", Config::new()).expect(&rt, "a note");
+    let target = Uri::from_str(alloc, "/test?note=a#note=b").expect(&rt, "a request target");
+    let note: Note = asked(alloc, &target).expect(&rt, "a note");
     let Some(text) = note.note else {
         assert!(rt; false, "no note");
         return;
@@ -96,4 +103,16 @@ fn bodies(rt: HostRuntime) {
         .expect(&rt, "parameters")
         .into_inner();
     holds(&rt, &params, 1, &[3]);
+}
+
+#[test]
+fn a_body_in_both_modes(rt: HostRuntime) {
+    let alloc = rt.alloc();
+    let body = b"foo=1&bars%5B%5D=3";
+    let config = Config::new().use_form_encoding(true);
+    let basket = form::<Basket>(alloc, body, config).expect(&rt, "a basket");
+    assert!(rt; basket.foo == 1, "foo");
+    assert!(rt; basket.bars.as_slice() == [3].as_slice(), "bars");
+    let unread = form::<Basket>(alloc, body, Config::new());
+    fails(&rt, alloc, unread, "missing field `bars`");
 }

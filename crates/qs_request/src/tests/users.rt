@@ -1,8 +1,9 @@
 //! Structs of one field.
 
-ghost use Rattle.std.specs.Prelude.{◌∷◌, [], codes, refl};
+ghost use Rattle.qs_request.specs.declared.tests.users.TheConstants.{USERS_NAMES, NOTE_NAMES};
+ghost use Rattle.serde_qs.specs.PartTables.{made_of};
 
-use serde_qs::{Compound, Data, Result, RoundTrip, Struct, struct_of};
+use serde_qs::{Compound, Data, Out, Parts, Result, Shape, Source, Struct};
 use std::alloc::Global;
 
 #[derive(Drop)]
@@ -10,29 +11,24 @@ pub struct Users {
     pub id: Vec<u64>,
 }
 
+type UsersParts = Struct<(Vec<u64>, ())>;
+
+const USERS_NAMES: &[&str] = &["id"];
+
 impl Compound for Users {
-    type Parts = Struct<(Vec<u64>, ())>;
+    ghost table = { made_of ⟦<UsersParts as Parts>⟧.table USERS_NAMES.now (λ users. record { 0 = (users.id, tt) }) _ };
 
-    ghost names = { codes "id" ∷ [] };
-
-    ghost parts = { λ users. record { 0 = (users.id, tt) } };
-
-    ghost complete = { refl };
-
-    fn names() -> &'static [&'static str] {
-        &["id"]
+    fn form(alloc: Global) -> Result<Shape> {
+        UsersParts::shape(alloc, USERS_NAMES)
     }
 
-    fn from_parts(Struct((id, ())): Self::Parts) -> Users {
-        Users { id }
+    fn read(source: Source) -> Result<Users> {
+        let Struct((id, ())) = UsersParts::read(source, USERS_NAMES)?;
+        Ok(Users { id })
     }
 
-    fn written(&self, alloc: Global) -> Result<Data> {
-        struct_of(alloc, &["id"], (&self.id, ()))
-    }
-
-    fn fit(&self) {
-        self.id.fits();
+    fn written(&self, out: Out) -> Result<Data> {
+        out.fields(USERS_NAMES, (&self.id, ()))
     }
 }
 
@@ -41,28 +37,23 @@ pub struct Note {
     pub note: Option<String>,
 }
 
+type NoteParts = Struct<(Option<String>, ())>;
+
+const NOTE_NAMES: &[&str] = &["note"];
+
 impl Compound for Note {
-    type Parts = Struct<(Option<String>, ())>;
+    ghost table = { made_of ⟦<NoteParts as Parts>⟧.table NOTE_NAMES.now (λ note. record { 0 = (note.note, tt) }) _ };
 
-    ghost names = { codes "note" ∷ [] };
-
-    ghost parts = { λ note. record { 0 = (note.note, tt) } };
-
-    ghost complete = { refl };
-
-    fn names() -> &'static [&'static str] {
-        &["note"]
+    fn form(alloc: Global) -> Result<Shape> {
+        NoteParts::shape(alloc, NOTE_NAMES)
     }
 
-    fn from_parts(Struct((note, ())): Self::Parts) -> Note {
-        Note { note }
+    fn read(source: Source) -> Result<Note> {
+        let Struct((note, ())) = NoteParts::read(source, NOTE_NAMES)?;
+        Ok(Note { note })
     }
 
-    fn written(&self, alloc: Global) -> Result<Data> {
-        struct_of(alloc, &["note"], (&self.note, ()))
-    }
-
-    fn fit(&self) {
-        self.note.fits();
+    fn written(&self, out: Out) -> Result<Data> {
+        out.fields(NOTE_NAMES, (&self.note, ()))
     }
 }

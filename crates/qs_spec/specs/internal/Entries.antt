@@ -1,5 +1,5 @@
--- Entries that can be read back as they were written, and the pairs as which they are read.
-use Rattle.std.specs.Prelude.{ℕ, ◌+◌, ◌<◌, ◌≤◌, Bool, ◌&&◌, ◌||◌, ◌==◌, IsFalse, List, [], ◌∷◌, length, map, Option, Some, None, ⊤}
+-- Entries that can be parsed as they were written, and the pairs as which they are parsed.
+use Rattle.std.specs.Prelude.{◌≡◌, true, ℕ, ◌+◌, ◌<◌, ◌≤◌, Bool, ◌&&◌, IsFalse, List, [], ◌∷◌, length, map, Option, Some, None, ⊤}
 use Rattle.std.specs.List.{AllByRecursion}
 use Rattle.qs_spec.specs.Escape.{encoded}
 use Rattle.qs_spec.specs.Token.{is_bracket}
@@ -8,6 +8,7 @@ use Rattle.qs_spec.specs.Leaf.{Leaf, value_leaf}
 use Rattle.qs_spec.specs.Leaf.Leaf.{NoValue}
 use Rattle.qs_spec.specs.Grammar.{Pair, direct}
 use Rattle.qs_spec.specs.Entry.{Path, Entry}
+use Rattle.qs_spec.specs.Written.{has_key}
 
 abbrev pub entry_leaf : Bool → Option (List ℕ) → Leaf
 entry_leaf form None = NoValue
@@ -16,7 +17,7 @@ entry_leaf form (Some bytes) = value_leaf (encoded form bytes)
 abbrev pub steps : Bool → Path → List Step
 steps form path = map (λ s. step_of (encoded form s)) path
 
--- the pair as which an entry is read
+-- the pair as which an entry is parsed
 abbrev pub entry_pair : Bool → Entry → Pair
 entry_pair form e = direct (steps form e.path) (entry_leaf form e.value)
 
@@ -32,15 +33,11 @@ IsValueOf [] (Some bytes) = AllByRecursion (λ b. b < 256) bytes
 IsValueOf (s ∷ path) None = ⊤
 IsValueOf (s ∷ path) (Some bytes) = AllByRecursion (λ b. b < 256) bytes
 
--- an entry whose text is read as its pair
+-- an entry whose text is parsed as its pair
 pub record IsWritable (form : Bool) (depth : ℕ) (e : Entry) : Type 0 where
   pub segments : AllByRecursion (IsSegment form) e.path
   pub short : length e.path ≤ depth + 1
   pub value : IsValueOf e.path e.value
 
-abbrev pub HasSegments : Path → Type 0
-HasSegments [] = ⊥
-HasSegments (s ∷ path) = ⊤
-
 abbrev pub HasPath : Entry → Type 0
-HasPath e = HasSegments e.path
+HasPath e = has_key e.path ≡ true

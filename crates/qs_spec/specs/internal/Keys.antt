@@ -1,5 +1,5 @@
--- Keys that are written, read back and looked up.
-use Rattle.std.specs.Prelude.{◌≡◌, ℕ, ◌≤◌, Bool, false, ◌&&◌, ◌==◌, not, List, [], ◌∷◌, Option, Some, None, if◌then◌else◌, ⊤}
+-- Keys that are written, parsed and looked up.
+use Rattle.std.specs.Prelude.{◌≡◌, ℕ, ◌≤◌, ◌&&◌, not, List, [], ◌∷◌, Option, Some, None, if◌then◌else◌, ⊤}
 use Rattle.std.specs.declared.cmp.Ordering.TheVariants.{Less}
 use Rattle.qs_spec.specs.Segment.{Segment, number, is_index, compare_segments, is_same_segment}
 use Rattle.qs_spec.specs.Segment.Segment.{Int, Str}
@@ -7,7 +7,7 @@ use Rattle.qs_spec.specs.Scalar.{has_leading_zero}
 use Rattle.qs_spec.specs.Tree.{Tree, Entries}
 use Rattle.qs_spec.specs.Tree.Entries.{entry, no_entries}
 
--- the segment as which bytes are read that were written: their number, or themselves
+-- the segment as which bytes are parsed that were written: their number, or themselves
 abbrev pub written_segment : List ℕ → Segment
 written_segment s = if is_index s then Int (number s) else Str s
 

@@ -37,23 +37,23 @@ abbrev pub with_leaf : (Leaf → Pair) → Rest Leaf → Rest Pair
 with_leaf pair None = None
 with_leaf pair (Some r) = Some (pair r.0, r.1)
 
-abbrev pub Deeper : Type 0
-Deeper = List Step → List ℕ → List Token → Rest Pair
+abbrev pub Brackets : Type 0
+Brackets = List Step → List ℕ → List Token → Rest Pair
 
-abbrev pub after_close_at : Kind → Deeper → List Step → Token → List Token → Rest Pair
-after_close_at Open deeper q u rest = deeper q u.raw rest
-after_close_at Amp deeper q u rest = with_leaf (direct q) (value_at Amp u rest)
-after_close_at Equals deeper q u rest = with_leaf (direct q) (value_at Equals u rest)
-after_close_at Close deeper q u rest = None
-after_close_at Other deeper q u rest = None
+abbrev pub after_close_at : Kind → Brackets → List Step → Token → List Token → Rest Pair
+after_close_at Open brackets q u rest = brackets q u.raw rest
+after_close_at Amp brackets q u rest = with_leaf (direct q) (value_at Amp u rest)
+after_close_at Equals brackets q u rest = with_leaf (direct q) (value_at Equals u rest)
+after_close_at Close brackets q u rest = None
+after_close_at Other brackets q u rest = None
 
-abbrev pub after_close : Deeper → List Step → List Token → Rest Pair
-after_close deeper q [] = with_leaf (direct q) (parsed_value [])
-after_close deeper q (u ∷ rest) = after_close_at u.kind deeper q u rest
+abbrev pub after_close : Brackets → List Step → List Token → Rest Pair
+after_close brackets q [] = with_leaf (direct q) (parsed_value [])
+after_close brackets q (u ∷ rest) = after_close_at u.kind brackets q u rest
 
-abbrev pub after_run : Deeper → List Step → List Token → Rest Pair
-after_run deeper q [] = None
-after_run deeper q (t ∷ rest) = after_close deeper q rest
+abbrev pub after_run : Brackets → List Step → List Token → Rest Pair
+after_run brackets q [] = None
+after_run brackets q (t ∷ rest) = after_close brackets q rest
 
 abbrev pub last_key : List Step → List ℕ → Token → List Token × List Token → Rest Pair
 last_key path bracket t c = with_leaf (direct (longer path (bracket ++ t.raw ++ raw_of c.0))) (parsed_value c.1)
@@ -62,11 +62,11 @@ abbrev pub in_last : Bool → List Step → List ℕ → Token → List Token �
 in_last true path bracket t ts = with_leaf (pushed path) (parsed_value ts)
 in_last false path bracket t ts = last_key path bracket t (cut ends_last ts)
 
-abbrev pub in_segment : Bool → Deeper → List Step → Token → List Token → Rest Pair
-in_segment true deeper path t ts = with_leaf (pushed path) (parsed_value ts)
-in_segment false deeper path t ts = after_run deeper (longer path (raw_of (t ∷ (cut is_close ts).0))) (cut is_close ts).1
+abbrev pub in_segment : Bool → Brackets → List Step → Token → List Token → Rest Pair
+in_segment true brackets path t ts = with_leaf (pushed path) (parsed_value ts)
+in_segment false brackets path t ts = after_run brackets (longer path (raw_of (t ∷ (cut is_close ts).0))) (cut is_close ts).1
 
-abbrev pub parsed_brackets : ℕ → Deeper
+abbrev pub parsed_brackets : ℕ → Brackets
 parsed_brackets zero path bracket [] = None
 parsed_brackets zero path bracket (t ∷ ts) = in_last (is_close t.kind) path bracket t ts
 parsed_brackets (suc room) path bracket [] = None

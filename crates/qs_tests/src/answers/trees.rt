@@ -1,4 +1,4 @@
-//! The parser's answers to the cases of a table.
+//! What the parser returns for the cases of a table.
 
 use crate::tree_line::{Texts, line};
 use qs_tree::{Config, Error, parse};
@@ -15,7 +15,7 @@ struct Case {
 }
 
 impl Case {
-    /// The case that the line writes.
+    // The case that the line writes.
     fn parse(alloc: Global, line: &str) -> Option<Case> {
         let (form, rest) = line.split_once('\t')?;
         let (max_depth, input) = rest.split_once('\t')?;
@@ -26,7 +26,7 @@ impl Case {
         Some(Case { config, input })
     }
 
-    /// The parser's answer.
+    // What the parser returns.
     fn answer(&self, alloc: Global) -> Result<String, AllocError> {
         match parse(alloc, self.input.as_slice(), self.config) {
             Ok(tree) => {
@@ -42,7 +42,7 @@ impl Case {
     }
 }
 
-/// Prints the answer to each line of standard input.
+// Prints the result of each line of standard input.
 fn answer_all(rt: &HostRuntime) -> io::Result<()> {
     for line in rt.lines(rt.alloc()) {
         match Case::parse(rt.alloc(), line?.as_str()) {
@@ -53,7 +53,7 @@ fn answer_all(rt: &HostRuntime) -> io::Result<()> {
     Ok(())
 }
 
-/// Prints the answer to each line of standard input, and returns the status.
+/// Prints the result of each line of standard input, and returns the status.
 pub fn trees(rt: &HostRuntime) -> ExitCode {
     match answer_all(rt) {
         Ok(()) => ExitCode::SUCCESS,

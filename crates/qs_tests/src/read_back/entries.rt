@@ -18,6 +18,7 @@ const ENTRIES: [&str; 10] = [
     "user_ids[3]=4",
 ];
 
+// The shape of a user with an address and a list.
 fn shape<R: Abort>(b: &Build<'_, R>) -> Shape {
     let address = b.fields([
         b.required("city", Shape::Text),
@@ -33,6 +34,7 @@ fn shape<R: Abort>(b: &Build<'_, R>) -> Shape {
     ])
 }
 
+// Such a user.
 fn data<R: Abort>(b: &Build<'_, R>) -> Data {
     let address = b.record([
         b.member("city", b.text("Carrot City")),
@@ -57,7 +59,7 @@ fn data<R: Abort>(b: &Build<'_, R>) -> Data {
 /// The places of the entries, in order.
 const IN_ORDER: [usize; 10] = [0, 1, 2, 3, 4, 5, 6, 7, 8, 9];
 
-/// The entries at these places, with `&` between them.
+// The entries at these places, with `&` between them.
 fn text<R: Abort>(b: &Build<'_, R>, places: &[usize]) -> String {
     let mut text = String::new(b.alloc);
     for place in places {
@@ -83,6 +85,7 @@ fn written(rt: HostRuntime) {
     assert_eq!(&rt; written.as_slice(), text(b, &IN_ORDER).as_bytes());
 }
 
+// The places with the first one last.
 fn rotated_once(mut places: [usize; 10]) -> [usize; 10] {
     places.rotate_left(1);
     places
@@ -107,7 +110,7 @@ fn reversed(rt: HostRuntime) {
     t.reads(&text(b, &places), &shape(b), data(b));
 }
 
-/// The places in an order by pseudo-random numbers.
+// The places in an order by pseudo-random numbers.
 fn shuffle(seed: u64) -> [usize; 10] {
     let mut places = IN_ORDER;
     let mut state = seed;

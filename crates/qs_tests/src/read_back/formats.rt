@@ -6,7 +6,7 @@ use crate::writing::writes;
 use serde_qs::{ArrayFormat, Config, Data, Shape};
 use std::process::Abort;
 
-/// An empty list, a list of one text, and a list of two numbers.
+// An empty list, a list of one text, and a list of two numbers.
 fn lists<R: Abort>(b: &Build<'_, R>) -> Data {
     b.record([
         b.member("empty", b.list([])),
@@ -15,6 +15,7 @@ fn lists<R: Abort>(b: &Build<'_, R>) -> Data {
     ])
 }
 
+// Fields that are lists.
 fn shape_of_lists<R: Abort>(b: &Build<'_, R>) -> Shape {
     b.fields([
         b.required("empty", b.seq(Shape::U8)),
@@ -23,6 +24,7 @@ fn shape_of_lists<R: Abort>(b: &Build<'_, R>) -> Shape {
     ])
 }
 
+// The default configuration in that format.
 fn config(format: ArrayFormat) -> Config {
     Config::new().array_format(format)
 }
@@ -52,7 +54,7 @@ fn in_another_order(rt: HostRuntime) {
     t.reads(text, &shape_of_lists(b), lists(b));
 }
 
-/// Entries with one path are elements in their order.
+// Entries with one path are elements in their order.
 #[test]
 fn in_the_order_of_entries(rt: HostRuntime) {
     let t = Rows::new(&rt, rt.alloc());
@@ -100,13 +102,37 @@ fn one_empty_text(rt: HostRuntime) {
     writes(b, config(ArrayFormat::Unindexed), &data, "a=");
     let shape = b.field("a", b.seq(Shape::Text));
     t.reads("a=", &shape, b.one("a", b.list([])));
-    // brackets tell it from the empty list
+    // brackets make it another than the empty list
     writes(b, config(ArrayFormat::EmptyIndexed), &data, "a[]=");
     t.reads("a[]=", &shape, data);
     // but not at the top, where neither has a key
     let top = b.list([b.text("")]);
     writes(b, config(ArrayFormat::EmptyIndexed), &top, "=");
     t.reads("=", &b.seq(Shape::Text), b.list([]));
+}
+
+// Tuples of one empty text are lost too, and so are elements that have no text.
+#[test]
+fn other_single_elements(rt: HostRuntime) {
+    let t = Rows::new(&rt, rt.alloc());
+    let b = &t.build;
+    let unindexed = config(ArrayFormat::Unindexed);
+    let tuple = b.one("a", b.items([b.text("")]));
+    writes(b, unindexed, &tuple, "a=");
+    let shape = b.field("a", b.tuple([Shape::Text]));
+    t.says("a=", &shape, "invalid length 0");
+    let variant = b.one("e", b.holding_items("v", [b.text("")]));
+    writes(b, unindexed, &variant, "e[v]=");
+    let shape = b.field("e", b.variants([b.tuple_variant("v", [Shape::Text])]));
+    t.says("e[v]=", &shape, "invalid length 0");
+    let elements = [
+        (Data::Unit, "a=", Shape::Unit),
+        (Data::None, "a", b.option(Shape::Text)),
+    ];
+    for (element, text, part) in elements {
+        writes(b, unindexed, &b.one("a", b.list([element])), text);
+        t.reads(text, &b.field("a", b.seq(part)), b.one("a", b.list([])));
+    }
 }
 
 /// Whether the lists come back with empty brackets, and without brackets.

@@ -2,10 +2,11 @@
 
 use crate::build::Build;
 use crate::rows::Rows;
+use crate::writing::writes;
 use serde_qs::{Config, Data, KeyShape, Shape, VariantKind};
 use std::process::Abort;
 
-/// The data are plain at this encoding and fit the shape.
+// The data are plain at this encoding and fit the shape.
 fn is_ready<R: Abort>(b: &Build<'_, R>, config: Config, shape: &Shape, data: &Data) {
     assert!(b.rt; data.is_plain(config), "{data:?}");
     assert!(b.rt; shape.fits(data), "{data:?}");
@@ -68,6 +69,24 @@ fn keys_of_maps(rt: HostRuntime) {
     };
     t.reads("10=x&9&0=", &shape, read());
     t.reads("0=&9&10=x", &shape, read());
+}
+
+#[test]
+fn numbers_as_keys(rt: HostRuntime) {
+    let t = Rows::new(&rt, rt.alloc());
+    let b = &t.build;
+    let shape = b.map(KeyShape::U32, Shape::Text);
+    let named = || {
+        b.pairs([
+            (Data::Unsigned(1), b.text("one")),
+            (Data::Unsigned(2), b.text("two")),
+        ])
+    };
+    writes(b, Config::new(), &named(), "1=one&2=two");
+    t.reads("1=one&2=two", &shape, named());
+    let form = Config::new().use_form_encoding(true);
+    writes(b, form, &named(), "1=one&2=two");
+    t.form().reads("1=one&2=two", &shape, named());
 }
 
 #[test]

@@ -4,10 +4,12 @@ use crate::build::Build;
 use serde_qs::{Config, Data, KeyShape, Shape, VariantKind};
 use std::process::Abort;
 
+// Whether data are plain is as wanted.
 fn is_plain<R: Abort>(rt: &R, data: Data, wanted: bool) {
     assert!(rt; data.is_plain(Config::new()) == wanted, "{data:?}");
 }
 
+// Whether data fit a shape is as wanted.
 fn fits<R: Abort>(rt: &R, shape: &Shape, data: Data, wanted: bool) {
     assert!(rt; shape.fits(&data) == wanted, "{shape:?} {data:?}");
 }

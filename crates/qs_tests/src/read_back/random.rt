@@ -3,7 +3,7 @@
 use crate::build::Build;
 use crate::notation;
 use crate::rows::Rows;
-use serde_qs::{Config, Data, Serializer};
+use serde_qs::{Config, Data, Serializer, Shape};
 use std::alloc::Global;
 use std::process::Abort;
 
@@ -98,12 +98,12 @@ pub struct Words {
     pub data: String,
 }
 
-/// How many of the names are plain.
-pub fn plain_names(form: bool) -> usize {
+// How many of the names are plain.
+fn plain_names(form: bool) -> usize {
     if form { NAMES.len() - 1 } else { NAMES.len() }
 }
 
-/// The words with these names and parts.
+// The words with these names and parts.
 fn filled<R: Abort>(b: &Build<'_, R>, words: &str, names: [&str; 2], x: &str, y: &str) -> String {
     let mut filled = String::new(b.alloc);
     for piece in words.split('<') {
@@ -121,7 +121,7 @@ fn filled<R: Abort>(b: &Build<'_, R>, words: &str, names: [&str; 2], x: &str, y:
     filled
 }
 
-/// One of the wholes, of these parts, with two of the first so many names.
+// One of the wholes, of these parts, with two of the first so many names.
 fn whole<R: Abort>(
     b: &Build<'_, R>,
     random: &mut Random,
@@ -139,7 +139,7 @@ fn whole<R: Abort>(
     }
 }
 
-/// As many scalars as a whole five deep has.
+// As many scalars as a whole five deep has.
 fn scalars<R: Abort>(b: &Build<'_, R>, random: &mut Random) -> Vec<Words> {
     let mut scalars = Vec::new(b.alloc);
     for _ in 0..32 {
@@ -155,8 +155,8 @@ fn scalars<R: Abort>(b: &Build<'_, R>, random: &mut Random) -> Vec<Words> {
     scalars
 }
 
-/// Wholes of wholes, so deep, with two of the first so many names.
-pub fn nested<R: Abort>(b: &Build<'_, R>, random: &mut Random, names: usize, depth: u32) -> Words {
+// Wholes of wholes, so deep, with two of the first so many names.
+fn nested<R: Abort>(b: &Build<'_, R>, random: &mut Random, names: usize, depth: u32) -> Words {
     let mut parts = scalars(b, random);
     for _ in 0..depth {
         parts = wholes(b, random, names, parts);
@@ -164,7 +164,7 @@ pub fn nested<R: Abort>(b: &Build<'_, R>, random: &mut Random, names: usize, dep
     parts.pop().expect(b.rt, "a whole")
 }
 
-/// A whole of each two.
+// A whole of each two.
 fn wholes<R: Abort>(
     b: &Build<'_, R>,
     random: &mut Random,
@@ -189,7 +189,7 @@ pub fn written<R: Abort>(b: &Build<'_, R>, config: Config, data: &Data) -> Strin
     String::from_utf8(serializer.into_sink().into_writer()).expect(b.rt, "UTF-8")
 }
 
-/// The text with its entries in another order: each is put before or after those so far.
+// The text with its entries in another order: each is put before or after those so far.
 fn shuffled<R: Abort>(b: &Build<'_, R>, random: &mut Random, text: &str) -> String {
     let mut shuffled = String::new(b.alloc);
     for (place, entry) in text.split('&').enumerate() {
@@ -209,18 +209,30 @@ pub fn rows<R: Abort>(rt: &R, alloc: Global, form: bool) -> Rows<'_, R> {
     if form { rows.form() } else { rows }
 }
 
-/// Data from each of some seeds come back, so deep.
+/// Plain data so deep, and a shape that they fit.
+pub fn fitting<R: Abort>(
+    b: &Build<'_, R>,
+    random: &mut Random,
+    config: Config,
+    form: bool,
+    depth: u32,
+) -> (Shape, Data) {
+    let words = nested(b, random, plain_names(form), depth);
+    let shape = notation::shape(b, words.shape.as_str());
+    let data = notation::data(b, words.data.as_str());
+    assert!(b.rt; data.is_plain(config), "{data:?}");
+    assert!(b.rt; shape.fits(&data), "{data:?}");
+    (shape, data)
+}
+
+// Data from each of some seeds come back, so deep.
 fn come_back<R: Abort>(rt: &R, alloc: Global, form: bool, depth: u32) {
     let config = Config::new().max_depth(10).use_form_encoding(form);
     let t = rows(rt, alloc, form);
     let b = &t.build;
     for seed in 0..20 {
         let mut random = Random::new(seed);
-        let words = nested(b, &mut random, plain_names(form), depth);
-        let shape = notation::shape(b, words.shape.as_str());
-        let data = notation::data(b, words.data.as_str());
-        assert!(b.rt; data.is_plain(config), "{data:?}");
-        assert!(b.rt; shape.fits(&data), "{data:?}");
+        let (shape, data) = fitting(b, &mut random, config, form, depth);
         let text = shuffled(b, &mut random, written(b, config, &data).as_str());
         t.reads(text.as_str(), &shape, data);
     }

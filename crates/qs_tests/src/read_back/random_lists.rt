@@ -1,12 +1,12 @@
 //! Random plain data in the formats without indices, read back where their lists can be.
 
-use super::random::{Random, nested, plain_names, rows, written};
+use super::random::{Random, fitting, rows, written};
 use crate::build::Build;
-use crate::notation;
 use serde_qs::{ArrayFormat, Config};
 use std::alloc::Global;
 use std::process::Abort;
 
+// What stands before the first `=`.
 fn key_of(entry: &str) -> &str {
     match entry.split_once('=') {
         Some((key, _)) => key,
@@ -14,7 +14,8 @@ fn key_of(entry: &str) -> &str {
     }
 }
 
-fn has_key(text: &str, key: &str) -> bool {
+// Whether an entry of the text has this key.
+fn has_entry_of(text: &str, key: &str) -> bool {
     for entry in text.split('&') {
         if key_of(entry) == key {
             return true;
@@ -23,14 +24,14 @@ fn has_key(text: &str, key: &str) -> bool {
     false
 }
 
-/// The text with its entries in another order, but those with one key as they were: each is put behind those so far, or before
-/// them where none has its key.
+// The text with its entries in another order, but those with one key as they were: each is put after those so far, or before
+// them where none has its key.
 fn shuffled<R: Abort>(b: &Build<'_, R>, random: &mut Random, text: &str) -> String {
     let mut shuffled = String::new(b.alloc);
     for (place, entry) in text.split('&').enumerate() {
         let both = if place == 0 {
             format!(in b.alloc; "{entry}")
-        } else if random.below(2) == 0 && !has_key(shuffled.as_str(), key_of(entry)) {
+        } else if random.below(2) == 0 && !has_entry_of(shuffled.as_str(), key_of(entry)) {
             format!(in b.alloc; "{entry}&{shuffled}")
         } else {
             format!(in b.alloc; "{shuffled}&{entry}")
@@ -40,7 +41,7 @@ fn shuffled<R: Abort>(b: &Build<'_, R>, random: &mut Random, text: &str) -> Stri
     shuffled
 }
 
-/// Of the data from each of some seeds, so deep, those come back whose lists can. Returns how many these are.
+// Of the data from each of some seeds, so deep, those come back whose lists can. Returns how many these are.
 fn come_back<R: Abort>(
     rt: &R,
     alloc: Global,
@@ -57,11 +58,7 @@ fn come_back<R: Abort>(
     let mut count: usize = 0;
     for seed in 0..40 {
         let mut random = Random::new(seed);
-        let words = nested(b, &mut random, plain_names(form), depth);
-        let shape = notation::shape(b, words.shape.as_str());
-        let data = notation::data(b, words.data.as_str());
-        assert!(b.rt; data.is_plain(config), "{data:?}");
-        assert!(b.rt; shape.fits(&data), "{data:?}");
+        let (shape, data) = fitting(b, &mut random, config, form, depth);
         if data.is_listed(config) {
             let text = shuffled(b, &mut random, written(b, config, &data).as_str());
             t.reads(text.as_str(), &shape, data);

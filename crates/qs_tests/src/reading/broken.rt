@@ -13,6 +13,7 @@ enum Part {
 }
 
 impl Part {
+    // The shape of the part.
     fn shape(self) -> Shape {
         match self {
             Part::Text => Shape::Text,
@@ -21,7 +22,7 @@ impl Part {
     }
 }
 
-/// An input, what reads its broken text as one part, and the data where that part is bytes.
+// An input, what reads its broken text as one part, and the data where that part is bytes.
 fn places<R: Abort>(b: &Build<'_, R>, part: Part) -> [(&'static str, Shape, Data); 9] {
     let broken = || b.bytes(&[0xFF]);
     let field = |shape| b.field("x", shape);

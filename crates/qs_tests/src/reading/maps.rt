@@ -5,17 +5,17 @@ use crate::rows::Rows;
 use serde_qs::{Data, KeyShape, Shape};
 use std::process::Abort;
 
-/// A field with a map of keys of this kind to nothing.
+// A field with a map of keys of this kind to nothing.
 fn keys<R: Abort>(b: &Build<'_, R>, key: KeyShape) -> Shape {
     b.field("m", b.map(key, Shape::Unit))
 }
 
-/// The field with a map of this one key.
+// The field with a map of this one key.
 fn key<R: Abort>(b: &Build<'_, R>, key: Data) -> Data {
     b.one("m", b.pairs([(key, Data::Unit)]))
 }
 
-/// The field with a map of these two keys.
+// The field with a map of these two keys.
 fn two_keys<R: Abort>(b: &Build<'_, R>, first: Data, second: Data) -> Data {
     b.one("m", b.pairs([(first, Data::Unit), (second, Data::Unit)]))
 }
@@ -48,7 +48,7 @@ fn keys_that_are_read_alike(rt: HostRuntime) {
     let shape = keys(b, KeyShape::U8);
     let one = Data::Unsigned(1);
     t.reads("m[1]&m[%2B1]", &shape, two_keys(b, one, Data::Unsigned(1)));
-    // the integer in front of the text, however each was spelled
+    // the integer in front of the text, however each was written
     let shape = keys(b, KeyShape::Text);
     t.reads("m[01]", &shape, key(b, b.text("1")));
     t.reads("m[a]&m[1]", &shape, two_keys(b, b.text("1"), b.text("a")));

@@ -26,7 +26,7 @@ fn the_empty_input(rt: HostRuntime) {
 }
 
 #[test]
-fn refused_for_the_empty_input(rt: HostRuntime) {
+fn rejected_for_the_empty_input(rt: HostRuntime) {
     let t = Rows::new(&rt, rt.alloc());
     let b = &t.build;
     t.says("", &Shape::U8, "invalid type: unit value, expected u8");

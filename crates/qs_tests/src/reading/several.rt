@@ -20,7 +20,7 @@ fn the_last_counts(rt: HostRuntime) {
 }
 
 #[test]
-fn refused(rt: HostRuntime) {
+fn rejected(rt: HostRuntime) {
     let t = Rows::new(&rt, rt.alloc()).reject_duplicates();
     let b = &t.build;
     t.reads("a[]=x", &b.field("a", Shape::Text), b.one("a", b.text("x")));

@@ -5,7 +5,7 @@ use crate::rows::Rows;
 use serde_qs::{Data, Shape};
 use std::process::Abort;
 
-/// A text, and another that may be left out.
+// A text, and another that may be left out.
 fn shape<R: Abort>(b: &Build<'_, R>) -> Shape {
     b.strict([b.required("a", Shape::Text), b.optional("b", Shape::Text)])
 }
@@ -81,7 +81,9 @@ fn variants(rt: HostRuntime) {
     t.reads("e[c][x]=7", &shape, b.one("e", b.holding_record("c", [x])));
     t.reads("e[c]", &shape, b.one("e", b.holding_record("c", [])));
     t.says("e[c][x]=7&e[c][y]=8", &shape, "unknown field `y`");
+    // a text counts as the map from the empty key to it, and nothing reads it
     t.says("e[c]=7", &shape, "unknown field ``");
+    t.says("e[c]=%FF", &shape, "unknown field ``");
     let member = b.member("", Data::Unsigned(7));
     t.reads(
         "e[d]=7",

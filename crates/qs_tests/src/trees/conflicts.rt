@@ -2,9 +2,10 @@
 
 use super::{
     AllocError, Config, Error, Fail, Global, SEQUENCE_AND_MAP, UNIT_AND_MAP, VALUE_AND_MAP,
-    VALUE_AND_SEQUENCE, query, refuse, refuse_bytes, typed_position,
+    VALUE_AND_SEQUENCE, query, reject, reject_bytes, typed_position,
 };
 use qs_tree::parse;
+use std::process::Abort;
 
 #[test]
 fn below_a_leaf(rt: HostRuntime) -> Result<(), Fail> {
@@ -17,7 +18,7 @@ fn below_a_leaf(rt: HostRuntime) -> Result<(), Fail> {
         // the conflict comes before the end of the segment
         ("a=1&a[b", 7, VALUE_AND_MAP),
     ];
-    refuse(&rt, rt.alloc(), Config::new(), &rows)
+    reject(&rt, rt.alloc(), Config::new(), &rows)
 }
 
 #[test]
@@ -36,7 +37,7 @@ fn below_the_root(rt: HostRuntime) -> Result<(), Fail> {
         // after the first byte in the bracket
         ("=1&[b]=2", 5, VALUE_AND_MAP),
     ];
-    refuse(&rt, rt.alloc(), Config::new(), &rows)
+    reject(&rt, rt.alloc(), Config::new(), &rows)
 }
 
 #[test]
@@ -46,7 +47,7 @@ fn a_push_at_a_leaf(rt: HostRuntime) -> Result<(), Fail> {
         ("abc&abc[]=1", 9, VALUE_AND_SEQUENCE),
         ("=1&[]=2", 5, VALUE_AND_SEQUENCE),
     ];
-    refuse(&rt, rt.alloc(), Config::new(), &rows)
+    reject(&rt, rt.alloc(), Config::new(), &rows)
 }
 
 #[test]
@@ -74,10 +75,10 @@ fn a_push_at_a_map(rt: HostRuntime) -> Result<(), Fail> {
             "invalid input: the key `` appears in the input as both a sequence and a map (with keys 7, \"a\", \"b\")",
         ),
     ];
-    refuse(&rt, rt.alloc(), Config::new(), &rows)
+    reject(&rt, rt.alloc(), Config::new(), &rows)
 }
 
-/// The key is shown whole at the depth limit too, and not at all where it is no UTF-8.
+// The key is shown whole at the depth limit too, and not at all where it is no UTF-8.
 #[test]
 fn a_push_at_a_map_with_another_key(rt: HostRuntime) -> Result<(), Fail> {
     let rows = [(
@@ -85,8 +86,8 @@ fn a_push_at_a_map_with_another_key(rt: HostRuntime) -> Result<(), Fail> {
         15,
         "invalid input: the key `a[b]` appears in the input as both a sequence and a map (with keys \"[c\")",
     )];
-    refuse(&rt, rt.alloc(), query(1), &rows)?;
-    refuse_bytes(
+    reject(&rt, rt.alloc(), query(1), &rows)?;
+    reject_bytes(
         &rt,
         rt.alloc(),
         Config::new(),
@@ -105,6 +106,7 @@ enum Act {
 }
 
 impl Act {
+    // A pair with this act on `a`.
     fn text(self) -> &'static str {
         match self {
             Act::Plain => "a=1",
@@ -116,7 +118,7 @@ impl Act {
 
 const ACTS: [Act; 3] = [Act::Plain, Act::Push, Act::Below];
 
-/// Whether the pairs with these acts have a tree, where a typed call finds the same.
+// Whether the pairs with these acts have a tree, where a typed call finds the same.
 fn have_tree(alloc: Global, acts: &[Act]) -> Result<bool, AllocError> {
     let mut input = String::new(alloc);
     for act in acts {
@@ -150,25 +152,42 @@ fn two_pairs(rt: HostRuntime) -> Result<(), Fail> {
     Ok(())
 }
 
+// Whether a third pair with this act is accepted after two others: no below without one that comes first, no push beside one.
+fn is_accepted(first: Act, second: Act, third: Act) -> bool {
+    let acts = [first, second, third];
+    if first == Act::Below {
+        acts.iter().all(|act| *act != Act::Push)
+    } else {
+        acts.iter().all(|act| *act != Act::Below) && (first != Act::Plain || second != Act::Push)
+    }
+}
+
+// How many pairs are accepted after two others.
+fn accepted_after<R: Abort>(
+    rt: &R,
+    alloc: Global,
+    first: Act,
+    second: Act,
+) -> Result<u32, AllocError> {
+    let mut accepted = 0u32;
+    for third in ACTS {
+        let wanted = is_accepted(first, second, third);
+        assert_eq!(rt; have_tree(alloc, &[first, second, third])?, wanted);
+        if wanted {
+            accepted = accepted.saturating_add(1);
+        }
+    }
+    Ok(accepted)
+}
+
 // Ten have a tree: six without below that don't begin with plain and push, and four that begin with below and hold no push.
 #[test]
 fn three_pairs(rt: HostRuntime) -> Result<(), Fail> {
     let mut accepted = 0u32;
     for first in ACTS {
         for second in ACTS {
-            for third in ACTS {
-                let acts = [first, second, third];
-                let wanted = if first == Act::Below {
-                    acts.iter().all(|act| *act != Act::Push)
-                } else {
-                    acts.iter().all(|act| *act != Act::Below)
-                        && (first != Act::Plain || second != Act::Push)
-                };
-                assert_eq!(rt; have_tree(rt.alloc(), &acts)?, wanted);
-                if wanted {
-                    accepted = accepted.saturating_add(1);
-                }
-            }
+            let more = accepted_after(&rt, rt.alloc(), first, second)?;
+            accepted = accepted.saturating_add(more);
         }
     }
     assert_eq!(rt; accepted, 10);

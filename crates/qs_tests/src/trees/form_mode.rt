@@ -1,6 +1,6 @@
 //! Escaped brackets in form mode. A position counts three bytes for each.
 
-use super::{ENDED, Fail, MIXED_SEQUENCE, VALUE_AND_MAP, accept, form, refuse};
+use super::{ENDED, Fail, MIXED_SEQUENCE, VALUE_AND_MAP, accept, form, reject};
 
 #[test]
 fn escaped_brackets(rt: HostRuntime) -> Result<(), Fail> {
@@ -17,7 +17,7 @@ fn escaped_brackets(rt: HostRuntime) -> Result<(), Fail> {
 }
 
 #[test]
-fn refused_at_an_escaped_bracket(rt: HostRuntime) -> Result<(), Fail> {
+fn rejected_at_an_escaped_bracket(rt: HostRuntime) -> Result<(), Fail> {
     let rows = [
         (
             "a[b]%5D",
@@ -33,7 +33,7 @@ fn refused_at_an_escaped_bracket(rt: HostRuntime) -> Result<(), Fail> {
         ("=1&a%5B", 7, VALUE_AND_MAP),
         ("a%5B", 5, ENDED),
     ];
-    refuse(&rt, rt.alloc(), form(5), &rows)
+    reject(&rt, rt.alloc(), form(5), &rows)
 }
 
 // The key is shown whole, up to the bracket of the push.
@@ -51,5 +51,5 @@ fn a_push_at_a_map(rt: HostRuntime) -> Result<(), Fail> {
             "invalid input: the key `a%5Bb%5D` appears in the input as both a sequence and a map (with keys \"c\")",
         ),
     ];
-    refuse(&rt, rt.alloc(), form(5), &rows)
+    reject(&rt, rt.alloc(), form(5), &rows)
 }

@@ -2,7 +2,7 @@
 
 use super::{
     AllocError, Config, ENDED_IN_KEY, Fail, Global, SEQUENCE_AND_MAP, VALUE_AND_MAP, form,
-    refuse_bytes, tree,
+    reject_bytes, tree,
 };
 use std::process::Abort;
 
@@ -51,7 +51,7 @@ fn accept_behind(
 }
 
 // The pairs, with these after them, are rejected at this position of what follows.
-fn refuse_behind(
+fn reject_after(
     rt: &impl Abort,
     alloc: Global,
     more: &str,
@@ -61,7 +61,7 @@ fn refuse_behind(
     let mut input = shuffled(alloc, "", "")?;
     let len = input.len();
     input.push_str(more)?;
-    refuse_bytes(
+    reject_bytes(
         rt,
         alloc,
         Config::new(),
@@ -124,10 +124,10 @@ fn an_escaped_key(rt: HostRuntime) -> Result<(), Fail> {
 #[test]
 fn faults(rt: HostRuntime) -> Result<(), Fail> {
     let alloc = rt.alloc();
-    refuse_behind(&rt, alloc, "a=1&a[b]=1", 7, VALUE_AND_MAP)?;
-    refuse_behind(&rt, alloc, "z=1&z[b]=1&a[]=1&a[b]=2", 7, VALUE_AND_MAP)?;
-    refuse_behind(&rt, alloc, "z[]=1&z[b]=2&a=1&a[b]=1", 9, SEQUENCE_AND_MAP)?;
-    refuse_behind(&rt, alloc, "a=1&a[b]=1&c[b", 7, VALUE_AND_MAP)?;
-    refuse_behind(&rt, alloc, "a[b", 4, ENDED_IN_KEY)?;
-    refuse_behind(&rt, alloc, "%61=1&a[b]=1", 9, VALUE_AND_MAP)
+    reject_after(&rt, alloc, "a=1&a[b]=1", 7, VALUE_AND_MAP)?;
+    reject_after(&rt, alloc, "z=1&z[b]=1&a[]=1&a[b]=2", 7, VALUE_AND_MAP)?;
+    reject_after(&rt, alloc, "z[]=1&z[b]=2&a=1&a[b]=1", 9, SEQUENCE_AND_MAP)?;
+    reject_after(&rt, alloc, "a=1&a[b]=1&c[b", 7, VALUE_AND_MAP)?;
+    reject_after(&rt, alloc, "a[b", 4, ENDED_IN_KEY)?;
+    reject_after(&rt, alloc, "%61=1&a[b]=1", 9, VALUE_AND_MAP)
 }

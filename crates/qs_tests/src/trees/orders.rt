@@ -1,6 +1,6 @@
 //! The pairs of an input in another order.
 
-use super::{Config, Fail, VALUE_AND_MAP, accept, refuse};
+use super::{Config, Fail, VALUE_AND_MAP, accept, reject};
 
 // The pairs at one path keep their order.
 #[test]
@@ -16,20 +16,20 @@ fn one_tree(rt: HostRuntime) -> Result<(), Fail> {
 }
 
 #[test]
-fn both_are_refused(rt: HostRuntime) -> Result<(), Fail> {
+fn both_are_rejected(rt: HostRuntime) -> Result<(), Fail> {
     let rows = [
         ("c=1&a=1&a[b]=2", 11, VALUE_AND_MAP),
         ("a=1&c=1&a[b]=2", 11, VALUE_AND_MAP),
     ];
-    refuse(&rt, rt.alloc(), Config::new(), &rows)
+    reject(&rt, rt.alloc(), Config::new(), &rows)
 }
 
-// Pairs whose paths meet do not change places.
+// Pairs whose paths overlap do not change places.
 #[test]
 fn an_order_that_counts(rt: HostRuntime) -> Result<(), Fail> {
     let rows = [("a[b]=1&a=2", "{'a':{'':'2','b':'1'}}")];
     accept(&rt, rt.alloc(), Config::new(), &rows)?;
-    refuse(
+    reject(
         &rt,
         rt.alloc(),
         Config::new(),

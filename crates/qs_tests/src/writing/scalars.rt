@@ -3,6 +3,7 @@
 use super::{form, query, writes};
 use crate::build::Build;
 use serde_qs::Data;
+use std::test::Fail;
 
 #[test]
 fn texts(rt: HostRuntime) {
@@ -56,6 +57,23 @@ fn other_scalars(rt: HostRuntime) {
     for (value, wanted) in rows {
         writes(b, query(), &b.one("a", value), wanted);
     }
+}
+
+// Values on both sides of the length from which one is put in pieces, which may end within a character.
+#[test]
+fn long(rt: HostRuntime) -> Result<(), Fail> {
+    let build = Build::new(&rt, rt.alloc());
+    let b = &build;
+    for count in [341, 342, 1_000] {
+        let (mut value, mut wanted) = (String::new(rt.alloc()), String::new(rt.alloc()));
+        wanted.push_str("a=")?;
+        for _ in 0..count {
+            value.push_str("\u{e9} ")?;
+            wanted.push_str("%C3%A9+")?;
+        }
+        writes(b, query(), &b.one("a", b.text(&value)), &wanted);
+    }
+    Ok(())
 }
 
 // Nothing is above these, so there is no key.

@@ -31,6 +31,17 @@ struct Narrow {
     stop: Stop,
 }
 
+// Such a writer that holds nothing yet.
+fn with_room(alloc: Global, step: usize, room: usize, stop: Stop) -> Narrow {
+    let held = Vec::new(alloc);
+    Narrow {
+        held,
+        step,
+        room,
+        stop,
+    }
+}
+
 impl Write for Narrow {
     fn write(&mut self, buf: &[u8]) -> io::Result<usize> {
         let count = buf.len().min(self.step).min(self.room);
@@ -51,7 +62,7 @@ impl Write for Narrow {
     }
 }
 
-/// A struct of a number and a list of one number.
+// A struct of a number and a list of one number.
 fn number_and_list<R: Abort>(b: &Build<'_, R>) -> Data {
     b.record([
         b.member("a", Data::Unsigned(1)),
@@ -59,35 +70,32 @@ fn number_and_list<R: Abort>(b: &Build<'_, R>) -> Data {
     ])
 }
 
-// The bytes that were taken stand, no write is repeated, and the serializer has failed for good.
+// A writer with this room holds as many bytes of the text, no write is repeated, and the serializer has failed for good.
+fn stops_at<R: Abort>(rt: &R, alloc: Global, datum: &Data, room: usize, step: usize, stop: Stop) {
+    let mut writer = with_room(alloc, step, room, stop);
+    let mut serializer = Serializer::new(&mut writer, query());
+    let result = serializer.serialize(alloc, datum);
+    assert!(rt;
+        matches!(result, Err(Error::Io(_))),
+        "{stop:?} {step} {room}"
+    );
+    let result = serializer.serialize(alloc, datum);
+    assert!(rt;
+        matches!(result, Err(Error::Failed)),
+        "{stop:?} {step} {room}"
+    );
+    assert!(rt; serializer.into_sink().has_failed());
+    assert_eq!(rt; writer.held.as_slice(), &WHOLE[..room], "{stop:?} {step}");
+}
+
 #[test]
 fn stops_in_mid_stream(rt: HostRuntime) {
     let build = Build::new(&rt, rt.alloc());
-    let b = &build;
-    let datum = number_and_list(b);
+    let datum = number_and_list(&build);
     for stop in [Stop::Fails, Stop::IsInterrupted, Stop::TakesNothing] {
         for step in [1, 3, 5, 10] {
             for room in 0..WHOLE.len() {
-                let held = Vec::new(b.alloc);
-                let mut writer = Narrow {
-                    held,
-                    step,
-                    room,
-                    stop,
-                };
-                let mut serializer = Serializer::new(&mut writer, query());
-                let result = serializer.serialize(b.alloc, &datum);
-                assert!(rt;
-                    matches!(result, Err(Error::Io(_))),
-                    "{stop:?} {step} {room}"
-                );
-                let result = serializer.serialize(b.alloc, &datum);
-                assert!(rt;
-                    matches!(result, Err(Error::Failed)),
-                    "{stop:?} {step} {room}"
-                );
-                assert!(rt; serializer.into_sink().has_failed());
-                assert_eq!(rt; writer.held.as_slice(), &WHOLE[..room], "{stop:?} {step}");
+                stops_at(&rt, rt.alloc(), &datum, room, step, stop);
             }
         }
     }
@@ -99,14 +107,7 @@ fn takes_all_in_small_steps(rt: HostRuntime) {
     let b = &build;
     let datum = number_and_list(b);
     for step in [1, 3, 5, 10] {
-        let held = Vec::new(b.alloc);
-        let room = WHOLE.len();
-        let mut writer = Narrow {
-            held,
-            step,
-            room,
-            stop: Stop::Fails,
-        };
+        let mut writer = with_room(b.alloc, step, WHOLE.len(), Stop::Fails);
         let mut serializer = Serializer::new(&mut writer, query());
         assert!(rt; serializer.serialize(b.alloc, &datum).is_ok());
         assert!(rt; !serializer.into_sink().has_failed());
@@ -124,6 +125,7 @@ enum Call {
 }
 
 impl Call {
+    // Writes the addresses by this call.
     fn write(self, alloc: Global, addresses: &Addresses, writer: &mut Narrow) -> Result<()> {
         match self {
             Call::Writer => to_writer(alloc, addresses, writer),
@@ -132,7 +134,7 @@ impl Call {
     }
 }
 
-/// Each front of the line is what a writer holds that has room for it.
+// Each front of the line is what a writer holds that has room for it.
 fn fronts<R: Abort>(
     rt: &R,
     alloc: Global,
@@ -142,13 +144,7 @@ fn fronts<R: Abort>(
     stop: Stop,
 ) {
     for room in 0..=ADDRESS.len() {
-        let held = Vec::new(alloc);
-        let mut writer = Narrow {
-            held,
-            step,
-            room,
-            stop,
-        };
+        let mut writer = with_room(alloc, step, room, stop);
         let result = call.write(alloc, addresses, &mut writer);
         assert_eq!(rt;
             writer.held.as_slice(),

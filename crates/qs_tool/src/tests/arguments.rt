@@ -2,6 +2,8 @@
 use super::{expect, words};
 use crate::arguments::Request;
 use crate::information::Information;
+use std::alloc::Global;
+use std::process::Abort;
 use std::test::Fail;
 
 const PERSON: &str = "name=a&age=1&occupation=b";
@@ -22,6 +24,19 @@ fn right(rt: HostRuntime) -> Result<(), Fail> {
         "any --format empty --form --duplicates error --depth 1 | a%5Bb]=1 | {'a':{'b':'1'}}",
     ];
     expect(&rt, rt.alloc(), 0, &rows)
+}
+
+// The usage is printed for these arguments, and this is what is wrong with them.
+fn expect_misuse<R: Abort>(rt: &R, alloc: Global, arguments: &str, said: &str) -> Result<(), Fail> {
+    let row = format!(in alloc; "{arguments} | {PERSON} | {USAGE}")?;
+    expect(rt, alloc, 2, &[row.as_str()])?;
+    let words = words(alloc, arguments)?;
+    let misuse = match Request::parse(words.as_slice()) {
+        Ok(_) => String::new(alloc),
+        Err(misuse) => format!(in alloc; "{misuse}")?,
+    };
+    assert_eq!(rt; misuse.as_str(), said, "{arguments}");
+    Ok(())
 }
 
 #[test]
@@ -58,14 +73,7 @@ fn wrong(rt: HostRuntime) -> Result<(), Fail> {
         ("flat --depth 1 --no --form --form", "unknown option '--no'"),
     ];
     for (arguments, said) in rows {
-        let row = format!(in rt.alloc(); "{arguments} | {PERSON} | {USAGE}")?;
-        expect(&rt, rt.alloc(), 2, &[row.as_str()])?;
-        let words = words(rt.alloc(), arguments)?;
-        let misuse = match Request::parse(words.as_slice()) {
-            Ok(_) => String::new(rt.alloc()),
-            Err(misuse) => format!(in rt.alloc(); "{misuse}")?,
-        };
-        assert_eq!(rt; misuse.as_str(), said, "{arguments}");
+        expect_misuse(&rt, rt.alloc(), arguments, said)?;
     }
     Ok(())
 }

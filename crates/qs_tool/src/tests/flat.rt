@@ -18,7 +18,7 @@ fn written_again(rt: HostRuntime) -> Result<(), Fail> {
 }
 
 #[test]
-fn refused(rt: HostRuntime) -> Result<(), Fail> {
+fn rejected(rt: HostRuntime) -> Result<(), Fail> {
     let rows = [
         "flat |  | error: missing field `name`",
         "flat | name=a&age=300&occupation=b | error: invalid type: string, expected u8",

@@ -14,7 +14,7 @@ fn written_again(rt: HostRuntime) -> Result<(), Fail> {
 }
 
 #[test]
-fn refused(rt: HostRuntime) -> Result<(), Fail> {
+fn rejected(rt: HostRuntime) -> Result<(), Fail> {
     let rows = [
         "params --depth 0 | id=1&name=a&phone=2&address=c&address=s&address=p&user_ids=7 | error: Maximum serialization depth `0` exceeded",
         "params | id=1&name=a&phone=2&user_ids=7 | error: missing field `address`",

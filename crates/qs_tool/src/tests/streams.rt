@@ -20,6 +20,7 @@ enum End {
 }
 
 impl End {
+    // What a read or write returns at this end.
     fn meet(self) -> io::Result<usize>
         ensures { IfOk result (λ count. count ≡ 0) }
     {

@@ -1,17 +1,22 @@
 -- A value of the code, level by level, beside the tree that it is.
-use Rattle.std.proofs.Common.{◌≡◌, List, [], ◌∷◌, ◌++◌, Vec, Global, refl, ap, rules}
-use Rattle.qs_spec.specs.Tree.Tree.{sequence, mapping, uninitialized}
+use Rattle.std.proofs.Common.{◌≡◌, List, [], ◌∷◌, ◌++◌, Vec, Global, ℕ, true, false, None, refl, ap, ◌∙◌, rules}
+use Rattle.std.specs.declared.borrow.CowSlice.{CowSlice}
+use Rattle.std.specs.declared.borrow.CowSlice.TheVariants.{Borrowed, Owned}
+use Rattle.qs_spec.specs.Leaf.{Leaf}
+use Rattle.qs_spec.specs.Leaf.Leaf.{Text, Null as leaf_null, NoValue as leaf_none}
+use Rattle.qs_spec.specs.Tree.{Tree}
+use Rattle.qs_spec.specs.Tree.Tree.{leaf, sequence, mapping, uninitialized}
 use Rattle.qs_spec.specs.Tree.Items.{item}
-use Rattle.qs_spec.specs.internal.InPlace.{push_item}
-use Rattle.qs_tree.specs.declared.tree.value.ParsedValue.{ParsedValue, Map, Sequence, Uninitialized, the_lemmas}
+use Rattle.qs_spec.specs.internal.InPlace.{add_flat, add_here, push_item}
+use Rattle.qs_tree.specs.declared.tree.value.ParsedValue.{ParsedValue, Map, Sequence, String, Null, NoValue, Uninitialized, the_lemmas}
 use Rattle.qs_tree.specs.declared.tree.map.ParsedMap.{ParsedMap}
-use Rattle.qs_tree.specs.declared.scan.pair.Leaf.{Leaf}
-use Rattle.qs_tree.specs.declared.build.builder.TreeBuilder.{Empty}
 use Rattle.qs_tree.specs.declared.build.builder.MapBuilder.{the_lemmas as builder_lemmas}
 use Rattle.qs_tree.specs.declared.build.builder.TreeBuilder.TheVariants as builder
 use Rattle.qs_tree.specs.declared.build.builder.MapBuilder.{MapBuilder}
-use Rattle.qs_tree.specs.internal.scan.Pairs.{leaf_tree}
-use Rattle.qs_tree.specs.internal.build.Builder.{built_tree, built_entries}
+use Rattle.qs_tree.specs.internal.build.Builder.{built_tree, built_entries, fresh}
+use Rattle.qs_tree.specs.internal.build.Adding.{second, entries_below}
+use Rattle.qs_tree.specs.internal.build.Unsorted.{IsLeaf, unsorted_entries}
+use Rattle.qs_tree.specs.declared.build.unsorted.Unsorted.{Unsorted}
 use Rattle.qs_tree.specs.tree.Views.{tree_of, entries_of_map, items_of}
 
 pub tree_of-Uninitialized : tree_of Uninitialized ≡ uninitialized
@@ -27,16 +32,63 @@ pub items_of-push : (vs : List ParsedValue) (v : ParsedValue) → items_of (vs +
 items_of-push [] v = refl
 items_of-push (x ∷ vs) v = ap (item (tree_of x)) (items_of-push vs v)
 
-pub built_tree-Empty : built_tree Empty ≡ uninitialized
-built_tree-Empty = search (rules, builder_lemmas)
+-- a plain leaf is added to a leaf
+pub second-String : (s : CowSlice ℕ Global) (l : Leaf) → add_flat false l (tree_of (String s)) ≡ second (tree_of (String s)) l
+second-String (Borrowed r) l = let is : tree_of (String (Borrowed r)) ≡ leaf (Text r.now false) = search (rules, the_lemmas) in rw is
+second-String (Owned v) l = let is : tree_of (String (Owned v)) ≡ leaf (Text v.items true) = search (rules, the_lemmas) in rw is
 
-pub built_tree-Leaf : (l : Leaf) → built_tree (builder.Leaf l) ≡ leaf_tree l
-built_tree-Leaf l = search (rules, builder_lemmas)
+pub second-Null : (l : Leaf) → add_flat false l (tree_of Null) ≡ second (tree_of Null) l
+second-Null l = let is : tree_of Null ≡ leaf leaf_null = search (rules, the_lemmas) in rw is
 
-pub built_tree-Sequence : (v : Vec ParsedValue Global) → built_tree (builder.Sequence v) ≡ sequence (items_of v.items)
-built_tree-Sequence v = search (rules, builder_lemmas)
+pub second-NoValue : (l : Leaf) → add_flat false l (tree_of NoValue) ≡ second (tree_of NoValue) l
+second-NoValue l = let is : tree_of NoValue ≡ leaf leaf_none = search (rules, the_lemmas) in rw is
+
+-- at a leaf as at any other node that is no map
+pub here-String : (s : CowSlice ℕ Global) (l : Leaf) → add_here false l (tree_of (String s)) ≡ add_flat false l (tree_of (String s))
+here-String (Borrowed r) l = let is : tree_of (String (Borrowed r)) ≡ leaf (Text r.now false) = search (rules, the_lemmas) in rw is
+here-String (Owned v) l = let is : tree_of (String (Owned v)) ≡ leaf (Text v.items true) = search (rules, the_lemmas) in rw is
+
+-- a leaf and a sequence have no entries
+pub below-String : (s : CowSlice ℕ Global) → entries_below (tree_of (String s)) ≡ None
+below-String (Borrowed r) = let is : tree_of (String (Borrowed r)) ≡ leaf (Text r.now false) = search (rules, the_lemmas) in rw is
+below-String (Owned v) = let is : tree_of (String (Owned v)) ≡ leaf (Text v.items true) = search (rules, the_lemmas) in rw is
+
+-- a string is a leaf
+pub leaf-String : (s : CowSlice ℕ Global) → IsLeaf (tree_of (String s))
+leaf-String (Borrowed r) = let is : tree_of (String (Borrowed r)) ≡ leaf (Text r.now false) = search (rules, the_lemmas) in rw is (Text r.now false, refl)
+leaf-String (Owned v) = let is : tree_of (String (Owned v)) ≡ leaf (Text v.items true) = search (rules, the_lemmas) in rw is (Text v.items true, refl)
+
+pub leaf-Null : IsLeaf (tree_of Null)
+leaf-Null = let is : tree_of Null ≡ leaf leaf_null = search (rules, the_lemmas) in rw is (leaf_null, refl)
+
+pub leaf-NoValue : IsLeaf (tree_of NoValue)
+leaf-NoValue = let is : tree_of NoValue ≡ leaf leaf_none = search (rules, the_lemmas) in rw is (leaf_none, refl)
+
+pub below-Null : entries_below (tree_of Null) ≡ None
+below-Null = let is : tree_of Null ≡ leaf leaf_null = search (rules, the_lemmas) in rw is
+
+pub below-NoValue : entries_below (tree_of NoValue) ≡ None
+below-NoValue = let is : tree_of NoValue ≡ leaf leaf_none = search (rules, the_lemmas) in rw is
+
+pub below-Sequence : (v : Vec ParsedValue Global) → entries_below (tree_of (Sequence v)) ≡ None
+below-Sequence v = rw (tree_of-Sequence v)
+
+pub here-push : (l : Leaf) (t : Tree) → add_here true l t ≡ add_flat true l t
+here-push l (leaf o) = refl
+here-push l (sequence xs) = refl
+here-push l (mapping es) = refl
+here-push l uninitialized = refl
+
+pub built_tree-Value : (v : ParsedValue) → built_tree (builder.Value v) ≡ tree_of v
+built_tree-Value v = search (rules, builder_lemmas)
+
+pub built_tree-fresh : built_tree fresh ≡ uninitialized
+built_tree-fresh = built_tree-Value Uninitialized ∙ tree_of-Uninitialized
 
 pub built_tree-Map : (m : MapBuilder) → built_tree (builder.Map m) ≡ mapping (built_entries m)
 built_tree-Map m = search (rules, builder_lemmas)
 
-pub ruleset views = (tree_of-Uninitialized, tree_of-Sequence, tree_of-Map, items_of-push, built_tree-Empty, built_tree-Leaf, built_tree-Sequence, built_tree-Map)
+pub built_tree-Unsorted : (u : Unsorted) → built_tree (builder.Unsorted u) ≡ mapping (unsorted_entries u)
+built_tree-Unsorted u = search (rules, builder_lemmas)
+
+pub ruleset views = (tree_of-Uninitialized, tree_of-Sequence, tree_of-Map, items_of-push, built_tree-Value, built_tree-Map, built_tree-Unsorted, second-String, second-Null, second-NoValue, here-String, below-String, below-Null, below-NoValue)

@@ -1,5 +1,5 @@
 pub mod LaneLemmas
-pub mod EncodedSets
+pub mod Tables
 pub mod EncodedFronts
 pub mod DecodedFronts
 pub mod Copied

@@ -1,3 +1,4 @@
+pub mod Unsorted
 pub mod Builder
 pub mod Adding
 pub mod Descent

@@ -1,25 +1,29 @@
 //! Adding a pair to a tree, in place.
 ghost use Rattle.std.specs.Prelude.{◌≡◌, ◌+◌, ◌<◌, ◌≤◌, [], ◌∷◌, length, drop, true, false, IsOkAnd, Some, None};
 ghost use Rattle.qs_spec.specs.Tree.{empty_step};
+ghost use Rattle.qs_spec.specs.Tree.Tree.{mapping};
 ghost use Rattle.qs_spec.specs.internal.InPlace as in_place;
 ghost use Rattle.qs_spec.specs.internal.InPlace.{add, add_flat, update};
 ghost use Rattle.qs_tree.specs.declared.scan.pair.Manner.TheVariants.{Plain};
-ghost use Rattle.qs_tree.specs.declared.build.builder.TreeBuilder.TheVariants.{Empty};
-ghost use Rattle.qs_tree.specs.internal.build.Builder.{built_tree, built_entries, entries_seen, IsFlat};
+ghost use Rattle.qs_tree.specs.internal.build.Builder.{built_tree, built_entries, entries_seen, fresh, IsFlat};
 ghost use Rattle.std.specs.List.Sorted.{IsStrictlySortedBy};
 ghost use Rattle.std.specs.Map.{keys_of};
 ghost use Rattle.qs_tree.specs.tree.Keys.{key_cmp};
 ghost use Rattle.qs_tree.specs.internal.tree.Places.{IsPlaced};
-ghost use Rattle.qs_tree.specs.tree.Views.{step_of_key};
+ghost use Rattle.qs_tree.specs.tree.Views.{step_of_key, tree_of};
 ghost use Rattle.qs_tree.specs.internal.scan.Pairs.{IsBare, leaf_of, is_push, pair_of, path_of};
-ghost use Rattle.qs_tree.specs.internal.build.Adding.{Gives};
+ghost use Rattle.qs_tree.specs.internal.build.Adding.{Adds, Gives};
+ghost use Rattle.qs_tree.specs.internal.build.Unsorted.{unsorted_entries};
 
+use crate::build::add_to_value::{add_at_end, add_plain, add_to_value};
 use crate::build::builder::{MapBuilder, TreeBuilder, goes_between, into_tree, place_among};
 use crate::build::conflict::{AddError, ConflictKind};
 use crate::build::descent::{Zipper, descend, map_of, rebuild};
+use crate::build::unsorted::Unsorted;
 use crate::scan::pair::{Leaf, Manner, Pair};
 use crate::tree::entries::Entries;
 use crate::tree::key::Key;
+use crate::tree::value::ParsedValue;
 use std::alloc::Global;
 use std::collections::BTreeMap;
 use std::mem;
@@ -37,7 +41,7 @@ pub(crate) fn add_pair<'qs>(
     pair: &mut Pair<'qs>,
 ) -> Result<(), AddError>
     ensures added { let p = pair_of pair.old in Gives (λ _. built_tree tree.new) (add p.path p.push p.leaf (built_tree tree.old)) result }
-    ensures fresh { IsBare pair.old → tree.old ≡ Empty → IsOkAnd result (λ _. IsFlat tree.new) }
+    ensures fresh { IsBare pair.old → tree.old ≡ fresh → IsOkAnd result (λ _. IsFlat tree.new) }
 {
     add_along(alloc, tree, pair, 0)
 }
@@ -53,7 +57,7 @@ fn add_along<'qs>(
     requires { level ≤ length pair.old.path.items }
     ensures added { let push = is_push pair.old.manner in let path = path_of (drop level pair.old.path.items) in
         Gives (λ _. built_tree node.new) (add path push (leaf_of pair.old.leaf) (built_tree node.old)) result }
-    ensures fresh { IsBare pair.old → level ≡ 0 → node.old ≡ Empty → IsOkAnd result (λ _. IsFlat node.new) }
+    ensures fresh { IsBare pair.old → level ≡ 0 → node.old ≡ fresh → IsOkAnd result (λ _. IsFlat node.new) }
 {
     if level >= LEVELS {
         return add_by_value(alloc, node, pair, level);
@@ -61,14 +65,83 @@ fn add_along<'qs>(
     if level == pair.path.len() {
         return add_here(alloc, node, pair);
     }
-    let key = pair.take_key(level);
     match node {
-        TreeBuilder::Map(map) => add_below(alloc, map, key, pair, level + 1),
-        _ => add_in_new_map(alloc, node, key, pair, level),
+        TreeBuilder::Map(map) => {
+            let key = pair.take_key(level);
+            add_below(alloc, map, key, pair, level + 1)
+        }
+        TreeBuilder::Value(value) => match add_in_place(alloc, value, pair, level) {
+            Ok(true) => Ok(()),
+            Ok(false) => add_out_of_order(alloc, node, pair, level),
+            Err(error) => Err(error),
+        },
+        TreeBuilder::Unsorted(leaves) => {
+            if pair.is_leaf_below(level) {
+                add_unsorted(leaves, pair, level)
+            } else {
+                add_out_of_order(alloc, node, pair, level)
+            }
+        }
     }
 }
 
-// Adds a pair, whose next key is this one, to a node that becomes a map.
+// Adds a pair that is a plain leaf with one key left.
+fn add_unsorted<'qs>(
+    leaves: &mut Unsorted<'qs>,
+    pair: &mut Pair<'qs>,
+    level: usize,
+) -> Result<(), AddError>
+    requires one { length pair.old.path.items ≡ level + 1 }
+    requires plain { is_push pair.old.manner ≡ false }
+    ensures { let push = is_push pair.old.manner in let path = path_of (drop level pair.old.path.items) in
+        Gives (λ _. mapping (unsorted_entries leaves.new)) (add path push (leaf_of pair.old.leaf) (mapping (unsorted_entries leaves.old))) result }
+{
+    let key = pair.take_key(level);
+    Ok(leaves.push(key, pair.leaf.take())?)
+}
+
+// Adds a pair to a map with many entries, one of which is after the pair's.
+#[cycle(adding)]
+#[inline(never)]
+fn add_out_of_order<'qs>(
+    alloc: Global,
+    node: &mut TreeBuilder<'qs>,
+    pair: &mut Pair<'qs>,
+    level: usize,
+) -> Result<(), AddError>
+    requires { level < length pair.old.path.items }
+    ensures { let push = is_push pair.old.manner in let path = path_of (drop level pair.old.path.items) in
+        Gives (λ _. built_tree node.new) (add path push (leaf_of pair.old.leaf) (built_tree node.old)) result }
+{
+    if pair.is_leaf_below(level) {
+        *node = mem::replace(node, TreeBuilder::fresh()).unsorted(alloc)?;
+        if let TreeBuilder::Unsorted(leaves) = node {
+            return add_unsorted(leaves, pair, level);
+        }
+    }
+    let key = pair.take_key(level);
+    add_in_new_map(alloc, node, key, pair, level)
+}
+
+// Adds a pair to a finished node. Returns `false`, and changes nothing, where the node has to become a map under construction.
+#[inline(always)]
+fn add_in_place<'qs>(
+    alloc: Global,
+    value: &mut ParsedValue<'qs>,
+    pair: &mut Pair<'qs>,
+    level: usize,
+) -> Result<bool, AddError>
+    requires { level ≤ length pair.old.path.items }
+    ensures { let path = path_of (drop level pair.old.path.items) in let old = tree_of value.old in
+        Adds (add path (is_push pair.old.manner) (leaf_of pair.old.leaf) old) old (tree_of value.new) pair.old pair.new result }
+{
+    if pair.path.len() - level > LEVELS {
+        return Ok(false);
+    }
+    add_to_value(alloc, value, pair, level)
+}
+
+// Adds a pair, whose next key is this one, to a node that becomes a map under construction.
 #[cycle(adding)]
 #[inline(never)]
 fn add_in_new_map<'qs>(
@@ -82,7 +155,7 @@ fn add_in_new_map<'qs>(
     ensures { let push = is_push pair.old.manner in let path = step_of_key key.entry ∷ path_of (drop (level + 1) pair.old.path.items) in
         Gives (λ _. built_tree node.new) (add path push (leaf_of pair.old.leaf) (built_tree node.old)) result }
 {
-    let mut map = map_of(alloc, mem::replace(node, TreeBuilder::Empty), level)?;
+    let mut map = map_of(alloc, mem::replace(node, TreeBuilder::fresh()), level)?;
     add_below(alloc, &mut map, key, pair, level + 1)?;
     *node = TreeBuilder::Map(map);
     Ok(())
@@ -117,7 +190,7 @@ fn add_below<'qs>(
     }
 }
 
-// Adds a pair to the node at a key of a vector. A plain leaf at a missing key is inserted directly.
+// Adds a pair to the node at a key of a vector.
 #[cycle(adding)]
 #[inline(always)]
 fn add_in_vector<'qs>(
@@ -134,14 +207,14 @@ fn add_in_vector<'qs>(
     ensures { let push = is_push pair.old.manner in let path = path_of (drop level pair.old.path.items) in
         Gives (λ _. entries_seen entries.new) (update (step_of_key key.entry) (add path push (leaf_of pair.old.leaf)) (entries_seen entries.old)) result }
 {
-    if let Err(at) = place {
-        if level == pair.path.len() && pair.manner.is_plain() {
-            entries.insert_at(at, key, TreeBuilder::Leaf(pair.leaf.take()))?;
-            return Ok(());
+    match place {
+        Ok(at) => add_along(alloc, entries.at_mut(at), pair, level),
+        Err(at) => {
+            let mut node = TreeBuilder::fresh();
+            add_along(alloc, &mut node, pair, level)?;
+            Ok(entries.insert_at(at, key, node)?)
         }
     }
-    let child = entries.child(place, key, TreeBuilder::Empty)?;
-    add_along(alloc, child, pair, level)
 }
 
 // Adds a pair to the node at a key of a search tree.
@@ -157,7 +230,7 @@ fn add_in_tree<'qs>(
     ensures { let push = is_push pair.old.manner in let path = path_of (drop level pair.old.path.items) in
         Gives (λ _. entries_seen tree.new.entries) (update (step_of_key key.entry) (add path push (leaf_of pair.old.leaf)) (entries_seen tree.old.entries)) result }
 {
-    let child = tree.entry(key)?.or_insert(TreeBuilder::Empty);
+    let child = tree.entry(key)?.or_insert(TreeBuilder::fresh());
     add_along(alloc, child, pair, level)
 }
 
@@ -173,7 +246,7 @@ fn add_by_value<'qs>(
     ensures { let push = is_push pair.old.manner in let path = path_of (drop level pair.old.path.items) in
         Gives (λ _. built_tree node.new) (add path push (leaf_of pair.old.leaf) (built_tree node.old)) result }
 {
-    let top = mem::replace(node, TreeBuilder::Empty);
+    let top = mem::replace(node, TreeBuilder::fresh());
     let Zipper {
         maps,
         node: mut end,
@@ -185,73 +258,33 @@ fn add_by_value<'qs>(
 
 // Adds a pair's leaf at the end of its path.
 #[inline(always)]
+#[tactic(auto, using(crate::proofs::lemmas::Views::views))]
 fn add_here<'qs>(
     alloc: Global,
     node: &mut TreeBuilder<'qs>,
     pair: &mut Pair<'qs>,
 ) -> Result<(), AddError>
     ensures added { Gives (λ _. built_tree node.new) (in_place.add_here (is_push pair.old.manner) (leaf_of pair.old.leaf) (built_tree node.old)) result }
-    ensures fresh { pair.old.manner ≡ Plain → node.old ≡ Empty → IsOkAnd result (λ _. IsFlat node.new) }
+    ensures fresh { pair.old.manner ≡ Plain → node.old ≡ fresh → IsOkAnd result (λ _. IsFlat node.new) }
 {
-    match pair.manner {
-        Manner::Push => add_pushed(alloc, node, pair.leaf.take(), pair.path.len()),
-        Manner::Plain => match node {
-            TreeBuilder::Empty => {
-                *node = TreeBuilder::Leaf(pair.leaf.take());
-                Ok(())
+    match node {
+        TreeBuilder::Value(value) => add_at_end(alloc, value, pair),
+        TreeBuilder::Unsorted(leaves) => match pair.manner {
+            Manner::Plain => Ok(leaves.push(Key::from(""), pair.leaf.take())?),
+            Manner::Push => {
+                let mut map = map_of(
+                    alloc,
+                    mem::replace(node, TreeBuilder::fresh()),
+                    pair.path.len(),
+                )?;
+                Err(map.conflict(alloc, pair.path.len()))
             }
-            TreeBuilder::Map(map) => map.add_at_empty(alloc, pair.leaf.take(), pair.path.len()),
-            _ => add_plain(alloc, node, pair.leaf.take(), pair.path.len()),
+        },
+        TreeBuilder::Map(map) => match pair.manner {
+            Manner::Plain => map.add_at_empty(alloc, pair.leaf.take(), pair.path.len()),
+            Manner::Push => Err(map.conflict(alloc, pair.path.len())),
         },
     }
-}
-
-// Adds a plain leaf to a node, or returns the conflict with a map.
-#[inline(never)]
-#[tactic(auto, using(crate::proofs::lemmas::Views::views))]
-fn add_plain<'qs>(
-    alloc: Global,
-    node: &mut TreeBuilder<'qs>,
-    leaf: Leaf<'qs>,
-    level: usize,
-) -> Result<(), AddError>
-    ensures added { Gives (λ _. built_tree node.new) (add_flat false (leaf_of leaf.entry) (built_tree node.old)) result }
-    ensures fresh { node.old ≡ Empty → IsOkAnd result (λ _. IsFlat node.new) }
-{
-    match node {
-        TreeBuilder::Empty => *node = TreeBuilder::Leaf(leaf),
-        TreeBuilder::Leaf(old) => {
-            let old = mem::replace(old, Leaf::NoValue);
-            *node = TreeBuilder::Sequence(vec![in alloc; old.into_value(), leaf.into_value()]?);
-        }
-        TreeBuilder::Sequence(items) => items.push(leaf.into_value())?,
-        TreeBuilder::Map(map) => return Err(map.conflict(alloc, level)),
-    }
-    Ok(())
-}
-
-// Pushes a leaf onto a sequence or an empty node, or returns the conflict with another node.
-#[inline(never)]
-#[tactic(auto, using(crate::proofs::lemmas::Views::views))]
-fn add_pushed<'qs>(
-    alloc: Global,
-    node: &mut TreeBuilder<'qs>,
-    leaf: Leaf<'qs>,
-    level: usize,
-) -> Result<(), AddError>
-    ensures { Gives (λ _. built_tree node.new) (add_flat true (leaf_of leaf.entry) (built_tree node.old)) result }
-{
-    match node {
-        TreeBuilder::Empty => *node = TreeBuilder::Sequence(vec![in alloc; leaf.into_value()]?),
-        TreeBuilder::Sequence(items) => items.push(leaf.into_value())?,
-        TreeBuilder::Map(map) => return Err(map.conflict(alloc, level)),
-        TreeBuilder::Leaf(_) => return Err(AddError::conflict(
-            alloc,
-            level,
-            ConflictKind::PushOnLeaf,
-        )),
-    }
-    Ok(())
 }
 
 impl<'qs> MapBuilder<'qs> {
@@ -262,7 +295,7 @@ impl<'qs> MapBuilder<'qs> {
     {
         let key = Key::from("");
         let mut node = self.take(&key);
-        add_plain(alloc, &mut node, leaf, level)?;
+        add_leaf(alloc, &mut node, leaf, level)?;
         self.put(alloc, key, node)?;
         Ok(())
     }
@@ -275,5 +308,26 @@ impl<'qs> MapBuilder<'qs> {
             Ok(keys) => AddError::conflict(alloc, level, ConflictKind::LeafOnMap(keys)),
             Err(_) => AddError::OutOfMemory,
         }
+    }
+}
+
+// Adds a plain leaf to a node, or returns the conflict with a map.
+#[tactic(auto, using(crate::proofs::lemmas::Views::views))]
+fn add_leaf<'qs>(
+    alloc: Global,
+    node: &mut TreeBuilder<'qs>,
+    leaf: Leaf<'qs>,
+    level: usize,
+) -> Result<(), AddError>
+    ensures { Gives (λ _. built_tree node.new) (add_flat false (leaf_of leaf.entry) (built_tree node.old)) result }
+{
+    match node {
+        TreeBuilder::Value(value) => add_plain(alloc, value, leaf, level),
+        TreeBuilder::Map(map) => Err(map.conflict(alloc, level)),
+        TreeBuilder::Unsorted(_) => Err(map_of(
+            alloc,
+            mem::replace(node, TreeBuilder::fresh()),
+            level,
+        )?.conflict(alloc, level)),
     }
 }

@@ -1,5 +1,8 @@
 //! A tree under construction.
-ghost use Rattle.std.specs.Prelude.{◌≡◌, true, Some, IfOk, OnOk, MatchResult, option_map};
+//!
+//! It is a finished tree, to which pairs are added in place. Only the maps on the way to what that doesn't suit are in a form of their
+//! own: a map with many entries that gets keys in no order, or a path of many keys.
+ghost use Rattle.std.specs.Prelude.{◌≡◌, true, Some, IfOk, IsOk, OnOk, MatchResult};
 ghost use Rattle.std.specs.List.Sorted.{IsStrictlySortedBy};
 ghost use Rattle.std.specs.Map.{keys_of};
 ghost use Rattle.std.specs.BTreeMap.{insert_entry};
@@ -7,18 +10,17 @@ ghost use Rattle.qs_spec.specs.Tree.Tree.{mapping};
 ghost use Rattle.qs_spec.specs.Tree.Entries.{no_entries};
 ghost use Rattle.qs_spec.specs.internal.InPlace.{update};
 ghost use Rattle.qs_tree.specs.declared.tree.key.Key.{Key};
-ghost use Rattle.qs_tree.specs.tree.Views.{segment_of_key, step_of_key, tree_of};
-ghost use Rattle.qs_tree.specs.tree.Views as view;
+ghost use Rattle.qs_tree.specs.tree.Views.{segment_of_key, step_of_key, tree_of, entries_of_map};
 ghost use Rattle.qs_tree.specs.tree.Keys.{key_cmp};
 ghost use Rattle.qs_tree.specs.internal.tree.Places.{IsPlaced};
-ghost use Rattle.qs_tree.specs.internal.build.Builder.{built_tree, built_entries, entries_seen, Takes};
+ghost use Rattle.qs_tree.specs.internal.build.Builder.{built_tree, built_entries, entries_seen, fresh, as_builders, IsFlat, Takes};
 
 use crate::build::dropping::drop_builder;
-use crate::scan::pair::Leaf;
+use crate::build::unsorted::{Unsorted, are_leaves};
 use crate::steps::Steps;
 use crate::tree::entries::Entries;
 use crate::tree::key::Key;
-use crate::tree::map::{find, search};
+use crate::tree::map::{ParsedMap, search};
 use crate::tree::value::ParsedValue;
 use std::alloc::{AllocError, Global};
 use std::cmp::Ordering;
@@ -30,14 +32,15 @@ use std::mem;
 #[cycle(builder)]
 #[derive(Drop)]
 pub(crate) enum TreeBuilder<'qs> {
+    /// A finished node.
+    Value(ParsedValue<'qs>),
+    /// A map that isn't finished.
     Map(MapBuilder<'qs>),
-    Sequence(Vec<ParsedValue<'qs>>),
-    Leaf(Leaf<'qs>),
-    /// No pair yet.
-    Empty,
+    /// A map of many leaves, some of whose keys came before the end.
+    Unsorted(Unsorted<'qs>),
 }
 
-/// A map under construction: a sorted vector, or a search tree after a key was inserted before the end of a vector with many
+/// A map that isn't finished: a sorted vector, or a search tree after a key was inserted before the end of a vector with many
 /// entries. So an insertion takes logarithmic time for keys in any order.
 #[cycle(builder)]
 pub(crate) enum MapBuilder<'qs> {
@@ -46,18 +49,43 @@ pub(crate) enum MapBuilder<'qs> {
 }
 
 /// A vector with fewer entries takes a key at any index.
-const FEW: usize = 128;
+const FEW: usize = 16;
 
 impl<'qs> TreeBuilder<'qs> {
-    /// The finished node, or the map that is to be finished. Doesn't allocate.
-    pub fn into_value(self) -> Result<ParsedValue<'qs>, MapBuilder<'qs>>
-        ensures { MatchResult result (λ value. tree_of value ≡ built_tree self.entry) (λ map. built_tree self.entry ≡ mapping (built_entries map)) }
+    /// A node without a pair.
+    pub fn fresh() -> Self
+        ensures { result ≡ fresh }
+    {
+        TreeBuilder::Value(ParsedValue::Uninitialized)
+    }
+
+    /// The finished node, or the map that is to be finished. Allocates for a map of leaves in no order alone.
+    #[tactic(auto, using(crate::proofs::lemmas::Views::views))]
+    pub fn into_value(
+        self,
+        alloc: Global,
+    ) -> Result<Result<ParsedValue<'qs>, MapBuilder<'qs>>, AllocError>
+        ensures found { IfOk result (λ node. MatchResult node (λ value. tree_of value ≡ built_tree self.entry) (λ map. built_tree self.entry ≡ mapping (built_entries map))) }
+        ensures flat { IsFlat self.entry → IsOk result }
     {
         match self {
-            TreeBuilder::Map(map) => Err(map),
-            TreeBuilder::Sequence(items) => Ok(ParsedValue::Sequence(items)),
-            TreeBuilder::Leaf(leaf) => Ok(leaf.into_value()),
-            TreeBuilder::Empty => Ok(ParsedValue::Uninitialized),
+            TreeBuilder::Value(value) => Ok(Ok(value)),
+            TreeBuilder::Map(map) => Ok(Err(map)),
+            TreeBuilder::Unsorted(leaves) => {
+                let map = ParsedMap::from_entries(leaves.into_entries(alloc)?);
+                Ok(Ok(ParsedValue::Map(map)))
+            }
+        }
+    }
+
+    /// A finished map of leaves alone as one to which leaves are added in any order. Other nodes stay the same.
+    #[tactic(auto, using(crate::proofs::lemmas::Views::views))]
+    pub fn unsorted(self, alloc: Global) -> Result<Self, AllocError>
+        ensures { IfOk result (λ node. built_tree node ≡ built_tree self.entry) }
+    {
+        match self {
+            TreeBuilder::Value(ParsedValue::Map(map)) => unsorted_map(alloc, map),
+            node => Ok(node),
         }
     }
 }
@@ -70,14 +98,12 @@ impl<'qs> MapBuilder<'qs> {
         MapBuilder::Vector(Entries::new(alloc))
     }
 
-    /// The node at a key, or `None`. Doesn't allocate.
-    pub fn get(&self, key: &Key<'qs>) -> Option<&TreeBuilder<'qs>>
-        ensures { option_map (λ node. built_tree node.now) result ≡ view.find (segment_of_key key.now) (built_entries self.now) }
+    /// The entries of a finished map. Allocates a vector.
+    #[inline(never)]
+    pub fn reopen(alloc: Global, map: ParsedMap<'qs>) -> Result<Self, AllocError>
+        ensures { IfOk result (λ builder. built_entries builder ≡ entries_of_map map.entry) }
     {
-        match self {
-            MapBuilder::Vector(entries) => find(entries.as_slice(), key, &mut Steps::new()),
-            MapBuilder::Tree(map) => map.get(key),
-        }
+        Ok(MapBuilder::Vector(as_builders(alloc, map.into_entries())?))
     }
 
     /// Takes the node at a key, and leaves an empty one. Returns an empty node where the key is missing. Doesn't allocate.
@@ -117,17 +143,7 @@ impl<'qs> MapBuilder<'qs> {
 
     /// The keys as `Display` writes them, separated by `, `. Allocates the text.
     pub fn key_list(self, alloc: Global) -> Result<String, AllocError> {
-        let entries = self.into_entries(alloc)?;
-        let mut text = String::new(alloc);
-        let mut first = true;
-        for entry in entries.as_slice() {
-            if !first {
-                text.push_str(", ")?;
-            }
-            write!(text, "{}", entry.0)?;
-            first = false;
-        }
-        Ok(text)
+        key_list(alloc, self.into_entries(alloc)?.as_slice())
     }
 
     /// The map's vector, or its search tree. Doesn't allocate.
@@ -163,6 +179,49 @@ impl<'qs> Drop for MapBuilder<'qs> {
     }
 }
 
+/// The keys of entries as `Display` writes them, separated by `, `. Allocates the text.
+pub(crate) fn key_list<'qs, V>(
+    alloc: Global,
+    entries: &[(Key<'qs>, V)],
+) -> Result<String, AllocError> {
+    let mut text = String::new(alloc);
+    let mut first = true;
+    for entry in entries {
+        if !first {
+            text.push_str(", ")?;
+        }
+        write!(text, "{}", entry.0)?;
+        first = false;
+    }
+    Ok(text)
+}
+
+// A finished map as a node, unsorted where it has leaves alone.
+#[tactic(auto, using(crate::proofs::lemmas::Views::views))]
+fn unsorted_map<'qs>(alloc: Global, map: ParsedMap<'qs>) -> Result<TreeBuilder<'qs>, AllocError>
+    ensures { IfOk result (λ node. built_tree node ≡ mapping (entries_of_map map.entry)) }
+{
+    if are_leaves(map.map.as_slice()) {
+        Ok(TreeBuilder::Unsorted(Unsorted::of(alloc, map)?))
+    } else {
+        Ok(TreeBuilder::Value(ParsedValue::Map(map)))
+    }
+}
+
+// Entries with finished nodes as entries under construction.
+fn as_builders<'qs>(
+    alloc: Global,
+    entries: Entries<Key<'qs>, ParsedValue<'qs>>,
+) -> Result<Entries<Key<'qs>, TreeBuilder<'qs>>, AllocError>
+    ensures { IfOk result (λ builders. builders ≡ as_builders entries.entry) }
+{
+    let mut builders = Entries::with_capacity(alloc, entries.len())?;
+    for entry in entries.into_items() {
+        builders.push(entry.0, TreeBuilder::Value(entry.1))?;
+    }
+    Ok(builders)
+}
+
 // Takes the node at a key of a vector, and leaves an empty one.
 fn take_at<'qs>(
     entries: &mut Entries<Key<'qs>, TreeBuilder<'qs>>,
@@ -171,17 +230,14 @@ fn take_at<'qs>(
     ensures { Takes key.now (entries_seen entries.old) (built_tree result) (entries_seen entries.new) }
 {
     match place_among(entries.as_slice(), key) {
-        Ok(at) => entries.replace(at, TreeBuilder::Empty),
-        Err(_) => TreeBuilder::Empty,
+        Ok(at) => entries.replace(at, TreeBuilder::fresh()),
+        Err(_) => TreeBuilder::fresh(),
     }
 }
 
 /// The index of a key among sorted entries, or as `Err` the index at which to insert it. Compares with the last key first, since
 /// keys often come in order.
-pub(crate) fn place_among<'qs>(
-    entries: &[(Key<'qs>, TreeBuilder<'qs>)],
-    key: &Key<'qs>,
-) -> Result<usize, usize>
+pub(crate) fn place_among<'qs, V>(entries: &[(Key<'qs>, V)], key: &Key<'qs>) -> Result<usize, usize>
     requires { IsStrictlySortedBy key_cmp (keys_of entries.now) }
     ensures { IsPlaced key_cmp key.now entries.now result }
 {
@@ -212,8 +268,8 @@ fn take_below<'qs>(
     ensures { Takes key.now (entries_seen map.old.entries) (built_tree result) (entries_seen map.new.entries) }
 {
     match map.get_mut(key) {
-        Some(node) => mem::replace(node, TreeBuilder::Empty),
-        None => TreeBuilder::Empty,
+        Some(node) => mem::replace(node, TreeBuilder::fresh()),
+        None => TreeBuilder::fresh(),
     }
 }
 

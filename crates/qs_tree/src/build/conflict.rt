@@ -2,9 +2,8 @@
 ghost use Rattle.std.specs.Prelude.{◌≡◌};
 ghost use Rattle.qs_tree.specs.declared.build.conflict.AddError.TheVariants.{OutOfMemory};
 
-use crate::build::builder::TreeBuilder;
-use crate::scan::pair::Leaf;
 use crate::tree::key::Key;
+use crate::tree::value::ParsedValue;
 use std::alloc::{AllocError, AllocFailed, Global};
 
 /// Why a pair wasn't added. A conflict is boxed, to keep results small.
@@ -66,8 +65,8 @@ impl<T: Drop> From<AllocFailed<T>> for AddError {
 }
 
 /// The first node on a path that can't have a child at the next key, with its level, or `None`. Doesn't allocate.
-pub(crate) fn conflict_below<'t, 'qs>(
-    tree: &'t TreeBuilder<'qs>,
+pub(crate) fn conflict_below<'qs>(
+    tree: &ParsedValue<'qs>,
     path: &[Key<'qs>],
 ) -> Option<(usize, ConflictKind)> {
     let mut node = Some(tree);
@@ -85,14 +84,14 @@ pub(crate) fn conflict_below<'t, 'qs>(
 
 // The child of a node at a key, or why the node can't have one.
 fn node_below<'t, 'qs>(
-    node: &'t TreeBuilder<'qs>,
+    node: &'t ParsedValue<'qs>,
     key: &Key<'qs>,
-) -> Result<Option<&'t TreeBuilder<'qs>>, ConflictKind> {
+) -> Result<Option<&'t ParsedValue<'qs>>, ConflictKind> {
     match node {
-        TreeBuilder::Map(map) => Ok(map.get(key)),
-        TreeBuilder::Empty => Ok(None),
-        TreeBuilder::Sequence(_) => Err(ConflictKind::BelowSequence),
-        TreeBuilder::Leaf(Leaf::Text(_)) => Err(ConflictKind::BelowText),
-        TreeBuilder::Leaf(Leaf::Null | Leaf::NoValue) => Err(ConflictKind::BelowUnit),
+        ParsedValue::Map(map) => Ok(map.get(key)),
+        ParsedValue::Uninitialized => Ok(None),
+        ParsedValue::Sequence(_) => Err(ConflictKind::BelowSequence),
+        ParsedValue::String(_) => Err(ConflictKind::BelowText),
+        ParsedValue::Null | ParsedValue::NoValue => Err(ConflictKind::BelowUnit),
     }
 }

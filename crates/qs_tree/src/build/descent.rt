@@ -1,6 +1,6 @@
 //! From a node down along a path to the node at its end, and back up: a zipper.
 ghost use Rattle.std.specs.Prelude.{◌≡◌, ◌≤◌, [], length, drop, MatchResult};
-ghost use Rattle.qs_tree.specs.tree.Views.{step_of_key};
+ghost use Rattle.qs_tree.specs.tree.Views.{step_of_key, tree_of};
 ghost use Rattle.qs_tree.specs.internal.scan.Pairs.{path_of};
 ghost use Rattle.qs_tree.specs.internal.build.Builder.{built_tree, built_entries};
 ghost use Rattle.qs_tree.specs.internal.build.Adding.{Gives, IsRejected, entries_below};
@@ -8,8 +8,10 @@ ghost use Rattle.qs_tree.specs.internal.build.Descent.{IsOpen, Leads, IsBarred, 
 
 use crate::build::builder::{MapBuilder, TreeBuilder};
 use crate::build::conflict::{AddError, ConflictKind};
-use crate::scan::pair::{Leaf, Pair};
+use crate::scan::pair::Pair;
 use crate::tree::key::Key;
+use crate::tree::map::ParsedMap;
+use crate::tree::value::ParsedValue;
 use std::alloc::Global;
 
 /// A map with the node at one of its keys taken out.
@@ -93,7 +95,7 @@ fn open<'qs>(
 
 /// The map that a node is, or that an empty node becomes.
 ///
-/// Returns a conflict for every other node. Allocates only for that error.
+/// Returns a conflict for every other node. Allocates for that error, and for a finished map.
 pub(crate) fn map_of<'qs>(
     alloc: Global,
     node: TreeBuilder<'qs>,
@@ -101,12 +103,31 @@ pub(crate) fn map_of<'qs>(
 ) -> Result<MapBuilder<'qs>, AddError>
     ensures { Gives built_entries (entries_below (built_tree node.entry)) result }
 {
-    let kind = match node {
-        TreeBuilder::Map(map) => return Ok(map),
-        TreeBuilder::Empty => return Ok(MapBuilder::new(alloc)),
-        TreeBuilder::Sequence(_) => ConflictKind::BelowSequence,
-        TreeBuilder::Leaf(Leaf::Text(_)) => ConflictKind::BelowText,
-        TreeBuilder::Leaf(Leaf::Null | Leaf::NoValue) => ConflictKind::BelowUnit,
+    match node {
+        TreeBuilder::Value(value) => map_of_value(alloc, value, level),
+        TreeBuilder::Map(map) => Ok(map),
+        TreeBuilder::Unsorted(leaves) => {
+            let map = ParsedMap::from_entries(leaves.into_entries(alloc)?);
+            Ok(MapBuilder::reopen(alloc, map)?)
+        }
+    }
+}
+
+// The same of a finished node.
+#[tactic(auto, using(crate::proofs::lemmas::Views::views))]
+fn map_of_value<'qs>(
+    alloc: Global,
+    value: ParsedValue<'qs>,
+    level: usize,
+) -> Result<MapBuilder<'qs>, AddError>
+    ensures { Gives built_entries (entries_below (tree_of value.entry)) result }
+{
+    let kind = match value {
+        ParsedValue::Map(map) => return Ok(MapBuilder::reopen(alloc, map)?),
+        ParsedValue::Uninitialized => return Ok(MapBuilder::new(alloc)),
+        ParsedValue::Sequence(_) => ConflictKind::BelowSequence,
+        ParsedValue::String(_) => ConflictKind::BelowText,
+        ParsedValue::Null | ParsedValue::NoValue => ConflictKind::BelowUnit,
     };
     Err(AddError::conflict(alloc, level, kind))
 }

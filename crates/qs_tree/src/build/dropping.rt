@@ -15,14 +15,14 @@ use std::collections::BTreeMap;
 /// Drops a node in linear time. Doesn't allocate.
 #[cycle(dropping)]
 pub(crate) fn drop_builder<'qs>(node: TreeBuilder<'qs>) {
-    let mut left = drop_first_leaf(node, TreeBuilder::Empty);
+    let mut left = drop_first_leaf(node, TreeBuilder::fresh());
     loop {
         left = match left {
             TreeBuilder::Map(map) => match map.into_form() {
                 Ok(entries) => without_last(entries),
                 Err(tree) => return drop_below(tree),
             },
-            TreeBuilder::Sequence(_) | TreeBuilder::Leaf(_) | TreeBuilder::Empty => return,
+            TreeBuilder::Value(_) | TreeBuilder::Unsorted(_) => return,
         };
     }
 }
@@ -50,7 +50,7 @@ fn drop_first_leaf<'qs>(node: TreeBuilder<'qs>, above: TreeBuilder<'qs>) -> Tree
                     return above;
                 }
             },
-            TreeBuilder::Sequence(_) | TreeBuilder::Leaf(_) | TreeBuilder::Empty => return above,
+            TreeBuilder::Value(_) | TreeBuilder::Unsorted(_) => return above,
         }
     }
 }
@@ -63,7 +63,7 @@ fn without_last<'qs>(entries: Entries<Key<'qs>, TreeBuilder<'qs>>) -> TreeBuilde
     let mut entries = entries;
     let Some((_, last)) = entries.pop() else {
         entries.destroy_empty();
-        return TreeBuilder::Empty;
+        return TreeBuilder::fresh();
     };
     if entries.len() == 0 {
         entries.destroy_empty();

@@ -42,7 +42,7 @@ impl<'qs> TreeBuilder<'qs> {
         ensures tree { IfOk result (λ value. tree_of value ≡ built_tree self.entry) }
         ensures flat { IsFlat self.entry → IsOk result }
     {
-        match self.into_value() {
+        match self.into_value(alloc)? {
             Ok(value) => Ok(value),
             Err(map) => Ok(ParsedValue::Map(finish_map(alloc, map)?)),
         }
@@ -56,7 +56,7 @@ fn finish_map<'qs>(alloc: Global, map: MapBuilder<'qs>) -> Result<ParsedMap<'qs>
     let mut level = open_level(alloc, map)?;
     let mut stack = Vec::new(alloc);
     loop {
-        match level.next_map()? {
+        match level.next_map(alloc)? {
             Some((key, map)) => {
                 let inner = open_level(alloc, map)?;
                 stack.push(Frame { level, key })?;
@@ -87,13 +87,13 @@ fn open_level<'qs>(alloc: Global, map: MapBuilder<'qs>) -> Result<Level<'qs>, Al
 
 impl<'qs> Level<'qs> {
     // Finishes the entries before the next map, and takes out that map with its key.
-    fn next_map(&mut self) -> Result<Option<(Key<'qs>, MapBuilder<'qs>)>, AllocError>
+    fn next_map(&mut self, alloc: Global) -> Result<Option<(Key<'qs>, MapBuilder<'qs>)>, AllocError>
         requires { IsStrictlySortedBy key_cmp (keys_of (level_pairs self.old)) }
         ensures pairs { IfOk result (λ found. key_trees self.new.done ++ from_map found self.new ≡ level_pairs self.old) }
         ensures fewer { IfOk result (λ found. maps_among (from_map found self.new) ≤ maps_left self.old) }
     {
         while let Some((key, node)) = self.left.next() {
-            match node.into_value() {
+            match node.into_value(alloc)? {
                 Ok(value) => self.done.push(key, value)?,
                 Err(map) => return Ok(Some((key, map))),
             }

@@ -33,35 +33,59 @@ pub fn encode(bytes: &[u8], form: bool, out: &mut Vec<u8>) -> Result<()>
     ensures back { decoded (encoded form bytes.now) ≡ bytes.now }
 {
     if bytes.len() < LANES {
-        return Ok(append_short(bytes, form, out)?);
+        let mut room = [0; 3 * LANES];
+        let len = encode_to(bytes, form, &mut room, 0);
+        return Ok(out.extend_from_slice(&room[..len])?);
     }
     let begin = out.len();
     out.resize(begin.saturating_add(encoded_len(bytes, form)), 0)?;
-    fill(bytes, form, out, begin);
+    encode_to(bytes, form, out, begin);
     Ok(())
 }
 
-// Percent-encodes fewer than 32 bytes, and appends them.
-fn append_short(bytes: &[u8], form: bool, out: &mut Vec<u8>) -> Result<(), AllocError>
-    requires { length bytes.now < LANES }
-    ensures ok { OnOk result (out.new.items ≡ out.old.items ++ encoded form bytes.now) }
-    ensures err { OnErr result (out.new.items ≡ out.old.items) }
+/// Percent-encodes bytes into `room` from `begin` on, as [`encode`] does, and returns where they end. Each takes at most three bytes.
+///
+/// The contents of `room` after the end aren't specified. Doesn't allocate. Takes linear time.
+///
+/// ```
+/// let end = encode_to(b"a b", false, &mut room, 0); // `room` begins with `a+b`, and `end` is 3
+/// ```
+pub fn encode_to(bytes: &[u8], form: bool, room: &mut [u8], begin: usize) -> usize
+    requires { begin + length (encoded form bytes.now) ≤ length room.old }
+    ensures text { take result room.new ≡ take begin room.old ++ encoded form bytes.now }
+    ensures end { result ≡ begin + length (encoded form bytes.now) }
 {
-    let mut room = [0; 3 * LANES];
     let mut rest = bytes;
-    let mut at = 0;
+    let mut at = begin;
+    while rest.len() >= LANES {
+        let (read, written) = put_front(rest, form, room, at);
+        rest = &rest[read..];
+        at += written;
+    }
+    put_each(rest, form, room, at)
+}
+
+// Encodes bytes to `room` from `begin` on, one by one, and returns where they end.
+#[inline(always)]
+fn put_each(bytes: &[u8], form: bool, room: &mut [u8], begin: usize) -> usize
+    requires { begin + length (encoded form bytes.now) ≤ length room.old }
+    ensures text { take result room.new ≡ take begin room.old ++ encoded form bytes.now }
+    ensures end { result ≡ begin + length (encoded form bytes.now) }
+{
+    let mut rest = bytes;
+    let mut at = begin;
     while let [byte, tail @ ..] = rest {
-        at += put_byte(*byte, form, &mut room, at);
+        at += put_byte(*byte, form, room, at);
         rest = tail;
     }
-    out.extend_from_slice(&room[..at])
+    at
 }
 
 // Encodes one byte to `room` from `at` on, and returns how many bytes it wrote.
 #[inline(always)]
 fn put_byte(byte: u8, form: bool, room: &mut [u8], at: usize) -> usize
-    requires { at + 3 ≤ length room.old }
-    ensures few { result ≤ 3 }
+    requires { at + length (spelling form byte) ≤ length room.old }
+    ensures len { result ≡ length (spelling form byte) }
     ensures text { take (at + result) room.new ≡ take at room.old ++ spelling form byte }
 {
     let escaped = Escaped { form };
@@ -69,7 +93,7 @@ fn put_byte(byte: u8, form: bool, room: &mut [u8], at: usize) -> usize
         put(percent_encode_byte(byte).as_bytes(), room, at);
         return 3;
     }
-    room[at] = if byte == b' ' { b'+' } else { byte };
+    room[at] = escaped.plain(byte);
     1
 }
 
@@ -79,20 +103,6 @@ fn encoded_len(bytes: &[u8], form: bool) -> usize
 {
     let escapes = count(Escaped { form }, bytes);
     bytes.len().saturating_add(escapes.saturating_mul(2))
-}
-
-// Encodes bytes to `room` from `begin` on, which they fill.
-fn fill(bytes: &[u8], form: bool, room: &mut [u8], begin: usize)
-    requires { begin + length (encoded form bytes.now) ≡ length room.old }
-    ensures { room.new ≡ take begin room.old ++ encoded form bytes.now }
-{
-    let mut rest = bytes;
-    let mut at = begin;
-    while !rest.is_empty() {
-        let (read, written) = put_front(rest, form, room, at);
-        rest = &rest[read..];
-        at += written;
-    }
 }
 
 // Encodes some bytes of the front to `room` from `at` on. Returns how many it read, and how many it wrote.

@@ -14,7 +14,7 @@ use crate::scan::cursor::{Cursor, Site};
 use crate::scan::pair::{Leaf, Manner, Pair};
 use crate::scan::parser::SyntaxError;
 use std::alloc::{AllocError, Global};
-use std::{fmt, str};
+use std::{fmt, mem, str};
 
 /// Why an input has no tree.
 #[derive(Drop)]
@@ -62,7 +62,7 @@ pub(crate) fn add_error<'qs>(error: AddError, cursor: &Cursor<'qs>) -> ScanError
     }
 }
 
-// The conflict of a pair's keys before its syntax error, if there is one.
+// The conflict of a pair's keys before its syntax error, if there is one. The tree isn't used after that.
 fn conflict_before<'qs>(
     alloc: Global,
     tree: &mut TreeBuilder<'qs>,
@@ -75,7 +75,10 @@ fn conflict_before<'qs>(
             pair.leaf = Leaf::NoValue;
             add_pair(alloc, tree, pair)
         }
-        _ => match conflict_below(tree, &pair.path) {
+        _ => match conflict_below(
+            &mem::replace(tree, TreeBuilder::fresh()).finish(alloc)?,
+            &pair.path,
+        ) {
             Some((level, kind)) => Err(AddError::conflict(alloc, level, kind)),
             None => Ok(()),
         },

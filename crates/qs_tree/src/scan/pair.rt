@@ -1,8 +1,8 @@
 //! A pair of a querystring.
-ghost use Rattle.std.specs.Prelude.{◌≡◌, ◌+◌, ◌<◌, ◌∷◌, length, drop, not};
+ghost use Rattle.std.specs.Prelude.{◌≡◌, ◌+◌, ◌<◌, ◌∷◌, ◌++◌, [], length, drop, not, false, option_map, IsTrue};
 ghost use Rattle.qs_spec.specs.Tree.Tree.{leaf};
 ghost use Rattle.qs_tree.specs.tree.Views.{tree_of};
-ghost use Rattle.qs_tree.specs.internal.scan.Pairs.{leaf_of, is_push};
+ghost use Rattle.qs_tree.specs.internal.scan.Pairs.{leaf_in, leaf_of, is_push};
 
 use crate::tree::key::Key;
 use crate::tree::value::ParsedValue;
@@ -56,6 +56,34 @@ impl<'qs> Pair<'qs> {
         }
     }
 
+    /// The key of the path at a level.
+    pub fn key(&self, level: usize) -> &Key<'qs>
+        requires { level < length self.now.path.items }
+        ensures { drop level self.now.path.items ≡ result.now ∷ drop (level + 1) self.now.path.items }
+    {
+        &self.path[level]
+    }
+
+    /// Whether the pair is a plain leaf at the child of a node at a level.
+    pub fn is_leaf_below(&self, level: usize) -> bool
+        requires { level < length self.now.path.items }
+        ensures one { IsTrue result → length self.now.path.items ≡ level + 1 }
+        ensures plain { IsTrue result → is_push self.now.manner ≡ false }
+    {
+        level + 1 == self.path.len() && self.manner.is_plain()
+    }
+
+    /// Removes the last key of the path, and returns it.
+    pub fn pop_key(&mut self) -> Key<'qs>
+        requires { 0 < length self.old.path.items }
+        ensures { self.old.path.items ≡ self.new.path.items ++ result ∷ [] }
+    {
+        match self.path.pop() {
+            Some(key) => key,
+            None => Key::Int(0),
+        }
+    }
+
     /// Takes a key out of the path, and leaves an integer key.
     pub fn take_key(&mut self, level: usize) -> Key<'qs>
         requires { level < length self.old.path.items }
@@ -69,6 +97,18 @@ impl<'qs> Pair<'qs> {
 }
 
 impl<'qs> Leaf<'qs> {
+    /// The leaf that a node is, or `None` for another node.
+    pub fn of(value: ParsedValue<'qs>) -> Option<Leaf<'qs>>
+        ensures { option_map leaf_of result ≡ leaf_in (tree_of value.entry) }
+    {
+        match value {
+            ParsedValue::NoValue => Some(Leaf::NoValue),
+            ParsedValue::Null => Some(Leaf::Null),
+            ParsedValue::String(text) => Some(Leaf::Text(text)),
+            _ => None,
+        }
+    }
+
     /// Takes the leaf, and leaves `NoValue`.
     pub fn take(&mut self) -> Leaf<'qs>
         ensures { result ≡ self.old }

@@ -1,10 +1,10 @@
 //! A sorted vector of entries with distinct keys.
-ghost use Rattle.std.specs.Prelude.{◌≡◌, ◌<◌, [], length, ◌∷◌, ◌++◌, IfOk, IfNone, OnOk, OnErr, Some, option_map, slice_get, unwrap_or};
+ghost use Rattle.std.specs.Prelude.{◌≡◌, ◌<◌, [], length, ◌∷◌, ◌++◌, IfOk, IfNone, OnOk, OnErr, Some, option_map, slice_get};
 ghost use Rattle.std.specs.List.{remove};
 ghost use Rattle.std.specs.Option.{option_to_list};
 ghost use Rattle.std.specs.List.Sorted.{IsStrictlySortedBy};
-ghost use Rattle.std.specs.Map.{keys_of, lookup};
-ghost use Rattle.std.specs.BTreeMap.{insert_entry, is_at};
+ghost use Rattle.std.specs.Map.{keys_of};
+ghost use Rattle.std.specs.BTreeMap.{insert_entry};
 ghost use Rattle.qs_tree.specs.internal.tree.Places.{IsGap, IsPlaced, put_value};
 
 use std::alloc::{AllocError, Global};
@@ -128,39 +128,13 @@ impl<K: Ord, V> Entries<K, V> {
 }
 
 impl<K: Ord + Drop, V: Drop> Entries<K, V> {
-    ghost use Rattle.std.specs.Borrow.{sem};
-    ghost use Rattle.qs_tree.specs.internal.tree.Lending.{LendsChild};
-
-    /// The value at a key, mutable. A missing key is inserted with a default; `place` is the key's index, or the one at which to
-    /// insert it. Returns an error only where an allocation failed; the entries aren't specified then.
-    pub fn child(
-        &mut self,
-        place: Result<usize, usize>,
-        key: K,
-        fresh: V,
-    ) -> Result<&mut V, AllocError>
-        requires { IsPlaced K.cmp key self.old place }
-        ensures* writes_back { sem 𝓛 (LendsChild K.row V.row K.Ord.own K.PartialEq.own K.PartialOrd.own self.entry key result) }
-        ensures value { IfOk result (λ v. v.now ≡ unwrap_or (lookup (is_at (K.cmp key)) self.old) fresh) }
+    /// One entry. Returns an error only where the allocation failed.
+    pub fn of(alloc: Global, key: K, value: V) -> Result<Self, AllocError>
+        ensures { IfOk result (λ entries. entries ≡ (key, value) ∷ []) }
     {
-        let at = self.filled(place, key, fresh)?;
-        Ok(self.at_mut(at))
-    }
-
-    // Inserts a missing key with the default, and returns the key's index.
-    fn filled(&mut self, place: Result<usize, usize>, key: K, fresh: V) -> Result<usize, AllocError>
-        requires { IsPlaced K.cmp key self.old place }
-        ensures in_range { IfOk result (λ at. at < length self.new) }
-        ensures value { IfOk result (λ at. option_map (λ e. e.1) (slice_get self.new at) ≡ Some (unwrap_or (lookup (is_at (K.cmp key)) self.old) fresh)) }
-        ensures rest { IfOk result (λ at. (w : V) → put_value self.new at w ≡ insert_entry K.cmp self.old key w) }
-    {
-        match place {
-            Ok(at) => Ok(at),
-            Err(at) => {
-                self.insert_at(at, key, fresh)?;
-                Ok(at)
-            }
-        }
+        let mut entries = Entries::new(alloc);
+        entries.push(key, value)?;
+        Ok(entries)
     }
 
     /// Inserts an entry with a missing key at an index. On an error nothing is changed.

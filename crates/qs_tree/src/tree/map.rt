@@ -4,15 +4,16 @@ ghost use Rattle.std.specs.List.Sorted.{IsStrictlySortedBy};
 ghost use Rattle.std.specs.Map.{keys_of, lookup};
 ghost use Rattle.std.specs.BTreeMap.{is_at};
 ghost use Rattle.std.specs.Cmp.{on_per};
-ghost use Rattle.qs_spec.specs.Tree.Entries.{no_entries};
+ghost use Rattle.qs_spec.specs.Tree.Entries.{entry, no_entries};
 ghost use Rattle.qs_tree.specs.tree.Equality.{entries_same};
 ghost use Rattle.qs_tree.specs.internal.tree.EqualityLaws.{entries_per};
 ghost use Rattle.qs_tree.specs.tree.Keys.{key_cmp};
 ghost use Rattle.qs_tree.specs.tree.Ordered.{AreOrdered};
 ghost use Rattle.qs_tree.specs.internal.tree.Places.{IsHit, IsGap};
 ghost use Rattle.qs_tree.specs.tree.Lookup.{binary_digits};
+ghost use Rattle.qs_tree.specs.internal.build.Builder.{entries_held};
 ghost use Rattle.qs_tree.specs.tree.Views as view;
-ghost use Rattle.qs_tree.specs.tree.Views.{segment_of_key, step_of_key, tree_of, entries_of_map, map_pairs, take_out};
+ghost use Rattle.qs_tree.specs.tree.Views.{segment_of_key, key_mark, step_of_key, tree_of, entries_of_map, map_pairs, take_out};
 
 use crate::steps::Steps;
 use crate::tree::dropping::drop_tree;
@@ -20,7 +21,7 @@ use crate::tree::entries::Entries;
 use crate::tree::key::Key;
 use crate::tree::sameness::same_entries;
 use crate::tree::value::ParsedValue;
-use std::alloc::Global;
+use std::alloc::{AllocError, Global};
 use std::cmp::Ordering;
 
 /// A map from keys to values, sorted by key.
@@ -47,7 +48,20 @@ impl<'qs> ParsedMap<'qs> {
         }
     }
 
-    /// The number of entries.
+    /// A map with one entry. Returns an error only where the allocation failed.
+    pub(crate) fn of(
+        alloc: Global,
+        key: Key<'qs>,
+        value: ParsedValue<'qs>,
+    ) -> Result<Self, AllocError>
+        ensures { IfOk result (λ map. entries_of_map map ≡ entry (segment_of_key key.entry) (key_mark key.entry) (tree_of value.entry) no_entries) }
+    {
+        Ok(ParsedMap {
+            map: Entries::of(alloc, key, value)?,
+        })
+    }
+
+    /// The number of entries. Takes constant time, and doesn't allocate.
     #[must_use]
     pub fn len(&self) -> usize
         ensures { result ≡ length (map_pairs self.now) }
@@ -55,7 +69,7 @@ impl<'qs> ParsedMap<'qs> {
         self.map.len()
     }
 
-    /// Whether there are no entries.
+    /// Whether there are no entries. Takes constant time, and doesn't allocate.
     #[must_use]
     pub fn is_empty(&self) -> bool
         ensures { IsTrue result ↔ map_pairs self.now ≡ [] }
@@ -74,6 +88,10 @@ impl<'qs> ParsedMap<'qs> {
 
     /// The value at a key, or `None`. Adds the number of comparisons to `steps`: at most as many as the length has binary digits,
     /// and at least one for a map with entries. Doesn't allocate.
+    ///
+    /// ```text
+    /// map.get_with(&Key::from("name"), &mut steps)
+    /// ```
     #[must_use]
     pub fn get_with<'k>(&self, key: &Key<'k>, steps: &mut Steps) -> Option<&ParsedValue<'qs>>
         ensures value { option_map (λ v. tree_of v.now) result ≡ view.find (segment_of_key key.now) (entries_of_map self.now) }
@@ -86,6 +104,10 @@ impl<'qs> ParsedMap<'qs> {
     }
 
     /// The entry at an index, in the order of keys, or `None`. Takes constant time, and doesn't allocate.
+    ///
+    /// ```text
+    /// map.at(0) // the entry with the smallest key
+    /// ```
     #[must_use]
     pub fn at(&self, at: usize) -> Option<(&Key<'qs>, &ParsedValue<'qs>)>
         ensures { option_map (λ p. (step_of_key p.0.now, tree_of p.1.now)) result ≡ slice_get (map_pairs self.now) at }
@@ -115,6 +137,13 @@ impl<'qs> ParsedMap<'qs> {
             return None;
         }
         Some(self.map.remove_at(0))
+    }
+
+    /// The map with these entries.
+    pub(crate) fn from_entries(map: Entries<Key<'qs>, ParsedValue<'qs>>) -> Self
+        ensures { entries_of_map result ≡ entries_held map.entry }
+    {
+        ParsedMap { map }
     }
 
     /// The map's entries.

@@ -3,6 +3,8 @@ ghost use Rattle.std.specs.Cmp.{on_per};
 ghost use Rattle.qs_tree.specs.tree.Equality.{tree_same};
 ghost use Rattle.qs_tree.specs.internal.tree.EqualityLaws.{trees_per};
 ghost use Rattle.qs_tree.specs.tree.Views.{tree_of};
+ghost use Rattle.qs_tree.specs.internal.build.Unsorted.{IsLeaf};
+ghost use Rattle.std.specs.Prelude.{IsTrue};
 
 use crate::tree::map::ParsedMap;
 use crate::tree::sameness::same_nodes;
@@ -24,6 +26,20 @@ pub enum ParsedValue<'qs> {
     NoValue,
     /// No pair.
     Uninitialized,
+}
+
+impl<'qs> ParsedValue<'qs> {
+    /// Whether it is neither a map nor a sequence, and not empty.
+    pub(crate) fn is_leaf(&self) -> bool
+        ensures { IsTrue result → IsLeaf (tree_of self.now) }
+    {
+        match self {
+            ParsedValue::String(_) => true,
+            ParsedValue::Null => true,
+            ParsedValue::NoValue => true,
+            _ => false,
+        }
+    }
 }
 
 /// Ignores ownership. Recurses for each level of the trees, and doesn't allocate.

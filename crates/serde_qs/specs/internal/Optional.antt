@@ -14,14 +14,14 @@ use Rattle.serde_qs.specs.Records.{first_of, others_of, field_form, member_data}
 use Rattle.qs_spec.specs.Same.{SameMembers}
 use Rattle.serde_qs.specs.Optional.{FieldsAreNamed, is_first_named, optional_data, optional_in}
 
-itself_named : (n : List ℕ) (b : Bool) → (bytes_eq n n || b) ≡ true
+pub itself_named : (n : List ℕ) (b : Bool) → (bytes_eq n n || b) ≡ true
 itself_named n b = ap (λ t. t || b) ((bytes_eq-Decides n n).1 refl)
 
 or_true : (b : Bool) → (b || true) ≡ true
 or_true true = refl
 or_true false = refl
 
-later_named : (n : List ℕ) (s : Shape) (o : Bool) (fs : Fields) (ms : Members) → is_first_named fs ms ≡ true → is_first_named (one_field n s o fs) ms ≡ true
+pub later_named : (n : List ℕ) (s : Shape) (o : Bool) (fs : Fields) (ms : Members) → is_first_named fs ms ≡ true → is_first_named (one_field n s o fs) ms ≡ true
 later_named n s o fs no_members h = refl
 later_named n s o fs (one_member k d ms) h = ap (λ t. bytes_eq n k || t) h ∙ or_true (bytes_eq n k)
 
@@ -36,7 +36,7 @@ optional_named datum s form written named names None b =
 optional_named datum s form written named names (Some a) b = itself_named (first_of names) (is_field_name (first_of names) (fields_of (form (others_of names))))
 
 -- a name that no field has is none of theirs
-other_field : (n k : List ℕ) (fs : Fields) → not (is_field_name n fs) ≡ true → is_field_name k fs ≡ true → bytes_eq k n ≡ false
+pub other_field : (n k : List ℕ) (fs : Fields) → not (is_field_name n fs) ≡ true → is_field_name k fs ≡ true → bytes_eq k n ≡ false
 other_field n k fs absent present =
     ⊎_elim
     (λ y. absurd (false≢true (sym (ap not (ap (λ m. is_field_name m fs) (sym ((bytes_eq-Decides k n).0 y)) ∙ present)) ∙ absent)))

@@ -11,7 +11,7 @@ use qs_data::{Config, Result};
 use std::alloc::Global;
 use std::io::Write;
 
-/// Typed calls under a configuration.
+/// Typed calls under a configuration. Each allocates, and takes time, as the call whose errors it has.
 ///
 /// ```
 /// let config = Config::new().use_form_encoding(true);

@@ -1,17 +1,20 @@
 //! Typed calls that read.
 
 ghost use Rattle.std.specs.Prelude.{◌≡◌, true, IfOk};
-ghost use Rattle.qs_spec.specs.Config.{default};
+ghost use Rattle.qs_spec.specs.Config.{are_rejected, default};
 ghost use Rattle.qs_spec.specs.Shape.{is_distinct};
 ghost use Rattle.qs_spec.specs.Tree.{IsTree, IsRefused};
 ghost use Rattle.qs_tree.specs.Error.{IsParse, OnlyParseOrOutOfMemory};
 ghost use Rattle.qs_data.specs.read.Errors.{OnlyCustomUtf8OrOutOfMemory};
 ghost use Rattle.qs_data.specs.read.Parsed.{ReturnsData, parsed_of};
 ghost use Rattle.qs_data.specs.shape.Views.{shape_of};
+ghost use Rattle.qs_tree.specs.tree.Views.{tree_of};
+ghost use Rattle.serde_qs.specs.Nodes.{ReadsNode};
 ghost use Rattle.serde_qs.specs.Typed.{ReturnsValue, ReturnsWritten};
 
 use crate::traits::Deserialize;
-use qs_data::{Config, Data, Deserializer, Result, Shape};
+use qs_data::{Config, Data, Deserializer, Reader, Result, Shape};
+use qs_tree::{ParsedValue, parse};
 use std::alloc::Global;
 
 /// Returns the value that is read from a querystring, with the default configuration.
@@ -20,7 +23,7 @@ use std::alloc::Global;
 /// let query: Query = from_bytes(alloc, b"name=Alice&age=24")?;
 /// ```
 ///
-/// The errors are those of [`from_str`].
+/// The errors are those of [`from_str`]. It allocates, and takes time, as that call does.
 pub fn from_bytes<T: Deserialize>(alloc: Global, input: &[u8]) -> Result<T>
     ensures exact { ReturnsValue T.value default T.form T.meaning input.now result }
     ensures back { ReturnsWritten T.value default T.form T.meaning input.now result }
@@ -42,8 +45,8 @@ pub fn from_bytes<T: Deserialize>(alloc: Global, input: &[u8]) -> Result<T>
 ///   it, as where a field is missing or a text is no number, or the data mean no value.
 /// - [`OutOfMemory`](qs_data::Error::OutOfMemory): an allocation failed.
 ///
-/// The first two are returned exactly in these cases, and there is no other error. Each call makes the type's shape:
-/// [`read_by`] takes one that the caller keeps. The time grows with the input and the value.
+/// The first two are returned exactly in these cases, and there is no other error. It allocates for the tree and the value. The time
+/// grows with the input and the value.
 pub fn from_str<T: Deserialize>(alloc: Global, input: &str) -> Result<T>
     ensures exact { ReturnsValue T.value default T.form T.meaning input.now result }
     ensures back { ReturnsWritten T.value default T.form T.meaning input.now result }
@@ -58,7 +61,8 @@ pub fn from_str<T: Deserialize>(alloc: Global, input: &str) -> Result<T>
 /// let query: Query = read_by(alloc, Config::new(), &shape, body)?; // for each request
 /// ```
 ///
-/// The errors are those of [`from_str`], with this configuration in place of the default one.
+/// The errors are those of [`from_str`], with this configuration in place of the default one. It allocates, and takes time, as that
+/// call does, but for the shape.
 pub fn read_by<T: Deserialize>(
     alloc: Global,
     config: Config,
@@ -106,11 +110,34 @@ fn read_data(alloc: Global, deserializer: Deserializer<'_>, shape: &Shape) -> Re
     deserializer.read(alloc, shape)
 }
 
-// Returns the value that is read from a querystring under a configuration, by a shape that is made here.
+// Returns the value that is read from a querystring under a configuration.
 pub(crate) fn read_typed<T: Deserialize>(alloc: Global, config: Config, input: &[u8]) -> Result<T>
     ensures exact { ReturnsValue T.value config T.form T.meaning input.now result }
     ensures back { ReturnsWritten T.value config T.form T.meaning input.now result }
 {
-    let shape = T::shape(alloc)?;
-    read_by(alloc, config, &shape, input)
+    read_tree(alloc, config, input)
+}
+
+// Returns the value that is read from the tree of a querystring.
+fn read_tree<T: Deserialize>(alloc: Global, config: Config, input: &[u8]) -> Result<T>
+    ensures { ReturnsValue T.value config T.form T.meaning input.now result }
+{
+    let tree = tree(alloc, config, input)?;
+    read_root(alloc, config, &tree)
+}
+
+// Returns the tree of a querystring, by a contract in the words of a typed call.
+fn tree<'qs>(alloc: Global, config: Config, input: &'qs [u8]) -> Result<ParsedValue<'qs>>
+    ensures tree { IfOk result (λ t. IsTree config.form config.max_depth input.now (tree_of t)) }
+    ensures refused { IsParse result → IsRefused config.form config.max_depth input.now }
+    ensures errors { OnlyParseOrOutOfMemory result }
+{
+    parse(alloc, input, config)
+}
+
+// Returns the value that is read from a tree under a configuration.
+fn read_root<T: Deserialize>(alloc: Global, config: Config, tree: &ParsedValue<'_>) -> Result<T>
+    ensures { ReadsNode T.value T.form T.meaning (are_rejected config.duplicates) (tree_of tree.now) result }
+{
+    T::from_node(Reader::new(alloc, config), tree)
 }

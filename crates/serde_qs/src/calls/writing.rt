@@ -42,7 +42,8 @@ pub fn to_string<T: Serialize>(alloc: Global, value: &T) -> Result<String>
 /// to_writer(alloc, &query, &mut out)?; // name=Alice&age=24
 /// ```
 ///
-/// Only bytes from 0x21 to 0x7E are written. On `Ok` the whole text was written. It allocates for the data of the value.
+/// Only bytes from 0x21 to 0x7E are written. On `Ok` the whole text was written. It allocates for the data of the value and
+/// for its longest entry; the time grows with the text.
 ///
 /// # Errors
 ///
@@ -62,7 +63,8 @@ pub(crate) fn write_text<T: Serialize>(alloc: Global, config: Config, value: &T)
     ensures { ReturnsText config (T.datum value.now) result }
 {
     let datum = value.to_data(alloc)?;
-    let mut serializer = Serializer::new(Vec::new(alloc), config);
+    let text = Vec::with_capacity(alloc, 128)?;
+    let mut serializer = Serializer::new(text, config);
     if let Err(error) = serializer.serialize(alloc, &datum) {
         return Err(without_io(error));
     }

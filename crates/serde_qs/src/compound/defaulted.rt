@@ -1,19 +1,15 @@
 //! Fields that take a default where they are missing.
 
-ghost use Rattle.std.specs.Prelude.{◌≡◌, ℕ, suc, List, ◌++◌, true, map, IfOk};
 ghost use Rattle.qs_spec.specs.Data.{Data as Datum};
-ghost use Rattle.qs_tree.specs.Error.{OnlyOutOfMemory};
-ghost use Rattle.qs_data.specs.shape.Views.{field_of};
-ghost use Rattle.serde_qs.specs.Defaulted.{defaulted_in};
-ghost use Rattle.serde_qs.specs.internal.Defaulted.{defaulted_back};
-ghost use Rattle.serde_qs.specs.internal.Optional.{field_named};
-ghost use Rattle.serde_qs.specs.Records.{field_form, member_data, members_back, others_of, texts};
-ghost use Rattle.serde_qs.specs.internal.Booleans.{both_true};
+ghost use Rattle.serde_qs.specs.PartTables.{defaulted_field};
 ghost use Rattle.serde_qs.specs.Typed.{Means};
 
 use super::fields::{Fields, push_field, split};
-use crate::traits::{Deserialize, RoundTrip, Serialize};
-use qs_data::{Data, Field, Result};
+use super::nodes;
+use super::own::{missing_of, value_of};
+use crate::traits::{Deserialize, RoundTrip};
+use qs_data::{Data, Entries, Field, Reader, Result};
+use qs_tree::ParsedValue;
 use std::alloc::Global;
 
 /// A type with a value for a field whose key is missing: zero, false, an empty string, list or map.
@@ -47,25 +43,7 @@ pub trait OrDefault: Deserialize {
 pub struct Defaulted<T, R>(pub T, pub R);
 
 impl<T: RoundTrip + OrDefault + Drop, R: Fields> Fields for Defaulted<T, R> {
-    ghost Value = { T.Value × R.Value };
-
-    ghost value = { λ x. (T.value x.0, R.value x.1) };
-
-    ghost count = { suc R.count };
-
-    ghost after = { λ names. R.after (others_of names) };
-
-    ghost form = { λ names. field_form T.form true R.form names };
-
-    ghost written = { λ names x. member_data (T.datum x.0) (λ ns. R.written ns x.1) names };
-
-    ghost meaning = { λ names ms. defaulted_in T.default T.meaning R.meaning names ms };
-
-    ghost named = { λ names x. field_named T.datum T.form R.form R.written names x.0 x.1 };
-
-    ghost come_back = { λ names x ms k h p. defaulted_back T.default T.datum T.form T.meaning T.value T.comes_back R.form R.written R.meaning R.value R.come_back names x.0 x.1 ms k h p };
-
-    ghost are_distinct = { λ names. both_true T.distinct (R.are_distinct (others_of names)) };
+    ghost table = { defaulted_field T.default T.table R.table };
 
     fn skip<'a>(names: &'a [&'static str]) -> &'a [&'static str] {
         let (_name, rest) = split(names);
@@ -87,16 +65,39 @@ impl<T: RoundTrip + OrDefault + Drop, R: Fields> Fields for Defaulted<T, R> {
     ) -> Result<Defaulted<T, R>> {
         let (name, rest) = split(names);
         let Some((found, datum)) = members.pop() else {
-            let first = T::missing(alloc)?;
+            let first = missing_of(alloc)?;
             return Ok(Defaulted(first, R::from_members(alloc, rest, members)?));
         };
         if found.as_str() == name {
-            let first = T::from_data(alloc, datum)?;
+            let first = value_of(alloc, datum)?;
             Ok(Defaulted(first, R::from_members(alloc, rest, members)?))
         } else {
             members.push((found, datum))?;
-            let first = T::missing(alloc)?;
+            let first = missing_of(alloc)?;
             Ok(Defaulted(first, R::from_members(alloc, rest, members)?))
         }
+    }
+
+    fn from_entries(
+        reader: Reader,
+        names: &[&'static str],
+        entries: Entries<'_, '_>,
+    ) -> Result<Defaulted<T, R>> {
+        let (name, rest) = split(names);
+        let first = nodes::defaulted_by_name(reader, name, entries)?;
+        let others = R::from_entries(reader, rest, entries)?;
+        Ok(Defaulted(first, others))
+    }
+
+    fn from_places(
+        reader: Reader,
+        names: &[&'static str],
+        items: &[ParsedValue<'_>],
+        count: usize,
+    ) -> Result<Defaulted<T, R>> {
+        let (_name, rest) = split(names);
+        let first = nodes::defaulted_by_place(reader, items)?;
+        let others = R::from_places(reader, rest, nodes::after(items), count)?;
+        Ok(Defaulted(first, others))
     }
 }

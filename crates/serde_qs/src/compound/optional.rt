@@ -1,15 +1,13 @@
 //! Fields that may be left out.
 
-ghost use Rattle.std.specs.Prelude.{◌≡◌, ℕ, suc, List, ◌++◌, Option, option_map, true, map, IfOk};
-ghost use Rattle.qs_data.specs.shape.Views.{field_of};
-ghost use Rattle.serde_qs.specs.Optional.{optional_data, optional_in};
-ghost use Rattle.serde_qs.specs.internal.Optional.{optional_back, optional_named};
-ghost use Rattle.serde_qs.specs.Records.{field_form, members_back, others_of, texts};
-ghost use Rattle.serde_qs.specs.internal.Booleans.{both_true};
+ghost use Rattle.serde_qs.specs.PartTables.{optional_field};
 
 use super::fields::{Fields, push_field, split};
-use crate::traits::{Deserialize, RoundTrip, Serialize};
-use qs_data::{Data, Field, Result};
+use super::nodes;
+use super::own::value_of;
+use crate::traits::RoundTrip;
+use qs_data::{Data, Entries, Field, Reader, Result};
+use qs_tree::ParsedValue;
 use std::alloc::Global;
 
 /// A field that may be left out, and the fields after it: `(String, Optional<u32, ()>)` for a text and perhaps a number.
@@ -20,25 +18,7 @@ use std::alloc::Global;
 pub struct Optional<T, R>(pub Option<T>, pub R);
 
 impl<T: RoundTrip + Drop, R: Fields> Fields for Optional<T, R> {
-    ghost Value = { Option T.Value × R.Value };
-
-    ghost value = { λ x. (option_map T.value x.0, R.value x.1) };
-
-    ghost count = { suc R.count };
-
-    ghost after = { λ names. R.after (others_of names) };
-
-    ghost form = { λ names. field_form T.form true R.form names };
-
-    ghost written = { λ names x. optional_data T.datum x.0 (λ ns. R.written ns x.1) names };
-
-    ghost meaning = { λ names ms. optional_in T.meaning R.meaning names ms };
-
-    ghost named = { λ names x. optional_named T.datum T.form R.form R.written R.named names x.0 x.1 };
-
-    ghost come_back = { λ names x ms k h p. optional_back T.datum T.form T.meaning T.value T.comes_back R.form R.written R.meaning R.value R.named R.come_back names x.0 x.1 ms k h p };
-
-    ghost are_distinct = { λ names. both_true T.distinct (R.are_distinct (others_of names)) };
+    ghost table = { optional_field T.table R.table };
 
     fn skip<'a>(names: &'a [&'static str]) -> &'a [&'static str] {
         let (_name, rest) = split(names);
@@ -63,11 +43,34 @@ impl<T: RoundTrip + Drop, R: Fields> Fields for Optional<T, R> {
             return Ok(Optional(None, R::from_members(alloc, rest, members)?));
         };
         if found.as_str() == name {
-            let first = T::from_data(alloc, datum)?;
+            let first = value_of(alloc, datum)?;
             Ok(Optional(Some(first), R::from_members(alloc, rest, members)?))
         } else {
             members.push((found, datum))?;
             Ok(Optional(None, R::from_members(alloc, rest, members)?))
         }
+    }
+
+    fn from_entries(
+        reader: Reader,
+        names: &[&'static str],
+        entries: Entries<'_, '_>,
+    ) -> Result<Optional<T, R>> {
+        let (name, rest) = split(names);
+        let first = nodes::optional_by_name(reader, name, entries)?;
+        let others = R::from_entries(reader, rest, entries)?;
+        Ok(Optional(first, others))
+    }
+
+    fn from_places(
+        reader: Reader,
+        names: &[&'static str],
+        items: &[ParsedValue<'_>],
+        count: usize,
+    ) -> Result<Optional<T, R>> {
+        let (_name, rest) = split(names);
+        let first = nodes::optional_by_place(reader, items)?;
+        let others = R::from_places(reader, rest, nodes::after(items), count)?;
+        Ok(Optional(first, others))
     }
 }

@@ -1,14 +1,19 @@
 //! The fields of a struct that is written, by reference.
 
-ghost use Rattle.std.specs.Prelude.{◌≡◌, ℕ, List, [], ◌∷◌, ◌++◌, map, IfOk};
+ghost use Rattle.std.specs.Prelude.{◌≡◌, refl, ◌&&◌, ℕ, Bool, true, List, [], ◌∷◌, ◌++◌, map, IfOk};
 ghost use Rattle.qs_spec.specs.Data.{Data as Datum, Named};
+ghost use Rattle.qs_spec.specs.Shape as s;
 ghost use Rattle.qs_tree.specs.Error.{OnlyOutOfMemory};
 ghost use Rattle.qs_data.specs.data.Views.{data_of, named};
+ghost use Rattle.serde_qs.specs.Fits.{fits};
+ghost use Rattle.serde_qs.specs.Meaning.{option_data};
 ghost use Rattle.serde_qs.specs.Optional.{optional_data};
 ghost use Rattle.serde_qs.specs.Records.{member_data, texts};
+ghost use Rattle.serde_qs.specs.internal.OwnTables.{same_item, same_member, same_optional};
 
 use super::fields::split;
-use crate::traits::Serialize;
+use super::own;
+use crate::traits::{RoundTrip, Serialize};
 use qs_data::{Data, Result};
 use std::alloc::Global;
 
@@ -86,6 +91,62 @@ impl<'a, T: Serialize, R: References + Drop> References for (SkipNone<'a, T>, R)
     }
 }
 
+/// References to fields whose values come back, for [`Out::fields`](crate::Out::fields).
+pub trait FieldReferences: References {
+    // The members of the fields, by their names, in the words of the fields' tables.
+    ghost own_members: { List (List ℕ) → Self → List Named };
+
+    // Each of the fields fits its type's shape.
+    ghost fit: { Self → Bool };
+
+    /// Shows that each of them fits. It does nothing when it runs.
+    fn fit(&self)
+        ensures { fit self.now ≡ true };
+
+    // These are the members that are written.
+    ghost same: { (names : List (List ℕ)) (x : Self) → Self.members names x ≡ own_members names x };
+}
+
+impl FieldReferences for () {
+    ghost own_members = { λ _ _. [] };
+
+    ghost fit = { λ _. true };
+
+    ghost same = { λ _ _. refl };
+
+    fn fit(&self) {}
+}
+
+impl<'a, T: RoundTrip, R: FieldReferences + Drop> FieldReferences for (&'a T, R) {
+    ghost own_members = { λ names x. member_data (T.table.datum x.0.now) (λ ns. R.own_members ns x.1) names };
+
+    ghost fit = { λ x. fits T.table.form (T.table.datum x.0.now) && R.fit x.1 };
+
+    ghost same = { λ names x. same_member (T.is_own.same_datum x.0.now) (λ ns. R.same ns x.1) names };
+
+    fn fit(&self) {
+        let (field, others) = self;
+        own::fit(*field);
+        others.fit();
+    }
+}
+
+impl<'a, T: RoundTrip, R: FieldReferences + Drop> FieldReferences for (SkipNone<'a, T>, R) {
+    ghost own_members = { λ names x. optional_data T.table.datum x.0.0.now (λ ns. R.own_members ns x.1) names };
+
+    ghost fit = { λ x. fits (s.Shape.option T.table.form) (option_data T.table.datum x.0.0.now) && R.fit x.1 };
+
+    ghost same = { λ names x. same_optional T.is_own.same_datum x.0.0.now (λ ns. R.same ns x.1) names };
+
+    fn fit(&self) {
+        let (SkipNone(field), others) = self;
+        if let Some(value) = field {
+            own::fit(value);
+        }
+        others.fit();
+    }
+}
+
 /// References to the items of a tuple that is written, as nested pairs: `(&self.0, (&self.1, ()))`.
 pub trait ItemReferences: Sized {
     // The data of the items.
@@ -113,5 +174,45 @@ impl<'a, T: Serialize, R: ItemReferences + Drop> ItemReferences for (&'a T, R) {
         let (item, others) = self;
         before.push(item.to_data(alloc)?)?;
         others.push_items(alloc, before)
+    }
+}
+
+/// References to items whose values come back, for [`Out::items`](crate::Out::items).
+pub trait ListedReferences: ItemReferences {
+    // The data of the items, in the words of their tables.
+    ghost own_data: { Self → List Datum };
+
+    // Each of the items fits its type's shape.
+    ghost fit: { Self → Bool };
+
+    /// Shows that each of them fits. It does nothing when it runs.
+    fn fit(&self)
+        ensures { fit self.now ≡ true };
+
+    // These are the data that are written.
+    ghost same: { (x : Self) → Self.listed x ≡ own_data x };
+}
+
+impl ListedReferences for () {
+    ghost own_data = { λ _. [] };
+
+    ghost fit = { λ _. true };
+
+    ghost same = { λ _. refl };
+
+    fn fit(&self) {}
+}
+
+impl<'a, T: RoundTrip, R: ListedReferences + Drop> ListedReferences for (&'a T, R) {
+    ghost own_data = { λ x. T.table.datum x.0.now ∷ R.own_data x.1 };
+
+    ghost fit = { λ x. fits T.table.form (T.table.datum x.0.now) && R.fit x.1 };
+
+    ghost same = { λ x. same_item (T.is_own.same_datum x.0.now) (R.same x.1) };
+
+    fn fit(&self) {
+        let (item, others) = self;
+        own::fit(*item);
+        others.fit();
     }
 }

@@ -12,7 +12,7 @@ use crate::traits::Serialize;
 use qs_data::{Data, Result};
 use std::alloc::Global;
 
-/// Returns the struct of these fields under their names, for [`Compound::written`](crate::Compound::written). The one error is
+/// Returns the struct of these fields under their names, for a [`to_data`](crate::Serialize::to_data) that is written by hand. The one error is
 /// [`OutOfMemory`](qs_data::Error::OutOfMemory).
 ///
 /// ```
@@ -26,7 +26,7 @@ pub fn struct_of<R: References + Drop>(alloc: Global, names: &[&str], fields: R)
     Ok(Data::Struct(fields.push_members(alloc, names, Vec::new(alloc))?))
 }
 
-/// Returns the variant of this name with these fields, for [`Compound::written`](crate::Compound::written). The one error is
+/// Returns the variant of this name with these fields, for a [`to_data`](crate::Serialize::to_data) that is written by hand. The one error is
 /// [`OutOfMemory`](qs_data::Error::OutOfMemory).
 ///
 /// ```
@@ -47,7 +47,7 @@ pub fn struct_variant<R: References + Drop>(
     Ok(Data::StructVariant(name, members))
 }
 
-/// Returns the data of a variant that holds nothing, for [`Compound::written`](crate::Compound::written). The one error is
+/// Returns the data of a variant that holds nothing, for a [`to_data`](crate::Serialize::to_data) that is written by hand. The one error is
 /// [`OutOfMemory`](qs_data::Error::OutOfMemory).
 ///
 /// ```
@@ -60,7 +60,7 @@ pub fn unit_variant(alloc: Global, name: &str) -> Result<Data>
     Ok(Data::UnitVariant(String::from_str(alloc, name)?))
 }
 
-/// Returns the data of a variant that holds one value, for [`Compound::written`](crate::Compound::written). The one error is
+/// Returns the data of a variant that holds one value, for a [`to_data`](crate::Serialize::to_data) that is written by hand. The one error is
 /// [`OutOfMemory`](qs_data::Error::OutOfMemory).
 ///
 /// ```
@@ -74,7 +74,7 @@ pub fn newtype_variant<T: Serialize>(alloc: Global, name: &str, value: &T) -> Re
     Ok(Data::NewtypeVariant(String::from_str(alloc, name)?, part))
 }
 
-/// Returns the data of a struct round one value, for [`Compound::written`](crate::Compound::written). The one error is
+/// Returns the data of a struct round one value, for a [`to_data`](crate::Serialize::to_data) that is written by hand. The one error is
 /// [`OutOfMemory`](qs_data::Error::OutOfMemory).
 ///
 /// ```
@@ -87,7 +87,7 @@ pub fn newtype_struct<T: Serialize>(alloc: Global, value: &T) -> Result<Data>
     Ok(Data::Newtype(Box::new(alloc, value.to_data(alloc)?)?))
 }
 
-/// Returns the variant of this name with these items, for [`Compound::written`](crate::Compound::written). The one error is
+/// Returns the variant of this name with these items, for a [`to_data`](crate::Serialize::to_data) that is written by hand. The one error is
 /// [`OutOfMemory`](qs_data::Error::OutOfMemory).
 ///
 /// ```
@@ -102,7 +102,7 @@ pub fn tuple_variant<R: ItemReferences + Drop>(alloc: Global, name: &str, items:
     Ok(Data::TupleVariant(name, values))
 }
 
-/// Returns the tuple of these items, for [`Compound::written`](crate::Compound::written). The one error is
+/// Returns the tuple of these items, for a [`to_data`](crate::Serialize::to_data) that is written by hand. The one error is
 /// [`OutOfMemory`](qs_data::Error::OutOfMemory).
 ///
 /// ```

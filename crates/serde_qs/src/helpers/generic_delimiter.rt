@@ -19,7 +19,8 @@ use std::alloc::Global;
 /// let datum = serialize(alloc, &[1u8, 2, 3], '.')?; // the text 1.2.3
 /// ```
 ///
-/// The one error is [`OutOfMemory`](qs_data::Error::OutOfMemory). It allocates for the text.
+/// The one error is [`OutOfMemory`](qs_data::Error::OutOfMemory). It allocates for the text, and takes time
+/// with its length.
 pub fn serialize<T: Item>(alloc: Global, list: &[T], delimiter: char) -> Result<Data>
     ensures exact { IfOk result (λ x. data_of x ≡ d.text (joined delimiter (map T.printed list.now))) }
     ensures errors { OnlyOutOfMemory result }
@@ -39,7 +40,8 @@ pub fn serialize<T: Item>(alloc: Global, list: &[T], delimiter: char) -> Result<
 ///   item (``invalid item `x` ``).
 /// - [`OutOfMemory`](qs_data::Error::OutOfMemory): an allocation failed.
 ///
-/// The first is returned exactly in these cases, and there is no other error. It allocates for the list.
+/// The first is returned exactly in these cases, and there is no other error. It allocates for the list,
+/// and takes time with the length of the text.
 pub fn deserialize<T: Item + Drop>(alloc: Global, datum: Data, delimiter: char) -> Result<Vec<T>>
     ensures { Means (λ list. map T.value list.items) result (list_in T.meaning delimiter (data_of datum)) }
 {

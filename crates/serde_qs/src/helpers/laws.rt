@@ -9,13 +9,15 @@ ghost use Rattle.qs_spec.specs.Escape.{is_between};
 ghost use Rattle.qs_spec.specs.Scalar.{unsigned_number, signed_number};
 ghost use Rattle.serde_qs.specs.Items.{joined, list_in};
 
-/// The text of a list of unsigned numbers is parsed as that list, where the delimiter is no digit.
+/// The text of a list of unsigned numbers is parsed as that list, where the delimiter is no digit. It does nothing when it
+/// runs.
 pub fn unsigned_list_comes_back()
     ensures { (bits : ℕ) (delimiter : ℕ) (list : List ℕ) → bits ≤ 64 → IsScalar delimiter → is_between 48 57 delimiter ≡ false → All (λ n. n < 2 ^ bits) list
         → list_in (unsigned_number bits) delimiter (d.text (joined delimiter (map decimal list))) ≡ Some list }
 {}
 
-/// The text of a list of signed numbers is parsed as that list, where the delimiter is neither a digit nor `-`.
+/// The text of a list of signed numbers is parsed as that list, where the delimiter is neither a digit nor `-`. It does
+/// nothing when it runs.
 pub fn signed_list_comes_back()
     ensures { (bits : ℕ) (delimiter : ℕ) (list : List ℤ) → bits ≤ 64 → IsScalar delimiter → is_between 48 57 delimiter ≡ false → delimiter ≢ 45
         → All (λ z. (neg_ℤ (pos (2 ^ (bits - 1))) ≤ℤ z) × (z <ℤ pos (2 ^ (bits - 1)))) list

@@ -12,7 +12,7 @@ use super::item::Item;
 use qs_data::{Data, Result};
 use std::alloc::Global;
 
-/// Returns the text of a list, as [`generic_delimiter::serialize`] does with '|'.
+/// Returns the text of a list, and the one error, as [`generic_delimiter::serialize`] does with '|'.
 ///
 /// ```
 /// let datum = serialize(alloc, &[1u8, 2, 3])?; // the text 1|2|3

@@ -1,13 +1,17 @@
 //! A list of whole numbers in one text, as a field of a struct.
 
-ghost use Rattle.std.specs.Prelude.{◌≡◌, ℕ, List, true, map, refl};
+ghost use Rattle.std.specs.Prelude.{◌≡◌, ◌-◌, ◌^◌, ℕ, nat_le, List, true, map, refl};
+ghost use Rattle.std.specs.Fmt.{decimal, signed_decimal};
 ghost use Rattle.std.specs.List.{list_all};
+ghost use Rattle.qs_spec.specs.Scalar.{signed_number, unsigned_number};
 ghost use Rattle.qs_spec.specs.Shape as s;
 ghost use Rattle.serde_qs.specs.Delimited.{ItemsComeBack, is_number_delimiter, list_data};
 ghost use Rattle.serde_qs.specs.internal.DelimitedComesBack.{list_comes_back};
-ghost use Rattle.serde_qs.specs.Fits.{fits};
+ghost use Rattle.serde_qs.specs.Fits.{fits, is_signed};
 ghost use Rattle.serde_qs.specs.Items.{list_in};
 ghost use Rattle.serde_qs.specs.internal.NumberLists.{signed_items, unsigned_items};
+ghost use Rattle.serde_qs.specs.internal.OwnTables.{delimited_own, themselves};
+ghost use Rattle.serde_qs.specs.Tables.{AreNumbersOf, Numbers, delimited_table, numbers_of};
 
 use crate::helpers::{Item, generic_delimiter};
 use crate::traits::{Deserialize, RoundTrip, Serialize};
@@ -19,6 +23,12 @@ use std::marker::PhantomData;
 ///
 /// It is implemented for these eight types alone.
 pub trait WholeNumber: Item + RoundTrip {
+    // What the numbers are printed as and parsed from, with the proof that they come back, as one value.
+    ghost numbers: { Numbers Self };
+
+    // They are the type's own.
+    ghost are_own: { AreNumbersOf numbers Self.Item.value (λ n. fits Self.form (Self.datum n)) Self.printed Self.Item.meaning };
+
     // The text of each has no delimiter in it, and is parsed as that number.
     ghost items_come_back: { ItemsComeBack (λ n. fits Self.form (Self.datum n)) Self.Item.meaning Self.printed Self.Item.value };
 }
@@ -41,11 +51,11 @@ pub trait WholeNumber: Item + RoundTrip {
 pub trait Delimiter {
     ghost delimiter: { ℕ };
 
+    ghost is_free: { is_number_delimiter delimiter ≡ true };
+
     /// Returns the character.
     fn delimiter() -> char
         ensures { result ≡ delimiter };
-
-    ghost is_free: { is_number_delimiter delimiter ≡ true };
 }
 
 /// The delimiter of [`comma_separated`](crate::helpers::comma_separated).
@@ -117,6 +127,10 @@ impl<T: WholeNumber + Drop, D: Delimiter> Deserialize for Delimited<T, D> {
 }
 
 impl<T: WholeNumber + Drop, D: Delimiter> RoundTrip for Delimited<T, D> {
+    ghost table = { delimited_table T.numbers D.delimiter D.is_free };
+
+    ghost is_own = { delimited_own T.numbers T.Item.value (λ n. fits T.form (T.datum n)) T.printed T.Item.meaning T.are_own D.delimiter D.is_free };
+
     ghost comes_back = { λ list e h p. list_comes_back (λ n. fits T.form (T.datum n)) T.Item.meaning T.printed T.Item.value T.items_come_back D.delimiter D.is_free list.items.items e h p };
 
     fn fits(&self) {
@@ -164,33 +178,65 @@ impl Delimiter for Space {
 }
 
 impl WholeNumber for u8 {
+    ghost numbers = { numbers_of (λ n. n) (λ n. nat_le n (2 ^ 8 - 1)) decimal (unsigned_number 8) (unsigned_items 8 refl) };
+
+    ghost are_own = { themselves (λ n. n) (λ n. nat_le n (2 ^ 8 - 1)) decimal (unsigned_number 8) (unsigned_items 8 refl) };
+
     ghost items_come_back = { unsigned_items 8 refl };
 }
 
 impl WholeNumber for u16 {
+    ghost numbers = { numbers_of (λ n. n) (λ n. nat_le n (2 ^ 16 - 1)) decimal (unsigned_number 16) (unsigned_items 16 refl) };
+
+    ghost are_own = { themselves (λ n. n) (λ n. nat_le n (2 ^ 16 - 1)) decimal (unsigned_number 16) (unsigned_items 16 refl) };
+
     ghost items_come_back = { unsigned_items 16 refl };
 }
 
 impl WholeNumber for u32 {
+    ghost numbers = { numbers_of (λ n. n) (λ n. nat_le n (2 ^ 32 - 1)) decimal (unsigned_number 32) (unsigned_items 32 refl) };
+
+    ghost are_own = { themselves (λ n. n) (λ n. nat_le n (2 ^ 32 - 1)) decimal (unsigned_number 32) (unsigned_items 32 refl) };
+
     ghost items_come_back = { unsigned_items 32 refl };
 }
 
 impl WholeNumber for u64 {
+    ghost numbers = { numbers_of (λ n. n) (λ n. nat_le n (2 ^ 64 - 1)) decimal (unsigned_number 64) (unsigned_items 64 refl) };
+
+    ghost are_own = { themselves (λ n. n) (λ n. nat_le n (2 ^ 64 - 1)) decimal (unsigned_number 64) (unsigned_items 64 refl) };
+
     ghost items_come_back = { unsigned_items 64 refl };
 }
 
 impl WholeNumber for i8 {
+    ghost numbers = { numbers_of (λ z. z) (is_signed 8) signed_decimal (signed_number 8) (signed_items 8 refl) };
+
+    ghost are_own = { themselves (λ z. z) (is_signed 8) signed_decimal (signed_number 8) (signed_items 8 refl) };
+
     ghost items_come_back = { signed_items 8 refl };
 }
 
 impl WholeNumber for i16 {
+    ghost numbers = { numbers_of (λ z. z) (is_signed 16) signed_decimal (signed_number 16) (signed_items 16 refl) };
+
+    ghost are_own = { themselves (λ z. z) (is_signed 16) signed_decimal (signed_number 16) (signed_items 16 refl) };
+
     ghost items_come_back = { signed_items 16 refl };
 }
 
 impl WholeNumber for i32 {
+    ghost numbers = { numbers_of (λ z. z) (is_signed 32) signed_decimal (signed_number 32) (signed_items 32 refl) };
+
+    ghost are_own = { themselves (λ z. z) (is_signed 32) signed_decimal (signed_number 32) (signed_items 32 refl) };
+
     ghost items_come_back = { signed_items 32 refl };
 }
 
 impl WholeNumber for i64 {
+    ghost numbers = { numbers_of (λ z. z) (is_signed 64) signed_decimal (signed_number 64) (signed_items 64 refl) };
+
+    ghost are_own = { themselves (λ z. z) (is_signed 64) signed_decimal (signed_number 64) (signed_items 64 refl) };
+
     ghost items_come_back = { signed_items 64 refl };
 }

@@ -1,17 +1,24 @@
 //! Lists.
 
-ghost use Rattle.std.specs.Prelude.{List, map};
+ghost use Rattle.std.specs.Prelude.{List, map, option_and_then};
 ghost use Rattle.qs_spec.specs.Data as d;
 ghost use Rattle.qs_spec.specs.Shape as s;
 ghost use Rattle.std.specs.declared.vec.Vec.{Vec};
 ghost use Rattle.std.specs.declared.alloc.Global.{Global};
 ghost use Rattle.qs_data.specs.data.Views.{values_in as values_in_list};
+ghost use Rattle.qs_data.specs.read.Gives.{Gives};
+ghost use Rattle.qs_data.specs.read.internal.Items.{are_text, items_in};
+ghost use Rattle.qs_spec.specs.internal.ReadFunction.{reads};
+ghost use Rattle.serde_qs.specs.Nodes.{each_value};
 ghost use Rattle.serde_qs.specs.Typed.{Means};
 ghost use Rattle.serde_qs.specs.internal.ComesBack.{sequence_back};
 ghost use Rattle.serde_qs.specs.Meaning.{sequence_in, values_in};
+ghost use Rattle.serde_qs.specs.internal.OwnTables.{sequence_own};
+ghost use Rattle.serde_qs.specs.Tables.{sequence_table};
 
 use crate::traits::{Deserialize, RoundTrip, Serialize, unexpected};
-use qs_data::{Data, Result, Shape};
+use qs_data::{Data, Items, Reader, Result, Shape};
+use qs_tree::ParsedValue;
 use std::alloc::Global;
 
 impl<T: Serialize> Serialize for Vec<T> {
@@ -47,6 +54,11 @@ impl<T: Deserialize + Drop> Deserialize for Vec<T> {
         };
         items_of(alloc, parts)
     }
+
+    fn from_node(reader: Reader, node: &ParsedValue<'_>) -> Result<Vec<T>> {
+        let items = reader.items(node)?;
+        values_of(reader, items)
+    }
 }
 
 // Returns the values that these data mean, in order.
@@ -60,7 +72,26 @@ fn items_of<T: Deserialize + Drop>(alloc: Global, parts: Vec<Data>) -> Result<Ve
     Ok(items)
 }
 
+// Returns the values that are read from these items, in order.
+fn values_of<T: Deserialize + Drop>(reader: Reader, items: Items<'_, '_>) -> Result<Vec<T>>
+    ensures { Gives (λ (xs : Vec T Global). map T.value xs.items) (are_text (items_in items.entry)) result
+        (each_value (λ node. option_and_then T.meaning (reads reader.reject_duplicates T.form node)) (items_in items.entry)) }
+{
+    let mut values = Vec::with_capacity(reader.alloc, items.len())?;
+    for i in 0..items.len() {
+        let Some(item) = items.get(reader, i)? else {
+            break;
+        };
+        values.push(T::from_node(reader, item)?)?;
+    }
+    Ok(values)
+}
+
 impl<T: RoundTrip + Drop> RoundTrip for Vec<T> {
+    ghost table = { sequence_table T.table };
+
+    ghost is_own = { sequence_own T.table T.value T.datum T.form T.meaning T.is_own };
+
     ghost comes_back = { λ xs e h p. sequence_back T.datum T.form T.meaning T.value T.comes_back xs.items e h p };
 
     fn fits(&self) {

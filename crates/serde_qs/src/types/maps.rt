@@ -7,6 +7,8 @@ ghost use Rattle.qs_data.specs.data.Views.{data_of, pairs_in};
 ghost use Rattle.serde_qs.specs.internal.MapsComeBack.{mapping_back};
 ghost use Rattle.serde_qs.specs.Typed.{Means};
 ghost use Rattle.serde_qs.specs.Maps.{entry_data, values_by_text, pair_onto, pairs_onto, mapping_in, nowhere};
+ghost use Rattle.serde_qs.specs.internal.OwnTables.{mapping_own};
+ghost use Rattle.serde_qs.specs.Tables.{mapping_table};
 
 use crate::traits::{Deserialize, RoundTrip, Serialize, unexpected};
 use qs_data::{Data, KeyShape, Result, Shape};
@@ -50,6 +52,10 @@ impl<T: Deserialize + Drop> Deserialize for BTreeMap<String, T> {
 }
 
 impl<T: RoundTrip + Drop> RoundTrip for BTreeMap<String, T> {
+    ghost table = { mapping_table T.table };
+
+    ghost is_own = { mapping_own T.table T.value T.datum T.form T.meaning T.is_own };
+
     ghost comes_back = { λ m e h p. mapping_back T.datum T.form T.meaning T.value T.comes_back m e h p };
 
     fn fits(&self) {

@@ -4,9 +4,12 @@ ghost use Rattle.std.specs.Prelude.{Option, option_map};
 ghost use Rattle.qs_spec.specs.Shape as s;
 ghost use Rattle.serde_qs.specs.internal.ComesBack.{option_back};
 ghost use Rattle.serde_qs.specs.Meaning.{option_in, option_data};
+ghost use Rattle.serde_qs.specs.internal.OwnTables.{option_own};
+ghost use Rattle.serde_qs.specs.Tables.{option_table};
 
 use crate::traits::{Deserialize, RoundTrip, Serialize, unexpected};
-use qs_data::{Data, Result, Shape};
+use qs_data::{Data, Reader, Result, Shape};
+use qs_tree::ParsedValue;
 use std::alloc::Global;
 
 impl<T: Serialize> Serialize for Option<T> {
@@ -42,9 +45,29 @@ impl<T: Deserialize + Drop> Deserialize for Option<T> {
             _ => Err(unexpected(alloc, "an option")),
         }
     }
+
+    #[tactic(auto, unfolding(qs_spec::specs::internal::ReadFunction::reads))]
+    fn from_node(reader: Reader, node: &ParsedValue<'_>) -> Result<Option<T>> {
+        match node {
+            ParsedValue::Uninitialized => Err(reader.nothing()),
+            ParsedValue::NoValue => Ok(None),
+            ParsedValue::Null => Ok(Some(T::from_node(reader, &ParsedValue::NoValue)?)),
+            ParsedValue::String(_) | ParsedValue::Sequence(_) | ParsedValue::Map(_) => {
+                Ok(Some(T::from_node(reader, node)?))
+            }
+        }
+    }
+
+    fn from_missing(_reader: Reader, _name: &str) -> Result<Option<T>> {
+        Ok(None)
+    }
 }
 
 impl<T: RoundTrip + Drop> RoundTrip for Option<T> {
+    ghost table = { option_table T.table };
+
+    ghost is_own = { option_own T.table T.value T.datum T.form T.meaning T.is_own };
+
     ghost comes_back = { option_back T.datum T.form T.meaning T.value T.comes_back };
 
     fn fits(&self) {

@@ -7,9 +7,12 @@ ghost use Rattle.qs_spec.specs.Data as d;
 ghost use Rattle.qs_spec.specs.Shape as s;
 ghost use Rattle.serde_qs.specs.internal.ComesBack.{boolean_back, character_back, text_back, unit_back};
 ghost use Rattle.serde_qs.specs.Meaning.{boolean_in, character_in, text_in, unit_in};
+ghost use Rattle.serde_qs.specs.internal.OwnTables.{itself};
+ghost use Rattle.serde_qs.specs.Tables.{table_of};
 
 use crate::traits::{Deserialize, RoundTrip, Serialize, unexpected};
-use qs_data::{Data, Result, Shape};
+use qs_data::{Data, Reader, Result, Shape};
+use qs_tree::ParsedValue;
 use std::alloc::Global;
 
 impl Serialize for () {
@@ -44,6 +47,10 @@ impl Deserialize for () {
 }
 
 impl RoundTrip for () {
+    ghost table = { table_of (λ _. tt) (λ _. d.unit) s.Shape.unit unit_in refl (λ _ e h p. unit_back e h p) };
+
+    ghost is_own = { itself (λ _. tt) (λ _. d.unit) s.Shape.unit unit_in refl (λ _ e h p. unit_back e h p) };
+
     ghost comes_back = { λ _ e h p. unit_back e h p };
 
     fn fits(&self) {}
@@ -81,6 +88,10 @@ impl Deserialize for bool {
 }
 
 impl RoundTrip for bool {
+    ghost table = { table_of (λ b. b) d.boolean s.Shape.boolean boolean_in refl boolean_back };
+
+    ghost is_own = { itself (λ b. b) d.boolean s.Shape.boolean boolean_in refl boolean_back };
+
     ghost comes_back = { boolean_back };
 
     fn fits(&self) {}
@@ -118,6 +129,10 @@ impl Deserialize for char {
 }
 
 impl RoundTrip for char {
+    ghost table = { table_of (λ c. c) d.character s.Shape.character character_in refl (character_back scalar) };
+
+    ghost is_own = { itself (λ c. c) d.character s.Shape.character character_in refl (character_back scalar) };
+
     ghost comes_back = { character_back scalar };
 
     fn fits(&self) {
@@ -154,9 +169,18 @@ impl Deserialize for String {
             _ => Err(unexpected(alloc, "a string")),
         }
     }
+
+    #[tactic(auto, unfolding(qs_spec::specs::internal::ReadFunction::reads))]
+    fn from_node(reader: Reader, node: &ParsedValue<'_>) -> Result<String> {
+        Self::from_data(reader.alloc, reader.text(node)?)
+    }
 }
 
 impl RoundTrip for String {
+    ghost table = { table_of (λ text. string_bytes text) (λ text. d.text (string_bytes text)) s.Shape.text text_in refl (λ text e h p. text_back (is_utf8 (string_bytes text)) (string_bytes text) e h p) };
+
+    ghost is_own = { itself (λ text. string_bytes text) (λ text. d.text (string_bytes text)) s.Shape.text text_in refl (λ text e h p. text_back (is_utf8 (string_bytes text)) (string_bytes text) e h p) };
+
     ghost comes_back = { λ text e h p. text_back (is_utf8 (string_bytes text)) (string_bytes text) e h p };
 
     fn fits(&self) {

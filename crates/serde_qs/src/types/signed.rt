@@ -7,10 +7,13 @@ ghost use Rattle.qs_data.specs.data.Views.{data_of};
 ghost use Rattle.serde_qs.specs.internal.ComesBack.{signed_back};
 ghost use Rattle.serde_qs.specs.Fits.{is_signed};
 ghost use Rattle.serde_qs.specs.Meaning.{signed_between, signed_in};
+ghost use Rattle.serde_qs.specs.internal.OwnTables.{itself};
+ghost use Rattle.serde_qs.specs.Tables.{table_of};
 ghost use Rattle.serde_qs.specs.Typed.{Means};
 
 use crate::traits::{Deserialize, RoundTrip, Serialize, unexpected};
-use qs_data::{Data, Result, Shape};
+use qs_data::{Data, Reader, Result, Shape, Width};
+use qs_tree::ParsedValue;
 use std::alloc::Global;
 
 // Returns the number that these data mean, if it is from `least` to `most`.
@@ -56,9 +59,18 @@ impl Deserialize for i8 {
     fn from_data(alloc: Global, datum: Data) -> Result<i8> {
         Ok(signed(alloc, datum, -128, 127, "i8")? as i8)
     }
+
+    #[tactic(auto, unfolding(qs_spec::specs::internal::ReadFunction::reads))]
+    fn from_node(reader: Reader, node: &ParsedValue<'_>) -> Result<i8> {
+        Self::from_data(reader.alloc, reader.signed(Width::Bits8, node)?)
+    }
 }
 
 impl RoundTrip for i8 {
+    ghost table = { table_of (λ z. z) d.signed (s.Shape.signed 8) (signed_in 8) refl (signed_back 8) };
+
+    ghost is_own = { itself (λ z. z) d.signed (s.Shape.signed 8) (signed_in 8) refl (signed_back 8) };
+
     ghost comes_back = { signed_back 8 };
 
     fn fits(&self) {
@@ -92,9 +104,18 @@ impl Deserialize for i16 {
     fn from_data(alloc: Global, datum: Data) -> Result<i16> {
         Ok(signed(alloc, datum, -32768, 32767, "i16")? as i16)
     }
+
+    #[tactic(auto, unfolding(qs_spec::specs::internal::ReadFunction::reads))]
+    fn from_node(reader: Reader, node: &ParsedValue<'_>) -> Result<i16> {
+        Self::from_data(reader.alloc, reader.signed(Width::Bits16, node)?)
+    }
 }
 
 impl RoundTrip for i16 {
+    ghost table = { table_of (λ z. z) d.signed (s.Shape.signed 16) (signed_in 16) refl (signed_back 16) };
+
+    ghost is_own = { itself (λ z. z) d.signed (s.Shape.signed 16) (signed_in 16) refl (signed_back 16) };
+
     ghost comes_back = { signed_back 16 };
 
     fn fits(&self) {
@@ -128,9 +149,18 @@ impl Deserialize for i32 {
     fn from_data(alloc: Global, datum: Data) -> Result<i32> {
         Ok(signed(alloc, datum, -2147483648, 2147483647, "i32")? as i32)
     }
+
+    #[tactic(auto, unfolding(qs_spec::specs::internal::ReadFunction::reads))]
+    fn from_node(reader: Reader, node: &ParsedValue<'_>) -> Result<i32> {
+        Self::from_data(reader.alloc, reader.signed(Width::Bits32, node)?)
+    }
 }
 
 impl RoundTrip for i32 {
+    ghost table = { table_of (λ z. z) d.signed (s.Shape.signed 32) (signed_in 32) refl (signed_back 32) };
+
+    ghost is_own = { itself (λ z. z) d.signed (s.Shape.signed 32) (signed_in 32) refl (signed_back 32) };
+
     ghost comes_back = { signed_back 32 };
 
     fn fits(&self) {
@@ -164,9 +194,18 @@ impl Deserialize for i64 {
     fn from_data(alloc: Global, datum: Data) -> Result<i64> {
         signed(alloc, datum, i64::MIN, i64::MAX, "i64")
     }
+
+    #[tactic(auto, unfolding(qs_spec::specs::internal::ReadFunction::reads))]
+    fn from_node(reader: Reader, node: &ParsedValue<'_>) -> Result<i64> {
+        Self::from_data(reader.alloc, reader.signed(Width::Bits64, node)?)
+    }
 }
 
 impl RoundTrip for i64 {
+    ghost table = { table_of (λ z. z) d.signed (s.Shape.signed 64) (signed_in 64) refl (signed_back 64) };
+
+    ghost is_own = { itself (λ z. z) d.signed (s.Shape.signed 64) (signed_in 64) refl (signed_back 64) };
+
     ghost comes_back = { signed_back 64 };
 
     fn fits(&self) {

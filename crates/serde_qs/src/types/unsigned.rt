@@ -6,10 +6,13 @@ ghost use Rattle.qs_spec.specs.Shape as s;
 ghost use Rattle.qs_data.specs.data.Views.{data_of};
 ghost use Rattle.serde_qs.specs.internal.ComesBack.{unsigned_back};
 ghost use Rattle.serde_qs.specs.Meaning.{unsigned_in};
+ghost use Rattle.serde_qs.specs.internal.OwnTables.{itself};
+ghost use Rattle.serde_qs.specs.Tables.{table_of};
 ghost use Rattle.serde_qs.specs.Typed.{Means};
 
 use crate::traits::{Deserialize, RoundTrip, Serialize, unexpected};
-use qs_data::{Data, Result, Shape};
+use qs_data::{Data, Reader, Result, Shape, Width};
+use qs_tree::ParsedValue;
 use std::alloc::Global;
 
 // Returns the number that these data mean, if it is at most `most`.
@@ -55,9 +58,18 @@ impl Deserialize for u8 {
     fn from_data(alloc: Global, datum: Data) -> Result<u8> {
         Ok(unsigned(alloc, datum, 255, "u8")? as u8)
     }
+
+    #[tactic(auto, unfolding(qs_spec::specs::internal::ReadFunction::reads))]
+    fn from_node(reader: Reader, node: &ParsedValue<'_>) -> Result<u8> {
+        Self::from_data(reader.alloc, reader.unsigned(Width::Bits8, node)?)
+    }
 }
 
 impl RoundTrip for u8 {
+    ghost table = { table_of (λ n. n) d.unsigned (s.Shape.unsigned 8) (unsigned_in 255) refl (unsigned_back 255) };
+
+    ghost is_own = { itself (λ n. n) d.unsigned (s.Shape.unsigned 8) (unsigned_in 255) refl (unsigned_back 255) };
+
     ghost comes_back = { unsigned_back 255 };
 
     fn fits(&self) {
@@ -91,9 +103,18 @@ impl Deserialize for u16 {
     fn from_data(alloc: Global, datum: Data) -> Result<u16> {
         Ok(unsigned(alloc, datum, 65535, "u16")? as u16)
     }
+
+    #[tactic(auto, unfolding(qs_spec::specs::internal::ReadFunction::reads))]
+    fn from_node(reader: Reader, node: &ParsedValue<'_>) -> Result<u16> {
+        Self::from_data(reader.alloc, reader.unsigned(Width::Bits16, node)?)
+    }
 }
 
 impl RoundTrip for u16 {
+    ghost table = { table_of (λ n. n) d.unsigned (s.Shape.unsigned 16) (unsigned_in 65535) refl (unsigned_back 65535) };
+
+    ghost is_own = { itself (λ n. n) d.unsigned (s.Shape.unsigned 16) (unsigned_in 65535) refl (unsigned_back 65535) };
+
     ghost comes_back = { unsigned_back 65535 };
 
     fn fits(&self) {
@@ -127,9 +148,18 @@ impl Deserialize for u32 {
     fn from_data(alloc: Global, datum: Data) -> Result<u32> {
         Ok(unsigned(alloc, datum, 4294967295, "u32")? as u32)
     }
+
+    #[tactic(auto, unfolding(qs_spec::specs::internal::ReadFunction::reads))]
+    fn from_node(reader: Reader, node: &ParsedValue<'_>) -> Result<u32> {
+        Self::from_data(reader.alloc, reader.unsigned(Width::Bits32, node)?)
+    }
 }
 
 impl RoundTrip for u32 {
+    ghost table = { table_of (λ n. n) d.unsigned (s.Shape.unsigned 32) (unsigned_in 4294967295) refl (unsigned_back 4294967295) };
+
+    ghost is_own = { itself (λ n. n) d.unsigned (s.Shape.unsigned 32) (unsigned_in 4294967295) refl (unsigned_back 4294967295) };
+
     ghost comes_back = { unsigned_back 4294967295 };
 
     fn fits(&self) {
@@ -163,9 +193,18 @@ impl Deserialize for u64 {
     fn from_data(alloc: Global, datum: Data) -> Result<u64> {
         unsigned(alloc, datum, 18446744073709551615, "u64")
     }
+
+    #[tactic(auto, unfolding(qs_spec::specs::internal::ReadFunction::reads))]
+    fn from_node(reader: Reader, node: &ParsedValue<'_>) -> Result<u64> {
+        Self::from_data(reader.alloc, reader.unsigned(Width::Bits64, node)?)
+    }
 }
 
 impl RoundTrip for u64 {
+    ghost table = { table_of (λ n. n) d.unsigned (s.Shape.unsigned 64) (unsigned_in 18446744073709551615) refl (unsigned_back 18446744073709551615) };
+
+    ghost is_own = { itself (λ n. n) d.unsigned (s.Shape.unsigned 64) (unsigned_in 18446744073709551615) refl (unsigned_back 18446744073709551615) };
+
     ghost comes_back = { unsigned_back 18446744073709551615 };
 
     fn fits(&self) {

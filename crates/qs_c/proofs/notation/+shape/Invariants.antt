@@ -8,8 +8,8 @@ use Rattle.qs_c.proofs.notation.+shape.Given as goal
 abbrev pub decreases-shapes::shape : goal.decreases-shapes::shape
 decreases-shapes::shape l = 8 * l.levels
 
-abbrev pub decreases-shapes::plain : goal.decreases-shapes::plain
-decreases-shapes::plain l = 8 * l.levels + 7
+abbrev pub decreases-shapes::base : goal.decreases-shapes::base
+decreases-shapes::base l = 8 * l.levels + 7
 
 abbrev pub decreases-shapes::list : goal.decreases-shapes::list
 decreases-shapes::list l = 8 * l.levels + 1
@@ -44,7 +44,7 @@ decreases-variants::kind l = 8 * l.levels + 3
 abbrev pub decreases-variants::held : goal.decreases-variants::held
 decreases-variants::held l = 8 * l.levels + 2
 
--- What is left of a list is found behind what was found of it.
+-- What is left of a list is found after what was found of it.
 abbrev pub invariant-shapes::fields-loop-at : goal.invariant-shapes::fields-loop-at
 invariant-shapes::fields-loop-at l =
     let all = n.listed (n.field (n.shape l.levels)) 125 n.comma_or_brace in

@@ -30,7 +30,7 @@ is_utf8_not b h = not_true (is_utf8 b) (λ e. h (IsUtf8-from_is_utf8 b e))
 
 pub ruleset utf8_tests = (is_utf8_not, is_utf8-from_IsUtf8)
 
--- an answer to a part, where what is there to answer of the whole follows from that of the part
+-- the result of a part, where the result of the whole follows from that of the part
 pub gives_exit : {X Y Z : Type 0} (view : X → Y) (t u : Bool) (x : Result X Error) (e : Error) (r : Option Z) (s : Option Y)
     → IsErrAnd x (λ y. y ≡ e) → Rejects t e r → (r ≡ None → s ≡ None) → (t ≡ false → u ≡ false) → Gives view u x s
 gives_exit view t u (Ok x) e r s h f n g = absurd h

@@ -17,12 +17,12 @@ rejected t u (Custom m) r s h n f = n h
 rejected t u (Utf8 c) r s h n f = (n h.0, f h.1)
 rejected t u OutOfMemory r s h n f = tt
 
--- the same answer, to something equal
+-- the same result, of something equal
 pub gives_as : {X Y : Type 0} (view : X → Y) (t u : Bool) (x : Result X ReadError) (r s : Option Y) → ReadGives view t x r → r ≡ s → (t ≡ false → u ≡ false) → ReadGives view u x s
 gives_as view t u (Ok x) r s h e f = sym e ∙ h
 gives_as view t u (Err x) r s h e f = rejected t u x r s h (λ n. sym e ∙ n) f
 
--- an answer to a part, where what is there to answer of the whole follows from that of the part
+-- the result of a part, where the result of the whole follows from that of the part
 pub gives_exit : {X Y Z : Type 0} (view : X → Y) (t u : Bool) (x : Result X ReadError) (e : ReadError) (r : Option Z) (s : Option Y)
     → IsErrAnd x (λ y. y ≡ e) → ReadRejects t e r → (r ≡ None → s ≡ None) → (t ≡ false → u ≡ false) → ReadGives view u x s
 gives_exit view t u (Ok x) e r s h f n g = absurd h

@@ -3,7 +3,8 @@ use Rattle.std.proofs.Common.{◌≡◌, ℕ, ◌<◌, ◌≤◌, Bool, true, fa
 use Rattle.std.proofs.Math.Seq.{take-append_seam}
 use Rattle.std.proofs.Math.Bool.{or-false}
 use Rattle.std.proofs.lemmas.Bool.{ne_eqb}
-use Rattle.std.proofs.lemmas.List.Elements.{All-take}
+use Rattle.std.proofs.lemmas.List.{drop-append-le, length-take}
+use Rattle.std.proofs.lemmas.List.Elements.{All-drop, All-take}
 use Rattle.std.specs.Prelude.{◌||◌}
 use Rattle.std.specs.List.{All}
 use Rattle.std.specs.Io.KnownBytes.{Appends}
@@ -62,30 +63,33 @@ led form false [] value = refl
 led form true (x ∷ path) value = refl
 led form false (x ∷ path) value = ap (λ b. drop (cond b 0 1) (path_after form (x ∷ path) ++ value_text form value)) (some_text form x path)
 
--- the entry begins with the path's `&`, or after it
-pub entry_is : (form started : Bool) (path : Path) (value : Option (List ℕ)) (walk : Walk) (all : List ℕ) (len start : ℕ) → IsAt form path walk → all ≡ walk.text.items ++ value_text form value
-    → len ≡ length walk.text.items → start ≡ cond (started || eqb len 0) 0 1 → drop start all ≡ entry_text form started path value
-entry_is form started path value walk all len start at is l n =
-    ap (λ k. drop k all) (n ∙ ap (λ m. cond (started || eqb m 0) 0 1) (l ∙ ap length at.text))
-    ∙ ap (drop (cond (started || eqb (length (path_after form path)) 0) 0 1)) (is ∙ ap (λ t. t ++ value_text form value) at.text) ∙ led form started path value
+-- what is shown of a text, and what is left of the value, are the entry: it begins with the path's `&`, or after it
+pub entry_shown : (form started : Bool) (path : Path) (value : Option (List ℕ)) (walk : Walk) (out rest shown : List ℕ) (len start : ℕ) → IsAt form path walk
+    → out ++ rest ≡ walk.text ++ value_text form value → take (length walk.text) out ≡ walk.text → len ≡ length walk.text → start ≡ cond (started || eqb len 0) 0 1 → start ≤ len
+    → shown ≡ drop start out → All IsVisible (out ++ rest) → (shown ++ rest ≡ entry_text form started path value) × All IsVisible (shown ++ rest)
+entry_shown form started path value walk out rest shown len start at is kept l n within shows visible =
+    let fits : start ≤ length out = omega (arith, within, l, ap length kept, length-take (length walk.text) out) in
+    let same : shown ++ rest ≡ drop start (out ++ rest) = ap (λ t. t ++ rest) shows ∙ sym (drop-append-le start out rest fits) in (
+      same ∙ ap (λ k. drop k (out ++ rest)) (n ∙ ap (λ m. cond (started || eqb m 0) 0 1) (l ∙ ap length at.text))
+          ∙ ap (drop (cond (started || eqb (length (path_after form path)) 0) 0 1)) (is ∙ ap (λ t. t ++ value_text form value) at.text) ∙ led form started path value,
+      subst (All IsVisible) (sym same) (All-drop IsVisible start (out ++ rest) visible),
+    )
 
 key_is : (form : Bool) (path : Path) → not (eqb (length (path_after form path)) 0) ≡ has_key path
 key_is form [] = refl
 key_is form (x ∷ path) = ap not (some_text form x path)
 
 -- there is a key where there is text
-pub has_key_is : (form : Bool) (path : Path) (walk : Walk) (len : ℕ) → IsAt form path walk → len ≡ length walk.text.items → not (eqb len 0) ≡ has_key path
+pub has_key_is : (form : Bool) (path : Path) (walk : Walk) (len : ℕ) → IsAt form path walk → len ≡ length walk.text → not (eqb len 0) ≡ has_key path
 has_key_is form path walk len at l = ap (λ n. not (eqb n 0)) (l ∙ ap length at.text) ∙ key_is form path
 
-pub at_top : (form : Bool) (path : Path) (walk : Walk) → IsAt form path walk → length walk.text.items ≡ 0 → path ≡ []
+pub at_top : (form : Bool) (path : Path) (walk : Walk) → IsAt form path walk → length walk.text ≡ 0 → path ≡ []
 at_top form [] walk at h = refl
 at_top form (x ∷ path) walk at h = let e = ap length at.text in absurd (omega (arith, e, h))
 
 -- the walk is back where it was, when the value is cut off
-pub at_back : (form : Bool) (path : Path) (walk back : Walk) (len : ℕ) (more : List ℕ) → IsAt form path walk → back.depth ≡ walk.depth → back.text.items ≡ take len (walk.text.items ++ more)
-    → len ≡ length walk.text.items → IsAt form path back
-at_back form path walk back len more at d is l =
-    let same : back.text.items ≡ walk.text.items = is ∙ ap (λ n. take n (walk.text.items ++ more)) l ∙ take-append_seam walk.text.items more in
+pub at_back : (form : Bool) (path : Path) (walk back : Walk) → IsAt form path walk → back.depth ≡ walk.depth → back.text ≡ walk.text → IsAt form path back
+at_back form path walk back at d same =
     record { depth = d ∙ at.depth; text = same ∙ at.text; visible = subst (All IsVisible) (sym same) at.visible }
 
 written-one : (form started : Bool) (path : Path) (value : Option (List ℕ)) → written form started (record { path = path; value = value } ∷ []) ≡ entry_text form started path value
@@ -124,9 +128,3 @@ part_one form a b path value text is n proper added visible failed writer =
 
 pub io_stops : (config : Config) (a b : StreamState) (o : Output) (e : Stop) → e ≡ Io → AddsPart config.form a b o.entries → Stops e config a b o
 io_stops config a b o e is part = subst (λ (z : Stop). Stops z config a b o) (sym is) part
-
--- one more segment in a text that holds some
-pub grown_more : (form : Bool) (text s : List ℕ) → ¬ (length text ≡ 0) → ((text ++ open_bytes form) ++ encoded form s) ++ close_bytes form ≡ grown form text s
-grown_more form [] s h = absurd (h refl)
-grown_more form (b ∷ text) s h =
-    append_assoc ((b ∷ text) ++ open_bytes form) (encoded form s) (close_bytes form) ∙ append_assoc (b ∷ text) (open_bytes form) (encoded form s ++ close_bytes form)

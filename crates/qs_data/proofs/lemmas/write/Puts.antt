@@ -1,8 +1,13 @@
 -- Several puts, one after another.
-use Rattle.std.proofs.Common.{◌≡◌, ℕ, ◌+◌, ◌-◌, ◌≤◌, List, ◌++◌, length, take, drop, Option, sym, ap, ◌∙◌, subst, arith, length-drop, drop-drop}
-use Rattle.std.proofs.Math.Seq.{take-add}
+use Rattle.std.proofs.Common.{◌≡◌, ℕ, ◌+◌, ◌-◌, ◌<◌, ◌≤◌, Bool, List, ◌++◌, length, take, drop, Option, sym, ap, ◌∙◌, subst, arith, length-append, length-drop, drop-drop}
+use Rattle.std.proofs.Math.Seq.{take-add, take-append-add}
+use Rattle.std.proofs.lemmas.List.{take-append-le}
+use Rattle.std.proofs.lemmas.Grind.{flat_map-append}
 use Rattle.std.proofs.KnownBytes.{Appends-trans}
+use Rattle.std.specs.Prelude.{Result, Ok, Err, IfErr}
+use Rattle.std.specs.Result.{IsErrAnd}
 use Rattle.std.specs.Io.KnownBytes.{Appends}
+use Rattle.qs_spec.specs.Escape.{encoded, spelling}
 
 -- one more put, where the rest is what stands after the part that was taken
 pub put_step : (text rest next : List ℕ) (n : ℕ) (a b c : Option (List ℕ)) → length rest ≤ length text → rest ≡ drop (length text - length rest) text
@@ -15,3 +20,22 @@ put_step text rest next n a b c left is few before now after =
     let joined : take (length text - length rest) text ++ take n rest ≡ take (length text - length next) text =
     ap (λ r. take (length text - length rest) text ++ take n r) is ∙ sym (take-add (length text - length rest) n text) ∙ ap (λ k. take k text) gone in
     (omega (arith, lens), place, subst (Appends a c) joined (Appends-trans a b c _ _ before now))
+
+-- what stands in the middle of a text was put in part, after all that precedes it
+pub put_middle : (front middle rest whole : List ℕ) (n : ℕ) (a b c : Option (List ℕ)) → whole ≡ front ++ (middle ++ rest) → Appends a b front → n < length middle
+    → Appends b c (take n middle) → (k : ℕ) × (k < length whole) × Appends a c (take k whole)
+put_middle front middle rest whole n a b c is before proper now =
+    let long : length whole ≡ length front + (length middle + length rest) =
+    ap length is ∙ length-append front (middle ++ rest) ∙ ap (λ k. length front + k) (length-append middle rest) in
+    let part : front ++ take n middle ≡ take (length front + n) whole =
+    ap (λ t. front ++ t) (sym (take-append-le n middle rest (omega (arith, proper)))) ∙ sym (take-append-add front (middle ++ rest) n) ∙ ap (take (length front + n)) (sym is) in
+    (length front + n, omega (arith, long, proper), subst (Appends a c) part (Appends-trans a b c _ _ before now))
+
+pub encoded_parts : (form : Bool) (front piece tail : List ℕ) → encoded form (front ++ (piece ++ tail)) ≡ encoded form front ++ (encoded form piece ++ encoded form tail)
+encoded_parts form front piece tail =
+    flat_map-append (spelling form) front (piece ++ tail) ∙ ap (λ t. encoded form front ++ t) (flat_map-append (spelling form) piece tail)
+
+-- what the exit of a `?` owes, where the error goes on as it is
+pub exit_part : {T E : Type 0} (r : Result T E) (e : E) (P : E → Type 0) → IsErrAnd r (λ y. y ≡ e) → P e → IfErr r P
+exit_part (Ok x) e P is part = tt
+exit_part (Err y) e P is part = subst P (sym is) part

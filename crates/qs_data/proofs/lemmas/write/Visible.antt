@@ -3,7 +3,6 @@ use Rattle.std.proofs.Common.{suc, ◌+◌, ◌^◌, ℤ, pos, negsuc, ◌++◌,
 use Rattle.std.specs.List.{All, AllByRecursion, list_all}
 use Rattle.std.specs.Fmt.{decimal, signed_decimal}
 use Rattle.std.specs.Int.Signed.{mag}
-use Rattle.std.specs.Prelude.{Result, Ok, Err, OnOk, is_ok, cond}
 use Rattle.std.proofs.lemmas.Fmt.{digits_decimal}
 use Rattle.std.proofs.lemmas.Bool.{agree_below_at}
 use Rattle.std.proofs.lemmas.Bool.Decides.{nat_tests}
@@ -55,11 +54,6 @@ close_visible false = all_visible (close_bytes false) refl
 pub equals_visible : All IsVisible (61 ∷ [])
 equals_visible = all_visible (61 ∷ []) refl
 
--- what was appended, by another name
-pub extended : {E : Type 0} (r : Result (Unit {0}) E) (new old added text : List ℕ) → new ≡ cond (is_ok r) (old ++ added) old → added ≡ text → OnOk r (new ≡ old ++ text)
-extended (Ok x) new old added text h e = h ∙ ap (λ t. old ++ t) e
-extended (Err x) new old added text h e = tt
-
 -- a text that is written as it is
 abbrev pub IsPlain : Bool → List ℕ → Type 0
 IsPlain form text = (encoded form text ≡ text) × All IsVisible (encoded form text)
@@ -91,10 +85,3 @@ signed_plain form (negsuc n) l =
     let p = unsigned_plain form (suc n) (omega (arith, l)) in
     let same : encoded form (45 ∷ decimal (suc n)) ≡ 45 ∷ decimal (suc n) = ap (λ t. t ++ encoded form (decimal (suc n))) (minus form) ∙ ap (λ t. 45 ∷ t) p.0 in
     (same, subst (All IsVisible) (sym same) (All-cons IsVisible 45 (decimal (suc n)) (omega arith, omega arith) (subst (All IsVisible) p.0 p.1)))
-
--- what holds where one call went well holds where another does that goes well with it
-pub on_ok : {A B E F : Type 0} (r : Result A E) (s : Result B F) (P Q : Type 0) → is_ok s ≡ is_ok r → (P → Q) → OnOk r P → OnOk s Q
-on_ok (Ok x) (Ok y) P Q same then holds = then holds
-on_ok (Ok x) (Err e) P Q same then holds = tt
-on_ok (Err e) (Ok y) P Q same then holds = absurd (cc)
-on_ok (Err e) (Err f) P Q same then holds = tt

@@ -40,7 +40,7 @@ module _ (config : Config) (s : List ℕ) (f : Path → Output) (a b : StreamSta
     (entered : (p : Path) → IsAt config.form p from → (length p ≤ config.max_depth) × IsAt config.form (p ++ s ∷ []) within) where
   -- a part is written under one more segment
   pub writes_under : (back to : Walk) (len : ℕ) → ((p : Path) → IsAt config.form p within → Writes (Ok tt) config p a b back (f p))
-      → ((form : Bool) (p : Path) (s : List ℕ) → IsAt form (p ++ s ∷ []) back → len ≡ length (path_after form p) → IsAt form p to) → len ≡ length from.text.items
+      → ((form : Bool) (p : Path) (s : List ℕ) → IsAt form (p ++ s ∷ []) back → len ≡ length (path_after form p) → IsAt form p to) → len ≡ length from.text
       → (p : Path) → IsAt config.form p from → Writes (Ok tt) config p a b to (deeper config.max_depth p s f)
   writes_under back to len wrote left is =
       λ p at. let e = entered p at in

@@ -64,8 +64,8 @@ grown form (b ∷ text) s = (b ∷ text) ++ (open_bytes form ++ (encoded form s 
 -- the walk is at this path
 pub record IsAt (form : Bool) (path : Path) (walk : Walk) : Type 0 where
   pub depth : walk.depth ≡ length path
-  pub text : walk.text.items ≡ path_after form path
-  pub visible : All IsVisible walk.text.items
+  pub text : walk.text ≡ path_after form path
+  pub visible : All IsVisible walk.text
 
 -- all entries were written, there is no error and the walk is where it was, or what the stop says
 abbrev pub Writes : Result (Unit {0}) Stop → Config → Path → StreamState → StreamState → Walk → Output → Type 0

@@ -32,3 +32,15 @@ returns-clause-push_at_the_limit c = is_tree false 1 (codes "a[b][]=1") (only (c
 
 pub returns-clause-no_depth : goal.returns-clause-no_depth
 returns-clause-no_depth c = is_tree false 0 (codes "a[b]=1") (only (codes "a[b]") (text_leaf (codes "1"))) refl
+
+pub returns-clause-ampersand_first_in_the_last_key : goal.returns-clause-ampersand_first_in_the_last_key
+returns-clause-ampersand_first_in_the_last_key c = is_tree false 1 (codes "a[b][&c]=1") (only (codes "a") (only (codes "b") (only (codes "[&c]") (text_leaf (codes "1"))))) refl
+
+pub returns-clause-closing_bracket_in_a_root_key : goal.returns-clause-closing_bracket_in_a_root_key
+returns-clause-closing_bracket_in_a_root_key c = is_tree false 5 (codes "a]=1") (only (codes "a]") (text_leaf (codes "1"))) refl
+
+pub returns-clause-text_after_a_push : goal.returns-clause-text_after_a_push
+returns-clause-text_after_a_push c = no_tree false 5 (codes "a[]x=1") refl
+
+pub returns-clause-bracket_after_a_push : goal.returns-clause-bracket_after_a_push
+returns-clause-bracket_after_a_push c = no_tree false 5 (codes "a[][b]=1") refl

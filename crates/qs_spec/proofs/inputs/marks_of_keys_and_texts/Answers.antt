@@ -3,7 +3,7 @@ use Rattle.qs_spec.specs.Segment.Segment.{Str}
 use Rattle.qs_spec.specs.Leaf.Leaf.{Text}
 use Rattle.qs_spec.specs.Tree.Tree.{leaf, mapping}
 use Rattle.qs_spec.specs.Tree.Entries.{entry, no_entries}
-use Rattle.qs_spec.specs.Worked.{text_leaves, only}
+use Rattle.qs_spec.specs.Worked.{text_leaf, text_leaves, only}
 use Rattle.qs_spec.proofs.TreeOf.{is_tree}
 use Rattle.qs_spec.proofs.inputs.marks_of_keys_and_texts.Goals as goal
 
@@ -18,3 +18,9 @@ returns-clause-text c = is_tree false 5 (codes "a=%2B+") (only (codes "a") (leaf
 
 pub returns-clause-broken_escape : goal.returns-clause-broken_escape
 returns-clause-broken_escape c = is_tree false 5 (codes "a=%") (only (codes "a") (leaf (Text (codes "%") true))) refl
+
+pub returns-clause-plus_in_a_key : goal.returns-clause-plus_in_a_key
+returns-clause-plus_in_a_key c = is_tree false 5 (codes "a+b=1") (mapping (entry (Str (codes "a b")) true (text_leaf (codes "1")) no_entries)) refl
+
+pub returns-clause-plus_in_a_text : goal.returns-clause-plus_in_a_text
+returns-clause-plus_in_a_text c = is_tree false 5 (codes "a=x+y") (only (codes "a") (leaf (Text (codes "x y") true))) refl

@@ -13,3 +13,6 @@ returns-clause-pushes c = is_tree false 5 (codes "a[]=1&b=x&a[]=2") (mapping (at
 
 pub returns-clause-push_onto_a_value : goal.returns-clause-push_onto_a_value
 returns-clause-push_onto_a_value c = no_tree false 5 (codes "a=1&a[]=2") refl
+
+pub returns-clause-value_after_a_push : goal.returns-clause-value_after_a_push
+returns-clause-value_after_a_push c = is_tree false 5 (codes "a[]=1&a=2") (only (codes "a") (text_leaves (codes "1" ∷ codes "2" ∷ []))) refl

@@ -20,6 +20,22 @@ pub returns-clause-one_empty_byte_string : goal.returns-clause-one_empty_byte_st
 unfolding on_literals
 returns-clause-one_empty_byte_string c = record { written = record { text_is = refl; refusal_is = refl }; read = is_read _ _ _ _ refl refl }
 
+pub returns-clause-one_empty_text_in_a_tuple : goal.returns-clause-one_empty_text_in_a_tuple
+unfolding on_literals
+returns-clause-one_empty_text_in_a_tuple c = record { written = record { text_is = refl; refusal_is = refl }; read = is_read _ _ _ _ refl refl }
+
+pub returns-clause-one_empty_text_in_a_variant : goal.returns-clause-one_empty_text_in_a_variant
+unfolding on_literals
+returns-clause-one_empty_text_in_a_variant c = record { written = record { text_is = refl; refusal_is = refl }; read = is_read _ _ _ _ refl refl }
+
+pub returns-clause-one_unit : goal.returns-clause-one_unit
+unfolding on_literals
+returns-clause-one_unit c = record { written = record { text_is = refl; refusal_is = refl }; read = is_read _ _ _ _ refl refl }
+
+pub returns-clause-one_none : goal.returns-clause-one_none
+unfolding on_literals
+returns-clause-one_none c = record { written = record { text_is = refl; refusal_is = refl }; read = is_read _ _ _ _ refl refl }
+
 pub returns-clause-at_the_top_in_brackets : goal.returns-clause-at_the_top_in_brackets
 unfolding on_literals
 returns-clause-at_the_top_in_brackets c = record { written = record { text_is = refl; refusal_is = refl }; read = is_read _ _ _ _ refl refl }

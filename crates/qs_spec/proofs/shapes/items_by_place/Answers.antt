@@ -22,3 +22,19 @@ returns-clause-nothing c = is_read _ _ _ _ refl refl
 pub returns-clause-a_text : goal.returns-clause-a_text
 unfolding on_literals
 returns-clause-a_text c = is_read _ _ _ _ refl refl
+
+pub returns-clause-beyond_the_end : goal.returns-clause-beyond_the_end
+unfolding on_literals
+returns-clause-beyond_the_end c = is_read _ _ _ _ refl refl
+
+pub returns-clause-another_map : goal.returns-clause-another_map
+unfolding on_literals
+returns-clause-another_map c = is_read _ _ _ _ refl refl
+
+pub returns-clause-last_place : goal.returns-clause-last_place
+unfolding on_literals
+returns-clause-last_place c = refl
+
+pub returns-clause-beyond_the_last_place : goal.returns-clause-beyond_the_last_place
+unfolding on_literals
+returns-clause-beyond_the_last_place c = refl

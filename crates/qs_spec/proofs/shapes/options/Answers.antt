@@ -26,3 +26,7 @@ returns-clause-some_of_nothing c = is_read _ _ _ _ refl refl
 pub returns-clause-some_of_a_sequence : goal.returns-clause-some_of_a_sequence
 unfolding on_literals
 returns-clause-some_of_a_sequence c = is_read _ _ _ _ refl refl
+
+pub returns-clause-nothing_at_all : goal.returns-clause-nothing_at_all
+unfolding on_literals
+returns-clause-nothing_at_all c = is_read _ _ _ _ refl refl

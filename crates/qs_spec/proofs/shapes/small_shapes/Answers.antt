@@ -26,3 +26,11 @@ returns-clause-ignored c = is_read _ _ _ _ refl refl
 pub returns-clause-newtype : goal.returns-clause-newtype
 unfolding on_literals
 returns-clause-newtype c = is_read _ _ _ _ refl refl
+
+pub returns-clause-unit_alone : goal.returns-clause-unit_alone
+unfolding on_literals
+returns-clause-unit_alone c = is_read _ _ _ _ refl refl
+
+pub returns-clause-several_characters : goal.returns-clause-several_characters
+unfolding on_literals
+returns-clause-several_characters c = is_read _ _ _ _ refl refl

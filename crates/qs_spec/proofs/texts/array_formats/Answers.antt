@@ -13,3 +13,11 @@ returns-clause-empty_indexed c = record { text_is = refl; refusal_is = refl }
 pub returns-clause-unindexed : goal.returns-clause-unindexed
 unfolding on_literals
 returns-clause-unindexed c = record { text_is = refl; refusal_is = refl }
+
+pub returns-clause-tuple_variant : goal.returns-clause-tuple_variant
+unfolding on_literals
+returns-clause-tuple_variant c = record { text_is = refl; refusal_is = refl }
+
+pub returns-clause-lists_in_a_list : goal.returns-clause-lists_in_a_list
+unfolding on_literals
+returns-clause-lists_in_a_list c = record { text_is = refl; refusal_is = refl }

@@ -17,3 +17,11 @@ returns-clause-empty c = record { text_is = refl; refusal_is = refl }
 pub returns-clause-percent : goal.returns-clause-percent
 unfolding on_literals
 returns-clause-percent c = record { text_is = refl; refusal_is = refl }
+
+pub returns-clause-empty_tuple : goal.returns-clause-empty_tuple
+unfolding on_literals
+returns-clause-empty_tuple c = record { text_is = refl; refusal_is = refl }
+
+pub returns-clause-empty_map : goal.returns-clause-empty_map
+unfolding on_literals
+returns-clause-empty_map c = record { text_is = refl; refusal_is = refl }

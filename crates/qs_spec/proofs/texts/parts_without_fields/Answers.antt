@@ -13,3 +13,7 @@ returns-clause-variant c = record { text_is = refl; refusal_is = refl }
 pub returns-clause-variant_too_deep : goal.returns-clause-variant_too_deep
 unfolding on_literals
 returns-clause-variant_too_deep c = record { text_is = refl; refusal_is = refl }
+
+pub returns-clause-tuple_variant : goal.returns-clause-tuple_variant
+unfolding on_literals
+returns-clause-tuple_variant c = record { text_is = refl; refusal_is = refl }

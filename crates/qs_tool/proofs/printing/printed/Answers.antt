@@ -8,7 +8,7 @@ use Rattle.qs_data.specs.shape.Views.{shape_of}
 use Rattle.qs_data.specs.read.Parsed.{parsed_of}
 use Rattle.qs_tool.specs.Line.{IsPrinted}
 use Rattle.qs_tool.specs.Line.IsFaulty.{not_read, not_printed}
-use Rattle.qs_tool.proofs.Refusals.{reading_told, fault_is}
+use Rattle.qs_tool.proofs.Errors.{nothing_read, input_error_is}
 use Rattle.qs_tool.proofs.printing.printed.Goals as goal
 
 pub returns-in_err-value-clause-fault : goal.returns-in_err-value-clause-fault
@@ -20,7 +20,7 @@ returns-in_err-value-clause-fault c =
     let P : Config → Type 0 = λ config. ReadsNothing config shape parsed.tree in
     let Q : Shape → Type 0 = λ s. ReadsNothing c.args.request.config s parsed.tree in
     rw (p.1, p.2) (λ other. not_read parsed.tree made.tree
-    (subst Q c.in_ok-shape.ensures (subst P made.config (reading_told parsed shape c.in_err-value.field-0.0 c.in_err-value.ensures.exact other))))
+    (subst Q c.in_ok-shape.ensures (subst P made.config (nothing_read parsed shape c.in_err-value.field-0.0 c.in_err-value.ensures.exact other))))
 
 pub returns-clause-text : goal.returns-clause-text
 returns-clause-text c =
@@ -41,6 +41,6 @@ returns-clause-fault c =
     let made = c.in_ok-deserializer.ensures in
     let P : Config → Type 0 = λ config. ReadsBy config shape parsed.tree value in
     let Q : Shape → Type 0 = λ s. ReadsBy c.args.request.config s parsed.tree value in
-    fault_is c.text_of-text.result
-    (λ told. not_printed parsed.tree value made.tree (subst Q c.in_ok-shape.ensures (subst P made.config c.in_ok-value.ensures.exact)) told)
+    input_error_is c.text_of-text.result
+    (λ report. not_printed parsed.tree value made.tree (subst Q c.in_ok-shape.ensures (subst P made.config c.in_ok-value.ensures.exact)) report)
     c.text_of-text.ensures.fault

@@ -2,7 +2,7 @@ use Rattle.std.proofs.Common.{ap, sym, subst, ◌∙◌}
 use Rattle.std.specs.Prelude.{OnOk}
 use Rattle.qs_data.specs.data.Views.{data_of, pairs_in}
 use Rattle.qs_tool.specs.Shown.{shown, shown_pairs, in_braces}
-use Rattle.qs_tool.specs.Pieces.{Begins}
+use Rattle.qs_tool.specs.internal.Pieces.{Begins}
 use Rattle.qs_tool.proofs.Pieces.{data_of_map}
 use Rattle.qs_tool.proofs.showing.begin.Goals as goal
 

@@ -1,7 +1,7 @@
 use Rattle.std.proofs.Common.{◌++◌, ap, sym, ◌∙◌, codes, subst, arith, append_assoc}
 use Rattle.qs_data.specs.data.Views.{data_of, pairs_in}
 use Rattle.qs_tool.specs.Shown.{shown, in_braces, shown_pairs}
-use Rattle.qs_tool.specs.Pieces.{Begins}
+use Rattle.qs_tool.specs.internal.Pieces.{Begins}
 use Rattle.qs_tool.proofs.Pieces.{text_of_more, begins_listed}
 use Rattle.qs_tool.proofs.showing.begin_map.Goals as goal
 

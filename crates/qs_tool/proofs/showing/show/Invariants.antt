@@ -1,7 +1,7 @@
 use Rattle.std.proofs.Common.{◌≡◌, ◌++◌, length}
 use Rattle.qs_data.specs.data.Views.{data_of}
 use Rattle.qs_tool.specs.Shown.{shown}
-use Rattle.qs_tool.specs.Pieces.{text_of_pile}
+use Rattle.qs_tool.specs.internal.Pieces.{text_of_pile}
 use Rattle.qs_tool.proofs.showing.show.Given as goal
 
 -- the line so far, and what is on the stack

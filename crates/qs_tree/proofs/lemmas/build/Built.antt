@@ -1,5 +1,5 @@
 -- What a map under construction holds after a step.
-use Rattle.std.proofs.Common.{◌≡◌, ℕ, Bool, true, false, not, true≢false, List, [], ◌∷◌, ◌++◌, length, slice_get, Option, Some, None, option_map, unwrap_or, Result, Ok, Err, Ordering, Less, Equal, Greater, refl, sym, ap, ◌∙◌, arith, rules, Global}
+use Rattle.std.proofs.Common.{◌≡◌, ℕ, List, [], ◌∷◌, ◌++◌, length, slice_get, Option, Some, None, option_map, unwrap_or, Result, Ok, Err, Ordering, Less, Equal, Greater, refl, sym, ap, ◌∙◌, arith, rules, Global}
 use Rattle.std.specs.List.{AllByRecursion}
 use Rattle.std.specs.List.Sorted.{IsStrictlySortedBy}
 use Rattle.std.specs.Map.{keys_of, lookup, set_value}
@@ -8,27 +8,24 @@ use Rattle.std.specs.BTreeMap.{is_at, insert_entry}
 use Rattle.std.specs.declared.collections.BTreeMap.{BTreeMap}
 use Rattle.qs_spec.specs.Tree.{Tree, Entries}
 use Rattle.qs_spec.specs.Tree.Tree.{uninitialized}
-use Rattle.qs_spec.specs.Segment.{Step, compare_segments}
-use Rattle.qs_spec.specs.internal.InPlace.{update, add}
+use Rattle.qs_spec.specs.Segment.{compare_segments}
+use Rattle.qs_spec.specs.internal.InPlace.{update}
 use Rattle.qs_tree.specs.declared.tree.key.Key.{Key}
-use Rattle.qs_tree.specs.declared.build.builder.TreeBuilder.{TreeBuilder, Empty}
+use Rattle.qs_tree.specs.declared.build.builder.TreeBuilder.{TreeBuilder}
 use Rattle.qs_tree.specs.declared.build.builder.MapBuilder.{the_lemmas}
-use Rattle.qs_tree.specs.declared.build.builder.TreeBuilder.TheVariants as builder
 use Rattle.qs_tree.specs.declared.build.builder.MapBuilder.TheVariants as form
-use Rattle.qs_tree.specs.declared.scan.pair.Leaf.{Leaf}
-use Rattle.qs_tree.specs.internal.scan.Pairs.{leaf_of}
 use Rattle.qs_tree.specs.contracts.tree.key.KeyOrd.TheImpl.Laws.{total-law}
 use Rattle.qs_tree.specs.declared.build.conflict.AddError.{AddError}
 use Rattle.qs_tree.specs.tree.Keys.{key_cmp}
 use Rattle.qs_tree.specs.internal.build.Adding.{Gives}
 use Rattle.qs_tree.specs.internal.tree.Places.{IsHit, IsGap, put_value}
 use Rattle.qs_tree.specs.tree.Views.{segment_of_key, step_of_key, find}
-use Rattle.qs_tree.specs.internal.build.Builder.{built_tree, built_entries, entries_seen, child, Takes}
-use Rattle.qs_tree.proofs.lemmas.tree.Keys.{seen_view, seen-lookup, key_cmp-segments}
+use Rattle.qs_tree.specs.internal.build.Builder.{built_tree, built_entries, entries_seen, entries_held, as_builders, fresh, child, Takes}
+use Rattle.qs_tree.proofs.lemmas.tree.Keys.{Held, seen_view, seen-lookup, key_cmp-segments}
 use Rattle.qs_tree.proofs.lemmas.tree.Ordered.{ordered_seen}
 use Rattle.qs_tree.proofs.lemmas.tree.Places.{hit_lookup, gap_lookup, hit_set}
 use Rattle.qs_tree.proofs.lemmas.build.Turns.{rejected_too, put_there, rejected_there}
-use Rattle.qs_tree.proofs.lemmas.Views.{built_tree-Empty, built_tree-Leaf}
+use Rattle.qs_tree.proofs.lemmas.Views.{built_tree-Value, built_tree-fresh}
 
 abbrev Drafts : Type 0
 Drafts = List (Key × TreeBuilder)
@@ -38,6 +35,10 @@ built_entries-Vector es = search (rules, the_lemmas)
 
 pub built_entries-Tree : (m : BTreeMap Key TreeBuilder Global) → built_entries (form.Tree m) ≡ entries_seen m.entries
 built_entries-Tree m = search (rules, the_lemmas)
+
+pub seen-builders : (es : Held) → entries_seen (as_builders es) ≡ entries_held es
+seen-builders [] = refl
+seen-builders (e ∷ es) = rw (built_tree-Value e.1, seen-builders es)
 
 pub ruleset forms = (built_entries-Vector, built_entries-Tree)
 
@@ -86,38 +87,26 @@ module _ (k : Key) (es : Drafts) (i : ℕ) where
         ordered = ordered_seen built_tree es sorted;
       }
 
-  pub taken_gap : IsGap key_cmp k es i → IsStrictlySortedBy key_cmp (keys_of es) → Takes k (entries_seen es) (built_tree Empty) (entries_seen es)
+  pub taken_gap : IsGap key_cmp k es i → IsStrictlySortedBy key_cmp (keys_of es) → Takes k (entries_seen es) (built_tree fresh) (entries_seen es)
   taken_gap gap sorted =
       let missing : None ≡ find (segment_of_key k) (entries_seen es) = ap (option_map built_tree) (sym (gap_lookup key_cmp k es i gap)) ∙ seen-lookup built_tree k es in
-      record { node = rw (built_tree-Empty, ← missing); rest = λ u. refl; ordered = ordered_seen built_tree es sorted }
+      record { node = rw (built_tree-fresh, ← missing); rest = λ u. refl; ordered = ordered_seen built_tree es sorted }
 
--- a leaf is added at the node at a key, which was lent
-module _ (k : Key) (es : Drafts) (sorted : IsStrictlySortedBy key_cmp (keys_of es)) (old : TreeBuilder) (lent : old ≡ unwrap_or (lookup (is_at (key_cmp k)) es) Empty) where
-  or_fresh : (o : Option TreeBuilder) → built_tree (unwrap_or o Empty) ≡ unwrap_or (option_map built_tree o) uninitialized
-  or_fresh None = built_tree-Empty
-  or_fresh (Some d) = refl
+-- a pair is added to the node at a key, which was lent
+module _ {X : Type 0} (seen : X → Tree) (empty : X) (none : seen empty ≡ uninitialized) (k : Key) (es : List (Key × X)) (sorted : IsStrictlySortedBy key_cmp (keys_of es)) (old : X) (lent : old ≡ unwrap_or (lookup (is_at (key_cmp k)) es) empty) where
+  or_empty : (o : Option X) → seen (unwrap_or o empty) ≡ unwrap_or (option_map seen o) uninitialized
+  or_empty None = none
+  or_empty (Some d) = refl
 
-  there : built_tree old ≡ child (segment_of_key k) (entries_seen es)
-  there = ap built_tree lent ∙ or_fresh _ ∙ ap (λ o. unwrap_or o uninitialized) (seen-lookup built_tree k es)
+  there : seen old ≡ child (segment_of_key k) (seen_view seen es)
+  there = ap seen lent ∙ or_empty _ ∙ ap (λ o. unwrap_or o uninitialized) (seen-lookup seen k es)
 
-  pub at_key : {A : Type 0} (before seen : Entries) → entries_seen es ≡ before → (f : Tree → Option Tree) (new : TreeBuilder) → entries_seen (insert_entry key_cmp es k new) ≡ seen
-      → (r : Result A AddError) → Gives (λ _. built_tree new) (f (built_tree old)) r → Gives (λ _. seen) (update (step_of_key k) f before) r
-  at_key before seen was f new is (Ok a) h = rw (← was)
-      (put_there (step_of_key k) f (entries_seen es) (ordered_seen built_tree es sorted) (built_tree old) there (entries_seen es) seen (built_tree new) h (λ u. refl) (inserted built_tree k es new ∙ ap Some is))
-  at_key before seen was f new is (Err e) h = rw (← was)
-      (rejected_too (f (built_tree old)) _ e (rejected_there (step_of_key k) f (entries_seen es) (ordered_seen built_tree es sorted) (built_tree old) there) h)
-
-pub not_push : (push : Bool) → not push ≡ true → push ≡ false
-not_push true e = absurd (true≢false (sym e))
-not_push false e = refl
-
--- a plain leaf is put at a key that is missing
-module _ (k : Key) (es : Drafts) (sorted : IsStrictlySortedBy key_cmp (keys_of es)) (i : ℕ) (gap : IsGap key_cmp k es i) where
-  pub leaf_put : (path : List Step) (push : Bool) (l : Leaf) → path ≡ [] → push ≡ false → update (step_of_key k) (add path push (leaf_of l)) (entries_seen es) ≡ Some (entries_seen (insert_entry key_cmp es k (builder.Leaf l)))
-  leaf_put path push l end plain =
-      let made : add [] false (leaf_of l) (built_tree Empty) ≡ Some (built_tree (builder.Leaf l)) = rw (built_tree-Empty, built_tree-Leaf l) in
-      rw (end, plain) (at_key k es sorted Empty (sym (ap (λ o. unwrap_or o Empty) (gap_lookup key_cmp k es i gap))) (entries_seen es) (entries_seen (insert_entry key_cmp es k (builder.Leaf l))) refl
-      (add [] false (leaf_of l)) (builder.Leaf l) refl (Ok (tt {0})) made)
+  pub at_key : {A : Type 0} (before after : Entries) → seen_view seen es ≡ before → (f : Tree → Option Tree) (new : X) → seen_view seen (insert_entry key_cmp es k new) ≡ after
+      → (r : Result A AddError) → Gives (λ _. seen new) (f (seen old)) r → Gives (λ _. after) (update (step_of_key k) f before) r
+  at_key before after was f new is (Ok a) h = rw (← was)
+      (put_there (step_of_key k) f (seen_view seen es) (ordered_seen seen es sorted) (seen old) there (seen_view seen es) after (seen new) h (λ u. refl) (inserted seen k es new ∙ ap Some is))
+  at_key before after was f new is (Err e) h = rw (← was)
+      (rejected_too (f (seen old)) _ e (rejected_there (step_of_key k) f (seen_view seen es) (ordered_seen seen es sorted) (seen old) there) h)
 
 -- a key above all of some entries goes to their end
 module _ (k : Key) (ks : List Key) where
@@ -125,7 +114,7 @@ module _ (k : Key) (ks : List Key) where
   less_last l [] h = h.0
   less_last l (j ∷ js) h = less_last l js h.1
 
-  above : (l : Key) (js : List Key) → AllByRecursion (λ y. key_cmp l y ≡ Less) (js ++ k ∷ ks) → key_cmp k l ≡ Greater
+  pub above : (l : Key) (js : List Key) → AllByRecursion (λ y. key_cmp l y ≡ Less) (js ++ k ∷ ks) → key_cmp k l ≡ Greater
   above l js h = total-law.antisymm k l ∙ ap ordering_reverse (less_last l js h)
 
   pub keys_at_end : {X : Type 0} (es : List (Key × X)) (v : X) → IsStrictlySortedBy key_cmp (keys_of es ++ k ∷ ks) → keys_of (insert_entry key_cmp es k v) ++ ks ≡ keys_of es ++ k ∷ ks

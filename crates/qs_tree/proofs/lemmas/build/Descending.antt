@@ -44,7 +44,7 @@ put_lowest_if ms m (Some t) = sym (put_lowest ms m t)
 pub begins : (path : List Step) (node : Tree) → Leads path node [] path node
 begins path node tail push l = sym (itself (add (path ++ tail) push l node))
 
-nothing_below : (s : Step) (f : Tree → Option Tree) (t : Tree) → entries_below t ≡ None → add_below s f t ≡ None
+pub nothing_below : (s : Step) (f : Tree → Option Tree) (t : Tree) → entries_below t ≡ None → add_below s f t ≡ None
 nothing_below s f (leaf l) none = refl
 nothing_below s f (sequence xs) none = refl
 nothing_below s f (mapping es) none = cc

@@ -64,6 +64,15 @@ length-encoded form (b ∷ bs) =
       | inr plain ↦ omega (arith, length-append (spelling form b) (encoded form bs), ap length (spelling_plain form b plain), length-encoded form bs, cond-false {A = ℕ} (is_escaped form b) 1 0 plain)
     ]
 
+-- each byte takes at most three
+pub encoded_few : (form : Bool) (bs : List ℕ) → length (encoded form bs) ≤ 3 * length bs
+encoded_few form [] = omega arith
+encoded_few form (b ∷ bs) =
+    elim (cases_Bool (is_escaped form b)) [
+      | inl escaped ↦ omega (arith, length-append (spelling form b) (encoded form bs), ap length (spelling_escape form b escaped), encoded_few form bs)
+      | inr plain ↦ omega (arith, length-append (spelling form b) (encoded form bs), ap length (spelling_plain form b plain), encoded_few form bs)
+    ]
+
 pub all_bytes : (bs : List ℕ) → ((k : ℕ) → Fits w8 (get_or bs k 0)) → AllByRecursion (λ b. b < 256) bs
 all_bytes [] fits = tt
 all_bytes (b ∷ bs) fits = ((fits 0).fits, all_bytes bs (λ k. fits (suc k)))

@@ -12,9 +12,8 @@ use Rattle.qs_tree.specs.declared.scan.pair.Pair as code_pair
 use Rattle.qs_tree.specs.declared.scan.parser.Item as item
 use Rattle.qs_tree.specs.declared.scan.parser.ParseError as parse_error
 use Rattle.qs_tree.specs.declared.build.builder.TreeBuilder.{TreeBuilder}
-use Rattle.qs_tree.specs.declared.build.builder.TreeBuilder.TheVariants.{Empty}
-use Rattle.qs_tree.specs.internal.build.Builder.{IsNoMap, IsFlat}
-use Rattle.qs_tree.proofs.lemmas.Views.{built_tree-Empty}
+use Rattle.qs_tree.specs.internal.build.Builder.{IsNoMap, IsFlat, fresh}
+use Rattle.qs_tree.proofs.lemmas.Views.{built_tree-fresh}
 use Rattle.qs_tree.specs.escape.Classes.{is_ampersand}
 use Rattle.qs_tree.specs.internal.scan.Cursor.{kind_of_token, token_of, raw_from_token, from_token}
 use Rattle.qs_tree.specs.internal.scan.Parser.{is_nothing}
@@ -116,7 +115,7 @@ module _ (depth : ℕ) (form : Bool) where
             (h.empty, subst IsEqualsStop (sym h.is) (ap is_equals (h.kind ∙ k)), ap is_plain h.left ∙ parts.1)
 
 -- one item more of what is left of such an input
-pub small_start : (rest : List ℕ) (tree : TreeBuilder) → TakesNoMemory rest → tree ≡ Empty → StaysSmall rest tree
+pub small_start : (rest : List ℕ) (tree : TreeBuilder) → TakesNoMemory rest → tree ≡ fresh → StaysSmall rest tree
 small_start rest tree small fresh = inr (small, fresh)
 
 pub small_end : (rest : List ℕ) (tree : TreeBuilder) → rest ≡ [] → IsFlat tree → StaysSmall rest tree
@@ -128,7 +127,7 @@ small_read rest tree (inr h) = h.0
 
 pub small_flat : (rest : List ℕ) (tree : TreeBuilder) → StaysSmall rest tree → IsFlat tree
 small_flat rest tree (inl h) = h.1
-small_flat rest tree (inr h) = subst IsFlat (sym h.1) (subst IsNoMap (sym built_tree-Empty) tt)
+small_flat rest tree (inr h) = subst IsFlat (sym h.1) (subst IsNoMap (sym built_tree-fresh) tt)
 
 pub small_goes : (rest : List ℕ) (tree : TreeBuilder) (o : Result item.Item parse_error.ParseError) (new : cursor.Cursor) (p : code_pair.Pair) → StaysSmall rest tree → (TakesNoMemory rest → ParsesSmall o new p) → ParsesSmall o new p
 small_goes rest tree o new p h f = f (small_read rest tree h)
@@ -137,6 +136,6 @@ pub small_ampersand : (old new : List ℕ) (tree : TreeBuilder) → length new <
 small_ampersand old new tree shorter (inl h) amp = absurd (omega (arith, ap length h.0))
 small_ampersand old new tree shorter (inr h) amp = inr (ap (λ x. x || is_plain_value new) amp, h.1)
 
-pub small_fresh : (old new : List ℕ) (tree : TreeBuilder) → length new < length old → StaysSmall old tree → tree ≡ Empty
+pub small_fresh : (old new : List ℕ) (tree : TreeBuilder) → length new < length old → StaysSmall old tree → tree ≡ fresh
 small_fresh old new tree shorter (inl h) = absurd (omega (arith, ap length h.0))
 small_fresh old new tree shorter (inr h) = h.1

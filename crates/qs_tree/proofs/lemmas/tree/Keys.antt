@@ -83,8 +83,3 @@ slice_get-pairs_view (e ∷ xs) (suc k) = slice_get-pairs_view xs k
 
 pub pair_at : (r : Option Shown) (es : Held) (i : ℕ) → option_map deref r ≡ slice_get es i → option_map shown_seen r ≡ slice_get (pairs_view es) i
 pair_at r es i h = seen_twice r ∙ ap (option_map pair_seen) h ∙ sym (slice_get-pairs_view es i)
-
--- the key of this place is the first
-abbrev pub is_first : ℕ → Bool
-is_first zero = true
-is_first (suc n) = false

@@ -135,6 +135,9 @@ module _ {K : Type 0} (cmp : K → K → Ordering) where
   unfolding IsStrictlySortedBy
   sorted_cons k ks a s = (a, s)
 
+  pub sorted_one : (k : K) → IsStrictlySortedBy cmp (k ∷ [])
+  sorted_one k = sorted_cons k [] tt sorted_none
+
   all_upto : (P : K → Type 0) (ks : List K) (k : K) (ls : List K) → AllByRecursion P (ks ++ k ∷ ls) → AllByRecursion P (ks ++ k ∷ [])
   all_upto P [] k ls a = (a.0, tt)
   all_upto P (x ∷ ks) k ls a = (a.0, all_upto P ks k ls a.1)
@@ -197,23 +200,3 @@ halved s t some half = omega (arith, length-digits_of_step 2 s (omega arith) som
 pub keys-append : {K X : Type 0} (es fs : List (K × X)) → keys_of (es ++ fs) ≡ keys_of es ++ keys_of fs
 keys-append [] fs = refl
 keys-append (e ∷ es) fs = ap (λ l. e.0 ∷ l) (keys-append es fs)
-
--- what was put at a place
-module _ {K X : Type 0} where
-  pub insert_put : (es : List (K × X)) (i : ℕ) (k : K) (v w : X) → i < length es + 1 → put_value (insert es i (k, v)) i w ≡ insert es i (k, w)
-  insert_put [] zero k v w lt = refl
-  insert_put [] (suc i) k v w lt = absurd (omega arith)
-  insert_put (e ∷ es) zero k v w lt = refl
-  insert_put (e ∷ es) (suc i) k v w lt = ap (λ l. e ∷ l) (insert_put es i k v w (omega arith))
-
-  pub insert_get : (es : List (K × X)) (i : ℕ) (k : K) (v : X) → i < length es + 1 → slice_get (insert es i (k, v)) i ≡ Some (k, v)
-  insert_get [] zero k v lt = refl
-  insert_get [] (suc i) k v lt = absurd (omega arith)
-  insert_get (e ∷ es) zero k v lt = refl
-  insert_get (e ∷ es) (suc i) k v lt = insert_get es i k v (omega arith)
-
-  pub insert_length : (es : List (K × X)) (i : ℕ) (k : K) (v : X) → i < length es + 1 → i < length (insert es i (k, v))
-  insert_length [] zero k v lt = omega arith
-  insert_length [] (suc i) k v lt = absurd (omega arith)
-  insert_length (e ∷ es) zero k v lt = omega arith
-  insert_length (e ∷ es) (suc i) k v lt = omega (arith, insert_length es i k v (omega arith))

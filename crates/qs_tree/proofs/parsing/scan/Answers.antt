@@ -6,7 +6,7 @@ use Rattle.qs_tree.specs.internal.scan.Parser.{IsEnd, IsMore, ParsesItem}
 use Rattle.qs_tree.proofs.lemmas.Growing.{grown_same, grown_pair}
 use Rattle.qs_tree.specs.internal.Parsing.{grown}
 use Rattle.qs_tree.specs.internal.scan.Small.{ParsesSmall}
-use Rattle.qs_tree.proofs.lemmas.Views.{built_tree-Empty}
+use Rattle.qs_tree.proofs.lemmas.Views.{built_tree-fresh}
 use Rattle.qs_tree.proofs.lemmas.scan.SmallItems.{small_start, small_end, small_goes, small_ampersand, small_fresh}
 use Rattle.qs_tree.proofs.parsing.scan.Goals as goal
 
@@ -54,9 +54,9 @@ loop-item-preserved c =
 
 pub loop-item-init : goal.loop-item-init
 loop-item-init c = record {
-  grows = ap (grown c.args.max_depth (left c.args.cursor.now)) built_tree-Empty;
+  grows = ap (grown c.args.max_depth (left c.args.cursor.now)) (ap built_tree c.fresh-tree.ensures ∙ built_tree-fresh);
   fewer = omega arith;
   steps = refl;
   end = c.requires.end;
-  small = λ small. small_start _ _ small refl;
+  small = λ small. small_start _ _ small c.fresh-tree.ensures;
 }

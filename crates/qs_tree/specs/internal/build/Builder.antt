@@ -4,20 +4,22 @@ use Rattle.qs_spec.specs.Segment.{Segment}
 use Rattle.qs_spec.specs.Tree.{Tree, Entries}
 use Rattle.qs_spec.specs.Tree.Tree.{leaf, sequence, mapping, uninitialized}
 use Rattle.qs_tree.specs.declared.build.builder.TreeBuilder.{TreeBuilder, fold-TreeBuilder}
+use Rattle.qs_tree.specs.declared.build.builder.TreeBuilder.TheVariants.{Value}
 use Rattle.qs_tree.specs.declared.build.builder.MapBuilder.TheOpen.{TreeBuilder-F, MapBuilder-F}
 use Rattle.qs_tree.specs.declared.build.builder.MapBuilder.{MapBuilder, fold-MapBuilder}
 use Rattle.qs_tree.specs.declared.tree.key.Key.{Key}
-use Rattle.qs_tree.specs.tree.Views.{segment_of_key, step_of_key, items_of, entries_from, find}
-use Rattle.qs_tree.specs.internal.scan.Pairs.{leaf_tree}
+use Rattle.qs_tree.specs.declared.tree.value.ParsedValue.{ParsedValue}
+use Rattle.qs_tree.specs.declared.tree.value.ParsedValue.TheVariants.{Uninitialized}
+use Rattle.qs_tree.specs.tree.Views.{segment_of_key, step_of_key, tree_of, entries_from, find}
 use Rattle.qs_tree.specs.tree.Ordered.{AreOrdered}
 use Rattle.qs_spec.specs.internal.InPlace.{update}
+use Rattle.qs_tree.specs.internal.build.Unsorted.{unsorted_entries}
 
 -- one level of a node, with what is inside already seen as trees
 abbrev pub built_step : TreeBuilder-F Entries Tree → Tree
+built_step (TreeBuilder-F.Value v) = tree_of v
 built_step (TreeBuilder-F.Map m) = mapping m
-built_step (TreeBuilder-F.Sequence v) = sequence (items_of v.items)
-built_step (TreeBuilder-F.Leaf l) = leaf_tree l
-built_step TreeBuilder-F.Empty = uninitialized
+built_step (TreeBuilder-F.Unsorted u) = mapping (unsorted_entries u)
 
 abbrev pub built_map_step : MapBuilder-F Entries Tree → Entries
 built_map_step (MapBuilder-F.Vector es) = entries_from es
@@ -33,6 +35,18 @@ built_entries = fold-MapBuilder Entries Tree built_map_step built_step
 -- the entries of a vector or a search tree
 abbrev pub entries_seen : List (Key × TreeBuilder) → Entries
 entries_seen es = entries_from (map (λ p. (p.0, built_tree p.1)) es)
+
+-- the entries of a finished map
+abbrev pub entries_held : List (Key × ParsedValue) → Entries
+entries_held es = entries_from (map (λ p. (p.0, tree_of p.1)) es)
+
+-- a node without a pair
+abbrev pub fresh : TreeBuilder
+fresh = Value Uninitialized
+
+-- entries with finished nodes as entries under construction
+abbrev pub as_builders : List (Key × ParsedValue) → List (Key × TreeBuilder)
+as_builders es = map (λ p. (p.0, Value p.1)) es
 
 -- the node at a segment of a map, which may be missing
 abbrev pub child : Segment → Entries → Tree

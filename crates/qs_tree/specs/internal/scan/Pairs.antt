@@ -1,10 +1,11 @@
 -- From the types of a pair to those of the definitions.
-use Rattle.std.specs.Prelude.{◌≡◌, [], List, Bool, true, false, map}
+use Rattle.std.specs.Prelude.{◌≡◌, [], List, Bool, true, false, map, Option, Some, None}
 use Rattle.std.specs.declared.borrow.CowSlice.TheVariants.{Borrowed, Owned}
 use Rattle.qs_spec.specs.Segment.{Step}
 use Rattle.qs_spec.specs.Leaf.{Leaf, NoValue, Null, Text}
-use Rattle.qs_spec.specs.Tree.{Tree, leaf}
 use Rattle.qs_spec.specs.Grammar as grammar
+use Rattle.qs_spec.specs.Tree.{Tree}
+use Rattle.qs_spec.specs.Tree.Tree.{leaf, sequence, mapping, uninitialized}
 use Rattle.qs_tree.specs.declared.tree.key.Key.{Key}
 use Rattle.qs_tree.specs.declared.scan.pair.Leaf as code
 use Rattle.qs_tree.specs.declared.scan.pair.Leaf.TheVariants as variant
@@ -20,6 +21,13 @@ leaf_of variant.Null = Null
 leaf_of (variant.Text (Borrowed r)) = Text r.now false
 leaf_of (variant.Text (Owned v)) = Text v.items true
 
+-- the leaf that a node is
+abbrev pub leaf_in : Tree → Option Leaf
+leaf_in (leaf l) = Some l
+leaf_in (sequence xs) = None
+leaf_in (mapping es) = None
+leaf_in uninitialized = None
+
 abbrev pub is_push : Manner → Bool
 is_push Plain = false
 is_push Push = true
@@ -29,10 +37,6 @@ path_of keys = map step_of_key keys
 
 abbrev pub pair_of : Pair → grammar.Pair
 pair_of p = record { path = path_of p.path.items; push = is_push p.manner; leaf = leaf_of p.leaf }
-
--- a leaf as a tree
-abbrev pub leaf_tree : code.Leaf → Tree
-leaf_tree l = leaf (leaf_of l)
 
 -- a plain pair at the empty path
 abbrev pub IsBare : Pair → Type 0

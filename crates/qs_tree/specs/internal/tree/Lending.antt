@@ -1,10 +1,9 @@
 -- The entries after a mutable borrow of one value.
-use Rattle.std.specs.Prelude.{◌≡◌, ℕ, List, Result}
-use Rattle.std.specs.Borrow.{Lends, LendsSoOk, Fml, RattleType, MutBor}
+use Rattle.std.specs.Prelude.{ℕ, List}
+use Rattle.std.specs.Borrow.{Lends, Fml, RattleType, MutBor}
 use Rattle.std.specs.declared.cmp.Ord as ord
 use Rattle.std.specs.declared.cmp.PartialEq as eq
 use Rattle.std.specs.declared.cmp.PartialOrd as partial
-use Rattle.std.specs.BTreeMap.{insert_entry}
 use Rattle.qs_tree.specs.internal.tree.Places.{put_value}
 use Rattle.qs_tree.specs.contracts.tree.entries.Entries.{the_row}
 
@@ -12,7 +11,3 @@ module _ (K V : RattleType) (G : ord.Ghosts K.Denot) (G' : eq.Ghosts K.Denot) (G
   -- once the borrow r ends, the entry at an index has the last value after r
   abbrev pub LendsValue : ℕ → MutBor V.Denot → Fml
   LendsValue at r = Lends (the_row K V G G' G'') V s r (put_value s.now at)
-
-  -- once the borrow in r ends, the entries have the last value after it at a key
-  abbrev pub LendsChild : {E : Type 0} → K.Denot → Result (MutBor V.Denot) E → Fml
-  LendsChild k r = LendsSoOk (the_row K V G G' G'') V s r (λ n w. n ≡ insert_entry G.cmp s.now k w) (λ n. Unit {0})

@@ -1,43 +1,56 @@
 //! The bytes that percent-encoding changes.
 
 ghost use Rattle.std.specs.Prelude.{◌≡◌, ◌+◌, ◌≤◌, length, true, false};
+ghost use Rattle.qs_tree.specs.internal.escape.Copying.{swapped};
 ghost use Rattle.qs_tree.specs.internal.escape.Search.{class_mask, is_escaped};
 ghost use Rattle.qs_tree.specs.escape.Classes.{is_encoded};
 
 use super::class::{Class, LANES};
 use super::marks::Byte;
-use percent_encoding::{AsciiSet, CONTROLS, NON_ALPHANUMERIC, ascii_set};
 use std::simd::prelude::*;
 
-/// The bytes that form encoding escapes: the application/x-www-form-urlencoded percent-encode set of the URL Standard, section 1.3.
-const FORM: AsciiSet = ascii_set!(
-    NON_ALPHANUMERIC
-        .remove(b'*')
-        .remove(b'-')
-        .remove(b'.')
-        .remove(b'_')
-);
+// What form encoding writes for each byte; `%` for those that it escapes, which are those of the application/x-www-form-urlencoded
+// percent-encode set of the URL Standard, section 1.3.
+static FORM: [u8; 256] = *b"\
+    %%%%%%%%%%%%%%%%%%%%%%%%%%%%%%%%\
+    %%%%%%%%%%*%%-.%0123456789%%%%%%\
+    %ABCDEFGHIJKLMNOPQRSTUVWXYZ%%%%_\
+    %abcdefghijklmnopqrstuvwxyz%%%%%\
+    %%%%%%%%%%%%%%%%%%%%%%%%%%%%%%%%\
+    %%%%%%%%%%%%%%%%%%%%%%%%%%%%%%%%\
+    %%%%%%%%%%%%%%%%%%%%%%%%%%%%%%%%\
+    %%%%%%%%%%%%%%%%%%%%%%%%%%%%%%%%";
 
-/// The bytes that query encoding escapes: the query percent-encode set of the URL Standard, section 1.3, without the space, and the
-/// delimiters of a querystring.
-const QUERY: AsciiSet = ascii_set!(
-    CONTROLS
-        .add(b'"')
-        .add(b'#')
-        .add(b'<')
-        .add(b'>')
-        .add(b'%')
-        .add(b'+')
-        .add(b'[')
-        .add(b']')
-        .add(b'=')
-        .add(b'&')
-);
+// The same of query encoding: the query percent-encode set of that section without the space, and the delimiters of a querystring.
+static QUERY: [u8; 256] = *b"\
+    %%%%%%%%%%%%%%%%%%%%%%%%%%%%%%%%\
+    +!%%$%%'()*%,-./0123456789:;%%%?\
+    @ABCDEFGHIJKLMNOPQRSTUVWXYZ%\\%^_\
+    `abcdefghijklmnopqrstuvwxyz{|}~%\
+    %%%%%%%%%%%%%%%%%%%%%%%%%%%%%%%%\
+    %%%%%%%%%%%%%%%%%%%%%%%%%%%%%%%%\
+    %%%%%%%%%%%%%%%%%%%%%%%%%%%%%%%%\
+    %%%%%%%%%%%%%%%%%%%%%%%%%%%%%%%%";
 
 /// The bytes that form encoding (`form`) or query encoding escapes.
 #[derive(Clone, Copy)]
 pub(crate) struct Escaped {
     pub(crate) form: bool,
+}
+
+impl Escaped {
+    /// What a byte is written as that isn't escaped.
+    #[inline(always)]
+    pub(crate) fn plain(self, byte: u8) -> u8
+        requires { is_escaped self.form byte ≡ false }
+        ensures { result ≡ swapped 32 43 byte }
+    {
+        if self.form {
+            FORM[byte as usize]
+        } else {
+            QUERY[byte as usize]
+        }
+    }
 }
 
 impl Class for Escaped {
@@ -55,9 +68,9 @@ impl Class for Escaped {
     #[inline(always)]
     fn has(self, byte: u8) -> bool {
         if self.form {
-            FORM.should_percent_encode(byte)
+            FORM[byte as usize] == b'%'
         } else {
-            QUERY.should_percent_encode(byte)
+            QUERY[byte as usize] == b'%'
         }
     }
 }

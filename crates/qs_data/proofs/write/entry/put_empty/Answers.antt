@@ -1,6 +1,5 @@
-use Rattle.std.proofs.Common.{◌≡◌, ◌∙◌, sym, refl, length, [], Some, arith, vec_len}
+use Rattle.std.proofs.Common.{◌≡◌, ◌∙◌, refl, length, [], Some, arith}
 use Rattle.std.proofs.Math.Bool.{or-false, or-true}
-use Rattle.std.proofs.lemmas.Bool.{eqb-true}
 use Rattle.qs_spec.specs.Entry.{one}
 use Rattle.qs_data.proofs.lemmas.write.Wrote.{writes_exit}
 use Rattle.qs_data.proofs.lemmas.write.Visible.{equals_visible}
@@ -10,8 +9,7 @@ use Rattle.qs_data.proofs.write.entry.put_empty.Goals as goal
 pub returns-in_err-put_all-clause-writes : goal.returns-in_err-put_all-clause-writes
 returns-in_err-put_all-clause-writes g c =
     let config = c.args.config in
-    let text = c.args.walk.now.text in
-    let empty : length text.items ≡ 0 = omega (arith, text.ok.0, eqb-true (vec_len text) 0 (sym c.is_empty.ensures ∙ c.if-not-is_empty.false)) in
+    let empty : length c.args.walk.now.text ≡ 0 = omega (arith, c.len.ensures.value, c.if-len-ne0.false) in
     let part = c.in_err-put_all.ensures.part in
     writes_exit _ c.in_err-put_all.field-0.0 config _ _ c.args.walk.now _ (λ path. one path (Some [])) c.from_residual.ensures.1
     (λ path at. io_stops config _ _ _ _ part.0
@@ -21,8 +19,7 @@ returns-in_err-put_all-clause-writes g c =
 pub returns-clause-writes : goal.returns-clause-writes
 returns-clause-writes g c = λ path at.
     let config = c.args.config in
-    let text = c.args.walk.now.text in
-    let empty : length text.items ≡ 0 = omega (arith, text.ok.0, eqb-true (vec_len text) 0 (sym c.is_empty.ensures ∙ c.if-not-is_empty.false)) in
+    let empty : length c.args.walk.now.text ≡ 0 = omega (arith, c.len.ensures.value, c.if-len-ne0.false) in
     let top = at_top config.form path c.args.walk.now at empty in (
       refl,
       adds_one config.form _ _ path (Some []) _ (entry_empty config.form _ path top)

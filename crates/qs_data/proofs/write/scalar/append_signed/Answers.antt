@@ -1,8 +1,9 @@
-use Rattle.std.proofs.Common.{◌≡◌, ◌∙◌, ◌<◌, ◌+◌, ◌^◌, sym, arith, rules}
+use Rattle.std.proofs.Common.{◌≡◌, ◌∙◌, ◌<◌, ◌+◌, ◌^◌, List, ℕ, ◌++◌, sym, subst, arith, rules}
 use Rattle.std.specs.Fmt.{signed_decimal}
 use Rattle.std.specs.Int.Signed.{mag}
 use Rattle.std.proofs.lemmas.Int.{ints}
-use Rattle.qs_data.proofs.lemmas.write.Visible.{signed_plain, extended}
+use Rattle.std.specs.Prelude.{OnOk}
+use Rattle.qs_data.proofs.lemmas.write.Visible.{signed_plain}
 use Rattle.qs_data.proofs.write.scalar.append_signed.Goals as goal
 
 pub returns-clause-ok : goal.returns-clause-ok
@@ -10,7 +11,8 @@ returns-clause-ok c = λ form.
     let n = c.args.n in
     let small : mag n + 1 < 2 ^ 64 = omega (arith, ints) in
     let digits : c.as_bytes.result.now ≡ signed_decimal n = search rules in
-    extended _ _ c.args.out.now.items _ _ c.extend_from_slice.ensures.items (digits ∙ sym (signed_plain form n small).0)
+    let P : List ℕ → Type 0 = λ t. OnOk c.append.result (c.append.new.self ≡ c.args.out.now ++ t) in
+    subst P (digits ∙ sym (signed_plain form n small).0) c.append.ensures.ok
 
 pub returns-clause-visible : goal.returns-clause-visible
 returns-clause-visible c = λ form.

@@ -1,6 +1,7 @@
-use Rattle.std.proofs.Common.{◌≡◌, ◌∙◌, ◌<◌, ◌^◌, sym, arith, rules}
+use Rattle.std.proofs.Common.{◌≡◌, ◌∙◌, ◌<◌, ◌^◌, List, ℕ, ◌++◌, sym, subst, arith, rules}
 use Rattle.std.specs.Fmt.{decimal}
-use Rattle.qs_data.proofs.lemmas.write.Visible.{unsigned_plain, extended}
+use Rattle.std.specs.Prelude.{OnOk}
+use Rattle.qs_data.proofs.lemmas.write.Visible.{unsigned_plain}
 use Rattle.qs_data.proofs.write.scalar.append_unsigned.Goals as goal
 
 pub returns-clause-ok : goal.returns-clause-ok
@@ -8,7 +9,8 @@ returns-clause-ok c = λ form.
     let n = c.args.n in
     let small : n < 2 ^ 64 = omega arith in
     let digits : c.as_bytes.result.now ≡ decimal n = search rules in
-    extended _ _ c.args.out.now.items _ _ c.extend_from_slice.ensures.items (digits ∙ sym (unsigned_plain form n small).0)
+    let P : List ℕ → Type 0 = λ t. OnOk c.append.result (c.append.new.self ≡ c.args.out.now ++ t) in
+    subst P (digits ∙ sym (unsigned_plain form n small).0) c.append.ensures.ok
 
 pub returns-clause-visible : goal.returns-clause-visible
 returns-clause-visible c = λ form.

@@ -41,17 +41,17 @@ write_under-returns g t c =
     let view = state_in g.S.Sink.taken g.S.Sink.failed g.S.Sink.writer_name in
     let config = c.args.config in
     record {
-      writes = writes_under config (scalar_text c.args.segment) (entries_at config.max_depth config.array_format (data_of c.args.part.now)) (view c.args.stream.now) (view c.write_data.new.stream) c.args.walk.now c.enter.new.self c.in_ok-enter.ensures.ok
-          c.write_data.new.walk c.leave.new.self c.len-len.result c.in_ok-write_data.ensures.writes c.leave.ensures c.len-len.ensures;
+      writes = writes_under config (scalar_text c.args.segment) (entries_at config.max_depth config.array_format (data_of c.args.part.now)) (view c.args.stream.now) (view c.write_data.new.stream) c.args.walk.now c.enter.new.self c.in_ok-len.ensures.ok
+          c.write_data.new.walk c.leave.new.self c.in_ok-len.len c.in_ok-write_data.ensures.writes c.leave.ensures c.in_ok-len.ensures.len;
     }
 
-pub write_under-returns-in_err-enter : goal.write_under-returns-in_err-enter
-write_under-returns-in_err-enter g t c =
+pub write_under-returns-in_err-len : goal.write_under-returns-in_err-len
+write_under-returns-in_err-len g t c =
     let view = state_in g.S.Sink.taken g.S.Sink.failed g.S.Sink.writer_name in
     let config = c.args.config in
     record {
-      writes = writes_exit _ c.in_err-enter.field-0.0 config _ _ c.args.walk.now c.enter.new.self (λ p. deeper config.max_depth p (scalar_text c.args.segment) (entries_at config.max_depth config.array_format (data_of c.args.part.now))) c.from_residual.ensures.1
-          (λ p at. stops_entering c.in_err-enter.field-0.0 config (view c.args.stream.now) p (scalar_text c.args.segment) (entries_at config.max_depth config.array_format (data_of c.args.part.now)) (c.in_err-enter.ensures.err p at));
+      writes = writes_exit _ c.in_err-len.field-0.0 config _ _ c.args.walk.now c.enter.new.self (λ p. deeper config.max_depth p (scalar_text c.args.segment) (entries_at config.max_depth config.array_format (data_of c.args.part.now))) c.from_residual.ensures.1
+          (λ p at. stops_entering c.in_err-len.field-0.0 config (view c.args.stream.now) p (scalar_text c.args.segment) (entries_at config.max_depth config.array_format (data_of c.args.part.now)) (c.in_err-len.ensures.err p at));
     }
 
 pub write_under-returns-in_err-write_data : goal.write_under-returns-in_err-write_data
@@ -61,7 +61,7 @@ write_under-returns-in_err-write_data g t c =
     let e = c.in_err-write_data.field-0.0 in
     record {
       writes = writes_exit _ e config _ _ c.args.walk.now c.write_data.new.walk (λ p. deeper config.max_depth p (scalar_text c.args.segment) (entries_at config.max_depth config.array_format (data_of c.args.part.now))) c.from_residual-in_err-write_data.ensures.1
-          (stops_under config (scalar_text c.args.segment) (entries_at config.max_depth config.array_format (data_of c.args.part.now)) (view c.args.stream.now) (view c.write_data.new.stream) c.args.walk.now c.enter.new.self c.in_ok-enter.ensures.ok e c.in_err-write_data.ensures.writes);
+          (stops_under config (scalar_text c.args.segment) (entries_at config.max_depth config.array_format (data_of c.args.part.now)) (view c.args.stream.now) (view c.write_data.new.stream) c.args.walk.now c.enter.new.self c.in_ok-len.ensures.ok e c.in_err-write_data.ensures.writes);
     }
 
 pub write_tuple_variant-returns : goal.write_tuple_variant-returns
@@ -69,17 +69,17 @@ write_tuple_variant-returns g t c =
     let view = state_in g.S.Sink.taken g.S.Sink.failed g.S.Sink.writer_name in
     let config = c.args.config in
     record {
-      writes = writes_under config c.args.name.now (elements_from config.max_depth config.array_format 0 (values_in c.args.items.now.items)) (view c.args.stream.now) (view c.write_elements.new.stream) c.args.walk.now c.enter.new.self c.in_ok-enter.ensures.ok
-          c.write_elements.new.walk c.leave.new.self c.len-len.result c.in_ok-write_elements.ensures.writes c.leave.ensures c.len-len.ensures;
+      writes = writes_under config c.args.name.now (elements_from config.max_depth config.array_format 0 (values_in c.args.items.now.items)) (view c.args.stream.now) (view c.write_elements.new.stream) c.args.walk.now c.enter.new.self c.in_ok-len.ensures.ok
+          c.write_elements.new.walk c.leave.new.self c.in_ok-len.len c.in_ok-write_elements.ensures.writes c.leave.ensures c.in_ok-len.ensures.len;
     }
 
-pub write_tuple_variant-returns-in_err-enter : goal.write_tuple_variant-returns-in_err-enter
-write_tuple_variant-returns-in_err-enter g t c =
+pub write_tuple_variant-returns-in_err-len : goal.write_tuple_variant-returns-in_err-len
+write_tuple_variant-returns-in_err-len g t c =
     let view = state_in g.S.Sink.taken g.S.Sink.failed g.S.Sink.writer_name in
     let config = c.args.config in
     record {
-      writes = writes_exit _ c.in_err-enter.field-0.0 config _ _ c.args.walk.now c.enter.new.self (λ p. deeper config.max_depth p c.args.name.now (elements_from config.max_depth config.array_format 0 (values_in c.args.items.now.items))) c.from_residual.ensures.1
-          (λ p at. stops_entering c.in_err-enter.field-0.0 config (view c.args.stream.now) p c.args.name.now (elements_from config.max_depth config.array_format 0 (values_in c.args.items.now.items)) (c.in_err-enter.ensures.err p at));
+      writes = writes_exit _ c.in_err-len.field-0.0 config _ _ c.args.walk.now c.enter.new.self (λ p. deeper config.max_depth p c.args.name.now (elements_from config.max_depth config.array_format 0 (values_in c.args.items.now.items))) c.from_residual.ensures.1
+          (λ p at. stops_entering c.in_err-len.field-0.0 config (view c.args.stream.now) p c.args.name.now (elements_from config.max_depth config.array_format 0 (values_in c.args.items.now.items)) (c.in_err-len.ensures.err p at));
     }
 
 pub write_tuple_variant-returns-in_err-write_elements : goal.write_tuple_variant-returns-in_err-write_elements
@@ -89,7 +89,7 @@ write_tuple_variant-returns-in_err-write_elements g t c =
     let e = c.in_err-write_elements.field-0.0 in
     record {
       writes = writes_exit _ e config _ _ c.args.walk.now c.write_elements.new.walk (λ p. deeper config.max_depth p c.args.name.now (elements_from config.max_depth config.array_format 0 (values_in c.args.items.now.items))) c.from_residual-in_err-write_elements.ensures.1
-          (stops_under config c.args.name.now (elements_from config.max_depth config.array_format 0 (values_in c.args.items.now.items)) (view c.args.stream.now) (view c.write_elements.new.stream) c.args.walk.now c.enter.new.self c.in_ok-enter.ensures.ok e c.in_err-write_elements.ensures.writes);
+          (stops_under config c.args.name.now (elements_from config.max_depth config.array_format 0 (values_in c.args.items.now.items)) (view c.args.stream.now) (view c.write_elements.new.stream) c.args.walk.now c.enter.new.self c.in_ok-len.ensures.ok e c.in_err-write_elements.ensures.writes);
     }
 
 pub write_struct_variant-returns : goal.write_struct_variant-returns
@@ -97,17 +97,17 @@ write_struct_variant-returns g t c =
     let view = state_in g.S.Sink.taken g.S.Sink.failed g.S.Sink.writer_name in
     let config = c.args.config in
     record {
-      writes = writes_under config c.args.name.now (member_entries config.max_depth config.array_format (members_in c.args.members.now.items)) (view c.args.stream.now) (view c.write_members.new.stream) c.args.walk.now c.enter.new.self c.in_ok-enter.ensures.ok
-          c.write_members.new.walk c.leave.new.self c.len-len.result c.in_ok-write_members.ensures.writes c.leave.ensures c.len-len.ensures;
+      writes = writes_under config c.args.name.now (member_entries config.max_depth config.array_format (members_in c.args.members.now.items)) (view c.args.stream.now) (view c.write_members.new.stream) c.args.walk.now c.enter.new.self c.in_ok-len.ensures.ok
+          c.write_members.new.walk c.leave.new.self c.in_ok-len.len c.in_ok-write_members.ensures.writes c.leave.ensures c.in_ok-len.ensures.len;
     }
 
-pub write_struct_variant-returns-in_err-enter : goal.write_struct_variant-returns-in_err-enter
-write_struct_variant-returns-in_err-enter g t c =
+pub write_struct_variant-returns-in_err-len : goal.write_struct_variant-returns-in_err-len
+write_struct_variant-returns-in_err-len g t c =
     let view = state_in g.S.Sink.taken g.S.Sink.failed g.S.Sink.writer_name in
     let config = c.args.config in
     record {
-      writes = writes_exit _ c.in_err-enter.field-0.0 config _ _ c.args.walk.now c.enter.new.self (λ p. deeper config.max_depth p c.args.name.now (member_entries config.max_depth config.array_format (members_in c.args.members.now.items))) c.from_residual.ensures.1
-          (λ p at. stops_entering c.in_err-enter.field-0.0 config (view c.args.stream.now) p c.args.name.now (member_entries config.max_depth config.array_format (members_in c.args.members.now.items)) (c.in_err-enter.ensures.err p at));
+      writes = writes_exit _ c.in_err-len.field-0.0 config _ _ c.args.walk.now c.enter.new.self (λ p. deeper config.max_depth p c.args.name.now (member_entries config.max_depth config.array_format (members_in c.args.members.now.items))) c.from_residual.ensures.1
+          (λ p at. stops_entering c.in_err-len.field-0.0 config (view c.args.stream.now) p c.args.name.now (member_entries config.max_depth config.array_format (members_in c.args.members.now.items)) (c.in_err-len.ensures.err p at));
     }
 
 pub write_struct_variant-returns-in_err-write_members : goal.write_struct_variant-returns-in_err-write_members
@@ -117,7 +117,7 @@ write_struct_variant-returns-in_err-write_members g t c =
     let e = c.in_err-write_members.field-0.0 in
     record {
       writes = writes_exit _ e config _ _ c.args.walk.now c.write_members.new.walk (λ p. deeper config.max_depth p c.args.name.now (member_entries config.max_depth config.array_format (members_in c.args.members.now.items))) c.from_residual-in_err-write_members.ensures.1
-          (stops_under config c.args.name.now (member_entries config.max_depth config.array_format (members_in c.args.members.now.items)) (view c.args.stream.now) (view c.write_members.new.stream) c.args.walk.now c.enter.new.self c.in_ok-enter.ensures.ok e c.in_err-write_members.ensures.writes);
+          (stops_under config c.args.name.now (member_entries config.max_depth config.array_format (members_in c.args.members.now.items)) (view c.args.stream.now) (view c.write_members.new.stream) c.args.walk.now c.enter.new.self c.in_ok-len.ensures.ok e c.in_err-write_members.ensures.writes);
     }
 
 pub write_elements-returns : goal.write_elements-returns

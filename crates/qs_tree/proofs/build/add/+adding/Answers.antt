@@ -1,33 +1,47 @@
-use Rattle.std.proofs.Math.ListN.{drop_of_length-le}
-use Rattle.std.proofs.Common.{drop, [], arith, ◌+◌, ◌≡◌, ap, sym, ◌∙◌, unwrap_or, rules, refl, Global}
+use Rattle.std.proofs.Common.{drop, ◌+◌, ◌≡◌, ap, sym, ◌∙◌, unwrap_or, rules, refl, Global}
 use Rattle.std.specs.declared.collections.BTreeMap.{BTreeMap}
 use Rattle.qs_spec.specs.internal.InPlace.{add}
 use Rattle.qs_tree.specs.declared.tree.key.Key.{Key}
-use Rattle.qs_tree.specs.declared.build.builder.TreeBuilder.{TreeBuilder, Empty}
+use Rattle.qs_tree.specs.declared.build.builder.TreeBuilder.{TreeBuilder}
 use Rattle.qs_tree.specs.internal.scan.Pairs.{is_push, leaf_of, path_of}
-use Rattle.qs_tree.specs.internal.build.Builder.{built_entries, entries_seen}
+use Rattle.qs_tree.specs.internal.build.Builder.{built_tree, built_entries, entries_seen, fresh}
 use Rattle.qs_tree.specs.tree.Views.{step_of_key}
-use Rattle.qs_tree.proofs.lemmas.Views.{built_tree-Map}
+use Rattle.qs_tree.proofs.lemmas.Views.{built_tree-Map, built_tree-fresh}
+use Rattle.std.proofs.Common.{Ok, Err}
+use Rattle.std.proofs.lemmas.Option.{same_Some}
+use Rattle.qs_tree.specs.tree.Keys.{key_cmp}
+use Rattle.qs_tree.proofs.lemmas.tree.Places.{hit_value, hit_insert, gap_lookup}
 use Rattle.qs_tree.proofs.lemmas.build.Turns.{gives_err, below_map}
-use Rattle.qs_tree.proofs.lemmas.build.Built.{built_entries-Vector, at_key, leaf_put, not_push}
+use Rattle.qs_tree.proofs.lemmas.build.Built.{built_entries-Vector, at_key}
 use Rattle.qs_tree.proofs.build.add.+adding.Goals as goal
 
-pub add_in_vector-returns-then-is_plain : goal.add_in_vector-returns-then-is_plain
-add_in_vector-returns-then-is_plain t c =
-    let keys = c.args.pair.now.path.items in
-    let end : drop c.args.level keys ≡ [] = drop_of_length-le keys (omega (arith, c.if-level-len.true, c.len.ensures)) in
-    let plain = not_push (is_push c.args.pair.now.manner) (sym c.is_plain.ensures ∙ c.if-is_plain.true) in
-    rw (c.in_ok-insert_at.ensures.ok, c.take.ensures)
-    (leaf_put c.args.key c.args.entries.now c.requires.sorted c.in-Err.at (rw c.in-Err.is at c.requires.place) (path_of (drop c.args.level keys)) (is_push c.args.pair.now.manner) c.args.pair.now.leaf (ap path_of end) plain)
-
-pub add_in_vector-returns : goal.add_in_vector-returns
-add_in_vector-returns t c =
+pub add_in_vector-returns-in-Ok : goal.add_in_vector-returns-in-Ok
+add_in_vector-returns-in-Ok t c =
+    let pair = c.args.pair.now in
     let es = c.args.entries.now in
-    let path = path_of (drop c.args.level c.args.pair.now.path.items) in
-    let push = is_push c.args.pair.now.manner in
     let new = c.add_along.new.node in
-    at_key c.args.key es c.requires.sorted c.in_ok-child.child.now c.in_ok-child.ensures.value _ _ refl (add path push (leaf_of c.args.pair.now.leaf)) new
-    (ap entries_seen (sym (c.child.follows.holds new (search rules)))) c.add_along.result c.add_along.ensures.added
+    let hit = rw c.in-Ok.is at c.requires.place in
+    at_key built_tree fresh built_tree-fresh c.args.key es c.requires.sorted c.at_mut.result.now (same_Some _ _ (sym c.at_mut.ensures.value ∙ hit_value key_cmp c.args.key es c.in-Ok.at fresh hit)) _ _ refl
+    (add (path_of (drop c.args.level pair.path.items)) (is_push pair.manner) (leaf_of pair.leaf)) new (ap entries_seen (hit_insert key_cmp c.args.key es c.in-Ok.at new hit)) c.add_along.result c.add_along.ensures.added
+
+pub add_in_vector-returns-in_err-add_along-in-Err : goal.add_in_vector-returns-in_err-add_along-in-Err
+add_in_vector-returns-in_err-add_along-in-Err t c =
+    let pair = c.args.pair.now in
+    let es = c.args.entries.now in
+    let gap = rw c.in-Err.is at c.requires.place in
+    let error = c.in_err-add_along-in-Err.field-0.0 in
+    gives_err _ _ c.from_residual.result error _ c.from_residual.ensures.1 (λ y p. p)
+    (at_key built_tree fresh built_tree-fresh c.args.key es c.requires.sorted fresh (sym (ap (λ o. unwrap_or o fresh) (gap_lookup key_cmp c.args.key es c.in-Err.at gap))) {A = Unit {0}} _ _ refl
+    (add (path_of (drop c.args.level pair.path.items)) (is_push pair.manner) (leaf_of pair.leaf)) fresh refl (Err error) (rw c.fresh-node.ensures at c.in_err-add_along-in-Err.ensures.added))
+
+pub add_in_vector-returns-in_ok-insert_at-in-Err : goal.add_in_vector-returns-in_ok-insert_at-in-Err
+add_in_vector-returns-in_ok-insert_at-in-Err t c =
+    let pair = c.args.pair.now in
+    let es = c.args.entries.now in
+    let gap = rw c.in-Err.is at c.requires.place in
+    rw c.in_ok-insert_at-in-Err.ensures.ok
+    (at_key built_tree fresh built_tree-fresh c.args.key es c.requires.sorted fresh (sym (ap (λ o. unwrap_or o fresh) (gap_lookup key_cmp c.args.key es c.in-Err.at gap))) _ _ refl
+    (add (path_of (drop c.args.level pair.path.items)) (is_push pair.manner) (leaf_of pair.leaf)) c.add_along-in-Err.new.node refl (Ok (tt {0})) (rw c.fresh-node.ensures at c.in_ok-add_along-in-Err.ensures.added))
 
 pub add_below-returns-in_err-add_in_tree-in-Vector : goal.add_below-returns-in_err-add_in_tree-in-Vector
 add_below-returns-in_err-add_in_tree-in-Vector t c =
@@ -42,9 +56,9 @@ add_in_tree-returns t c =
     let path = path_of (drop c.args.level c.args.pair.now.path.items) in
     let push = is_push c.args.pair.now.manner in
     let new = c.add_along.new.node in
-    let lent = c.or_insert-child.ensures.value ∙ ap (λ o. unwrap_or o Empty) c.in_ok-tree.ensures.value in
+    let lent = (rw c.fresh.ensures at c.or_insert-child.ensures.value) ∙ ap (λ o. unwrap_or o fresh) c.in_ok-tree.ensures.value in
     let written = c.tree-3-1.given.1 (sym c.in_ok-tree.ensures.same_map) in
-    at_key c.args.key es c.in_ok-tree.ensures.ordered c.or_insert-child.result.now lent _ _ refl (add path push (leaf_of c.args.pair.now.leaf)) new
+    at_key built_tree fresh built_tree-fresh c.args.key es c.in_ok-tree.ensures.ordered c.or_insert-child.result.now lent _ _ refl (add path push (leaf_of c.args.pair.now.leaf)) new
     (ap entries_seen (sym (ap (λ (m : BTreeMap Key TreeBuilder Global). m.entries) written ∙ c.in_ok-tree.ensures.update.1 new))) c.add_along.result c.add_along.ensures.added
 
 pub add_along-returns-in-Map-clause-added : goal.add_along-returns-in-Map-clause-added

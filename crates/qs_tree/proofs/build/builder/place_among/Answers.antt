@@ -6,7 +6,7 @@ use Rattle.qs_tree.proofs.lemmas.tree.Places.{key_at, before_middle, hit}
 use Rattle.qs_tree.proofs.build.builder.place_among.Goals as goal
 
 pub returns-in-Greater : goal.returns-in-Greater
-returns-in-Greater c =
+returns-in-Greater g c =
     let key = c.args.key.now in
     let es = c.args.entries.now in
     let last = length es - 1 in
@@ -19,7 +19,7 @@ returns-in-Greater c =
     }
 
 pub returns-in-Equal : goal.returns-in-Equal
-returns-in-Equal c =
+returns-in-Equal g c =
     let key = c.args.key.now in
     let es = c.args.entries.now in
     let last = length es - 1 in

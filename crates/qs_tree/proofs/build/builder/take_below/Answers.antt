@@ -3,7 +3,7 @@ use Rattle.qs_tree.specs.tree.Views.{segment_of_key, find}
 use Rattle.qs_tree.specs.internal.build.Builder.{built_tree, entries_seen}
 use Rattle.qs_tree.proofs.lemmas.tree.Keys.{seen-lookup}
 use Rattle.qs_tree.proofs.lemmas.tree.Ordered.{ordered_seen}
-use Rattle.qs_tree.proofs.lemmas.Views.{built_tree-Empty}
+use Rattle.qs_tree.proofs.lemmas.Views.{built_tree-fresh}
 use Rattle.qs_tree.proofs.lemmas.build.Built.{put_again}
 use Rattle.qs_tree.proofs.build.builder.take_below.Goals as goal
 
@@ -25,4 +25,4 @@ returns-in-None c =
     let missing : None ≡ find (segment_of_key c.args.key.now) (entries_seen es) =
     ap (option_map built_tree) c.in-None.ensures.value ∙ seen-lookup built_tree c.args.key.now es in
     let kept = c.get_mut.follows.holds-at-none in
-    record { node = rw (built_tree-Empty, ← missing); rest = λ u. search rules; ordered = ordered_seen built_tree es c.in-None.ensures.ordered }
+    record { node = rw (c.fresh-in-None.ensures, built_tree-fresh, ← missing); rest = λ u. search rules; ordered = ordered_seen built_tree es c.in-None.ensures.ordered }

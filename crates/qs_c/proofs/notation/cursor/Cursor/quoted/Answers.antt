@@ -3,7 +3,7 @@ use Rattle.std.specs.List.{prefix_len}
 use Rattle.qs_spec.specs.Escape.{decoded}
 use Rattle.qs_c.specs.Found.{found}
 use Rattle.qs_c.specs.Notation.{is_no_quote, name_of, quoted, wanted}
-use Rattle.qs_c.specs.Parses.{Parses}
+use Rattle.qs_c.specs.internal.Parses.{Parses}
 use Rattle.qs_c.proofs.Found.{then-found}
 use Rattle.qs_c.proofs.notation.cursor.Cursor.quoted.Goals as goal
 

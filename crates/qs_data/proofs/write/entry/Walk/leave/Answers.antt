@@ -8,8 +8,8 @@ use Rattle.qs_data.proofs.write.entry.Walk.leave.Goals as goal
 
 pub returns : goal.returns
 returns c = λ form path s at len.
-    let items = c.args.self.now.text.items in
-    let cut = c.truncate.ensures.items in
+    let items = c.args.self.now.text in
+    let cut = c.truncate.ensures in
     record {
       depth = omega (arith, at.depth, length-append path (s ∷ []));
       text = cut ∙ ap (take c.args.len) at.text ∙ ap (λ n. take n (path_after form (path ++ s ∷ []))) len ∙ path_left form path s;

@@ -1,12 +1,10 @@
 use Rattle.std.proofs.Common.{◌∙◌, ap, sym, arith}
 use Rattle.qs_tree.specs.internal.escape.Search.{is_escaped}
-use Rattle.qs_tree.proofs.lemmas.escape.EncodedSets.{in_form, in_query}
+use Rattle.qs_tree.proofs.lemmas.escape.Tables.{form_marks, query_marks}
 use Rattle.qs_tree.proofs.escape.search.encoded.EscapedClass.has.Goals as goal
 
 pub returns-then-self : goal.returns-then-self
-returns-then-self c =
-    c.should_percent_encode.ensures ∙ in_form c.args.byte (omega (arith, c.ranges.byte)) ∙ ap (λ form. is_escaped form c.args.byte) (sym c.if-self.true)
+returns-then-self c = form_marks c.args.byte (omega (arith, c.ranges.byte)) ∙ ap (λ form. is_escaped form c.args.byte) (sym c.if-self.true)
 
 pub returns-else-self : goal.returns-else-self
-returns-else-self c =
-    c.should_percent_encode-else-self.ensures ∙ in_query c.args.byte (omega (arith, c.ranges.byte)) ∙ ap (λ form. is_escaped form c.args.byte) (sym c.if-self.false)
+returns-else-self c = query_marks c.args.byte (omega (arith, c.ranges.byte)) ∙ ap (λ form. is_escaped form c.args.byte) (sym c.if-self.false)

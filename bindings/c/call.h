@@ -1,0 +1,63 @@
+/* A line of a table of calls: a call, its settings, a shape and a text, with tabs between them. The settings are `query` or `form`, and
+ * words after a blank: `depth=N`, `empty` or `unindexed`, `reject`. */
+#include <serde_qs.h>
+#include <stdlib.h>
+#include <string.h>
+
+/* The next field of the line, which ends at a sign. */
+static char *field(char **line, char sign) {
+    char *begin = *line, *end = strchr(begin, sign);
+    if (end == NULL)
+        end = strchr(begin, '\0');
+    *line = *end == '\0' ? end : end + 1;
+    *end = '\0';
+    return begin;
+}
+
+static qs_settings settings_of(char *words) {
+    qs_settings settings = qs_default;
+    while (*words != '\0') {
+        const char *word = field(&words, ' ');
+        if (strcmp(word, "form") == 0)
+            settings.form = true;
+        else if (strcmp(word, "empty") == 0)
+            settings.array_format = QS_EMPTY_INDEXED;
+        else if (strcmp(word, "unindexed") == 0)
+            settings.array_format = QS_UNINDEXED;
+        else if (strcmp(word, "reject") == 0)
+            settings.reject_duplicates = true;
+        else if (strncmp(word, "depth=", 6) == 0)
+            settings.max_depth = strtoul(word + 6, NULL, 10);
+    }
+    return settings;
+}
+
+typedef struct {
+    const char *name, *shape, *text;
+    qs_settings settings;
+} qs_call;
+
+/* The call of a line, which is cut into its fields. */
+static qs_call call_of(char *line) {
+    qs_call call;
+    line[strcspn(line, "\n")] = '\0';
+    call.name = field(&line, '\t');
+    call.settings = settings_of(field(&line, '\t'));
+    call.shape = field(&line, '\t');
+    call.text = field(&line, '\t');
+    return call;
+}
+
+static uint32_t make(const qs_call *call, uint8_t *out, size_t size, qs_answer *answer) {
+    const uint8_t *text = (const uint8_t *)call->text, *shape = (const uint8_t *)call->shape;
+    size_t len = strlen(call->text);
+    if (strcmp(call->name, "parse") == 0)
+        return qs_parse(&call->settings, text, len, out, size, answer);
+    if (strcmp(call->name, "read") == 0)
+        return qs_read(&call->settings, shape, strlen(call->shape), text, len, out, size, answer);
+    if (strcmp(call->name, "write") == 0)
+        return qs_write(&call->settings, text, len, out, size, answer);
+    if (strcmp(call->name, "encode") == 0)
+        return qs_encode(call->settings.form, text, len, out, size, answer);
+    return qs_decode(text, len, out, size, answer);
+}

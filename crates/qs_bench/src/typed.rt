@@ -1,0 +1,220 @@
+//! Reading and writing values of types.
+
+ghost use Rattle.std.specs.Prelude.{◌≡◌, IsTrue, IsFalse, IfOk, string_bytes, None};
+ghost use Rattle.qs_spec.specs.Config.{default};
+ghost use Rattle.qs_spec.specs.Entry.{entries};
+ghost use Rattle.qs_data.specs.shape.Views.{shape_of};
+ghost use Rattle.qs_bench.specs.Texts.{text_of};
+ghost use Rattle.qs_bench.specs.Typed.{IsReadAndWritten};
+ghost use Rattle.serde_qs.specs.Typed.{IsRead};
+
+use crate::text::hand_out;
+use crate::types::{Ids, Nested, Person, Record};
+use serde_qs::{
+    Config, Deserialize, Result, RoundTrip, Serialize, Shape, from_bytes, read_by, to_string,
+};
+use std::alloc::Global;
+use std::collections::BTreeMap;
+
+/// How often a call reads and writes, each once at least.
+#[derive(Clone, Copy)]
+struct Times {
+    reads: usize,
+    writes: usize,
+    /// Whether the shape of the type is made once, or for each read.
+    kept: bool,
+}
+
+/// Reads the input as a struct of three fields `reads` times, once at least, each time from its bytes, and by a shape that is made once
+/// (`kept`) or each time. Then writes the last value `writes` times, once at least, each time to fresh memory. Returns whether all went well: the text's length is then in `len`, and the text at the front of `out`, where it
+/// fits there. Else nothing is changed.
+#[unsafe(no_mangle)]
+pub extern "C" fn qs_bench_person(
+    alloc: Global,
+    reads: usize,
+    writes: usize,
+    kept: bool,
+    input: &[u8],
+    out: &mut [u8],
+    len: &mut usize,
+) -> bool
+    ensures typed { IsTrue result → IsReadAndWritten ⟦<Person as Deserialize>⟧.value ⟦<Person as Deserialize>⟧.form ⟦<Person as Deserialize>⟧.meaning ⟦<Person as Serialize>⟧.datum
+        input.now out.old out.new len.new }
+    ensures refused { IsFalse result → (out.new ≡ out.old) × (len.new ≡ len.old) }
+{
+    let times = Times {
+        reads,
+        writes,
+        kept,
+    };
+    read_and_write::<Person>(alloc, times, input, out, len)
+}
+
+/// The same with the record of ten entries.
+#[unsafe(no_mangle)]
+pub extern "C" fn qs_bench_record(
+    alloc: Global,
+    reads: usize,
+    writes: usize,
+    kept: bool,
+    input: &[u8],
+    out: &mut [u8],
+    len: &mut usize,
+) -> bool
+    ensures typed { IsTrue result → IsReadAndWritten ⟦<Record as Deserialize>⟧.value ⟦<Record as Deserialize>⟧.form ⟦<Record as Deserialize>⟧.meaning ⟦<Record as Serialize>⟧.datum
+        input.now out.old out.new len.new }
+    ensures refused { IsFalse result → (out.new ≡ out.old) × (len.new ≡ len.old) }
+{
+    let times = Times {
+        reads,
+        writes,
+        kept,
+    };
+    read_and_write::<Record>(alloc, times, input, out, len)
+}
+
+/// The same with a list of numbers under one field.
+#[unsafe(no_mangle)]
+pub extern "C" fn qs_bench_ids(
+    alloc: Global,
+    reads: usize,
+    writes: usize,
+    kept: bool,
+    input: &[u8],
+    out: &mut [u8],
+    len: &mut usize,
+) -> bool
+    ensures typed { IsTrue result → IsReadAndWritten ⟦<Ids as Deserialize>⟧.value ⟦<Ids as Deserialize>⟧.form ⟦<Ids as Deserialize>⟧.meaning ⟦<Ids as Serialize>⟧.datum
+        input.now out.old out.new len.new }
+    ensures refused { IsFalse result → (out.new ≡ out.old) × (len.new ≡ len.old) }
+{
+    let times = Times {
+        reads,
+        writes,
+        kept,
+    };
+    read_and_write::<Ids>(alloc, times, input, out, len)
+}
+
+/// The same with a map of texts.
+#[unsafe(no_mangle)]
+pub extern "C" fn qs_bench_map(
+    alloc: Global,
+    reads: usize,
+    writes: usize,
+    kept: bool,
+    input: &[u8],
+    out: &mut [u8],
+    len: &mut usize,
+) -> bool
+    ensures typed { IsTrue result → IsReadAndWritten ⟦<BTreeMap<String, String> as Deserialize>⟧.value ⟦<BTreeMap<String, String> as Deserialize>⟧.form ⟦<BTreeMap<String, String> as Deserialize>⟧.meaning ⟦<BTreeMap<String, String> as Serialize>⟧.datum
+        input.now out.old out.new len.new }
+    ensures refused { IsFalse result → (out.new ≡ out.old) × (len.new ≡ len.old) }
+{
+    let times = Times {
+        reads,
+        writes,
+        kept,
+    };
+    read_and_write::<BTreeMap<String, String>>(alloc, times, input, out, len)
+}
+
+/// The same with a text five keys deep.
+#[unsafe(no_mangle)]
+pub extern "C" fn qs_bench_nested(
+    alloc: Global,
+    reads: usize,
+    writes: usize,
+    kept: bool,
+    input: &[u8],
+    out: &mut [u8],
+    len: &mut usize,
+) -> bool
+    ensures typed { IsTrue result → IsReadAndWritten ⟦<Nested as Deserialize>⟧.value ⟦<Nested as Deserialize>⟧.form ⟦<Nested as Deserialize>⟧.meaning ⟦<Nested as Serialize>⟧.datum
+        input.now out.old out.new len.new }
+    ensures refused { IsFalse result → (out.new ≡ out.old) × (len.new ≡ len.old) }
+{
+    let times = Times {
+        reads,
+        writes,
+        kept,
+    };
+    read_and_write::<Nested>(alloc, times, input, out, len)
+}
+
+/// The same with any type.
+fn read_and_write<T: RoundTrip + Drop>(
+    alloc: Global,
+    times: Times,
+    input: &[u8],
+    out: &mut [u8],
+    len: &mut usize,
+) -> bool
+    ensures typed { IsTrue result → IsReadAndWritten T.value T.form T.meaning T.datum input.now out.old out.new len.new }
+    ensures refused { IsFalse result → (out.new ≡ out.old) × (len.new ≡ len.old) }
+{
+    let Ok(value) = last_value::<T>(alloc, times, input) else {
+        return false;
+    };
+    let Ok(text) = last_text(alloc, times.writes, &value) else {
+        return false;
+    };
+    hand_out(text.as_bytes(), out, len);
+    true
+}
+
+/// The value that is read the last of so many times.
+fn last_value<T: RoundTrip + Drop>(alloc: Global, times: Times, input: &[u8]) -> Result<T>
+    ensures { IfOk result (λ x. IsRead default T.form T.meaning input.now (T.value x)) }
+{
+    if times.kept {
+        read_kept(alloc, times.reads, input)
+    } else {
+        read_anew(alloc, times.reads, input)
+    }
+}
+
+/// The same, by a shape that is made once.
+fn read_kept<T: RoundTrip + Drop>(alloc: Global, times: usize, input: &[u8]) -> Result<T>
+    ensures { IfOk result (λ x. IsRead default T.form T.meaning input.now (T.value x)) }
+{
+    let shape = T::shape(alloc)?;
+    read_by_shape(alloc, times, &shape, input)
+}
+
+/// The same, by this shape.
+fn read_by_shape<T: RoundTrip + Drop>(
+    alloc: Global,
+    times: usize,
+    shape: &Shape,
+    input: &[u8],
+) -> Result<T>
+    requires { shape_of shape.now ≡ T.form }
+    ensures { IfOk result (λ x. IsRead default T.form T.meaning input.now (T.value x)) }
+{
+    for _ in 1..times {
+        let _value: T = read_by(alloc, Config::new(), shape, input)?;
+    }
+    read_by(alloc, Config::new(), shape, input)
+}
+
+/// The same, by a shape that is made each time.
+fn read_anew<T: RoundTrip + Drop>(alloc: Global, times: usize, input: &[u8]) -> Result<T>
+    ensures { IfOk result (λ x. IsRead default T.form T.meaning input.now (T.value x)) }
+{
+    for _ in 1..times {
+        let _value: T = from_bytes(alloc, input)?;
+    }
+    from_bytes(alloc, input)
+}
+
+/// The text of the last of so many writes.
+fn last_text<T: RoundTrip>(alloc: Global, times: usize, value: &T) -> Result<String>
+    ensures whole { IfOk result (λ text. (entries default (T.datum value.now)).refusal ≡ None) }
+    ensures text { IfOk result (λ text. string_bytes text ≡ text_of (T.datum value.now)) }
+{
+    for _ in 1..times {
+        to_string(alloc, value)?;
+    }
+    to_string(alloc, value)
+}

@@ -1,0 +1,17 @@
+//! One line for the user that says which part of an input is wrong.
+
+use qs_explain::explain;
+use serde_qs::{Config, Deserialize, Error, from_str};
+use std::alloc::Global;
+
+/// Returns a value, or one line for the user that says which part of the input is wrong.
+pub fn explained<T: Deserialize>(alloc: Global, input: &str) -> Result<Result<T, String>, Error> {
+    let error = match from_str(alloc, input) {
+        Ok(value) => return Ok(Ok(value)),
+        Err(error) => error,
+    };
+    match explain(alloc, Config::new(), &T::shape(alloc)?, input.as_bytes())? {
+        Some(explanation) => Ok(Err(explanation.to_string(alloc)?)), // age: expected u8, found the text "300"
+        None => Err(error),
+    }
+}

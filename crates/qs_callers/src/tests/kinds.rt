@@ -1,0 +1,170 @@
+//! An enum with every kind of variant, and names as other programs write them.
+
+ghost use Rattle.qs_callers.specs.declared.tests.kinds.Message.TheVariants.{Unit as Empty, Newtype as One, Tuple as Two, Struct as Named};
+ghost use Rattle.qs_callers.specs.declared.tests.kinds.TheConstants.{MESSAGE_NAMES, LOUD_NAMES, PERSON_NAMES};
+ghost use Rattle.serde_qs.specs.declared.compound.variants.OneOf.TheVariants.{First, Later};
+ghost use Rattle.serde_qs.specs.PartTables.{made_of};
+
+use super::round_trips::comes_back;
+use super::{list, text};
+use crate::Pair;
+use serde_qs::OneOf::{First, Later};
+use serde_qs::{
+    Compound, Data, Enum, Last, Newtype, OneOf, Out, Parts, Result, Shape, Source, Struct, Tuple,
+    fields, to_string,
+};
+use std::alloc::Global;
+
+/// A message.
+#[derive(Debug, PartialEq, Drop)]
+enum Message {
+    Unit,
+    Newtype(String),
+    Tuple(u32, bool),
+    Struct { x: String, y: String },
+}
+
+type MessageParts = Enum<OneOf<(), OneOf<Newtype<String>, OneOf<Tuple<(u32, (bool, ()))>, Rest>>>>;
+
+type Rest = Last<Struct<(String, (String, ()))>>;
+
+const MESSAGE_NAMES: &[&str] = &["Unit", "Newtype", "Tuple", "Struct", "x", "y"];
+
+impl Compound for Message {
+    ghost table = { made_of ⟦<MessageParts as Parts>⟧.table MESSAGE_NAMES.now (elim [ Empty ↦ record { 0 = First tt } | One text ↦ record { 0 = Later (First (record { 0 = text })) } | Two count is_set ↦ record { 0 = Later (Later (First (record { 0 = (count, (is_set, tt)) }))) } | Named x y ↦ record { 0 = Later (Later (Later (record { 0 = record { 0 = (x, (y, tt)) } }))) } ]) _ };
+
+    fn form(alloc: Global) -> Result<Shape> {
+        MessageParts::shape(alloc, MESSAGE_NAMES)
+    }
+
+    fn read(source: Source) -> Result<Message> {
+        let Enum(variant) = MessageParts::read(source, MESSAGE_NAMES)?;
+        Ok(match variant {
+            First(()) => Message::Unit,
+            Later(First(Newtype(text))) => Message::Newtype(text),
+            Later(Later(First(Tuple((count, (is_set, ())))))) => Message::Tuple(count, is_set),
+            Later(Later(Later(Last(Struct(named))))) => {
+                let fields!(x, y) = named;
+                Message::Struct { x, y }
+            }
+        })
+    }
+
+    fn written(&self, out: Out) -> Result<Data> {
+        match self {
+            Message::Unit => out.unit_variant("Unit"),
+            Message::Newtype(text) => out.newtype_variant("Newtype", text),
+            Message::Tuple(count, is_set) => out.tuple_variant("Tuple", (count, (is_set, ()))),
+            Message::Struct { x, y } => out.struct_variant("Struct", &["x", "y"], (x, (y, ()))),
+        }
+    }
+}
+
+/// Fields under names in capitals.
+#[derive(Debug, PartialEq, Drop)]
+struct Loud {
+    one: u32,
+    two: String,
+    nested: Option<String>,
+}
+
+type LoudParts = Struct<(u32, (String, (Option<String>, ())))>;
+
+const LOUD_NAMES: &[&str] = &["FIELD_ONE", "FIELD_TWO", "NESTED_FIELD"];
+
+impl Compound for Loud {
+    ghost table = { made_of ⟦<LoudParts as Parts>⟧.table LOUD_NAMES.now (λ loud. record { 0 = (loud.one, (loud.two, (loud.nested, tt))) }) _ };
+
+    fn form(alloc: Global) -> Result<Shape> {
+        LoudParts::shape(alloc, LOUD_NAMES)
+    }
+
+    fn read(source: Source) -> Result<Loud> {
+        let Struct((one, (two, (nested, ())))) = LoudParts::read(source, LOUD_NAMES)?;
+        Ok(Loud { one, two, nested })
+    }
+
+    fn written(&self, out: Out) -> Result<Data> {
+        out.fields(LOUD_NAMES, (&self.one, (&self.two, (&self.nested, ()))))
+    }
+}
+
+/// A field whose name has a space.
+#[derive(Debug, PartialEq, Drop)]
+struct Person {
+    name: String,
+}
+
+type PersonParts = Struct<(String, ())>;
+
+const PERSON_NAMES: &[&str] = &["full name"];
+
+impl Compound for Person {
+    ghost table = { made_of ⟦<PersonParts as Parts>⟧.table PERSON_NAMES.now (λ person. record { 0 = (person.name, tt) }) _ };
+
+    fn form(alloc: Global) -> Result<Shape> {
+        PersonParts::shape(alloc, PERSON_NAMES)
+    }
+
+    fn read(source: Source) -> Result<Person> {
+        let Struct((name, ())) = PersonParts::read(source, PERSON_NAMES)?;
+        Ok(Person { name })
+    }
+
+    fn written(&self, out: Out) -> Result<Data> {
+        out.fields(PERSON_NAMES, (&self.name, ()))
+    }
+}
+
+#[test]
+fn every_kind_of_variant(rt: HostRuntime) {
+    let alloc = rt.alloc();
+    let newtype = Message::Newtype(text(&rt, alloc, "hello"));
+    comes_back(
+        &rt,
+        alloc,
+        &Pair {
+            a: Message::Unit,
+            b: newtype,
+        },
+    );
+    let named = Message::Struct {
+        x: text(&rt, alloc, "3.14"),
+        y: text(&rt, alloc, "test"),
+    };
+    let pair = Pair {
+        a: Message::Tuple(42, true),
+        b: named,
+    };
+    let written = to_string(alloc, &pair).expect(&rt, "a text");
+    assert!(rt;
+        written.as_str() == "a[Tuple][0]=42&a[Tuple][1]=true&b[Struct][x]=3.14&b[Struct][y]=test",
+        "{written}"
+    );
+    comes_back(&rt, alloc, &pair);
+    let within = Message::Newtype(text(&rt, alloc, "in vec"));
+    let messages = list(&rt, alloc, [Message::Unit, within]);
+    comes_back(&rt, alloc, &Pair { a: messages, b: () });
+}
+
+#[test]
+fn names_of_other_programs(rt: HostRuntime) {
+    let alloc = rt.alloc();
+    let loud = Loud {
+        one: 42,
+        two: text(&rt, alloc, "LOUD"),
+        nested: Some(text(&rt, alloc, "NESTED")),
+    };
+    let written = to_string(alloc, &loud).expect(&rt, "a text");
+    assert!(rt;
+        written.as_str() == "FIELD_ONE=42&FIELD_TWO=LOUD&NESTED_FIELD=NESTED",
+        "{written}"
+    );
+    comes_back(&rt, alloc, &loud);
+    let person = Person {
+        name: text(&rt, alloc, "John Doe"),
+    };
+    let written = to_string(alloc, &person).expect(&rt, "a text");
+    assert!(rt; written.as_str() == "full+name=John+Doe", "{written}");
+    comes_back(&rt, alloc, &person);
+}

@@ -1,0 +1,89 @@
+//! Nodes of a tree, each read by itself.
+
+use super::is_custom;
+use crate::Query;
+use qs_data::{Data, Entries, Error, Found, Reader, Result, Shape};
+use qs_tree::{Config, ParsedValue, parse};
+use serde_qs::Deserialize;
+use std::alloc::Global;
+
+const INPUT: &[u8] = b"age=24&ids[]=7&ids[]=8&name=Alice&occupation=Student";
+
+#[test]
+fn by_a_type(rt: HostRuntime) {
+    let alloc = rt.alloc();
+    let tree = parse(alloc, INPUT, Config::new()).expect(&rt, "a tree");
+    let reader = Reader::new(alloc, Config::new());
+    let query = Query::from_node(reader, &tree).expect(&rt, "a query");
+    assert_eq!(rt; query.name.as_str(), "Alice");
+    assert_eq!(rt; query.age, 24);
+    let missing: Result<u8> = u8::from_missing(reader, "age");
+    assert!(rt; is_custom(&missing, "missing field `age`"));
+    let none: Option<u8> = Option::from_missing(reader, "age").expect(&rt, "None");
+    assert!(rt; none.is_none());
+}
+
+#[test]
+fn by_its_parts(rt: HostRuntime) {
+    let alloc = rt.alloc();
+    let tree = parse(alloc, INPUT, Config::new()).expect(&rt, "a tree");
+    let reader = Reader::new(alloc, Config::new());
+    let second = second_id(reader, &tree).expect(&rt, "a number");
+    assert!(rt; second == Some(Data::Unsigned(8)));
+    assert!(rt; Shape::Option(Box::new(alloc, Shape::U8).expect(&rt, "memory")).is_option());
+}
+
+/// The second of `ids`.
+fn second_id(reader: Reader, tree: &ParsedValue<'_>) -> Result<Option<Data>> {
+    let ParsedValue::Map(map) = tree else {
+        return Ok(None);
+    };
+    let entries = Entries::Map(map);
+    if entries.test().is_err() {
+        return Ok(None);
+    }
+    let Found::One(ids) = entries.find("ids") else {
+        return Ok(None);
+    };
+    let items = reader.items(ids)?;
+    match items.get(reader, 1)? {
+        Some(item) if items.len() == 2 => Ok(Some(reader.read(&Shape::U8, item)?)),
+        _ => Ok(None),
+    }
+}
+
+#[test]
+fn errors(rt: HostRuntime) {
+    let alloc = rt.alloc();
+    let reader = Reader::new(alloc, Config::new());
+    let rows = [
+        (reader.missing_field("age"), "missing field `age`"),
+        (reader.duplicate_field("age"), "duplicate field `age`"),
+        (reader.missing_item(1), "invalid length 1"),
+        (
+            reader.nothing(),
+            "internal error: attempted to deserialize unitialised value",
+        ),
+        (
+            reader.not_a_struct(&ParsedValue::NoValue),
+            "invalid type: unit value, expected a struct",
+        ),
+    ];
+    for (error, wanted) in rows {
+        let result: Result<()> = Err(error);
+        assert!(rt; is_custom(&result, wanted), "{wanted}");
+    }
+    let tree = parse(alloc, b"%FF=1", Config::new()).expect(&rt, "a tree");
+    assert!(rt; is_not_utf8(alloc, &tree));
+}
+
+/// The first key that isn't UTF-8 is reported.
+fn is_not_utf8(alloc: Global, tree: &ParsedValue<'_>) -> bool {
+    let ParsedValue::Map(map) = tree else {
+        return false;
+    };
+    match Entries::Map(map).test() {
+        Ok(()) => false,
+        Err(key) => matches!(key.into_error(alloc), Error::Utf8(_)),
+    }
+}

@@ -1,0 +1,129 @@
+//! Reading a node without a shape, for types that read themselves: the errors, and the data of a part.
+
+ghost use Rattle.std.specs.Prelude.{◌≡◌, [], IfOk, None, Some, true, false};
+ghost use Rattle.qs_spec.specs.Config.{are_rejected};
+ghost use Rattle.qs_spec.specs.Node.{items};
+ghost use Rattle.qs_spec.specs.Data as d;
+ghost use Rattle.qs_spec.specs.Scalar.{signed_data, text_data, unsigned_data};
+ghost use Rattle.qs_spec.specs.internal.ReadFunction.{read_scalar, reads};
+ghost use Rattle.qs_tree.specs.tree.Views.{tree_of};
+ghost use Rattle.qs_data.specs.data.Views.{data_of};
+ghost use Rattle.qs_data.specs.shape.Views.{shape_of};
+ghost use Rattle.qs_data.specs.shape.internal.Widths.{bits_of};
+ghost use Rattle.qs_data.specs.read.Text.{is_text};
+ghost use Rattle.qs_data.specs.read.Gives.{Gives, Rejects};
+ghost use Rattle.qs_data.specs.read.Errors.{IsCustomOrOutOfMemory};
+ghost use Rattle.qs_data.specs.read.internal.Items.{are_text, items_in};
+ghost use Rattle.qs_data.specs.read.internal.ReadError.{ReadRejects};
+
+use crate::data::Data;
+use crate::read::by_shape::{Reader, read};
+use crate::read::error::ReadError;
+use crate::read::items::{Items, items_of};
+use crate::read::message::{Expected, Message};
+use crate::read::scalar::{as_text, read_signed, read_text, read_unsigned};
+use crate::shape::{Shape, Width};
+use qs_tree::{Config, DuplicateKeyBehavior, Error, ParsedValue, Result};
+use std::alloc::Global;
+
+impl Reader {
+    /// Returns how a configuration reads.
+    pub fn new(alloc: Global, config: Config) -> Reader
+        ensures { result.reject_duplicates ≡ are_rejected config.duplicates }
+    {
+        let reject_duplicates = config.get_duplicates() == DuplicateKeyBehavior::Error;
+        Reader {
+            alloc,
+            reject_duplicates,
+        }
+    }
+
+    /// Reads a node by a shape, as [`read_value`](crate::read_value) does.
+    pub fn read(self, shape: &Shape, node: &ParsedValue<'_>) -> Result<Data>
+        ensures { Gives data_of (is_text (tree_of node.now)) result (reads self.reject_duplicates (shape_of shape.now) (tree_of node.now)) }
+    {
+        read(self, shape, node)
+    }
+
+    /// Reads an unsigned number of this width, as by its shape.
+    #[inline(always)]
+    pub fn unsigned(self, width: Width, node: &ParsedValue<'_>) -> Result<Data>
+        ensures { Gives data_of (is_text (tree_of node.now)) result
+            (read_scalar self.reject_duplicates None (unsigned_data (bits_of width)) (tree_of node.now)) }
+    {
+        Ok(read_unsigned(self, width, node)?)
+    }
+
+    /// Reads a signed number of this width, as by its shape.
+    #[inline(always)]
+    pub fn signed(self, width: Width, node: &ParsedValue<'_>) -> Result<Data>
+        ensures { Gives data_of (is_text (tree_of node.now)) result
+            (read_scalar self.reject_duplicates None (signed_data (bits_of width)) (tree_of node.now)) }
+    {
+        Ok(read_signed(self, width, node)?)
+    }
+
+    /// Reads a text, as by its shape.
+    #[inline(always)]
+    pub fn text(self, node: &ParsedValue<'_>) -> Result<Data>
+        ensures { Gives data_of (is_text (tree_of node.now)) result
+            (read_scalar self.reject_duplicates (Some (d.text [])) text_data (tree_of node.now)) }
+    {
+        Ok(read_text(self, node)?)
+    }
+
+    /// Returns the items of a node, if it has a list of them. It doesn't allocate.
+    pub fn items<'t, 'qs>(self, node: &'t ParsedValue<'qs>) -> Result<Items<'t, 'qs>>
+        ensures exact { Gives items_in true result (items (tree_of node.now)) }
+        ensures text { IfOk result (λ xs. are_text (items_in xs) ≡ false → is_text (tree_of node.now) ≡ false) }
+    {
+        Ok(items_of(self.alloc, node, Expected::Sequence)?)
+    }
+
+    /// Returns the error of a node that holds nothing at all.
+    pub fn nothing(self) -> Error
+        ensures { IsCustomOrOutOfMemory result }
+    {
+        Error::from(Message::Uninitialized.error(self.alloc))
+    }
+
+    /// Returns the error of a field whose key is missing.
+    pub fn missing_field(self, name: &str) -> Error
+        ensures { IsCustomOrOutOfMemory result }
+    {
+        Error::from(Message::MissingField(name).error(self.alloc))
+    }
+
+    /// Returns the error of a field with two keys.
+    pub fn duplicate_field(self, name: &str) -> Error
+        ensures { IsCustomOrOutOfMemory result }
+    {
+        Error::from(Message::DuplicateField(name).error(self.alloc))
+    }
+
+    /// Returns the error of a list with too few items: there are so many.
+    pub fn missing_item(self, count: usize) -> Error
+        ensures { IsCustomOrOutOfMemory result }
+    {
+        Error::from(Message::InvalidLength(count).error(self.alloc))
+    }
+
+    /// Returns the error of a node that holds no struct.
+    pub fn not_a_struct(self, node: &ParsedValue<'_>) -> Error
+        ensures { Rejects {Y = Unit {0}} (is_text (tree_of node.now)) result None }
+    {
+        Error::from(struct_error(self.alloc, node))
+    }
+}
+
+// The error of a node that holds no struct: of a text that isn't UTF-8 it says so.
+fn struct_error(alloc: Global, node: &ParsedValue<'_>) -> ReadError
+    ensures { ReadRejects {Y = Unit {0}} (is_text (tree_of node.now)) result None }
+{
+    if let ParsedValue::String(text) = node {
+        if let Err(error) = as_text(text.as_slice()) {
+            return error;
+        }
+    }
+    Message::mismatch(alloc, node, Expected::Struct)
+}

@@ -1,0 +1,110 @@
+//! The text of an entry under construction.
+
+ghost use Rattle.std.specs.Prelude.{◌≡◌, ◌+◌, ◌<◌, ◌≤◌, ◌++◌, [], length, take, drop, OnOk};
+ghost use Rattle.qs_spec.specs.Escape.{encoded};
+
+use qs_tree::encode_to;
+use std::alloc::{AllocError, Global};
+use std::marker::Model;
+
+/// Bytes at the front of a buffer that is longer: appending writes by index, and truncating changes a number.
+#[derive(Drop)]
+pub(crate) struct Text {
+    room: Vec<u8>,
+    len: usize,
+}
+
+impl Model for Text {
+    ghost use Rattle.std.specs.Prelude.{ℕ, ◌≤◌, List, length, take};
+
+    ghost Value = { List ℕ };
+
+    ghost view = { λ t. take t.len t.room.items };
+
+    ghost invariant = { λ t. t.len ≤ length t.room.items };
+}
+
+impl Text {
+    /// No text. Nothing is allocated.
+    pub(crate) fn new(alloc: Global) -> Text
+        ensures { result ≡ [] }
+    {
+        Text {
+            room: Vec::new(alloc),
+            len: 0,
+        }
+    }
+
+    /// How many bytes it has.
+    pub(crate) fn len(&self) -> usize
+        ensures value { result ≡ length self.now }
+        ensures few { result < usize.MAX }
+    {
+        self.len
+    }
+
+    /// The bytes after so many.
+    pub(crate) fn after(&self, start: usize) -> &[u8]
+        requires { start ≤ length self.now }
+        ensures { result.now ≡ drop start self.now }
+    {
+        &self.room[start..self.len]
+    }
+
+    /// Keeps so many bytes, where there are more.
+    pub(crate) fn truncate(&mut self, len: usize)
+        ensures { self.new ≡ take len self.old }
+    {
+        if len < self.len {
+            self.len = len;
+        }
+    }
+
+    /// Appends bytes.
+    #[inline(always)]
+    pub(crate) fn append(&mut self, bytes: &[u8]) -> Result<(), AllocError>
+        ensures ok { OnOk result (self.new ≡ self.old ++ bytes.now) }
+    {
+        make_room(&mut self.room, self.len, bytes.len())?;
+        let end = self.len + bytes.len();
+        self.room[self.len..end].copy_from_slice(bytes);
+        self.len = end;
+        Ok(())
+    }
+
+    /// Appends bytes, encoded.
+    #[inline(always)]
+    pub(crate) fn append_encoded(&mut self, bytes: &[u8], form: bool) -> Result<(), AllocError>
+        ensures ok { OnOk result (self.new ≡ self.old ++ encoded form bytes.now) }
+    {
+        make_room(&mut self.room, self.len, bytes.len().saturating_mul(3))?;
+        self.len = encode_to(bytes, form, &mut self.room, self.len);
+        Ok(())
+    }
+}
+
+/// Makes room for so many bytes after the first `len`.
+#[inline(always)]
+fn make_room(room: &mut Vec<u8>, len: usize, more: usize) -> Result<(), AllocError>
+    requires { len ≤ length room.old.items }
+    ensures kept { take len room.new.items ≡ take len room.old.items }
+    ensures within { length room.old.items ≤ length room.new.items }
+    ensures ok { OnOk result (len + more ≤ length room.new.items) }
+{
+    if more <= room.len() - len {
+        return Ok(());
+    }
+    grow(room, len, more)
+}
+
+/// The same where there is less room: for twice the bytes at least, so that growing is rare.
+#[inline(never)]
+fn grow(room: &mut Vec<u8>, len: usize, more: usize) -> Result<(), AllocError>
+    requires { len ≤ length room.old.items }
+    ensures kept { take len room.new.items ≡ take len room.old.items }
+    ensures within { length room.old.items ≤ length room.new.items }
+    ensures ok { OnOk result (len + more ≤ length room.new.items) }
+{
+    let least = room.len().saturating_mul(2).saturating_add(256);
+    room.resize(least.saturating_add(more), 0)
+}

@@ -1,0 +1,56 @@
+-- Where the bytes of an input stand in its pairs, up to the first error.
+use Rattle.std.specs.Prelude.{ℕ, ◌+◌, ◌-◌, Bool, true, false, ◌&&◌, ◌||◌, ◌==◌, List, [], ◌∷◌, if◌then◌else◌}
+use Rattle.qs_explain.specs.declared.place.Kind.{Kind}
+use Rattle.qs_explain.specs.declared.place.Kind.TheVariants.{Ampersand, Equals, Open, Close, Other}
+use Rattle.qs_explain.specs.declared.place.Place.{Place}
+use Rattle.qs_explain.specs.declared.place.Place.TheVariants.{Root, Inside, After, LastFirst, Last, Value}
+
+-- what a byte is after two others; in form mode the last byte of `%5B` or `%5D` is a bracket
+abbrev pub kind_of : Bool → ℕ → ℕ → ℕ → Kind
+kind_of form b c e =
+    if e == 38 then Ampersand else (if e == 61 then Equals
+    else (if e == 91 || ((form && (b == 37 && c == 53)) && e == 66) then Open
+    else (if e == 93 || ((form && (b == 37 && c == 53)) && e == 68) then Close else Other)))
+
+-- another pair begins after an `&` that doesn't stand in brackets
+abbrev pub begins_after : Place → Kind → Bool
+begins_after (Inside room) k = false
+begins_after LastFirst k = false
+begins_after Root Ampersand = true
+begins_after (After room) Ampersand = true
+begins_after Last Ampersand = true
+begins_after Value Ampersand = true
+begins_after _ _ = false
+
+-- the place after an opening bracket, if so many brackets may follow; else this
+abbrev pub opened : ℕ → Place → Place
+opened room full = if room == 0 then full else Inside (room - 1)
+
+-- where the byte after a byte stands
+abbrev pub next_place : ℕ → Place → Kind → Place
+next_place depth Root Open = opened depth Root
+next_place depth Root Equals = Value
+next_place depth Root _ = Root
+next_place depth (Inside room) Close = After room
+next_place depth (Inside room) _ = Inside room
+next_place depth (After room) Open = opened room LastFirst
+next_place depth (After room) Equals = Value
+next_place depth (After room) Ampersand = Root
+next_place depth (After room) _ = After room
+next_place depth LastFirst Close = After 0
+next_place depth LastFirst _ = Last
+next_place depth Last Equals = Value
+next_place depth Last Ampersand = Root
+next_place depth Last _ = Last
+next_place depth Value Ampersand = Root
+next_place depth Value _ = Value
+
+-- where the last pair begins, n bytes were read, b and c last, and the next stands at the place
+abbrev pub start_from : Bool → ℕ → Place → (n start b c : ℕ) → List ℕ → ℕ
+start_from form depth place n start b c [] = start
+start_from form depth place n start b c (e ∷ rest) =
+    start_from form depth (next_place depth place (kind_of form b c e)) (n + 1) (if begins_after place (kind_of form b c e) then n + 1 else start) c e rest
+
+-- the same of a whole input
+abbrev pub pair_start : Bool → ℕ → List ℕ → ℕ
+pair_start form depth input = start_from form depth Root 0 0 0 0 input

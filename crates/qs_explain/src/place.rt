@@ -1,0 +1,125 @@
+//! Where the bytes of an input stand in its pairs.
+
+ghost use Rattle.std.specs.Prelude.{◌≡◌, ◌≤◌, length};
+ghost use Rattle.qs_explain.specs.Places.{begins_after, kind_of, next_place, opened, pair_start};
+
+/// What a byte is, with the two before it.
+#[derive(Clone, Copy, PartialEq, Eq)]
+pub(crate) enum Kind {
+    Ampersand,
+    Equals,
+    Open,
+    Close,
+    Other,
+}
+
+/// Where a byte stands in a pair.
+#[derive(Clone, Copy)]
+pub(crate) enum Place {
+    /// In front of the brackets of its key.
+    Root,
+    /// In brackets, after which so many more may follow.
+    Inside(usize),
+    /// After brackets, which so many more may follow.
+    After(usize),
+    /// First in the last key, where no more brackets may follow.
+    LastFirst,
+    /// Later in the last key.
+    Last,
+    /// In its value.
+    Value,
+}
+
+/// Returns where the pair begins that goes on at the end of the input, if it has no error before.
+pub(crate) fn find_start(form: bool, max_depth: usize, input: &[u8]) -> usize
+    ensures value { result ≡ pair_start form max_depth input.now }
+    ensures within { result ≤ length input.now }
+{
+    let mut place = Place::Root;
+    let mut start = 0;
+    let mut before = (0u8, 0u8);
+    for (at, byte) in input.iter().enumerate() {
+        let kind = kind_of(form, before.0, before.1, *byte);
+        if begins_after(place, kind) {
+            start = at + 1;
+        }
+        place = next_place(max_depth, place, kind);
+        before = (before.1, *byte);
+    }
+    start
+}
+
+// What a byte is. In form mode the last byte of `%5B` or `%5D` is a bracket.
+fn kind_of(form: bool, percent: u8, five: u8, byte: u8) -> Kind
+    ensures { result ≡ kind_of form percent five byte }
+{
+    let is_escape = form && percent == b'%' && five == b'5';
+    if byte == b'&' {
+        Kind::Ampersand
+    } else if byte == b'=' {
+        Kind::Equals
+    } else if byte == b'[' || is_escape && byte == b'B' {
+        Kind::Open
+    } else if byte == b']' || is_escape && byte == b'D' {
+        Kind::Close
+    } else {
+        Kind::Other
+    }
+}
+
+// Whether another pair begins after a byte. In brackets an `&` is a byte of the key.
+fn begins_after(place: Place, kind: Kind) -> bool
+    ensures { result ≡ begins_after place kind }
+{
+    match place {
+        Place::Inside(_) | Place::LastFirst => false,
+        Place::Root | Place::After(_) | Place::Last | Place::Value => kind == Kind::Ampersand,
+    }
+}
+
+// Where the byte after a byte stands.
+fn next_place(max_depth: usize, place: Place, kind: Kind) -> Place
+    ensures { result ≡ next_place max_depth place kind }
+{
+    match place {
+        Place::Root => match kind {
+            Kind::Open => opened(max_depth, Place::Root),
+            Kind::Equals => Place::Value,
+            Kind::Ampersand | Kind::Close | Kind::Other => Place::Root,
+        },
+        Place::Inside(room) => match kind {
+            Kind::Close => Place::After(room),
+            Kind::Open | Kind::Equals | Kind::Ampersand | Kind::Other => Place::Inside(room),
+        },
+        Place::After(room) => match kind {
+            Kind::Open => opened(room, Place::LastFirst),
+            Kind::Equals => Place::Value,
+            Kind::Ampersand => Place::Root,
+            Kind::Close | Kind::Other => Place::After(room),
+        },
+        Place::LastFirst => match kind {
+            Kind::Close => Place::After(0),
+            Kind::Open | Kind::Equals | Kind::Ampersand | Kind::Other => Place::Last,
+        },
+        Place::Last => match kind {
+            Kind::Equals => Place::Value,
+            Kind::Ampersand => Place::Root,
+            Kind::Open | Kind::Close | Kind::Other => Place::Last,
+        },
+        Place::Value => match kind {
+            Kind::Ampersand => Place::Root,
+            Kind::Open | Kind::Close | Kind::Equals | Kind::Other => Place::Value,
+        },
+    }
+}
+
+// Where the byte after an opening bracket stands, if so many brackets may follow; else this.
+fn opened(room: usize, full: Place) -> Place
+    ensures { result ≡ opened room full }
+{
+    if room == 0 {
+        full
+    } else {
+        Place::Inside(room - 1)
+    }
+}

@@ -1,0 +1,15 @@
+use Rattle.std.proofs.Math.ListN.{drop_of_length-le}
+use Rattle.std.proofs.Common.{◌≡◌, ◌+◌, ◌∷◌, [], drop, ap, ◌∙◌, arith}
+use Rattle.qs_spec.specs.Tree.Tree.{mapping}
+use Rattle.qs_tree.specs.tree.Views.{step_of_key}
+use Rattle.qs_tree.specs.internal.scan.Pairs.{path_of}
+use Rattle.std.proofs.Common.{option_map}
+use Rattle.qs_tree.proofs.build.add.add_unsorted.Goals as goal
+
+pub returns : goal.returns
+returns c =
+    let pair = c.take_key-key.new.self in
+    let key = c.take_key-key.result in
+    let none : drop (c.args.level + 1) pair.path.items ≡ [] = drop_of_length-le pair.path.items (omega (arith, c.take_key-key.ensures.len, c.requires.one)) in
+    let path : path_of (drop c.args.level c.args.pair.now.path.items) ≡ step_of_key key ∷ [] = ap path_of c.take_key-key.ensures.key ∙ ap (λ ks. step_of_key key ∷ path_of ks) none in
+    rw (path, c.requires.plain) (ap (option_map mapping) (rw (c.take.ensures, c.take_key-key.ensures.leaf) at c.in_ok-push.ensures.here))

@@ -1,0 +1,17 @@
+-- The keys that are left, above the value, are the whole path above the leaf.
+use Rattle.std.proofs.Common.{◌≡◌, ◌≤◌, length, drop, Some}
+use Rattle.qs_spec.specs.Tree.Tree.{uninitialized}
+use Rattle.qs_spec.specs.internal.InPlace.{add}
+use Rattle.qs_tree.specs.tree.Views.{tree_of}
+use Rattle.qs_tree.specs.internal.scan.Pairs.{is_push, leaf_of, path_of}
+use Rattle.qs_tree.proofs.lemmas.build.Chains.{chain}
+use Rattle.qs_tree.proofs.build.add_to_value.value_of.Given as goal
+
+abbrev pub invariant-keys : goal.invariant-keys
+invariant-keys l = record {
+  made : add (path_of (drop l.level l.fn.pair.path.items)) (is_push l.fn.pair.manner) (leaf_of l.fn.pair.leaf) uninitialized ≡ Some (chain (path_of (drop l.level l.pair.path.items)) (tree_of l.value));
+  count : l.level ≤ length l.pair.path.items;
+}
+
+abbrev pub decreases-keys : goal.decreases-keys
+decreases-keys l = length l.pair.path.items

@@ -1,0 +1,154 @@
+-- Leaves in no order, and the entries that they make.
+use Rattle.std.proofs.Common.{◌≡◌, Bool, true, false, cond, not, ◌&&◌, List, [], ◌∷◌, ◌++◌, map, refl, sym, ap, ap₂, ◌∙◌, Option, Some, Ordering, Less, Equal, Greater, is_lt, is_eq}
+use Rattle.std.specs.List.{filter}
+use Rattle.std.specs.List.Sorted.{IsPermutation, IsStrictlySortedBy, IsStableBy, ties}
+use Rattle.std.specs.Map.{keys_of}
+use Rattle.std.specs.Ordering.{ordering_reverse}
+use Rattle.std.specs.declared.borrow.CowSlice.TheVariants.{Borrowed}
+use Rattle.std.proofs.lemmas.List.Elements.{filter_agree}
+use Rattle.std.proofs.lemmas.Option.{same_Some, none-some}
+use Rattle.qs_spec.specs.Grammar.{Pair}
+use Rattle.qs_spec.specs.History.{Event, event, under}
+use Rattle.qs_spec.specs.History.Event.{direct, push, below}
+use Rattle.qs_spec.specs.Leaf as spec
+use Rattle.qs_spec.specs.Segment.{Segment, is_same_segment, compare_segments}
+use Rattle.qs_spec.specs.Segment.Segment.{Int, Str}
+use Rattle.qs_spec.specs.Tree.{Tree, entries_of, flat, head_mark, heads, node_within}
+use Rattle.qs_spec.specs.Tree.Tree.{leaf}
+use Rattle.qs_spec.specs.Tree.Entries.{entry}
+use Rattle.qs_spec.specs.internal.InPlace.{add_flat, add_here, update}
+use Rattle.qs_spec.proofs.Flat.{AllDirect, direct_adds}
+use Rattle.qs_spec.proofs.OneMore.{pair, history_push}
+use Rattle.qs_spec.proofs.Permuted.{Perm-from, perm_map, perm_heads}
+use Rattle.qs_spec.proofs.Update.{entries_within, update_pairs}
+use Rattle.qs_tree.specs.contracts.tree.key.KeyOrd.TheImpl.Laws.{total-law}
+use Rattle.qs_tree.specs.declared.scan.pair.Leaf.{Leaf}
+use Rattle.qs_tree.specs.declared.scan.pair.Leaf.TheVariants.{NoValue}
+use Rattle.qs_tree.specs.declared.tree.key.Key.{Key}
+use Rattle.qs_tree.specs.declared.tree.key.Key.TheVariants as variant
+use Rattle.qs_tree.specs.declared.tree.value.ParsedValue.{ParsedValue}
+use Rattle.qs_tree.specs.internal.build.Builder.{entries_held}
+use Rattle.qs_tree.specs.internal.build.Unsorted.{leaf_pairs, entries_of_leaves}
+use Rattle.qs_tree.specs.internal.scan.Pairs.{leaf_in, leaf_of}
+use Rattle.qs_tree.specs.tree.Keys.{key_cmp}
+use Rattle.qs_tree.specs.tree.Views.{segment_of_key, key_mark, step_of_key, tree_of}
+use Rattle.qs_tree.proofs.lemmas.tree.Keys.{Held}
+use Rattle.qs_tree.proofs.lemmas.build.Built.{above}
+
+abbrev pub Leaves : Type 0
+Leaves = List (Key × Leaf)
+
+-- the leaves of one key are direct
+directs : (k : Segment) (ls : Leaves) → AllDirect (map event (under k (leaf_pairs ls)))
+directs k [] = tt
+directs k (p ∷ ls) = by (is_same_segment k (segment_of_key p.0)) (directs k ls)
+  where
+    by : (b : Bool) → AllDirect (map event (under k (leaf_pairs ls))) → AllDirect (map event (cond b (pair [] false (leaf_of p.1) ∷ under k (leaf_pairs ls)) (under k (leaf_pairs ls))))
+    by true all = all
+    by false all = all
+
+leaf_pairs-last : (ls : Leaves) (p : Key × Leaf) → leaf_pairs (ls ++ p ∷ []) ≡ leaf_pairs ls ++ pair (step_of_key p.0 ∷ []) false (leaf_of p.1) ∷ []
+leaf_pairs-last [] p = refl
+leaf_pairs-last (q ∷ ls) p = ap (λ ps. pair (step_of_key q.0 ∷ []) false (leaf_of q.1) ∷ ps) (leaf_pairs-last ls p)
+
+here_flat : (l : spec.Leaf) (h : List Event) → add_here false l (flat h) ≡ add_flat false l (flat h)
+here_flat l [] = refl
+here_flat l (direct o ∷ []) = refl
+here_flat l (direct o ∷ e ∷ h) = refl
+here_flat l (push o ∷ h) = refl
+here_flat l (below ∷ h) = refl
+
+-- one leaf more
+module _ (ls : Leaves) (key : Key) (l : Leaf) where
+  added : (g : Tree → Option Tree) → ((h : List Event) → g (flat h) ≡ add_flat false (leaf_of l) (flat h)) → update (step_of_key key) g (entries_of_leaves ls) ≡ Some (entries_of_leaves (ls ++ (key, l) ∷ []))
+  added g same =
+      let own = under (segment_of_key key) (leaf_pairs ls) in
+      let made : g (flat (map event own)) ≡ Some (flat (map event own ++ direct (leaf_of l) ∷ [])) = same (map event own) ∙ direct_adds (map event own) (leaf_of l) (directs (segment_of_key key) ls) in
+      update_pairs 0 (leaf_pairs ls) (step_of_key key) [] false (leaf_of l) g (Some (flat (map event own ++ direct (leaf_of l) ∷ []))) made (λ t d. sym (same_Some _ t d) ∙ ap flat (sym (history_push own (pair [] false (leaf_of l)))))
+      ∙ ap (λ (ps : List Pair). Some (entries_within 0 ps)) (sym (leaf_pairs-last ls (key, l)))
+
+  pub added_flat : update (step_of_key key) (add_flat false (leaf_of l)) (entries_of_leaves ls) ≡ Some (entries_of_leaves (ls ++ (key, l) ∷ []))
+  added_flat = added (add_flat false (leaf_of l)) (λ h. refl)
+
+  pub added_here : update (step_of_key key) (add_here false (leaf_of l)) (entries_of_leaves ls) ≡ Some (entries_of_leaves (ls ++ (key, l) ∷ []))
+  added_here = added (add_here false (leaf_of l)) (here_flat (leaf_of l))
+
+-- the leaves of one key decide what its entry is
+abbrev is_at_segment : Segment → Key × Leaf → Bool
+is_at_segment k p = is_same_segment k (segment_of_key p.0)
+
+abbrev first_mark : Leaves → Bool
+first_mark [] = false
+first_mark (p ∷ ls) = key_mark p.0
+
+abbrev bare_pairs : Leaves → List Pair
+bare_pairs ls = map (λ p. pair [] false (leaf_of p.1)) ls
+
+under_leaves : (k : Segment) (ls : Leaves) → under k (leaf_pairs ls) ≡ bare_pairs (filter (is_at_segment k) ls)
+under_leaves k [] = refl
+under_leaves k (p ∷ ls) = by (is_at_segment k p) (under_leaves k ls)
+  where
+    by : (b : Bool) → under k (leaf_pairs ls) ≡ bare_pairs (filter (is_at_segment k) ls)
+        → cond b (pair [] false (leaf_of p.1) ∷ under k (leaf_pairs ls)) (under k (leaf_pairs ls)) ≡ bare_pairs (cond b (p ∷ filter (is_at_segment k) ls) (filter (is_at_segment k) ls))
+    by true e = ap (λ ps. pair [] false (leaf_of p.1) ∷ ps) e
+    by false e = e
+
+mark_of_leaves : (k : Segment) (ls : Leaves) → head_mark k (leaf_pairs ls) ≡ first_mark (filter (is_at_segment k) ls)
+mark_of_leaves k [] = refl
+mark_of_leaves k (p ∷ ls) = by (is_at_segment k p) (mark_of_leaves k ls)
+  where
+    by : (b : Bool) → head_mark k (leaf_pairs ls) ≡ first_mark (filter (is_at_segment k) ls)
+        → cond b (key_mark p.0) (head_mark k (leaf_pairs ls)) ≡ first_mark (cond b (p ∷ filter (is_at_segment k) ls) (filter (is_at_segment k) ls))
+    by true e = refl
+    by false e = e
+
+entries_agree : (m n : Segment → Bool) (f g : Segment → Tree) → ((k : Segment) → m k ≡ n k) → ((k : Segment) → f k ≡ g k) → (ks : List Segment) → entries_of m f ks ≡ entries_of n g ks
+entries_agree m n f g marks trees [] = refl
+entries_agree m n f g marks trees (k ∷ ks) =
+    ap₂ (λ (b : Bool) (t : Tree). entry k b t (entries_of m f ks)) (marks k) (trees k) ∙ ap (entry k (n k) (g k)) (entries_agree m n f g marks trees ks)
+
+abbrev pub is_before : Key × Leaf → Key × Leaf → Bool
+is_before p q = is_lt (key_cmp p.0 q.0)
+
+abbrev key_at : Segment → Key
+key_at (Int n) = variant.Int n
+key_at (Str b) = variant.String (Borrowed (record { ref_ptr = (0, 0); now = b }))
+
+neither : (o : Ordering) → (not (is_lt o) && not (is_lt (ordering_reverse o))) ≡ is_eq o
+neither Less = refl
+neither Equal = refl
+neither Greater = refl
+
+at_itself : (k : Segment) (key : Key) → key_cmp (key_at k) key ≡ compare_segments k (segment_of_key key)
+at_itself (Int n) key = refl
+at_itself (Str b) key = refl
+
+ties_at : (k : Segment) (p : Key × Leaf) → ties is_before (key_at k, NoValue) p ≡ is_at_segment k p
+ties_at k p =
+    let turned : key_cmp p.0 (key_at k) ≡ ordering_reverse (key_cmp (key_at k) p.0) = total-law.antisymm p.0 (key_at k) in
+    ap (λ (o : Ordering). not (is_lt (key_cmp (key_at k) p.0)) && not (is_lt o)) turned ∙ neither (key_cmp (key_at k) p.0) ∙ ap is_eq (at_itself k p.0)
+
+-- leaves that were sorted stably make the same entries
+pub sorted_leaves : (xs ys : Leaves) → IsPermutation xs ys → IsStableBy is_before xs ys → entries_of_leaves ys ≡ entries_of_leaves xs
+sorted_leaves xs ys moved stable =
+    let same : (k : Segment) → filter (is_at_segment k) ys ≡ filter (is_at_segment k) xs = λ k. sym (filter_agree _ _ (ties_at k) ys) ∙ stable (key_at k, NoValue) ∙ filter_agree _ _ (ties_at k) xs in
+    entries_agree (λ k. head_mark k (leaf_pairs ys)) (λ k. head_mark k (leaf_pairs xs)) (λ k. node_within 0 (under k (leaf_pairs ys))) (λ k. node_within 0 (under k (leaf_pairs xs)))
+    (λ k. mark_of_leaves k ys ∙ ap first_mark (same k) ∙ sym (mark_of_leaves k xs))
+    (λ k. ap (node_within 0) (under_leaves k ys ∙ ap bare_pairs (same k) ∙ sym (under_leaves k xs)))
+    (heads (leaf_pairs ys))
+    ∙ ap (entries_of (λ k. head_mark k (leaf_pairs xs)) (λ k. node_within 0 (under k (leaf_pairs xs)))) (sym (perm_heads (perm_map _ (Perm-from xs ys moved))))
+
+-- a leaf at a key after all others
+pub at_end : (key : Key) (ks : List Key) (v : ParsedValue) (l : spec.Leaf) → leaf_in (tree_of v) ≡ Some l → (es : Held) → IsStrictlySortedBy key_cmp (keys_of es ++ key ∷ ks)
+    → update (step_of_key key) (add_flat false l) (entries_held es) ≡ Some (entries_held (es ++ (key, v) ∷ []))
+unfolding IsStrictlySortedBy
+at_end key ks v l is [] sorted = ap (λ t. Some (entry (segment_of_key key) (key_mark key) t (entries_held []))) (sym (only (tree_of v) is))
+  where
+    only : (t : Tree) → leaf_in t ≡ Some l → t ≡ leaf l
+    only (leaf o) e = ap leaf (same_Some o l e)
+    only (Tree.sequence xs) e = absurd (none-some l e)
+    only (Tree.mapping es) e = absurd (none-some l e)
+    only Tree.uninitialized e = absurd (none-some l e)
+at_end key ks v l is (e ∷ es) sorted =
+    let after : compare_segments (step_of_key key).seg (segment_of_key e.0) ≡ Greater = above key ks e.0 (keys_of es) sorted.0 in
+    rw (after, at_end key ks v l is es sorted.1)

@@ -1,0 +1,277 @@
+//! Adding a pair to a finished node, in place.
+ghost use Rattle.std.specs.Prelude.{◌≡◌, ◌<◌, ◌≤◌, true, false, length, drop, IfOk, IsOkAnd, Some};
+ghost use Rattle.std.specs.List.Sorted.{IsStrictlySortedBy};
+ghost use Rattle.std.specs.Map.{keys_of};
+ghost use Rattle.qs_spec.specs.Tree.{empty_step};
+ghost use Rattle.qs_spec.specs.Tree.Tree.{mapping, uninitialized};
+ghost use Rattle.qs_spec.specs.internal.InPlace as in_place;
+ghost use Rattle.qs_spec.specs.internal.InPlace.{add, add_flat, update};
+ghost use Rattle.qs_tree.specs.declared.scan.pair.Manner.TheVariants.{Plain};
+ghost use Rattle.qs_tree.specs.declared.tree.value.ParsedValue.TheVariants.{Uninitialized};
+ghost use Rattle.qs_tree.specs.tree.Views.{step_of_key, tree_of, entries_of_map};
+ghost use Rattle.qs_tree.specs.internal.scan.Pairs.{leaf_of, is_push, path_of};
+ghost use Rattle.qs_tree.specs.internal.build.Builder.{IsNoMap, entries_held};
+ghost use Rattle.qs_tree.specs.internal.build.Adding.{Adds, Gives, second};
+
+use crate::build::builder::{goes_between, key_list, place_among};
+use crate::build::conflict::{AddError, ConflictKind};
+use crate::scan::pair::{Leaf, Manner, Pair};
+use crate::tree::entries::Entries;
+use crate::tree::key::Key;
+use crate::tree::map::ParsedMap;
+use crate::tree::value::ParsedValue;
+use std::alloc::{AllocError, Global};
+use std::mem;
+
+/// Adds a pair to the node at a level of its path. Recurses for each key that is left.
+///
+/// Returns `false`, and changes nothing, where a key would be inserted before the end of a map with many entries. Returns an error
+/// where a node is in conflict with the pair, or where an allocation failed. The node isn't used after that.
+#[cycle(add_to_value)]
+pub(crate) fn add_to_value<'qs>(
+    alloc: Global,
+    value: &mut ParsedValue<'qs>,
+    pair: &mut Pair<'qs>,
+    level: usize,
+) -> Result<bool, AddError>
+    requires { level ≤ length pair.old.path.items }
+    ensures { let path = path_of (drop level pair.old.path.items) in let old = tree_of value.old in
+        Adds (add path (is_push pair.old.manner) (leaf_of pair.old.leaf) old) old (tree_of value.new) pair.old pair.new result }
+{
+    if level == pair.path.len() {
+        return match add_at_end(alloc, value, pair) {
+            Ok(()) => Ok(true),
+            Err(error) => Err(error),
+        };
+    }
+    match value {
+        ParsedValue::Map(map) => add_in_map(alloc, map, pair, level),
+        ParsedValue::Uninitialized => {
+            *value = value_of(alloc, pair, level)?;
+            Ok(true)
+        }
+        ParsedValue::Sequence(_) => Err(AddError::conflict(
+            alloc,
+            level,
+            ConflictKind::BelowSequence,
+        )),
+        ParsedValue::String(_) => Err(AddError::conflict(alloc, level, ConflictKind::BelowText)),
+        ParsedValue::Null => Err(AddError::conflict(alloc, level, ConflictKind::BelowUnit)),
+        ParsedValue::NoValue => Err(AddError::conflict(alloc, level, ConflictKind::BelowUnit)),
+    }
+}
+
+// Adds a pair to a map at a level of its path.
+#[cycle(add_to_value)]
+#[inline(always)]
+fn add_in_map<'qs>(
+    alloc: Global,
+    map: &mut ParsedMap<'qs>,
+    pair: &mut Pair<'qs>,
+    level: usize,
+) -> Result<bool, AddError>
+    requires { level < length pair.old.path.items }
+    ensures { let path = path_of (drop level pair.old.path.items) in let old = mapping (entries_of_map map.old) in
+        Adds (add path (is_push pair.old.manner) (leaf_of pair.old.leaf) old) old (mapping (entries_of_map map.new)) pair.old pair.new result }
+{
+    add_in_entries(alloc, &mut map.map, pair, level)
+}
+
+// Adds a pair to the entries of a map.
+#[cycle(add_to_value)]
+#[inline(always)]
+fn add_in_entries<'qs>(
+    alloc: Global,
+    entries: &mut Entries<Key<'qs>, ParsedValue<'qs>>,
+    pair: &mut Pair<'qs>,
+    level: usize,
+) -> Result<bool, AddError>
+    requires { level < length pair.old.path.items }
+    ensures { let path = path_of (drop level pair.old.path.items) in let old = mapping (entries_held entries.old) in
+        Adds (add path (is_push pair.old.manner) (leaf_of pair.old.leaf) old) old (mapping (entries_held entries.new)) pair.old pair.new result }
+{
+    let place = place_among(entries.as_slice(), pair.key(level));
+    match place {
+        Ok(at) => add_to_value(alloc, entries.at_mut(at), pair, level + 1),
+        Err(at) => {
+            if goes_between(place, entries.len()) {
+                return Ok(false);
+            }
+            let key = pair.take_key(level);
+            let value = value_of(alloc, pair, level + 1)?;
+            entries.insert_at(at, key, value)?;
+            Ok(true)
+        }
+    }
+}
+
+// A node with a pair alone, which is at a level of its path. The keys that are left and the leaf are taken out of the pair.
+fn value_of<'qs>(
+    alloc: Global,
+    pair: &mut Pair<'qs>,
+    level: usize,
+) -> Result<ParsedValue<'qs>, AllocError>
+    requires { level ≤ length pair.old.path.items }
+    ensures { let path = path_of (drop level pair.old.path.items) in
+        IfOk result (λ value. add path (is_push pair.old.manner) (leaf_of pair.old.leaf) uninitialized ≡ Some (tree_of value)) }
+{
+    let mut value = value_at_end(alloc, pair)?;
+    'keys: while level < pair.path.len() {
+        let key = pair.pop_key();
+        let map = ParsedMap::of(alloc, key, value)?;
+        value = ParsedValue::Map(map);
+    }
+    Ok(value)
+}
+
+// A node with a pair's leaf alone.
+#[inline(always)]
+fn value_at_end<'qs>(alloc: Global, pair: &mut Pair<'qs>) -> Result<ParsedValue<'qs>, AllocError>
+    ensures value { IfOk result (λ value. add_flat (is_push pair.old.manner) (leaf_of pair.old.leaf) uninitialized ≡ Some (tree_of value)) }
+    ensures path { pair.new.path ≡ pair.old.path }
+{
+    let leaf = pair.leaf.take().into_value();
+    match pair.manner {
+        Manner::Plain => Ok(leaf),
+        Manner::Push => Ok(ParsedValue::Sequence(vec![in alloc; leaf]?)),
+    }
+}
+
+/// Adds a pair's leaf at the end of its path.
+///
+/// Returns an error where the node is in conflict with it, or where an allocation failed. The node isn't used after that.
+#[inline(always)]
+pub(crate) fn add_at_end<'qs>(
+    alloc: Global,
+    value: &mut ParsedValue<'qs>,
+    pair: &mut Pair<'qs>,
+) -> Result<(), AddError>
+    ensures added { Gives (λ _. tree_of value.new) (in_place.add_here (is_push pair.old.manner) (leaf_of pair.old.leaf) (tree_of value.old)) result }
+    ensures fresh { pair.old.manner ≡ Plain → value.old ≡ Uninitialized → IsOkAnd result (λ _. IsNoMap (tree_of value.new)) }
+{
+    let leaf = pair.leaf.take();
+    match pair.manner {
+        Manner::Push => add_pushed(alloc, value, leaf, pair.path.len()),
+        Manner::Plain => add_direct(alloc, value, leaf, pair.path.len()),
+    }
+}
+
+// Adds a plain leaf to a node, in a map at the empty string key.
+#[inline(always)]
+#[tactic(auto, using(crate::proofs::lemmas::Views::views))]
+fn add_direct<'qs>(
+    alloc: Global,
+    value: &mut ParsedValue<'qs>,
+    leaf: Leaf<'qs>,
+    level: usize,
+) -> Result<(), AddError>
+    ensures added { Gives (λ _. tree_of value.new) (in_place.add_here false (leaf_of leaf.entry) (tree_of value.old)) result }
+    ensures fresh { value.old ≡ Uninitialized → IsOkAnd result (λ _. IsNoMap (tree_of value.new)) }
+{
+    match value {
+        ParsedValue::Map(map) => add_at_empty(alloc, map, leaf, level),
+        _ => add_plain(alloc, value, leaf, level),
+    }
+}
+
+/// Adds a plain leaf to a node, or returns the conflict with a map.
+#[inline(never)]
+#[tactic(auto, using(crate::proofs::lemmas::Views::views))]
+pub(crate) fn add_plain<'qs>(
+    alloc: Global,
+    value: &mut ParsedValue<'qs>,
+    leaf: Leaf<'qs>,
+    level: usize,
+) -> Result<(), AddError>
+    ensures added { Gives (λ _. tree_of value.new) (add_flat false (leaf_of leaf.entry) (tree_of value.old)) result }
+    ensures fresh { value.old ≡ Uninitialized → IsOkAnd result (λ _. IsNoMap (tree_of value.new)) }
+{
+    match value {
+        ParsedValue::Uninitialized => {
+            *value = leaf.into_value();
+            Ok(())
+        }
+        ParsedValue::Sequence(items) => {
+            items.push(leaf.into_value())?;
+            Ok(())
+        }
+        ParsedValue::Map(map) => Err(conflict(alloc, map, level)),
+        ParsedValue::String(_) => add_second(alloc, value, leaf),
+        ParsedValue::Null => add_second(alloc, value, leaf),
+        ParsedValue::NoValue => add_second(alloc, value, leaf),
+    }
+}
+
+// A sequence of a node and a leaf takes the place of the node.
+#[tactic(auto, using(crate::proofs::lemmas::Views::views))]
+fn add_second<'qs>(
+    alloc: Global,
+    value: &mut ParsedValue<'qs>,
+    leaf: Leaf<'qs>,
+) -> Result<(), AddError>
+    ensures { Gives (λ _. tree_of value.new) (second (tree_of value.old) (leaf_of leaf.entry)) result }
+{
+    let first = mem::replace(value, ParsedValue::Uninitialized);
+    *value = ParsedValue::Sequence(vec![in alloc; first, leaf.into_value()]?);
+    Ok(())
+}
+
+// Pushes a leaf onto a sequence or an empty node, or returns the conflict with another node.
+#[inline(never)]
+#[tactic(auto, using(crate::proofs::lemmas::Views::views))]
+fn add_pushed<'qs>(
+    alloc: Global,
+    value: &mut ParsedValue<'qs>,
+    leaf: Leaf<'qs>,
+    level: usize,
+) -> Result<(), AddError>
+    ensures { Gives (λ _. tree_of value.new) (add_flat true (leaf_of leaf.entry) (tree_of value.old)) result }
+{
+    match value {
+        ParsedValue::Uninitialized => *value = ParsedValue::Sequence(vec![in alloc;
+            leaf.into_value(),
+        ]?),
+        ParsedValue::Sequence(items) => items.push(leaf.into_value())?,
+        ParsedValue::Map(map) => return Err(conflict(alloc, map, level)),
+        _ => return Err(AddError::conflict(alloc, level, ConflictKind::PushOnLeaf)),
+    }
+    Ok(())
+}
+
+// Adds a plain leaf at the empty string key of a map.
+#[inline(never)]
+fn add_at_empty<'qs>(
+    alloc: Global,
+    map: &mut ParsedMap<'qs>,
+    leaf: Leaf<'qs>,
+    level: usize,
+) -> Result<(), AddError>
+    ensures { Gives (λ _. entries_of_map map.new) (update empty_step (add_flat false (leaf_of leaf.entry)) (entries_of_map map.old)) result }
+{
+    add_leaf_at(alloc, &mut map.map, Key::from(""), leaf, level)
+}
+
+/// Adds a plain leaf to the node at a key, which is at a level of its path.
+pub(crate) fn add_leaf_at<'qs>(
+    alloc: Global,
+    entries: &mut Entries<Key<'qs>, ParsedValue<'qs>>,
+    key: Key<'qs>,
+    leaf: Leaf<'qs>,
+    level: usize,
+) -> Result<(), AddError>
+    ensures { Gives (λ _. entries_held entries.new) (update (step_of_key key.entry) (add_flat false (leaf_of leaf.entry)) (entries_held entries.old)) result }
+{
+    match place_among(entries.as_slice(), &key) {
+        Ok(at) => add_plain(alloc, entries.at_mut(at), leaf, level),
+        Err(at) => Ok(entries.insert_at(at, key, leaf.into_value())?),
+    }
+}
+
+// The conflict of a leaf with a map.
+#[inline(never)]
+fn conflict(alloc: Global, map: &ParsedMap<'_>, level: usize) -> AddError {
+    match key_list(alloc, map.map.as_slice()) {
+        Ok(keys) => AddError::conflict(alloc, level, ConflictKind::LeafOnMap(keys)),
+        Err(_) => AddError::OutOfMemory,
+    }
+}

@@ -1,0 +1,82 @@
+//! A map of leaves alone, in the order in which they came.
+//!
+//! It is the map of their pairs. They are sorted once, when it is finished, so a leaf takes constant time until then.
+ghost use Rattle.std.specs.Prelude.{◌≡◌, Some, false, IfOk, IsTrue, OnOk};
+ghost use Rattle.qs_spec.specs.internal.InPlace.{add_flat, add_here, update};
+ghost use Rattle.qs_tree.specs.tree.Views.{step_of_key, entries_of_map};
+ghost use Rattle.qs_tree.specs.internal.scan.Pairs.{leaf_of};
+ghost use Rattle.qs_tree.specs.internal.build.Builder.{entries_held};
+ghost use Rattle.qs_tree.specs.internal.build.Unsorted.{unsorted_entries, AreLeaves};
+
+use crate::build::add_to_value::add_leaf_at;
+use crate::scan::pair::Leaf;
+use crate::tree::entries::Entries;
+use crate::tree::key::Key;
+use crate::tree::map::ParsedMap;
+use crate::tree::value::ParsedValue;
+use std::alloc::{AllocError, Global};
+
+/// A map of leaves alone, in the order in which they came. Those of one key make a sequence.
+#[derive(Drop)]
+pub(crate) struct Unsorted<'qs> {
+    leaves: Vec<(Key<'qs>, Leaf<'qs>)>,
+}
+
+impl<'qs> Unsorted<'qs> {
+    /// A finished map of leaves alone.
+    pub fn of(alloc: Global, map: ParsedMap<'qs>) -> Result<Self, AllocError>
+        requires { AreLeaves (entries_of_map map) }
+        ensures { IfOk result (λ unsorted. unsorted_entries unsorted ≡ entries_of_map map.entry) }
+    {
+        let entries = map.into_entries();
+        let mut unsorted = Unsorted {
+            leaves: Vec::with_capacity(alloc, entries.len())?,
+        };
+        for entry in entries.into_items() {
+            let Some(leaf) = Leaf::of(entry.1) else {
+                continue;
+            };
+            unsorted.push(entry.0, leaf)?;
+        }
+        Ok(unsorted)
+    }
+
+    /// Adds a leaf at a key.
+    pub fn push(&mut self, key: Key<'qs>, leaf: Leaf<'qs>) -> Result<(), AllocError>
+        ensures flat { OnOk result (update (step_of_key key.entry) (add_flat false (leaf_of leaf.entry)) (unsorted_entries self.old) ≡ Some (unsorted_entries self.new)) }
+        ensures here { OnOk result (update (step_of_key key.entry) (add_here false (leaf_of leaf.entry)) (unsorted_entries self.old) ≡ Some (unsorted_entries self.new)) }
+    {
+        Ok(self.leaves.push((key, leaf))?)
+    }
+
+    /// The finished entries. Sorts the leaves.
+    pub fn into_entries(
+        self,
+        alloc: Global,
+    ) -> Result<Entries<Key<'qs>, ParsedValue<'qs>>, AllocError>
+        ensures { IfOk result (λ entries. entries_held entries ≡ unsorted_entries self.entry) }
+    {
+        let mut leaves = self.leaves;
+        leaves.sort_by(|left, right| left.0.compare(&right.0))?;
+        let mut entries = Entries::with_capacity(alloc, leaves.len())?;
+        for entry in leaves {
+            // Leaves are in no conflict with one another.
+            let Ok(()) = add_leaf_at(alloc, &mut entries, entry.0, entry.1, 0) else {
+                return Err(AllocError);
+            };
+        }
+        Ok(entries)
+    }
+}
+
+/// Whether all values are leaves.
+pub(crate) fn are_leaves<'qs>(entries: &[(Key<'qs>, ParsedValue<'qs>)]) -> bool
+    ensures { IsTrue result → AreLeaves (entries_held entries.now) }
+{
+    for entry in entries {
+        if !entry.1.is_leaf() {
+            return false;
+        }
+    }
+    true
+}

@@ -1,0 +1,107 @@
+-- What is returned of a node, and of the parts of a struct.
+use Rattle.std.proofs.Common.{◌≡◌, Bool, true, false, List, [], ◌∷◌, Option, Some, None, Result, Ok, Err, refl, sym, ap, ◌∙◌}
+use Rattle.std.specs.Prelude.{cond, ◌&&◌, ◌||◌}
+use Rattle.std.specs.Option.{option_map, option_and_then}
+use Rattle.std.proofs.lemmas.Bool.{false≢true}
+use Rattle.qs_spec.specs.Data.{Data, Members, members_of, Named}
+use Rattle.qs_spec.specs.Data as d
+use Rattle.qs_spec.specs.Shape.{Shape, Field, UnknownKeys, fields_of}
+use Rattle.qs_spec.specs.Tree.{Tree, Entries}
+use Rattle.qs_spec.specs.Node.{keys_are_allowed, keys_are_names, keys_are_text}
+use Rattle.qs_spec.specs.internal.ReadFunction.{Reader, reads, reads_names, reads_places, struct_members}
+use Rattle.qs_tree.specs.declared.error.Error.{Error}
+use Rattle.qs_tree.specs.declared.error.Error.TheVariants as e
+use Rattle.qs_data.specs.read.Errors.{IsCustomOrOutOfMemory, OnlyCustomUtf8OrOutOfMemory}
+use Rattle.qs_data.specs.read.Gives.{Gives, Rejects}
+use Rattle.qs_data.specs.read.Text.{entries_are_text, is_text}
+use Rattle.qs_data.proofs.lemmas.read.Entries.{keys_bad}
+use Rattle.qs_data.proofs.lemmas.read.Errors.{custom, rejected}
+use Rattle.serde_qs.specs.Nodes.{by_names, members_read, names_read, value_found}
+use Rattle.serde_qs.specs.Records.{struct_in}
+use Rattle.serde_qs.specs.Typed.{Means}
+
+-- what is returned of a part, as what is returned of a whole that means the same
+pub widened : {X Y : Type 0} (view : X → Y) (t u : Bool) (x : Result X Error) (r s : Option Y) → Gives view t x r → r ≡ s → (t ≡ false → u ≡ false) → Gives view u x s
+widened view t u (Ok x) r s g h f = sym h ∙ g
+widened view t u (Err x) r s g h f = rejected t u x r s g (λ n. sym h ∙ n) f
+
+pub means_all : {X Y : Type 0} (view : X → Y) (u : Bool) (x : Result X Error) (r s : Option Y) → Means view x r → r ≡ s → Gives view u x s
+means_all view u x r s g h = widened view true u x r s g h (λ f. absurd (false≢true (sym f)))
+
+-- a field that was found once, never, and twice
+
+pub found_once : {X Y : Type 0} (view : X → Y) (u : Bool) (x : Result X Error) (m : Data → Option Y) (absent : Option Y) (r : Reader) (ts : List Tree) (t : Tree)
+    → Gives view (is_text t) x (option_and_then m (r t)) → ts ≡ t ∷ [] → (is_text t ≡ false → u ≡ false) → Gives view u x (value_found m absent r ts)
+found_once view u x m absent r ts t g h f = widened view (is_text t) u x (option_and_then m (r t)) (value_found m absent r ts) g (sym (ap (value_found m absent r) h)) f
+
+pub found_never : {X Y : Type 0} (view : X → Y) (u : Bool) (x : Result X Error) (m : Data → Option Y) (absent : Option Y) (r : Reader) (ts : List Tree)
+    → Means view x absent → ts ≡ [] → Gives view u x (value_found m absent r ts)
+found_never view u x m absent r ts g h = means_all view u x absent (value_found m absent r ts) g (sym (ap (value_found m absent r) h))
+
+pub found_twice : {Y : Type 0} (u : Bool) (x : Error) (m : Data → Option Y) (absent : Option Y) (r : Reader) (ts : List Tree) (s t : Tree) (more : List Tree)
+    → IsCustomOrOutOfMemory x → ts ≡ s ∷ t ∷ more → Rejects u x (value_found m absent r ts)
+found_twice u x m absent r ts s t more g h = custom u x (value_found m absent r ts) g (ap (value_found m absent r) h)
+
+-- a value that may be left out, of one that is there
+
+pub some_read : {A : Type 0} (m : Data → Option A) (o : Option Data) → option_map Some (option_and_then m o) ≡ option_and_then (λ x. option_map Some (m x)) o
+some_read m None = refl
+some_read m (Some x) = refl
+
+-- the members of a node
+
+all_names : (fs : List Field) (es : Entries) → keys_are_text es ≡ keys_are_allowed UnknownKeys.ignored (fields_of fs) es
+all_names fs es = by (keys_are_text es) (keys_are_names (fields_of fs) es)
+  where
+    by : (a b : Bool) → a ≡ (a && (b || true))
+    by true true = refl
+    by true false = refl
+    by false b = refl
+
+tested_first : {Y : Type 0} (m : Members → Option Y) (a : Bool) (o : Option (List Named)) → cond a (option_and_then (λ ms. m (members_of ms)) o) None ≡ option_and_then (λ ms. m (members_of ms)) (option_and_then (λ ms. cond a (Some ms) None) o)
+tested_first m true None = refl
+tested_first m false None = refl
+tested_first m true (Some ms) = refl
+tested_first m false (Some ms) = refl
+
+pub names_are : {Y : Type 0} (st : Bool) (fs : List Field) (m : Members → Option Y) (es : Entries) → names_read st fs m es ≡ cond (keys_are_text es) (by_names st fs m es) None
+names_are st fs m es =
+    sym (tested_first m (keys_are_allowed UnknownKeys.ignored (fields_of fs) es) (reads_names st (fields_of fs) es)) ∙ sym (ap (λ a. cond a (by_names st fs m es) None) (all_names fs es))
+
+pub names_ok : {Y : Type 0} (st : Bool) (fs : List Field) (m : Members → Option Y) (es : Entries) (y : Y) → keys_are_text es ≡ true → by_names st fs m es ≡ Some y → names_read st fs m es ≡ Some y
+names_ok st fs m es y h p = names_are st fs m es ∙ ap (λ a. cond a (by_names st fs m es) None) h ∙ p
+
+untested : {Y : Type 0} (b : Bool) (o : Option Y) → o ≡ None → cond b o None ≡ None
+untested true o p = p
+untested false o p = refl
+
+pub names_unread : {Y : Type 0} (st : Bool) (fs : List Field) (m : Members → Option Y) (es : Entries) → by_names st fs m es ≡ None → names_read st fs m es ≡ None
+names_unread st fs m es p = names_are st fs m es ∙ untested (keys_are_text es) (by_names st fs m es) p
+
+-- a key that isn't text
+pub names_broken : {Y : Type 0} (st : Bool) (fs : List Field) (m : Members → Option Y) (es : Entries) (x : Error) → keys_are_text es ≡ false → OnlyCustomUtf8OrOutOfMemory {X = Unit {0}} (Err x)
+    → Rejects (entries_are_text es) x (names_read st fs m es)
+names_broken st fs m es x h p = by x p
+  where
+    none : names_read st fs m es ≡ None
+    none = names_are st fs m es ∙ ap (λ a. cond a (by_names st fs m es) None) h
+
+    by : (x : Error) → OnlyCustomUtf8OrOutOfMemory {X = Unit {0}} (Err x) → Rejects (entries_are_text es) x (names_read st fs m es)
+    by (e.Custom message) p = none
+    by (e.Utf8 cause) p = (none, keys_bad es h)
+    by e.OutOfMemory p = tt
+    by (e.MaxSerializationDepthExceeded n) p = absurd p
+    by (e.Parse message n) p = absurd p
+    by e.Unsupported p = absurd p
+    by (e.FromUtf8 cause) p = absurd p
+    by (e.Io cause) p = absurd p
+    by (e.ParseInt cause) p = absurd p
+    by e.Failed p = absurd p
+
+pub struct_read : {Y : Type 0} (st : Bool) (fs : List Field) (m : Members → Option Y) (t : Tree) → members_read st fs m t ≡ option_and_then (struct_in m) (reads st (Shape.struct UnknownKeys.ignored (fields_of fs)) t)
+unfolding reads
+struct_read st fs m t = by (struct_members (keys_are_allowed UnknownKeys.ignored (fields_of fs)) (reads_names st (fields_of fs)) (reads_places st (fields_of fs)) t)
+  where
+    by : (o : Option (List Named)) → option_and_then (λ ms. m (members_of ms)) o ≡ option_and_then (struct_in m) (option_map (λ ms. d.struct (members_of ms)) o)
+    by None = refl
+    by (Some ms) = refl

@@ -1,0 +1,337 @@
+-- Tables of what structs and enums are made of.
+use Rattle.std.specs.Prelude.{◌≡◌, ℕ, suc, ◌+◌, ◌==◌, Bool, true, false, List, [], ◌∷◌, length, map, Option, option_map, refl}
+use Rattle.qs_spec.specs.Data as d
+use Rattle.qs_spec.specs.Data.{Data, Members, Named, Values, members_of, values_of}
+use Rattle.qs_spec.specs.Shape as s
+use Rattle.qs_spec.specs.Shape.{Shape, Field, fields_of, shapes_of, variants_of, Variant, VariantKind, UnknownKeys, is_distinct, are_distinct, are_distinct_fields}
+use Rattle.serde_qs.specs.ComesBack.{FieldsComeBack, PartsComeBack}
+use Rattle.serde_qs.specs.Defaulted.{defaulted_in}
+use Rattle.serde_qs.specs.Meaning.{newtype_in}
+use Rattle.serde_qs.specs.Optional.{FieldsAreNamed, optional_data, optional_in}
+use Rattle.serde_qs.specs.Records.{are_names, field_form, member_data, member_in, nothing_in, others_of, struct_in}
+use Rattle.serde_qs.specs.Tables.{Table, table_of}
+use Rattle.serde_qs.specs.Tuples.{ItemsComeBack, item_in, no_item_in, tuple_in, tuple_variant_in}
+use Rattle.serde_qs.specs.Variants.{AreDistinct, AreNamed, KindComesBack, KindIsDistinct, KindIsNamed, VariantsComeBack, are_variants, each, last_data, last_form, last_in, newtype_variant_in, struct_variant_in, unit_variant_in, variant_data, variant_form, variant_in}
+use Rattle.serde_qs.specs.declared.compound.defaulted.Defaulted.{Defaulted}
+use Rattle.serde_qs.specs.declared.compound.optional.Optional.{Optional}
+use Rattle.serde_qs.specs.declared.compound.parts.Enum.{Enum}
+use Rattle.serde_qs.specs.declared.compound.payloads.Newtype.{Newtype}
+use Rattle.serde_qs.specs.declared.compound.payloads.Struct.{Struct}
+use Rattle.serde_qs.specs.declared.compound.payloads.Tuple.{Tuple}
+use Rattle.serde_qs.specs.declared.compound.strict.StrictStruct.{StrictStruct}
+use Rattle.serde_qs.specs.declared.compound.variants.Last.{Last}
+use Rattle.serde_qs.specs.declared.compound.variants.OneOf.{OneOf}
+use Rattle.serde_qs.specs.internal.Booleans.{Holds, both_true, held}
+use Rattle.serde_qs.specs.internal.ComesBack.{fields_back, newtype_back, nothing_back, struct_back}
+use Rattle.serde_qs.specs.internal.Defaulted.{defaulted_back}
+use Rattle.serde_qs.specs.internal.Optional.{field_named, optional_back, optional_named}
+use Rattle.serde_qs.specs.internal.Records.{differ}
+use Rattle.serde_qs.specs.internal.Tuples.{items_back, no_item_back, tuple_back, tuple_variant_back}
+use Rattle.serde_qs.specs.internal.Variants.{enum_back, enum_distinct, last_back, last_distinct, last_named, newtype_variant_back, one_back, one_distinct, one_named, struct_variant_back, unit_variant_back}
+
+-- The fields of a struct: how many there are and, by their names, what is read for them, their data, and what members mean. The first member that
+-- is written has the name of a field, fields come back where the names differ, and no struct or enum in their shapes has a name twice.
+pub record FieldsTable (A : Type 0) : Type 1 where
+  pub Value : Type 0
+  pub value : A → Value
+  pub count : ℕ
+  pub after : List (List ℕ) → List (List ℕ)
+  pub form : List (List ℕ) → List Field
+  pub written : List (List ℕ) → A → List Named
+  pub meaning : List (List ℕ) → Members → Option Value
+  pub named : FieldsAreNamed form written
+  pub come_back : FieldsComeBack form written meaning value
+  pub are_distinct : (names : List (List ℕ)) → are_distinct_fields (fields_of (form names)) ≡ true
+
+abbrev pub no_fields : FieldsTable (Unit {0})
+no_fields = record {
+  Value = Unit {0};
+  value = λ x. tt;
+  count = 0;
+  after = λ names. names;
+  form = λ names. [];
+  written = λ names x. [];
+  meaning = λ names ms. nothing_in ms;
+  named = λ names x. refl;
+  come_back = nothing_back;
+  are_distinct = λ names. refl;
+}
+
+abbrev pub field : {A B : Type 0} → Table A → FieldsTable B → FieldsTable (A × B)
+field t r = record {
+  Value = t.Value × r.Value;
+  value = λ x. (t.value x.0, r.value x.1);
+  count = suc r.count;
+  after = λ names. r.after (others_of names);
+  form = λ names. field_form t.form false r.form names;
+  written = λ names x. member_data (t.datum x.0) (λ ns. r.written ns x.1) names;
+  meaning = λ names ms. member_in t.meaning r.meaning names ms;
+  named = λ names x. field_named t.datum t.form r.form r.written names x.0 x.1;
+  come_back = λ names x ms k h p. fields_back t.datum t.form t.meaning t.value t.comes_back r.form r.written r.meaning r.value r.come_back names x.0 x.1 ms k h p;
+  are_distinct = λ names. both_true t.distinct (r.are_distinct (others_of names));
+}
+
+abbrev pub optional_field : {A B : Type 0} → Table A → FieldsTable B → FieldsTable (Optional A B)
+optional_field t r = record {
+  Value = Option t.Value × r.Value;
+  value = λ x. (option_map t.value x.0, r.value x.1);
+  count = suc r.count;
+  after = λ names. r.after (others_of names);
+  form = λ names. field_form t.form true r.form names;
+  written = λ names x. optional_data t.datum x.0 (λ ns. r.written ns x.1) names;
+  meaning = λ names ms. optional_in t.meaning r.meaning names ms;
+  named = λ names x. optional_named t.datum t.form r.form r.written r.named names x.0 x.1;
+  come_back = λ names x ms k h p. optional_back t.datum t.form t.meaning t.value t.comes_back r.form r.written r.meaning r.value r.named r.come_back names x.0 x.1 ms k h p;
+  are_distinct = λ names. both_true t.distinct (r.are_distinct (others_of names));
+}
+
+-- a field that has the value of `missing` where its key is missing
+abbrev pub defaulted_field : {A B : Type 0} → Data → Table A → FieldsTable B → FieldsTable (Defaulted A B)
+defaulted_field missing t r = record {
+  Value = t.Value × r.Value;
+  value = λ x. (t.value x.0, r.value x.1);
+  count = suc r.count;
+  after = λ names. r.after (others_of names);
+  form = λ names. field_form t.form true r.form names;
+  written = λ names x. member_data (t.datum x.0) (λ ns. r.written ns x.1) names;
+  meaning = λ names ms. defaulted_in missing t.meaning r.meaning names ms;
+  named = λ names x. field_named t.datum t.form r.form r.written names x.0 x.1;
+  come_back = λ names x ms k h p. defaulted_back missing t.datum t.form t.meaning t.value t.comes_back r.form r.written r.meaning r.value r.come_back names x.0 x.1 ms k h p;
+  are_distinct = λ names. both_true t.distinct (r.are_distinct (others_of names));
+}
+
+-- the items of a tuple
+pub record ItemsTable (A : Type 0) : Type 1 where
+  pub Value : Type 0
+  pub value : A → Value
+  pub form : List Shape
+  pub written : A → List Data
+  pub meaning : Values → Option Value
+  pub come_back : ItemsComeBack form written meaning value
+  pub distinct : are_distinct (shapes_of form) ≡ true
+
+abbrev pub no_items : ItemsTable (Unit {0})
+no_items = record {
+  Value = Unit {0};
+  value = λ x. tt;
+  form = [];
+  written = λ x. [];
+  meaning = λ ds. no_item_in ds;
+  come_back = no_item_back;
+  distinct = refl;
+}
+
+abbrev pub item : {A B : Type 0} → Table A → ItemsTable B → ItemsTable (A × B)
+item t r = record {
+  Value = t.Value × r.Value;
+  value = λ x. (t.value x.0, r.value x.1);
+  form = t.form ∷ r.form;
+  written = λ x. t.datum x.0 ∷ r.written x.1;
+  meaning = λ ds. item_in t.meaning r.meaning ds;
+  come_back = λ x es h p. items_back t.datum t.form t.meaning t.value t.comes_back r.form r.written r.meaning r.value r.come_back x.0 x.1 es h p;
+  distinct = both_true t.distinct r.distinct;
+}
+
+-- What a variant holds: how many names it has besides its own and, by them, what is read for it, its data under its name, and what such data mean.
+-- Its data have that name, it comes back where the names differ, and then no struct or enum in its shapes has a name twice.
+pub record PayloadTable (A : Type 0) : Type 1 where
+  pub Value : Type 0
+  pub value : A → Value
+  pub count : ℕ
+  pub after : List (List ℕ) → List (List ℕ)
+  pub form : List (List ℕ) → VariantKind
+  pub written : List ℕ → List (List ℕ) → A → Data
+  pub meaning : List (List ℕ) → Data → Option Value
+  pub named : KindIsNamed written
+  pub comes_back : KindComesBack form written meaning value
+  pub is_distinct : KindIsDistinct form
+
+abbrev pub unit_payload : PayloadTable (Unit {0})
+unit_payload = record {
+  Value = Unit {0};
+  value = λ x. tt;
+  count = 0;
+  after = λ names. names;
+  form = λ names. s.unit_kind;
+  written = λ n names x. d.unit_variant n;
+  meaning = λ names x. unit_variant_in x;
+  named = λ n names x. refl;
+  comes_back = λ n names x e k h p. unit_variant_back n e k h p;
+  is_distinct = λ names k. refl;
+}
+
+abbrev pub newtype_payload : {A : Type 0} → Table A → PayloadTable (Newtype A)
+newtype_payload t = record {
+  Value = t.Value;
+  value = λ x. t.value x.0;
+  count = 0;
+  after = λ names. names;
+  form = λ names. s.newtype_kind t.form;
+  written = λ n names x. d.newtype_variant n (t.datum x.0);
+  meaning = λ names x. newtype_variant_in t.meaning x;
+  named = λ n names x. refl;
+  comes_back = λ n names x e k h p. newtype_variant_back t.datum t.form t.meaning t.value t.comes_back n x.0 e h p;
+  is_distinct = λ names k. t.distinct;
+}
+
+abbrev pub tuple_payload : {A : Type 0} → ItemsTable A → PayloadTable (Tuple A)
+tuple_payload t = record {
+  Value = t.Value;
+  value = λ x. t.value x.0;
+  count = 0;
+  after = λ names. names;
+  form = λ names. s.tuple_kind (shapes_of t.form);
+  written = λ n names x. d.tuple_variant n (values_of (t.written x.0));
+  meaning = λ names x. tuple_variant_in t.meaning x;
+  named = λ n names x. refl;
+  comes_back = λ n names x e k h p. tuple_variant_back t.form t.written t.meaning t.value t.come_back n x.0 e h p;
+  is_distinct = λ names k. t.distinct;
+}
+
+abbrev pub struct_payload : {A : Type 0} → FieldsTable A → PayloadTable (Struct A)
+struct_payload t = record {
+  Value = t.Value;
+  value = λ x. t.value x.0;
+  count = t.count;
+  after = t.after;
+  form = λ names. s.struct_kind UnknownKeys.ignored (fields_of (t.form names));
+  written = λ n names x. d.struct_variant n (members_of (t.written names x.0));
+  meaning = λ names x. struct_variant_in (t.meaning names) x;
+  named = λ n names x. refl;
+  comes_back = λ n names x e k h p. struct_variant_back t.form t.written t.meaning t.value t.come_back n names x.0 e k h p;
+  is_distinct = λ names k. both_true k (t.are_distinct names);
+}
+
+abbrev pub strict_payload : {A : Type 0} → FieldsTable A → PayloadTable (StrictStruct A)
+strict_payload t = record {
+  Value = t.Value;
+  value = λ x. t.value x.0;
+  count = t.count;
+  after = t.after;
+  form = λ names. s.struct_kind UnknownKeys.rejected (fields_of (t.form names));
+  written = λ n names x. d.struct_variant n (members_of (t.written names x.0));
+  meaning = λ names x. struct_variant_in (t.meaning names) x;
+  named = λ n names x. refl;
+  comes_back = λ n names x e k h p. struct_variant_back t.form t.written t.meaning t.value t.come_back n names x.0 e k h p;
+  is_distinct = λ names k. both_true k (t.are_distinct names);
+}
+
+-- the variants of an enum, by their names and those of their fields
+pub record VariantsTable (A : Type 0) : Type 1 where
+  pub Value : Type 0
+  pub value : A → Value
+  pub count : ℕ
+  pub form : List (List ℕ) → List Variant
+  pub written : List (List ℕ) → A → Data
+  pub meaning : List (List ℕ) → Data → Option Value
+  pub named : AreNamed form written
+  pub come_back : VariantsComeBack form written meaning value
+  pub are_distinct : AreDistinct form
+
+abbrev pub last_variant : {A : Type 0} → PayloadTable A → VariantsTable (Last A)
+last_variant t = record {
+  Value = t.Value;
+  value = λ x. t.value x.0;
+  count = suc t.count;
+  form = λ names. last_form t.form names;
+  written = λ names x. last_data t.written names x.0;
+  meaning = λ names x. last_in t.meaning names x;
+  named = λ names x. last_named t.form t.written t.named names x.0;
+  come_back = λ names x e k h p. last_back t.form t.written t.meaning t.value t.named t.comes_back names x.0 e k h p;
+  are_distinct = λ names k. last_distinct t.form t.is_distinct names k;
+}
+
+abbrev pub one_variant : {A B : Type 0} → PayloadTable A → VariantsTable B → VariantsTable (OneOf A B)
+one_variant t r = record {
+  Value = OneOf t.Value r.Value;
+  value = λ x. each t.value r.value x;
+  count = suc t.count + r.count;
+  form = λ names. variant_form t.form t.after r.form names;
+  written = λ names x. variant_data t.written t.after r.written names x;
+  meaning = λ names x. variant_in t.meaning t.after r.meaning names x;
+  named = λ names x. one_named t.form t.written t.named t.after r.form r.written r.named names x;
+  come_back = λ names x e k h p. one_back t.form t.written t.meaning t.value t.named t.comes_back t.after r.form r.written r.meaning r.value r.named r.come_back names x e k h p;
+  are_distinct = λ names k. one_distinct t.form t.is_distinct t.after r.form r.are_distinct names k;
+}
+
+-- Whatever a type is made of. There are as many names as the parts need, and no two that belong together are equal.
+pub record PartsTable (A : Type 0) : Type 1 where
+  pub Value : Type 0
+  pub value : A → Value
+  pub are_named : List (List ℕ) → Bool
+  pub form : List (List ℕ) → Shape
+  pub written : List (List ℕ) → A → Data
+  pub meaning : List (List ℕ) → Data → Option Value
+  pub come_back : PartsComeBack are_named form written meaning value
+  pub distinct : (names : List (List ℕ)) → are_named names ≡ true → is_distinct (form names) ≡ true
+
+abbrev pub struct_parts : {A : Type 0} → FieldsTable A → PartsTable (Struct A)
+struct_parts t = record {
+  Value = t.Value;
+  value = λ x. t.value x.0;
+  are_named = λ names. are_names names t.count (t.form names);
+  form = λ names. Shape.struct UnknownKeys.ignored (fields_of (t.form names));
+  written = λ names x. d.struct (members_of (t.written names x.0));
+  meaning = λ names x. struct_in (t.meaning names) x;
+  come_back = λ names x e k h p. struct_back t.count t.form t.written t.meaning t.value t.come_back names x.0 e k h p;
+  distinct = λ names k. differ UnknownKeys.ignored names t.count (t.form names) k (t.are_distinct names);
+}
+
+abbrev pub strict_parts : {A : Type 0} → FieldsTable A → PartsTable (StrictStruct A)
+strict_parts t = record {
+  Value = t.Value;
+  value = λ x. t.value x.0;
+  are_named = λ names. are_names names t.count (t.form names);
+  form = λ names. Shape.struct UnknownKeys.rejected (fields_of (t.form names));
+  written = λ names x. d.struct (members_of (t.written names x.0));
+  meaning = λ names x. struct_in (t.meaning names) x;
+  come_back = λ names x e k h p. struct_back t.count t.form t.written t.meaning t.value t.come_back names x.0 e k h p;
+  distinct = λ names k. differ UnknownKeys.rejected names t.count (t.form names) k (t.are_distinct names);
+}
+
+abbrev pub enum_parts : {A : Type 0} → VariantsTable A → PartsTable (Enum A)
+enum_parts t = record {
+  Value = t.Value;
+  value = λ x. t.value x.0;
+  are_named = λ names. are_variants names t.count (t.form names);
+  form = λ names. Shape.enumeration (variants_of (t.form names));
+  written = λ names x. t.written names x.0;
+  meaning = λ names x. t.meaning names x;
+  come_back = λ names x e k h p. enum_back t.count t.form t.written t.meaning t.value t.come_back names x.0 e k h p;
+  distinct = λ names k. enum_distinct t.count t.form t.are_distinct names k;
+}
+
+abbrev pub newtype_parts : {A : Type 0} → Table A → PartsTable (Newtype A)
+newtype_parts t = record {
+  Value = t.Value;
+  value = λ x. t.value x.0;
+  are_named = λ names. length names == 0;
+  form = λ names. Shape.newtype t.form;
+  written = λ names x. d.newtype (t.datum x.0);
+  meaning = λ names x. newtype_in t.meaning x;
+  come_back = λ names x e k h p. newtype_back t.datum t.form t.meaning t.value t.comes_back x.0 e h p;
+  distinct = λ names k. t.distinct;
+}
+
+abbrev pub tuple_parts : {A : Type 0} → ItemsTable A → PartsTable (Tuple A)
+tuple_parts t = record {
+  Value = t.Value;
+  value = λ x. t.value x.0;
+  are_named = λ names. length names == 0;
+  form = λ names. Shape.tuple (shapes_of t.form);
+  written = λ names x. d.tuple (values_of (t.written x.0));
+  meaning = λ names x. tuple_in t.meaning x;
+  come_back = λ names x e k h p. tuple_back t.form t.written t.meaning t.value t.come_back x.0 e h p;
+  distinct = λ names k. t.distinct;
+}
+
+-- the names in a constant of a program, `NAMES.now`
+abbrev pub names_in : List (record { now : List ℕ }) → List (List ℕ)
+names_in names = map (λ n. n.now) names
+
+-- A struct or an enum by its parts, under these names, which suit the parts.
+abbrev pub made_of : {A B : Type 0} (t : PartsTable B) (names : List (record { now : List ℕ })) (parts : A → B) → Holds (t.are_named (names_in names)) → Table A
+made_of t names parts suit =
+    let ns : List (List ℕ) = names_in names in
+    let named = held (t.are_named ns) suit in
+    table_of (λ x. t.value (parts x)) (λ x. t.written ns (parts x)) (t.form ns) (t.meaning ns) (t.distinct ns named) (λ x e h p. t.come_back ns (parts x) e named h p)

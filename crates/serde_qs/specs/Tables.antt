@@ -1,0 +1,91 @@
+-- Tables: what a type is read by and written as, with the proofs that belong to it, as one value. That of a struct or an enum holds those of
+-- its parts, each once.
+use Rattle.std.specs.Prelude.{◌≡◌, ℕ, Bool, true, List, map, Option, option_map, refl}
+use Rattle.std.specs.BTreeMap.{BTreeMap}
+use Rattle.std.specs.declared.alloc.Global.{Global}
+use Rattle.std.specs.declared.string.String.{String}
+use Rattle.std.specs.declared.vec.Vec.{Vec}
+use Rattle.qs_spec.specs.Data as d
+use Rattle.qs_spec.specs.Data.{Data, values_of, pairs_of}
+use Rattle.qs_spec.specs.Shape as s
+use Rattle.qs_spec.specs.Shape.{Shape, is_distinct}
+use Rattle.serde_qs.specs.ComesBack.{ComesBack}
+use Rattle.serde_qs.specs.Compound.{data_by}
+use Rattle.serde_qs.specs.Delimited.{ItemsComeBack, is_number_delimiter, list_data}
+use Rattle.serde_qs.specs.Items.{list_in}
+use Rattle.serde_qs.specs.Maps.{entry_data, mapping_in, values_by_text}
+use Rattle.serde_qs.specs.Meaning.{option_data, option_in, sequence_in}
+use Rattle.serde_qs.specs.declared.types.delimited.Delimited.{Delimited}
+use Rattle.serde_qs.specs.internal.ComesBack.{option_back, sequence_back}
+use Rattle.serde_qs.specs.internal.Compound.{data_by_back}
+use Rattle.serde_qs.specs.internal.DelimitedComesBack.{list_comes_back}
+use Rattle.serde_qs.specs.internal.MapsComeBack.{mapping_back}
+
+-- What a value holds, its data, the shape that is read for it, and what data mean. No struct or enum in the shape has a name twice, and from data
+-- that are the same as those of a value which fit, comes that value.
+pub record Table (A : Type 0) : Type 1 where
+  pub Value : Type 0
+  pub value : A → Value
+  pub datum : A → Data
+  pub form : Shape
+  pub meaning : Data → Option Value
+  pub distinct : is_distinct form ≡ true
+  pub comes_back : ComesBack datum form meaning value
+
+abbrev pub table_of : {A V : Type 0} (value : A → V) (datum : A → Data) (form : Shape) (meaning : Data → Option V) → is_distinct form ≡ true
+    → ComesBack datum form meaning value → Table A
+table_of {A} {V} value datum form meaning distinct back =
+    record { Value = V; value = value; datum = datum; form = form; meaning = meaning; distinct = distinct; comes_back = back }
+
+-- a table whose data unfold only where that is asked for
+abbrev pub closed : {A : Type 0} → Table A → Table A
+closed t = table_of t.value (data_by t.datum) t.form t.meaning t.distinct (data_by_back t.datum t.form t.meaning t.value t.comes_back)
+
+-- types of std that hold others
+
+abbrev pub option_table : {A : Type 0} → Table A → Table (Option A)
+option_table t =
+    table_of (option_map t.value) (option_data t.datum) (Shape.option t.form) (option_in t.meaning) t.distinct (option_back t.datum t.form t.meaning t.value t.comes_back)
+
+abbrev pub sequence_table : {A : Type 0} → Table A → Table (Vec A Global)
+sequence_table t =
+    table_of (λ xs. map t.value xs.items) (λ xs. d.sequence (values_of (map t.datum xs.items))) (Shape.sequence t.form) (sequence_in t.meaning) t.distinct
+    (λ xs e h p. sequence_back t.datum t.form t.meaning t.value t.comes_back xs.items e h p)
+
+abbrev pub mapping_table : {A : Type 0} → Table A → Table (BTreeMap (String Global) A)
+mapping_table t =
+    table_of (values_by_text t.value) (λ m. d.mapping (pairs_of (map (entry_data t.datum) m.entries))) (Shape.mapping s.KeyShape.text t.form) (mapping_in t.meaning) t.distinct
+    (λ m e h p. mapping_back t.datum t.form t.meaning t.value t.comes_back m e h p)
+
+-- Whole numbers, as the items of a list in one text. The text of each that is in range has no delimiter in it, and is parsed as that number.
+pub record Numbers (A : Type 0) : Type 1 where
+  pub Value : Type 0
+  pub value : A → Value
+  pub in_range : A → Bool
+  pub printed : A → List ℕ
+  pub meaning : List ℕ → Option Value
+  pub come_back : ItemsComeBack in_range meaning printed value
+
+abbrev pub numbers_of : {A V : Type 0} (value : A → V) (in_range : A → Bool) (printed : A → List ℕ) (meaning : List ℕ → Option V) → ItemsComeBack in_range meaning printed value → Numbers A
+numbers_of {A} {V} value in_range printed meaning back = record { Value = V; value = value; in_range = in_range; printed = printed; meaning = meaning; come_back = back }
+
+abbrev pub delimited_table : {A D : Type 0} → Numbers A → (delimiter : ℕ) → is_number_delimiter delimiter ≡ true → Table (Delimited A D)
+delimited_table n delimiter free =
+    table_of (λ list. map n.value list.items.items) (λ list. list_data n.in_range n.printed delimiter list.items.items) Shape.text (list_in n.meaning delimiter) refl
+    (λ list e h p. list_comes_back n.in_range n.meaning n.printed n.value n.come_back delimiter free list.items.items e h p)
+
+-- A table holds what a type has itself: its shape, the data of each value, and what data mean, but for how the value is kept.
+pub record IsTableOf {A V : Type 0} (t : Table A) (value : A → V) (datum : A → Data) (form : Shape) (meaning : Data → Option V) : Type 0 where
+  pub same_form : t.form ≡ form
+  pub same_datum : (x : A) → t.datum x ≡ datum x
+  pub kept : V → t.Value
+  pub same_value : (x : A) → t.value x ≡ kept (value x)
+  pub same_meaning : (d : Data) → t.meaning d ≡ option_map kept (meaning d)
+
+-- the same of whole numbers
+pub record AreNumbersOf {A V : Type 0} (n : Numbers A) (value : A → V) (in_range : A → Bool) (printed : A → List ℕ) (meaning : List ℕ → Option V) : Type 0 where
+  pub same_range : (x : A) → n.in_range x ≡ in_range x
+  pub same_printed : (x : A) → n.printed x ≡ printed x
+  pub kept : V → n.Value
+  pub same_value : (x : A) → n.value x ≡ kept (value x)
+  pub same_meaning : (t : List ℕ) → n.meaning t ≡ option_map kept (meaning t)

@@ -1,0 +1,160 @@
+//! The fields of a struct, read from a node.
+
+ghost use Rattle.std.specs.Prelude.{◌≡◌, true, map, option_and_then, option_map, Some, None};
+ghost use Rattle.qs_spec.specs.Node.{found};
+ghost use Rattle.qs_spec.specs.Shape.{field_names_differ, fields_of};
+ghost use Rattle.qs_spec.specs.internal.ReadFunction.{items_after, reads};
+ghost use Rattle.qs_tree.specs.tree.Views.{items_from, tree_of};
+ghost use Rattle.qs_data.specs.read.Gives.{Gives};
+ghost use Rattle.qs_data.specs.read.Text.{entries_are_text, is_text, items_are_text};
+ghost use Rattle.qs_data.specs.read.internal.Keys.{NumbersFit, entries_of};
+ghost use Rattle.serde_qs.specs.Nodes.{missing_data, members_read, names_read, value_found, value_placed};
+ghost use Rattle.serde_qs.specs.Records.{texts};
+
+use super::defaulted::OrDefault;
+use super::fields::Fields;
+use super::own;
+use crate::traits::RoundTrip;
+use qs_data::{Entries, Found, Reader, Result};
+use qs_tree::ParsedValue;
+
+// Returns the fields that a node holds: by their names among keys, and by their places among items.
+#[tactic(auto, unfolding(qs_spec::specs::internal::ReadFunction::struct_members))]
+pub(crate) fn struct_of<F: Fields>(
+    reader: Reader,
+    names: &[&'static str],
+    node: &ParsedValue<'_>,
+) -> Result<F>
+    requires { field_names_differ (fields_of (F.table.form (texts names.now))) ≡ true }
+    ensures { Gives F.table.value (is_text (tree_of node.now)) result
+        (members_read reader.reject_duplicates (F.table.form (texts names.now)) (F.table.meaning (texts names.now)) (tree_of node.now)) }
+{
+    match node {
+        ParsedValue::NoValue | ParsedValue::Null => read_entries(reader, names, Entries::Empty),
+        ParsedValue::Map(map) => read_entries(reader, names, Entries::Map(map)),
+        ParsedValue::Sequence(items) => F::from_places(reader, names, items, items.len()),
+        ParsedValue::String(_) | ParsedValue::Uninitialized => Err(reader.not_a_struct(node)),
+    }
+}
+
+// Returns the fields that are read by their names. All keys must be texts.
+fn read_entries<F: Fields>(
+    reader: Reader,
+    names: &[&'static str],
+    entries: Entries<'_, '_>,
+) -> Result<F>
+    requires { field_names_differ (fields_of (F.table.form (texts names.now))) ≡ true }
+    ensures { Gives F.table.value (entries_are_text (entries_of entries.entry)) result
+        (names_read reader.reject_duplicates (F.table.form (texts names.now)) (F.table.meaning (texts names.now)) (entries_of entries.entry)) }
+{
+    let tested = entries.test();
+    let fields = F::from_entries(reader, names, entries)?;
+    match tested {
+        Ok(()) => Ok(fields),
+        Err(key) => Err(key.into_error(reader.alloc)),
+    }
+}
+
+// Returns the value of a field by its name.
+pub(crate) fn by_name<T: RoundTrip>(
+    reader: Reader,
+    name: &str,
+    entries: Entries<'_, '_>,
+) -> Result<T>
+    requires { NumbersFit (entries_of entries) }
+    ensures { Gives T.table.value (entries_are_text (entries_of entries.entry)) result
+        (value_found T.table.meaning (option_and_then T.table.meaning (missing_data T.table.form)) (reads reader.reject_duplicates T.table.form) (found name.now (entries_of entries.entry))) }
+{
+    match entries.find(name) {
+        Found::Missing => own::from_missing(reader, name),
+        Found::One(node) => own::from_node(reader, node),
+        Found::Several => Err(reader.duplicate_field(name)),
+    }
+}
+
+// Returns the value of a field by its name, if it isn't left out.
+pub(crate) fn optional_by_name<T: RoundTrip>(
+    reader: Reader,
+    name: &str,
+    entries: Entries<'_, '_>,
+) -> Result<Option<T>>
+    requires { NumbersFit (entries_of entries) }
+    ensures { Gives (option_map T.table.value) (entries_are_text (entries_of entries.entry)) result
+        (value_found (λ d. option_map Some (T.table.meaning d)) (Some None) (reads reader.reject_duplicates T.table.form) (found name.now (entries_of entries.entry))) }
+{
+    match entries.find(name) {
+        Found::Missing => Ok(None),
+        Found::One(node) => Ok(Some(own::from_node(reader, node)?)),
+        Found::Several => Err(reader.duplicate_field(name)),
+    }
+}
+
+// Returns the value of a field by its name, or its default.
+pub(crate) fn defaulted_by_name<T: RoundTrip + OrDefault>(
+    reader: Reader,
+    name: &str,
+    entries: Entries<'_, '_>,
+) -> Result<T>
+    requires { NumbersFit (entries_of entries) }
+    ensures { Gives T.table.value (entries_are_text (entries_of entries.entry)) result
+        (value_found T.table.meaning (T.table.meaning T.default) (reads reader.reject_duplicates T.table.form) (found name.now (entries_of entries.entry))) }
+{
+    match entries.find(name) {
+        Found::Missing => own::missing_of(reader.alloc),
+        Found::One(node) => own::from_node(reader, node),
+        Found::Several => Err(reader.duplicate_field(name)),
+    }
+}
+
+// Returns the value of a field by its place, the first of these items. There are so many items in all.
+pub(crate) fn by_place<T: RoundTrip>(
+    reader: Reader,
+    items: &[ParsedValue<'_>],
+    count: usize,
+) -> Result<T>
+    ensures { Gives T.table.value (items_are_text (items_from (map tree_of items.now))) result
+        (value_placed T.table.meaning None (reads reader.reject_duplicates T.table.form) (items_from (map tree_of items.now))) }
+{
+    match items {
+        [item, ..] => own::from_node(reader, item),
+        [] => Err(reader.missing_item(count)),
+    }
+}
+
+// Returns the value of a field by its place, if it isn't left out.
+pub(crate) fn optional_by_place<T: RoundTrip>(
+    reader: Reader,
+    items: &[ParsedValue<'_>],
+) -> Result<Option<T>>
+    ensures { Gives (option_map T.table.value) (items_are_text (items_from (map tree_of items.now))) result
+        (value_placed (λ d. option_map Some (T.table.meaning d)) (Some None) (reads reader.reject_duplicates T.table.form) (items_from (map tree_of items.now))) }
+{
+    match items {
+        [item, ..] => Ok(Some(own::from_node(reader, item)?)),
+        [] => Ok(None),
+    }
+}
+
+// Returns the value of a field by its place, or its default.
+pub(crate) fn defaulted_by_place<T: RoundTrip + OrDefault>(
+    reader: Reader,
+    items: &[ParsedValue<'_>],
+) -> Result<T>
+    ensures { Gives T.table.value (items_are_text (items_from (map tree_of items.now))) result
+        (value_placed T.table.meaning (T.table.meaning T.default) (reads reader.reject_duplicates T.table.form) (items_from (map tree_of items.now))) }
+{
+    match items {
+        [item, ..] => own::from_node(reader, item),
+        [] => own::missing_of(reader.alloc),
+    }
+}
+
+// Returns the items after the first.
+pub(crate) fn after<'a, 'qs>(items: &'a [ParsedValue<'qs>]) -> &'a [ParsedValue<'qs>]
+    ensures { items_from (map tree_of result.now) ≡ items_after (items_from (map tree_of items.now)) }
+{
+    match items {
+        [_, rest @ ..] => rest,
+        [] => items,
+    }
+}

@@ -1,0 +1,44 @@
+//! Where the parts of a value come from.
+
+ghost use Rattle.serde_qs.specs.Sources.{ReadsSource};
+
+use crate::traits::Deserialize;
+use qs_data::{Data, Reader, Result};
+use qs_tree::ParsedValue;
+use std::alloc::Global;
+
+/// Where the parts of a value come from: from data, or from a node of a tree. It is passed to [`Compound::read`](crate::Compound::read), which
+/// passes it on to its [`Parts`](crate::Parts).
+#[derive(Drop)]
+pub enum Source<'t, 'qs> {
+    /// Data, and where memory comes from.
+    Data(Global, Data),
+    /// A node, and how it is read.
+    Node(Reader, &'t ParsedValue<'qs>),
+}
+
+impl Source<'_, '_> {
+    /// Returns where memory comes from.
+    pub fn alloc(&self) -> Global {
+        match self {
+            Source::Data(alloc, _) => *alloc,
+            Source::Node(reader, _) => reader.alloc,
+        }
+    }
+
+    /// Reads a value that stands for the whole, as the number of a type that allows only some numbers.
+    ///
+    /// ```
+    /// let years: u8 = source.value()?;
+    /// ```
+    ///
+    /// The errors are those of [`from_data`](Deserialize::from_data), or of [`from_node`](Deserialize::from_node).
+    pub fn value<T: Deserialize>(self) -> Result<T>
+        ensures { ReadsSource T.value T.form T.meaning self.entry result }
+    {
+        match self {
+            Source::Data(alloc, datum) => T::from_data(alloc, datum),
+            Source::Node(reader, node) => T::from_node(reader, node),
+        }
+    }
+}

@@ -20,3 +20,23 @@ build_program() {
     rm -f "$began"
     return $status
 }
+
+# is_left NAME: rt ci has proved the library and left it, and nothing of it was edited since.
+is_left() {
+    local built=$root/crates/$1/out/rlib
+    [ ! -e "$built/stamp" ] && is_newer "$built/$1.rlib/format" "$root/crates.txt" "$root/crates/$1"/{src,specs,proofs}
+}
+
+# build_static NAME LIBRARY..: proves and builds the static library of that crate over the libraries, which are proved once more only where rt ci
+# has not just left them. What the build says goes to standard error.
+build_static() {
+    local name=$1 library kit
+    shift
+    kit=$(dirname "$(dirname "$(readlink -f "$(command -v rt)")")")
+    for library; do
+        is_left "$library" || break
+        shift
+    done
+    [ $# -eq 0 ] && python3 "$root/scripts/support/build_static.py" "$root" "$name" "$kit" </dev/null >&2 && return
+    (cd "$root/crates/$name" && rt lib) </dev/null >&2
+}

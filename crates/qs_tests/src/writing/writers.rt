@@ -85,7 +85,11 @@ fn stops_at<R: Abort>(rt: &R, alloc: Global, datum: &Data, room: usize, step: us
         "{stop:?} {step} {room}"
     );
     assert!(rt; serializer.into_sink().has_failed());
-    assert_eq!(rt; writer.held.as_slice(), &WHOLE[..room], "{stop:?} {step}");
+    assert_eq!(rt;
+        Some(writer.held.as_slice()),
+        WHOLE.get(..room),
+        "{stop:?} {step}"
+    );
 }
 
 #[test]

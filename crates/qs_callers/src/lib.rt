@@ -29,8 +29,6 @@ mod report;
 mod search;
 mod sort;
 mod span;
-#[cfg(test)]
-mod tests;
 mod values;
 mod visit;
 mod wrappers;

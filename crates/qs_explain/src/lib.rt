@@ -26,8 +26,6 @@ mod pair_range;
 mod pairs;
 mod place;
 mod segment;
-#[cfg(test)]
-mod tests;
 mod variants;
 mod walk;
 

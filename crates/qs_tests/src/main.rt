@@ -12,6 +12,8 @@ mod answers;
 #[cfg(test)]
 mod build;
 #[cfg(test)]
+mod callers;
+#[cfg(test)]
 mod configurations;
 #[cfg(test)]
 mod deep;
@@ -19,6 +21,8 @@ mod deep;
 mod errors;
 #[cfg(test)]
 mod escapes;
+#[cfg(test)]
+mod explanations;
 #[cfg(test)]
 mod helpers;
 #[cfg(test)]

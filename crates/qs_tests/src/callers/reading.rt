@@ -1,7 +1,7 @@
 //! Typed calls that read.
 
 use super::is_custom;
-use crate::{Account, Filter, Pair, Price, Query, Search, Sort, asked, sorted};
+use qs_callers::{Account, Filter, Pair, Price, Query, Search, Sort, asked, sorted};
 use serde_qs::{
     Config, ConfigExt, Deserialize, Deserializer, Error, Result, Serialize, from_bytes, from_str,
     read_by,

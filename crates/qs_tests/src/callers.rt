@@ -1,4 +1,4 @@
-//! Each call once, rejected inputs, and values that come back.
+//! Users' types and calls: each call once, rejected inputs, and values that come back.
 
 mod fields;
 mod form_page;

@@ -1,6 +1,6 @@
 //! What a form's page says of the field that is wrong.
 
-use crate::{FieldError, Order, Query, explained, submitted};
+use qs_callers::{FieldError, Order, Query, explained, submitted};
 use std::alloc::Global;
 use std::process::Abort;
 

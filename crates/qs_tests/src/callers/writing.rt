@@ -1,7 +1,7 @@
 //! Typed calls that write.
 
 use super::{list, one, text};
-use crate::{Account, Filter, Pair, Price, Query, Search, Sort, rewritten};
+use qs_callers::{Account, Filter, Pair, Price, Query, Search, Sort, rewritten};
 use serde_qs::{Config, ConfigExt, Error, Result, from_str, to_string, to_writer};
 use std::io;
 use std::io::Write;

@@ -1,6 +1,6 @@
 //! Inputs within limits and beyond them.
 
-use crate::{Rejected, guarded};
+use qs_callers::{Rejected, guarded};
 use serde_qs::{LimitError, Limits};
 
 const ALICE: &[u8] = b"name=Alice&age=24&occupation=Student";

@@ -5,7 +5,7 @@ ghost use Rattle.std.specs.Prelude.{[]};
 
 use super::round_trips::comes_back;
 use super::{list, text};
-use crate::Pair;
+use qs_callers::Pair;
 use serde_qs::{Compound, Data, Out, Parts, Result, RoundTrip, Shape, Source, Tuple, to_string};
 use std::alloc::Global;
 

@@ -1,7 +1,7 @@
 //! Types that reject unknown keys.
 
 use super::is_custom;
-use crate::{Method, Payment};
+use qs_callers::{Method, Payment};
 use serde_qs::{Result, from_str, to_string};
 
 #[test]

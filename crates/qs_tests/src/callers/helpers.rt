@@ -1,7 +1,7 @@
 //! Lists in one text.
 
 use super::{is_custom, list, one, text};
-use crate::Values;
+use qs_callers::Values;
 use serde_qs::helpers::{
     Item, comma_separated, generic_delimiter, pipe_delimited, signed_list_comes_back,
     space_delimited, unsigned_list_comes_back,

@@ -1,7 +1,7 @@
 //! Nodes of a tree, each read by itself.
 
 use super::is_custom;
-use crate::Query;
+use qs_callers::Query;
 use qs_data::{Data, Entries, Error, Found, Reader, Result, Shape};
 use qs_tree::{Config, ParsedValue, parse};
 use serde_qs::Deserialize;

@@ -1,13 +1,13 @@
 //! An enum with every kind of variant, and names as other programs write them.
 
-ghost use Rattle.qs_callers.specs.declared.tests.kinds.Message.TheVariants.{Unit as Empty, Newtype as One, Tuple as Two, Struct as Named};
-ghost use Rattle.qs_callers.specs.declared.tests.kinds.TheConstants.{MESSAGE_NAMES, LOUD_NAMES, PERSON_NAMES};
+ghost use Rattle.qs_tests.specs.declared.callers.kinds.Message.TheVariants.{Unit as Empty, Newtype as One, Tuple as Two, Struct as Named};
+ghost use Rattle.qs_tests.specs.declared.callers.kinds.TheConstants.{MESSAGE_NAMES, LOUD_NAMES, PERSON_NAMES};
 ghost use Rattle.serde_qs.specs.declared.compound.variants.OneOf.TheVariants.{First, Later};
 ghost use Rattle.serde_qs.specs.PartTables.{made_of};
 
 use super::round_trips::comes_back;
 use super::{list, text};
-use crate::Pair;
+use qs_callers::Pair;
 use serde_qs::OneOf::{First, Later};
 use serde_qs::{
     Compound, Data, Enum, Last, Newtype, OneOf, Out, Parts, Result, Shape, Source, Struct, Tuple,

@@ -2,7 +2,7 @@
 
 use super::round_trips::comes_back;
 use super::text;
-use crate::{
+use qs_callers::{
     Address, Filter, Link, Order, Products, Query, exchanged, leaf_paths, next_page, ordered,
     served, target,
 };

@@ -2,7 +2,7 @@
 
 use super::round_trips::comes_back;
 use super::{is_custom, list, text};
-use crate::{Age, Chart, Columns, Page, Paging, Pair, Place, Price, Profile, Sort, Span};
+use qs_callers::{Age, Chart, Columns, Page, Paging, Pair, Place, Price, Profile, Sort, Span};
 use serde_qs::{Config, ConfigExt, Delimited, Result, from_str, to_string};
 
 #[test]

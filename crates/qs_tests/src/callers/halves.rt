@@ -2,7 +2,7 @@
 
 use super::round_trips::comes_back;
 use super::{is_custom, list, one, text};
-use crate::{Listing, Report, Sort, Values, Visit};
+use qs_callers::{Listing, Report, Sort, Values, Visit};
 use serde_qs::{Result, from_str, to_string};
 
 #[test]

@@ -1,69 +1,41 @@
 //! Explanations, as they are printed.
 
-use crate::{Explanation, Hint, explain, find_hint, find_pair};
-use qs_data::{Config, Error, Field, KeyShape, Shape, Variant, VariantKind};
+use crate::build::Build;
+use qs_explain::{Explanation, Hint, explain, find_hint, find_pair};
+use qs_tree::{Config, Error};
+use serde_qs::{KeyShape, Shape, VariantKind};
 use std::alloc::Global;
 use std::process::Abort;
 
-// A field that must be there.
-fn field<R: Abort>(rt: &R, alloc: Global, name: &str, shape: Shape) -> Field {
-    let name = String::from_str(alloc, name).expect(rt, "memory");
-    Field {
-        name,
-        shape,
-        optional: false,
-    }
-}
-
-// A shape in a box.
-fn boxed<R: Abort>(rt: &R, alloc: Global, shape: Shape) -> Box<Shape> {
-    Box::new(alloc, shape).expect(rt, "memory")
-}
-
-// Two fields that must be there.
-fn two_fields<R: Abort>(rt: &R, alloc: Global, first: Field, second: Field) -> Vec<Field> {
-    Vec::from_array(alloc, [first, second]).expect(rt, "memory")
-}
-
-// A struct with one field that must be there.
-fn only<R: Abort>(rt: &R, alloc: Global, name: &str, shape: Shape) -> Shape {
-    let field = field(rt, alloc, name, shape);
-    Shape::Struct(Vec::from_array(alloc, [field]).expect(rt, "memory"))
-}
-
 // A struct with a name, and an address that has a number.
-fn person<R: Abort>(rt: &R, alloc: Global) -> Shape {
-    let number = Shape::Option(boxed(rt, alloc, Shape::U8));
-    let name = field(rt, alloc, "name", Shape::Text);
-    let address = field(rt, alloc, "address", only(rt, alloc, "number", number));
-    Shape::Struct(two_fields(rt, alloc, name, address))
-}
-
-// Two coordinates.
-fn point<R: Abort>(rt: &R, alloc: Global) -> Vec<Shape> {
-    Vec::from_array(alloc, [Shape::I8, Shape::I8]).expect(rt, "memory")
-}
-
-// A variant.
-fn variant<R: Abort>(rt: &R, alloc: Global, name: &str, kind: VariantKind) -> Variant {
-    let name = String::from_str(alloc, name).expect(rt, "memory");
-    Variant { name, kind }
+fn person<R: Abort>(b: &Build<'_, R>) -> Shape {
+    let address = b.field("number", b.option(Shape::U8));
+    b.fields([
+        b.required("name", Shape::Text),
+        b.required("address", address),
+    ])
 }
 
 // Stops where the explanation of an input under the default configuration isn't this line, which is empty where it is read.
-fn says<R: Abort>(rt: &R, alloc: Global, shape: &Shape, input: &str, line: &str) {
-    let explained = explain(alloc, Config::new(), shape, input.as_bytes()).expect(rt, "memory");
+fn says<R: Abort>(b: &Build<'_, R>, shape: &Shape, input: &str, line: &str) {
+    let explained = explain(b.alloc, Config::new(), shape, input.as_bytes()).expect(b.rt, "memory");
     let text = match explained {
-        Some(explanation) => explanation.to_string(alloc).expect(rt, "a text"),
-        None => String::new(alloc),
+        Some(explanation) => explanation.to_string(b.alloc).expect(b.rt, "a text"),
+        None => String::new(b.alloc),
     };
-    assert!(rt; text.as_str() == line, "{input}: {text}");
+    assert!(b.rt; text.as_str() == line, "{input}: {text}");
+}
+
+// The same for each of these inputs.
+fn says_each<R: Abort>(b: &Build<'_, R>, shape: &Shape, cases: &[(&str, &str)]) {
+    for (input, line) in cases {
+        says(b, shape, input, line);
+    }
 }
 
 #[test]
 fn fields(rt: HostRuntime) {
-    let alloc = rt.alloc();
-    let shape = person(&rt, alloc);
+    let b = Build::new(&rt, rt.alloc());
     let cases = [
         ("name=Alice&address[number]=7", ""),
         (
@@ -77,16 +49,12 @@ fn fields(rt: HostRuntime) {
         ("name=Alice", "address: expected fields, found nothing"),
         ("address[number]=7", "name: expected a text, found nothing"),
     ];
-    for (input, line) in cases.iter() {
-        says(&rt, alloc, &shape, input, line);
-    }
+    says_each(&b, &person(&b), &cases);
 }
 
 #[test]
 fn items_of_lists(rt: HostRuntime) {
-    let alloc = rt.alloc();
-    let numbers = Shape::Seq(boxed(&rt, alloc, Shape::U8));
-    let shape = only(&rt, alloc, "ids", numbers);
+    let b = Build::new(&rt, rt.alloc());
     let cases = [
         ("ids[]=1&ids[]=2", ""),
         (
@@ -101,111 +69,90 @@ fn items_of_lists(rt: HostRuntime) {
         ("ids[0]=1&ids[2]=3", "ids[1]: expected u8, found nothing"),
         ("ids[a]=1", "ids: expected a list, found nested keys"),
     ];
-    for (input, line) in cases.iter() {
-        says(&rt, alloc, &shape, input, line);
-    }
+    says_each(&b, &b.field("ids", b.seq(Shape::U8)), &cases);
 }
 
 #[test]
 fn items_of_tuples_and_structs(rt: HostRuntime) {
-    let alloc = rt.alloc();
-    let at = only(&rt, alloc, "at", Shape::Tuple(point(&rt, alloc)));
-    says(&rt, alloc, &at, "at[]=1&at[]=2", "");
-    says(
-        &rt,
-        alloc,
-        &at,
-        "at[]=1",
-        "at[1]: expected i8, found nothing",
-    );
-    says(
-        &rt,
-        alloc,
-        &at,
-        "at[]=1&at[]=x",
-        "at[1]: expected i8, found the text \"x\"",
-    );
-    let name = field(&rt, alloc, "name", Shape::Text);
-    let age = field(&rt, alloc, "age", Shape::U8);
-    let user = Shape::Struct(two_fields(&rt, alloc, name, age));
-    let user = only(&rt, alloc, "user", user);
-    says(&rt, alloc, &user, "user[]=Alice&user[]=7", "");
-    says(
-        &rt,
-        alloc,
-        &user,
-        "user[]=Alice&user[]=x",
-        "user: expected fields, found several values",
-    );
+    let b = Build::new(&rt, rt.alloc());
+    let at = b.field("at", b.tuple([Shape::I8, Shape::I8]));
+    let cases = [
+        ("at[]=1&at[]=2", ""),
+        ("at[]=1", "at[1]: expected i8, found nothing"),
+        ("at[]=1&at[]=x", "at[1]: expected i8, found the text \"x\""),
+    ];
+    says_each(&b, &at, &cases);
+    let user = b.fields([
+        b.required("name", Shape::Text),
+        b.required("age", Shape::U8),
+    ]);
+    let cases = [
+        ("user[]=Alice&user[]=7", ""),
+        (
+            "user[]=Alice&user[]=x",
+            "user: expected fields, found several values",
+        ),
+    ];
+    says_each(&b, &b.field("user", user), &cases);
 }
 
 #[test]
 fn unexpected_keys(rt: HostRuntime) {
-    let alloc = rt.alloc();
-    let name = field(&rt, alloc, "name", Shape::Text);
-    let age = field(&rt, alloc, "age", Shape::U8);
-    let user = Shape::StrictStruct(two_fields(&rt, alloc, name, age));
-    let user = only(&rt, alloc, "user", user);
-    says(&rt, alloc, &user, "user[name]=Alice&user[age]=7", "");
-    says(
-        &rt,
-        alloc,
-        &user,
-        "user[name]=Alice&user[age]=7&user[zip]=1",
-        "user: unexpected key \"zip\"",
-    );
-    let names = Shape::Map(KeyShape::U8, boxed(&rt, alloc, Shape::Text));
-    let names = only(&rt, alloc, "names", names);
-    says(&rt, alloc, &names, "names[7]=a&names[8]=b", "");
-    says(
-        &rt,
-        alloc,
-        &names,
-        "names[7]=a&names[x]=b",
-        "names: unexpected key \"x\"",
-    );
+    let b = Build::new(&rt, rt.alloc());
+    let user = b.strict([
+        b.required("name", Shape::Text),
+        b.required("age", Shape::U8),
+    ]);
+    let cases = [
+        ("user[name]=Alice&user[age]=7", ""),
+        (
+            "user[name]=Alice&user[age]=7&user[zip]=1",
+            "user: unexpected key \"zip\"",
+        ),
+    ];
+    says_each(&b, &b.field("user", user), &cases);
+    let names = b.field("names", b.map(KeyShape::U8, Shape::Text));
+    let cases = [
+        ("names[7]=a&names[8]=b", ""),
+        ("names[7]=a&names[x]=b", "names: unexpected key \"x\""),
+    ];
+    says_each(&b, &names, &cases);
 }
 
 #[test]
 fn values_of_maps(rt: HostRuntime) {
-    let alloc = rt.alloc();
-    let prices = Shape::Map(KeyShape::Text, boxed(&rt, alloc, Shape::U8));
-    let shape = only(&rt, alloc, "prices", prices);
-    says(&rt, alloc, &shape, "prices[tea]=3", "");
-    says(
-        &rt,
-        alloc,
-        &shape,
-        "prices[milk]=1&prices[tea]=x",
-        "prices[tea]: expected u8, found the text \"x\"",
-    );
+    let b = Build::new(&rt, rt.alloc());
+    let prices = b.field("prices", b.map(KeyShape::Text, Shape::U8));
+    let cases = [
+        ("prices[tea]=3", ""),
+        (
+            "prices[milk]=1&prices[tea]=x",
+            "prices[tea]: expected u8, found the text \"x\"",
+        ),
+    ];
+    says_each(&b, &prices, &cases);
 }
 
 #[test]
 fn variants(rt: HostRuntime) {
-    let alloc = rt.alloc();
-    let card = VariantKind::Newtype(boxed(&rt, alloc, Shape::U8));
-    let card = variant(&rt, alloc, "Card", card);
-    let variants = Vec::from_array(alloc, [card]).expect(&rt, "memory");
-    let shape = only(&rt, alloc, "by", Shape::Enum(variants));
+    let b = Build::new(&rt, rt.alloc());
+    let by = b.field("by", b.variants([b.newtype_variant("Card", Shape::U8)]));
     let cases = [
         ("by[Card]=7", ""),
         ("by[Card]=x", "by[Card]: expected u8, found the text \"x\""),
         ("by[Cash]=1", "by: unexpected key \"Cash\""),
         ("by=Cash", "by: expected a variant, found the text \"Cash\""),
     ];
-    for (input, line) in cases.iter() {
-        says(&rt, alloc, &shape, input, line);
-    }
+    says_each(&b, &by, &cases);
 }
 
 #[test]
 fn tuples_of_variants(rt: HostRuntime) {
-    let alloc = rt.alloc();
-    let at = variant(&rt, alloc, "At", VariantKind::Tuple(point(&rt, alloc)));
-    let nowhere = variant(&rt, alloc, "Nowhere", VariantKind::Unit);
-    let variants = Vec::from_array(alloc, [at, nowhere]).expect(&rt, "memory");
-    let shape = only(&rt, alloc, "place", Shape::Enum(variants));
+    let b = Build::new(&rt, rt.alloc());
+    let place = b.variants([
+        b.tuple_variant("At", [Shape::I8, Shape::I8]),
+        b.variant("Nowhere", VariantKind::Unit),
+    ]);
     let cases = [
         ("place[At][]=1&place[At][]=2", ""),
         ("place=Nowhere", ""),
@@ -224,23 +171,20 @@ fn tuples_of_variants(rt: HostRuntime) {
             "place: expected a variant, found the text \"At\"",
         ),
     ];
-    for (input, line) in cases.iter() {
-        says(&rt, alloc, &shape, input, line);
-    }
+    says_each(&b, &b.field("place", place), &cases);
 }
 
 #[test]
 fn fields_of_variants(rt: HostRuntime) {
-    let alloc = rt.alloc();
-    let name = field(&rt, alloc, "name", Shape::Text);
-    let age = field(&rt, alloc, "age", Shape::U8);
-    let lax = VariantKind::Struct(two_fields(&rt, alloc, name, age));
-    let lax = variant(&rt, alloc, "Lax", lax);
-    let zip = field(&rt, alloc, "zip", Shape::U32);
-    let strict = VariantKind::StrictStruct(Vec::from_array(alloc, [zip]).expect(&rt, "memory"));
-    let strict = variant(&rt, alloc, "Strict", strict);
-    let variants = Vec::from_array(alloc, [lax, strict]).expect(&rt, "memory");
-    let shape = only(&rt, alloc, "who", Shape::Enum(variants));
+    let b = Build::new(&rt, rt.alloc());
+    let lax = b.struct_variant(
+        "Lax",
+        [
+            b.required("name", Shape::Text),
+            b.required("age", Shape::U8),
+        ],
+    );
+    let strict = b.strict_variant("Strict", [b.required("zip", Shape::U32)]);
     let cases = [
         ("who[Lax][name]=Alice&who[Lax][age]=7&who[Lax][zip]=1", ""),
         (
@@ -258,46 +202,38 @@ fn fields_of_variants(rt: HostRuntime) {
         ("who[Strict][]=1&who[Strict][]=2", ""),
         ("who[Lax]=x", "who: expected a variant, found nested keys"),
     ];
-    for (input, line) in cases.iter() {
-        says(&rt, alloc, &shape, input, line);
-    }
+    says_each(&b, &b.field("who", b.variants([lax, strict])), &cases);
 }
 
 // A control character of the input stands as its escape, and a byte that is no UTF-8 as U+FFFD.
 #[test]
 fn one_line(rt: HostRuntime) {
-    let alloc = rt.alloc();
-    let shape = only(&rt, alloc, "age", Shape::U8);
-    let strict = field(&rt, alloc, "age", Shape::U8);
-    let strict = Shape::StrictStruct(Vec::from_array(alloc, [strict]).expect(&rt, "memory"));
+    let b = Build::new(&rt, rt.alloc());
     let cases = [
         (
-            &shape,
             "age=3%0A%1B[0m%E2%80%A8%FF",
             "age: expected u8, found the text \"3\\u{a}\\u{1b}[0m\\u{2028}\u{FFFD}\"",
         ),
         (
-            &strict,
-            "age=3&%0D%7F%C3%A9=1",
-            "unexpected key \"\\u{d}\\u{7f}é\"",
-        ),
-        (
-            &shape,
             "a[b]\n",
             "parsing failed with error: 'unexpected character `\\u{a}` while parsing nested key: expected `&`, `=` or `[`' at position: 5",
         ),
     ];
-    for (shape, input, line) in cases {
-        says(&rt, alloc, shape, input, line);
-    }
+    says_each(&b, &b.field("age", Shape::U8), &cases);
+    let strict = b.strict([b.required("age", Shape::U8)]);
+    says(
+        &b,
+        &strict,
+        "age=3&%0D%7F%C3%A9=1",
+        "unexpected key \"\\u{d}\\u{7f}é\"",
+    );
 }
 
 #[test]
 fn inputs_without_a_tree(rt: HostRuntime) {
-    let alloc = rt.alloc();
-    let shape = person(&rt, alloc);
+    let b = Build::new(&rt, rt.alloc());
     let input = b"name=Alice&name[x]=1";
-    let explained = explain(alloc, Config::new(), &shape, input).expect(&rt, "memory");
+    let explained = explain(b.alloc, Config::new(), &person(&b), input).expect(&rt, "memory");
     assert!(rt;
         matches!(&explained, Some(Explanation::Syntax(_))),
         "a conflict"

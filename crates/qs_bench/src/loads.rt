@@ -34,7 +34,7 @@ pub(crate) fn numbered_load(alloc: Global, number: usize) -> Result<Option<Load>
     Ok(Some(Load { shape, each }))
 }
 
-/// A record of ten entries.
+// A record of ten entries.
 fn record(alloc: Global) -> Result<Shape, AllocError>
     ensures { IfOk result (λ shape. shape_of shape ≡ spec.record_of_ten) }
 {
@@ -68,7 +68,7 @@ fn person(alloc: Global) -> Result<Shape, AllocError>
     Ok(Shape::Struct(fields))
 }
 
-/// A text five keys deep.
+// A text five keys deep.
 fn nested(alloc: Global) -> Result<Shape, AllocError>
     ensures { IfOk result (λ shape. shape_of shape ≡ spec.nested) }
 {
@@ -79,14 +79,14 @@ fn nested(alloc: Global) -> Result<Shape, AllocError>
     only(alloc, "a", second)
 }
 
-/// A list under one field.
+// A list under one field.
 fn list(alloc: Global, item: Shape) -> Result<Shape, AllocError>
     ensures { IfOk result (λ shape. shape_of shape ≡ spec.list (shape_of item)) }
 {
     only(alloc, "ids", Shape::Seq(Box::new(alloc, item)?))
 }
 
-/// One field.
+// One field.
 fn only(alloc: Global, name: &str, shape: Shape) -> Result<Shape, AllocError>
     ensures { IfOk result (λ made. shape_of made ≡ spec.only name.now (shape_of shape)) }
 {

@@ -81,7 +81,7 @@ pub extern "C" fn qs_bench_write_bytes(
     write(alloc, times, samples::held(alloc, content), out, len)
 }
 
-/// Writes the data so many times, and hands the last text out.
+// Writes the data so many times, and hands the last text out.
 fn write(
     alloc: Global,
     times: usize,
@@ -103,7 +103,7 @@ fn write(
     true
 }
 
-/// The text of the last of so many writes.
+// The text of the last of so many writes.
 fn last_text(alloc: Global, times: usize, datum: &Data) -> Result<Vec<u8>>
     ensures whole { IfOk result (λ text. (entries default (data_of datum.now)).refusal ≡ None) }
     ensures text { IfOk result (λ text. text.items ≡ text_of (data_of datum.now)) }
@@ -114,7 +114,7 @@ fn last_text(alloc: Global, times: usize, datum: &Data) -> Result<Vec<u8>>
     text_of(alloc, datum)
 }
 
-/// The text that the data are written as, in a buffer that begins with room for 128 bytes.
+// The text that the data are written as, in a buffer that begins with room for 128 bytes.
 fn text_of(alloc: Global, datum: &Data) -> Result<Vec<u8>>
     ensures whole { IfOk result (λ text. (entries default (data_of datum.now)).refusal ≡ None) }
     ensures text { IfOk result (λ text. text.items ≡ text_of (data_of datum.now)) }

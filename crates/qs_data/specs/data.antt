@@ -1,4 +1,4 @@
--- To be believed: which data of the specification a program's data are, and when two data are equal.
+-- To be believed: which data of the specification a program's data are, and what `==` of two data is.
 pub mod Views
 pub mod Equality
 pub mod internal

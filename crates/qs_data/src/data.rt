@@ -2,9 +2,11 @@
 
 mod copy;
 mod data;
+mod data_laws;
 mod discard;
 mod listed;
 mod plain;
 mod sameness;
 
 pub use data::Data;
+pub use data_laws::equality_of_data;

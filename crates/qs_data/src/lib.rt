@@ -6,7 +6,7 @@ mod read;
 mod shape;
 mod write;
 
-pub use data::Data;
+pub use data::{Data, equality_of_data};
 pub use qs_tree::{ArrayFormat, Config, DuplicateKeyBehavior, Error, Result};
 pub use read::{BrokenKey, Deserializer, Entries, Found, Items, Reader, find_value, read_value};
 pub use shape::{Field, KeyShape, Shape, Variant, VariantKind, Width};

@@ -8,7 +8,7 @@ use Rattle.qs_spec.specs.Shape.{Shape}
 use Rattle.qs_spec.specs.Tree.{Tree}
 use Rattle.qs_spec.specs.Node.{items}
 use Rattle.qs_spec.specs.internal.ReadFunction.{Reader, read_each, read_list, reads, with_front}
-use Rattle.qs_data.specs.read.internal.Items.{first_item}
+use Rattle.qs_data.specs.read.Items.{first_item}
 use Rattle.qs_data.proofs.lemmas.read.Items.{first_some}
 use Rattle.serde_qs.specs.Meaning.{sequence_in, values_in}
 use Rattle.serde_qs.specs.Nodes.{each_value}

@@ -1,3 +1,4 @@
--- Steps of proofs: that equality obeys its laws, and how many data there are to drop.
+-- Steps of proofs: how data are compared, that this obeys the laws of equality, and how many data there are to drop.
+pub mod Equality
 pub mod EqualityLaws
 pub mod Weight

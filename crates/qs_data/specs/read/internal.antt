@@ -4,6 +4,5 @@ pub mod ReadError
 pub mod Hint
 pub mod SourceText
 pub mod Keys
-pub mod Items
 pub mod Sizes
 pub mod Nesting

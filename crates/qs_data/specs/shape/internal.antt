@@ -1,3 +1,2 @@
--- Steps of proofs: how many bits a number has, and how data are compared with a shape part by part.
-pub mod Widths
+-- Steps of proofs: how data are compared with a shape part by part.
 pub mod Fitting

@@ -1,6 +1,6 @@
 //! Data: what is read by a shape, and what is written.
 ghost use Rattle.std.specs.Cmp.{on_per, on_equiv};
-ghost use Rattle.qs_data.specs.data.Equality.{data_same};
+ghost use Rattle.qs_data.specs.data.internal.Equality.{data_same};
 ghost use Rattle.qs_data.specs.data.internal.EqualityLaws.{data_per, data_equivalence};
 ghost use Rattle.qs_data.specs.data.Views.{data_of};
 
@@ -8,7 +8,7 @@ use crate::data::sameness::same_data;
 
 /// A value as a querystring carries it.
 ///
-/// Two data are equal where they hold the same, whatever room they have to grow.
+/// Two data are equal exactly where they hold the same, whatever room they have to grow: [`equality_of_data`](crate::equality_of_data).
 ///
 /// ```
 /// let ids = Data::Seq(vec![in alloc; Data::Unsigned(7)]?); // a list of one number

@@ -2,7 +2,7 @@
 
 ghost use Rattle.std.specs.Prelude.{◌≡◌, ◌&&◌, string_bytes};
 ghost use Rattle.std.specs.Str.{bytes_eq};
-ghost use Rattle.qs_data.specs.data.Equality.{data_same, values_same, pairs_same, members_same};
+ghost use Rattle.qs_data.specs.data.internal.Equality.{data_same, values_same, pairs_same, members_same};
 ghost use Rattle.qs_data.specs.data.Views.{data_of, values_in, pairs_in, members_in};
 
 use crate::data::Data;

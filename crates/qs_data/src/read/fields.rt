@@ -9,7 +9,8 @@ ghost use Rattle.qs_data.specs.data.Views.{data_of, named};
 ghost use Rattle.qs_data.specs.shape.Views.{field_of, fields_in};
 ghost use Rattle.qs_data.specs.read.Text.{is_text, items_are_text, entries_are_text};
 ghost use Rattle.qs_data.specs.read.internal.ReadError.{ReadGives};
-ghost use Rattle.qs_data.specs.read.internal.Keys.{NumbersFit, entries_of, unknown_of};
+ghost use Rattle.qs_data.specs.read.Keys.{NumbersFit, entries_view};
+ghost use Rattle.qs_data.specs.read.internal.Keys.{unknown_of};
 
 use crate::data::Data;
 use crate::read::by_shape::{Reader, read_node};
@@ -61,9 +62,9 @@ pub(crate) fn read_entries(
     fields: &Vec<Field>,
     entries: Entries<'_, '_>,
 ) -> Result<Vec<(String, Data)>>
-    ensures { ReadGives (λ v. map (named data_of) v.items) (entries_are_text (entries_of entries.entry)) result
-        (option_and_then (λ ms. cond (keys_are_allowed (unknown_of unknown) (fields_in fields.now.items) (entries_of entries.entry)) (Some ms) None)
-        (reads_names reader.reject_duplicates (fields_in fields.now.items) (entries_of entries.entry))) }
+    ensures { ReadGives (λ v. map (named data_of) v.items) (entries_are_text (entries_view entries.entry)) result
+        (option_and_then (λ ms. cond (keys_are_allowed (unknown_of unknown) (fields_in fields.now.items) (entries_view entries.entry)) (Some ms) None)
+        (reads_names reader.reject_duplicates (fields_in fields.now.items) (entries_view entries.entry))) }
 {
     let tested = test_keys(entries);
     let members = read_names(reader, fields, entries)?;
@@ -82,9 +83,9 @@ fn read_names(
     fields: &Vec<Field>,
     entries: Entries<'_, '_>,
 ) -> Result<Vec<(String, Data)>>
-    requires { NumbersFit (entries_of entries) }
-    ensures { ReadGives (λ v. map (named data_of) v.items) (entries_are_text (entries_of entries.entry)) result
-        (reads_names reader.reject_duplicates (fields_in fields.now.items) (entries_of entries.entry)) }
+    requires { NumbersFit (entries_view entries) }
+    ensures { ReadGives (λ v. map (named data_of) v.items) (entries_are_text (entries_view entries.entry)) result
+        (reads_names reader.reject_duplicates (fields_in fields.now.items) (entries_view entries.entry)) }
 {
     let mut members = Vec::with_capacity(reader.alloc, fields.len())?;
     for field in fields {
@@ -100,10 +101,10 @@ fn read_names(
 // A field by its name, if it isn't left out.
 #[cycle(read)]
 fn read_field(reader: Reader, field: &Field, entries: Entries<'_, '_>) -> Result<Option<Data>>
-    requires { NumbersFit (entries_of entries) }
+    requires { NumbersFit (entries_view entries) }
     ensures { let f = field_of field.now in
-        ReadGives (option_map data_of) (entries_are_text (entries_of entries.entry)) result
-        (read_field f.2 (is_option_shape f.1) (reads reader.reject_duplicates f.1) (found f.0 (entries_of entries.entry))) }
+        ReadGives (option_map data_of) (entries_are_text (entries_view entries.entry)) result
+        (read_field f.2 (is_option_shape f.1) (reads reader.reject_duplicates f.1) (found f.0 (entries_view entries.entry))) }
 {
     match find(entries, &field.name) {
         Found::Missing => {

@@ -5,7 +5,8 @@ ghost use Rattle.qs_spec.specs.Node.{items, are_ints, is_place};
 ghost use Rattle.qs_tree.specs.tree.Views.{tree_of, entries_of_map, segment_of_key};
 ghost use Rattle.qs_data.specs.read.Gives.{Gives};
 ghost use Rattle.qs_data.specs.read.internal.ReadError.{ReadGives};
-ghost use Rattle.qs_data.specs.read.internal.Items.{items_in, first_item, passed};
+ghost use Rattle.qs_data.specs.read.Items.{items_view, first_item};
+ghost use Rattle.qs_data.specs.read.internal.Keys.{passed};
 ghost use Rattle.qs_spec.specs.Node.{placed};
 
 use crate::read::by_shape::Reader;
@@ -33,7 +34,7 @@ pub(crate) fn items_of<'t, 'qs>(
     value: &'t ParsedValue<'qs>,
     expected: Expected,
 ) -> Result<Items<'t, 'qs>>
-    ensures { ReadGives items_in true result (items (tree_of value.now)) }
+    ensures { ReadGives items_view true result (items (tree_of value.now)) }
 {
     match value {
         ParsedValue::NoValue | ParsedValue::Null => Ok(Items::Empty),
@@ -68,7 +69,7 @@ pub(crate) fn are_numbers(map: &ParsedMap<'_>) -> bool
 impl<'t, 'qs> Items<'t, 'qs> {
     /// Returns how many items there are.
     pub fn len(self) -> usize
-        ensures { result ≡ length (items_in self.entry) }
+        ensures { result ≡ length (items_view self.entry) }
     {
         match self {
             Items::Empty => 0,
@@ -81,7 +82,7 @@ impl<'t, 'qs> Items<'t, 'qs> {
     /// The item at an index, if there are so many; rejected where a map has another key there.
     #[inline(always)]
     pub(crate) fn at(self, alloc: Global, place: usize) -> Result<Option<&'t ParsedValue<'qs>>>
-        ensures { ReadGives (option_map (λ v. tree_of v.now)) true result (first_item (drop place (items_in self.entry))) }
+        ensures { ReadGives (option_map (λ v. tree_of v.now)) true result (first_item (drop place (items_view self.entry))) }
     {
         match self {
             Items::Empty => Ok(None),
@@ -105,7 +106,7 @@ impl<'t, 'qs> Items<'t, 'qs> {
         reader: Reader,
         place: usize,
     ) -> std::result::Result<Option<&'t ParsedValue<'qs>>, Error>
-        ensures { Gives (option_map (λ v. tree_of v.now)) true result (first_item (drop place (items_in self.entry))) }
+        ensures { Gives (option_map (λ v. tree_of v.now)) true result (first_item (drop place (items_view self.entry))) }
     {
         Ok(self.at(reader.alloc, place)?)
     }

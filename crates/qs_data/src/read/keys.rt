@@ -9,7 +9,8 @@ ghost use Rattle.qs_data.specs.declared.read.error.ReadError.TheVariants.{Utf8};
 ghost use Rattle.qs_data.specs.read.internal.Hint.{IsKeyError};
 ghost use Rattle.qs_data.specs.read.Errors.{OnlyCustomUtf8OrOutOfMemory};
 ghost use Rattle.qs_data.specs.read.Found.{Finds};
-ghost use Rattle.qs_data.specs.read.internal.Keys.{NumbersFit, ParsesNumber, KeyFits, PassesTest, entries_of, value_in};
+ghost use Rattle.qs_data.specs.read.Keys.{NumbersFit, KeyFits, PassesTest, entries_view};
+ghost use Rattle.qs_data.specs.read.internal.Keys.{ParsesNumber, value_in};
 
 use crate::read::error::{ReadError, Result};
 use crate::read::message::key_error;
@@ -44,16 +45,16 @@ pub enum Found<'t, 'qs> {
 impl<'t, 'qs> Entries<'t, 'qs> {
     /// Looks up the value under a name. It doesn't allocate.
     pub fn find(self, name: &str) -> Found<'t, 'qs>
-        requires { NumbersFit (entries_of self) }
-        ensures { Finds result (found name.now (entries_of self.entry)) }
+        requires { NumbersFit (entries_view self) }
+        ensures { Finds result (found name.now (entries_view self.entry)) }
     {
         find(self, name)
     }
 
     /// Tests whether all keys are texts. It returns the first that isn't, and doesn't allocate.
     pub fn test(self) -> std::result::Result<(), BrokenKey<'t>>
-        ensures text { PassesTest result (keys_are_text (entries_of self.entry)) }
-        ensures fit { NumbersFit (entries_of self.entry) }
+        ensures text { PassesTest result (keys_are_text (entries_view self.entry)) }
+        ensures fit { NumbersFit (entries_view self.entry) }
     {
         test_keys(self)
     }
@@ -61,8 +62,8 @@ impl<'t, 'qs> Entries<'t, 'qs> {
 
 /// The value under a name.
 pub(crate) fn find<'t, 'qs>(entries: Entries<'t, 'qs>, name: &str) -> Found<'t, 'qs>
-    requires { NumbersFit (entries_of entries) }
-    ensures { Finds result (found name.now (entries_of entries.entry)) }
+    requires { NumbersFit (entries_view entries) }
+    ensures { Finds result (found name.now (entries_view entries.entry)) }
 {
     match entries {
         Entries::Empty => Found::Missing,
@@ -145,8 +146,8 @@ impl BrokenKey<'_> {
 
 /// Whether all keys are texts, or the first that isn't.
 pub(crate) fn test_keys<'t>(entries: Entries<'t, '_>) -> Result<(), BrokenKey<'t>>
-    ensures text { PassesTest result (keys_are_text (entries_of entries.entry)) }
-    ensures fit { NumbersFit (entries_of entries.entry) }
+    ensures text { PassesTest result (keys_are_text (entries_view entries.entry)) }
+    ensures fit { NumbersFit (entries_view entries.entry) }
 {
     match entries {
         Entries::Empty => Ok(()),

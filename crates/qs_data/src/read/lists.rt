@@ -7,7 +7,7 @@ ghost use Rattle.qs_tree.specs.tree.Views.{tree_of};
 ghost use Rattle.qs_data.specs.data.Views.{data_of};
 ghost use Rattle.qs_data.specs.shape.Views.{shape_of, shapes_in};
 ghost use Rattle.qs_data.specs.read.Text.{is_text};
-ghost use Rattle.qs_data.specs.read.internal.Items.{items_in, are_text};
+ghost use Rattle.qs_data.specs.read.Items.{items_view, are_text};
 ghost use Rattle.qs_data.specs.read.internal.ReadError.{ReadGives};
 
 use crate::data::Data;
@@ -32,8 +32,8 @@ pub(crate) fn read_list(reader: Reader, part: &Shape, value: &ParsedValue<'_>) -
 /// Each item, by one shape.
 #[cycle(read)]
 pub(crate) fn read_each(reader: Reader, part: &Shape, items: Items<'_, '_>) -> Result<Vec<Data>>
-    ensures { ReadGives (λ v. map data_of v.items) (are_text (items_in items.entry)) result
-        (read_each (reads reader.reject_duplicates (shape_of part.now)) (items_in items.entry)) }
+    ensures { ReadGives (λ v. map data_of v.items) (are_text (items_view items.entry)) result
+        (read_each (reads reader.reject_duplicates (shape_of part.now)) (items_view items.entry)) }
 {
     let mut values = Vec::with_capacity(reader.alloc, items.len())?;
     for i in 0..items.len() {
@@ -65,8 +65,8 @@ pub(crate) fn read_tuple(
 #[cycle(read)]
 #[tactic(auto, unfolding(qs_spec::specs::internal::ReadFunction::reads))]
 fn read_parts(reader: Reader, parts: &Vec<Shape>, items: Items<'_, '_>) -> Result<Vec<Data>>
-    ensures { ReadGives (λ v. map data_of v.items) (are_text (items_in items.entry)) result
-        (reads_tuple reader.reject_duplicates (shapes_in parts.now.items) (items_in items.entry)) }
+    ensures { ReadGives (λ v. map data_of v.items) (are_text (items_view items.entry)) result
+        (reads_tuple reader.reject_duplicates (shapes_in parts.now.items) (items_view items.entry)) }
 {
     let mut values = Vec::with_capacity(reader.alloc, parts.len())?;
     for (i, part) in parts.iter().enumerate() {

@@ -8,7 +8,7 @@ ghost use Rattle.qs_spec.specs.internal.ReadFunction.{any_data, read_each, read_
 ghost use Rattle.qs_tree.specs.tree.Views.{tree_of, entries_of_map};
 ghost use Rattle.qs_data.specs.declared.read.error.ReadError.TheVariants.{OutOfMemory};
 ghost use Rattle.qs_data.specs.data.Views.{data_of};
-ghost use Rattle.qs_data.specs.read.internal.Items.{items_in, are_text};
+ghost use Rattle.qs_data.specs.read.Items.{items_view, are_text};
 ghost use Rattle.qs_data.specs.read.Text.{entries_are_text};
 ghost use Rattle.qs_data.specs.read.internal.Sizes.{list_size, entries_size};
 ghost use Rattle.qs_data.specs.read.internal.Nesting.{Visits, Advances, Extends, done_of, frame_data, frame_is_text, frame_size};
@@ -86,9 +86,9 @@ pub(crate) fn visit<'t, 'qs>(alloc: Global, value: &'t ParsedValue<'qs>) -> Resu
 impl<'t, 'qs> Frame<'t, 'qs> {
     // A list of which nothing is read yet.
     fn list(alloc: Global, items: Items<'t, 'qs>) -> Self
-        ensures value { frame_data result ≡ option_map (λ ds. sequence (values_of ds)) (read_each any_data (items_in items.entry)) }
-        ensures text { frame_is_text result ≡ are_text (items_in items.entry) }
-        ensures size { frame_size result ≡ list_size (items_in items.entry) }
+        ensures value { frame_data result ≡ option_map (λ ds. sequence (values_of ds)) (read_each any_data (items_view items.entry)) }
+        ensures text { frame_is_text result ≡ are_text (items_view items.entry) }
+        ensures size { frame_size result ≡ list_size (items_view items.entry) }
     {
         Frame::List(ListFrame {
             items,

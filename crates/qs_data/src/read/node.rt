@@ -1,14 +1,18 @@
 //! One node of a tree: what a shape reads from it, and what is found under a name in it.
 
+ghost use Rattle.std.specs.Prelude.{◌≡◌, true};
+ghost use Rattle.qs_spec.specs.Config.{are_rejected};
 ghost use Rattle.qs_spec.specs.Node.{found};
-ghost use Rattle.qs_spec.specs.internal.ReadFunction.{read_by};
+ghost use Rattle.qs_spec.specs.Shape.{is_distinct};
 ghost use Rattle.qs_tree.specs.tree.Views.{tree_of, entries_of_map};
 ghost use Rattle.qs_data.specs.data.Views.{data_of};
 ghost use Rattle.qs_data.specs.shape.Views.{shape_of};
 ghost use Rattle.qs_data.specs.read.Text.{is_text};
+ghost use Rattle.qs_data.specs.read.Reads.{reads};
 ghost use Rattle.qs_data.specs.read.Gives.{Gives};
 ghost use Rattle.qs_data.specs.read.Errors.{OnlyCustomUtf8OrOutOfMemory};
 ghost use Rattle.qs_data.specs.read.Found.{Finds};
+ghost use Rattle.qs_data.specs.read.Parsed.{ReturnsData};
 
 use crate::data::Data;
 use crate::read::by_shape::{Reader, read};
@@ -19,9 +23,9 @@ use std::alloc::Global;
 
 /// Reads one node of a tree by a shape, as [`Deserializer::read`](crate::Deserializer::read) does with the whole tree.
 ///
-/// The data are those that docs/QUERYSTRINGS.md has for the shape and the node. Where there are none, that is
-/// [`Custom`](qs_tree::Error::Custom), or [`Utf8`](qs_tree::Error::Utf8) where a text that is read isn't UTF-8. It allocates for
-/// what the data keep and for an error's message, and takes time as that call does.
+/// The data are those that docs/QUERYSTRINGS.md has for the shape and the node; of variants with one name the first counts. Where there
+/// are none, that is [`Custom`](qs_tree::Error::Custom), or [`Utf8`](qs_tree::Error::Utf8) where a text that is read isn't UTF-8. It
+/// allocates for what the data keep and for an error's message, and takes time as that call does.
 ///
 /// ```
 /// let age = read_value(alloc, Config::new(), &Shape::U8, &ParsedValue::Null); // an error: u8 is expected
@@ -32,7 +36,8 @@ pub fn read_value(
     shape: &Shape,
     node: &ParsedValue<'_>,
 ) -> Result<Data>
-    ensures exact { Gives data_of (is_text (tree_of node.now)) result (read_by config (shape_of shape.now) (tree_of node.now)) }
+    ensures exact { Gives data_of (is_text (tree_of node.now)) result (reads (are_rejected config.duplicates) (shape_of shape.now) (tree_of node.now)) }
+    ensures related { is_distinct (shape_of shape.now) ≡ true → ReturnsData (record { config = config; tree = tree_of node.now }) (shape_of shape.now) result }
     ensures errors { OnlyCustomUtf8OrOutOfMemory result }
 {
     read(Reader::new(alloc, config), shape, node)

@@ -1,19 +1,18 @@
 //! Reading a node without a shape, for types that read themselves: the errors, and the data of a part.
 
-ghost use Rattle.std.specs.Prelude.{◌≡◌, [], IfOk, None, Some, true, false};
+ghost use Rattle.std.specs.Prelude.{◌≡◌, IfOk, None, true, false};
 ghost use Rattle.qs_spec.specs.Config.{are_rejected};
 ghost use Rattle.qs_spec.specs.Node.{items};
-ghost use Rattle.qs_spec.specs.Data as d;
-ghost use Rattle.qs_spec.specs.Scalar.{signed_data, text_data, unsigned_data};
-ghost use Rattle.qs_spec.specs.internal.ReadFunction.{read_scalar, reads};
+ghost use Rattle.qs_spec.specs.Shape as s;
 ghost use Rattle.qs_tree.specs.tree.Views.{tree_of};
 ghost use Rattle.qs_data.specs.data.Views.{data_of};
 ghost use Rattle.qs_data.specs.shape.Views.{shape_of};
-ghost use Rattle.qs_data.specs.shape.internal.Widths.{bits_of};
+ghost use Rattle.qs_data.specs.shape.Widths.{bits_of};
 ghost use Rattle.qs_data.specs.read.Text.{is_text};
+ghost use Rattle.qs_data.specs.read.Reads.{reads};
 ghost use Rattle.qs_data.specs.read.Gives.{Gives, Rejects};
 ghost use Rattle.qs_data.specs.read.Errors.{IsCustomOrOutOfMemory};
-ghost use Rattle.qs_data.specs.read.internal.Items.{are_text, items_in};
+ghost use Rattle.qs_data.specs.read.Items.{are_text, items_view};
 ghost use Rattle.qs_data.specs.read.internal.ReadError.{ReadRejects};
 
 use crate::data::Data;
@@ -47,35 +46,35 @@ impl Reader {
 
     /// Reads an unsigned number of this width, as by its shape.
     #[inline(always)]
+    #[tactic(auto, unfolding(qs_spec::specs::internal::ReadFunction::reads))]
     pub fn unsigned(self, width: Width, node: &ParsedValue<'_>) -> Result<Data>
-        ensures { Gives data_of (is_text (tree_of node.now)) result
-            (read_scalar self.reject_duplicates None (unsigned_data (bits_of width)) (tree_of node.now)) }
+        ensures { Gives data_of (is_text (tree_of node.now)) result (reads self.reject_duplicates (s.Shape.unsigned (bits_of width)) (tree_of node.now)) }
     {
         Ok(read_unsigned(self, width, node)?)
     }
 
     /// Reads a signed number of this width, as by its shape.
     #[inline(always)]
+    #[tactic(auto, unfolding(qs_spec::specs::internal::ReadFunction::reads))]
     pub fn signed(self, width: Width, node: &ParsedValue<'_>) -> Result<Data>
-        ensures { Gives data_of (is_text (tree_of node.now)) result
-            (read_scalar self.reject_duplicates None (signed_data (bits_of width)) (tree_of node.now)) }
+        ensures { Gives data_of (is_text (tree_of node.now)) result (reads self.reject_duplicates (s.Shape.signed (bits_of width)) (tree_of node.now)) }
     {
         Ok(read_signed(self, width, node)?)
     }
 
     /// Reads a text, as by its shape.
     #[inline(always)]
+    #[tactic(auto, unfolding(qs_spec::specs::internal::ReadFunction::reads))]
     pub fn text(self, node: &ParsedValue<'_>) -> Result<Data>
-        ensures { Gives data_of (is_text (tree_of node.now)) result
-            (read_scalar self.reject_duplicates (Some (d.text [])) text_data (tree_of node.now)) }
+        ensures { Gives data_of (is_text (tree_of node.now)) result (reads self.reject_duplicates s.Shape.text (tree_of node.now)) }
     {
         Ok(read_text(self, node)?)
     }
 
     /// Returns the items of a node, if it has a list of them. It doesn't allocate.
     pub fn items<'t, 'qs>(self, node: &'t ParsedValue<'qs>) -> Result<Items<'t, 'qs>>
-        ensures exact { Gives items_in true result (items (tree_of node.now)) }
-        ensures text { IfOk result (λ xs. are_text (items_in xs) ≡ false → is_text (tree_of node.now) ≡ false) }
+        ensures exact { Gives items_view true result (items (tree_of node.now)) }
+        ensures text { IfOk result (λ xs. are_text (items_view xs) ≡ false → is_text (tree_of node.now) ≡ false) }
     {
         Ok(items_of(self.alloc, node, Expected::Sequence)?)
     }

@@ -10,7 +10,7 @@ ghost use Rattle.qs_tree.specs.tree.Views.{tree_of, items_from};
 ghost use Rattle.qs_data.specs.data.Views.{data_of};
 ghost use Rattle.qs_data.specs.read.Text.{is_text};
 ghost use Rattle.qs_data.specs.read.internal.ReadError.{ReadGives, ReadIsFrugal};
-ghost use Rattle.qs_data.specs.shape.internal.Widths.{bits_of};
+ghost use Rattle.qs_data.specs.shape.Widths.{bits_of};
 ghost use Rattle.qs_data.specs.read.internal.SourceText.{source_text, utf8_text};
 ghost use Rattle.std.specs.Prelude.{map};
 

@@ -10,7 +10,8 @@ ghost use Rattle.qs_data.specs.shape.Views.{fields_in};
 ghost use Rattle.qs_data.specs.read.Text.{entries_are_text};
 ghost use Rattle.qs_data.specs.read.internal.Keys.{when};
 ghost use Rattle.qs_data.specs.read.internal.ReadError.{ReadGives};
-ghost use Rattle.qs_data.specs.read.internal.Keys.{entries_of, unknown_of};
+ghost use Rattle.qs_data.specs.read.Keys.{entries_view};
+ghost use Rattle.qs_data.specs.read.internal.Keys.{unknown_of};
 
 use crate::read::error::Result;
 use crate::read::keys::Entries;
@@ -38,7 +39,7 @@ impl UnknownKeys {
         fields: &[Field],
         entries: Entries<'_, '_>,
     ) -> Result<()>
-        ensures { let es = entries_of entries.entry in
+        ensures { let es = entries_view entries.entry in
             ReadGives (λ _. tt) (entries_are_text es) result (when (keys_are_names (fields_in fields.now) es || are_ignored (unknown_of self))) }
     {
         match (self, entries) {

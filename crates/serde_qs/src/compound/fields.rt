@@ -6,7 +6,7 @@ ghost use Rattle.qs_tree.specs.Error.{OnlyOutOfMemory};
 ghost use Rattle.qs_tree.specs.tree.Views.{items_from, tree_of};
 ghost use Rattle.qs_data.specs.read.Gives.{Gives};
 ghost use Rattle.qs_data.specs.read.Text.{entries_are_text, items_are_text};
-ghost use Rattle.qs_data.specs.read.internal.Keys.{NumbersFit, entries_of};
+ghost use Rattle.qs_data.specs.read.Keys.{NumbersFit, entries_view};
 ghost use Rattle.qs_data.specs.shape.Views.{field_of};
 ghost use Rattle.serde_qs.specs.Nodes.{by_names, by_places};
 ghost use Rattle.serde_qs.specs.PartTables.{FieldsTable, field, no_fields};
@@ -51,10 +51,10 @@ pub trait Fields: Sized + Drop {
         names: &[&'static str],
         entries: Entries<'_, '_>,
     ) -> Result<Self>
-        requires fit { NumbersFit (entries_of entries) }
+        requires fit { NumbersFit (entries_view entries) }
         requires differ { field_names_differ (fields_of (table.form (texts names.now))) ≡ true }
-        ensures { Gives table.value (entries_are_text (entries_of entries.entry)) result
-            (by_names reader.reject_duplicates (table.form (texts names.now)) (table.meaning (texts names.now)) (entries_of entries.entry)) };
+        ensures { Gives table.value (entries_are_text (entries_view entries.entry)) result
+            (by_names reader.reject_duplicates (table.form (texts names.now)) (table.meaning (texts names.now)) (entries_view entries.entry)) };
 
     /// Returns the fields that are read by their places, from the last of so many items.
     fn from_places(

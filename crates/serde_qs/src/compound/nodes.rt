@@ -7,7 +7,7 @@ ghost use Rattle.qs_spec.specs.internal.ReadFunction.{items_after, reads};
 ghost use Rattle.qs_tree.specs.tree.Views.{items_from, tree_of};
 ghost use Rattle.qs_data.specs.read.Gives.{Gives};
 ghost use Rattle.qs_data.specs.read.Text.{entries_are_text, is_text, items_are_text};
-ghost use Rattle.qs_data.specs.read.internal.Keys.{NumbersFit, entries_of};
+ghost use Rattle.qs_data.specs.read.Keys.{NumbersFit, entries_view};
 ghost use Rattle.serde_qs.specs.Nodes.{missing_data, members_read, names_read, value_found, value_placed};
 ghost use Rattle.serde_qs.specs.Records.{texts};
 
@@ -44,8 +44,8 @@ fn read_entries<F: Fields>(
     entries: Entries<'_, '_>,
 ) -> Result<F>
     requires { field_names_differ (fields_of (F.table.form (texts names.now))) ≡ true }
-    ensures { Gives F.table.value (entries_are_text (entries_of entries.entry)) result
-        (names_read reader.reject_duplicates (F.table.form (texts names.now)) (F.table.meaning (texts names.now)) (entries_of entries.entry)) }
+    ensures { Gives F.table.value (entries_are_text (entries_view entries.entry)) result
+        (names_read reader.reject_duplicates (F.table.form (texts names.now)) (F.table.meaning (texts names.now)) (entries_view entries.entry)) }
 {
     let tested = entries.test();
     let fields = F::from_entries(reader, names, entries)?;
@@ -61,9 +61,9 @@ pub(crate) fn by_name<T: RoundTrip>(
     name: &str,
     entries: Entries<'_, '_>,
 ) -> Result<T>
-    requires { NumbersFit (entries_of entries) }
-    ensures { Gives T.table.value (entries_are_text (entries_of entries.entry)) result
-        (value_found T.table.meaning (option_and_then T.table.meaning (missing_data T.table.form)) (reads reader.reject_duplicates T.table.form) (found name.now (entries_of entries.entry))) }
+    requires { NumbersFit (entries_view entries) }
+    ensures { Gives T.table.value (entries_are_text (entries_view entries.entry)) result
+        (value_found T.table.meaning (option_and_then T.table.meaning (missing_data T.table.form)) (reads reader.reject_duplicates T.table.form) (found name.now (entries_view entries.entry))) }
 {
     match entries.find(name) {
         Found::Missing => own::from_missing(reader, name),
@@ -78,9 +78,9 @@ pub(crate) fn optional_by_name<T: RoundTrip>(
     name: &str,
     entries: Entries<'_, '_>,
 ) -> Result<Option<T>>
-    requires { NumbersFit (entries_of entries) }
-    ensures { Gives (option_map T.table.value) (entries_are_text (entries_of entries.entry)) result
-        (value_found (λ d. option_map Some (T.table.meaning d)) (Some None) (reads reader.reject_duplicates T.table.form) (found name.now (entries_of entries.entry))) }
+    requires { NumbersFit (entries_view entries) }
+    ensures { Gives (option_map T.table.value) (entries_are_text (entries_view entries.entry)) result
+        (value_found (λ d. option_map Some (T.table.meaning d)) (Some None) (reads reader.reject_duplicates T.table.form) (found name.now (entries_view entries.entry))) }
 {
     match entries.find(name) {
         Found::Missing => Ok(None),
@@ -95,9 +95,9 @@ pub(crate) fn defaulted_by_name<T: RoundTrip + OrDefault>(
     name: &str,
     entries: Entries<'_, '_>,
 ) -> Result<T>
-    requires { NumbersFit (entries_of entries) }
-    ensures { Gives T.table.value (entries_are_text (entries_of entries.entry)) result
-        (value_found T.table.meaning (T.table.meaning T.default) (reads reader.reject_duplicates T.table.form) (found name.now (entries_of entries.entry))) }
+    requires { NumbersFit (entries_view entries) }
+    ensures { Gives T.table.value (entries_are_text (entries_view entries.entry)) result
+        (value_found T.table.meaning (T.table.meaning T.default) (reads reader.reject_duplicates T.table.form) (found name.now (entries_view entries.entry))) }
 {
     match entries.find(name) {
         Found::Missing => own::missing_of(reader.alloc),

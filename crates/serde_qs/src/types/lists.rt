@@ -7,7 +7,7 @@ ghost use Rattle.std.specs.declared.vec.Vec.{Vec};
 ghost use Rattle.std.specs.declared.alloc.Global.{Global};
 ghost use Rattle.qs_data.specs.data.Views.{values_in as values_in_list};
 ghost use Rattle.qs_data.specs.read.Gives.{Gives};
-ghost use Rattle.qs_data.specs.read.internal.Items.{are_text, items_in};
+ghost use Rattle.qs_data.specs.read.Items.{are_text, items_view};
 ghost use Rattle.qs_spec.specs.internal.ReadFunction.{reads};
 ghost use Rattle.serde_qs.specs.Nodes.{each_value};
 ghost use Rattle.serde_qs.specs.Typed.{Means};
@@ -74,8 +74,8 @@ fn items_of<T: Deserialize + Drop>(alloc: Global, parts: Vec<Data>) -> Result<Ve
 
 // Returns the values that are read from these items, in order.
 fn values_of<T: Deserialize + Drop>(reader: Reader, items: Items<'_, '_>) -> Result<Vec<T>>
-    ensures { Gives (λ (xs : Vec T Global). map T.value xs.items) (are_text (items_in items.entry)) result
-        (each_value (λ node. option_and_then T.meaning (reads reader.reject_duplicates T.form node)) (items_in items.entry)) }
+    ensures { Gives (λ (xs : Vec T Global). map T.value xs.items) (are_text (items_view items.entry)) result
+        (each_value (λ node. option_and_then T.meaning (reads reader.reject_duplicates T.form node)) (items_view items.entry)) }
 {
     let mut values = Vec::with_capacity(reader.alloc, items.len())?;
     for i in 0..items.len() {

@@ -5,7 +5,7 @@ use Rattle.std.specs.String.{string_bytes}
 use Rattle.std.specs.declared.string.String.{String}
 use Rattle.std.specs.declared.alloc.Global.{Global}
 use Rattle.qs_data.specs.declared.data.data.Data.{Data}
-use Rattle.qs_data.specs.data.Equality.{data_same, values_same, pairs_same, members_same}
+use Rattle.qs_data.specs.data.internal.Equality.{data_same, values_same, pairs_same, members_same}
 use Rattle.qs_data.specs.data.Views.{data_of, values_in, pairs_in, members_in}
 
 never : (b : Bool) → (b && false) ≡ false

@@ -10,7 +10,8 @@ use Rattle.qs_spec.specs.Tree.Entries.{no_entries, entry}
 use Rattle.qs_spec.specs.Node.{keys_are_text}
 use Rattle.qs_tree.specs.tree.Views.{entry_list}
 use Rattle.qs_data.specs.read.Text.{is_text, entries_are_text}
-use Rattle.qs_data.specs.read.internal.Keys.{NumbersFit, KeyFits, PassesTest, entries_after}
+use Rattle.qs_data.specs.read.Keys.{NumbersFit, KeyFits, PassesTest}
+use Rattle.qs_data.specs.read.internal.Keys.{entries_after}
 use Rattle.qs_data.proofs.lemmas.read.Errors.{and_left, and_right}
 
 some_is : {A : Type 0} (a b : A) → Some a ≡ Some b → a ≡ b

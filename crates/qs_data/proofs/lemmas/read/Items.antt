@@ -25,7 +25,8 @@ use Rattle.qs_spec.specs.Tree.Tree.{leaf, sequence, mapping, uninitialized}
 use Rattle.std.specs.Str.{is_utf8}
 use Rattle.qs_spec.specs.Segment.{segment_text}
 use Rattle.qs_data.specs.read.internal.Keys.{entries_after}
-use Rattle.qs_data.specs.read.internal.Items.{first_item, are_text, passed}
+use Rattle.qs_data.specs.read.Items.{first_item, are_text}
+use Rattle.qs_data.specs.read.internal.Keys.{passed}
 use Rattle.qs_data.specs.read.Text.{is_text, items_are_text, entries_are_text}
 use Rattle.qs_data.proofs.lemmas.read.Errors.{and_left, and_right}
 use Rattle.qs_data.proofs.lemmas.read.Fields.{item_at, no_item_at}

@@ -18,7 +18,8 @@ use Rattle.std.specs.Borrow.{Bor}
 use Rattle.qs_tree.specs.declared.tree.value.ParsedValue.{ParsedValue}
 use Rattle.qs_tree.specs.tree.Views.{find, tree_of}
 use Rattle.qs_tree.specs.tree.Ordered.{IsBefore, AreOrdered}
-use Rattle.qs_data.specs.read.internal.Keys.{NumbersFit, value_in}
+use Rattle.qs_data.specs.read.Keys.{NumbersFit}
+use Rattle.qs_data.specs.read.internal.Keys.{value_in}
 
 -- what comes after a key is not that key
 absent : (s : Segment) (es : Entries) → IsBefore s es → find s es ≡ None

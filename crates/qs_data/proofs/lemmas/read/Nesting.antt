@@ -25,7 +25,7 @@ use Rattle.qs_data.specs.declared.read.nested.Frame.{Frame}
 use Rattle.qs_data.specs.declared.read.nested.Frame.TheVariants as frame
 use Rattle.qs_data.specs.read.internal.Nesting.{Begins, Enters, Advances, Extends, entries_left, frame_data, frame_after, frame_size, frame_is_text, list_with, map_with}
 use Rattle.qs_data.specs.read.internal.ReadError.{ReadRejects}
-use Rattle.qs_data.specs.read.internal.Items.{items_in, first_item, are_text}
+use Rattle.qs_data.specs.read.Items.{items_view, first_item, are_text}
 use Rattle.qs_data.specs.read.internal.Keys.{entries_after}
 use Rattle.qs_data.specs.read.internal.Sizes.{tree_size, list_size, entries_size}
 use Rattle.qs_data.specs.data.Views.{data_of, pair_of}
@@ -156,11 +156,11 @@ begins_map l t es is not value text size = record {
 }
 
 -- after some leaves of a list a further frame begins
-pub enters_list : (old inner : Frame) (node : Visited) (values : Vec r.Data Global) (i : ℕ) (t : Tree) → first_item (drop i (items_in node)) ≡ Some (Some t)
-    → frame_data old ≡ list_with (map data_of values.items) (read_each any_data (drop i (items_in node))) → (are_text (drop i (items_in node)) ≡ false → frame_is_text old ≡ false)
-    → list_size (drop i (items_in node)) ≤ frame_size old → Begins inner t → Enters inner old (frame.List record { items = node; next = i + 1; values = values })
+pub enters_list : (old inner : Frame) (node : Visited) (values : Vec r.Data Global) (i : ℕ) (t : Tree) → first_item (drop i (items_view node)) ≡ Some (Some t)
+    → frame_data old ≡ list_with (map data_of values.items) (read_each any_data (drop i (items_view node))) → (are_text (drop i (items_view node)) ≡ false → frame_is_text old ≡ false)
+    → list_size (drop i (items_view node)) ≤ frame_size old → Begins inner t → Enters inner old (frame.List record { items = node; next = i + 1; values = values })
 enters_list old inner node values i t here value text size b =
-    let xs = items_in node in
+    let xs = items_view node in
     record {
       value = value ∙ list_enters xs i t here (map data_of values.items) (frame_data inner) b.value;
       inner_text = λ n. text (list_text xs i t here (b.text n));

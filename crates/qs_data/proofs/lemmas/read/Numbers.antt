@@ -13,7 +13,7 @@ use Rattle.std.proofs.lemmas.Str.Parse.{IsNumeralModel, numerals_by_fold}
 use Rattle.std.proofs.lemmas.Str.{IsUtf8-from_ascii, is_utf8-from_IsUtf8}
 use Rattle.qs_data.specs.declared.shape.width.Width.{Width}
 use Rattle.qs_data.specs.declared.shape.width.Width.TheVariants.{Bits8, Bits16, Bits32, Bits64}
-use Rattle.qs_data.specs.shape.internal.Widths.{bits_of}
+use Rattle.qs_data.specs.shape.Widths.{bits_of}
 use Rattle.qs_spec.specs.Escape.{is_between}
 use Rattle.qs_spec.specs.Segment.{number}
 use Rattle.qs_spec.specs.Scalar.{is_numeral, numeral_up_to, unsigned_number, signed_number}

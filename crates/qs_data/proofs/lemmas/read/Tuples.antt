@@ -7,7 +7,7 @@ use Rattle.qs_spec.specs.Tree.{Tree}
 use Rattle.qs_spec.specs.internal.ReadFunction.{reads, reads_tuple, with_front}
 use Rattle.qs_data.specs.declared.shape.shape.Shape.{Shape}
 use Rattle.qs_data.specs.shape.Views.{shape_of, shapes_in}
-use Rattle.qs_data.specs.read.internal.Items.{first_item}
+use Rattle.qs_data.specs.read.Items.{first_item}
 use Rattle.qs_data.proofs.lemmas.read.Items.{first_some}
 use Rattle.qs_data.proofs.lemmas.read.Steps.{before, before-front}
 

@@ -16,7 +16,8 @@ use Rattle.qs_data.specs.data.Views.{data_of, named, pair_of}
 use Rattle.qs_data.specs.shape.Views.{shape_of, field_of, fields_in, variant_of, variants_in, key_shape_of, shapes_in}
 use Rattle.qs_data.specs.read.Text.{is_text, items_are_text, entries_are_text}
 use Rattle.qs_data.specs.read.internal.ReadError.{ReadGives}
-use Rattle.qs_data.specs.read.internal.Keys.{entries_of, entries_after, unknown_of}
+use Rattle.qs_data.specs.read.Keys.{entries_view}
+use Rattle.qs_data.specs.read.internal.Keys.{entries_after, unknown_of}
 use Rattle.qs_data.specs.shape.Variants.{variant_named}
 use Rattle.qs_data.proofs.lemmas.data.Levels.{data_of_struct, data_of_struct_variant}
 use Rattle.qs_data.proofs.lemmas.read.Entries.{after_some, keys_bad, untested}
@@ -28,7 +29,7 @@ use Rattle.qs_spec.specs.Scalar.{key_data}
 use Rattle.qs_spec.specs.Tree.{Tree}
 use Rattle.std.proofs.lemmas.Bool.{false≢true}
 use Rattle.std.specs.Option.{option_and_then}
-use Rattle.qs_data.specs.read.internal.Items.{items_in, first_item, are_text}
+use Rattle.qs_data.specs.read.Items.{items_view, first_item, are_text}
 use Rattle.qs_data.proofs.lemmas.read.Items.{items_bad, due_bad, each_more, each_unread, each_end, each_all}
 use Rattle.qs_data.proofs.lemmas.read.Tuples.{parts_more, parts_unread}
 use Rattle.qs_data.proofs.lemmas.read.Numbers.{empty_text}
@@ -40,7 +41,7 @@ use Rattle.qs_data.proofs.read.+read.Goals.{maps::read_pairs-else-loop-i-test, m
 
 pub fields::read_entries-returns-in-Err : goal.fields::read_entries-returns-in-Err
 fields::read_entries-returns-in-Err t c =
-    let es = entries_of c.args.entries in
+    let es = entries_view c.args.entries in
     let bad : keys_are_text es ≡ false = c.in-Err.ensures.text in
     let u = unknown_of c.args.unknown in
     let fs = fields_in c.args.fields.now.items in
@@ -51,7 +52,7 @@ pub fields::read_field-returns-in_err-read_node-in-One : goal.fields::read_field
 fields::read_field-returns-in_err-read_node-in-One t c =
     let d = c.args.field.now in
     let f = field_of d in
-    let es = entries_of c.args.entries in
+    let es = entries_view c.args.entries in
     let n = tree_of c.in-One.value.now in
     let r = reads c.args.reader.reject_duplicates (shape_of (out-Field d).shape) in
     let one : found f.0 es ≡ n ∷ [] = ap (λ name. found name es) (field_name d ∙ sym c.deref.ensures) ∙ c.in-One.ensures in
@@ -64,7 +65,7 @@ fields::read_names-loop-field-preserved t c =
     let l = c.loop-field in
     let d = c.field-item.result in
     let fs = c.deref-field-items.result.now in
-    let es = entries_of c.args.entries in
+    let es = entries_view c.args.entries in
     let ws = map (named data_of) l.members.items in
     let x = c.in-Some.value in
     let m = c.in_ok-name.name in
@@ -216,7 +217,7 @@ pub lists::read_list-returns : goal.lists::read_list-returns
 unfolding read_list
 lists::read_list-returns t c =
     let n = tree_of c.args.value.now in
-    let xs = items_in c.in_ok-items.items in
+    let xs = items_view c.in_ok-items.items in
     let r = reads c.args.reader.reject_duplicates (shape_of c.args.part.now) in
     let h : items n ≡ Some xs = c.in_ok-items.ensures in
     gives_as (λ v. map data_of v.items) (are_text xs) (is_text n) c.read_each.result (read_each r xs) (read_list r n)
@@ -225,7 +226,7 @@ lists::read_list-returns t c =
 pub lists::read_each-returns-in_err-read_node : goal.lists::read_each-returns-in_err-read_node
 lists::read_each-returns-in_err-read_node t c =
     let l = c.loop-i in
-    let xs = items_in c.args.items in
+    let xs = items_view c.args.items in
     let n = tree_of c.in-Some.item.now in
     let r = reads c.args.reader.reject_duplicates (shape_of c.args.part.now) in
     let h : first_item (drop l.i xs) ≡ Some (Some n) = c.in_ok-item.ensures ∙ ap (λ o. Some (option_map (λ v. tree_of v.now) o)) c.in-Some.is in
@@ -235,7 +236,7 @@ lists::read_each-returns-in_err-read_node t c =
 pub lists::read_each-loop-i-preserved : goal.lists::read_each-loop-i-preserved
 lists::read_each-loop-i-preserved t c =
     let l = c.loop-i in
-    let xs = items_in c.args.items in
+    let xs = items_view c.args.items in
     let n = tree_of c.in-Some.item.now in
     let r = reads c.args.reader.reject_duplicates (shape_of c.args.part.now) in
     let ws = map data_of l.values.items in
@@ -247,7 +248,7 @@ lists::read_each-loop-i-preserved t c =
 pub lists::read_each-returns : goal.lists::read_each-returns
 lists::read_each-returns t c =
     let l = c.loop-i in
-    let xs = items_in c.args.items in
+    let xs = items_view c.args.items in
     let r = reads c.args.reader.reject_duplicates (shape_of c.args.part.now) in
     let ws = map data_of l.values.items in
     elim c.loop-i-test.branch [
@@ -260,7 +261,7 @@ lists::read_each-returns t c =
 pub lists::read_tuple-returns : goal.lists::read_tuple-returns
 lists::read_tuple-returns t c =
     let n = tree_of c.args.value.now in
-    let xs = items_in c.in_ok-items.items in
+    let xs = items_view c.in_ok-items.items in
     let r = reads_tuple c.args.reader.reject_duplicates (shapes_in c.args.parts.now.items) in
     let h : items n ≡ Some xs = c.in_ok-items.ensures in
     gives_as (λ v. map data_of v.items) (are_text xs) (is_text n) c.read_parts.result (r xs) (option_and_then r (items n))
@@ -271,7 +272,7 @@ lists::read_parts-returns-in_err-read_node t c =
     let l = c.loop-i in
     let s = c.part-item.result in
     let ss = c.deref-part-items.result.now in
-    let xs = items_in c.args.items in
+    let xs = items_view c.args.items in
     let n = tree_of c.in-Some.item.now in
     let h : first_item (drop l.i xs) ≡ Some (Some n) = c.in_ok-item.ensures ∙ ap (λ o. Some (option_map (λ v. tree_of v.now) o)) c.in-Some.is in
     gives_exit (λ v. map data_of v.items) (is_text n) (are_text xs) c.from_residual-in_err-read_node.result c.in_err-read_node.field-0.0
@@ -284,7 +285,7 @@ lists::read_parts-loop-i-preserved t c =
     let l = c.loop-i in
     let s = c.part-item.result in
     let ss = c.deref-part-items.result.now in
-    let xs = items_in c.args.items in
+    let xs = items_view c.args.items in
     let n = tree_of c.in-Some.item.now in
     let ws = map data_of l.values.items in
     let d = data_of c.in_ok-read_node.field-0 in

@@ -3,14 +3,15 @@ use Rattle.qs_spec.specs.internal.ReadFunction.{reads, read_each, read_pairs, re
 use Rattle.qs_tree.specs.tree.Views.{tree_of, items_from, entries_of_map}
 use Rattle.qs_data.specs.data.Views.{data_of, named, pair_of}
 use Rattle.qs_data.specs.shape.Views.{fields_in, key_shape_of, shape_of, shapes_in}
-use Rattle.qs_data.specs.read.internal.Items.{items_in}
-use Rattle.qs_data.specs.read.internal.Keys.{entries_of, entries_after}
+use Rattle.qs_data.specs.read.Items.{items_view}
+use Rattle.qs_data.specs.read.Keys.{entries_view}
+use Rattle.qs_data.specs.read.internal.Keys.{entries_after}
 use Rattle.qs_data.proofs.lemmas.read.Steps.{before}
 use Rattle.qs_data.proofs.read.+read.Given as goal
 
 abbrev pub invariant-fields::read_names-loop-field : goal.invariant-fields::read_names-loop-field
 invariant-fields::read_names-loop-field l =
-    let es = entries_of l.entries in
+    let es = entries_view l.entries in
     reads_names l.reader.reject_duplicates (fields_in l.fields.items) es ≡ before (map (named data_of) l.members.items) (reads_names l.reader.reject_duplicates (fields_in (drop l.field-index l.field-items)) es)
 
 abbrev pub invariant-fields::read_places-loop-i : goal.invariant-fields::read_places-loop-i
@@ -21,12 +22,12 @@ invariant-fields::read_places-loop-i l =
 abbrev pub invariant-lists::read_each-loop-i : goal.invariant-lists::read_each-loop-i
 invariant-lists::read_each-loop-i l =
     let r = reads l.reader.reject_duplicates (shape_of l.part) in
-    read_each r (items_in l.items) ≡ before (map data_of l.values.items) (read_each r (drop l.i (items_in l.items)))
+    read_each r (items_view l.items) ≡ before (map data_of l.values.items) (read_each r (drop l.i (items_view l.items)))
 
 abbrev pub invariant-lists::read_parts-loop-i : goal.invariant-lists::read_parts-loop-i
 invariant-lists::read_parts-loop-i l =
-    reads_tuple l.reader.reject_duplicates (shapes_in l.parts.items) (items_in l.items)
-    ≡ before (map data_of l.values.items) (reads_tuple l.reader.reject_duplicates (shapes_in (drop l.i l.part-items)) (drop l.i (items_in l.items)))
+    reads_tuple l.reader.reject_duplicates (shapes_in l.parts.items) (items_view l.items)
+    ≡ before (map data_of l.values.items) (reads_tuple l.reader.reject_duplicates (shapes_in (drop l.i l.part-items)) (drop l.i (items_view l.items)))
 
 abbrev pub invariant-maps::read_pairs-loop-i : goal.invariant-maps::read_pairs-loop-i
 invariant-maps::read_pairs-loop-i l =

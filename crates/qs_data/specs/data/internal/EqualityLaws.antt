@@ -6,7 +6,7 @@ use Rattle.std.proofs.lemmas.Slice.Eq.{bytes_eq-Decides}
 use Rattle.qs_spec.specs.Data.{Data, Values, no_values, one_value, Pairs, no_pairs, one_pair, Members, no_members, one_member}
 use Rattle.qs_spec.specs.Data.Data.{unit, none, some, boolean, unsigned, signed, character, text, bytes, sequence, tuple, mapping, struct, newtype, unit_variant, newtype_variant, tuple_variant, struct_variant}
 use Rattle.qs_spec.proofs.Booleans.{and_both}
-use Rattle.qs_data.specs.data.Equality.{kind_number, held_boolean, held_number, held_integer, held_bytes, held_one, held_values, held_pairs, held_members, data_same, values_same, pairs_same, members_same}
+use Rattle.qs_data.specs.data.internal.Equality.{kind_number, held_boolean, held_number, held_integer, held_bytes, held_one, held_values, held_pairs, held_members, data_same, values_same, pairs_same, members_same}
 
 -- what data would be of each kind in turn, put together from what they hold
 abbrev forms : Data → List Data

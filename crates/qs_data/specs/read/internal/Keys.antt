@@ -1,15 +1,10 @@
--- The keys of a node, and tests of them.
-use Rattle.std.specs.Prelude.{◌≡◌, ℕ, zero, suc, ◌<◌, ◌^◌, ⊤, Bool, true, false, Result, Ok, Err, List, [], ◌∷◌, Option, Some, None, decimal}
+-- The keys of a node: steps of their proofs.
+use Rattle.std.specs.Prelude.{◌≡◌, ℕ, zero, suc, ◌<◌, ◌^◌, Bool, true, false, cond, List, [], ◌∷◌, Option, Some, None, decimal}
 use Rattle.std.specs.Borrow.{Bor}
 use Rattle.qs_tree.specs.declared.tree.value.ParsedValue.{ParsedValue}
-use Rattle.qs_spec.specs.Segment.{Segment}
-use Rattle.qs_spec.specs.Segment.Segment.{Int, Str}
 use Rattle.qs_spec.specs.Tree as t
 use Rattle.qs_spec.specs.Tree.Entries.{no_entries, entry}
-use Rattle.qs_spec.specs.Node.{under_empty}
-use Rattle.qs_tree.specs.tree.Views.{tree_of, entries_of_map}
-use Rattle.qs_data.specs.declared.read.keys.Entries.{Entries}
-use Rattle.qs_data.specs.declared.read.keys.Entries.TheVariants as e
+use Rattle.qs_tree.specs.tree.Views.{tree_of}
 use Rattle.qs_spec.specs.Shape as s
 use Rattle.qs_data.specs.declared.read.unknown.UnknownKeys.{UnknownKeys}
 use Rattle.qs_data.specs.declared.read.unknown.UnknownKeys.TheVariants as u
@@ -17,22 +12,6 @@ use Rattle.qs_data.specs.declared.read.unknown.UnknownKeys.TheVariants as u
 abbrev pub unknown_of : UnknownKeys → s.UnknownKeys
 unknown_of u.Ignored = s.UnknownKeys.ignored
 unknown_of u.Rejected = s.UnknownKeys.rejected
-
--- the keys with their values
-abbrev pub entries_of : Entries → t.Entries
-entries_of e.Empty = no_entries
-entries_of (e.Map map) = entries_of_map map.now
-entries_of (e.Leaf leaf) = under_empty (tree_of leaf.now)
-
--- a number has 32 bits
-abbrev pub KeyFits : Segment → Type 0
-KeyFits (Int n) = n < 2 ^ 32
-KeyFits (Str bytes) = ⊤
-
--- the numbers of keys do
-abbrev pub NumbersFit : t.Entries → Type 0
-NumbersFit no_entries = ⊤
-NumbersFit (entry k mark t es) = KeyFits k × NumbersFit es
 
 -- the value that was looked up
 abbrev pub value_in : Option (Bor ParsedValue) → List t.Tree
@@ -44,11 +23,6 @@ abbrev pub ParsesNumber : Option ℕ → List ℕ → Type 0
 ParsesNumber None name = (n : ℕ) → n < 2 ^ 32 → decimal n ≡ name → ⊥
 ParsesNumber (Some n) name = (n < 2 ^ 32) × (decimal n ≡ name)
 
--- a test passed, or failed
-abbrev pub PassesTest : {X E : Type 0} → Result X E → Bool → Type 0
-PassesTest (Ok x) test = test ≡ true
-PassesTest (Err e) test = test ≡ false
-
 -- the entries from a place on
 abbrev pub entries_after : ℕ → t.Entries → t.Entries
 entries_after zero es = es
@@ -59,3 +33,7 @@ entries_after (suc i) (entry k mark t es) = entries_after i es
 abbrev pub when : Bool → Option (Unit {0})
 when true = Some tt
 when false = None
+
+-- a test as a result
+abbrev pub passed : Bool → Option Bool
+passed b = cond b (Some true) None

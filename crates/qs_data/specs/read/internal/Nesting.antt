@@ -14,14 +14,14 @@ use Rattle.qs_data.specs.declared.read.nested.Visited.{Visited}
 use Rattle.qs_data.specs.declared.read.nested.Visited.TheVariants.{Leaf, Inner}
 use Rattle.qs_data.specs.data.Views.{data_of, pair_of}
 use Rattle.qs_data.specs.read.internal.ReadError.{ReadRejects}
-use Rattle.qs_data.specs.read.internal.Items.{items_in, are_text}
+use Rattle.qs_data.specs.read.Items.{items_view, are_text}
 use Rattle.qs_data.specs.read.internal.Keys.{entries_after}
 use Rattle.qs_data.specs.read.internal.Sizes.{tree_size, list_size, entries_size}
 use Rattle.qs_data.specs.read.Text.{is_text, entries_are_text}
 
 -- the items that weren't visited
 abbrev pub items_left : ListFrame → List (Option Tree)
-items_left l = drop l.next (items_in l.items)
+items_left l = drop l.next (items_view l.items)
 
 -- the entries that weren't visited
 abbrev pub entries_left : MapFrame → Entries

@@ -7,7 +7,7 @@ ghost use Rattle.qs_spec.specs.Shape as s;
 ghost use Rattle.qs_spec.specs.Fits.{fits, fits_key, fits_unsigned, fits_signed, is_scalar, is_byte};
 ghost use Rattle.qs_data.specs.data.Views.{data_of};
 ghost use Rattle.qs_data.specs.shape.Views.{key_shape_of};
-ghost use Rattle.qs_data.specs.shape.internal.Widths.{bits_of};
+ghost use Rattle.qs_data.specs.shape.Widths.{bits_of};
 
 use crate::data::Data;
 use crate::shape::distinct::is_name;

@@ -1,9 +1,9 @@
 use Rattle.std.proofs.Common.{ap, ◌&&◌, true, ◌∙◌}
 use Rattle.qs_spec.specs.Node.{keys_are_text}
-use Rattle.qs_data.specs.read.internal.Keys.{entries_of}
+use Rattle.qs_data.specs.read.Keys.{entries_view}
 use Rattle.qs_data.proofs.lemmas.read.Numbers.{empty_text}
 use Rattle.qs_data.proofs.read.keys.test_keys.Goals as goal
 
 pub returns-in-Leaf-clause-text : goal.returns-in-Leaf-clause-text
 returns-in-Leaf-clause-text c =
-    ap (λ x. keys_are_text (entries_of x)) c.in-Leaf.is ∙ ap (λ b. b && true) empty_text
+    ap (λ x. keys_are_text (entries_view x)) c.in-Leaf.is ∙ ap (λ b. b && true) empty_text

@@ -1,6 +1,6 @@
 use Rattle.std.proofs.Common.{◌≡◌, ◌∙◌, ap, Some, None, option_map}
 use Rattle.qs_spec.specs.Scalar.{unsigned_data}
-use Rattle.qs_data.specs.shape.internal.Widths.{bits_of}
+use Rattle.qs_data.specs.shape.Widths.{bits_of}
 use Rattle.qs_tree.specs.tree.Views.{tree_of}
 use Rattle.qs_data.specs.data.Views.{data_of}
 use Rattle.qs_data.specs.read.internal.SourceText.{source_text}

@@ -5,7 +5,7 @@ use Rattle.qs_spec.specs.Node.{found}
 use Rattle.qs_spec.specs.internal.ReadFunction.{reads}
 use Rattle.qs_tree.specs.tree.Views.{tree_of}
 use Rattle.qs_data.specs.read.Text.{entries_are_text, is_text}
-use Rattle.qs_data.specs.read.internal.Keys.{entries_of}
+use Rattle.qs_data.specs.read.Keys.{entries_view}
 use Rattle.qs_data.proofs.lemmas.read.Errors.{gives_exit}
 use Rattle.qs_data.proofs.lemmas.read.Fields.{found_bad}
 use Rattle.serde_qs.specs.Nodes.{value_found}
@@ -15,7 +15,7 @@ use Rattle.serde_qs.proofs.compound.nodes.optional_by_name.Goals as goal
 pub returns-in_err-from_node-in-One : goal.returns-in_err-from_node-in-One
 returns-in_err-from_node-in-One g c =
     let t = g.T.RoundTrip.table in
-    let es = entries_of c.args.entries in
+    let es = entries_view c.args.entries in
     let n = tree_of c.in-One.node.now in
     let r = reads c.args.reader.reject_duplicates t.form in
     let m : Data → Option (Option t.Value) = λ d. option_map Some (t.meaning d) in
@@ -26,7 +26,7 @@ returns-in_err-from_node-in-One g c =
 pub returns-in_ok-from_node-in-One : goal.returns-in_ok-from_node-in-One
 returns-in_ok-from_node-in-One g c =
     let t = g.T.RoundTrip.table in
-    let es = entries_of c.args.entries in
+    let es = entries_view c.args.entries in
     let n = tree_of c.in-One.node.now in
     let r = reads c.args.reader.reject_duplicates t.form in
     let m : Data → Option (Option t.Value) = λ d. option_map Some (t.meaning d) in
@@ -35,7 +35,7 @@ returns-in_ok-from_node-in-One g c =
 pub returns-in-Several : goal.returns-in-Several
 returns-in-Several g c =
     let t = g.T.RoundTrip.table in
-    let es = entries_of c.args.entries in
+    let es = entries_view c.args.entries in
     let two = c.in-Several.ensures in
     let m : Data → Option (Option t.Value) = λ d. option_map Some (t.meaning d) in
     found_twice (entries_are_text es) c.duplicate_field.result m (Some None) (reads c.args.reader.reject_duplicates t.form) (found c.args.name.now es) two.0 two.1 two.2

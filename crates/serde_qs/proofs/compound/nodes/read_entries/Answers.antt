@@ -1,5 +1,5 @@
 use Rattle.qs_data.specs.read.Text.{entries_are_text}
-use Rattle.qs_data.specs.read.internal.Keys.{entries_of}
+use Rattle.qs_data.specs.read.Keys.{entries_view}
 use Rattle.qs_data.proofs.lemmas.read.Errors.{gives_exit}
 use Rattle.serde_qs.specs.Nodes.{by_names, names_read}
 use Rattle.serde_qs.specs.Records.{texts}
@@ -9,7 +9,7 @@ use Rattle.serde_qs.proofs.compound.nodes.read_entries.Goals as goal
 pub returns-in_err-fields : goal.returns-in_err-fields
 returns-in_err-fields g c =
     let t = g.F.Fields.table in
-    let es = entries_of c.args.entries in
+    let es = entries_view c.args.entries in
     let st = c.args.reader.reject_duplicates in
     let fs = t.form (texts c.args.names.now) in
     let m = t.meaning (texts c.args.names.now) in
@@ -19,11 +19,11 @@ returns-in_err-fields g c =
 pub returns-in-Ok : goal.returns-in-Ok
 returns-in-Ok g c =
     let t = g.F.Fields.table in
-    let es = entries_of c.args.entries in
+    let es = entries_view c.args.entries in
     names_ok c.args.reader.reject_duplicates (t.form (texts c.args.names.now)) (t.meaning (texts c.args.names.now)) es (t.value c.in_ok-fields.fields) c.in-Ok.ensures.text c.in_ok-fields.ensures
 
 pub returns-in-Err : goal.returns-in-Err
 returns-in-Err g c =
     let t = g.F.Fields.table in
-    let es = entries_of c.args.entries in
+    let es = entries_view c.args.entries in
     names_broken c.args.reader.reject_duplicates (t.form (texts c.args.names.now)) (t.meaning (texts c.args.names.now)) es c.into_error.result c.in-Err.ensures.text c.into_error.ensures

@@ -8,7 +8,7 @@ use Rattle.qs_spec.specs.Tree.{Tree}
 use Rattle.qs_spec.specs.internal.ReadFunction.{reads}
 use Rattle.qs_tree.specs.tree.Views.{tree_of}
 use Rattle.qs_data.specs.read.Text.{is_text}
-use Rattle.qs_data.specs.read.internal.Items.{are_text, first_item, items_in}
+use Rattle.qs_data.specs.read.Items.{are_text, first_item, items_view}
 use Rattle.qs_data.proofs.lemmas.read.Errors.{gives_exit}
 use Rattle.qs_data.proofs.lemmas.read.Items.{due_bad}
 use Rattle.serde_qs.specs.Nodes.{each_value}
@@ -20,7 +20,7 @@ use Rattle.serde_qs.proofs.types.lists.values_of.Goals.{else-loop-i-test, then-l
 pub returns-in_err-item : goal.returns-in_err-item
 returns-in_err-item g c =
     let l = c.loop-i in
-    let xs = items_in c.args.items in
+    let xs = items_view c.args.items in
     let r : Tree → Option g.T.Deserialize.Value = λ t. option_and_then g.T.Deserialize.meaning (reads c.args.reader.reject_duplicates g.T.Deserialize.form t) in
     gives_exit (λ (ys : Vec g.row.T.Denot Global). map g.T.Deserialize.value ys.items) true (are_text xs) c.from_residual-in_err-item.result c.in_err-item.field-0.0 (first_item (drop l.i xs)) (each_value r xs)
     c.from_residual-in_err-item.ensures.1 c.in_err-item.ensures (λ none. l.invariant ∙ value_refused r xs l.i (map g.T.Deserialize.value l.values.items) none) (λ f. absurd (false≢true (sym f)))
@@ -28,7 +28,7 @@ returns-in_err-item g c =
 pub returns-in_err-from_node : goal.returns-in_err-from_node
 returns-in_err-from_node g c =
     let l = c.loop-i in
-    let xs = items_in c.args.items in
+    let xs = items_view c.args.items in
     let n = tree_of c.in-Some.item.now in
     let r : Tree → Option g.T.Deserialize.Value = λ t. option_and_then g.T.Deserialize.meaning (reads c.args.reader.reject_duplicates g.T.Deserialize.form t) in
     let h : first_item (drop l.i xs) ≡ Some (Some n) = c.in_ok-item.ensures ∙ ap (λ o. Some (option_map (λ v. tree_of v.now) o)) c.in-Some.is in
@@ -38,7 +38,7 @@ returns-in_err-from_node g c =
 pub loop-i-preserved : goal.loop-i-preserved
 loop-i-preserved g c =
     let l = c.loop-i in
-    let xs = items_in c.args.items in
+    let xs = items_view c.args.items in
     let n = tree_of c.in-Some.item.now in
     let r : Tree → Option g.T.Deserialize.Value = λ t. option_and_then g.T.Deserialize.meaning (reads c.args.reader.reject_duplicates g.T.Deserialize.form t) in
     let ws = map g.T.Deserialize.value l.values.items in
@@ -50,7 +50,7 @@ loop-i-preserved g c =
 pub returns : goal.returns
 returns g c =
     let l = c.loop-i in
-    let xs = items_in c.args.items in
+    let xs = items_view c.args.items in
     let r : Tree → Option g.T.Deserialize.Value = λ t. option_and_then g.T.Deserialize.meaning (reads c.args.reader.reject_duplicates g.T.Deserialize.form t) in
     let ws = map g.T.Deserialize.value l.values.items in
     elim c.loop-i-test.branch [

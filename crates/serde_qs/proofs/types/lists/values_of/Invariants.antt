@@ -2,7 +2,7 @@ use Rattle.std.proofs.Common.{◌≡◌, map, drop, Option}
 use Rattle.qs_spec.specs.Tree.{Tree}
 use Rattle.std.specs.Option.{option_and_then}
 use Rattle.qs_spec.specs.internal.ReadFunction.{reads}
-use Rattle.qs_data.specs.read.internal.Items.{items_in}
+use Rattle.qs_data.specs.read.Items.{items_view}
 use Rattle.serde_qs.specs.Nodes.{each_value}
 use Rattle.serde_qs.proofs.Steps.{before}
 use Rattle.serde_qs.proofs.types.lists.values_of.Given as goal
@@ -10,4 +10,4 @@ use Rattle.serde_qs.proofs.types.lists.values_of.Given as goal
 abbrev pub invariant-loop-i : goal.invariant-loop-i
 invariant-loop-i g l =
     let r : Tree → Option g.T.Deserialize.Value = λ node. option_and_then g.T.Deserialize.meaning (reads l.fn.reader.reject_duplicates g.T.Deserialize.form node) in
-    each_value r (items_in l.fn.items) ≡ before (map g.T.Deserialize.value l.values.items) (each_value r (drop l.i (items_in l.fn.items)))
+    each_value r (items_view l.fn.items) ≡ before (map g.T.Deserialize.value l.values.items) (each_value r (drop l.i (items_view l.fn.items)))

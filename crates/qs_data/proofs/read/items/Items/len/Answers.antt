@@ -1,11 +1,11 @@
 use Rattle.std.proofs.Common.{length, ap, sym, ◌∙◌}
 use Rattle.qs_tree.specs.tree.Views.{entries_of_map}
-use Rattle.qs_data.specs.read.internal.Items.{items_in}
+use Rattle.qs_data.specs.read.Items.{items_view}
 use Rattle.qs_data.proofs.lemmas.read.Items.{each_length, places_length}
 use Rattle.qs_data.proofs.read.items.Items.len.Goals as goal
 
 pub returns-in-Sequence : goal.returns-in-Sequence
-returns-in-Sequence c = sym (ap (λ x. length (items_in x)) c.in-Sequence.is ∙ each_length c.in-Sequence.values.now)
+returns-in-Sequence c = sym (ap (λ x. length (items_view x)) c.in-Sequence.is ∙ each_length c.in-Sequence.values.now)
 
 pub returns-in-Places : goal.returns-in-Places
-returns-in-Places c = c.len.ensures ∙ sym (ap (λ x. length (items_in x)) c.in-Places.is ∙ places_length 0 (entries_of_map c.in-Places.map.now))
+returns-in-Places c = c.len.ensures ∙ sym (ap (λ x. length (items_view x)) c.in-Places.is ∙ places_length 0 (entries_of_map c.in-Places.map.now))

@@ -5,7 +5,7 @@ use Rattle.qs_spec.specs.internal.ReadFunction.{any_data, read_each}
 use Rattle.qs_tree.specs.tree.Views.{tree_of}
 use Rattle.qs_data.specs.declared.read.nested.Frame.TheVariants as frame
 use Rattle.qs_data.specs.declared.read.nested.Visited.{Visited}
-use Rattle.qs_data.specs.read.internal.Items.{items_in, first_item}
+use Rattle.qs_data.specs.read.Items.{items_view, first_item}
 use Rattle.qs_data.specs.read.internal.Nesting.{Visits, list_with}
 use Rattle.qs_data.specs.data.Views.{data_of}
 use Rattle.qs_data.proofs.lemmas.read.Items.{each_more, each_end, each_all}
@@ -18,14 +18,14 @@ returns-in-Inner c =
     let l = c.loop-place in
     let n = tree_of c.in-Some.item.now in
     let P : Visited → Type 0 = λ node. Visits (Ok node) n in
-    let here : first_item (drop l.place (items_in l.self.items)) ≡ Some (Some n) = c.in_ok-item.ensures ∙ ap (λ o. Some (option_map (λ v. tree_of v.now) o)) c.in-Some.is in
+    let here : first_item (drop l.place (items_view l.self.items)) ≡ Some (Some n) = c.in_ok-item.ensures ∙ ap (λ o. Some (option_map (λ v. tree_of v.now) o)) c.in-Some.is in
     let begun = subst P c.in-Inner.is c.in_ok-data.ensures in
     enters_list (frame.List c.args.self.now) c.in-Inner.frame l.self.items l.self.values l.place n here l.invariant.value l.invariant.text l.invariant.size begun
 
 pub loop-place-preserved : goal.loop-place-preserved
 loop-place-preserved c =
     let l = c.loop-place in
-    let xs = items_in l.self.items in
+    let xs = items_view l.self.items in
     let n = tree_of c.in-Some.item.now in
     let ws = map data_of l.self.values.items in
     let x = data_of c.in-Leaf.data in
@@ -44,12 +44,12 @@ loop-place-preserved c =
 pub returns : goal.returns
 returns c =
     let l = c.loop-place in
-    let xs = items_in l.self.items in
+    let xs = items_view l.self.items in
     let ws = map data_of l.self.values.items in
     let whole = option_map (λ ds. d.Data.sequence (d.values_of ds)) in
     elim c.loop-place-test.branch [
       | else-loop-place-test w ↦
-          let same : length xs ≡ length (items_in c.args.self.now.items) = ap (λ i. length (items_in i)) l.invariant.same in
+          let same : length xs ≡ length (items_view c.args.self.now.items) = ap (λ i. length (items_view i)) l.invariant.same in
           let all : length xs ≤ l.place = omega (arith, same, c.len-place-end.ensures, w.loop-place-test.false) in
           l.invariant.value ∙ ap whole (each_all any_data xs l.place ws all)
       | then-loop-place-test+in_ok-item+in_default w ↦

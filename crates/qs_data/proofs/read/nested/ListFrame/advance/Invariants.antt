@@ -1,7 +1,7 @@
 use Rattle.std.proofs.Common.{◌≡◌, ◌≤◌, false, map, drop}
 use Rattle.qs_spec.specs.internal.ReadFunction.{any_data, read_each}
 use Rattle.qs_data.specs.declared.read.nested.Frame.TheVariants as frame
-use Rattle.qs_data.specs.read.internal.Items.{items_in, are_text}
+use Rattle.qs_data.specs.read.Items.{items_view, are_text}
 use Rattle.qs_data.specs.read.internal.Nesting.{frame_data, frame_is_text, frame_size, list_with}
 use Rattle.qs_data.specs.read.internal.Sizes.{list_size}
 use Rattle.qs_data.specs.data.Views.{data_of}
@@ -10,7 +10,7 @@ use Rattle.qs_data.proofs.read.nested.ListFrame.advance.Given as goal
 abbrev pub invariant-loop-place : goal.invariant-loop-place
 invariant-loop-place l =
     let old = frame.List l.initial.self in
-    let left = drop l.place (items_in l.self.items) in
+    let left = drop l.place (items_view l.self.items) in
     record {
       value : frame_data old ≡ list_with (map data_of l.self.values.items) (read_each any_data left);
       text : are_text left ≡ false → frame_is_text old ≡ false;

@@ -1,7 +1,7 @@
 use Rattle.qs_spec.specs.Node.{found}
 use Rattle.qs_spec.specs.internal.ReadFunction.{reads}
 use Rattle.qs_data.specs.read.Text.{entries_are_text}
-use Rattle.qs_data.specs.read.internal.Keys.{entries_of}
+use Rattle.qs_data.specs.read.Keys.{entries_view}
 use Rattle.serde_qs.specs.Nodes.{by_names, value_found}
 use Rattle.serde_qs.specs.Records.{texts}
 use Rattle.serde_qs.proofs.NodeFields.{defaulted_named, both_read, first_unread, others_differ, others_unread}
@@ -21,7 +21,7 @@ returns-in_err-first g c =
     let r = g.R.Fields.table in
     let st = c.args.reader.reject_duplicates in
     let names = texts c.args.names.now in
-    let es = entries_of c.args.entries in
+    let es = entries_view c.args.entries in
     let whole = defaulted_named t.meaning r.meaning st t.form r.form names c.split.result.0.now (texts c.split.result.1.now) c.split.ensures.first c.split.ensures.others c.requires.differ g.T.OrDefault.default es in
     first_unread _ (entries_are_text es) (entries_are_text es) c.from_residual.result c.in_err-first.field-0.0 _ (value_found t.meaning (t.meaning g.T.OrDefault.default) (reads st t.form) (found c.split.result.0.now es))
     (by_names st (r.form (texts c.split.result.1.now)) (r.meaning (texts c.split.result.1.now)) es) c.from_residual.ensures.1 c.in_err-first.ensures whole (λ f. f)
@@ -32,7 +32,7 @@ returns-in_err-others g c =
     let r = g.R.Fields.table in
     let st = c.args.reader.reject_duplicates in
     let names = texts c.args.names.now in
-    let es = entries_of c.args.entries in
+    let es = entries_view c.args.entries in
     let whole = defaulted_named t.meaning r.meaning st t.form r.form names c.split.result.0.now (texts c.split.result.1.now) c.split.ensures.first c.split.ensures.others c.requires.differ g.T.OrDefault.default es in
     others_unread _ (entries_are_text es) (entries_are_text es) c.from_residual-in_err-others.result c.in_err-others.field-0.0 _ (value_found t.meaning (t.meaning g.T.OrDefault.default) (reads st t.form) (found c.split.result.0.now es))
     (by_names st (r.form (texts c.split.result.1.now)) (r.meaning (texts c.split.result.1.now)) es) c.from_residual-in_err-others.ensures.1 c.in_err-others.ensures whole (λ f. f)
@@ -43,6 +43,6 @@ returns g c =
     let r = g.R.Fields.table in
     let st = c.args.reader.reject_duplicates in
     let names = texts c.args.names.now in
-    let es = entries_of c.args.entries in
+    let es = entries_view c.args.entries in
     let whole = defaulted_named t.meaning r.meaning st t.form r.form names c.split.result.0.now (texts c.split.result.1.now) c.split.ensures.first c.split.ensures.others c.requires.differ g.T.OrDefault.default es in
     both_read _ _ _ _ _ whole c.in_ok-first.ensures c.in_ok-others.ensures

@@ -9,7 +9,7 @@ use Rattle.qs_spec.specs.Node.{items}
 use Rattle.qs_spec.specs.internal.ReadFunction.{reads}
 use Rattle.qs_tree.specs.tree.Views.{tree_of}
 use Rattle.qs_data.specs.read.Text.{is_text}
-use Rattle.qs_data.specs.read.internal.Items.{are_text, items_in}
+use Rattle.qs_data.specs.read.Items.{are_text, items_view}
 use Rattle.qs_data.proofs.lemmas.read.Errors.{gives_exit}
 use Rattle.serde_qs.specs.Meaning.{sequence_in}
 use Rattle.serde_qs.specs.Nodes.{each_value}
@@ -34,7 +34,7 @@ returns g c =
     let n = tree_of c.args.node.now in
     let m = g.T.Deserialize.meaning in
     let st = c.args.reader.reject_duplicates in
-    let xs = items_in c.in_ok-items.items in
+    let xs = items_view c.in_ok-items.items in
     let r : Tree → Option g.T.Deserialize.Value = λ t. option_and_then m (reads st g.T.Deserialize.form t) in
     record {
       node = widened (λ (ys : Vec g.row.T.Denot Global). map g.T.Deserialize.value ys.items) (are_text xs) (is_text n) c.values_of.result (each_value r xs)

@@ -1,5 +1,5 @@
 -- The items of a node, index by index.
-use Rattle.std.specs.Prelude.{Bool, true, cond, ◌&&◌, List, [], ◌∷◌, map, Option, Some, None}
+use Rattle.std.specs.Prelude.{Bool, true, ◌&&◌, List, [], ◌∷◌, map, Option, Some, None}
 use Rattle.qs_spec.specs.Tree.{Tree}
 use Rattle.qs_spec.specs.Node.{sequence_items, placed}
 use Rattle.qs_tree.specs.tree.Views.{tree_of, items_from, entries_of_map}
@@ -8,11 +8,11 @@ use Rattle.qs_data.specs.declared.read.items.Items.TheVariants.{Empty, One, Sequ
 use Rattle.qs_data.specs.read.Text.{is_text}
 
 -- each item, and none at an index that isn't the one that is due
-abbrev pub items_in : Items → List (Option Tree)
-items_in Empty = []
-items_in (One value) = Some (tree_of value.now) ∷ []
-items_in (Sequence values) = sequence_items (items_from (map tree_of values.now))
-items_in (Places map) = placed 0 (entries_of_map map.now)
+abbrev pub items_view : Items → List (Option Tree)
+items_view Empty = []
+items_view (One value) = Some (tree_of value.now) ∷ []
+items_view (Sequence values) = sequence_items (items_from (map tree_of values.now))
+items_view (Places map) = placed 0 (entries_of_map map.now)
 
 -- the first item, if there is one; an entry elsewhere is rejected
 abbrev pub first_item : List (Option Tree) → Option (Option Tree)
@@ -25,7 +25,3 @@ abbrev pub are_text : List (Option Tree) → Bool
 are_text [] = true
 are_text (None ∷ xs) = are_text xs
 are_text (Some t ∷ xs) = is_text t && are_text xs
-
--- a test as a result
-abbrev pub passed : Bool → Option Bool
-passed b = cond b (Some true) None

@@ -1,0 +1,31 @@
+-- Keys with their values, and what is known of them once they were tested.
+use Rattle.std.specs.Prelude.{◌≡◌, ◌<◌, ◌^◌, ⊤, Bool, true, false, Result, Ok, Err}
+use Rattle.qs_spec.specs.Segment.{Segment}
+use Rattle.qs_spec.specs.Segment.Segment.{Int, Str}
+use Rattle.qs_spec.specs.Tree as t
+use Rattle.qs_spec.specs.Tree.Entries.{no_entries, entry}
+use Rattle.qs_spec.specs.Node.{under_empty}
+use Rattle.qs_tree.specs.tree.Views.{tree_of, entries_of_map}
+use Rattle.qs_data.specs.declared.read.keys.Entries.{Entries}
+use Rattle.qs_data.specs.declared.read.keys.Entries.TheVariants as e
+
+-- each key with its value; a leaf stands under the empty text
+abbrev pub entries_view : Entries → t.Entries
+entries_view e.Empty = no_entries
+entries_view (e.Map map) = entries_of_map map.now
+entries_view (e.Leaf leaf) = under_empty (tree_of leaf.now)
+
+-- an integer key has 32 bits
+abbrev pub KeyFits : Segment → Type 0
+KeyFits (Int n) = n < 2 ^ 32
+KeyFits (Str bytes) = ⊤
+
+-- each integer key has 32 bits
+abbrev pub NumbersFit : t.Entries → Type 0
+NumbersFit no_entries = ⊤
+NumbersFit (entry k mark t es) = KeyFits k × NumbersFit es
+
+-- the result is Ok where the test is passed, and an error where it isn't
+abbrev pub PassesTest : {X E : Type 0} → Result X E → Bool → Type 0
+PassesTest (Ok x) test = test ≡ true
+PassesTest (Err e) test = test ≡ false

@@ -1,0 +1,10 @@
+//! Laws of data. Call one to use it in a proof; it does nothing.
+ghost use Rattle.std.specs.Prelude.{◌≡◌, IsTrue, ◌↔◌};
+ghost use Rattle.qs_data.specs.declared.data.data.Data.{Data};
+ghost use Rattle.qs_data.specs.data.Equality.{data_eq};
+ghost use Rattle.qs_data.specs.data.Views.{data_of};
+
+/// Two data are equal exactly where they are the same data of the specification, so room to grow doesn't count.
+pub fn equality_of_data()
+    ensures { (a b : Data) → IsTrue (data_eq a b) ↔ data_of a ≡ data_of b }
+{}

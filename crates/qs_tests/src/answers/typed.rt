@@ -75,6 +75,15 @@ fn explained<T: Deserialize>(alloc: Global, input: &[u8]) -> Result<String> {
     }
 }
 
+// Whether a value was read, of which this is the querystring.
+fn is_written_as<T: Serialize + Drop>(
+    alloc: Global,
+    value: Result<T>,
+    wanted: &str,
+) -> Result<bool> {
+    Ok(Config::new().serialize_string(alloc, &value?)?.as_str() == wanted)
+}
+
 // Returns the querystring of the value that each typed call reads from the input and writes again.
 fn rewritten_by_each<T: Serialize + Deserialize + Drop>(
     alloc: Global,
@@ -83,19 +92,15 @@ fn rewritten_by_each<T: Serialize + Deserialize + Drop>(
     let config = Config::new();
     let text = str::from_utf8(input)?;
     let shape = T::shape(alloc)?;
-    let values: [T; 4] = [
-        from_str(alloc, text)?,
-        config.deserialize_str(alloc, text)?,
-        config.deserialize_bytes(alloc, input)?,
-        read_by(alloc, config, &shape, input)?,
-    ];
-    let querystring = rewritten::<T>(alloc, input)?;
-    for value in values {
-        if config.serialize_string(alloc, &value)? != querystring {
-            return Ok(String::from_str(alloc, "the calls disagree")?);
-        }
+    let written = rewritten::<T>(alloc, input)?;
+    if is_written_as::<T>(alloc, from_str(alloc, text), &written)?
+        && is_written_as::<T>(alloc, config.deserialize_str(alloc, text), &written)?
+        && is_written_as::<T>(alloc, config.deserialize_bytes(alloc, input), &written)?
+        && is_written_as::<T>(alloc, read_by(alloc, config, &shape, input), &written)?
+    {
+        return Ok(written);
     }
-    Ok(querystring)
+    Ok(String::from_str(alloc, "the calls disagree")?)
 }
 
 // Returns what a writer with this room holds of the querystring of the value that is read from the input.

@@ -117,6 +117,36 @@ refuse_each 'a=1,,3' 1 'error: invalid item ``' values
 refuse_each 'name=a' 1 'error: missing field `address`' order
 refuse_each 'a=1&a[b' 1 "error: parsing failed with error: '$value_and_map' at position: 7" map
 
+# Each typed call, and writers that take a byte at a time and have room for some: what they hold after a failed allocation are whole entries.
+order='items=7&items=8&name=A%63me&address[city]=Carrot+City&address[street]=S'
+text='name=Acme&address[street]=S&address[city]=Carrot+City&items[0]=7&items[1]=8'
+refuse_each "$order" 0 "$text" order each_call
+refuse_each 'b[1][from]=3&b[1][to]=4&b[0][to]=2&b[0][from]=1&a[k][from]=5&a[k][to]=6' 0 \
+    'a[k][from]=5&a[k][to]=6&b[0][from]=1&b[0][to]=2&b[1][from]=3&b[1][to]=4' ranges each_call
+refuse_each 'a=10,20&b[a]=1|2&b[b]=-3+4' 0 'a=10,20&b[a]=1|2&b[b]=-3+4' lists each_call
+refuse_each 'a=1&a[b' 1 "error: parsing failed with error: '$value_and_map' at position: 7" map each_call
+for call in to_writer serialize_to_writer; do
+    refuse_each "$order" 0 "$text" order "$call" 100
+done
+refuse_each "$order" 0 "$text&$text" order serialize_twice 200
+refuse_each "$order" 0 'name=Acme&address[street and then: broken pipe' order to_writer 24
+refuse_each "$order" 0 ' and then: broken pipe' order to_writer 0
+refuse_each "$order" 0 'name=Acme&address[street]=S and then: operation interrupted' order serialize_to_writer 27
+refuse_each "$order" 0 "$text&name=Ac and then: write zero" order serialize_twice 83
+refuse_each "v=$long&w=1" 0 "v=${long:0:2998} and then: broken pipe" map to_writer 3000
+refuse_each "v=$long&w=1" 0 "v=$long&w=1" map serialize_to_writer 30000
+
+# Calls without a user's type: data of every kind, errors that callers make, lists in one text, wrappers.
+refuse_each '' 0 'c=%C3%A4&b=%FF+%26 and then: unsupported type for serialization' data
+refuse_each 'no such page' 1 'error: no such page' custom
+refuse_each 'no digit' 1 "error: parsing failed with error: 'no digit' at position: 7" parse_err
+refuse_each '' 1 'error: cannot deserialize bool at the top level.Try deserializing into a struct.' top_level
+refuse_each $'ab\xff' 1 'error: invalid utf-8 sequence of 1 bytes from index 2' custom
+refuse_each $'ab\xff' 1 'error: invalid utf-8 sequence of 1 bytes from index 2' from_utf8
+refuse_each '7x' 1 'error: invalid digit found in string' parse_int
+refuse_each 'foo,,b r' 0 'foo,,b,r' helpers
+refuse_each 'a b' 0 'a b a b' web
+
 # Why the typed calls read nothing.
 refuse_each 'name=a&address[street]=%20&items[0]=7' 0 'address[city]: expected a text, found nothing' order explained
 refuse_each 'name=a&address[street]=s&address[city]=c&items[0]=7&items[1]=%78' 0 'items[1]: expected u32, found the text "x"' order explained

@@ -1,11 +1,11 @@
-//! Tests that cross crates, and a program for scripts: the trees of a table's cases, and querystrings that are read by a
-//! user's type and written again, or why they aren't read.
+//! Tests that cross crates, and a program for scripts: the trees of a table's cases, and what public calls return and write.
 //!
 //! Without a word each line of standard input is a case: form mode (0 or 1), the depth limit, and the input in hexadecimal, with
 //! tabs between. A line is printed for each: `ok` and the tree, or `refused`, the position, and the error's text in hexadecimal.
 //!
 //! With the name of a type all of standard input is one querystring. It is read by that type, and the querystring of its value is
-//! printed. With the word `explained` after the name, a line is printed that says which part of the querystring isn't read.
+//! printed. `Question::from_words` has the words that ask for something else after the name, as `explained` for which part isn't
+//! read. `answers/calls.rt` has the names of calls that are made without a type.
 #![tactic(auto)]
 
 mod answers;
@@ -27,6 +27,7 @@ mod explanations;
 mod helpers;
 #[cfg(test)]
 mod maps;
+mod narrow;
 #[cfg(test)]
 mod notation;
 #[cfg(test)]
@@ -51,7 +52,7 @@ use crate::answers::Question;
 use std::env;
 use std::process::ExitCode;
 
-// Prints the tree of each case, or the querystring that the type which a word names reads and writes again.
+// Prints the tree of each case, or what is asked about the type or the call that a word names.
 fn main(rt: HostRuntime) -> ExitCode {
     let Ok(mut words) = env::args(&rt) else {
         return ExitCode::from(3);
@@ -59,11 +60,9 @@ fn main(rt: HostRuntime) -> ExitCode {
     let Some(name) = words.nth(1) else {
         return answers::trees(&rt);
     };
-    match words.next() {
-        Some(word) if word.as_str() == "explained" => {
-            answers::answer_about(&rt, name.as_str(), Question::Explained)
-        }
-        Some(_) => ExitCode::from(2),
-        None => answers::answer_about(&rt, name.as_str(), Question::Rewritten),
+    let (word, room) = (words.next(), words.next());
+    match Question::from_words(word.as_deref(), room.as_deref()) {
+        Some(question) => answers::answer_about(&rt, name.as_str(), question),
+        None => ExitCode::from(2),
     }
 }

@@ -3,6 +3,7 @@
 use qs_tree::{Config, Key, ParsedMap, ParsedValue, Steps, parse, parse_with};
 use std::alloc::{AllocError, Global};
 use std::borrow::CowSlice;
+use std::process::Abort;
 use std::test::Fail;
 
 const DROPPED: usize = 100_000;
@@ -46,13 +47,18 @@ fn keys_are_ordered(rt: HostRuntime) -> Result<(), Fail> {
     Ok(())
 }
 
+// The map of this input.
+fn map_of(alloc: Global, input: &[u8]) -> Result<ParsedMap<'_>, Fail> {
+    match parse(alloc, input, Config::new())? {
+        ParsedValue::Map(map) => Ok(map),
+        _ => Err(Fail::from("no map")),
+    }
+}
+
 #[test]
-fn a_map_is_looked_up_and_taken_apart(rt: HostRuntime) -> Result<(), Fail> {
+fn a_map_is_looked_up(rt: HostRuntime) -> Result<(), Fail> {
     let alloc = rt.alloc();
-    let input = b"a[b]=1&a=2&c[]=3&c[]=4".as_slice();
-    let ParsedValue::Map(mut root) = parse(alloc, input, Config::new())? else {
-        return Err(Fail::from("no map"));
-    };
+    let root = map_of(alloc, b"a[b]=1&a=2&c[]=3&c[]=4")?;
     assert_eq!(rt; root.len(), 2);
     assert!(rt; !root.is_empty());
     let Some(ParsedValue::Map(inner)) = root.get(&Key::from("a")) else {
@@ -61,20 +67,30 @@ fn a_map_is_looked_up_and_taken_apart(rt: HostRuntime) -> Result<(), Fail> {
     assert_eq!(rt; inner.get(&owned(alloc, b"b")?), Some(&text(b"1")));
     assert_eq!(rt; inner.at(0), Some((&Key::from(""), &text(b"2"))));
     assert_eq!(rt; inner.at(2), None);
+    Ok(())
+}
+
+#[test]
+fn a_map_is_taken_apart(rt: HostRuntime) -> Result<(), Fail> {
+    let alloc = rt.alloc();
+    let mut root = map_of(alloc, b"a[b]=1&a=2&c[]=3&c[]=4")?;
     assert!(rt; root.remove(&Key::from("b")).is_none());
     let items = vec![in alloc; text(b"3"), text(b"4")]?;
-    assert_eq!(rt;
-        root.remove(&owned(alloc, b"c")?),
-        Some(ParsedValue::Sequence(items))
-    );
+    let removed = root.remove(&owned(alloc, b"c")?);
+    assert_eq!(rt; removed, Some(ParsedValue::Sequence(items)));
     let Some((key, ParsedValue::Map(_))) = root.pop_first() else {
         return Err(Fail::from("no entry"));
     };
     assert_eq!(rt; key, Key::from("a"));
-    assert!(rt; root.is_empty());
-    assert_eq!(rt; root, ParsedMap::new(alloc));
-    assert!(rt; root.pop_first().is_none());
+    is_spent(&rt, alloc, root);
     Ok(())
+}
+
+// Nothing is left of the map.
+fn is_spent<R: Abort>(rt: &R, alloc: Global, mut map: ParsedMap<'_>) {
+    assert!(rt; map.is_empty());
+    assert_eq!(rt; map, ParsedMap::new(alloc));
+    assert!(rt; map.pop_first().is_none());
 }
 
 #[test]

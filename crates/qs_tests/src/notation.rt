@@ -126,19 +126,29 @@ pub fn shape<R: Abort>(b: &Build<'_, R>, words: &str) -> Shape {
             variants.push(variant).expect(b.rt, "memory");
             continue;
         }
-        let shape = match kind {
-            "Option" => Shape::Option(boxed(b, &mut shapes)),
-            "Newtype" => Shape::Newtype(boxed(b, &mut shapes)),
-            "Seq" => Shape::Seq(boxed(b, &mut shapes)),
-            "Tuple" => Shape::Tuple(counted(b, rest, &mut shapes)),
-            "Map" => Shape::Map(key(b, rest), boxed(b, &mut shapes)),
-            "Struct" => Shape::Struct(fields(b, rest, &mut shapes)),
-            "Enum" => Shape::Enum(counted(b, rest, &mut variants)),
-            _ => scalar(b, kind),
-        };
-        shapes.push(shape).expect(b.rt, "memory");
+        let next = next_shape(b, (kind, rest), &mut shapes, &mut variants);
+        shapes.push(next).expect(b.rt, "memory");
     }
     part(b, &mut shapes)
+}
+
+// The shape of this word, where those of the words after it were made.
+fn next_shape<R: Abort>(
+    b: &Build<'_, R>,
+    (kind, rest): (&str, &str),
+    shapes: &mut Vec<Shape>,
+    variants: &mut Vec<Variant>,
+) -> Shape {
+    match kind {
+        "Option" => Shape::Option(boxed(b, shapes)),
+        "Newtype" => Shape::Newtype(boxed(b, shapes)),
+        "Seq" => Shape::Seq(boxed(b, shapes)),
+        "Tuple" => Shape::Tuple(counted(b, rest, shapes)),
+        "Map" => Shape::Map(key(b, rest), boxed(b, shapes)),
+        "Struct" => Shape::Struct(fields(b, rest, shapes)),
+        "Enum" => Shape::Enum(counted(b, rest, variants)),
+        _ => scalar(b, kind),
+    }
 }
 
 // A member for each name, with the data from the last one on.
@@ -177,26 +187,31 @@ fn holding<R: Abort>(b: &Build<'_, R>, kind: &str, rest: &str, data: &mut Vec<Da
 pub fn data<R: Abort>(b: &Build<'_, R>, words: &str) -> Data {
     let mut data = Vec::new(b.alloc);
     for word in words.rsplit(' ') {
-        let (kind, rest) = word.split_once(':').unwrap_or((word, ""));
-        let one = match kind {
-            "Unit" => Data::Unit,
-            "None" => Data::None,
-            "Bool" => Data::Bool(rest == "true"),
-            "Unsigned" => Data::Unsigned(rest.parse::<u64>().expect(b.rt, word)),
-            "Signed" => Data::Signed(rest.parse::<i64>().expect(b.rt, word)),
-            "Char" => Data::Char(string(b, rest).chars().next().expect(b.rt, word)),
-            "Text" => Data::Text(string(b, rest)),
-            "Bytes" => Data::Bytes(bytes(b, rest)),
-            "UnitVariant" => Data::UnitVariant(string(b, rest)),
-            "Some" => Data::Some(boxed(b, &mut data)),
-            "Newtype" => Data::Newtype(boxed(b, &mut data)),
-            "Seq" => Data::Seq(counted(b, rest, &mut data)),
-            "Tuple" => Data::Tuple(counted(b, rest, &mut data)),
-            "Map" => Data::Map(pairs(b, rest, &mut data)),
-            "Struct" => Data::Struct(members(b, rest, &mut data)),
-            _ => holding(b, kind, rest, &mut data),
-        };
-        data.push(one).expect(b.rt, "memory");
+        let next = next_data(b, word, &mut data);
+        data.push(next).expect(b.rt, "memory");
     }
     part(b, &mut data)
+}
+
+// The data that begin with this word, where those of the words after it were made.
+fn next_data<R: Abort>(b: &Build<'_, R>, word: &str, data: &mut Vec<Data>) -> Data {
+    let (kind, rest) = word.split_once(':').unwrap_or((word, ""));
+    match kind {
+        "Unit" => Data::Unit,
+        "None" => Data::None,
+        "Bool" => Data::Bool(rest == "true"),
+        "Unsigned" => Data::Unsigned(rest.parse::<u64>().expect(b.rt, word)),
+        "Signed" => Data::Signed(rest.parse::<i64>().expect(b.rt, word)),
+        "Char" => Data::Char(string(b, rest).chars().next().expect(b.rt, word)),
+        "Text" => Data::Text(string(b, rest)),
+        "Bytes" => Data::Bytes(bytes(b, rest)),
+        "UnitVariant" => Data::UnitVariant(string(b, rest)),
+        "Some" => Data::Some(boxed(b, data)),
+        "Newtype" => Data::Newtype(boxed(b, data)),
+        "Seq" => Data::Seq(counted(b, rest, data)),
+        "Tuple" => Data::Tuple(counted(b, rest, data)),
+        "Map" => Data::Map(pairs(b, rest, data)),
+        "Struct" => Data::Struct(members(b, rest, data)),
+        _ => holding(b, kind, rest, data),
+    }
 }

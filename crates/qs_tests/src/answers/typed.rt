@@ -1,16 +1,18 @@
 //! Querystrings that are read by a user's type and written again, and why they aren't read.
 
+use super::calls;
+use super::written::{Call, written};
 use qs_callers::{Order, Pair, Query, Range, Search, Sort, Values};
 use qs_explain::explain;
 use serde_qs::{
-    Comma, Config, Delimited, Deserialize, Error, Pipe, Result, Serialize, Space, from_bytes,
-    to_string,
+    Comma, Config, ConfigExt, Delimited, Deserialize, Error, Pipe, Result, Serialize, Space,
+    from_bytes, from_str, read_by, to_string,
 };
 use std::alloc::Global;
 use std::collections::BTreeMap;
-use std::io;
 use std::io::{BufRead, Read};
 use std::process::ExitCode;
+use std::{io, str};
 
 /// A map of structs, and a list of them.
 type Ranges = Pair<BTreeMap<String, Range>, Vec<Range>>;
@@ -25,6 +27,38 @@ pub enum Question {
     Rewritten,
     /// Which part of it isn't read.
     Explained,
+    /// The same by each typed call.
+    EachCall,
+    /// What a writer with this room holds of it.
+    Written(Call, usize),
+}
+
+impl Question {
+    /// The question that the words after a type's name ask, if it is one.
+    ///
+    /// | words | line |
+    /// |---|---|
+    /// | none | the querystring of the value |
+    /// | `explained` | which part isn't read |
+    /// | `each_call` | the querystring of the value, where each typed call returns the same |
+    /// | `to_writer ROOM`, `serialize_to_writer ROOM`, `serialize_twice ROOM` | what a writer holds that has this room, and the call's error |
+    pub fn from_words(word: Option<&str>, room: Option<&str>) -> Option<Question> {
+        let room = match room {
+            Some(digits) => Some(digits.parse::<usize>().ok()?),
+            None => None,
+        };
+        match (word, room) {
+            (None, None) => Some(Question::Rewritten),
+            (Some("explained"), None) => Some(Question::Explained),
+            (Some("each_call"), None) => Some(Question::EachCall),
+            (Some("to_writer"), Some(room)) => Some(Question::Written(Call::Lent, room)),
+            (Some("serialize_to_writer"), Some(room)) => {
+                Some(Question::Written(Call::Configured, room))
+            }
+            (Some("serialize_twice"), Some(room)) => Some(Question::Written(Call::Twice, room)),
+            _ => None,
+        }
+    }
 }
 
 // Returns the querystring of the value that is read from the input.
@@ -41,6 +75,45 @@ fn explained<T: Deserialize>(alloc: Global, input: &[u8]) -> Result<String> {
     }
 }
 
+// Whether a value was read, of which this is the querystring.
+fn is_written_as<T: Serialize + Drop>(
+    alloc: Global,
+    value: Result<T>,
+    wanted: &str,
+) -> Result<bool> {
+    Ok(Config::new().serialize_string(alloc, &value?)?.as_str() == wanted)
+}
+
+// Returns the querystring of the value that each typed call reads from the input and writes again.
+fn rewritten_by_each<T: Serialize + Deserialize + Drop>(
+    alloc: Global,
+    input: &[u8],
+) -> Result<String> {
+    let config = Config::new();
+    let text = str::from_utf8(input)?;
+    let shape = T::shape(alloc)?;
+    let written = rewritten::<T>(alloc, input)?;
+    if is_written_as::<T>(alloc, from_str(alloc, text), &written)?
+        && is_written_as::<T>(alloc, config.deserialize_str(alloc, text), &written)?
+        && is_written_as::<T>(alloc, config.deserialize_bytes(alloc, input), &written)?
+        && is_written_as::<T>(alloc, read_by(alloc, config, &shape, input), &written)?
+    {
+        return Ok(written);
+    }
+    Ok(String::from_str(alloc, "the calls disagree")?)
+}
+
+// Returns what a writer with this room holds of the querystring of the value that is read from the input.
+fn written_into<T: Serialize + Deserialize + Drop>(
+    alloc: Global,
+    call: Call,
+    room: usize,
+    input: &[u8],
+) -> Result<String> {
+    let value: T = from_bytes(alloc, input)?;
+    written(alloc, call, room, &value)
+}
+
 // Returns the answer to a question about an input and a type.
 fn answer<T: Serialize + Deserialize + Drop>(
     alloc: Global,
@@ -50,10 +123,12 @@ fn answer<T: Serialize + Deserialize + Drop>(
     match question {
         Question::Rewritten => rewritten::<T>(alloc, input),
         Question::Explained => explained::<T>(alloc, input),
+        Question::EachCall => rewritten_by_each::<T>(alloc, input),
+        Question::Written(call, room) => written_into::<T>(alloc, call, room, input),
     }
 }
 
-// The same by the type of this name, if there is one.
+// The same by the type of this name, or what the call of this name makes of the input, if there is one.
 fn answer_by(
     alloc: Global,
     name: &str,
@@ -69,7 +144,7 @@ fn answer_by(
         "sorts" => Some(answer::<BTreeMap<String, Sort>>(alloc, question, input)),
         "lists" => Some(answer::<Lists>(alloc, question, input)),
         "values" => Some(answer::<BTreeMap<String, Values>>(alloc, question, input)),
-        _ => None,
+        _ => calls::answer(alloc, name, input),
     }
 }
 
@@ -81,13 +156,13 @@ fn status(written: io::Result<()>, status: u8) -> ExitCode {
     }
 }
 
-/// Reads all of standard input, prints the answer by the type of this name, and returns the status.
+/// Reads all of standard input, prints the answer by the type or the call of this name, and returns the status.
 ///
 /// | status | line |
 /// |---|---|
 /// | 0 | the answer |
-/// | 1 | `error: ` and why the input was rejected |
-/// | 2 | none: no type has this name |
+/// | 1 | `error: ` and the error |
+/// | 2 | none: no type or call has this name |
 /// | 3 | `error: out of memory`, or what could be written |
 pub fn answer_about(rt: &HostRuntime, name: &str, question: Question) -> ExitCode {
     let mut input = Vec::new(rt.alloc());

@@ -1,10 +1,9 @@
 //! Typed calls that write.
 
 use super::{list, one, text};
+use crate::narrow::{Narrow, Stop};
 use qs_callers::{Account, Filter, Pair, Price, Query, Search, Sort, rewritten};
 use serde_qs::{Config, ConfigExt, Error, Result, from_str, to_string, to_writer};
-use std::io;
-use std::io::Write;
 use std::process::Abort;
 
 const TEXT: &str = "name=Alice&age=24&occupation=Student";
@@ -103,38 +102,12 @@ fn too_deep(rt: HostRuntime) {
     assert!(rt; out.as_slice() == b"a=1".as_slice());
 }
 
-/// Takes bytes one at a time while there is room, and then fails.
-#[derive(Drop)]
-struct Narrow {
-    held: Vec<u8>,
-    room: usize,
-}
-
-impl Write for Narrow {
-    fn write(&mut self, buf: &[u8]) -> io::Result<usize> {
-        let count = buf.len().min(1).min(self.room);
-        if count == 0 && !buf.is_empty() {
-            return Err(io::Error::from(io::ErrorKind::BrokenPipe));
-        }
-        self.held.extend_from_slice(&buf[..count])?;
-        self.room -= count;
-        Ok(count)
-    }
-
-    fn flush(&mut self) -> io::Result<()> {
-        Ok(())
-    }
-}
-
 #[test]
 fn a_writer_that_stops(rt: HostRuntime) {
     let alloc = rt.alloc();
     let query: Query = from_str(alloc, TEXT).expect(&rt, "a query");
     for room in 0..=TEXT.len() {
-        let mut writer = Narrow {
-            held: Vec::new(alloc),
-            room,
-        };
+        let mut writer = Narrow::new(alloc, 1, room, Stop::Fails).expect(&rt, "memory");
         let result: Result<()> = to_writer(alloc, &query, &mut writer);
         assert!(rt; writer.held.as_slice() == &TEXT.as_bytes()[..room]);
         if room < TEXT.len() {

@@ -113,7 +113,7 @@ fn one_empty_text(rt: HostRuntime) {
 
 // Tuples of one empty text are lost too, and so are elements that have no text.
 #[test]
-fn other_single_elements(rt: HostRuntime) {
+fn a_single_item(rt: HostRuntime) {
     let t = Rows::new(&rt, rt.alloc());
     let b = &t.build;
     let unindexed = config(ArrayFormat::Unindexed);
@@ -121,54 +121,85 @@ fn other_single_elements(rt: HostRuntime) {
     writes(b, unindexed, &tuple, "a=");
     let shape = b.field("a", b.tuple([Shape::Text]));
     t.says("a=", &shape, "invalid length 0");
+}
+
+#[test]
+fn a_single_item_of_a_variant(rt: HostRuntime) {
+    let t = Rows::new(&rt, rt.alloc());
+    let b = &t.build;
+    let unindexed = config(ArrayFormat::Unindexed);
     let variant = b.one("e", b.holding_items("v", [b.text("")]));
     writes(b, unindexed, &variant, "e[v]=");
     let shape = b.field("e", b.variants([b.tuple_variant("v", [Shape::Text])]));
     t.says("e[v]=", &shape, "invalid length 0");
-    let elements = [
-        (Data::Unit, "a=", Shape::Unit),
-        (Data::None, "a", b.option(Shape::Text)),
-    ];
-    for (element, text, part) in elements {
-        writes(b, unindexed, &b.one("a", b.list([element])), text);
-        t.reads(text, &b.field("a", b.seq(part)), b.one("a", b.list([])));
-    }
+}
+
+// A list of this element alone is written as this text without indices, and read back as the empty list.
+fn is_lost<R: Abort>(t: &Rows<'_, R>, element: Data, text: &str, part: Shape) {
+    let b = &t.build;
+    let list = b.one("a", b.list([element]));
+    writes(b, config(ArrayFormat::Unindexed), &list, text);
+    t.reads(text, &b.field("a", b.seq(part)), b.one("a", b.list([])));
+}
+
+#[test]
+fn other_single_elements(rt: HostRuntime) {
+    let t = Rows::new(&rt, rt.alloc());
+    is_lost(&t, Data::Unit, "a=", Shape::Unit);
+    is_lost(&t, Data::None, "a", t.build.option(Shape::Text));
 }
 
 /// Whether the lists come back with empty brackets, and without brackets.
+// Whether data come back in each format is as wanted: with empty brackets, and with nothing after a name.
+fn listed<R: Abort>(b: &Build<'_, R>, data: Data, brackets: bool, nothing: bool) {
+    let rt = b.rt;
+    assert!(rt; data.is_listed(config(ArrayFormat::Indexed)), "{data:?}");
+    let empty = data.is_listed(config(ArrayFormat::EmptyIndexed));
+    assert_eq!(rt; empty, brackets, "{data:?}");
+    let unindexed = data.is_listed(config(ArrayFormat::Unindexed));
+    assert_eq!(rt; unindexed, nothing, "{data:?}");
+}
+
 #[test]
 fn premises(rt: HostRuntime) {
-    let t = Rows::new(&rt, rt.alloc());
-    let b = &t.build;
-    let list = |item| b.list([item]);
-    let rows = [
-        (lists(b), true, true),
-        (b.text(""), true, true),
-        (b.list([]), false, false),
-        (b.some(b.items([])), false, false),
-        (b.one("a", b.list([])), true, true),
-        (b.one("a", b.some(b.wrapped(b.list([])))), true, true),
-        (b.one("a", list(b.text(""))), true, false),
-        (b.one("a", list(b.bytes(b""))), true, false),
-        (b.one("a", b.list([b.text(""), b.text("")])), true, true),
-        (b.one("a", list(Data::Unit)), false, false),
-        (b.one("a", list(b.list([]))), false, false),
-        (
-            b.one("a", b.items([b.some(Data::Bool(true))])),
-            false,
-            false,
-        ),
-        (b.one("a", list(b.one("b", Data::Char('c')))), false, false),
-        (b.holding("v", list(b.bare("u"))), true, true),
-        (b.holding_items("v", [Data::Unsigned(1)]), true, true),
-        (b.holding_items("v", [b.text("")]), true, false),
-        (b.pairs([(b.text("k"), list(Data::None))]), false, false),
-    ];
-    for (data, brackets, nothing) in rows {
-        assert!(&rt; data.is_listed(config(ArrayFormat::Indexed)), "{data:?}");
-        let empty = data.is_listed(config(ArrayFormat::EmptyIndexed));
-        assert_eq!(&rt; empty, brackets, "{data:?}");
-        let unindexed = data.is_listed(config(ArrayFormat::Unindexed));
-        assert_eq!(&rt; unindexed, nothing, "{data:?}");
-    }
+    let build = Build::new(&rt, rt.alloc());
+    let b = &build;
+    listed(b, lists(b), true, true);
+    listed(b, b.text(""), true, true);
+    listed(b, b.list([]), false, false);
+    listed(b, b.some(b.items([])), false, false);
+    listed(b, b.one("a", b.list([])), true, true);
+    listed(b, b.one("a", b.some(b.wrapped(b.list([])))), true, true);
+    listed(b, b.one("a", b.list([b.text("")])), true, false);
+    listed(b, b.one("a", b.list([b.bytes(b"")])), true, false);
+    listed(b, b.one("a", b.list([b.text(""), b.text("")])), true, true);
+}
+
+#[test]
+fn premises_of_elements(rt: HostRuntime) {
+    let build = Build::new(&rt, rt.alloc());
+    let b = &build;
+    listed(b, b.one("a", b.list([Data::Unit])), false, false);
+    listed(b, b.one("a", b.list([b.list([])])), false, false);
+    listed(
+        b,
+        b.one("a", b.items([b.some(Data::Bool(true))])),
+        false,
+        false,
+    );
+    listed(
+        b,
+        b.one("a", b.list([b.one("b", Data::Char('c'))])),
+        false,
+        false,
+    );
+    listed(b, b.holding("v", b.list([b.bare("u")])), true, true);
+    listed(b, b.holding_items("v", [Data::Unsigned(1)]), true, true);
+    listed(b, b.holding_items("v", [b.text("")]), true, false);
+    listed(
+        b,
+        b.pairs([(b.text("k"), b.list([Data::None]))]),
+        false,
+        false,
+    );
 }

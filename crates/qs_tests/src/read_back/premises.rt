@@ -1,7 +1,7 @@
 //! Which data are plain, and which fit a shape.
 
 use crate::build::Build;
-use serde_qs::{Config, Data, KeyShape, Shape, VariantKind};
+use serde_qs::{Config, Data, Field, KeyShape, Shape, VariantKind};
 use std::process::Abort;
 
 // Whether data are plain is as wanted.
@@ -121,75 +121,92 @@ fn keys_of_maps(rt: HostRuntime) {
     }
 }
 
+// A field that may be left out, one that must be there, and another that may be left out.
+fn three<R: Abort>(b: &Build<'_, R>) -> [Field; 3] {
+    [
+        b.optional("a", Shape::U8),
+        b.required("b", Shape::U8),
+        b.optional("c", Shape::U8),
+    ]
+}
+
+// A member of this name, which holds a number.
+fn member<R: Abort>(b: &Build<'_, R>, name: &str) -> (String, Data) {
+    b.member(name, Data::Unsigned(1))
+}
+
+// A struct of two such members.
+fn two<R: Abort>(b: &Build<'_, R>, first: &str, second: &str) -> Data {
+    b.record([member(b, first), member(b, second)])
+}
+
 #[test]
 fn fields(rt: HostRuntime) {
     let alloc = rt.alloc();
     let b = Build { rt: &rt, alloc };
-    let of = || [
-        b.optional("a", Shape::U8),
-        b.required("b", Shape::U8),
-        b.optional("c", Shape::U8),
-    ];
-    let member = |name| b.member(name, Data::Unsigned(1));
-    let shape = b.fields(of());
-    fits(
-        &rt,
-        &shape,
-        b.record([member("a"), member("b"), member("c")]),
-        true,
-    );
-    fits(&rt, &shape, b.record([member("b")]), true);
-    fits(&rt, &shape, b.record([member("b"), member("a")]), false);
-    fits(&rt, &shape, b.record([member("a"), member("c")]), false);
-    fits(&rt, &shape, b.record([member("b"), member("d")]), false);
+    let shape = b.fields(three(&b));
+    let all = b.record([member(&b, "a"), member(&b, "b"), member(&b, "c")]);
+    fits(&rt, &shape, all, true);
+    fits(&rt, &shape, b.record([member(&b, "b")]), true);
+    fits(&rt, &shape, two(&b, "b", "a"), false);
+    fits(&rt, &shape, two(&b, "a", "c"), false);
+    fits(&rt, &shape, two(&b, "b", "d"), false);
     fits(&rt, &shape, b.one("b", Data::Unit), false);
-    let variant = b.variants([b.struct_variant("v", of())]);
-    fits(
-        &rt,
-        &variant,
-        b.holding_record("v", [member("b"), member("c")]),
-        true,
-    );
-    fits(
-        &rt,
-        &variant,
-        b.holding_record("v", [member("c"), member("b")]),
-        false,
-    );
-    fits(&rt, &variant, b.holding_record("w", [member("b")]), false);
 }
 
 #[test]
-fn kinds(rt: HostRuntime) {
+fn fields_of_variants(rt: HostRuntime) {
+    let alloc = rt.alloc();
+    let b = Build { rt: &rt, alloc };
+    let variant = b.variants([b.struct_variant("v", three(&b))]);
+    let in_order = b.holding_record("v", [member(&b, "b"), member(&b, "c")]);
+    fits(&rt, &variant, in_order, true);
+    let exchanged = b.holding_record("v", [member(&b, "c"), member(&b, "b")]);
+    fits(&rt, &variant, exchanged, false);
+    let other = b.holding_record("w", [member(&b, "b")]);
+    fits(&rt, &variant, other, false);
+}
+
+#[test]
+fn tuples(rt: HostRuntime) {
     let alloc = rt.alloc();
     let b = Build { rt: &rt, alloc };
     let pair = b.tuple([Shape::Bool, Shape::Text]);
     fits(&rt, &pair, b.items([Data::Bool(true), b.text("x")]), true);
     fits(&rt, &pair, b.items([Data::Bool(true)]), false);
-    fits(
-        &rt,
-        &pair,
-        b.items([Data::Bool(true), b.text("x"), Data::Unit]),
-        false,
-    );
+    let three = b.items([Data::Bool(true), b.text("x"), Data::Unit]);
+    fits(&rt, &pair, three, false);
     fits(&rt, &pair, b.list([Data::Bool(true), b.text("x")]), false);
-    fits(
-        &rt,
-        &b.seq(Shape::Char),
-        b.list([Data::Char('a'), Data::Char('b')]),
-        true,
-    );
-    fits(
-        &rt,
-        &b.seq(Shape::Char),
-        b.list([Data::Char('a'), Data::Unit]),
-        false,
-    );
-    fits(&rt, &b.option(Shape::Bytes), Data::None, true);
-    fits(&rt, &b.option(Shape::Bytes), b.some(b.bytes(b"x")), true);
-    fits(&rt, &b.option(Shape::Bytes), b.bytes(b"x"), false);
-    fits(&rt, &b.newtype(Shape::Unit), b.wrapped(Data::Unit), true);
-    fits(&rt, &b.newtype(Shape::Unit), Data::Unit, false);
+}
+
+#[test]
+fn lists(rt: HostRuntime) {
+    let alloc = rt.alloc();
+    let b = Build { rt: &rt, alloc };
+    let letters = b.seq(Shape::Char);
+    let two = b.list([Data::Char('a'), Data::Char('b')]);
+    fits(&rt, &letters, two, true);
+    let one = b.list([Data::Char('a'), Data::Unit]);
+    fits(&rt, &letters, one, false);
+}
+
+#[test]
+fn options_and_newtypes(rt: HostRuntime) {
+    let alloc = rt.alloc();
+    let b = Build { rt: &rt, alloc };
+    let bytes = b.option(Shape::Bytes);
+    fits(&rt, &bytes, Data::None, true);
+    fits(&rt, &bytes, b.some(b.bytes(b"x")), true);
+    fits(&rt, &bytes, b.bytes(b"x"), false);
+    let unit = b.newtype(Shape::Unit);
+    fits(&rt, &unit, b.wrapped(Data::Unit), true);
+    fits(&rt, &unit, Data::Unit, false);
+}
+
+#[test]
+fn other_kinds(rt: HostRuntime) {
+    let alloc = rt.alloc();
+    let b = Build { rt: &rt, alloc };
     fits(&rt, &Shape::Any, b.text("x"), false);
     fits(&rt, &Shape::Ignored, Data::Unit, false);
     let unit = b.variants([b.variant("u", VariantKind::Unit)]);

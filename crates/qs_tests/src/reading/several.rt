@@ -2,6 +2,7 @@
 
 use crate::rows::Rows;
 use serde_qs::{Data, KeyShape, Shape};
+use std::process::Abort;
 
 const SEVERAL: &str = "multiple values provided for non-sequence field";
 
@@ -19,63 +20,76 @@ fn the_last_counts(rt: HostRuntime) {
     t.says("a=5&a=", &number, "invalid type: string, expected u8");
 }
 
+// A field of this shape isn't read where several values are rejected, and this is said.
+fn rejects<R: Abort>(t: &Rows<'_, R>, input: &str, part: Shape, said: &str) {
+    let shape = t.build.field("a", part);
+    t.reject_duplicates().says(input, &shape, said);
+}
+
 #[test]
 fn rejected(rt: HostRuntime) {
-    let t = Rows::new(&rt, rt.alloc()).reject_duplicates();
-    let b = &t.build;
-    t.reads("a[]=x", &b.field("a", Shape::Text), b.one("a", b.text("x")));
-    t.says("a=x&a=y", &b.field("a", Shape::Text), SEVERAL);
-    t.says("a=%FF&a=%FF", &b.field("a", Shape::Text), SEVERAL);
-    t.says("a&a", &b.field("a", Shape::Bool), SEVERAL);
-    t.says("a=1&a=2", &b.field("a", Shape::Bytes), SEVERAL);
-    t.says("a=1&a=2", &b.field("a", Shape::U8), SEVERAL);
-    t.says("a=1&a=2", &b.field("a", Shape::I64), SEVERAL);
-    let unit = b.field("a", Shape::Unit);
-    t.says("a=1&a=2", &unit, "invalid type: sequence, expected unit");
-    let letter = b.field("a", Shape::Char);
-    t.says(
-        "a=1&a=2",
-        &letter,
-        "invalid type: sequence, expected a character",
-    );
+    let t = Rows::new(&rt, rt.alloc());
+    let text = t.build.field("a", Shape::Text);
+    let one = t.build.one("a", t.build.text("x"));
+    t.reject_duplicates().reads("a[]=x", &text, one);
+    rejects(&t, "a=x&a=y", Shape::Text, SEVERAL);
+    rejects(&t, "a=%FF&a=%FF", Shape::Text, SEVERAL);
+    rejects(&t, "a&a", Shape::Bool, SEVERAL);
+    rejects(&t, "a=1&a=2", Shape::Bytes, SEVERAL);
+    rejects(&t, "a=1&a=2", Shape::U8, SEVERAL);
+    rejects(&t, "a=1&a=2", Shape::I64, SEVERAL);
+    let unit = "invalid type: sequence, expected unit";
+    rejects(&t, "a=1&a=2", Shape::Unit, unit);
+    let letter = "invalid type: sequence, expected a character";
+    rejects(&t, "a=1&a=2", Shape::Char, letter);
+}
+
+// The last of several values of a field is read, and they are rejected where that is asked for.
+fn last_counts<R: Abort>(t: &Rows<'_, R>, input: &str, part: Shape, last: Data) {
+    let shape = t.build.field("a", part);
+    t.reads(input, &shape, t.build.one("a", last));
+    t.reject_duplicates().says(input, &shape, SEVERAL);
 }
 
 #[test]
 fn within_other_shapes(rt: HostRuntime) {
     let t = Rows::new(&rt, rt.alloc());
     let b = &t.build;
-    let shape = b.field("a", b.option(Shape::U8));
-    let last = b.one("a", b.some(Data::Unsigned(2)));
-    t.reads("a=1&a=2", &shape, last);
-    t.reject_duplicates().says("a=1&a=2", &shape, SEVERAL);
-    let shape = b.field("a", b.newtype(Shape::U8));
-    let last = b.one("a", b.wrapped(Data::Unsigned(2)));
-    t.reads("a=1&a=2", &shape, last);
-    t.reject_duplicates().says("a=1&a=2", &shape, SEVERAL);
-    let shape = b.field("a", b.seq(Shape::U8));
-    let last = b.one("a", b.list([Data::Unsigned(2)]));
-    t.reads("a[0]=1&a[0]=2", &shape, last);
-    t.reject_duplicates().says("a[0]=1&a[0]=2", &shape, SEVERAL);
-    let shape = b.field("a", b.tuple([Shape::U8]));
-    let last = b.one("a", b.items([Data::Unsigned(2)]));
-    t.reads("a[0]=1&a[0]=2", &shape, last);
-    t.reject_duplicates().says("a[0]=1&a[0]=2", &shape, SEVERAL);
+    last_counts(
+        &t,
+        "a=1&a=2",
+        b.option(Shape::U8),
+        b.some(Data::Unsigned(2)),
+    );
+    last_counts(
+        &t,
+        "a=1&a=2",
+        b.newtype(Shape::U8),
+        b.wrapped(Data::Unsigned(2)),
+    );
+    last_counts(
+        &t,
+        "a[0]=1&a[0]=2",
+        b.seq(Shape::U8),
+        b.list([Data::Unsigned(2)]),
+    );
+    last_counts(
+        &t,
+        "a[0]=1&a[0]=2",
+        b.tuple([Shape::U8]),
+        b.items([Data::Unsigned(2)]),
+    );
 }
 
 #[test]
 fn under_keys(rt: HostRuntime) {
     let t = Rows::new(&rt, rt.alloc());
     let b = &t.build;
-    let shape = b.field("a", b.map(KeyShape::Text, Shape::U8));
+    let input = "a[k]=1&a[k]=2";
     let last = b.pairs([(b.text("k"), Data::Unsigned(2))]);
-    t.reads("a[k]=1&a[k]=2", &shape, b.one("a", last));
-    t.reject_duplicates().says("a[k]=1&a[k]=2", &shape, SEVERAL);
-    let shape = b.field("a", b.field("k", Shape::U8));
+    last_counts(&t, input, b.map(KeyShape::Text, Shape::U8), last);
     let last = b.one("k", Data::Unsigned(2));
-    t.reads("a[k]=1&a[k]=2", &shape, b.one("a", last));
-    t.reject_duplicates().says("a[k]=1&a[k]=2", &shape, SEVERAL);
-    let shape = b.field("a", b.variants([b.newtype_variant("k", Shape::U8)]));
-    let last = b.holding("k", Data::Unsigned(2));
-    t.reads("a[k]=1&a[k]=2", &shape, b.one("a", last));
-    t.reject_duplicates().says("a[k]=1&a[k]=2", &shape, SEVERAL);
+    last_counts(&t, input, b.field("k", Shape::U8), last);
+    let variant = b.variants([b.newtype_variant("k", Shape::U8)]);
+    last_counts(&t, input, variant, b.holding("k", Data::Unsigned(2)));
 }

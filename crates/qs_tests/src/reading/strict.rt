@@ -23,6 +23,12 @@ fn keys_of_a_map(rt: HostRuntime) {
         &b.field("a", Shape::Text),
         b.one("a", b.text("x")),
     );
+}
+
+#[test]
+fn unknown_keys_of_a_map(rt: HostRuntime) {
+    let t = Rows::new(&rt, rt.alloc());
+    let shape = shape(&t.build);
     let rows = [
         // as many keys as fields
         ("a=x&c=y", "unknown field `c`"),
@@ -38,6 +44,17 @@ fn keys_of_a_map(rt: HostRuntime) {
     for (input, said) in rows {
         t.says(input, &shape, said);
     }
+    t.says(
+        "1=a&%31=b",
+        &t.build.strict([t.build.required("1", Shape::Text)]),
+        "duplicate field `1`",
+    );
+}
+
+#[test]
+fn unknown_keys_that_hold_a_bracket(rt: HostRuntime) {
+    let t = Rows::new(&rt, rt.alloc());
+    let shape = shape(&t.build);
     t.hints("a=x&c%5Bd%5D=1", &shape, "unknown field `c[d]`");
     t.form()
         .deep(0)
@@ -45,11 +62,6 @@ fn keys_of_a_map(rt: HostRuntime) {
     t.breaks("a=%FF&c=y", &shape);
     t.breaks("a=x&%FF=1", &shape);
     t.breaks_and_hints("a=x&%5B%FF=1", &shape);
-    t.says(
-        "1=a&%31=b",
-        &b.strict([b.required("1", Shape::Text)]),
-        "duplicate field `1`",
-    );
 }
 
 #[test]

@@ -40,13 +40,20 @@ fn names_of_numbers(rt: HostRuntime) {
     t.reads("01=a", &shape, b.one("1", b.text("a")));
     t.reads("%31=b", &shape, b.one("1", b.text("b")));
     t.says("1=a&%31=b", &shape, "duplicate field `1`");
+}
+
+#[test]
+fn names_that_look_like_numbers(rt: HostRuntime) {
+    let t = Rows::new(&rt, rt.alloc());
+    let b = &t.build;
     let shape = b.field("01", Shape::Text);
     t.says("01=x", &shape, "missing field `01`");
     t.reads("%301=x", &shape, b.one("01", b.text("x")));
-    let shape = b.field("4294967295", Shape::Text);
-    t.reads("4294967295=x", &shape, b.one("4294967295", b.text("x")));
-    let shape = b.field("4294967296", Shape::Text);
-    t.reads("4294967296=x", &shape, b.one("4294967296", b.text("x")));
+    for name in ["4294967295", "4294967296"] {
+        let input = format!(in b.alloc; "{name}=x").expect(&rt, "memory");
+        let wanted = b.one(name, b.text("x"));
+        t.reads(&input, &b.field(name, Shape::Text), wanted);
+    }
 }
 
 #[test]
@@ -116,14 +123,21 @@ fn keys_that_are_no_text(rt: HostRuntime) {
     t.reads("x[%FF]=%FF&a=1", &shape, b.one("a", Data::Unsigned(1)));
     t.reads("x=%FF&a=1", &shape, b.one("a", Data::Unsigned(1)));
     t.breaks("%FF=1&a=1", &shape);
-    t.breaks_and_hints("%5B%FF=1&a=1", &shape);
-    t.form().deep(0).breaks_and_hints("%5B%FF=1&a=1", &shape);
     t.says("%FF=1", &shape, "missing field `a`");
     t.says("%5B%FF=1", &shape, "missing field `a`");
+}
+
+#[test]
+fn keys_that_are_no_text_and_hold_a_bracket(rt: HostRuntime) {
+    let t = Rows::new(&rt, rt.alloc());
+    let b = &t.build;
+    let shape = b.field("a", Shape::U8);
+    t.breaks_and_hints("%5B%FF=1&a=1", &shape);
+    t.form().deep(0).breaks_and_hints("%5B%FF=1&a=1", &shape);
     let shape = b.fields([b.optional("a", Shape::U8)]);
     t.breaks_and_hints("%5B%FF=1", &shape);
-    t.form()
-        .breaks_and_hints("s[[%FF]=1", &b.field("s", b.fields([])));
+    let shape = b.field("s", b.fields([]));
+    t.form().breaks_and_hints("s[[%FF]=1", &shape);
 }
 
 #[test]

@@ -2,65 +2,16 @@
 
 use super::query;
 use crate::build::Build;
+use crate::narrow::{Narrow, Stop};
 use serde_qs::{ByWrite, ConfigExt, Data, Error, Result, Serializer, Sink, from_str, to_writer};
 use std::alloc::Global;
 use std::collections::BTreeMap;
-use std::io;
-use std::io::Write;
 use std::process::Abort;
 
 const WHOLE: &[u8; 10] = b"a=1&b[0]=2";
 
 const ADDRESS: &str =
     "address[city]=Carrot+City&address[postcode]=12345&address[street]=Special-Street*+No.+11";
-
-/// How a write ends that finds no room.
-#[derive(Clone, Copy, Debug)]
-enum Stop {
-    Fails,
-    IsInterrupted,
-    TakesNothing,
-}
-
-/// Takes up to `step` bytes a write while there is room, and then stops.
-#[derive(Drop)]
-struct Narrow {
-    held: Vec<u8>,
-    step: usize,
-    room: usize,
-    stop: Stop,
-}
-
-// Such a writer that holds nothing yet.
-fn with_room(alloc: Global, step: usize, room: usize, stop: Stop) -> Narrow {
-    let held = Vec::new(alloc);
-    Narrow {
-        held,
-        step,
-        room,
-        stop,
-    }
-}
-
-impl Write for Narrow {
-    fn write(&mut self, buf: &[u8]) -> io::Result<usize> {
-        let count = buf.len().min(self.step).min(self.room);
-        if count == 0 && !buf.is_empty() {
-            match self.stop {
-                Stop::Fails => return Err(io::Error::from(io::ErrorKind::BrokenPipe)),
-                Stop::IsInterrupted => return Err(io::Error::from(io::ErrorKind::Interrupted)),
-                Stop::TakesNothing => return Ok(0),
-            }
-        }
-        self.held.extend_from_slice(&buf[..count])?;
-        self.room -= count;
-        Ok(count)
-    }
-
-    fn flush(&mut self) -> io::Result<()> {
-        Ok(())
-    }
-}
 
 // A struct of a number and a list of one number.
 fn number_and_list<R: Abort>(b: &Build<'_, R>) -> Data {
@@ -72,7 +23,7 @@ fn number_and_list<R: Abort>(b: &Build<'_, R>) -> Data {
 
 // A writer with this room holds as many bytes of the text, no write is repeated, and the serializer has failed for good.
 fn stops_at<R: Abort>(rt: &R, alloc: Global, datum: &Data, room: usize, step: usize, stop: Stop) {
-    let mut writer = with_room(alloc, step, room, stop);
+    let mut writer = Narrow::new(alloc, step, room, stop).expect(rt, "memory");
     let mut serializer = Serializer::new(&mut writer, query());
     let result = serializer.serialize(alloc, datum);
     assert!(rt;
@@ -111,7 +62,7 @@ fn takes_all_in_small_steps(rt: HostRuntime) {
     let b = &build;
     let datum = number_and_list(b);
     for step in [1, 3, 5, 10] {
-        let mut writer = with_room(b.alloc, step, WHOLE.len(), Stop::Fails);
+        let mut writer = Narrow::new(b.alloc, step, WHOLE.len(), Stop::Fails).expect(&rt, "memory");
         let mut serializer = Serializer::new(&mut writer, query());
         assert!(rt; serializer.serialize(b.alloc, &datum).is_ok());
         assert!(rt; !serializer.into_sink().has_failed());
@@ -148,7 +99,7 @@ fn fronts<R: Abort>(
     stop: Stop,
 ) {
     for room in 0..=ADDRESS.len() {
-        let mut writer = with_room(alloc, step, room, stop);
+        let mut writer = Narrow::new(alloc, step, room, stop).expect(rt, "memory");
         let result = call.write(alloc, addresses, &mut writer);
         assert_eq!(rt;
             writer.held.as_slice(),

@@ -1,0 +1,73 @@
+//! Calls without a user's type: errors that callers make, lists in one string, wrappers, data.
+
+use super::written::written_data;
+use serde_qs::helpers::{comma_separated, generic_delimiter, pipe_delimited, space_delimited};
+use serde_qs::web::{QsForm, QsQuery};
+use serde_qs::{Data, Error, Result};
+use std::alloc::Global;
+use std::str;
+
+// Returns the text of the input, or the error that says that it is none.
+fn owned_text(alloc: Global, input: &[u8]) -> Result<String> {
+    Ok(String::from_utf8(Vec::from_slice(alloc, input)?)?)
+}
+
+// Returns the error of this maker, with the input as its message.
+fn made(alloc: Global, maker: &str, input: &[u8]) -> Result<String> {
+    let message = str::from_utf8(input)?;
+    Err(match maker {
+        "custom" => Error::custom(alloc, message, &()),
+        "parse_err" => Error::parse_err(alloc, message, 7),
+        _ => Error::top_level(alloc, "bool"),
+    })
+}
+
+// Returns the text of the number, or the error that says that it is none.
+fn number(alloc: Global, input: &[u8]) -> Result<String> {
+    let number = str::from_utf8(input)?.parse::<u8>()?;
+    Ok(format!(in alloc; "{number}")?)
+}
+
+// Returns the items between commas again, after they were written and read with each other delimiter.
+fn relisted(alloc: Global, input: &[u8]) -> Result<String> {
+    let data = Data::Text(owned_text(alloc, input)?);
+    let items: Vec<String> = comma_separated::deserialize(alloc, data)?;
+    let data = pipe_delimited::serialize(alloc, &items)?;
+    let items: Vec<String> = pipe_delimited::deserialize(alloc, data)?;
+    let data = space_delimited::serialize(alloc, &items)?;
+    let items: Vec<String> = space_delimited::deserialize(alloc, data)?;
+    let data = generic_delimiter::serialize(alloc, &items, '.')?;
+    let items: Vec<String> = generic_delimiter::deserialize(alloc, data, '.')?;
+    match comma_separated::serialize(alloc, &items)? {
+        Data::Text(text) => Ok(text),
+        _ => Err(Error::Unsupported),
+    }
+}
+
+// Returns the texts of copies of the input, wrapped as a query and as a form.
+fn wrapped(alloc: Global, input: &[u8]) -> Result<String> {
+    let query = QsQuery(owned_text(alloc, input)?).clone()?;
+    let form = QsForm(owned_text(alloc, input)?).clone()?;
+    Ok(format!(in alloc; "{query} {form}")?)
+}
+
+/// Returns what the call of this name makes of the input, if there is one.
+///
+/// | name | line |
+/// |---|---|
+/// | `custom`, `parse_err`, `top_level` | the error that it makes of the input |
+/// | `from_utf8`, `parse_int` | the input, or the error that std's error becomes |
+/// | `helpers` | the items between commas, after they were written and read with each other delimiter |
+/// | `web` | the texts of copies of a query and a form |
+/// | `data` | data with a character, bytes, and a key that isn't written, as the text of their entries |
+pub fn answer(alloc: Global, name: &str, input: &[u8]) -> Option<Result<String>> {
+    match name {
+        "custom" | "parse_err" | "top_level" => Some(made(alloc, name, input)),
+        "from_utf8" => Some(owned_text(alloc, input)),
+        "parse_int" => Some(number(alloc, input)),
+        "helpers" => Some(relisted(alloc, input)),
+        "web" => Some(wrapped(alloc, input)),
+        "data" => Some(written_data(alloc)),
+        _ => None,
+    }
+}

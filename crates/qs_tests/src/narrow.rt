@@ -1,0 +1,55 @@
+//! A writer that takes little, and then stops.
+
+use std::alloc::{AllocError, Global};
+use std::io;
+use std::io::Write;
+
+/// How a write ends that finds no room.
+#[derive(Clone, Copy, Debug)]
+pub enum Stop {
+    Fails,
+    IsInterrupted,
+    TakesNothing,
+}
+
+/// Takes up to `step` bytes a write while there is room, and then stops.
+#[derive(Drop)]
+pub struct Narrow {
+    pub held: Vec<u8>,
+    step: usize,
+    room: usize,
+    stop: Stop,
+}
+
+impl Narrow {
+    /// Such a writer that holds nothing yet. No write allocates.
+    pub fn new(alloc: Global, step: usize, room: usize, stop: Stop) -> Result<Narrow, AllocError> {
+        let held = Vec::with_capacity(alloc, room)?;
+        Ok(Narrow {
+            held,
+            step,
+            room,
+            stop,
+        })
+    }
+}
+
+impl Write for Narrow {
+    fn write(&mut self, buf: &[u8]) -> io::Result<usize> {
+        let count = buf.len().min(self.step).min(self.room);
+        if count == 0 && !buf.is_empty() {
+            match self.stop {
+                Stop::Fails => return Err(io::Error::from(io::ErrorKind::BrokenPipe)),
+                Stop::IsInterrupted => return Err(io::Error::from(io::ErrorKind::Interrupted)),
+                Stop::TakesNothing => return Ok(0),
+            }
+        }
+        self.held.extend_from_slice(&buf[..count])?;
+        self.room -= count;
+        Ok(count)
+    }
+
+    fn flush(&mut self) -> io::Result<()> {
+        Ok(())
+    }
+}

@@ -65,3 +65,85 @@ fn push_value<'t, 'qs>(
         }
     }
 }
+
+// What a sequence is written as, the last piece first.
+fn stack_items<'t, 'qs>(
+    rest: &mut Vec<Pending<'t, 'qs>>,
+    items: &'t Vec<ParsedValue<'qs>>,
+) -> Result<(), AllocError> {
+    rest.push(Pending::Sign("]"))?;
+    for (place, item) in items.iter().enumerate().rev() {
+        rest.push(Pending::Value(item))?;
+        if place > 0 {
+            rest.push(Pending::Sign(","))?;
+        }
+    }
+    Ok(())
+}
+
+// What a map is written as, the last piece first.
+fn stack_entries<'t, 'qs>(
+    rest: &mut Vec<Pending<'t, 'qs>>,
+    map: &'t ParsedMap<'qs>,
+) -> Result<(), AllocError> {
+    rest.push(Pending::Sign("}"))?;
+    for place in (0..map.len()).rev() {
+        let Some((key, value)) = map.at(place) else {
+            continue;
+        };
+        rest.push(Pending::Value(value))?;
+        rest.push(Pending::Sign(":"))?;
+        rest.push(Pending::Key(key))?;
+        if place > 0 {
+            rest.push(Pending::Sign(","))?;
+        }
+    }
+    Ok(())
+}
+
+// Writes a text after the line.
+fn push_text(line: &mut String, text: &CowSlice<'_, u8>, texts: Texts) -> Result<(), AllocError> {
+    match texts {
+        Texts::Quoted => push_quoted(line, text.as_slice())?,
+        Texts::Hexadecimal => push_hexadecimal(line, text.as_slice())?,
+    }
+    match text {
+        CowSlice::Borrowed(_) => Ok(()),
+        CowSlice::Owned(_) => line.push('*'),
+    }
+}
+
+// The bytes between single quotes, where those beyond printable ASCII are escaped.
+fn push_quoted(line: &mut String, bytes: &[u8]) -> Result<(), AllocError> {
+    line.push('\'')?;
+    for byte in bytes {
+        match byte {
+            b' '..=b'~' => line.push(char::from(*byte))?,
+            _ => {
+                line.push_str("\\x")?;
+                push_byte(line, *byte)?;
+            }
+        }
+    }
+    line.push('\'')
+}
+
+// The bytes between double quotes, in hexadecimal digits.
+fn push_hexadecimal(line: &mut String, bytes: &[u8]) -> Result<(), AllocError> {
+    line.push('"')?;
+    for byte in bytes {
+        push_byte(line, *byte)?;
+    }
+    line.push('"')
+}
+
+// Two hexadecimal digits.
+fn push_byte(line: &mut String, byte: u8) -> Result<(), AllocError> {
+    line.push(digit(byte / 16))?;
+    line.push(digit(byte % 16))
+}
+
+// A hexadecimal digit.
+fn digit(value: u8) -> char {
+    char::from_digit(u32::from(value), 16).unwrap_or('?')
+}

@@ -84,17 +84,26 @@ pub fn written<T: Serialize>(alloc: Global, call: Call, room: usize, value: &T) 
     held(alloc, writer, outcome, &whole)
 }
 
-// A character, bytes, and a map with a list as its key, which isn't written.
-fn data(alloc: Global) -> Result<Data> {
-    let bytes = Data::Bytes(Vec::from_slice(alloc, b"\xFF &")?);
+// Adds a member of this name to those of a struct.
+fn add(alloc: Global, members: &mut Vec<(String, Data)>, name: &str, value: Data) -> Result<()> {
+    Ok(members.push((String::from_str(alloc, name)?, value))?)
+}
+
+// A map with a list as its key, which isn't written.
+fn map_of_a_list(alloc: Global) -> Result<Data> {
     let list = Data::Seq(Vec::new(alloc));
-    let map = Data::Map(Vec::from_array(alloc, [(list, Data::Unit)])?);
-    let members = [
-        (String::from_str(alloc, "c")?, Data::Char('ä')),
-        (String::from_str(alloc, "b")?, bytes),
-        (String::from_str(alloc, "m")?, map),
-    ];
-    Ok(Data::Struct(Vec::from_array(alloc, members)?))
+    let pairs = Vec::from_array(alloc, [(list, Data::Unit)])?;
+    Ok(Data::Map(pairs))
+}
+
+// A character, bytes, and a map that isn't written.
+fn data(alloc: Global) -> Result<Data> {
+    let mut members = Vec::new(alloc);
+    add(alloc, &mut members, "c", Data::Char('ä'))?;
+    let bytes = Data::Bytes(Vec::from_slice(alloc, b"\xFF &")?);
+    add(alloc, &mut members, "b", bytes)?;
+    add(alloc, &mut members, "m", map_of_a_list(alloc)?)?;
+    Ok(Data::Struct(members))
 }
 
 /// Returns what a writer holds to which a copy of data was written that no type has, and the error of the call.

@@ -2,7 +2,10 @@
 
 use super::{form, query, writes};
 use crate::build::Build;
+use crate::trees::repeated;
 use serde_qs::Data;
+use std::alloc::AllocError;
+use std::process::Abort;
 use std::test::Fail;
 
 #[test]
@@ -59,19 +62,21 @@ fn other_scalars(rt: HostRuntime) {
     }
 }
 
+// A field with so many letters and spaces is written.
+fn is_written<R: Abort>(b: &Build<'_, R>, count: usize) -> Result<(), AllocError> {
+    let value = repeated(b.alloc, "\u{e9} ", count)?;
+    let encoded = repeated(b.alloc, "%C3%A9+", count)?;
+    let wanted = format!(in b.alloc; "a={encoded}")?;
+    writes(b, query(), &b.one("a", b.text(&value)), &wanted);
+    Ok(())
+}
+
 // Values on both sides of the length from which one is put in pieces, which may end within a character.
 #[test]
 fn long(rt: HostRuntime) -> Result<(), Fail> {
     let build = Build::new(&rt, rt.alloc());
-    let b = &build;
     for count in [341, 342, 1_000] {
-        let (mut value, mut wanted) = (String::new(rt.alloc()), String::new(rt.alloc()));
-        wanted.push_str("a=")?;
-        for _ in 0..count {
-            value.push_str("\u{e9} ")?;
-            wanted.push_str("%C3%A9+")?;
-        }
-        writes(b, query(), &b.one("a", b.text(&value)), &wanted);
+        is_written(&build, count)?;
     }
     Ok(())
 }

@@ -1,6 +1,8 @@
 -- What an explanation says of an input.
 use Rattle.std.specs.Prelude.{◌≡◌, ⊤, ℕ, Bool, List, map, Option, Some, None, Result, Ok, Err}
 use Rattle.qs_spec.specs.Config.{Config, are_rejected}
+use Rattle.qs_spec.specs.Data.{Data}
+use Rattle.qs_spec.specs.Relation.{ReadsBy, ReadsNothing}
 use Rattle.qs_spec.specs.Segment as segments
 use Rattle.qs_spec.specs.Shape.{Shape}
 use Rattle.qs_spec.specs.Tree.{Tree, IsTree, IsRefused}
@@ -60,3 +62,10 @@ Explains config s input (Ok None) = (n : Tree) × IsTree config.form config.max_
 Explains config s input (Ok (Some (e.Syntax error))) = IsRefused config.form config.max_depth input × IsParseError error
 Explains config s input (Ok (Some (e.Mismatch m))) = (n : Tree) × IsTree config.form config.max_depth input n × (reads (are_rejected config.duplicates) s n ≡ None) × IsMismatch (are_rejected config.duplicates) s n m
 Explains config s input (Err e) = ⊤
+
+-- The same by the relation: no explanation where the shape relates the input's tree to some data, and one where it relates it to none.
+abbrev pub ExplainsUnread : {E : Type 0} → Config → Shape → List ℕ → Result (Option Explanation) E → Type 0
+ExplainsUnread config s input (Ok None) = (n : Tree) × IsTree config.form config.max_depth input n × (d : Data) × ReadsBy config s n d
+ExplainsUnread config s input (Ok (Some (e.Syntax error))) = IsRefused config.form config.max_depth input
+ExplainsUnread config s input (Ok (Some (e.Mismatch m))) = (n : Tree) × IsTree config.form config.max_depth input n × ReadsNothing config s n
+ExplainsUnread config s input (Err e) = ⊤

@@ -1,7 +1,7 @@
 -- To be believed: what a shape reads from a node, what reading returns and with which errors, what a deserializer holds, the items and
 -- the keys of a node, what is found under a name, which trees hold only UTF-8, and what is read back of written data.
 pub mod Reads
-pub mod Text
+pub mod TreeText
 pub mod Errors
 pub mod Gives
 pub mod Items

@@ -16,7 +16,7 @@ use Rattle.qs_data.specs.shape.Views.{kind_of, variant_of, variants_in}
 use Rattle.qs_data.proofs.lemmas.read.Variants.{enum_some, named_is, variant_kind}
 use Rattle.qs_explain.specs.declared.explanation.Mismatch.{Mismatch}
 use Rattle.qs_explain.specs.declared.expected.Expected.TheVariants as e
-use Rattle.qs_explain.specs.Children.{enum_children, held_children, is_text, named_children}
+use Rattle.qs_explain.specs.Children.{enum_children, held_children, is_text_leaf, named_children}
 use Rattle.qs_explain.specs.Explains.{IsMismatch, PartsAreRead}
 use Rattle.qs_explain.specs.internal.Finding.{FindsAmong, IsHere}
 use Rattle.qs_explain.specs.Unexpected.{unexpected_key}
@@ -51,7 +51,7 @@ unfolding reads
 tuple_unread rd ss t h = other_map (λ ds. Data.tuple_variant [] (values_of ds)) (λ ds. Data.tuple (values_of ds)) (option_and_then (reads_tuple rd ss) (items t)) h
 
 -- but for a text, fields are read from the node as it is
-no_text : (t : Tree) → is_text t ≡ false → as_map t ≡ t
+no_text : (t : Tree) → is_text_leaf t ≡ false → as_map t ≡ t
 no_text (leaf NoValue) h = refl
 no_text (leaf Null) h = refl
 no_text (leaf (Text bytes mark)) h = absurd cc
@@ -59,7 +59,7 @@ no_text (sequence xs) h = refl
 no_text (mapping es) h = refl
 no_text uninitialized h = refl
 
-pub struct_unread : (rd : Bool) (u : s.UnknownKeys) (fs : s.Fields) (t : Tree) → is_text t ≡ false → reads_kind rd (s.struct_kind u fs) [] t ≡ None → reads rd (s.Shape.struct u fs) t ≡ None
+pub struct_unread : (rd : Bool) (u : s.UnknownKeys) (fs : s.Fields) (t : Tree) → is_text_leaf t ≡ false → reads_kind rd (s.struct_kind u fs) [] t ≡ None → reads rd (s.Shape.struct u fs) t ≡ None
 unfolding reads
 struct_unread rd u fs t other h =
     let all = struct_members (keys_are_allowed u fs) (reads_names rd fs) (reads_places rd fs) in

@@ -4,3 +4,4 @@ pub mod ItemsThere
 pub mod KeysAllowed
 pub mod OneByOne
 pub mod Parts
+pub mod Related

@@ -22,7 +22,7 @@ use Rattle.qs_data.specs.shape.Views.{field_of, fields_in, shape_of, shapes_in}
 use Rattle.qs_data.proofs.lemmas.read.Entries.{after_some, after_none, after_all}
 use Rattle.qs_explain.specs.declared.explanation.Mismatch.{Mismatch}
 use Rattle.qs_explain.specs.Children.{Child, first_there, or_missing, item_children, tuple_children, name_child, name_children, pair_children, map_children, listed}
-use Rattle.qs_explain.specs.Parts.{IsRead, IsChild, AreRead}
+use Rattle.qs_explain.specs.Parts.{ReadsSome, IsChild, AreRead}
 use Rattle.qs_explain.specs.internal.Finding.{FindsAmong, FindsBelow, OneFails, IsBelow}
 
 -- no shape reads what is missing
@@ -45,7 +45,7 @@ unread_missing rd (shapes.Shape.enumeration vs) = refl
 unread_missing rd shapes.Shape.any = refl
 unread_missing rd shapes.Shape.ignored = refl
 
-not_missing : (rd : Bool) (s : shapes.Shape) → IsRead rd s uninitialized → ⊥
+not_missing : (rd : Bool) (s : shapes.Shape) → ReadsSome rd s uninitialized → ⊥
 not_missing rd s h = let e : None ≡ Some h.0 = sym (unread_missing rd s) ∙ h.1 in absurd cc
 
 -- the first of some children, and the others
@@ -86,7 +86,7 @@ module _ (rd : Bool) (i : ℕ) (s : shapes.Shape) where
   item_fails (None ∷ xs) m h f = record { key = Int i; part = s; node = uninitialized; child = IsChild.first; below = f }
   item_fails (Some n ∷ xs) m h f = record { key = Int i; part = s; node = n; child = IsChild.first; below = f }
 
-  item_more : {E : Type 0} (xs : List (Option Tree)) (r : Result (Option Mismatch) E) → 0 < length xs → IsRead rd s (or_missing (first_there xs)) → FindsAmong rd (item_children (i + 1) s (items_after xs)) r → FindsAmong rd (item_children i s xs) r
+  item_more : {E : Type 0} (xs : List (Option Tree)) (r : Result (Option Mismatch) E) → 0 < length xs → ReadsSome rd s (or_missing (first_there xs)) → FindsAmong rd (item_children (i + 1) s (items_after xs)) r → FindsAmong rd (item_children i s xs) r
   item_more [] r h read f = absurd (omega arith)
   item_more (None ∷ xs) r h read f = absurd (not_missing rd s read)
   item_more (Some n ∷ xs) r h read f = among_more rd ((Int i, s, n) ∷ []) (item_children (i + 1) s xs) r (read, tt) f
@@ -96,7 +96,7 @@ module _ (rd : Bool) (i : ℕ) (s : shapes.Shape) where
   part_fails ss (None ∷ xs) m f = record { key = Int i; part = s; node = uninitialized; child = IsChild.first; below = f }
   part_fails ss (Some n ∷ xs) m f = record { key = Int i; part = s; node = n; child = IsChild.first; below = f }
 
-  part_more : {E : Type 0} (ss : shapes.Shapes) (xs : List (Option Tree)) (r : Result (Option Mismatch) E) → IsRead rd s (or_missing (first_there xs)) → FindsAmong rd (tuple_children (i + 1) ss (items_after xs)) r
+  part_more : {E : Type 0} (ss : shapes.Shapes) (xs : List (Option Tree)) (r : Result (Option Mismatch) E) → ReadsSome rd s (or_missing (first_there xs)) → FindsAmong rd (tuple_children (i + 1) ss (items_after xs)) r
       → FindsAmong rd (tuple_children i (shapes.one_shape s ss) xs) r
   part_more ss [] r read f = absurd (not_missing rd s read)
   part_more ss (None ∷ xs) r read f = absurd (not_missing rd s read)
@@ -166,7 +166,7 @@ module _ {E : Type 0} (rd : Bool) (i : ℕ) (r : Result (Option Mismatch) E) whe
   pub pairs_fails : (s : shapes.Shape) (es : Entries) (x : Step × Tree) (m : Mismatch) → slice_get (entry_list es) i ≡ Some x → IsBelow rd x.0.seg s x.1 m → OneFails rd (pair_children s (entries_after i es)) m
   pairs_fails s es x m h f = subst (λ ys. OneFails rd (pair_children s ys) m) (sym (after_some i es x h)) (record { key = x.0.seg; part = s; node = x.1; child = IsChild.first; below = f })
 
-  pub pairs_more : (s : shapes.Shape) (es : Entries) (x : Step × Tree) → slice_get (entry_list es) i ≡ Some x → IsRead rd s x.1 → FindsAmong rd (pair_children s (entries_after (i + 1) es)) r → FindsAmong rd (pair_children s (entries_after i es)) r
+  pub pairs_more : (s : shapes.Shape) (es : Entries) (x : Step × Tree) → slice_get (entry_list es) i ≡ Some x → ReadsSome rd s x.1 → FindsAmong rd (pair_children s (entries_after (i + 1) es)) r → FindsAmong rd (pair_children s (entries_after i es)) r
   pairs_more s es x h read f = subst (λ ys. FindsAmong rd (pair_children s ys) r) (sym (after_some i es x h)) (among_more rd ((x.0.seg, s, x.1) ∷ []) (pair_children s (entries_after (i + 1) es)) r (read, tt) f)
 
   pub pairs_none : (s : shapes.Shape) (es : Entries) → slice_get (entry_list es) i ≡ None → AreRead rd (pair_children s (entries_after i es))

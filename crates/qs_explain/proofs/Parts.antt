@@ -16,9 +16,9 @@ use Rattle.qs_spec.specs.Tree.{Tree, IsTree}
 use Rattle.qs_explain.specs.declared.explanation.Explanation.TheVariants as e
 use Rattle.qs_spec.specs.Node.{IsFull}
 use Rattle.qs_explain.specs.Children.{Child, children}
-use Rattle.qs_explain.specs.Parts.{IsRead, IsChild, Part, Leads, AreRead}
+use Rattle.qs_explain.specs.Parts.{ReadsSome, IsChild, Part, IsPathTo, AreRead}
 use Rattle.qs_explain.specs.Explains.{Explains, IsMismatch, PartsAreRead, path_of, segment_of, IsProblem, Says}
-use Rattle.qs_explain.specs.internal.Finding.{Finds, FindsAmong, FindsInside, IsBelow, IsHere}
+use Rattle.qs_explain.specs.internal.Finding.{FindsMismatch, FindsAmong, FindsInside, IsBelow, IsHere}
 use Rattle.qs_explain.specs.declared.explanation.Mismatch.{Mismatch}
 use Rattle.qs_explain.specs.declared.expected.Expected.{Expected}
 use Rattle.qs_explain.specs.Expected.{expected_of}
@@ -29,7 +29,7 @@ no_child c _ e IsChild.first = absurd cc
 no_child c _ e (IsChild.later w) = absurd cc
 
 -- an option's part, where there is one, and that of a newtype
-pub newtype_parts : (rd : Bool) (s : Shape) (n : Tree) → IsRead rd s n → PartsAreRead rd (Shape.newtype s) n
+pub newtype_parts : (rd : Bool) (s : Shape) (n : Tree) → ReadsSome rd s n → PartsAreRead rd (Shape.newtype s) n
 newtype_parts rd s n h _ _ _ Part.newtype = h
 newtype_parts rd s n h _ _ _ (Part.child w) = absurd (no_child _ [] refl w)
 
@@ -41,12 +41,12 @@ pub uninitialized_parts : (rd : Bool) (s : Shape) → PartsAreRead rd (Shape.opt
 uninitialized_parts rd s _ _ _ (Part.option_full h) = absurd h
 uninitialized_parts rd s _ _ _ (Part.child w) = absurd (no_child _ [] refl w)
 
-pub null_parts : (rd : Bool) (s : Shape) → IsRead rd s (Tree.leaf NoValue) → PartsAreRead rd (Shape.option s) (Tree.leaf Null)
+pub null_parts : (rd : Bool) (s : Shape) → ReadsSome rd s (Tree.leaf NoValue) → PartsAreRead rd (Shape.option s) (Tree.leaf Null)
 null_parts rd s r _ _ _ Part.option_null = r
 null_parts rd s r _ _ _ (Part.option_full h) = absurd h
 null_parts rd s r _ _ _ (Part.child w) = absurd (no_child _ [] refl w)
 
-pub full_parts : (rd : Bool) (s : Shape) (n : Tree) → IsFull n → IsRead rd s n → PartsAreRead rd (Shape.option s) n
+pub full_parts : (rd : Bool) (s : Shape) (n : Tree) → IsFull n → ReadsSome rd s n → PartsAreRead rd (Shape.option s) n
 full_parts rd s _ f r _ _ _ Part.option_null = absurd f
 full_parts rd s n f r _ _ _ (Part.option_full h) = r
 full_parts rd s n f r _ _ _ (Part.child w) = absurd (no_child _ [] refl w)
@@ -57,7 +57,7 @@ is_wrapper (Shape.option s) = true
 is_wrapper (Shape.newtype s) = true
 is_wrapper _ = false
 
-child_read : (rd : Bool) (c : Child) (cs : List Child) → AreRead rd cs → IsChild c cs → IsRead rd c.1 c.2
+child_read : (rd : Bool) (c : Child) (cs : List Child) → AreRead rd cs → IsChild c cs → ReadsSome rd c.1 c.2
 child_read rd c _ all IsChild.first = all.0
 child_read rd c _ all (IsChild.later w) = child_read rd c _ all.1 w
 
@@ -78,7 +78,7 @@ pub found_within : (rd : Bool) (s part : Shape) (n node : Tree) (front : List Se
 found_within rd s part n node front m whole p h path problem = record {
   part = h.part;
   node = h.node;
-  leads = subst (λ x. Leads x s n h.part h.node) (sym path) (Leads.within p h.leads);
+  leads = subst (λ x. IsPathTo x s n h.part h.node) (sym path) (IsPathTo.within p h.leads);
   unread = h.unread;
   innermost = h.innermost;
   problem = subst (λ x. IsProblem x h.part h.node) (sym problem) h.problem;
@@ -112,28 +112,28 @@ pub mismatch_at : (rd : Bool) (unexpected : Option Segment) (expected : Expected
 mismatch_at rd unexpected expected s n m key kind unread innermost here = record {
   part = s;
   node = n;
-  leads = subst (λ xs. Leads (map segment_of xs) s n s n) (sym here.0) Leads.here;
+  leads = subst (λ xs. IsPathTo (map segment_of xs) s n s n) (sym here.0) IsPathTo.here;
   unread = unread;
   innermost = innermost;
   problem = subst (λ x. Says x (expected_of s) n m.problem) key (subst (λ x. Says unexpected x n m.problem) kind here.1);
 }
 
 -- what is found in the part is found in the whole, where the part is all that the whole has
-inside : {E : Type 0} (rd : Bool) (s part : Shape) (n node : Tree) (r : Result (Option Mismatch) E) → Part [] s n part node → (IsRead rd part node → PartsAreRead rd s n) → Finds rd part node r → FindsInside rd s n r
+inside : {E : Type 0} (rd : Bool) (s part : Shape) (n node : Tree) (r : Result (Option Mismatch) E) → Part [] s n part node → (ReadsSome rd part node → PartsAreRead rd s n) → FindsMismatch rd part node r → FindsInside rd s n r
 inside rd s part n node (Ok None) p all f = all f
 inside rd s part n node (Ok (Some m)) p all f = found_inside rd s part n node m p f.1
 inside rd s part n node (Err e) p all f = tt
 
-pub newtype_found : {E : Type 0} (rd : Bool) (s : Shape) (n : Tree) (r : Result (Option Mismatch) E) → Finds rd s n r → FindsInside rd (Shape.newtype s) n r
+pub newtype_found : {E : Type 0} (rd : Bool) (s : Shape) (n : Tree) (r : Result (Option Mismatch) E) → FindsMismatch rd s n r → FindsInside rd (Shape.newtype s) n r
 newtype_found rd s n r f = inside rd (Shape.newtype s) s n n r Part.newtype (newtype_parts rd s n) f
 
-pub null_found : {E : Type 0} (rd : Bool) (s : Shape) (r : Result (Option Mismatch) E) → Finds rd s (Tree.leaf NoValue) r → FindsInside rd (Shape.option s) (Tree.leaf Null) r
+pub null_found : {E : Type 0} (rd : Bool) (s : Shape) (r : Result (Option Mismatch) E) → FindsMismatch rd s (Tree.leaf NoValue) r → FindsInside rd (Shape.option s) (Tree.leaf Null) r
 null_found rd s r f = inside rd (Shape.option s) s (Tree.leaf Null) (Tree.leaf NoValue) r Part.option_null (null_parts rd s) f
 
-pub full_found : {E : Type 0} (rd : Bool) (s : Shape) (n : Tree) (r : Result (Option Mismatch) E) → IsFull n → Finds rd s n r → FindsInside rd (Shape.option s) n r
+pub full_found : {E : Type 0} (rd : Bool) (s : Shape) (n : Tree) (r : Result (Option Mismatch) E) → IsFull n → FindsMismatch rd s n r → FindsInside rd (Shape.option s) n r
 full_found rd s n r full f = inside rd (Shape.option s) s n n r (Part.option_full full) (full_parts rd s n full) f
 
-pub full_as : {E : Type 0} (rd : Bool) (s : Shape) (n m : Tree) (r : Result (Option Mismatch) E) → n ≡ m → IsFull m → Finds rd s n r → FindsInside rd (Shape.option s) n r
+pub full_as : {E : Type 0} (rd : Bool) (s : Shape) (n m : Tree) (r : Result (Option Mismatch) E) → n ≡ m → IsFull m → FindsMismatch rd s n r → FindsInside rd (Shape.option s) n r
 full_as rd s n m r e full f = full_found rd s n r (subst IsFull (sym e) full) f
 
 -- a text is full
@@ -142,7 +142,7 @@ text_full (Borrowed r) = let e : tree_of (value.String (Borrowed r)) ≡ Tree.le
 text_full (Owned v) = let e : tree_of (value.String (Owned v)) ≡ Tree.leaf (Text v.items true) = search (rules, value.the_lemmas) in subst IsFull (sym e) tt
 
 -- what is found in the tree of an input explains it
-pub is_read_from : (config : Config) (s : Shape) (input : List ℕ) (n : Tree) → IsTree config.form config.max_depth input n → IsRead (are_rejected config.duplicates) s n → Explains {E = AllocError} config s input (Ok None)
+pub is_read_from : (config : Config) (s : Shape) (input : List ℕ) (n : Tree) → IsTree config.form config.max_depth input n → ReadsSome (are_rejected config.duplicates) s n → Explains {E = AllocError} config s input (Ok None)
 is_read_from config s input n tree read = (n, tree, read)
 
 pub is_explained : (config : Config) (s : Shape) (input : List ℕ) (n : Tree) (m : Mismatch) → IsTree config.form config.max_depth input n → (reads (are_rejected config.duplicates) s n ≡ None) × IsMismatch (are_rejected config.duplicates) s n m

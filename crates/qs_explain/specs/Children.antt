@@ -64,13 +64,13 @@ map_children s (leaf (Text bytes mark)) = pair_children s (under_empty (leaf (Te
 map_children s (mapping es) = pair_children s es
 map_children s _ = []
 
-abbrev pub is_text : Tree → Bool
-is_text (leaf (Text bytes mark)) = true
-is_text _ = false
+abbrev pub is_text_leaf : Tree → Bool
+is_text_leaf (leaf (Text bytes mark)) = true
+is_text_leaf _ = false
 
 -- what a variant's fields are read from, unless it is a text, which counts as a map that isn't in the tree
 abbrev pub held_fields : Segment → UnknownKeys → Fields → Tree → List Child
-held_fields key u fs n = cond (is_text n) [] ((key, Shape.struct u fs, n) ∷ [])
+held_fields key u fs n = cond (is_text_leaf n) [] ((key, Shape.struct u fs, n) ∷ [])
 
 -- what a variant holds, under its name: a value, a tuple or fields
 abbrev pub held_children : Segment → VariantKind → Tree → List Child

@@ -1,10 +1,12 @@
 -- What an explanation says of an input.
 use Rattle.std.specs.Prelude.{◌≡◌, ⊤, ℕ, Bool, List, map, Option, Some, None, Result, Ok, Err}
 use Rattle.qs_spec.specs.Config.{Config, are_rejected}
+use Rattle.qs_spec.specs.Data.{Data}
+use Rattle.qs_spec.specs.Relation.{ReadsBy, ReadsNothing}
 use Rattle.qs_spec.specs.Segment as segments
 use Rattle.qs_spec.specs.Shape.{Shape}
 use Rattle.qs_spec.specs.Tree.{Tree, IsTree, IsRefused}
-use Rattle.qs_spec.specs.internal.ReadFunction.{reads}
+use Rattle.qs_data.specs.read.Reads.{reads}
 use Rattle.qs_tree.specs.declared.error.Error.{Error}
 use Rattle.qs_tree.specs.declared.error.Error.TheVariants.{Parse}
 use Rattle.qs_explain.specs.declared.segment.Segment.{Segment}
@@ -17,7 +19,7 @@ use Rattle.qs_explain.specs.declared.explanation.Problem.TheVariants.{Unfit, Une
 use Rattle.qs_explain.specs.declared.expected.Expected.{Expected}
 use Rattle.qs_explain.specs.Expected.{expected_of, Stands}
 use Rattle.qs_explain.specs.Unexpected.{unexpected_key}
-use Rattle.qs_explain.specs.Parts.{IsRead, Part, Leads}
+use Rattle.qs_explain.specs.Parts.{ReadsSome, Part, IsPathTo}
 
 abbrev pub segment_of : Segment → segments.Segment
 segment_of (Index i) = segments.Segment.Int i
@@ -38,13 +40,13 @@ IsProblem p s n = Says (unexpected_key s n) (expected_of s) n p
 
 -- every part of the node is read by its shape
 abbrev pub PartsAreRead : Bool → Shape → Tree → Type 0
-PartsAreRead reject_duplicates s n = (front : List segments.Segment) (part : Shape) (node : Tree) → Part front s n part node → IsRead reject_duplicates part node
+PartsAreRead reject_duplicates s n = (front : List segments.Segment) (part : Shape) (node : Tree) → Part front s n part node → ReadsSome reject_duplicates part node
 
 -- The path leads to a part that isn't read, though every part of it is, and the problem is one of that part.
 pub record IsMismatch (reject_duplicates : Bool) (s : Shape) (n : Tree) (m : Mismatch) : Type 0 where
   pub part : Shape
   pub node : Tree
-  pub leads : Leads (path_of m) s n part node
+  pub leads : IsPathTo (path_of m) s n part node
   pub unread : reads reject_duplicates part node ≡ None
   pub innermost : PartsAreRead reject_duplicates part node
   pub problem : IsProblem m.problem part node
@@ -56,7 +58,14 @@ IsParseError _ = ⊥
 
 -- There is an explanation exactly where the input isn't read: it has no tree, or the shape reads nothing from its tree.
 abbrev pub Explains : {E : Type 0} → Config → Shape → List ℕ → Result (Option Explanation) E → Type 0
-Explains config s input (Ok None) = (n : Tree) × IsTree config.form config.max_depth input n × IsRead (are_rejected config.duplicates) s n
+Explains config s input (Ok None) = (n : Tree) × IsTree config.form config.max_depth input n × ReadsSome (are_rejected config.duplicates) s n
 Explains config s input (Ok (Some (e.Syntax error))) = IsRefused config.form config.max_depth input × IsParseError error
 Explains config s input (Ok (Some (e.Mismatch m))) = (n : Tree) × IsTree config.form config.max_depth input n × (reads (are_rejected config.duplicates) s n ≡ None) × IsMismatch (are_rejected config.duplicates) s n m
 Explains config s input (Err e) = ⊤
+
+-- The same by the relation: no explanation where the shape relates the input's tree to some data, and one where it relates it to none.
+abbrev pub ExplainsUnread : {E : Type 0} → Config → Shape → List ℕ → Result (Option Explanation) E → Type 0
+ExplainsUnread config s input (Ok None) = (n : Tree) × IsTree config.form config.max_depth input n × (d : Data) × ReadsBy config s n d
+ExplainsUnread config s input (Ok (Some (e.Syntax error))) = IsRefused config.form config.max_depth input
+ExplainsUnread config s input (Ok (Some (e.Mismatch m))) = (n : Tree) × IsTree config.form config.max_depth input n × ReadsNothing config s n
+ExplainsUnread config s input (Err e) = ⊤

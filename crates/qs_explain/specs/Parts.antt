@@ -6,12 +6,12 @@ use Rattle.qs_spec.specs.Data.{Data}
 use Rattle.qs_spec.specs.Shape.{Shape}
 use Rattle.qs_spec.specs.Tree.{Tree}
 use Rattle.qs_spec.specs.Node.{IsFull}
-use Rattle.qs_spec.specs.internal.ReadFunction.{reads}
+use Rattle.qs_data.specs.read.Reads.{reads}
 use Rattle.qs_explain.specs.Children.{Child, children}
 
 -- The shape reads something from the node.
-abbrev pub IsRead : Bool → Shape → Tree → Type 0
-IsRead reject_duplicates s n = (d : Data) × (reads reject_duplicates s n ≡ Some d)
+abbrev pub ReadsSome : Bool → Shape → Tree → Type 0
+ReadsSome reject_duplicates s n = (d : Data) × (reads reject_duplicates s n ≡ Some d)
 
 -- one of the children
 pub data IsChild (c : Child) : List Child → Type 0 where
@@ -26,11 +26,11 @@ pub data Part : List Segment → Shape → Tree → Shape → Tree → Type 0 wh
   child : {key : Segment} {s part : Shape} {n node : Tree} → IsChild (key, part, node) (children s n) → Part (key ∷ []) s n part node
 
 -- The path leads from a shape and a node to a part of a part .., and the shape that it is read by.
-pub data Leads : List Segment → Shape → Tree → Shape → Tree → Type 0 where
-  here : {s : Shape} {n : Tree} → Leads [] s n s n
-  within : {front path : List Segment} {s part last : Shape} {n node leaf : Tree} → Part front s n part node → Leads path part node last leaf → Leads (front ++ path) s n last leaf
+pub data IsPathTo : List Segment → Shape → Tree → Shape → Tree → Type 0 where
+  here : {s : Shape} {n : Tree} → IsPathTo [] s n s n
+  within : {front path : List Segment} {s part last : Shape} {n node leaf : Tree} → Part front s n part node → IsPathTo path part node last leaf → IsPathTo (front ++ path) s n last leaf
 
 -- each child is read by its shape
 abbrev pub AreRead : Bool → List Child → Type 0
 AreRead reject_duplicates [] = ⊤
-AreRead reject_duplicates (c ∷ cs) = IsRead reject_duplicates c.1 c.2 × AreRead reject_duplicates cs
+AreRead reject_duplicates (c ∷ cs) = ReadsSome reject_duplicates c.1 c.2 × AreRead reject_duplicates cs

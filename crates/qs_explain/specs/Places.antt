@@ -6,8 +6,8 @@ use Rattle.qs_explain.specs.declared.place.Place.{Place}
 use Rattle.qs_explain.specs.declared.place.Place.TheVariants.{Root, Inside, After, LastFirst, Last, Value}
 
 -- what a byte is after two others; in form mode the last byte of `%5B` or `%5D` is a bracket
-abbrev pub kind_of : Bool → ℕ → ℕ → ℕ → Kind
-kind_of form b c e =
+abbrev pub kind_after : Bool → ℕ → ℕ → ℕ → Kind
+kind_after form b c e =
     if e == 38 then Ampersand else (if e == 61 then Equals
     else (if e == 91 || ((form && (b == 37 && c == 53)) && e == 66) then Open
     else (if e == 93 || ((form && (b == 37 && c == 53)) && e == 68) then Close else Other)))
@@ -49,7 +49,7 @@ next_place depth Value _ = Value
 abbrev pub start_from : Bool → ℕ → Place → (n start b c : ℕ) → List ℕ → ℕ
 start_from form depth place n start b c [] = start
 start_from form depth place n start b c (e ∷ rest) =
-    start_from form depth (next_place depth place (kind_of form b c e)) (n + 1) (if begins_after place (kind_of form b c e) then n + 1 else start) c e rest
+    start_from form depth (next_place depth place (kind_after form b c e)) (n + 1) (if begins_after place (kind_after form b c e) then n + 1 else start) c e rest
 
 -- the same of a whole input
 abbrev pub pair_start : Bool → ℕ → List ℕ → ℕ

@@ -5,7 +5,7 @@ ghost use Rattle.qs_spec.specs.Segment.Segment.{Int, Str};
 ghost use Rattle.qs_tree.specs.tree.Views.{tree_of, segment_of_key};
 ghost use Rattle.qs_data.specs.shape.Views.{shape_of};
 ghost use Rattle.qs_explain.specs.Children.{or_missing};
-ghost use Rattle.qs_explain.specs.internal.Finding.{Finds, FindsBelow, node_of};
+ghost use Rattle.qs_explain.specs.internal.Finding.{FindsMismatch, FindsBelow, node_of};
 
 use crate::explanation::Mismatch;
 use crate::segment::Segment;
@@ -22,7 +22,7 @@ fn find_in_node(
     shape: &Shape,
     node: Option<&ParsedValue<'_>>,
 ) -> Result<Option<Mismatch>, AllocError>
-    ensures { Finds (are_rejected config.duplicates) (shape_of shape.now) (or_missing (node_of node.entry)) result }
+    ensures { FindsMismatch (are_rejected config.duplicates) (shape_of shape.now) (or_missing (node_of node.entry)) result }
 {
     match node {
         Some(node) => find_mismatch(alloc, config, shape, node),

@@ -7,7 +7,7 @@ ghost use Rattle.qs_spec.specs.Tree.Tree.{mapping};
 ghost use Rattle.qs_spec.specs.internal.ReadFunction.{reads, reads_kind};
 ghost use Rattle.qs_tree.specs.tree.Views.{tree_of, entries_of_map, segment_of_key};
 ghost use Rattle.qs_data.specs.shape.Views.{fields_in, kind_of, shapes_in, variants_in};
-ghost use Rattle.qs_explain.specs.Children.{enum_children, held_children, held_fields, is_text};
+ghost use Rattle.qs_explain.specs.Children.{enum_children, held_children, held_fields, is_text_leaf};
 ghost use Rattle.qs_explain.specs.Explains.{IsMismatch, path_of};
 ghost use Rattle.qs_explain.specs.internal.Finding.{FindsAmong};
 ghost use Rattle.qs_explain.specs.Unexpected.{unknown_of};
@@ -108,7 +108,7 @@ fn find_in_held_fields(
     requires { reads_kind (are_rejected config.duplicates) (s.struct_kind (unknown_of unknown) (fields_in fields.now.items)) [] (tree_of value.now) ≡ None }
     ensures { FindsAmong (are_rejected config.duplicates) (held_fields (segment_of_key key.now) (unknown_of unknown) (fields_in fields.now.items) (tree_of value.now)) result }
 {
-    if is_text(value) {
+    if is_text_leaf(value) {
         return Ok(None);
     }
     let mismatch = find_in_held_struct(alloc, config, unknown, fields, value)?;
@@ -116,8 +116,8 @@ fn find_in_held_fields(
 }
 
 // Whether the node is a text.
-fn is_text(value: &ParsedValue<'_>) -> bool
-    ensures { result ≡ is_text (tree_of value.now) }
+fn is_text_leaf(value: &ParsedValue<'_>) -> bool
+    ensures { result ≡ is_text_leaf (tree_of value.now) }
 {
     match value {
         ParsedValue::String(_) => true,

@@ -1,7 +1,9 @@
 //! Explaining why an input isn't read.
 
+ghost use Rattle.std.specs.Prelude.{◌≡◌, true};
+ghost use Rattle.qs_spec.specs.Shape.{is_distinct};
 ghost use Rattle.qs_data.specs.shape.Views.{shape_of};
-ghost use Rattle.qs_explain.specs.Explains.{Explains};
+ghost use Rattle.qs_explain.specs.Explains.{Explains, ExplainsUnread};
 
 use crate::explanation::Explanation;
 use crate::walk::find_mismatch;
@@ -18,8 +20,21 @@ use std::alloc::{AllocError, Global};
 /// ```
 /// let explained = explain(alloc, Config::new(), &shape, b"ids[]=1&ids[]=x")?; // ids[1]: expected u8, found the text "x"
 /// ```
-#[tactic(auto, using(crate::proofs::Parts::explained))]
 pub fn explain(
+    alloc: Global,
+    config: Config,
+    shape: &Shape,
+    input: &[u8],
+) -> Result<Option<Explanation>, AllocError>
+    ensures exact { Explains config (shape_of shape.now) input.now result }
+    ensures related { is_distinct (shape_of shape.now) ≡ true → ExplainsUnread config (shape_of shape.now) input.now result }
+{
+    find_explanation(alloc, config, shape, input)
+}
+
+// The explanation, if the input isn't read.
+#[tactic(auto, using(crate::proofs::Parts::explained))]
+fn find_explanation(
     alloc: Global,
     config: Config,
     shape: &Shape,

@@ -1,7 +1,7 @@
 //! Where the bytes of an input stand in its pairs.
 
 ghost use Rattle.std.specs.Prelude.{◌≡◌, ◌≤◌, length};
-ghost use Rattle.qs_explain.specs.Places.{begins_after, kind_of, next_place, opened, pair_start};
+ghost use Rattle.qs_explain.specs.Places.{begins_after, kind_after, next_place, opened, pair_start};
 
 /// What a byte is, with the two before it.
 #[derive(Clone, Copy, PartialEq, Eq)]
@@ -39,7 +39,7 @@ pub(crate) fn find_start(form: bool, max_depth: usize, input: &[u8]) -> usize
     let mut start = 0;
     let mut before = (0u8, 0u8);
     for (at, byte) in input.iter().enumerate() {
-        let kind = kind_of(form, before.0, before.1, *byte);
+        let kind = kind_after(form, before.0, before.1, *byte);
         if begins_after(place, kind) {
             start = at + 1;
         }
@@ -50,8 +50,8 @@ pub(crate) fn find_start(form: bool, max_depth: usize, input: &[u8]) -> usize
 }
 
 // What a byte is. In form mode the last byte of `%5B` or `%5D` is a bracket.
-fn kind_of(form: bool, percent: u8, five: u8, byte: u8) -> Kind
-    ensures { result ≡ kind_of form percent five byte }
+fn kind_after(form: bool, percent: u8, five: u8, byte: u8) -> Kind
+    ensures { result ≡ kind_after form percent five byte }
 {
     let is_escape = form && percent == b'%' && five == b'5';
     if byte == b'&' {

@@ -6,7 +6,7 @@ ghost use Rattle.qs_tree.specs.tree.Views.{tree_of};
 ghost use Rattle.qs_spec.specs.Shape as s;
 ghost use Rattle.qs_data.specs.shape.Views.{shape_of};
 ghost use Rattle.qs_explain.specs.Explains.{segment_of};
-ghost use Rattle.qs_explain.specs.internal.Finding.{Finds, FindsInside, IsHere, Tests};
+ghost use Rattle.qs_explain.specs.internal.Finding.{FindsMismatch, FindsInside, IsHere, Tests};
 ghost use Rattle.qs_spec.specs.internal.ReadFunction.{reads};
 ghost use Rattle.std.specs.Prelude.{◌≡◌, None};
 
@@ -31,7 +31,7 @@ pub(crate) fn find_mismatch(
     shape: &Shape,
     node: &ParsedValue<'_>,
 ) -> Result<Option<Mismatch>, AllocError>
-    ensures { Finds (are_rejected config.duplicates) (shape_of shape.now) (tree_of node.now) result }
+    ensures { FindsMismatch (are_rejected config.duplicates) (shape_of shape.now) (tree_of node.now) result }
 {
     if is_read(alloc, config, shape, node)? {
         return Ok(None);

@@ -35,7 +35,7 @@ pub fn printed(alloc: Global, request: Request, input: &[u8]) -> Result<Vec<u8>>
 fn parsed<'qs>(alloc: Global, config: Config, input: &'qs [u8]) -> Result<Deserializer<'qs>>
     ensures config { IfOk result (λ d. (parsed_of d).config ≡ config) }
     ensures tree { IfOk result (λ d. IsTree config.form config.max_depth input.now (parsed_of d).tree) }
-    ensures refused { IsParse result → IsRefused config.form config.max_depth input.now }
+    ensures no_tree { IsParse result → IsRefused config.form config.max_depth input.now }
     ensures errors { OnlyParseOrOutOfMemory result }
 {
     Deserializer::with_config(alloc, config, input)

@@ -14,11 +14,12 @@ use Rattle.qs_spec.specs.Node.{found}
 use Rattle.qs_spec.specs.internal.ReadFunction.{Reader, reads, reads_names, reads_places, read_field, read_place, items_after, with_field, with_front}
 use Rattle.qs_tree.specs.declared.error.Error.{Error}
 use Rattle.qs_data.specs.read.Gives.{Gives, Rejects}
-use Rattle.qs_data.specs.read.Text.{is_text, items_are_text}
+use Rattle.qs_data.specs.read.TreeText.{is_text, items_are_text}
 use Rattle.qs_data.proofs.lemmas.read.Errors.{and_right, gives_exit}
 use Rattle.serde_qs.specs.Defaulted.{defaulted_in}
 use Rattle.serde_qs.specs.Meaning.{both}
-use Rattle.serde_qs.specs.Nodes.{by_names, by_places, missing_data, value_found, value_placed}
+use Rattle.serde_qs.specs.Nodes.{by_names, by_places, missing_data}
+use Rattle.serde_qs.specs.internal.NodeParts.{value_found, value_placed}
 use Rattle.serde_qs.specs.Optional.{is_first_named, optional_in}
 use Rattle.serde_qs.specs.Records.{field_form, first_of, member_in, others_of}
 use Rattle.serde_qs.specs.internal.Booleans.{both_hold}

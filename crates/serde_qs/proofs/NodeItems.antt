@@ -10,16 +10,16 @@ use Rattle.qs_spec.specs.Node.{items}
 use Rattle.qs_spec.specs.internal.ReadFunction.{Reader, read_each, read_list, reads, with_front}
 use Rattle.qs_data.specs.read.Items.{first_item}
 use Rattle.qs_data.proofs.lemmas.read.Items.{first_some}
-use Rattle.serde_qs.specs.Meaning.{sequence_in, values_in}
-use Rattle.serde_qs.specs.Nodes.{each_value}
+use Rattle.serde_qs.specs.Meaning.{sequence_in, values_meant}
+use Rattle.serde_qs.specs.internal.NodeParts.{each_value}
 use Rattle.serde_qs.proofs.Steps.{before, before-front}
 
 module _ {V : Type 0} (m : Data → Option V) (r : Reader) where
   abbrev value_at : Tree → Option V
   value_at t = option_and_then m (r t)
 
-  one_more : (x : Option Data) (rest : Option (List Data)) (more : Option (List V)) → option_and_then (λ ds. values_in m (values_of ds)) rest ≡ more
-      → option_and_then (λ ds. values_in m (values_of ds)) (option_and_then (λ e. with_front e rest) x) ≡ option_and_then (λ v. option_map (λ vs. v ∷ vs) more) (option_and_then m x)
+  one_more : (x : Option Data) (rest : Option (List Data)) (more : Option (List V)) → option_and_then (λ ds. values_meant m (values_of ds)) rest ≡ more
+      → option_and_then (λ ds. values_meant m (values_of ds)) (option_and_then (λ e. with_front e rest) x) ≡ option_and_then (λ v. option_map (λ vs. v ∷ vs) more) (option_and_then m x)
   one_more None rest more h = refl
   one_more (Some e) (Some ds) more h = ap (λ y. option_and_then (λ v. option_map (λ vs. v ∷ vs) y) (m e)) h
   one_more (Some e) None more h = sym (nowhere (m e)) ∙ ap (λ y. option_and_then (λ v. option_map (λ vs. v ∷ vs) y) (m e)) h
@@ -32,17 +32,17 @@ module _ {V : Type 0} (m : Data → Option V) (r : Reader) where
   due None = refl
   due (Some t) = refl
 
-  each_meant : (xs : List (Option Tree)) → option_and_then (λ ds. values_in m (values_of ds)) (read_each r xs) ≡ each_value value_at xs
+  each_meant : (xs : List (Option Tree)) → option_and_then (λ ds. values_meant m (values_of ds)) (read_each r xs) ≡ each_value value_at xs
   each_meant [] = refl
   each_meant (x ∷ xs) =
       one_more (option_and_then r x) (read_each r xs) (each_value value_at xs) (each_meant xs)
       ∙ ap (λ o. option_and_then (λ v. option_map (λ vs. v ∷ vs) (each_value value_at xs)) o) (due x)
 
-  all_meant : (xs : Option (List (Option Tree))) → option_and_then (λ ds. values_in m (values_of ds)) (option_and_then (read_each r) xs) ≡ option_and_then (each_value value_at) xs
+  all_meant : (xs : Option (List (Option Tree))) → option_and_then (λ ds. values_meant m (values_of ds)) (option_and_then (read_each r) xs) ≡ option_and_then (each_value value_at) xs
   all_meant None = refl
   all_meant (Some xs) = each_meant xs
 
-  in_sequence : (o : Option (List Data)) → option_and_then (sequence_in m) (option_map (λ ds. d.sequence (values_of ds)) o) ≡ option_and_then (λ ds. values_in m (values_of ds)) o
+  in_sequence : (o : Option (List Data)) → option_and_then (sequence_in m) (option_map (λ ds. d.sequence (values_of ds)) o) ≡ option_and_then (λ ds. values_meant m (values_of ds)) o
   in_sequence None = refl
   in_sequence (Some ds) = refl
 
@@ -72,8 +72,8 @@ module _ {V : Type 0} (r : Tree → Option V) (xs : List (Option Tree)) (i : ℕ
       ap (λ ys. before ws (each_value r ys)) (first_some xs i t h)
       ∙ ap (λ o. before ws (option_and_then (λ x. option_map (λ vs. x ∷ vs) (each_value r (drop (i + 1) xs))) o)) g
 
-  pub value_refused : first_item (drop i xs) ≡ None → before ws (each_value r (drop i xs)) ≡ None
-  value_refused h = ap (before ws) (by (drop i xs) h)
+  pub value_rejected : first_item (drop i xs) ≡ None → before ws (each_value r (drop i xs)) ≡ None
+  value_rejected h = ap (before ws) (by (drop i xs) h)
     where
       by : (ys : List (Option Tree)) → first_item ys ≡ None → each_value r ys ≡ None
       by [] h = absurd cc

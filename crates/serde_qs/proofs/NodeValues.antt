@@ -13,10 +13,11 @@ use Rattle.qs_tree.specs.declared.error.Error.{Error}
 use Rattle.qs_tree.specs.declared.error.Error.TheVariants as e
 use Rattle.qs_data.specs.read.Errors.{IsCustomOrOutOfMemory, OnlyCustomUtf8OrOutOfMemory}
 use Rattle.qs_data.specs.read.Gives.{Gives, Rejects}
-use Rattle.qs_data.specs.read.Text.{entries_are_text, is_text}
+use Rattle.qs_data.specs.read.TreeText.{entries_are_text, is_text}
 use Rattle.qs_data.proofs.lemmas.read.Entries.{keys_bad}
 use Rattle.qs_data.proofs.lemmas.read.Errors.{custom, rejected}
-use Rattle.serde_qs.specs.Nodes.{by_names, members_read, names_read, value_found}
+use Rattle.serde_qs.specs.Nodes.{by_names}
+use Rattle.serde_qs.specs.internal.NodeParts.{members_read, names_read, value_found}
 use Rattle.serde_qs.specs.Records.{struct_in}
 use Rattle.serde_qs.specs.Typed.{Means}
 

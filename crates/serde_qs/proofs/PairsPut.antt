@@ -13,14 +13,14 @@ use Rattle.std.proofs.lemmas.Map.Text.{btree_map_updates_text}
 use mathlib.Core.Path.{fun_ext}
 use Rattle.qs_spec.specs.Data as d
 use Rattle.qs_spec.specs.Data.{Data}
-use Rattle.serde_qs.specs.Maps.{values_by_text, put_value, pair_onto, nowhere}
+use Rattle.serde_qs.specs.Maps.{values_by_text, with_value, pair_onto, nowhere}
 
 option_of_cond : {A V : Type 0} (value : A → V) (b : Bool) (v : A) (r : Option A) → option_map value (cond b (Some v) r) ≡ cond b (Some (value v)) (option_map value r)
 option_of_cond value true v r = refl
 option_of_cond value false v r = refl
 
 pub values_put : {A V : Type 0} (value : A → V) (old new : BTreeMap (String Global) A) (k : List ℕ) (v : A) → UpdatesBy string_cmp (λ q. slice_cmp nat_cmp k (string_bytes q)) old new (Some v)
-    → values_by_text value new ≡ put_value k (value v) (values_by_text value old)
+    → values_by_text value new ≡ with_value k (value v) (values_by_text value old)
 values_put value old new k v updates =
     fun_ext (λ t. ap (option_map value) (btree_map_updates_text k old new (Some v) updates t) ∙ option_of_cond value (bytes_eq k t) v (get_by_text old t))
 
@@ -28,7 +28,7 @@ pub pair_put : {A V : Type 0} (m : Data → Option V) (value : A → V) (old new
     → m x ≡ Some (value v) → UpdatesBy string_cmp (λ q. slice_cmp nat_cmp k (string_bytes q)) old new (Some v)
     → pair_onto m (values_by_text value old) (d.text k) x ≡ Some (values_by_text value new)
 pair_put m value old new k v x means updates =
-    ap (option_map (λ w. put_value k w (values_by_text value old))) means ∙ ap Some (sym (values_put value old new k v updates))
+    ap (option_map (λ w. with_value k w (values_by_text value old))) means ∙ ap Some (sym (values_put value old new k v updates))
 
 pub values_none : {A V : Type 0} (value : A → V) (m : BTreeMap (String Global) A) → m.entries ≡ [] → nowhere ≡ values_by_text value m
 values_none value m e = fun_ext (λ t. ap (λ es. option_map value (lookup (is_at (λ k. slice_cmp nat_cmp t (string_bytes k))) es)) (sym e))

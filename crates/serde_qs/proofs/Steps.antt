@@ -6,7 +6,7 @@ use Rattle.qs_spec.specs.Data.{Data, Values}
 use Rattle.qs_tree.specs.declared.error.Error.{Error}
 use Rattle.qs_tree.specs.declared.error.Error.TheVariants as e
 use Rattle.qs_data.specs.read.Gives.{Rejects}
-use Rattle.serde_qs.specs.Meaning.{values_in}
+use Rattle.serde_qs.specs.Meaning.{values_meant}
 
 -- what was taken, in front of what is taken of the rest
 abbrev pub before : {A : Type 0} → List A → Option (List A) → Option (List A)
@@ -22,13 +22,13 @@ before-front xs x (Some ys) = ap Some (sym (append_assoc xs (x ∷ []) ys))
 
 -- one more value
 pub before-part : {A : Type 0} (m : Data → Option A) (xs : List A) (d : Data) (ds : Values) (x : A) → m d ≡ Some x
-    → before xs (values_in m (v.one_value d ds)) ≡ before (xs ++ x ∷ []) (values_in m ds)
+    → before xs (values_meant m (v.one_value d ds)) ≡ before (xs ++ x ∷ []) (values_meant m ds)
 before-part m xs d ds x h =
-    ap (λ r. before xs (option_and_then (λ y. option_map (λ ys. y ∷ ys) (values_in m ds)) r)) h ∙ before-front xs x (values_in m ds)
+    ap (λ r. before xs (option_and_then (λ y. option_map (λ ys. y ∷ ys) (values_meant m ds)) r)) h ∙ before-front xs x (values_meant m ds)
 
 -- a part that means nothing
-pub no-part : {A : Type 0} (m : Data → Option A) (xs : List A) (d : Data) (ds : Values) → m d ≡ None → before xs (values_in m (v.one_value d ds)) ≡ None
-no-part m xs d ds h = ap (λ r. before xs (option_and_then (λ y. option_map (λ ys. y ∷ ys) (values_in m ds)) r)) h
+pub no-part : {A : Type 0} (m : Data → Option A) (xs : List A) (d : Data) (ds : Values) → m d ≡ None → before xs (values_meant m (v.one_value d ds)) ≡ None
+no-part m xs d ds h = ap (λ r. before xs (option_and_then (λ y. option_map (λ ys. y ∷ ys) (values_meant m ds)) r)) h
 
 -- the fault of a part is one of the whole, where the whole means nothing without it
 pub fault_of_part : {A B : Type 0} (b : Bool) (x : Error) (r : Option A) (s : Option B) → (r ≡ None → s ≡ None) → Rejects b x r → Rejects b x s

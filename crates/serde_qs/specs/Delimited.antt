@@ -23,10 +23,10 @@ pub record IsPiece (delimiter : ℕ) (t : List ℕ) : Type 0 where
   pub some : 0 < length t
 
 -- the item's text is such a piece, and is parsed as what the item holds
-pub record ItemComesBack {A V : Type 0} (meaning : List ℕ → Option V) (printed : A → List ℕ) (value : A → V) (delimiter : ℕ) (x : A) : Type 0 where
+pub record NumberComesBack {A V : Type 0} (meaning : List ℕ → Option V) (printed : A → List ℕ) (value : A → V) (delimiter : ℕ) (x : A) : Type 0 where
   pub back : meaning (printed x) ≡ Some (value x)
   pub piece : IsPiece delimiter (printed x)
 
 -- each item in range comes back, whatever delimiter of numbers follows it
-abbrev pub ItemsComeBack : {A V : Type 0} → (A → Bool) → (List ℕ → Option V) → (A → List ℕ) → (A → V) → Type 0
-ItemsComeBack {A} in_range meaning printed value = (delimiter : ℕ) (x : A) → is_number_delimiter delimiter ≡ true → in_range x ≡ true → ItemComesBack meaning printed value delimiter x
+abbrev pub NumbersComeBack : {A V : Type 0} → (A → Bool) → (List ℕ → Option V) → (A → List ℕ) → (A → V) → Type 0
+NumbersComeBack {A} in_range meaning printed value = (delimiter : ℕ) (x : A) → is_number_delimiter delimiter ≡ true → in_range x ≡ true → NumberComesBack meaning printed value delimiter x

@@ -42,12 +42,12 @@ option_in m none = Some None
 option_in m (some d) = option_map Some (m d)
 option_in m _ = None
 
-abbrev pub values_in : {A : Type 0} → (Data → Option A) → Values → Option (List A)
-values_in m no_values = Some []
-values_in m (one_value d ds) = option_and_then (λ x. option_map (λ xs. x ∷ xs) (values_in m ds)) (m d)
+abbrev pub values_meant : {A : Type 0} → (Data → Option A) → Values → Option (List A)
+values_meant m no_values = Some []
+values_meant m (one_value d ds) = option_and_then (λ x. option_map (λ xs. x ∷ xs) (values_meant m ds)) (m d)
 
 abbrev pub sequence_in : {A : Type 0} → (Data → Option A) → Data → Option (List A)
-sequence_in m (sequence ds) = values_in m ds
+sequence_in m (sequence ds) = values_meant m ds
 sequence_in m _ = None
 
 abbrev pub newtype_in : {A : Type 0} → (Data → Option A) → Data → Option A

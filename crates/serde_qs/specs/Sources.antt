@@ -4,8 +4,8 @@ use Rattle.qs_tree.specs.declared.error.Error.{Error}
 use Rattle.qs_tree.specs.tree.Views.{tree_of}
 use Rattle.qs_data.specs.data.Views.{data_of}
 use Rattle.qs_data.specs.read.Gives.{Gives}
-use Rattle.qs_data.specs.read.Text.{is_text}
-use Rattle.qs_spec.specs.internal.ReadFunction.{reads}
+use Rattle.qs_data.specs.read.TreeText.{is_text}
+use Rattle.qs_data.specs.read.Reads.{reads}
 use Rattle.qs_spec.specs.Data.{Data}
 use Rattle.qs_spec.specs.Shape.{Shape}
 use Rattle.serde_qs.specs.declared.compound.source.Source.{Source}

@@ -11,7 +11,7 @@ use Rattle.qs_spec.specs.Shape as s
 use Rattle.qs_spec.specs.Shape.{Shape, is_distinct}
 use Rattle.serde_qs.specs.ComesBack.{ComesBack}
 use Rattle.serde_qs.specs.Compound.{data_by}
-use Rattle.serde_qs.specs.Delimited.{ItemsComeBack, is_number_delimiter, list_data}
+use Rattle.serde_qs.specs.Delimited.{NumbersComeBack, is_number_delimiter, list_data}
 use Rattle.serde_qs.specs.Items.{list_in}
 use Rattle.serde_qs.specs.Maps.{entry_data, mapping_in, values_by_text}
 use Rattle.serde_qs.specs.Meaning.{option_data, option_in, sequence_in}
@@ -64,9 +64,9 @@ pub record Numbers (A : Type 0) : Type 1 where
   pub in_range : A → Bool
   pub printed : A → List ℕ
   pub meaning : List ℕ → Option Value
-  pub come_back : ItemsComeBack in_range meaning printed value
+  pub come_back : NumbersComeBack in_range meaning printed value
 
-abbrev pub numbers_of : {A V : Type 0} (value : A → V) (in_range : A → Bool) (printed : A → List ℕ) (meaning : List ℕ → Option V) → ItemsComeBack in_range meaning printed value → Numbers A
+abbrev pub numbers_of : {A V : Type 0} (value : A → V) (in_range : A → Bool) (printed : A → List ℕ) (meaning : List ℕ → Option V) → NumbersComeBack in_range meaning printed value → Numbers A
 numbers_of {A} {V} value in_range printed meaning back = record { Value = V; value = value; in_range = in_range; printed = printed; meaning = meaning; come_back = back }
 
 abbrev pub delimited_table : {A D : Type 0} → Numbers A → (delimiter : ℕ) → is_number_delimiter delimiter ≡ true → Table (Delimited A D)

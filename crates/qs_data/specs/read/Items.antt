@@ -5,7 +5,7 @@ use Rattle.qs_spec.specs.Node.{sequence_items, placed}
 use Rattle.qs_tree.specs.tree.Views.{tree_of, items_from, entries_of_map}
 use Rattle.qs_data.specs.declared.read.items.Items.{Items}
 use Rattle.qs_data.specs.declared.read.items.Items.TheVariants.{Empty, One, Sequence, Places}
-use Rattle.qs_data.specs.read.Text.{is_text}
+use Rattle.qs_data.specs.read.TreeText.{is_text}
 
 -- each item, and none at an index that isn't the one that is due
 abbrev pub items_view : Items → List (Option Tree)

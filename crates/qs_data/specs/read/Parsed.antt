@@ -10,7 +10,7 @@ use Rattle.qs_tree.specs.tree.Owned.{owns}
 use Rattle.qs_tree.specs.tree.Views.{tree_of}
 use Rattle.qs_data.specs.declared.data.data.Data.{Data}
 use Rattle.qs_data.specs.declared.read.deserializer.Deserializer.{Deserializer}
-use Rattle.qs_data.specs.read.Text.{is_text}
+use Rattle.qs_data.specs.read.TreeText.{is_text}
 use Rattle.qs_data.specs.data.Views.{data_of}
 
 -- how it reads, and the tree that it reads from

@@ -2,7 +2,7 @@
 pub mod Frugal
 pub mod ReadError
 pub mod Hint
-pub mod SourceText
+pub mod GivenText
 pub mod Keys
 pub mod Sizes
 pub mod Nesting

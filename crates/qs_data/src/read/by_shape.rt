@@ -6,7 +6,7 @@ ghost use Rattle.qs_spec.specs.Shape as s;
 ghost use Rattle.qs_tree.specs.tree.Views.{tree_of};
 ghost use Rattle.qs_data.specs.data.Views.{data_of};
 ghost use Rattle.qs_data.specs.shape.Views.{fields_in, key_shape_of, shape_of, shapes_in};
-ghost use Rattle.qs_data.specs.read.Text.{is_text};
+ghost use Rattle.qs_data.specs.read.TreeText.{is_text};
 ghost use Rattle.qs_data.specs.read.Parsed.{takes_no_memory};
 ghost use Rattle.qs_data.specs.read.Gives.{Gives};
 ghost use Rattle.qs_data.specs.read.internal.Frugal.{IsFrugal};

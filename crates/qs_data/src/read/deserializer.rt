@@ -41,7 +41,7 @@ impl<'qs> Deserializer<'qs> {
     pub fn new(alloc: Global, input: &'qs [u8]) -> Result<Deserializer<'qs>>
         ensures config { IfOk result (λ d. (parsed_of d).config ≡ default) }
         ensures tree { IfOk result (λ d. IsTree default.form default.max_depth input.now (parsed_of d).tree) }
-        ensures refused { IsParse result → IsRefused default.form default.max_depth input.now }
+        ensures no_tree { IsParse result → IsRefused default.form default.max_depth input.now }
         ensures position { IfParse result (λ position. position ≤ length input.now + 1) }
         ensures no_memory { TakesNoMemory input.now → IsOk result }
         ensures errors { OnlyParseOrOutOfMemory result }
@@ -61,7 +61,7 @@ impl<'qs> Deserializer<'qs> {
     pub fn with_config(alloc: Global, config: Config, input: &'qs [u8]) -> Result<Deserializer<'qs>>
         ensures config { IfOk result (λ d. (parsed_of d).config ≡ config) }
         ensures tree { IfOk result (λ d. IsTree config.form config.max_depth input.now (parsed_of d).tree) }
-        ensures refused { IsParse result → IsRefused config.form config.max_depth input.now }
+        ensures no_tree { IsParse result → IsRefused config.form config.max_depth input.now }
         ensures accepted { (t : Tree) → IsTree config.form config.max_depth input.now t → OnlyOutOfMemory result }
         ensures rejected { IsRefused config.form config.max_depth input.now → IsParse result ⊎ IsOutOfMemory result }
         ensures position { IfParse result (λ position. position ≤ length input.now + 1) }

@@ -7,7 +7,7 @@ ghost use Rattle.qs_spec.specs.internal.ReadFunction.{struct_members, reads, rea
 ghost use Rattle.qs_tree.specs.tree.Views.{tree_of, items_from};
 ghost use Rattle.qs_data.specs.data.Views.{data_of, named};
 ghost use Rattle.qs_data.specs.shape.Views.{field_of, fields_in};
-ghost use Rattle.qs_data.specs.read.Text.{is_text, items_are_text, entries_are_text};
+ghost use Rattle.qs_data.specs.read.TreeText.{is_text, items_are_text, entries_are_text};
 ghost use Rattle.qs_data.specs.read.internal.ReadError.{ReadGives};
 ghost use Rattle.qs_data.specs.read.Keys.{NumbersFit, entries_view};
 ghost use Rattle.qs_data.specs.read.internal.Keys.{unknown_of};

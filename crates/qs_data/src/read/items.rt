@@ -24,7 +24,7 @@ pub enum Items<'t, 'qs> {
     One(&'t ParsedValue<'qs>),
     /// Those of a sequence.
     Sequence(&'t [ParsedValue<'qs>]),
-    /// The values of a map whose keys are numbers.
+    /// The values of a map whose keys are integers.
     Places(&'t ParsedMap<'qs>),
 }
 
@@ -41,7 +41,7 @@ pub(crate) fn items_of<'t, 'qs>(
         ParsedValue::String(_) => Ok(Items::One(value)),
         ParsedValue::Sequence(values) => Ok(Items::Sequence(values)),
         ParsedValue::Map(map) => {
-            if are_numbers(map) {
+            if are_integers(map) {
                 Ok(Items::Places(map))
             } else {
                 Err(Message::mismatch(alloc, value, expected))
@@ -51,8 +51,8 @@ pub(crate) fn items_of<'t, 'qs>(
     }
 }
 
-/// Whether all keys of a map are numbers.
-pub(crate) fn are_numbers(map: &ParsedMap<'_>) -> bool
+/// Whether all keys of a map are integers.
+pub(crate) fn are_integers(map: &ParsedMap<'_>) -> bool
     ensures { result ≡ are_ints (entries_of_map map.now) }
 {
     for i in 0..map.len() {

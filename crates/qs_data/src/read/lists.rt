@@ -6,7 +6,7 @@ ghost use Rattle.qs_spec.specs.internal.ReadFunction.{read_each, read_list, read
 ghost use Rattle.qs_tree.specs.tree.Views.{tree_of};
 ghost use Rattle.qs_data.specs.data.Views.{data_of};
 ghost use Rattle.qs_data.specs.shape.Views.{shape_of, shapes_in};
-ghost use Rattle.qs_data.specs.read.Text.{is_text};
+ghost use Rattle.qs_data.specs.read.TreeText.{is_text};
 ghost use Rattle.qs_data.specs.read.Items.{items_view, are_text};
 ghost use Rattle.qs_data.specs.read.internal.ReadError.{ReadGives};
 

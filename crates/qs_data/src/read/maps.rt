@@ -6,7 +6,7 @@ ghost use Rattle.qs_spec.specs.internal.ReadFunction.{read_map, read_pairs, read
 ghost use Rattle.qs_tree.specs.tree.Views.{tree_of, entries_of_map};
 ghost use Rattle.qs_data.specs.shape.Views.{key_shape_of, shape_of};
 ghost use Rattle.qs_data.specs.data.Views.{pair_of};
-ghost use Rattle.qs_data.specs.read.Text.{is_text, entries_are_text};
+ghost use Rattle.qs_data.specs.read.TreeText.{is_text, entries_are_text};
 ghost use Rattle.qs_data.specs.read.internal.ReadError.{ReadGives};
 
 use crate::data::Data;

@@ -9,14 +9,14 @@ ghost use Rattle.qs_tree.specs.tree.Views.{tree_of, entries_of_map};
 ghost use Rattle.qs_data.specs.declared.read.error.ReadError.TheVariants.{OutOfMemory};
 ghost use Rattle.qs_data.specs.data.Views.{data_of};
 ghost use Rattle.qs_data.specs.read.Items.{items_view, are_text};
-ghost use Rattle.qs_data.specs.read.Text.{entries_are_text};
+ghost use Rattle.qs_data.specs.read.TreeText.{entries_are_text};
 ghost use Rattle.qs_data.specs.read.internal.Sizes.{list_size, entries_size};
 ghost use Rattle.qs_data.specs.read.internal.Nesting.{Visits, Advances, Extends, done_of, frame_data, frame_is_text, frame_size};
 ghost use Rattle.qs_data.specs.declared.read.nested.Frame.TheVariants as frame;
 
 use crate::data::Data;
 use crate::read::error::Result;
-use crate::read::items::{Items, are_numbers};
+use crate::read::items::{Items, are_integers};
 use crate::read::key::read_key;
 use crate::read::message::Message;
 use crate::read::scalar::text_data;
@@ -73,7 +73,7 @@ pub(crate) fn visit<'t, 'qs>(alloc: Global, value: &'t ParsedValue<'qs>) -> Resu
             Ok(Visited::Inner(Frame::list(alloc, Items::Sequence(values))))
         }
         ParsedValue::Map(map) => {
-            let is_list = are_numbers(map);
+            let is_list = are_integers(map);
             if is_list {
                 Ok(Visited::Inner(Frame::list(alloc, Items::Places(map))))
             } else {

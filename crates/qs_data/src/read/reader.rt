@@ -8,7 +8,7 @@ ghost use Rattle.qs_tree.specs.tree.Views.{tree_of};
 ghost use Rattle.qs_data.specs.data.Views.{data_of};
 ghost use Rattle.qs_data.specs.shape.Views.{shape_of};
 ghost use Rattle.qs_data.specs.shape.Widths.{bits_of};
-ghost use Rattle.qs_data.specs.read.Text.{is_text};
+ghost use Rattle.qs_data.specs.read.TreeText.{is_text};
 ghost use Rattle.qs_data.specs.read.Reads.{reads};
 ghost use Rattle.qs_data.specs.read.Gives.{Gives, Rejects};
 ghost use Rattle.qs_data.specs.read.Errors.{IsCustomOrOutOfMemory};

@@ -8,10 +8,10 @@ ghost use Rattle.qs_spec.specs.Node.{last_item, item_text};
 ghost use Rattle.qs_spec.specs.internal.ReadFunction.{read_scalar, read_unit, read_character};
 ghost use Rattle.qs_tree.specs.tree.Views.{tree_of, items_from};
 ghost use Rattle.qs_data.specs.data.Views.{data_of};
-ghost use Rattle.qs_data.specs.read.Text.{is_text};
+ghost use Rattle.qs_data.specs.read.TreeText.{is_text};
 ghost use Rattle.qs_data.specs.read.internal.ReadError.{ReadGives, ReadIsFrugal};
 ghost use Rattle.qs_data.specs.shape.Widths.{bits_of};
-ghost use Rattle.qs_data.specs.read.internal.SourceText.{source_text, utf8_text};
+ghost use Rattle.qs_data.specs.read.internal.GivenText.{given_text, utf8_text};
 ghost use Rattle.std.specs.Prelude.{map};
 
 use crate::data::Data;
@@ -44,7 +44,7 @@ pub(crate) fn read_bool(reader: Reader, value: &ParsedValue<'_>) -> Result<Data>
         (read_scalar reader.reject_duplicates (Some (d.boolean true)) boolean_data (tree_of value.now)) }
     ensures frugal { ReadIsFrugal result (read_scalar reader.reject_duplicates (Some (d.boolean true)) boolean_data (tree_of value.now)) }
 {
-    match source_text(reader, value, Expected::Bool)? {
+    match given_text(reader, value, Expected::Bool)? {
         Some(bytes) => bool_data(reader.alloc, bytes),
         None => Ok(Data::Bool(true)),
     }
@@ -58,7 +58,7 @@ pub(crate) fn read_unsigned(reader: Reader, width: Width, value: &ParsedValue<'_
     ensures frugal { ReadIsFrugal result (read_scalar reader.reject_duplicates None (unsigned_data (bits_of width)) (tree_of value.now)) }
 {
     let expected = Expected::Unsigned(width);
-    match source_text(reader, value, expected)? {
+    match given_text(reader, value, expected)? {
         Some(bytes) => unsigned_data(reader.alloc, width, bytes),
         None => Err(Message::mismatch(reader.alloc, value, expected)),
     }
@@ -72,7 +72,7 @@ pub(crate) fn read_signed(reader: Reader, width: Width, value: &ParsedValue<'_>)
     ensures frugal { ReadIsFrugal result (read_scalar reader.reject_duplicates None (signed_data (bits_of width)) (tree_of value.now)) }
 {
     let expected = Expected::Signed(width);
-    match source_text(reader, value, expected)? {
+    match given_text(reader, value, expected)? {
         Some(bytes) => signed_data(reader.alloc, width, bytes),
         None => Err(Message::mismatch(reader.alloc, value, expected)),
     }
@@ -93,7 +93,7 @@ pub(crate) fn read_char(alloc: Global, value: &ParsedValue<'_>) -> Result<Data>
 pub(crate) fn read_text(reader: Reader, value: &ParsedValue<'_>) -> Result<Data>
     ensures { ReadGives data_of (is_text (tree_of value.now)) result (read_scalar reader.reject_duplicates (Some (d.text [])) text_data (tree_of value.now)) }
 {
-    match source_text(reader, value, Expected::Text)? {
+    match given_text(reader, value, Expected::Text)? {
         Some(bytes) => text_data(reader.alloc, bytes),
         None => Ok(Data::Text(String::new(reader.alloc))),
     }
@@ -104,7 +104,7 @@ pub(crate) fn read_bytes(reader: Reader, value: &ParsedValue<'_>) -> Result<Data
     ensures { ReadGives data_of (is_text (tree_of value.now)) result
         (read_scalar reader.reject_duplicates (Some (d.bytes [])) (λ b. Some (d.bytes b)) (tree_of value.now)) }
 {
-    match source_text(reader, value, Expected::Bytes)? {
+    match given_text(reader, value, Expected::Bytes)? {
         Some(bytes) => Ok(Data::Bytes(Vec::from_slice(reader.alloc, bytes)?)),
         None => Ok(Data::Bytes(Vec::new(reader.alloc))),
     }
@@ -112,13 +112,13 @@ pub(crate) fn read_bytes(reader: Reader, value: &ParsedValue<'_>) -> Result<Data
 
 // The last text of a node, if it has one; none where there is no value or an empty one.
 #[inline(always)]
-fn source_text<'t>(
+fn given_text<'t>(
     reader: Reader,
     value: &'t ParsedValue<'_>,
     expected: Expected,
 ) -> Result<Option<&'t [u8]>>
-    ensures gives { ReadGives (option_map (λ b. b.now)) true result (source_text reader.reject_duplicates (tree_of value.now)) }
-    ensures frugal { ReadIsFrugal result (source_text reader.reject_duplicates (tree_of value.now)) }
+    ensures gives { ReadGives (option_map (λ b. b.now)) true result (given_text reader.reject_duplicates (tree_of value.now)) }
+    ensures frugal { ReadIsFrugal result (given_text reader.reject_duplicates (tree_of value.now)) }
 {
     match value {
         ParsedValue::NoValue | ParsedValue::Null => Ok(None),

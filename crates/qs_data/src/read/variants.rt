@@ -10,7 +10,7 @@ ghost use Rattle.qs_spec.specs.internal.ReadFunction.{read_enum, reads_names, re
 ghost use Rattle.qs_tree.specs.tree.Views.{tree_of, entries_of_map, segment_of_key};
 ghost use Rattle.qs_data.specs.data.Views.{data_of, named};
 ghost use Rattle.qs_data.specs.shape.Views.{fields_in, variant_of, variants_in};
-ghost use Rattle.qs_data.specs.read.Text.{is_text, entries_are_text};
+ghost use Rattle.qs_data.specs.read.TreeText.{is_text, entries_are_text};
 ghost use Rattle.qs_data.specs.read.internal.ReadError.{ReadGives};
 ghost use Rattle.qs_data.specs.read.internal.Keys.{unknown_of};
 ghost use Rattle.qs_data.specs.shape.Variants.{variant_named};

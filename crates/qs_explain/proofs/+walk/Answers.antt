@@ -15,10 +15,10 @@ use Rattle.qs_data.specs.declared.shape.shape.Field.{out-Field}
 use Rattle.qs_data.specs.shape.Views.{field_of, fields_in, key_shape_of, kind_of, shape_of, shapes_in, variants_in}
 use Rattle.qs_spec.specs.internal.ReadFunction.{reads, reads_kind}
 use Rattle.qs_data.proofs.lemmas.read.Fields.{field_name, field_optional, field_shape}
-use Rattle.qs_explain.specs.Children.{or_missing, item_children, tuple_children, name_child, map_children, held_children, is_text, listed}
+use Rattle.qs_explain.specs.Children.{or_missing, item_children, tuple_children, name_child, map_children, held_children, is_text_leaf, listed}
 use Rattle.qs_explain.specs.Unexpected.{unexpected_key, unknown_of}
 use Rattle.qs_explain.specs.Explains.{segment_of}
-use Rattle.qs_explain.specs.internal.Finding.{Finds, FindsAmong, FindsBelow, FindsInside, Tests, keys_of, node_of}
+use Rattle.qs_explain.specs.internal.Finding.{FindsMismatch, FindsAmong, FindsBelow, FindsInside, Tests, keys_of, node_of}
 use Rattle.qs_explain.proofs.Parts.{below, among_as, among_is, full_as, mismatch_at, newtype_found, null_found, full_found, text_full}
 use Rattle.qs_explain.proofs.OneByOne as children
 use Rattle.qs_spec.specs.Segment.{segment_text}
@@ -98,7 +98,7 @@ children::find_at-returns-in_ok-under-in-Some t c =
     let rd = are_rejected c.args.config.duplicates in
     let s = shape_of c.args.shape.now in
     let n = or_missing (node_of c.args.node) in
-    let found = subst (λ o. Finds {E = AllocError} rd s n (Ok o)) c.in-Some.is c.in_ok-mismatch.ensures in
+    let found = subst (λ o. FindsMismatch {E = AllocError} rd s n (Ok o)) c.in-Some.is c.in_ok-mismatch.ensures in
     below rd (Int c.args.index) (Int c.args.index) s n c.in-Some.mismatch _ found.1 c.in_ok-under-in-Some.ensures.path refl c.in_ok-under-in-Some.ensures.problem
 
 pub children::find_under-returns-in_ok-under-in-Some : goal.children::find_under-returns-in_ok-under-in-Some
@@ -106,7 +106,7 @@ children::find_under-returns-in_ok-under-in-Some t c =
     let rd = are_rejected c.args.config.duplicates in
     let s = shape_of c.args.shape.now in
     let n = or_missing (node_of c.args.node) in
-    let found = subst (λ o. Finds {E = AllocError} rd s n (Ok o)) c.in-Some.is c.in_ok-mismatch.ensures in
+    let found = subst (λ o. FindsMismatch {E = AllocError} rd s n (Ok o)) c.in-Some.is c.in_ok-mismatch.ensures in
     below rd (segment_of_key c.args.key.now) (segment_of c.in_ok-segment-in-Some.segment) s n c.in-Some.mismatch _ found.1
     c.in_ok-under-in-Some.ensures.path c.in_ok-segment-in-Some.ensures c.in_ok-under-in-Some.ensures.problem
 
@@ -207,7 +207,7 @@ walk::find_in_option-returns-in-Null t c =
     let r = c.find_mismatch.result in
     let null : tree_of c.args.node.now ≡ leaf Null = ap tree_of c.in-Null.is ∙ search (rules, value.the_lemmas) in
     let absent : tree_of value.NoValue ≡ leaf NoValue = search (rules, value.the_lemmas) in
-    subst (λ x. FindsInside rd (s.Shape.option part) x r) (sym null) (null_found rd part r (subst (λ x. Finds rd part x r) absent c.find_mismatch.ensures))
+    subst (λ x. FindsInside rd (s.Shape.option part) x r) (sym null) (null_found rd part r (subst (λ x. FindsMismatch rd part x r) absent c.find_mismatch.ensures))
 
 pub walk::find_in_option-returns-in-String : goal.walk::find_in_option-returns-in-String
 walk::find_in_option-returns-in-String t c =
@@ -232,7 +232,7 @@ walk::find_inside-returns-in-Newtype t c =
     let r = c.find_mismatch.result in
     let part = c.in-Newtype.part.value in
     let shaped : shape_of c.args.shape.now ≡ s.Shape.newtype (shape_of part) = ap shape_of c.in-Newtype.is ∙ search (rules, shape.the_lemmas) in
-    let held = subst (λ x. Finds rd (shape_of x) n r) c.deref-in-Newtype.ensures c.find_mismatch.ensures in
+    let held = subst (λ x. FindsMismatch rd (shape_of x) n r) c.deref-in-Newtype.ensures c.find_mismatch.ensures in
     subst (λ x. FindsInside rd x n r) (sym shaped) (newtype_found rd (shape_of part) n r held)
 
 pub walk::find_inside-returns-in-Tuple : goal.walk::find_inside-returns-in-Tuple
@@ -348,7 +348,7 @@ pub enums::find_in_held_fields-find_in_held_struct-requires : goal.enums::find_i
 enums::find_in_held_fields-find_in_held_struct-requires t c =
     let rd = are_rejected c.args.config.duplicates in
     let n = tree_of c.args.value.now in
-    let other : is_text n ≡ false = grind arith in
+    let other : is_text_leaf n ≡ false = grind arith in
     (search rules, struct_unread rd (unknown_of c.args.unknown) (fields_in c.args.fields.now.items) n other c.requires)
 
 pub enums::find_in_held_fields-returns : goal.enums::find_in_held_fields-returns
@@ -358,7 +358,7 @@ enums::find_in_held_fields-returns t c =
     let n = tree_of c.args.value.now in
     let shape = s.Shape.struct (unknown_of c.args.unknown) (fields_in c.args.fields.now.items) in
     let m = c.in_ok-put_under.field-0 in
-    let other : is_text n ≡ false = grind arith in
+    let other : is_text_leaf n ≡ false = grind arith in
     let here = below rd key key shape n c.in_ok-mismatch.mismatch m c.in_ok-mismatch.ensures c.in_ok-put_under.ensures.path refl c.in_ok-put_under.ensures.problem in
     subst (λ b. FindsAmong {E = AllocError} rd (cond b [] ((key, shape, n) ∷ [])) (Ok (Some m))) (sym other) (children.among_one {E = AllocError} rd key shape n (Ok (Some m)) here)
 

@@ -11,7 +11,7 @@ use Rattle.qs_tree.specs.tree.Views.{tree_of, entries_of_map}
 use Rattle.qs_explain.specs.declared.explanation.Mismatch.{Mismatch}
 use Rattle.qs_explain.specs.declared.expected.Expected.{Expected}
 use Rattle.qs_explain.specs.Children.{Child}
-use Rattle.qs_explain.specs.Parts.{IsRead, IsChild, AreRead}
+use Rattle.qs_explain.specs.Parts.{ReadsSome, IsChild, AreRead}
 use Rattle.qs_explain.specs.Explains.{path_of, Says, PartsAreRead, IsMismatch}
 
 -- the mismatch of the node itself
@@ -20,14 +20,14 @@ IsHere unexpected expected n m = (m.path.items ≡ []) × Says unexpected expect
 
 -- whether the shape reads something from the node
 abbrev pub Tests : Bool → Shape → Tree → Bool → Type 0
-Tests reject_duplicates s n true = IsRead reject_duplicates s n
+Tests reject_duplicates s n true = ReadsSome reject_duplicates s n
 Tests reject_duplicates s n false = reads reject_duplicates s n ≡ None
 
 -- a mismatch is found exactly where the node isn't read; memory may run out before
-abbrev pub Finds : {E : Type 0} → Bool → Shape → Tree → Result (Option Mismatch) E → Type 0
-Finds reject_duplicates s n (Ok None) = IsRead reject_duplicates s n
-Finds reject_duplicates s n (Ok (Some m)) = (reads reject_duplicates s n ≡ None) × IsMismatch reject_duplicates s n m
-Finds reject_duplicates s n (Err e) = ⊤
+abbrev pub FindsMismatch : {E : Type 0} → Bool → Shape → Tree → Result (Option Mismatch) E → Type 0
+FindsMismatch reject_duplicates s n (Ok None) = ReadsSome reject_duplicates s n
+FindsMismatch reject_duplicates s n (Ok (Some m)) = (reads reject_duplicates s n ≡ None) × IsMismatch reject_duplicates s n m
+FindsMismatch reject_duplicates s n (Err e) = ⊤
 
 -- a mismatch is found inside the node, or every part of it is read
 abbrev pub FindsInside : {E : Type 0} → Bool → Shape → Tree → Result (Option Mismatch) E → Type 0
@@ -44,7 +44,7 @@ pub record IsBelow (reject_duplicates : Bool) (key : segments.Segment) (s : Shap
 
 -- such a mismatch is found, or the part is read
 abbrev pub FindsBelow : {E : Type 0} → Bool → segments.Segment → Shape → Tree → Result (Option Mismatch) E → Type 0
-FindsBelow reject_duplicates key s n (Ok None) = IsRead reject_duplicates s n
+FindsBelow reject_duplicates key s n (Ok None) = ReadsSome reject_duplicates s n
 FindsBelow reject_duplicates key s n (Ok (Some m)) = IsBelow reject_duplicates key s n m
 FindsBelow reject_duplicates key s n (Err e) = ⊤
 

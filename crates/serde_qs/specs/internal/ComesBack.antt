@@ -8,7 +8,7 @@ use Rattle.qs_spec.specs.Data.{Data, Values, Members, no_members, values_of, mem
 use Rattle.qs_spec.specs.Shape.{Shape, Field, fields_of, is_field_name, field_names_differ}
 use Rattle.qs_spec.specs.Same.{Same, SameValues, SameMembers}
 use Rattle.serde_qs.specs.Fits.{is_signed, fits, fit_each, fit_fields}
-use Rattle.serde_qs.specs.Meaning.{unit_in, boolean_in, unsigned_in, signed_in, character_in, text_in, option_data, option_in, values_in, sequence_in, newtype_in, both}
+use Rattle.serde_qs.specs.Meaning.{unit_in, boolean_in, unsigned_in, signed_in, character_in, text_in, option_data, option_in, values_meant, sequence_in, newtype_in, both}
 use Rattle.serde_qs.specs.internal.Booleans.{both_hold}
 use Rattle.serde_qs.specs.Records.{are_names, first_of, others_of, field_form, member_data, member_in, nothing_in, struct_in}
 use Rattle.serde_qs.specs.ComesBack.{ComesBack, FieldsComeBack}
@@ -36,17 +36,17 @@ pub option_back : {A V : Type 0} (datum : A → Data) (s : Shape) (meaning : Dat
 option_back datum s meaning value back None _ h Same.none = refl
 option_back datum s meaning value back (Some x) _ h (Same.some {d} {e} p) = ap (option_map Some) (back x e h p)
 
-pub values_back : {A V : Type 0} (datum : A → Data) (s : Shape) (meaning : Data → Option V) (value : A → V) → ComesBack datum s meaning value
-    → (xs : List A) (es : Values) → fit_each (fits s) (values_of (map datum xs)) ≡ true → SameValues (values_of (map datum xs)) es → values_in meaning es ≡ Some (map value xs)
-values_back datum s meaning value back [] _ h SameValues.values_end = refl
-values_back datum s meaning value back (x ∷ xs) _ h (SameValues.values_more {d} {e} {ds} {es} p ps) =
+pub all_come_back : {A V : Type 0} (datum : A → Data) (s : Shape) (meaning : Data → Option V) (value : A → V) → ComesBack datum s meaning value
+    → (xs : List A) (es : Values) → fit_each (fits s) (values_of (map datum xs)) ≡ true → SameValues (values_of (map datum xs)) es → values_meant meaning es ≡ Some (map value xs)
+all_come_back datum s meaning value back [] _ h SameValues.values_end = refl
+all_come_back datum s meaning value back (x ∷ xs) _ h (SameValues.values_more {d} {e} {ds} {es} p ps) =
     let parts = both_hold (fits s (datum x)) (fit_each (fits s) (values_of (map datum xs))) h in
-    ap (λ r. option_and_then (λ y. option_map (λ ys. y ∷ ys) (values_in meaning es)) r) (back x e parts.0 p)
-    ∙ ap (option_map (λ ys. value x ∷ ys)) (values_back datum s meaning value back xs es parts.1 ps)
+    ap (λ r. option_and_then (λ y. option_map (λ ys. y ∷ ys) (values_meant meaning es)) r) (back x e parts.0 p)
+    ∙ ap (option_map (λ ys. value x ∷ ys)) (all_come_back datum s meaning value back xs es parts.1 ps)
 
 pub sequence_back : {A V : Type 0} (datum : A → Data) (s : Shape) (meaning : Data → Option V) (value : A → V) → ComesBack datum s meaning value
     → (xs : List A) (e : Data) → fit_each (fits s) (values_of (map datum xs)) ≡ true → Same (d.sequence (values_of (map datum xs))) e → sequence_in meaning e ≡ Some (map value xs)
-sequence_back datum s meaning value back xs _ h (Same.sequence {ds} {es} p) = values_back datum s meaning value back xs es h p
+sequence_back datum s meaning value back xs _ h (Same.sequence {ds} {es} p) = all_come_back datum s meaning value back xs es h p
 
 pub nothing_back : {A : Type 0} (names : List (List ℕ)) (x : A) (ms : Members) → true ≡ true → true ≡ true → SameMembers no_members ms → nothing_in ms ≡ Some tt
 nothing_back names x _ k h SameMembers.members_end = refl

@@ -11,7 +11,7 @@ use Rattle.qs_spec.specs.Data.{Data}
 use Rattle.qs_spec.specs.Data.Data.{unit, text}
 use Rattle.qs_spec.specs.Shape.{Shape}
 use Rattle.qs_spec.specs.Same.{Same}
-use Rattle.serde_qs.specs.Delimited.{ItemComesBack, ItemsComeBack, is_number_delimiter, list_data}
+use Rattle.serde_qs.specs.Delimited.{NumberComesBack, NumbersComeBack, is_number_delimiter, list_data}
 use Rattle.serde_qs.specs.Fits.{fits}
 use Rattle.serde_qs.specs.Items.{each_after, joined, list_in}
 use Rattle.serde_qs.specs.internal.Booleans.{both_hold}
@@ -21,10 +21,10 @@ only_text : (b : Bool) (t : List ℕ) (e : Data) → fits Shape.text (if b then 
 only_text true t _ h Same.text = (refl, refl)
 only_text false t e h p = absurd (false≢true h)
 
-module _ {A V : Type 0} (in_range : A → Bool) (meaning : List ℕ → Option V) (printed : A → List ℕ) (value : A → V) (items : ItemsComeBack in_range meaning printed value)
+module _ {A V : Type 0} (in_range : A → Bool) (meaning : List ℕ → Option V) (printed : A → List ℕ) (value : A → V) (items : NumbersComeBack in_range meaning printed value)
     (delimiter : ℕ) (free : is_number_delimiter delimiter ≡ true) where
   abbrev Back : A → Type 0
-  Back x = ItemComesBack meaning printed value delimiter x
+  Back x = NumberComesBack meaning printed value delimiter x
 
   each_back : (xs : List A) → list_all in_range xs ≡ true → All Back xs
   each_back [] h = All-nil Back

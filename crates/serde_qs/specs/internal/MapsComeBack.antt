@@ -17,7 +17,7 @@ use Rattle.qs_spec.specs.Data.{Data, Pairs, no_pairs, one_pair, pairs_of}
 use Rattle.qs_spec.specs.Shape.{Shape, KeyShape}
 use Rattle.serde_qs.specs.ComesBack.{ComesBack}
 use Rattle.serde_qs.specs.Fits.{fits, fit_pairs}
-use Rattle.serde_qs.specs.Maps.{entry_data, values_by_text, nowhere, put_value, pairs_onto, mapping_in}
+use Rattle.serde_qs.specs.Maps.{entry_data, values_by_text, nowhere, with_value, pairs_onto, mapping_in}
 use Rattle.serde_qs.specs.internal.Booleans.{both_hold}
 use Rattle.qs_spec.specs.Same.{Same, SamePairs, IsNoKey, KeysDiffer, IsWith}
 
@@ -34,20 +34,20 @@ swap_conds true true x y r n = absurd (n refl refl)
 swap_conds true false x y r n = refl
 swap_conds false b x y r n = refl
 
-puts_swap : {V : Type 0} (k l : List ℕ) (v w : V) (f : List ℕ → Option V) → (k ≡ l → ⊥) → put_value k v (put_value l w f) ≡ put_value l w (put_value k v f)
+puts_swap : {V : Type 0} (k l : List ℕ) (v w : V) (f : List ℕ → Option V) → (k ≡ l → ⊥) → with_value k v (with_value l w f) ≡ with_value l w (with_value k v f)
 puts_swap k l v w f n = fun_ext (λ t. swap_conds (bytes_eq k t) (bytes_eq l t) (Some v) (Some w) (f t) (λ p q. n ((bytes_eq-Decides k t).0 p ∙ sym ((bytes_eq-Decides l t).0 q))))
 
 -- a pair that is taken out may as well be put first
 
 onto_value : {V : Type 0} (m : Data → Option V) (k l : List ℕ) (v : V) (r : Option V) (ps qs : Pairs) → (k ≡ l → ⊥)
-    → ((f : List ℕ → Option V) → pairs_onto m f ps ≡ pairs_onto m (put_value k v f) qs) → (f : List ℕ → Option V)
-    → option_and_then (λ g. pairs_onto m g ps) (option_map (λ w. put_value l w f) r) ≡ option_and_then (λ g. pairs_onto m g qs) (option_map (λ w. put_value l w (put_value k v f)) r)
+    → ((f : List ℕ → Option V) → pairs_onto m f ps ≡ pairs_onto m (with_value k v f) qs) → (f : List ℕ → Option V)
+    → option_and_then (λ g. pairs_onto m g ps) (option_map (λ w. with_value l w f) r) ≡ option_and_then (λ g. pairs_onto m g qs) (option_map (λ w. with_value l w (with_value k v f)) r)
 onto_value m k l v None ps qs n rest f = refl
-onto_value m k l v (Some w) ps qs n rest f = rest (put_value l w f) ∙ ap (λ g. pairs_onto m g qs) (puts_swap k l v w f n)
+onto_value m k l v (Some w) ps qs n rest f = rest (with_value l w f) ∙ ap (λ g. pairs_onto m g qs) (puts_swap k l v w f n)
 
 later_onto : {V : Type 0} (m : Data → Option V) (k : List ℕ) (v : V) (l x : Data) (ps qs : Pairs) → (d.text k ≡ l → ⊥)
-    → ((f : List ℕ → Option V) → pairs_onto m f ps ≡ pairs_onto m (put_value k v f) qs) → (f : List ℕ → Option V)
-    → pairs_onto m f (one_pair l x ps) ≡ pairs_onto m (put_value k v f) (one_pair l x qs)
+    → ((f : List ℕ → Option V) → pairs_onto m f ps ≡ pairs_onto m (with_value k v f) qs) → (f : List ℕ → Option V)
+    → pairs_onto m f (one_pair l x ps) ≡ pairs_onto m (with_value k v f) (one_pair l x qs)
 later_onto m k v (d.text l) x ps qs n rest f = onto_value m k l v (m x) ps qs (λ e. n (ap d.text e)) rest f
 later_onto m k v d.unit x ps qs n rest f = refl
 later_onto m k v d.none x ps qs n rest f = refl
@@ -80,15 +80,15 @@ differ_left IsWith.here n = n.1
 differ_left (IsWith.later {j} w) n = (no_key_left j w n.0, differ_left w n.1)
 
 taken_onto : {V : Type 0} (m : Data → Option V) (k : List ℕ) (e : Data) (v : V) → m e ≡ Some v → {qs rest : Pairs} → IsWith (d.text k) e qs rest → KeysDiffer qs
-    → (f : List ℕ → Option V) → pairs_onto m f qs ≡ pairs_onto m (put_value k v f) rest
-taken_onto m k e v h (IsWith.here {ps}) n f = ap (λ r. option_and_then (λ g. pairs_onto m g ps) (option_map (λ w. put_value k w f) r)) h
+    → (f : List ℕ → Option V) → pairs_onto m f qs ≡ pairs_onto m (with_value k v f) rest
+taken_onto m k e v h (IsWith.here {ps}) n f = ap (λ r. option_and_then (λ g. pairs_onto m g ps) (option_map (λ w. with_value k w f) r)) h
 taken_onto m k e v h (IsWith.later {j} {e = x} {ps} {qs} w) n f = later_onto m k v j x ps qs (other_key w n.0) (taken_onto m k e v h w n.1) f
 
 -- the values of entries, put one after another
 
 abbrev over : {A V : Type 0} → (A → V) → Entries A → (List ℕ → Option V) → List ℕ → Option V
 over value [] f = f
-over value (x ∷ es) f = over value es (put_value (string_bytes x.0) (value x.1) f)
+over value (x ∷ es) f = over value es (with_value (string_bytes x.0) (value x.1) f)
 
 pairs_back : {A V : Type 0} (datum : A → Data) (s : Shape) (meaning : Data → Option V) (value : A → V) → ComesBack datum s meaning value
     → (es : Entries A) (qs : Pairs) (f : List ℕ → Option V) → fit_pairs KeyShape.text (fits s) (pairs_for datum es) ≡ true → KeysDiffer qs → SamePairs (pairs_for datum es) qs
@@ -99,7 +99,7 @@ pairs_back datum s meaning value back (x ∷ es) qs f h n (SamePairs.pairs_more 
     let parts = both_hold (is_utf8 (string_bytes x.0)) (fits s (datum x.1) && fit_rest) h in
     let inner = both_hold (fits s (datum x.1)) fit_rest parts.1 in
     taken_onto meaning (string_bytes x.0) e (value x.1) (back x.1 e inner.0 p) w n f
-    ∙ pairs_back datum s meaning value back es rest (put_value (string_bytes x.0) (value x.1) f) inner.1 (differ_left w n) more
+    ∙ pairs_back datum s meaning value back es rest (with_value (string_bytes x.0) (value x.1) f) inner.1 (differ_left w n) more
 
 -- where keys differ, those are what a look-up finds
 
@@ -140,7 +140,7 @@ over_is_found : {A V : Type 0} (datum : A → Data) (value : A → V) (es : Entr
 over_is_found datum value [] n f t = refl
 over_is_found datum value (x ∷ es) n f t =
     let key = string_bytes x.0 in
-    over_is_found datum value es n.1 (put_value key (value x.1) f) t
+    over_is_found datum value es n.1 (with_value key (value x.1) f) t
     ∙ one_more value (bytes_eq key t) x.1 (found t es) (f t) (λ y. subst (λ u. found u es ≡ None) ((bytes_eq-Decides key t).0 y) (none_found datum key es n.0))
     ∙ ap (λ b. or_else (option_map value (cond b (Some x.1) (found t es))) (f t)) (same_test key t)
 

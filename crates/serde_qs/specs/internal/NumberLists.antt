@@ -23,13 +23,13 @@ use Rattle.qs_spec.proofs.Numerals.{AreDigits, numerals}
 use Rattle.qs_spec.proofs.ScalarsBack.{unsigned_back, positive_back, negative_back}
 use Rattle.serde_qs.specs.Items.{each_after, joined, pieces, items_in, list_in}
 use Rattle.serde_qs.specs.internal.Pieces.{Differs, first_piece, last_piece, listed_pieces}
-use Rattle.serde_qs.specs.Delimited.{IsPiece, ItemComesBack, ItemsComeBack, is_number_delimiter}
+use Rattle.serde_qs.specs.Delimited.{IsPiece, NumberComesBack, NumbersComeBack, is_number_delimiter}
 use Rattle.serde_qs.specs.Fits.{is_signed}
 use Rattle.serde_qs.specs.internal.Booleans.{both_hold}
 
 module _ {A V : Type 0} (m : List ℕ → Option V) (show : A → List ℕ) (value : A → V) (delimiter : ℕ) where
   abbrev Back : A → Type 0
-  Back x = ItemComesBack m show value delimiter x
+  Back x = NumberComesBack m show value delimiter x
 
   pieces_after : (x : A) (xs : List A) → IsScalar delimiter → All Back (x ∷ xs)
       → pieces delimiter (show x ++ each_after (encode_utf8 delimiter) (map show xs)) ≡ show x ∷ map show xs
@@ -100,7 +100,7 @@ signed_kept (Some z) = refl
 fits_64 : (bits n : ℕ) → bits ≤ 64 → n < 2 ^ bits → n < 2 ^ 64
 fits_64 bits n le l = omega (arith, pow_mono le)
 
-pub unsigned_item : (bits delimiter n : ℕ) → bits ≤ 64 → is_between 48 57 delimiter ≡ false → n < 2 ^ bits → ItemComesBack (unsigned_number bits) decimal (λ m. m) delimiter n
+pub unsigned_item : (bits delimiter n : ℕ) → bits ≤ 64 → is_between 48 57 delimiter ≡ false → n < 2 ^ bits → NumberComesBack (unsigned_number bits) decimal (λ m. m) delimiter n
 unsigned_item bits delimiter n le free l = record {
   back = sym (unsigned_kept (unsigned_number bits (decimal n))) ∙ ap (option_and_then unsigned_of) (unsigned_back bits n l (fits_64 bits n le l));
   piece = decimal_piece delimiter n free (fits_64 bits n le l);
@@ -109,7 +109,7 @@ unsigned_item bits delimiter n le free l = record {
 pub unsigned_list : (bits delimiter : ℕ) (list : List ℕ) → bits ≤ 64 → IsScalar delimiter → is_between 48 57 delimiter ≡ false → All (λ n. n < 2 ^ bits) list
     → list_in (unsigned_number bits) delimiter (Data.text (joined delimiter (map decimal list))) ≡ Some list
 unsigned_list bits delimiter list le s free h =
-    list_back (unsigned_number bits) decimal (λ n. n) delimiter list s (All-weaker (λ n. n < 2 ^ bits) (ItemComesBack (unsigned_number bits) decimal (λ n. n) delimiter) (λ n l. unsigned_item bits delimiter n le free l) list h)
+    list_back (unsigned_number bits) decimal (λ n. n) delimiter list s (All-weaker (λ n. n < 2 ^ bits) (NumberComesBack (unsigned_number bits) decimal (λ n. n) delimiter) (λ n l. unsigned_item bits delimiter n le free l) list h)
     ∙ ap Some (map-id list)
 
 -- a whole number of these bits
@@ -129,7 +129,7 @@ signed_ascii : (ds : List ℕ) → IsAscii ds → IsAscii (45 ∷ ds)
 signed_ascii ds h zero = omega arith
 signed_ascii ds h (suc i) = h i
 
-pub signed_item : (bits delimiter : ℕ) (z : ℤ) → bits ≤ 64 → is_between 48 57 delimiter ≡ false → delimiter ≢ 45 → IsWithin bits z → ItemComesBack (signed_number bits) signed_decimal (λ y. y) delimiter z
+pub signed_item : (bits delimiter : ℕ) (z : ℤ) → bits ≤ 64 → is_between 48 57 delimiter ≡ false → delimiter ≢ 45 → IsWithin bits z → NumberComesBack (signed_number bits) signed_decimal (λ y. y) delimiter z
 signed_item bits delimiter (pos n) le free sign l =
     let small = half_64 bits le in
     let lt : n < 2 ^ (bits - 1) = omega (arith, ints, l.1) in
@@ -152,7 +152,7 @@ pub signed_list : (bits delimiter : ℕ) (list : List ℤ) → bits ≤ 64 → I
     → All (λ z. (neg_ℤ (pos (2 ^ (bits - 1))) ≤ℤ z) × (z <ℤ pos (2 ^ (bits - 1)))) list
     → list_in (signed_number bits) delimiter (Data.text (joined delimiter (map signed_decimal list))) ≡ Some list
 signed_list bits delimiter list le s free sign h =
-    list_back (signed_number bits) signed_decimal (λ z. z) delimiter list s (All-weaker (IsWithin bits) (ItemComesBack (signed_number bits) signed_decimal (λ z. z) delimiter) (λ z l. signed_item bits delimiter z le free sign l) list h)
+    list_back (signed_number bits) signed_decimal (λ z. z) delimiter list s (All-weaker (IsWithin bits) (NumberComesBack (signed_number bits) signed_decimal (λ z. z) delimiter) (λ z l. signed_item bits delimiter z le free sign l) list h)
     ∙ ap Some (map-id list)
 
 -- the same by tests
@@ -176,7 +176,7 @@ number_delimiter delimiter h =
     let free = both_hold (not (is_between 48 57 delimiter)) (not (delimiter == 45)) whole.1 in
     record { is_scalar = whole.0; no_digit = not_true (is_between 48 57 delimiter) free.0; no_sign = unequal delimiter 45 free.1 }
 
-pub unsigned_items : (bits : ℕ) → nat_le bits 64 ≡ true → ItemsComeBack (λ n. nat_le n (2 ^ bits - 1)) (unsigned_number bits) decimal (λ n. n)
+pub unsigned_items : (bits : ℕ) → nat_le bits 64 ≡ true → NumbersComeBack (λ n. nat_le n (2 ^ bits - 1)) (unsigned_number bits) decimal (λ n. n)
 unsigned_items bits le delimiter n h l =
     let below : n < 2 ^ bits = omega (arith, leb-true n (2 ^ bits - 1) l, pow_pos bits) in
     unsigned_item bits delimiter n (leb-true bits 64 le) (number_delimiter delimiter h).no_digit below
@@ -188,7 +188,7 @@ below : (k : ℕ) (z : ℤ) → 0 < k → z ≤ℤ pos (k - 1) → z <ℤ pos k
 below k (pos n) some h = omega (arith, ints, some, h)
 below k (negsuc n) some h = omega (arith, ints)
 
-pub signed_items : (bits : ℕ) → nat_le bits 64 ≡ true → ItemsComeBack (is_signed bits) (signed_number bits) signed_decimal (λ z. z)
+pub signed_items : (bits : ℕ) → nat_le bits 64 ≡ true → NumbersComeBack (is_signed bits) (signed_number bits) signed_decimal (λ z. z)
 signed_items bits le delimiter z h l =
     let free = number_delimiter delimiter h in
     let ends = both_hold (int_le (neg_ℤ (pos (2 ^ (bits - 1)))) z) (int_le z (pos (2 ^ (bits - 1) - 1))) l in

@@ -12,10 +12,10 @@ use Rattle.qs_spec.specs.Data.{Data, Named, Values, no_values, one_value, Pairs,
 use Rattle.qs_spec.specs.Shape as s
 use Rattle.qs_spec.specs.Shape.{Shape, is_distinct}
 use Rattle.serde_qs.specs.ComesBack.{ComesBack}
-use Rattle.serde_qs.specs.Delimited.{ItemsComeBack, is_number_delimiter, list_data}
+use Rattle.serde_qs.specs.Delimited.{NumbersComeBack, is_number_delimiter, list_data}
 use Rattle.serde_qs.specs.Items.{items_in, list_in, listed_in, pieces}
-use Rattle.serde_qs.specs.Maps.{entry_data, mapping_in, nowhere, pair_onto, pairs_onto, put_value, values_by_text}
-use Rattle.serde_qs.specs.Meaning.{option_data, option_in, sequence_in, values_in}
+use Rattle.serde_qs.specs.Maps.{entry_data, mapping_in, nowhere, pair_onto, pairs_onto, with_value, values_by_text}
+use Rattle.serde_qs.specs.Meaning.{option_data, option_in, sequence_in, values_meant}
 use Rattle.serde_qs.specs.Optional.{optional_data}
 use Rattle.serde_qs.specs.Records.{first_of, member_data, others_of}
 use Rattle.serde_qs.specs.Tables.{AreNumbersOf, IsTableOf, Numbers, Table, delimited_table, mapping_table, numbers_of, option_table, sequence_table, table_of}
@@ -29,7 +29,7 @@ pub itself : {A V : Type 0} (value : A → V) (datum : A → Data) (form : Shape
     → IsTableOf (table_of value datum form meaning distinct back) value datum form meaning
 itself value datum form meaning distinct back = record { same_form = refl; same_datum = λ x. refl; kept = λ v. v; same_value = λ x. refl; same_meaning = λ e. unchanged (meaning e) }
 
-pub themselves : {A V : Type 0} (value : A → V) (in_range : A → Bool) (printed : A → List ℕ) (meaning : List ℕ → Option V) (back : ItemsComeBack in_range meaning printed value)
+pub themselves : {A V : Type 0} (value : A → V) (in_range : A → Bool) (printed : A → List ℕ) (meaning : List ℕ → Option V) (back : NumbersComeBack in_range meaning printed value)
     → AreNumbersOf (numbers_of value in_range printed meaning back) value in_range printed meaning
 themselves value in_range printed meaning back = record { same_range = λ x. refl; same_printed = λ x. refl; kept = λ v. v; same_value = λ x. refl; same_meaning = λ t. unchanged (meaning t) }
 
@@ -93,12 +93,12 @@ module _ {A V : Type 0} (t : Table A) (value : A → V) (datum : A → Data) (fo
   list_value [] = refl
   list_value (x ∷ xs) = ap (λ v. v ∷ map t.value xs) (own.same_value x) ∙ ap (λ vs. own.kept (value x) ∷ vs) (list_value xs)
 
-  values_meaning : (es : Values) → values_in t.meaning es ≡ option_map (map own.kept) (values_in meaning es)
+  values_meaning : (es : Values) → values_meant t.meaning es ≡ option_map (map own.kept) (values_meant meaning es)
   values_meaning no_values = refl
   values_meaning (one_value e es) =
       ap (λ r. option_and_then (λ x. option_map (λ xs. x ∷ xs) r) (t.meaning e)) (values_meaning es)
-      ∙ ap (λ o. option_and_then (λ x. option_map (λ xs. x ∷ xs) (option_map (map own.kept) (values_in meaning es))) o) (own.same_meaning e)
-      ∙ kept_more own.kept (meaning e) (values_in meaning es)
+      ∙ ap (λ o. option_and_then (λ x. option_map (λ xs. x ∷ xs) (option_map (map own.kept) (values_meant meaning es))) o) (own.same_meaning e)
+      ∙ kept_more own.kept (meaning e) (values_meant meaning es)
 
   sequence_meaning : (e : Data) → sequence_in t.meaning e ≡ option_map (map own.kept) (sequence_in meaning e)
   sequence_meaning (d.sequence es) = values_meaning es
@@ -136,16 +136,16 @@ module _ {A V : Type 0} (t : Table A) (value : A → V) (datum : A → Data) (fo
   cond_kept true v o = refl
   cond_kept false v o = refl
 
-  put_kept : (k : List ℕ) (v : V) (f : List ℕ → Option V) → put_value k (own.kept v) (over f) ≡ over (put_value k v f)
+  put_kept : (k : List ℕ) (v : V) (f : List ℕ → Option V) → with_value k (own.kept v) (over f) ≡ over (with_value k v f)
   unfolding over
   put_kept k v f = fun_ext (λ u. cond_kept (bytes_eq k u) v (f u))
 
-  text_kept : (k : List ℕ) (f : List ℕ → Option V) (o : Option V) → option_map (λ v. put_value k v (over f)) (option_map own.kept o) ≡ option_map over (option_map (λ v. put_value k v f) o)
+  text_kept : (k : List ℕ) (f : List ℕ → Option V) (o : Option V) → option_map (λ v. with_value k v (over f)) (option_map own.kept o) ≡ option_map over (option_map (λ v. with_value k v f) o)
   text_kept k f None = refl
   text_kept k f (Some v) = ap Some (put_kept k v f)
 
   pair_kept : (f : List ℕ → Option V) (k x : Data) → pair_onto t.meaning (over f) k x ≡ option_map over (pair_onto meaning f k x)
-  pair_kept f (d.text k) x = ap (option_map (λ v. put_value k v (over f))) (own.same_meaning x) ∙ text_kept k f (meaning x)
+  pair_kept f (d.text k) x = ap (option_map (λ v. with_value k v (over f))) (own.same_meaning x) ∙ text_kept k f (meaning x)
   pair_kept f d.unit x = refl
   pair_kept f d.none x = refl
   pair_kept f (d.some e) x = refl

@@ -73,11 +73,11 @@ pub fn read_by<T: Deserialize>(
     ensures exact { ReturnsValue T.value config T.form T.meaning input.now result }
     ensures back { ReturnsWritten T.value config T.form T.meaning input.now result }
 {
-    read_value(alloc, config, shape, input)
+    read_with_shape(alloc, config, shape, input)
 }
 
 // Returns the value that is read from a querystring by the shape of its type.
-fn read_value<T: Deserialize>(
+fn read_with_shape<T: Deserialize>(
     alloc: Global,
     config: Config,
     shape: &Shape,
@@ -95,7 +95,7 @@ fn read_value<T: Deserialize>(
 fn parsed<'qs>(alloc: Global, config: Config, input: &'qs [u8]) -> Result<Deserializer<'qs>>
     ensures config { IfOk result (λ d. (parsed_of d).config ≡ config) }
     ensures tree { IfOk result (λ d. IsTree config.form config.max_depth input.now (parsed_of d).tree) }
-    ensures refused { IsParse result → IsRefused config.form config.max_depth input.now }
+    ensures no_tree { IsParse result → IsRefused config.form config.max_depth input.now }
     ensures errors { OnlyParseOrOutOfMemory result }
 {
     Deserializer::with_config(alloc, config, input)
@@ -129,7 +129,7 @@ fn read_tree<T: Deserialize>(alloc: Global, config: Config, input: &[u8]) -> Res
 // Returns the tree of a querystring, by a contract in the words of a typed call.
 fn tree<'qs>(alloc: Global, config: Config, input: &'qs [u8]) -> Result<ParsedValue<'qs>>
     ensures tree { IfOk result (λ t. IsTree config.form config.max_depth input.now (tree_of t)) }
-    ensures refused { IsParse result → IsRefused config.form config.max_depth input.now }
+    ensures no_tree { IsParse result → IsRefused config.form config.max_depth input.now }
     ensures errors { OnlyParseOrOutOfMemory result }
 {
     parse(alloc, input, config)

@@ -5,7 +5,7 @@ ghost use Rattle.qs_spec.specs.Shape.{field_names_differ, fields_of};
 ghost use Rattle.qs_tree.specs.Error.{OnlyOutOfMemory};
 ghost use Rattle.qs_tree.specs.tree.Views.{items_from, tree_of};
 ghost use Rattle.qs_data.specs.read.Gives.{Gives};
-ghost use Rattle.qs_data.specs.read.Text.{entries_are_text, items_are_text};
+ghost use Rattle.qs_data.specs.read.TreeText.{entries_are_text, items_are_text};
 ghost use Rattle.qs_data.specs.read.Keys.{NumbersFit, entries_view};
 ghost use Rattle.qs_data.specs.shape.Views.{field_of};
 ghost use Rattle.serde_qs.specs.Nodes.{by_names, by_places};

@@ -6,9 +6,10 @@ ghost use Rattle.qs_spec.specs.Shape.{field_names_differ, fields_of};
 ghost use Rattle.qs_spec.specs.internal.ReadFunction.{items_after, reads};
 ghost use Rattle.qs_tree.specs.tree.Views.{items_from, tree_of};
 ghost use Rattle.qs_data.specs.read.Gives.{Gives};
-ghost use Rattle.qs_data.specs.read.Text.{entries_are_text, is_text, items_are_text};
+ghost use Rattle.qs_data.specs.read.TreeText.{entries_are_text, is_text, items_are_text};
 ghost use Rattle.qs_data.specs.read.Keys.{NumbersFit, entries_view};
-ghost use Rattle.serde_qs.specs.Nodes.{missing_data, members_read, names_read, value_found, value_placed};
+ghost use Rattle.serde_qs.specs.Nodes.{missing_data};
+ghost use Rattle.serde_qs.specs.internal.NodeParts.{members_read, names_read, value_found, value_placed};
 ghost use Rattle.serde_qs.specs.Records.{texts};
 
 use super::defaulted::OrDefault;

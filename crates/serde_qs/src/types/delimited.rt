@@ -5,7 +5,7 @@ ghost use Rattle.std.specs.Fmt.{decimal, signed_decimal};
 ghost use Rattle.std.specs.List.{list_all};
 ghost use Rattle.qs_spec.specs.Scalar.{signed_number, unsigned_number};
 ghost use Rattle.qs_spec.specs.Shape as s;
-ghost use Rattle.serde_qs.specs.Delimited.{ItemsComeBack, is_number_delimiter, list_data};
+ghost use Rattle.serde_qs.specs.Delimited.{NumbersComeBack, is_number_delimiter, list_data};
 ghost use Rattle.serde_qs.specs.internal.DelimitedComesBack.{list_comes_back};
 ghost use Rattle.serde_qs.specs.Fits.{fits, is_signed};
 ghost use Rattle.serde_qs.specs.Items.{list_in};
@@ -30,7 +30,7 @@ pub trait WholeNumber: Item + RoundTrip {
     ghost are_own: { AreNumbersOf numbers Self.Item.value (λ n. fits Self.form (Self.datum n)) Self.printed Self.Item.meaning };
 
     // The text of each has no delimiter in it, and is parsed as that number.
-    ghost items_come_back: { ItemsComeBack (λ n. fits Self.form (Self.datum n)) Self.Item.meaning Self.printed Self.Item.value };
+    ghost items_come_back: { NumbersComeBack (λ n. fits Self.form (Self.datum n)) Self.Item.meaning Self.printed Self.Item.value };
 }
 
 /// The character between the numbers of a [`Delimited`], which is neither a digit nor `-`.

@@ -5,14 +5,14 @@ ghost use Rattle.qs_spec.specs.Data as d;
 ghost use Rattle.qs_spec.specs.Shape as s;
 ghost use Rattle.std.specs.declared.vec.Vec.{Vec};
 ghost use Rattle.std.specs.declared.alloc.Global.{Global};
-ghost use Rattle.qs_data.specs.data.Views.{values_in as values_in_list};
+ghost use Rattle.qs_data.specs.data.Views.{values_in};
 ghost use Rattle.qs_data.specs.read.Gives.{Gives};
 ghost use Rattle.qs_data.specs.read.Items.{are_text, items_view};
 ghost use Rattle.qs_spec.specs.internal.ReadFunction.{reads};
-ghost use Rattle.serde_qs.specs.Nodes.{each_value};
+ghost use Rattle.serde_qs.specs.internal.NodeParts.{each_value};
 ghost use Rattle.serde_qs.specs.Typed.{Means};
 ghost use Rattle.serde_qs.specs.internal.ComesBack.{sequence_back};
-ghost use Rattle.serde_qs.specs.Meaning.{sequence_in, values_in};
+ghost use Rattle.serde_qs.specs.Meaning.{sequence_in, values_meant};
 ghost use Rattle.serde_qs.specs.internal.OwnTables.{sequence_own};
 ghost use Rattle.serde_qs.specs.Tables.{sequence_table};
 
@@ -63,7 +63,7 @@ impl<T: Deserialize + Drop> Deserialize for Vec<T> {
 
 // Returns the values that these data mean, in order.
 fn items_of<T: Deserialize + Drop>(alloc: Global, parts: Vec<Data>) -> Result<Vec<T>>
-    ensures { Means (λ (xs : Vec T Global). map T.value xs.items) result (values_in T.meaning (values_in_list parts.items)) }
+    ensures { Means (λ (xs : Vec T Global). map T.value xs.items) result (values_meant T.meaning (values_in parts.items)) }
 {
     let mut items = Vec::new(alloc);
     for part in parts {

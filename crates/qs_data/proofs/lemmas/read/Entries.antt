@@ -9,7 +9,7 @@ use Rattle.qs_spec.specs.Tree.{Tree, Entries}
 use Rattle.qs_spec.specs.Tree.Entries.{no_entries, entry}
 use Rattle.qs_spec.specs.Node.{keys_are_text}
 use Rattle.qs_tree.specs.tree.Views.{entry_list}
-use Rattle.qs_data.specs.read.Text.{is_text, entries_are_text}
+use Rattle.qs_data.specs.read.TreeText.{is_text, entries_are_text}
 use Rattle.qs_data.specs.read.Keys.{NumbersFit, KeyFits, PassesTest}
 use Rattle.qs_data.specs.read.internal.Keys.{entries_after}
 use Rattle.qs_data.proofs.lemmas.read.Errors.{and_left, and_right}

@@ -17,7 +17,7 @@ use Rattle.qs_tree.specs.declared.tree.value.ParsedValue.{ParsedValue}
 use Rattle.qs_data.specs.declared.shape.shape.Field as f
 use Rattle.qs_data.specs.declared.shape.shape.Field.{Field, out-Field}
 use Rattle.qs_data.specs.shape.Views.{field_of, fields_in, shape_of}
-use Rattle.qs_data.specs.read.Text.{is_text, items_are_text, entries_are_text}
+use Rattle.qs_data.specs.read.TreeText.{is_text, items_are_text, entries_are_text}
 use Rattle.qs_data.proofs.lemmas.read.Errors.{and_left, and_right}
 use Rattle.qs_data.proofs.lemmas.read.Steps.{before}
 

@@ -27,7 +27,7 @@ use Rattle.qs_spec.specs.Segment.{segment_text}
 use Rattle.qs_data.specs.read.internal.Keys.{entries_after}
 use Rattle.qs_data.specs.read.Items.{first_item, are_text}
 use Rattle.qs_data.specs.read.internal.Keys.{passed}
-use Rattle.qs_data.specs.read.Text.{is_text, items_are_text, entries_are_text}
+use Rattle.qs_data.specs.read.TreeText.{is_text, items_are_text, entries_are_text}
 use Rattle.qs_data.proofs.lemmas.read.Errors.{and_left, and_right}
 use Rattle.qs_data.proofs.lemmas.read.Fields.{item_at, no_item_at}
 use Rattle.qs_data.proofs.lemmas.read.Steps.{before, before-front}
@@ -62,8 +62,8 @@ is_passed false h = absurd cc
 pub first_none : (i : ℕ) (es : Entries) → slice_get (entry_list es) i ≡ None → first_item (drop i (placed 0 es)) ≡ Some None
 first_none i es h = ap first_item (place_none i es h)
 
-pub first_refused : (i : ℕ) (es : Entries) (x : Step × Tree) → slice_get (entry_list es) i ≡ Some x → passed (is_place i x.0.seg) ≡ None → first_item (drop i (placed 0 es)) ≡ None
-first_refused i es x h n =
+pub first_rejected : (i : ℕ) (es : Entries) (x : Step × Tree) → slice_get (entry_list es) i ≡ Some x → passed (is_place i x.0.seg) ≡ None → first_item (drop i (placed 0 es)) ≡ None
+first_rejected i es x h n =
     let rest = placed (i + 1) (entries_after (i + 1) es) in
     ap first_item (place_here i es x h ∙ ap (λ b. cond b (Some x.1) None ∷ rest) (not_passed (is_place i x.0.seg) n))
 
@@ -186,8 +186,8 @@ module _ (r : Reader) (xs : List (Option Tree)) (i : ℕ) (ws : List Data) where
       ap (λ ys. before ws (read_each r ys)) (first_some xs i t h)
       ∙ ap (λ o. before ws (option_and_then (λ x. with_front x (read_each r (drop (i + 1) xs))) o)) g
 
-  pub each_refused : first_item (drop i xs) ≡ None → before ws (read_each r (drop i xs)) ≡ None
-  each_refused h = ap (before ws) (first_bad r (drop i xs) h)
+  pub each_rejected : first_item (drop i xs) ≡ None → before ws (read_each r (drop i xs)) ≡ None
+  each_rejected h = ap (before ws) (first_bad r (drop i xs) h)
 
   pub each_end : first_item (drop i xs) ≡ Some None → before ws (read_each r (drop i xs)) ≡ Some ws
   each_end h = ap (λ ys. before ws (read_each r ys)) (first_end (drop i xs) h) ∙ ap Some (append-nil ws)

@@ -23,13 +23,13 @@ use Rattle.qs_data.specs.declared.read.items.Items.{Items as Visited}
 use Rattle.qs_data.specs.declared.read.nested.MapFrame.{MapFrame}
 use Rattle.qs_data.specs.declared.read.nested.Frame.{Frame}
 use Rattle.qs_data.specs.declared.read.nested.Frame.TheVariants as frame
-use Rattle.qs_data.specs.read.internal.Nesting.{Begins, Enters, Advances, Extends, entries_left, frame_data, frame_after, frame_size, frame_is_text, list_with, map_with}
+use Rattle.qs_data.specs.read.internal.Nesting.{Begins, Enters, Advances, Extends, entries_left, frame_data, frame_after, frame_size, frame_is_text, list_begun, map_begun}
 use Rattle.qs_data.specs.read.internal.ReadError.{ReadRejects}
 use Rattle.qs_data.specs.read.Items.{items_view, first_item, are_text}
 use Rattle.qs_data.specs.read.internal.Keys.{entries_after}
 use Rattle.qs_data.specs.read.internal.Sizes.{tree_size, list_size, entries_size}
 use Rattle.qs_data.specs.data.Views.{data_of, pair_of}
-use Rattle.qs_data.specs.read.Text.{is_text, entries_are_text}
+use Rattle.qs_data.specs.read.TreeText.{is_text, entries_are_text}
 use Rattle.qs_data.proofs.lemmas.read.Anything.{is_list, any_list, any_map}
 use Rattle.qs_data.proofs.lemmas.read.Entries.{after_some}
 use Rattle.qs_data.proofs.lemmas.read.Items.{first_some, items_bad}
@@ -83,9 +83,9 @@ module _ (xs : List (Option Tree)) (i : ℕ) (t : Tree) (here : first_item (drop
   list_parts = ap list_size item_is
 
   pub list_enters : (ws : List Data) (inner : Option Data) → any_data t ≡ inner
-      → list_with ws (read_each any_data (drop i xs)) ≡ list_with ws (option_and_then (λ d. with_front d (read_each any_data (drop (i + 1) xs))) inner)
+      → list_begun ws (read_each any_data (drop i xs)) ≡ list_begun ws (option_and_then (λ d. with_front d (read_each any_data (drop (i + 1) xs))) inner)
   list_enters ws inner h =
-      ap (λ ys. list_with ws (read_each any_data ys)) item_is ∙ ap (λ o. list_with ws (option_and_then (λ d. with_front d (read_each any_data (drop (i + 1) xs))) o)) h
+      ap (λ ys. list_begun ws (read_each any_data ys)) item_is ∙ ap (λ o. list_begun ws (option_and_then (λ d. with_front d (read_each any_data (drop (i + 1) xs))) o)) h
 
 -- a map from the entry on that is due
 module _ (es : Entries) (i : ℕ) (x : Step × Tree) (here : slice_get (entry_list es) i ≡ Some x) where
@@ -110,13 +110,13 @@ module _ (es : Entries) (i : ℕ) (x : Step × Tree) (here : slice_get (entry_li
   map_parts = ap entries_size entry_is
 
   pub map_enters : (ws : List (Data × Data)) (a : Data) (inner : Option Data) → key_data KeyShape.text (segment_text x.0.seg) ≡ Some a → any_data x.1 ≡ inner
-      → map_with ws (read_pairs KeyShape.text any_data (entries_after i es))
-      ≡ map_with ws (option_and_then (λ d. with_front (a, d) (read_pairs KeyShape.text any_data (entries_after (i + 1) es))) inner)
+      → map_begun ws (read_pairs KeyShape.text any_data (entries_after i es))
+      ≡ map_begun ws (option_and_then (λ d. with_front (a, d) (read_pairs KeyShape.text any_data (entries_after (i + 1) es))) inner)
   map_enters ws a inner ha hd =
       let rest = read_pairs KeyShape.text any_data (entries_after (i + 1) es) in
-      ap (λ e. map_with ws (read_pairs KeyShape.text any_data e)) entry_is
-      ∙ ap (λ key. map_with ws (option_and_then (λ k. option_and_then (λ d. with_front (k, d) rest) (any_data x.1)) key)) ha
-      ∙ ap (λ o. map_with ws (option_and_then (λ d. with_front (a, d) rest) o)) hd
+      ap (λ e. map_begun ws (read_pairs KeyShape.text any_data e)) entry_is
+      ∙ ap (λ key. map_begun ws (option_and_then (λ k. option_and_then (λ d. with_front (k, d) rest) (any_data x.1)) key)) ha
+      ∙ ap (λ o. map_begun ws (option_and_then (λ d. with_front (a, d) rest) o)) hd
 
 some_same : {A : Type 0} (a b : A) → Some a ≡ Some b → a ≡ b
 some_same a b h = cc
@@ -157,7 +157,7 @@ begins_map l t es is not value text size = record {
 
 -- after some leaves of a list a further frame begins
 pub enters_list : (old inner : Frame) (node : Visited) (values : Vec r.Data Global) (i : ℕ) (t : Tree) → first_item (drop i (items_view node)) ≡ Some (Some t)
-    → frame_data old ≡ list_with (map data_of values.items) (read_each any_data (drop i (items_view node))) → (are_text (drop i (items_view node)) ≡ false → frame_is_text old ≡ false)
+    → frame_data old ≡ list_begun (map data_of values.items) (read_each any_data (drop i (items_view node))) → (are_text (drop i (items_view node)) ≡ false → frame_is_text old ≡ false)
     → list_size (drop i (items_view node)) ≤ frame_size old → Begins inner t → Enters inner old (frame.List record { items = node; next = i + 1; values = values })
 enters_list old inner node values i t here value text size b =
     let xs = items_view node in
@@ -171,14 +171,14 @@ enters_list old inner node values i t here value text size b =
 -- after some leaves of a map a further frame begins
 pub enters_map : (old inner : Frame) (new : MapFrame) (es : Entries) (i : ℕ) (x : Step × Tree) → slice_get (entry_list es) i ≡ Some x
     → entries_of_map new.entries.now ≡ es → new.next ≡ i + 1 → key_data KeyShape.text (segment_text x.0.seg) ≡ Some (data_of new.key)
-    → frame_data old ≡ map_with (map pair_of new.pairs.items) (read_pairs KeyShape.text any_data (entries_after i es)) → (entries_are_text (entries_after i es) ≡ false → frame_is_text old ≡ false)
+    → frame_data old ≡ map_begun (map pair_of new.pairs.items) (read_pairs KeyShape.text any_data (entries_after i es)) → (entries_are_text (entries_after i es) ≡ false → frame_is_text old ≡ false)
     → entries_size (entries_after i es) ≤ frame_size old → Begins inner x.1 → Enters inner old (frame.Map new)
 enters_map old inner new es i x here among next key value text size b =
     let left : entries_left new ≡ entries_after (i + 1) es = ap (λ e. entries_after new.next e) among ∙ ap (λ n. entries_after n es) next in
     let ws = map pair_of new.pairs.items in
     record {
       value = value ∙ map_enters es i x here ws (data_of new.key) (frame_data inner) key b.value
-          ∙ ap (λ e. map_with ws (option_and_then (λ d. with_front (data_of new.key, d) (read_pairs KeyShape.text any_data e)) (frame_data inner))) (sym left);
+          ∙ ap (λ e. map_begun ws (option_and_then (λ d. with_front (data_of new.key, d) (read_pairs KeyShape.text any_data e)) (frame_data inner))) (sym left);
       inner_text = λ n. text (map_text es i x here (b.text n));
       text = λ n. text (map_text_after es i x here (ap entries_are_text (sym left) ∙ n));
       size =

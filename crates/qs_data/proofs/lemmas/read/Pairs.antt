@@ -12,7 +12,7 @@ use Rattle.qs_spec.specs.Node.{under_empty}
 use Rattle.qs_spec.specs.internal.ReadFunction.{Reader, read_pairs, with_front}
 use Rattle.qs_tree.specs.tree.Views.{entry_list}
 use Rattle.qs_data.specs.read.internal.Keys.{entries_after}
-use Rattle.qs_data.specs.read.Text.{is_text, entries_are_text}
+use Rattle.qs_data.specs.read.TreeText.{is_text, entries_are_text}
 use Rattle.qs_data.proofs.lemmas.read.Entries.{after_some, after_none, after_all}
 use Rattle.qs_data.proofs.lemmas.read.Errors.{and_left, and_right}
 use Rattle.qs_data.proofs.lemmas.read.Steps.{before, before-front}

@@ -9,7 +9,7 @@ use Rattle.qs_tree.specs.declared.error.Error.{Error}
 use Rattle.qs_tree.specs.declared.error.Error.TheVariants.{Custom, Utf8, OutOfMemory}
 use Rattle.qs_data.specs.declared.data.data.Data.{Data}
 use Rattle.qs_data.specs.data.Views.{data_of}
-use Rattle.qs_data.specs.read.Text.{is_text}
+use Rattle.qs_data.specs.read.TreeText.{is_text}
 use Rattle.qs_data.specs.read.Gives.{Gives}
 use Rattle.qs_data.specs.read.internal.Frugal.{IsFrugal}
 use Rattle.qs_data.specs.read.Parsed.{Parsed, ReturnsData, SparesMemory}

@@ -24,8 +24,8 @@ use Rattle.qs_data.proofs.lemmas.read.ReadErrors.{gives_as}
 use Rattle.qs_spec.specs.Leaf.{leaf_text}
 use Rattle.qs_data.specs.data.Views.{data_of}
 use Rattle.qs_data.specs.declared.data.data.Data as v
-use Rattle.qs_data.specs.read.Text.{is_text, items_are_text}
-use Rattle.qs_data.specs.read.internal.SourceText.{source_text, data_by_text, utf8_text}
+use Rattle.qs_data.specs.read.TreeText.{is_text, items_are_text}
+use Rattle.qs_data.specs.read.internal.GivenText.{given_text, data_by_text, utf8_text}
 
 pub utf8_none : (b : List ℕ) → utf8_text b ≡ None → is_utf8 b ≡ false
 utf8_none b h = elim (cases_Bool (is_utf8 b)) [
@@ -40,7 +40,7 @@ utf8_some b c h = elim (cases_Bool (is_utf8 b)) [
 ]
 
 -- the text that a scalar is read from says what is read
-pub scalar_is : (reject_duplicates : Bool) (empty : Option Data) (get : List ℕ → Option Data) (t : Tree) (o : Option (List ℕ)) → source_text reject_duplicates t ≡ Some o → read_scalar reject_duplicates empty get t ≡ data_by_text empty get o
+pub scalar_is : (reject_duplicates : Bool) (empty : Option Data) (get : List ℕ → Option Data) (t : Tree) (o : Option (List ℕ)) → given_text reject_duplicates t ≡ Some o → read_scalar reject_duplicates empty get t ≡ data_by_text empty get o
 scalar_is reject_duplicates empty get (leaf NoValue) o h = let e : None ≡ o = cc in ap (data_by_text empty get) e
 scalar_is reject_duplicates empty get (leaf Null) o h = let e : None ≡ o = cc in ap (data_by_text empty get) e
 scalar_is reject_duplicates empty get (leaf (Text b m)) o h = let e : Some b ≡ o = cc in ap (data_by_text empty get) e
@@ -63,7 +63,7 @@ last_bad reject_duplicates (item t no_items) b h n = and_left (is_text t) true (
 last_bad true (item t (item u xs)) b h n = absurd cc
 last_bad false (item t (item u xs)) b h n = and_right (is_text t) (items_are_text (item u xs)) (last_bad false (item u xs) b h n)
 
-pub scalar_bad : (reject_duplicates : Bool) (t : Tree) (b : List ℕ) → source_text reject_duplicates t ≡ Some (Some b) → is_utf8 b ≡ false → is_text t ≡ false
+pub scalar_bad : (reject_duplicates : Bool) (t : Tree) (b : List ℕ) → given_text reject_duplicates t ≡ Some (Some b) → is_utf8 b ≡ false → is_text t ≡ false
 scalar_bad reject_duplicates (leaf NoValue) b h n = absurd cc
 scalar_bad reject_duplicates (leaf Null) b h n = absurd cc
 scalar_bad reject_duplicates (leaf (Text c m)) b h n = let e : c ≡ b = cc in ap is_utf8 e ∙ n
@@ -76,7 +76,7 @@ scalar_bad reject_duplicates uninitialized b h n = absurd cc
 
 -- what is read of the text that a scalar is read from is read of the scalar
 pub scalar_gives : {X : Type 0} (view : X → Data) (reject_duplicates : Bool) (empty : Option Data) (get : List ℕ → Option Data) (t : Tree) (b : List ℕ) (x : Result X ReadError)
-    → source_text reject_duplicates t ≡ Some (Some b) → ReadGives view (is_utf8 b) x (get b) → ReadGives view (is_text t) x (read_scalar reject_duplicates empty get t)
+    → given_text reject_duplicates t ≡ Some (Some b) → ReadGives view (is_utf8 b) x (get b) → ReadGives view (is_text t) x (read_scalar reject_duplicates empty get t)
 scalar_gives view reject_duplicates empty get t b x h g = gives_as view (is_utf8 b) (is_text t) x (get b) (read_scalar reject_duplicates empty get t) g (sym (scalar_is reject_duplicates empty get t (Some b) h)) (scalar_bad reject_duplicates t b h)
 
 -- the last of some items

@@ -23,7 +23,7 @@ use Rattle.qs_tree.specs.declared.tree.value.ParsedValue as value
 use Rattle.qs_data.specs.declared.shape.shape.Variant as v
 use Rattle.qs_data.specs.declared.shape.shape.Variant.{Variant, out-Variant}
 use Rattle.qs_data.specs.shape.Views.{variant_of, variants_in, kind_of}
-use Rattle.qs_data.specs.read.Text.{is_text, entries_are_text}
+use Rattle.qs_data.specs.read.TreeText.{is_text, entries_are_text}
 use Rattle.qs_data.specs.shape.Variants.{variant_named}
 use Rattle.qs_data.proofs.lemmas.read.Numbers.{empty_text}
 use Rattle.qs_data.proofs.lemmas.read.Errors.{and_left, and_right}

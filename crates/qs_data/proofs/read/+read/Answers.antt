@@ -14,7 +14,7 @@ use Rattle.qs_data.specs.declared.shape.shape.Shape as shape
 use Rattle.qs_data.specs.declared.shape.shape.Field.{out-Field}
 use Rattle.qs_data.specs.data.Views.{data_of, named, pair_of}
 use Rattle.qs_data.specs.shape.Views.{shape_of, field_of, fields_in, variant_of, variants_in, key_shape_of, shapes_in}
-use Rattle.qs_data.specs.read.Text.{is_text, items_are_text, entries_are_text}
+use Rattle.qs_data.specs.read.TreeText.{is_text, items_are_text, entries_are_text}
 use Rattle.qs_data.specs.read.internal.ReadError.{ReadGives}
 use Rattle.qs_data.specs.read.Keys.{entries_view}
 use Rattle.qs_data.specs.read.internal.Keys.{entries_after, unknown_of}

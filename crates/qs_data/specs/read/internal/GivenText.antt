@@ -8,13 +8,13 @@ use Rattle.qs_spec.specs.Data.{Data}
 use Rattle.qs_spec.specs.Node.{last_item}
 
 -- none where there is no value or an empty one, and else the last text
-abbrev pub source_text : Bool → Tree → Option (Option (List ℕ))
-source_text reject_duplicates (leaf NoValue) = Some None
-source_text reject_duplicates (leaf Null) = Some None
-source_text reject_duplicates (leaf (Text bytes mark)) = Some (Some bytes)
-source_text reject_duplicates (sequence xs) = option_map Some (last_item reject_duplicates xs)
-source_text reject_duplicates (mapping es) = None
-source_text reject_duplicates uninitialized = None
+abbrev pub given_text : Bool → Tree → Option (Option (List ℕ))
+given_text reject_duplicates (leaf NoValue) = Some None
+given_text reject_duplicates (leaf Null) = Some None
+given_text reject_duplicates (leaf (Text bytes mark)) = Some (Some bytes)
+given_text reject_duplicates (sequence xs) = option_map Some (last_item reject_duplicates xs)
+given_text reject_duplicates (mapping es) = None
+given_text reject_duplicates uninitialized = None
 
 -- what is read where there is no text, and of one
 abbrev pub data_by_text : Option Data → (List ℕ → Option Data) → Option (List ℕ) → Option Data

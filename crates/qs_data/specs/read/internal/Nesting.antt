@@ -17,7 +17,7 @@ use Rattle.qs_data.specs.read.internal.ReadError.{ReadRejects}
 use Rattle.qs_data.specs.read.Items.{items_view, are_text}
 use Rattle.qs_data.specs.read.internal.Keys.{entries_after}
 use Rattle.qs_data.specs.read.internal.Sizes.{tree_size, list_size, entries_size}
-use Rattle.qs_data.specs.read.Text.{is_text, entries_are_text}
+use Rattle.qs_data.specs.read.TreeText.{is_text, entries_are_text}
 
 -- the items that weren't visited
 abbrev pub items_left : ListFrame → List (Option Tree)
@@ -28,23 +28,23 @@ abbrev pub entries_left : MapFrame → Entries
 entries_left m = entries_after m.next (entries_of_map m.entries.now)
 
 -- the list whose first values are these
-abbrev pub list_with : List Data → Option (List Data) → Option Data
-list_with front rest = option_map (λ ds. Data.sequence (values_of ds)) (option_map (λ ds. front ++ ds) rest)
+abbrev pub list_begun : List Data → Option (List Data) → Option Data
+list_begun front rest = option_map (λ ds. Data.sequence (values_of ds)) (option_map (λ ds. front ++ ds) rest)
 
 -- the map whose first pairs are these
-abbrev pub map_with : List (Data × Data) → Option (List (Data × Data)) → Option Data
-map_with front rest = option_map (λ ps. Data.mapping (pairs_of ps)) (option_map (λ ps. front ++ ps) rest)
+abbrev pub map_begun : List (Data × Data) → Option (List (Data × Data)) → Option Data
+map_begun front rest = option_map (λ ps. Data.mapping (pairs_of ps)) (option_map (λ ps. front ++ ps) rest)
 
 -- what a frame gives
 abbrev pub frame_data : Frame → Option Data
-frame_data (frame.List l) = list_with (map data_of l.values.items) (read_each any_data (items_left l))
-frame_data (frame.Map m) = map_with (map pair_of m.pairs.items) (read_pairs KeyShape.text any_data (entries_left m))
+frame_data (frame.List l) = list_begun (map data_of l.values.items) (read_each any_data (items_left l))
+frame_data (frame.Map m) = map_begun (map pair_of m.pairs.items) (read_pairs KeyShape.text any_data (entries_left m))
 
 -- what a frame gives where the node that is being read gives this
 abbrev pub frame_after : Frame → Option Data → Option Data
-frame_after (frame.List l) node = list_with (map data_of l.values.items) (option_and_then (λ d. with_front d (read_each any_data (items_left l))) node)
+frame_after (frame.List l) node = list_begun (map data_of l.values.items) (option_and_then (λ d. with_front d (read_each any_data (items_left l))) node)
 frame_after (frame.Map m) node =
-    map_with (map pair_of m.pairs.items) (option_and_then (λ d. with_front (data_of m.key, d) (read_pairs KeyShape.text any_data (entries_left m))) node)
+    map_begun (map pair_of m.pairs.items) (option_and_then (λ d. with_front (data_of m.key, d) (read_pairs KeyShape.text any_data (entries_left m))) node)
 
 -- what was read of a frame
 abbrev pub done_of : Frame → Data

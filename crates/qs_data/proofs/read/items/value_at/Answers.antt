@@ -5,7 +5,7 @@ use Rattle.qs_spec.specs.Node.{is_place, placed}
 use Rattle.qs_tree.specs.tree.Views.{tree_of, entries_of_map, step_of_key}
 use Rattle.qs_data.specs.read.Items.{first_item}
 use Rattle.qs_data.specs.read.internal.Keys.{passed}
-use Rattle.qs_data.proofs.lemmas.read.Items.{first_none, first_refused, first_given}
+use Rattle.qs_data.proofs.lemmas.read.Items.{first_none, first_rejected, first_given}
 use Rattle.qs_data.proofs.lemmas.read.ReadErrors.{gives_exit}
 use Rattle.qs_data.proofs.read.items.value_at.Goals as goal
 
@@ -18,7 +18,7 @@ returns-in_err-test_place c =
     let i = c.args.place in
     let x : Step × Tree = (step_of_key c.in-Some.key.now, tree_of c.in-Some.value.now) in
     gives_exit (option_map (λ v. tree_of v.now)) true true c.from_residual.result c.in_err-test_place.field-0.0 (passed (is_place i x.0.seg)) (first_item (drop i (placed 0 es)))
-    c.from_residual.ensures.1 c.in_err-test_place.ensures (first_refused i es x (sym c.in-Some.ensures)) (λ n. n)
+    c.from_residual.ensures.1 c.in_err-test_place.ensures (first_rejected i es x (sym c.in-Some.ensures)) (λ n. n)
 
 pub returns : goal.returns
 returns c =

@@ -20,7 +20,7 @@ returns-then-is_list c =
     let n = tree_of c.args.value.now in
     let es = entries_of_map c.in-Map.map in
     let seen : n ≡ mapping es = ap tree_of c.in-Map.is ∙ search (rules, value.the_lemmas) in
-    let listed : items n ≡ Some (placed 0 es) = ap items seen ∙ ap (λ b. cond b (Some (placed 0 es)) None) (sym c.are_numbers-is_list.ensures ∙ c.if-is_list.true) in
+    let listed : items n ≡ Some (placed 0 es) = ap items seen ∙ ap (λ b. cond b (Some (placed 0 es)) None) (sym c.are_integers-is_list.ensures ∙ c.if-is_list.true) in
     let l = c.list-then-is_list in
     begins_list l.result n (placed 0 es) (ap is_list seen) listed l.ensures.value l.ensures.text l.ensures.size
 
@@ -29,4 +29,4 @@ returns-else-is_list c =
     let n = tree_of c.args.value.now in
     let es = entries_of_map c.in-Map.map in
     let seen : n ≡ mapping es = ap tree_of c.in-Map.is ∙ search (rules, value.the_lemmas) in
-    begins_map c.map.result n es seen (sym c.are_numbers-is_list.ensures ∙ c.if-is_list.false) c.map.ensures.value c.map.ensures.text c.map.ensures.size
+    begins_map c.map.result n es seen (sym c.are_integers-is_list.ensures ∙ c.if-is_list.false) c.map.ensures.value c.map.ensures.text c.map.ensures.size

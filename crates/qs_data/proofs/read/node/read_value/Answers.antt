@@ -3,7 +3,7 @@ use Rattle.qs_spec.specs.internal.ReadFunction.{read_by}
 use Rattle.qs_tree.specs.tree.Views.{tree_of}
 use Rattle.qs_data.specs.data.Views.{data_of}
 use Rattle.qs_data.specs.shape.Views.{shape_of}
-use Rattle.qs_data.specs.read.Text.{is_text}
+use Rattle.qs_data.specs.read.TreeText.{is_text}
 use Rattle.qs_data.specs.read.Gives.{Gives}
 use Rattle.qs_data.proofs.lemmas.read.Related.{returns_data}
 use Rattle.qs_data.proofs.read.node.read_value.Goals as goal

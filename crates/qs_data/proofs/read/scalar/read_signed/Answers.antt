@@ -3,7 +3,7 @@ use Rattle.qs_spec.specs.Scalar.{signed_data}
 use Rattle.qs_data.specs.shape.Widths.{bits_of}
 use Rattle.qs_tree.specs.tree.Views.{tree_of}
 use Rattle.qs_data.specs.data.Views.{data_of}
-use Rattle.qs_data.specs.read.internal.SourceText.{source_text}
+use Rattle.qs_data.specs.read.internal.GivenText.{given_text}
 use Rattle.qs_data.proofs.lemmas.read.Scalars.{scalar_gives}
 use Rattle.qs_data.proofs.read.scalar.read_signed.Goals as goal
 
@@ -11,5 +11,5 @@ pub returns-in-Some-clause-gives : goal.returns-in-Some-clause-gives
 returns-in-Some-clause-gives c =
     let t = tree_of c.args.value.now in
     let b = c.in-Some.bytes.now in
-    let h : source_text c.args.reader.reject_duplicates t ≡ Some (Some b) = c.in_ok-bytes.ensures.gives ∙ ap (λ o. Some (option_map (λ x. x.now) o)) c.in-Some.is in
+    let h : given_text c.args.reader.reject_duplicates t ≡ Some (Some b) = c.in_ok-bytes.ensures.gives ∙ ap (λ o. Some (option_map (λ x. x.now) o)) c.in-Some.is in
     scalar_gives data_of c.args.reader.reject_duplicates None (signed_data (bits_of c.args.width)) t b c.signed_data.result h c.signed_data.ensures.gives

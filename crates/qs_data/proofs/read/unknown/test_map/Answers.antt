@@ -5,7 +5,7 @@ use Rattle.qs_spec.specs.Shape.{is_field_name}
 use Rattle.qs_spec.specs.Node.{keys_are_names}
 use Rattle.qs_tree.specs.tree.Views.{entries_of_map, step_of_key, tree_of}
 use Rattle.qs_data.specs.shape.Views.{fields_in}
-use Rattle.qs_data.specs.read.Text.{entries_are_text}
+use Rattle.qs_data.specs.read.TreeText.{entries_are_text}
 use Rattle.qs_data.specs.read.internal.Keys.{when}
 use Rattle.qs_data.proofs.lemmas.read.Pairs.{key_bad}
 use Rattle.qs_data.proofs.lemmas.read.ReadErrors.{gives_exit}

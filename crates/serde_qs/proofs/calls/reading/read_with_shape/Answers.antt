@@ -3,7 +3,7 @@ use Rattle.qs_data.specs.data.Views.{data_of}
 use Rattle.qs_data.specs.shape.Views.{shape_of}
 use Rattle.qs_data.specs.read.Parsed.{parsed_of}
 use Rattle.serde_qs.proofs.TypedRead.{not_read, what_is_meant}
-use Rattle.serde_qs.proofs.calls.reading.read_value.Goals as goal
+use Rattle.serde_qs.proofs.calls.reading.read_with_shape.Goals as goal
 
 pub returns-in_err-datum : goal.returns-in_err-datum
 returns-in_err-datum g c =

@@ -2,7 +2,7 @@ use Rattle.std.proofs.Common.{[]}
 use Rattle.qs_spec.specs.Node.{found}
 use Rattle.qs_spec.specs.internal.ReadFunction.{reads}
 use Rattle.qs_tree.specs.tree.Views.{tree_of}
-use Rattle.qs_data.specs.read.Text.{entries_are_text}
+use Rattle.qs_data.specs.read.TreeText.{entries_are_text}
 use Rattle.qs_data.specs.read.Keys.{entries_view}
 use Rattle.qs_data.proofs.lemmas.read.Fields.{found_bad}
 use Rattle.serde_qs.proofs.NodeValues.{found_never, found_once, found_twice}

@@ -4,11 +4,11 @@ use Rattle.qs_spec.specs.Data.{Data}
 use Rattle.qs_spec.specs.Node.{found}
 use Rattle.qs_spec.specs.internal.ReadFunction.{reads}
 use Rattle.qs_tree.specs.tree.Views.{tree_of}
-use Rattle.qs_data.specs.read.Text.{entries_are_text, is_text}
+use Rattle.qs_data.specs.read.TreeText.{entries_are_text, is_text}
 use Rattle.qs_data.specs.read.Keys.{entries_view}
 use Rattle.qs_data.proofs.lemmas.read.Errors.{gives_exit}
 use Rattle.qs_data.proofs.lemmas.read.Fields.{found_bad}
-use Rattle.serde_qs.specs.Nodes.{value_found}
+use Rattle.serde_qs.specs.internal.NodeParts.{value_found}
 use Rattle.serde_qs.proofs.NodeValues.{found_twice, some_read}
 use Rattle.serde_qs.proofs.compound.nodes.optional_by_name.Goals as goal
 

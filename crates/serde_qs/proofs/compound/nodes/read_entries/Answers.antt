@@ -1,7 +1,8 @@
-use Rattle.qs_data.specs.read.Text.{entries_are_text}
+use Rattle.qs_data.specs.read.TreeText.{entries_are_text}
 use Rattle.qs_data.specs.read.Keys.{entries_view}
 use Rattle.qs_data.proofs.lemmas.read.Errors.{gives_exit}
-use Rattle.serde_qs.specs.Nodes.{by_names, names_read}
+use Rattle.serde_qs.specs.Nodes.{by_names}
+use Rattle.serde_qs.specs.internal.NodeParts.{names_read}
 use Rattle.serde_qs.specs.Records.{texts}
 use Rattle.serde_qs.proofs.NodeValues.{names_broken, names_ok, names_unread}
 use Rattle.serde_qs.proofs.compound.nodes.read_entries.Goals as goal

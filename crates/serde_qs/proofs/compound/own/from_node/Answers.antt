@@ -1,6 +1,6 @@
 use Rattle.qs_spec.specs.internal.ReadFunction.{reads}
 use Rattle.qs_tree.specs.tree.Views.{tree_of}
-use Rattle.qs_data.specs.read.Text.{is_text}
+use Rattle.qs_data.specs.read.TreeText.{is_text}
 use Rattle.serde_qs.proofs.OwnValue.{in_table_read}
 use Rattle.serde_qs.proofs.compound.own.from_node.Goals as goal
 

@@ -1,12 +1,12 @@
 use Rattle.std.proofs.Common.{◌≡◌, map, length}
 use Rattle.std.specs.Vec.Iter.{into_iter_items, into_iter_len}
-use Rattle.qs_data.specs.data.Views.{values_in as values_in_list}
-use Rattle.serde_qs.specs.Meaning.{values_in}
+use Rattle.qs_data.specs.data.Views.{values_in}
+use Rattle.serde_qs.specs.Meaning.{values_meant}
 use Rattle.serde_qs.proofs.Steps.{before}
 use Rattle.serde_qs.proofs.types.lists.items_of.Given as goal
 
 abbrev pub invariant-loop-part : goal.invariant-loop-part
 invariant-loop-part g l =
     let m = g.T.Deserialize.meaning in
-    (values_in m (values_in_list l.fn.parts.items) ≡ before (map g.T.Deserialize.value l.items.items) (values_in m (values_in_list (into_iter_items l.part-iterator))))
+    (values_meant m (values_in l.fn.parts.items) ≡ before (map g.T.Deserialize.value l.items.items) (values_meant m (values_in (into_iter_items l.part-iterator))))
     × (into_iter_len l.part-iterator ≡ length (into_iter_items l.part-iterator))

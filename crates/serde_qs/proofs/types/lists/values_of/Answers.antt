@@ -7,12 +7,12 @@ use Rattle.std.proofs.lemmas.Bool.{false≢true}
 use Rattle.qs_spec.specs.Tree.{Tree}
 use Rattle.qs_spec.specs.internal.ReadFunction.{reads}
 use Rattle.qs_tree.specs.tree.Views.{tree_of}
-use Rattle.qs_data.specs.read.Text.{is_text}
+use Rattle.qs_data.specs.read.TreeText.{is_text}
 use Rattle.qs_data.specs.read.Items.{are_text, first_item, items_view}
 use Rattle.qs_data.proofs.lemmas.read.Errors.{gives_exit}
 use Rattle.qs_data.proofs.lemmas.read.Items.{due_bad}
-use Rattle.serde_qs.specs.Nodes.{each_value}
-use Rattle.serde_qs.proofs.NodeItems.{value_all, value_end, value_more, value_refused, value_unread}
+use Rattle.serde_qs.specs.internal.NodeParts.{each_value}
+use Rattle.serde_qs.proofs.NodeItems.{value_all, value_end, value_more, value_rejected, value_unread}
 use Rattle.serde_qs.proofs.Steps.{before}
 use Rattle.serde_qs.proofs.types.lists.values_of.Goals as goal
 use Rattle.serde_qs.proofs.types.lists.values_of.Goals.{else-loop-i-test, then-loop-i-test+in_ok-item+in_default}
@@ -23,7 +23,7 @@ returns-in_err-item g c =
     let xs = items_view c.args.items in
     let r : Tree → Option g.T.Deserialize.Value = λ t. option_and_then g.T.Deserialize.meaning (reads c.args.reader.reject_duplicates g.T.Deserialize.form t) in
     gives_exit (λ (ys : Vec g.row.T.Denot Global). map g.T.Deserialize.value ys.items) true (are_text xs) c.from_residual-in_err-item.result c.in_err-item.field-0.0 (first_item (drop l.i xs)) (each_value r xs)
-    c.from_residual-in_err-item.ensures.1 c.in_err-item.ensures (λ none. l.invariant ∙ value_refused r xs l.i (map g.T.Deserialize.value l.values.items) none) (λ f. absurd (false≢true (sym f)))
+    c.from_residual-in_err-item.ensures.1 c.in_err-item.ensures (λ none. l.invariant ∙ value_rejected r xs l.i (map g.T.Deserialize.value l.values.items) none) (λ f. absurd (false≢true (sym f)))
 
 pub returns-in_err-from_node : goal.returns-in_err-from_node
 returns-in_err-from_node g c =

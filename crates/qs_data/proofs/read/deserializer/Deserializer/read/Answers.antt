@@ -2,7 +2,7 @@ use Rattle.std.proofs.Common.{◌≡◌, true, rules}
 use Rattle.qs_spec.specs.internal.ReadFunction.{read_by}
 use Rattle.qs_data.specs.data.Views.{data_of}
 use Rattle.qs_data.specs.shape.Views.{shape_of}
-use Rattle.qs_data.specs.read.Text.{is_text}
+use Rattle.qs_data.specs.read.TreeText.{is_text}
 use Rattle.qs_data.specs.read.Gives.{Gives}
 use Rattle.qs_data.specs.read.internal.Frugal.{IsFrugal}
 use Rattle.qs_data.specs.read.Parsed.{takes_no_memory}

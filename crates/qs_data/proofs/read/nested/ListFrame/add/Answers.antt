@@ -2,7 +2,7 @@ use Rattle.std.proofs.Common.{◌≡◌, [], ◌∷◌, ◌++◌, map, refl, ap,
 use Rattle.std.proofs.lemmas.Grind.{common_steps}
 use Rattle.qs_spec.specs.Data as d
 use Rattle.qs_spec.specs.internal.ReadFunction.{any_data, read_each}
-use Rattle.qs_data.specs.read.internal.Nesting.{items_left, list_with}
+use Rattle.qs_data.specs.read.internal.Nesting.{items_left, list_begun}
 use Rattle.qs_data.specs.data.Views.{data_of}
 use Rattle.qs_data.proofs.lemmas.read.Steps.{before-front}
 use Rattle.qs_data.proofs.read.nested.ListFrame.add.Goals as goal
@@ -14,7 +14,7 @@ returns-clause-ok c =
     let rest = read_each any_data (items_left c.args.self.now) in
     let pushed : map data_of c.push.new.self.items ≡ ws ++ x ∷ [] = grind (arith, common_steps) in
     record {
-      value = ap (option_map (λ ds. d.Data.sequence (d.values_of ds))) (before-front ws x rest) ∙ ap (λ ys. list_with ys rest) (sym pushed);
+      value = ap (option_map (λ ds. d.Data.sequence (d.values_of ds))) (before-front ws x rest) ∙ ap (λ ys. list_begun ys rest) (sym pushed);
       text = refl;
       size = refl;
     }

@@ -6,7 +6,7 @@ use Rattle.qs_tree.specs.tree.Views.{tree_of}
 use Rattle.qs_data.specs.declared.read.nested.Frame.TheVariants as frame
 use Rattle.qs_data.specs.declared.read.nested.Visited.{Visited}
 use Rattle.qs_data.specs.read.Items.{items_view, first_item}
-use Rattle.qs_data.specs.read.internal.Nesting.{Visits, list_with}
+use Rattle.qs_data.specs.read.internal.Nesting.{Visits, list_begun}
 use Rattle.qs_data.specs.data.Views.{data_of}
 use Rattle.qs_data.proofs.lemmas.read.Items.{each_more, each_end, each_all}
 use Rattle.qs_data.proofs.lemmas.read.Nesting.{enters_list, list_text_after, list_parts}
@@ -35,7 +35,7 @@ loop-place-preserved c =
     let pushed : map data_of c.push.new.self.items ≡ ws ++ x ∷ [] = grind (arith, common_steps) in
     record {
       value = l.invariant.value ∙ ap (option_map (λ ds. d.Data.sequence (d.values_of ds))) (each_more any_data xs l.place ws n x here leaf)
-          ∙ ap (λ ys. list_with ys (read_each any_data (drop (l.place + 1) xs))) (sym pushed);
+          ∙ ap (λ ys. list_begun ys (read_each any_data (drop (l.place + 1) xs))) (sym pushed);
       text = λ e. l.invariant.text (list_text_after xs l.place n here e);
       size = let parts = list_parts xs l.place n here in let within = l.invariant.size in omega arith;
       same = l.invariant.same;

@@ -2,7 +2,7 @@ use Rattle.std.proofs.Common.{◌≡◌, ◌≤◌, false, map, drop}
 use Rattle.qs_spec.specs.internal.ReadFunction.{any_data, read_each}
 use Rattle.qs_data.specs.declared.read.nested.Frame.TheVariants as frame
 use Rattle.qs_data.specs.read.Items.{items_view, are_text}
-use Rattle.qs_data.specs.read.internal.Nesting.{frame_data, frame_is_text, frame_size, list_with}
+use Rattle.qs_data.specs.read.internal.Nesting.{frame_data, frame_is_text, frame_size, list_begun}
 use Rattle.qs_data.specs.read.internal.Sizes.{list_size}
 use Rattle.qs_data.specs.data.Views.{data_of}
 use Rattle.qs_data.proofs.read.nested.ListFrame.advance.Given as goal
@@ -12,7 +12,7 @@ invariant-loop-place l =
     let old = frame.List l.initial.self in
     let left = drop l.place (items_view l.self.items) in
     record {
-      value : frame_data old ≡ list_with (map data_of l.self.values.items) (read_each any_data left);
+      value : frame_data old ≡ list_begun (map data_of l.self.values.items) (read_each any_data left);
       text : are_text left ≡ false → frame_is_text old ≡ false;
       size : list_size left ≤ frame_size old;
       same : l.self.items ≡ l.initial.self.items;

@@ -3,7 +3,7 @@ use Rattle.std.proofs.lemmas.Grind.{common_steps}
 use Rattle.qs_spec.specs.Data as d
 use Rattle.qs_spec.specs.internal.ReadFunction.{any_data, read_pairs}
 use Rattle.qs_spec.specs.Shape.{KeyShape}
-use Rattle.qs_data.specs.read.internal.Nesting.{entries_left, map_with}
+use Rattle.qs_data.specs.read.internal.Nesting.{entries_left, map_begun}
 use Rattle.qs_data.specs.data.Views.{data_of, pair_of}
 use Rattle.qs_data.proofs.lemmas.read.Steps.{before-front}
 use Rattle.qs_data.proofs.read.nested.MapFrame.add.Goals as goal
@@ -15,7 +15,7 @@ returns-clause-ok c =
     let rest = read_pairs KeyShape.text any_data (entries_left c.args.self.now) in
     let pushed : map pair_of c.push.new.self.items ≡ ws ++ x ∷ [] = grind (arith, common_steps) in
     record {
-      value = ap (option_map (λ ps. d.Data.mapping (d.pairs_of ps))) (before-front ws x rest) ∙ ap (λ ys. map_with ys rest) (sym pushed);
+      value = ap (option_map (λ ps. d.Data.mapping (d.pairs_of ps))) (before-front ws x rest) ∙ ap (λ ys. map_begun ys rest) (sym pushed);
       text = refl;
       size = refl;
     }

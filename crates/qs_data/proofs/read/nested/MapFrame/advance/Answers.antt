@@ -11,8 +11,8 @@ use Rattle.qs_tree.specs.tree.Views.{tree_of, entries_of_map, step_of_key, entry
 use Rattle.qs_data.specs.declared.read.nested.Frame.TheVariants as frame
 use Rattle.qs_data.specs.declared.read.nested.Visited.{Visited}
 use Rattle.qs_data.specs.read.internal.Keys.{entries_after}
-use Rattle.qs_data.specs.read.internal.Nesting.{Visits, map_with}
-use Rattle.qs_data.specs.read.Text.{is_text}
+use Rattle.qs_data.specs.read.internal.Nesting.{Visits, map_begun}
+use Rattle.qs_data.specs.read.TreeText.{is_text}
 use Rattle.qs_data.specs.data.Views.{data_of, pair_of}
 use Rattle.qs_data.proofs.lemmas.read.Nesting.{enters_map, advance_exit, map_text_key, map_text, map_text_after, map_parts}
 use Rattle.qs_data.proofs.lemmas.read.Pairs.{pairs_more, pairs_no_key, pairs_no_value, pairs_end, pairs_all}
@@ -50,7 +50,7 @@ returns-in-Inner c =
     let begun = subst P c.in-Inner.is c.in_ok-data.ensures in
     let w = c.keep_key in
     let key : key_data KeyShape.text (segment_text x.0.seg) ≡ Some (data_of w.new.self.key) = c.in_ok-key.ensures ∙ ap (λ k. Some (data_of k)) (sym w.ensures.key) in
-    let value = l.invariant.value ∙ ap (λ ps. map_with (map pair_of ps.items) (read_pairs KeyShape.text any_data (entries_after l.place es))) (sym w.ensures.pairs) in
+    let value = l.invariant.value ∙ ap (λ ps. map_begun (map pair_of ps.items) (read_pairs KeyShape.text any_data (entries_after l.place es))) (sym w.ensures.pairs) in
     enters_map (frame.Map c.args.self.now) c.in-Inner.frame w.new.self es l.place x (sym c.in-Some.ensures) (ap (λ e. entries_of_map e.now) w.ensures.entries) w.ensures.next key value l.invariant.text
     l.invariant.size begun
 
@@ -68,7 +68,7 @@ loop-place-preserved c =
     let pushed : map pair_of c.push.new.self.items ≡ ws ++ (a, b) ∷ [] = grind (arith, common_steps) in
     record {
       value = l.invariant.value ∙ ap (option_map (λ ps. d.Data.mapping (d.pairs_of ps))) (pairs_more KeyShape.text any_data es l.place ws x here a b c.in_ok-key.ensures leaf)
-          ∙ ap (λ ys. map_with ys (read_pairs KeyShape.text any_data (entries_after (l.place + 1) es))) (sym pushed);
+          ∙ ap (λ ys. map_begun ys (read_pairs KeyShape.text any_data (entries_after (l.place + 1) es))) (sym pushed);
       text = λ e. l.invariant.text (map_text_after es l.place x here e);
       size = let parts = map_parts es l.place x here in let within = l.invariant.size in omega arith;
       same = l.invariant.same;

@@ -4,9 +4,9 @@ use Rattle.qs_spec.specs.Shape.{KeyShape}
 use Rattle.qs_tree.specs.tree.Views.{entries_of_map}
 use Rattle.qs_data.specs.declared.read.nested.Frame.TheVariants as frame
 use Rattle.qs_data.specs.read.internal.Keys.{entries_after}
-use Rattle.qs_data.specs.read.internal.Nesting.{frame_data, frame_is_text, frame_size, map_with}
+use Rattle.qs_data.specs.read.internal.Nesting.{frame_data, frame_is_text, frame_size, map_begun}
 use Rattle.qs_data.specs.read.internal.Sizes.{entries_size}
-use Rattle.qs_data.specs.read.Text.{entries_are_text}
+use Rattle.qs_data.specs.read.TreeText.{entries_are_text}
 use Rattle.qs_data.specs.data.Views.{pair_of}
 use Rattle.qs_data.proofs.read.nested.MapFrame.advance.Given as goal
 
@@ -15,7 +15,7 @@ invariant-loop-place l =
     let old = frame.Map l.initial.self in
     let left = entries_after l.place (entries_of_map l.self.entries.now) in
     record {
-      value : frame_data old ≡ map_with (map pair_of l.self.pairs.items) (read_pairs KeyShape.text any_data left);
+      value : frame_data old ≡ map_begun (map pair_of l.self.pairs.items) (read_pairs KeyShape.text any_data left);
       text : entries_are_text left ≡ false → frame_is_text old ≡ false;
       size : entries_size left ≤ frame_size old;
       same : l.self.entries.now ≡ l.initial.self.entries.now;

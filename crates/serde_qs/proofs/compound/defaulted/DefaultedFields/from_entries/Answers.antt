@@ -1,8 +1,9 @@
 use Rattle.qs_spec.specs.Node.{found}
 use Rattle.qs_spec.specs.internal.ReadFunction.{reads}
-use Rattle.qs_data.specs.read.Text.{entries_are_text}
+use Rattle.qs_data.specs.read.TreeText.{entries_are_text}
 use Rattle.qs_data.specs.read.Keys.{entries_view}
-use Rattle.serde_qs.specs.Nodes.{by_names, value_found}
+use Rattle.serde_qs.specs.Nodes.{by_names}
+use Rattle.serde_qs.specs.internal.NodeParts.{value_found}
 use Rattle.serde_qs.specs.Records.{texts}
 use Rattle.serde_qs.proofs.NodeFields.{defaulted_named, both_read, first_unread, others_differ, others_unread}
 use Rattle.serde_qs.proofs.compound.defaulted.DefaultedFields.from_entries.Goals as goal

@@ -1,9 +1,10 @@
 use Rattle.std.proofs.Common.{map, sym, ap, ◌∙◌}
 use Rattle.qs_spec.specs.internal.ReadFunction.{items_after, reads}
 use Rattle.qs_tree.specs.tree.Views.{items_from, tree_of}
-use Rattle.qs_data.specs.read.Text.{items_are_text}
+use Rattle.qs_data.specs.read.TreeText.{items_are_text}
 use Rattle.serde_qs.specs.Meaning.{both}
-use Rattle.serde_qs.specs.Nodes.{by_places, value_placed}
+use Rattle.serde_qs.specs.Nodes.{by_places}
+use Rattle.serde_qs.specs.internal.NodeParts.{value_placed}
 use Rattle.serde_qs.specs.Records.{texts}
 use Rattle.serde_qs.proofs.NodeFields.{defaulted_placed, after_bad, both_read, first_unread, others_differ, others_unread}
 use Rattle.serde_qs.proofs.compound.defaulted.DefaultedFields.from_places.Goals as goal

@@ -1,9 +1,10 @@
 use Rattle.std.specs.Option.{option_and_then}
 use Rattle.qs_spec.specs.Node.{found}
 use Rattle.qs_spec.specs.internal.ReadFunction.{reads}
-use Rattle.qs_data.specs.read.Text.{entries_are_text}
+use Rattle.qs_data.specs.read.TreeText.{entries_are_text}
 use Rattle.qs_data.specs.read.Keys.{entries_view}
-use Rattle.serde_qs.specs.Nodes.{by_names, missing_data, value_found}
+use Rattle.serde_qs.specs.Nodes.{by_names, missing_data}
+use Rattle.serde_qs.specs.internal.NodeParts.{value_found}
 use Rattle.serde_qs.specs.Records.{texts}
 use Rattle.serde_qs.proofs.NodeFields.{pair_named, both_read, first_unread, others_differ, others_unread}
 use Rattle.serde_qs.proofs.compound.fields.Tuple2Fields.from_entries.Goals as goal

@@ -1,8 +1,8 @@
 use Rattle.std.proofs.Common.{sym, ◌∙◌}
 use Rattle.qs_tree.specs.tree.Views.{tree_of}
-use Rattle.qs_data.specs.read.Text.{is_text}
+use Rattle.qs_data.specs.read.TreeText.{is_text}
 use Rattle.qs_data.proofs.lemmas.read.Errors.{gives_exit}
-use Rattle.serde_qs.specs.Nodes.{members_read}
+use Rattle.serde_qs.specs.internal.NodeParts.{members_read}
 use Rattle.serde_qs.specs.Records.{texts}
 use Rattle.serde_qs.proofs.NodeValues.{struct_read}
 use Rattle.serde_qs.proofs.compound.parts.StructParts.from_node.Goals as goal

@@ -8,11 +8,11 @@ use Rattle.qs_spec.specs.Tree.{Tree}
 use Rattle.qs_spec.specs.Node.{items}
 use Rattle.qs_spec.specs.internal.ReadFunction.{reads}
 use Rattle.qs_tree.specs.tree.Views.{tree_of}
-use Rattle.qs_data.specs.read.Text.{is_text}
+use Rattle.qs_data.specs.read.TreeText.{is_text}
 use Rattle.qs_data.specs.read.Items.{are_text, items_view}
 use Rattle.qs_data.proofs.lemmas.read.Errors.{gives_exit}
 use Rattle.serde_qs.specs.Meaning.{sequence_in}
-use Rattle.serde_qs.specs.Nodes.{each_value}
+use Rattle.serde_qs.specs.internal.NodeParts.{each_value}
 use Rattle.serde_qs.proofs.NodeItems.{sequence_read}
 use Rattle.serde_qs.proofs.NodeValues.{widened}
 use Rattle.serde_qs.proofs.types.lists.VecDeserialize.from_node.Goals as goal

@@ -1,5 +1,7 @@
--- To be believed: what a serializer holds, what it writes and with which errors, and when a put fails.
+-- To be believed: what a serializer holds, what it writes and with which errors, when a put fails, and what was written after what.
 pub mod State
 pub mod Errors
 pub mod Put
-pub mod internal
+pub mod Scalars
+pub mod Writes
+pub mod Parts

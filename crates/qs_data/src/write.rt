@@ -1,4 +1,4 @@
-//! Writing: a serializer, the sink that it writes to, and the walk over data.
+//! Writing: a serializer, the sink that it writes to, the walk over data, and a writer for types that write themselves.
 
 mod entry;
 mod scalar;
@@ -7,7 +7,11 @@ mod sink;
 mod stop;
 mod text;
 mod walk;
+mod writer;
 
-pub(crate) use scalar::{Scalar, word};
+pub use scalar::Scalar;
+pub(crate) use scalar::word;
 pub use serializer::Serializer;
 pub use sink::{ByWrite, Sink};
+pub use stop::{Stop, WriteResult};
+pub use writer::Writer;

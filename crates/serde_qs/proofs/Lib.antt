@@ -6,8 +6,9 @@ pub mod NodesRead
 pub mod NumberItems
 pub mod OwnValue
 pub mod PairsPut
+pub mod PartsWritten
 pub mod Pieces
 pub mod Steps
+pub mod TextWritten
 pub mod TypedRead
-pub mod WriteErrors
 pub mod WrittenRead

@@ -16,6 +16,7 @@ pub mod PartTables
 pub mod Typed
 pub mod Nodes
 pub mod Sources
+pub mod Exits
 pub mod WrittenText
 pub mod Wrappers
 pub mod Items

@@ -52,16 +52,3 @@ pub record WritesValue {T : Type 0} (config : Config) (x : Data) (old new : Opti
   pub memory_text : IsOutOfMemory result → (k : ℕ) × Appends old new (text_of_first k config x)
   pub visible : (added : List ℕ) × Appends old new added × All IsVisible added
   pub errors : IsValueWriteError result
-
--- a write to memory fails only where memory runs out
-abbrev pub memory_for_io : Error → Error
-memory_for_io (Io e) = OutOfMemory
-memory_for_io (Custom m) = Custom m
-memory_for_io (MaxSerializationDepthExceeded n) = MaxSerializationDepthExceeded n
-memory_for_io (Parse m n) = Parse m n
-memory_for_io Unsupported = Unsupported
-memory_for_io (FromUtf8 e) = FromUtf8 e
-memory_for_io (ParseInt e) = ParseInt e
-memory_for_io (Utf8 e) = Utf8 e
-memory_for_io OutOfMemory = OutOfMemory
-memory_for_io Failed = Failed

@@ -20,24 +20,26 @@ ghost use Rattle.std.specs.Prelude.{◌≡◌, true, IfOk};
 ghost use Rattle.qs_tree.specs.Error.{OnlyOutOfMemory};
 ghost use Rattle.qs_data.specs.data.Views.{data_of};
 ghost use Rattle.qs_data.specs.shape.Views.{shape_of};
+ghost use Rattle.qs_data.specs.write.Parts.{data_part};
 ghost use Rattle.serde_qs.specs.Compound.{data_by};
 ghost use Rattle.serde_qs.specs.internal.Compound.{data_by_back};
 ghost use Rattle.serde_qs.specs.internal.OwnTables.{itself};
+ghost use Rattle.serde_qs.specs.Exits.{PartsWritten};
 ghost use Rattle.serde_qs.specs.Fits.{fits};
 ghost use Rattle.serde_qs.specs.Tables.{Table, closed};
 ghost use Rattle.qs_spec.specs.Shape.{is_distinct};
 ghost use Rattle.serde_qs.specs.Sources.{ReadsSource};
-ghost use Rattle.serde_qs.specs.declared.compound.out.Out.TheVariants.{Nothing};
+ghost use Rattle.serde_qs.specs.declared.compound.out.Exit.TheVariants.{Nothing};
 
 use crate::traits::{Deserialize, RoundTrip, Serialize};
 pub use defaulted::{Defaulted, OrDefault};
 pub use fields::Fields;
 pub use items::Items;
 pub use optional::Optional;
-pub use out::Out;
+pub use out::{Exit, Out};
 pub use parts::{Enum, Parts};
 pub use payloads::{Newtype, Payload, Struct, Tuple};
-use qs_data::{Data, Reader, Result, Shape};
+use qs_data::{Data, Reader, Result, Shape, Stop, WriteResult, Writer};
 use qs_tree::ParsedValue;
 pub use references::{FieldReferences, ItemReferences, ListedReferences, References, SkipNone};
 pub use source::Source;
@@ -95,11 +97,12 @@ pub trait Compound: Sized {
         ensures exact { ReadsSource table.value table.form table.meaning source.entry result };
 
     /// Passes the parts to `out`, and returns their data under their names. The one error is
-    /// [`OutOfMemory`](qs_data::Error::OutOfMemory). Where they go nowhere, it shows that they fit.
+    /// [`OutOfMemory`](qs_data::Error::OutOfMemory). Where they go to a writer, they are written; where they go nowhere, it shows that they fit.
     fn written(&self, out: Out) -> Result<Data>
         ensures exact { IfOk result (λ d. data_of d ≡ table.datum self.now) }
         ensures errors { OnlyOutOfMemory result }
-        ensures fits { out ≡ Nothing → fits table.form (table.datum self.now) ≡ true };
+        ensures fits { out.old ≡ Nothing → fits table.form (table.datum self.now) ≡ true }
+        ensures written { PartsWritten out.old out.new (data_part (table.datum self.now)) };
 }
 
 impl<C: Compound> Serialize for C {
@@ -107,7 +110,20 @@ impl<C: Compound> Serialize for C {
 
     #[tactic(auto, unfolding(crate::specs::Compound::data_by))]
     fn to_data(&self, alloc: Global) -> Result<Data> {
-        self.written(Out::Data(alloc))
+        self.written(&mut Exit::Data(alloc))
+    }
+
+    #[tactic(auto, unfolding(crate::specs::Compound::data_by))]
+    fn write_to(&self, writer: &mut Writer) -> WriteResult {
+        let mut exit = Exit::Writer(writer.take(), Err(Stop::OutOfMemory));
+        let _nothing = self.written(&mut exit);
+        match exit {
+            Exit::Writer(whole, result) => {
+                *writer = whole;
+                result
+            }
+            Exit::Data(_) | Exit::Nothing => Err(Stop::OutOfMemory),
+        }
     }
 }
 
@@ -144,7 +160,7 @@ impl<C: Compound> RoundTrip for C {
 
     #[tactic(auto, unfolding(crate::specs::Compound::data_by))]
     fn fits(&self) {
-        let _nothing = self.written(Out::Nothing);
+        let _nothing = self.written(&mut Exit::Nothing);
     }
 }
 

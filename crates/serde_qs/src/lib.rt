@@ -59,13 +59,14 @@ mod compound;
 pub mod helpers;
 mod laws;
 mod limits;
+mod parts;
 mod traits;
 mod types;
 pub mod web;
 
 pub use calls::{ConfigExt, from_bytes, from_str, read_by, to_string, to_writer};
 pub use compound::{
-    Compound, Defaulted, Enum, FieldReferences, Fields, ItemReferences, Items, Last,
+    Compound, Defaulted, Enum, Exit, FieldReferences, Fields, ItemReferences, Items, Last,
     ListedReferences, Newtype, OneOf, Optional, OrDefault, Out, Parts, Payload, References,
     SkipNone, Source, StrictStruct, Struct, Tuple, Variants, newtype_struct, newtype_variant,
     struct_of, struct_variant, tuple_struct, tuple_variant, unit_variant,
@@ -73,8 +74,9 @@ pub use compound::{
 pub use laws::value_comes_back;
 pub use limits::{LimitError, Limits};
 pub use qs_data::{
-    ByWrite, Data, Deserializer, Deserializer as QsDeserializer, Field, KeyShape, Serializer,
-    Serializer as QsSerializer, Shape, Sink, Variant, VariantKind,
+    ByWrite, Data, Deserializer, Deserializer as QsDeserializer, Field, KeyShape, Scalar,
+    Serializer, Serializer as QsSerializer, Shape, Sink, Stop, Variant, VariantKind, WriteResult,
+    Writer,
 };
 pub use qs_tree::{ArrayFormat, Config, DuplicateKeyBehavior, Error, Result};
 pub use traits::{Deserialize, RoundTrip, Serialize, unexpected};

@@ -6,6 +6,7 @@ ghost use Rattle.qs_spec.specs.Shape.{Shape as Form, is_distinct};
 ghost use Rattle.qs_tree.specs.Error.{OnlyOutOfMemory};
 ghost use Rattle.qs_data.specs.read.Errors.{IsCustomOrOutOfMemory};
 ghost use Rattle.qs_data.specs.data.Views.{data_of};
+ghost use Rattle.qs_data.specs.write.Parts.{WritesPart, data_part};
 ghost use Rattle.qs_data.specs.shape.Views.{shape_of};
 ghost use Rattle.serde_qs.specs.ComesBack.{ComesBack};
 ghost use Rattle.qs_tree.specs.tree.Views.{tree_of};
@@ -14,7 +15,8 @@ ghost use Rattle.serde_qs.specs.Nodes.{ReadsNode, missing_data};
 ghost use Rattle.serde_qs.specs.Tables.{IsTableOf, Table};
 ghost use Rattle.serde_qs.specs.Typed.{Means};
 
-use qs_data::{Data, Error, Reader, Result, Shape};
+use crate::parts::write_made;
+use qs_data::{Data, Error, Reader, Result, Shape, WriteResult, Writer};
 use qs_tree::ParsedValue;
 use std::alloc::Global;
 
@@ -35,6 +37,20 @@ pub trait Serialize {
     fn to_data(&self, alloc: Global) -> Result<Data>
         ensures exact { IfOk result (λ d. data_of d ≡ datum self.now) }
         ensures errors { OnlyOutOfMemory result };
+
+    /// Writes the entries of this value where the writer is: those of its data. Typed calls write by this function.
+    ///
+    /// The errors, and what was written before each, are those of [`Writer::data`]. Unless a type has a function of its own, this makes the
+    /// data; the types of this crate write their parts themselves, and no string is copied.
+    ///
+    /// ```
+    /// query.write_to(&mut writer)?; // name=Alice&age=24
+    /// ```
+    fn write_to(&self, writer: &mut Writer) -> WriteResult
+        ensures written { WritesPart result writer.old writer.new (data_part (datum self.now)) }
+    {
+        write_made(writer, self.to_data(writer.alloc))
+    }
 }
 
 /// A type whose values are read from a querystring.

@@ -3,3 +3,4 @@ pub mod Wrote
 pub mod Visible
 pub mod Entry
 pub mod Walk
+pub mod Parts

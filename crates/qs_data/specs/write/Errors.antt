@@ -1,7 +1,10 @@
 -- The errors of writing.
 use Rattle.std.specs.Prelude.{Result, Ok, Err}
+use Rattle.qs_spec.specs.Config.{Config}
 use Rattle.qs_tree.specs.declared.error.Error.{Error}
 use Rattle.qs_tree.specs.declared.error.Error.TheVariants.{Custom, MaxSerializationDepthExceeded, Parse, Unsupported, FromUtf8, Io, ParseInt, Utf8, OutOfMemory, Failed}
+use Rattle.qs_data.specs.declared.write.stop.Stop.{Stop}
+use Rattle.qs_data.specs.declared.write.stop.Stop.TheVariants as stop
 
 -- no other error than those of writing
 abbrev pub IsWriteError : {T : Type 0} → Result T Error → Type 0
@@ -16,3 +19,10 @@ IsWriteError (Err (ParseInt cause)) = ⊥
 IsWriteError (Err (Utf8 cause)) = ⊥
 IsWriteError (Err OutOfMemory) = Unit {0}
 IsWriteError (Err Failed) = Unit {0}
+
+-- the error of a value that was written in memory
+abbrev pub error_of : Config → Stop → Error
+error_of config stop.TooDeep = MaxSerializationDepthExceeded config.max_depth
+error_of config stop.BadKey = Unsupported
+error_of config stop.Io = OutOfMemory
+error_of config stop.OutOfMemory = OutOfMemory

@@ -8,7 +8,7 @@ ghost use Rattle.qs_spec.specs.Entry.{key_text};
 ghost use Rattle.qs_spec.specs.Scalar.{is_numeral};
 ghost use Rattle.qs_spec.specs.Token.{is_bracket};
 ghost use Rattle.qs_data.specs.data.Views.{data_of, values_in, pairs_in, members_in};
-ghost use Rattle.qs_data.specs.write.internal.Scalars.{scalar_text};
+ghost use Rattle.qs_data.specs.write.Scalars.{scalar_text};
 
 use crate::data::Data;
 use crate::write::{Scalar, word};

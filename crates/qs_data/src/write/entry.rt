@@ -5,9 +5,9 @@ ghost use Rattle.qs_spec.specs.Entry.{Path, one};
 ghost use Rattle.qs_spec.specs.Escape.{encoded};
 ghost use Rattle.std.specs.List.{All};
 ghost use Rattle.qs_spec.specs.Written.{open_bytes, close_bytes, value_text};
-ghost use Rattle.qs_data.specs.write.internal.Scalars.{scalar_text};
+ghost use Rattle.qs_data.specs.write.Scalars.{scalar_text};
 ghost use Rattle.qs_data.specs.write.State.{IsVisible};
-ghost use Rattle.qs_data.specs.write.internal.Writes.{IsAt, path_after, grown, WritesTo};
+ghost use Rattle.qs_data.specs.write.Writes.{IsAt, path_after, grown, WritesTo};
 ghost use Rattle.qs_data.specs.declared.write.stop.Stop.TheVariants.{TooDeep, OutOfMemory};
 
 use crate::write::scalar::Scalar;

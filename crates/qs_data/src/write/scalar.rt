@@ -7,7 +7,7 @@ ghost use Rattle.qs_spec.specs.Escape.{encoded};
 ghost use Rattle.qs_spec.specs.Entry.{boolean_text, key_text};
 ghost use Rattle.qs_spec.specs.Listed.{is_empty_text};
 ghost use Rattle.qs_data.specs.data.Views.{data_of};
-ghost use Rattle.qs_data.specs.write.internal.Scalars.{scalar_text};
+ghost use Rattle.qs_data.specs.write.Scalars.{scalar_text};
 ghost use Rattle.qs_data.specs.write.State.{IsVisible};
 
 use crate::data::Data;
@@ -18,11 +18,16 @@ use std::alloc::AllocError;
 
 /// A value of one text, or a segment of a path.
 #[derive(Clone, Copy)]
-pub(crate) enum Scalar<'a> {
+pub enum Scalar<'a> {
+    /// A string or bytes.
     Bytes(&'a [u8]),
+    /// `true` or `false`.
     Bool(bool),
+    /// A number, by its digits.
     Unsigned(u64),
+    /// A number, by its digits, after `-` where it is negative.
     Signed(i64),
+    /// A character, in UTF-8.
     Char(char),
 }
 

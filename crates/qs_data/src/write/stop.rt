@@ -1,10 +1,13 @@
 //! Why a walk over data stops.
 
+ghost use Rattle.std.specs.Prelude.{◌≡◌};
+
+use qs_tree::{Config, Error};
 use std::alloc::AllocError;
 
 /// Why a walk over data stopped before its end.
 #[derive(Drop)]
-pub(crate) enum Stop {
+pub enum Stop {
     /// A path is longer than the configuration allows.
     TooDeep,
     /// A map's key is no scalar.
@@ -13,6 +16,29 @@ pub(crate) enum Stop {
     Io,
     /// An allocation failed.
     OutOfMemory,
+}
+
+/// What a call returns that writes a part of a value: unit, or why it stopped.
+pub type WriteResult = Result<(), Stop>;
+
+impl Stop {
+    ghost use Rattle.qs_data.specs.write.Errors.{error_of};
+
+    /// Returns the error of a value that was written in memory under this configuration: [`MaxSerializationDepthExceeded`](Error::MaxSerializationDepthExceeded),
+    /// [`Unsupported`](Error::Unsupported) or [`OutOfMemory`](Error::OutOfMemory).
+    ///
+    /// ```
+    /// Err(stop) => Err(stop.into_error(config)),
+    /// ```
+    pub fn into_error(self, config: Config) -> Error
+        ensures { result ≡ error_of config self }
+    {
+        match self {
+            Stop::TooDeep => Error::MaxSerializationDepthExceeded(config.get_max_depth()),
+            Stop::BadKey => Error::Unsupported,
+            Stop::Io | Stop::OutOfMemory => Error::OutOfMemory,
+        }
+    }
 }
 
 impl From<AllocError> for Stop {

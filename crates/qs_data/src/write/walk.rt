@@ -4,8 +4,8 @@ ghost use Rattle.std.specs.Prelude.{◌≡◌, [], Err};
 ghost use Rattle.qs_spec.specs.Config.{element_segment};
 ghost use Rattle.qs_spec.specs.Entry.{entries, entries_at, elements_from, pair_entries, member_entries, deeper, maybe_deeper};
 ghost use Rattle.qs_data.specs.data.Views.{data_of, values_in, pairs_in, members_in};
-ghost use Rattle.qs_data.specs.write.internal.Scalars.{scalar_text};
-ghost use Rattle.qs_data.specs.write.internal.Writes.{IsAt, Writes, WritesTo, state_in};
+ghost use Rattle.qs_data.specs.write.Scalars.{scalar_text};
+ghost use Rattle.qs_data.specs.write.Writes.{IsAt, Writes, WritesTo, state_in};
 ghost use Rattle.qs_data.specs.write.State.{IsBare};
 ghost use Rattle.qs_data.specs.declared.write.stop.Stop.TheVariants.{OutOfMemory};
 
@@ -34,7 +34,7 @@ pub(crate) fn write_all<S: Sink>(
 /// Writes the entries of the data at the walk's path.
 #[cycle(write)]
 #[tactic(auto, using(crate::proofs::lemmas::data::Levels::levels), unfolding(qs_spec::specs::Entry::entries_at))]
-fn write_data<'a, S: Sink>(
+pub(crate) fn write_data<'a, S: Sink>(
     stream: &mut Stream<S>,
     walk: &mut Walk,
     config: Config,

@@ -1,17 +1,17 @@
 //! Typed calls that write.
 
-ghost use Rattle.std.specs.Prelude.{◌≡◌, ℕ, ◌<◌, List, length, take, Some, None, OnOk};
+ghost use Rattle.std.specs.Prelude.{◌≡◌, ℕ, ◌<◌, List, length, take, Some, None, IfOk, OnOk, string_bytes};
 ghost use Rattle.std.specs.List.{All};
 ghost use Rattle.std.specs.Io.KnownBytes.{Appends};
 ghost use Rattle.qs_spec.specs.Config.{default};
 ghost use Rattle.qs_spec.specs.Entry.{entries, too_deep, bad_key};
-ghost use Rattle.qs_tree.specs.Error.{IsTooDeep, IsUnsupported, IsIo, IsOutOfMemory};
+ghost use Rattle.qs_tree.specs.Error.{IsTooDeep, IsUnsupported, IsIo, IsOutOfMemory, OnlyOutOfMemory};
 ghost use Rattle.qs_data.specs.write.State.{IsVisible};
-ghost use Rattle.serde_qs.specs.WrittenText.{IsValueWriteError, ReturnsText, WritesValue, memory_for_io, text_of, text_of_first};
+ghost use Rattle.serde_qs.specs.WrittenText.{IsValueWriteError, ReturnsText, WritesValue, text_of, text_of_first};
 
 use super::lent::Lent;
 use crate::traits::Serialize;
-use qs_data::{Config, Error, Result, Serializer};
+use qs_data::{Config, Error, Result, Serializer, Writer};
 use std::alloc::Global;
 use std::io::Write;
 
@@ -28,7 +28,8 @@ use std::io::Write;
 /// - [`OutOfMemory`](Error::OutOfMemory): an allocation failed.
 ///
 /// The text is that of the value's entries. The first two are returned exactly in these cases, and there is no other error. The text
-/// has only bytes from 0x21 to 0x7E. It allocates for the text and for the data of the value; the time grows with the text.
+/// has only bytes from 0x21 to 0x7E. It allocates for the text and the longest path in it, and for the data of parts
+/// that don't write themselves ([`write_to`](Serialize::write_to)); the time grows with the text.
 pub fn to_string<T: Serialize>(alloc: Global, value: &T) -> Result<String>
     ensures { ReturnsText default (T.datum value.now) result }
 {
@@ -62,25 +63,21 @@ pub fn to_writer<T: Serialize, W: Write>(alloc: Global, value: &T, writer: &mut 
 pub(crate) fn write_text<T: Serialize>(alloc: Global, config: Config, value: &T) -> Result<String>
     ensures { ReturnsText config (T.datum value.now) result }
 {
-    let datum = value.to_data(alloc)?;
-    let text = Vec::with_capacity(alloc, 128)?;
-    let mut serializer = Serializer::new(text, config);
-    if let Err(error) = serializer.serialize(alloc, &datum) {
-        return Err(without_io(error));
-    }
-    match String::from_utf8(serializer.into_sink().into_writer()) {
-        Ok(text) => Ok(text),
-        Err(_) => Err(Error::OutOfMemory),
+    let mut writer = Writer::new(alloc, config)?;
+    match value.write_to(&mut writer) {
+        Ok(()) => string_of(writer.into_text()),
+        Err(stop) => Err(stop.into_error(config)),
     }
 }
 
-// Returns the error of a write to memory, which fails only where an allocation did.
-fn without_io(error: Error) -> Error
-    ensures { result ≡ memory_for_io error }
+// Returns these bytes as a string. They are visible, and so they are UTF-8.
+fn string_of(text: Vec<u8>) -> Result<String>
+    ensures ok { IfOk result (λ string. string_bytes string ≡ text.items) }
+    ensures errors { OnlyOutOfMemory result }
 {
-    match error {
-        Error::Io(_) => Error::OutOfMemory,
-        error => error,
+    match String::from_utf8(text) {
+        Ok(string) => Ok(string),
+        Err(_) => Err(Error::OutOfMemory),
     }
 }
 

@@ -5,9 +5,11 @@ ghost use Rattle.qs_spec.specs.Data.{members_of, values_of};
 ghost use Rattle.qs_spec.specs.Data as d;
 ghost use Rattle.qs_tree.specs.Error.{OnlyOutOfMemory};
 ghost use Rattle.qs_data.specs.data.Views.{data_of};
+ghost use Rattle.qs_data.specs.write.Parts.{data_part};
+ghost use Rattle.serde_qs.specs.Exits.{PartsWritten};
 ghost use Rattle.serde_qs.specs.Fits.{fits};
 ghost use Rattle.serde_qs.specs.Records.{texts};
-ghost use Rattle.serde_qs.specs.declared.compound.out.Out.TheVariants.{Nothing};
+ghost use Rattle.serde_qs.specs.declared.compound.out.Exit.TheVariants.{Nothing};
 
 use super::own;
 use super::references::{FieldReferences, ListedReferences};
@@ -15,37 +17,49 @@ use super::written::{
     newtype_struct, newtype_variant, struct_of, struct_variant, tuple_struct, tuple_variant,
     unit_variant,
 };
-use crate::traits::{RoundTrip, Serialize};
-use qs_data::{Data, Error, Result};
+use crate::parts::write_made;
+use crate::traits::RoundTrip;
+use qs_data::{Data, Error, Result, Scalar, WriteResult, Writer};
 use std::alloc::Global;
 
-/// Where the parts of a value go: into its data, or nowhere. It is passed to [`Compound::written`](crate::Compound::written), which
-/// passes the parts to one of its methods.
+/// Where the parts of a value go: into its data, to a writer, or nowhere. It is passed to [`Compound::written`](crate::Compound::written),
+/// which passes the parts to one of its methods.
 ///
-/// The one error of each method is [`OutOfMemory`](Error::OutOfMemory). With [`Out::Nothing`] it is returned in any case, and nothing is
-/// allocated.
-#[derive(Clone, Copy)]
-pub enum Out {
+/// The one error of each method is [`OutOfMemory`](Error::OutOfMemory). With [`Exit::Writer`] and [`Exit::Nothing`] it is returned in any case,
+/// and no data are made.
+pub type Out<'a> = &'a mut Exit;
+
+/// What an [`Out`] leads to.
+#[derive(Drop)]
+pub enum Exit {
     /// Into data that are allocated here.
     Data(Global),
+    /// To a writer. Beside it is what the writing of the parts returned.
+    Writer(Writer, WriteResult),
     /// Nowhere: what is wanted is that they fit.
     Nothing,
 }
 
-impl Out {
+impl Exit {
     /// Takes the fields of a struct, under their names.
     ///
     /// ```
     /// out.fields(NAMES, (&self.x, (&self.y, ())))
     /// ```
-    pub fn fields<R: FieldReferences + Drop>(self, names: &[&str], fields: R) -> Result<Data>
+    #[tactic(auto, unfolding(qs_spec::specs::Entry::entries_at))]
+    pub fn fields<R: FieldReferences + Drop>(&mut self, names: &[&str], fields: R) -> Result<Data>
         ensures exact { IfOk result (λ x. data_of x ≡ d.struct (members_of (R.own_members (texts names.now) fields))) }
         ensures errors { OnlyOutOfMemory result }
-        ensures fits { self ≡ Nothing → R.fit fields ≡ true }
+        ensures written { PartsWritten self.old self.new (data_part (d.struct (members_of (R.own_members (texts names.now) fields)))) }
+        ensures fits { self.old ≡ Nothing → R.fit fields ≡ true }
     {
         match self {
-            Out::Data(alloc) => struct_of(alloc, names, fields),
-            Out::Nothing => {
+            Exit::Data(alloc) => struct_of(*alloc, names, fields),
+            Exit::Writer(writer, result) => {
+                *result = fields.write_members(names, writer);
+                Err(Error::OutOfMemory)
+            }
+            Exit::Nothing => {
                 fields.fit();
                 Err(Error::OutOfMemory)
             }
@@ -57,14 +71,19 @@ impl Out {
     /// ```
     /// out.value(&self.years)
     /// ```
-    pub fn value<T: RoundTrip>(self, value: &T) -> Result<Data>
+    pub fn value<T: RoundTrip>(&mut self, value: &T) -> Result<Data>
         ensures exact { IfOk result (λ x. data_of x ≡ T.table.datum value.now) }
         ensures errors { OnlyOutOfMemory result }
-        ensures fits { self ≡ Nothing → fits T.table.form (T.table.datum value.now) ≡ true }
+        ensures written { PartsWritten self.old self.new (data_part (T.table.datum value.now)) }
+        ensures fits { self.old ≡ Nothing → fits T.table.form (T.table.datum value.now) ≡ true }
     {
         match self {
-            Out::Data(alloc) => own::datum_of(alloc, value),
-            Out::Nothing => {
+            Exit::Data(alloc) => own::datum_of(*alloc, value),
+            Exit::Writer(writer, result) => {
+                *result = own::write_to(value, writer);
+                Err(Error::OutOfMemory)
+            }
+            Exit::Nothing => {
                 own::fit(value);
                 Err(Error::OutOfMemory)
             }
@@ -76,14 +95,19 @@ impl Out {
     /// ```
     /// out.items((&self.0, (&self.1, ())))
     /// ```
-    pub fn items<R: ListedReferences + Drop>(self, items: R) -> Result<Data>
+    pub fn items<R: ListedReferences + Drop>(&mut self, items: R) -> Result<Data>
         ensures exact { IfOk result (λ x. data_of x ≡ d.tuple (values_of (R.own_data items))) }
         ensures errors { OnlyOutOfMemory result }
-        ensures fits { self ≡ Nothing → R.fit items ≡ true }
+        ensures written { PartsWritten self.old self.new (data_part (d.tuple (values_of (R.own_data items)))) }
+        ensures fits { self.old ≡ Nothing → R.fit items ≡ true }
     {
         match self {
-            Out::Data(alloc) => tuple_struct(alloc, items),
-            Out::Nothing => {
+            Exit::Data(alloc) => tuple_struct(*alloc, items),
+            Exit::Writer(writer, result) => {
+                *result = write_made(writer, tuple_struct(writer.alloc, items));
+                Err(Error::OutOfMemory)
+            }
+            Exit::Nothing => {
                 items.fit();
                 Err(Error::OutOfMemory)
             }
@@ -95,14 +119,20 @@ impl Out {
     /// ```
     /// out.newtype(&self.0)
     /// ```
-    pub fn newtype<T: RoundTrip>(self, value: &T) -> Result<Data>
+    #[tactic(auto, unfolding(qs_spec::specs::Entry::entries_at))]
+    pub fn newtype<T: RoundTrip>(&mut self, value: &T) -> Result<Data>
         ensures exact { IfOk result (λ x. data_of x ≡ d.newtype (T.table.datum value.now)) }
         ensures errors { OnlyOutOfMemory result }
-        ensures fits { self ≡ Nothing → fits T.table.form (T.table.datum value.now) ≡ true }
+        ensures written { PartsWritten self.old self.new (data_part (d.newtype (T.table.datum value.now))) }
+        ensures fits { self.old ≡ Nothing → fits T.table.form (T.table.datum value.now) ≡ true }
     {
         match self {
-            Out::Data(alloc) => newtype_struct(alloc, value),
-            Out::Nothing => {
+            Exit::Data(alloc) => newtype_struct(*alloc, value),
+            Exit::Writer(writer, result) => {
+                *result = own::write_to(value, writer);
+                Err(Error::OutOfMemory)
+            }
+            Exit::Nothing => {
                 own::fit(value);
                 Err(Error::OutOfMemory)
             }
@@ -114,13 +144,19 @@ impl Out {
     /// ```
     /// Sort::Relevance => out.unit_variant("Relevance"),
     /// ```
-    pub fn unit_variant(self, name: &str) -> Result<Data>
+    #[tactic(auto, unfolding(qs_spec::specs::Entry::entries_at))]
+    pub fn unit_variant(&mut self, name: &str) -> Result<Data>
         ensures exact { IfOk result (λ x. data_of x ≡ d.unit_variant name.now) }
         ensures errors { OnlyOutOfMemory result }
+        ensures written { PartsWritten self.old self.new (data_part (d.unit_variant name.now)) }
     {
         match self {
-            Out::Data(alloc) => unit_variant(alloc, name),
-            Out::Nothing => Err(Error::OutOfMemory),
+            Exit::Data(alloc) => unit_variant(*alloc, name),
+            Exit::Writer(writer, result) => {
+                *result = writer.scalar(Scalar::Bytes(name.as_bytes()));
+                Err(Error::OutOfMemory)
+            }
+            Exit::Nothing => Err(Error::OutOfMemory),
         }
     }
 
@@ -129,14 +165,20 @@ impl Out {
     /// ```
     /// Sort::By(field) => out.newtype_variant("By", field),
     /// ```
-    pub fn newtype_variant<T: RoundTrip>(self, name: &str, value: &T) -> Result<Data>
+    #[tactic(auto, unfolding(qs_spec::specs::Entry::entries_at))]
+    pub fn newtype_variant<T: RoundTrip>(&mut self, name: &str, value: &T) -> Result<Data>
         ensures exact { IfOk result (λ x. data_of x ≡ d.newtype_variant name.now (T.table.datum value.now)) }
         ensures errors { OnlyOutOfMemory result }
-        ensures fits { self ≡ Nothing → fits T.table.form (T.table.datum value.now) ≡ true }
+        ensures written { PartsWritten self.old self.new (data_part (d.newtype_variant name.now (T.table.datum value.now))) }
+        ensures fits { self.old ≡ Nothing → fits T.table.form (T.table.datum value.now) ≡ true }
     {
         match self {
-            Out::Data(alloc) => newtype_variant(alloc, name, value),
-            Out::Nothing => {
+            Exit::Data(alloc) => newtype_variant(*alloc, name, value),
+            Exit::Writer(writer, result) => {
+                *result = own::write_under(writer, name, value);
+                Err(Error::OutOfMemory)
+            }
+            Exit::Nothing => {
                 own::fit(value);
                 Err(Error::OutOfMemory)
             }
@@ -148,14 +190,23 @@ impl Out {
     /// ```
     /// Area::Circle(radius, unit) => out.tuple_variant("Circle", (radius, (unit, ()))),
     /// ```
-    pub fn tuple_variant<R: ListedReferences + Drop>(self, name: &str, items: R) -> Result<Data>
+    pub fn tuple_variant<R: ListedReferences + Drop>(
+        &mut self,
+        name: &str,
+        items: R,
+    ) -> Result<Data>
         ensures exact { IfOk result (λ x. data_of x ≡ d.tuple_variant name.now (values_of (R.own_data items))) }
         ensures errors { OnlyOutOfMemory result }
-        ensures fits { self ≡ Nothing → R.fit items ≡ true }
+        ensures written { PartsWritten self.old self.new (data_part (d.tuple_variant name.now (values_of (R.own_data items)))) }
+        ensures fits { self.old ≡ Nothing → R.fit items ≡ true }
     {
         match self {
-            Out::Data(alloc) => tuple_variant(alloc, name, items),
-            Out::Nothing => {
+            Exit::Data(alloc) => tuple_variant(*alloc, name, items),
+            Exit::Writer(writer, result) => {
+                *result = write_made(writer, tuple_variant(writer.alloc, name, items));
+                Err(Error::OutOfMemory)
+            }
+            Exit::Nothing => {
                 items.fit();
                 Err(Error::OutOfMemory)
             }
@@ -168,18 +219,23 @@ impl Out {
     /// Sort::Between { from, to } => out.struct_variant("Between", &["from", "to"], (from, (to, ()))),
     /// ```
     pub fn struct_variant<R: FieldReferences + Drop>(
-        self,
+        &mut self,
         name: &str,
         names: &[&str],
         fields: R,
     ) -> Result<Data>
         ensures exact { IfOk result (λ x. data_of x ≡ d.struct_variant name.now (members_of (R.own_members (texts names.now) fields))) }
         ensures errors { OnlyOutOfMemory result }
-        ensures fits { self ≡ Nothing → R.fit fields ≡ true }
+        ensures written { PartsWritten self.old self.new (data_part (d.struct_variant name.now (members_of (R.own_members (texts names.now) fields)))) }
+        ensures fits { self.old ≡ Nothing → R.fit fields ≡ true }
     {
         match self {
-            Out::Data(alloc) => struct_variant(alloc, name, names, fields),
-            Out::Nothing => {
+            Exit::Data(alloc) => struct_variant(*alloc, name, names, fields),
+            Exit::Writer(writer, result) => {
+                *result = write_made(writer, struct_variant(writer.alloc, name, names, fields));
+                Err(Error::OutOfMemory)
+            }
+            Exit::Nothing => {
                 fields.fit();
                 Err(Error::OutOfMemory)
             }

@@ -4,14 +4,16 @@ ghost use Rattle.std.specs.Prelude.{◌≡◌, true, IfOk, option_and_then};
 ghost use Rattle.qs_tree.specs.Error.{OnlyOutOfMemory};
 ghost use Rattle.qs_data.specs.data.Views.{data_of};
 ghost use Rattle.qs_data.specs.shape.Views.{shape_of};
+ghost use Rattle.qs_data.specs.write.Parts.{WritesPart, data_part, under};
 ghost use Rattle.qs_tree.specs.tree.Views.{tree_of};
 ghost use Rattle.serde_qs.specs.Fits.{fits};
 ghost use Rattle.serde_qs.specs.Nodes.{ReadsNode, missing_data};
 ghost use Rattle.serde_qs.specs.Typed.{Means};
 
 use super::defaulted::OrDefault;
+use crate::parts;
 use crate::traits::{Deserialize, RoundTrip, Serialize};
-use qs_data::{Data, Reader, Result, Shape};
+use qs_data::{Data, Reader, Result, Scalar, Shape, WriteResult, Writer};
 use qs_tree::ParsedValue;
 use std::alloc::Global;
 
@@ -57,6 +59,20 @@ pub(crate) fn datum_of<T: RoundTrip>(alloc: Global, value: &T) -> Result<Data>
     ensures errors { OnlyOutOfMemory result }
 {
     value.to_data(alloc)
+}
+
+// Writes a value where the writer is.
+pub(crate) fn write_to<T: RoundTrip>(value: &T, writer: &mut Writer) -> WriteResult
+    ensures { WritesPart result writer.old writer.new (data_part (T.table.datum value.now)) }
+{
+    value.write_to(writer)
+}
+
+// Writes a value under a name.
+pub(crate) fn write_under<T: RoundTrip>(writer: &mut Writer, name: &str, value: &T) -> WriteResult
+    ensures { WritesPart result writer.old writer.new (under name.now (data_part (T.table.datum value.now))) }
+{
+    parts::write_under(writer, Scalar::Bytes(name.as_bytes()), value)
 }
 
 // Shows that the data of a value fit its shape. It does nothing when it runs.

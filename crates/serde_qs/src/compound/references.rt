@@ -1,10 +1,11 @@
 //! The fields of a struct that is written, by reference.
 
 ghost use Rattle.std.specs.Prelude.{◌≡◌, refl, ◌&&◌, ℕ, Bool, true, List, [], ◌∷◌, ◌++◌, map, IfOk};
-ghost use Rattle.qs_spec.specs.Data.{Data as Datum, Named};
+ghost use Rattle.qs_spec.specs.Data.{Data as Datum, Named, members_of};
 ghost use Rattle.qs_spec.specs.Shape as s;
 ghost use Rattle.qs_tree.specs.Error.{OnlyOutOfMemory};
 ghost use Rattle.qs_data.specs.data.Views.{data_of, named};
+ghost use Rattle.qs_data.specs.write.Parts.{WritesPart, members_part};
 ghost use Rattle.serde_qs.specs.Fits.{fits};
 ghost use Rattle.serde_qs.specs.Meaning.{option_data};
 ghost use Rattle.serde_qs.specs.Optional.{optional_data};
@@ -13,8 +14,9 @@ ghost use Rattle.serde_qs.specs.internal.OwnTables.{same_item, same_member, same
 
 use super::fields::split;
 use super::own;
+use crate::parts::write_under;
 use crate::traits::{RoundTrip, Serialize};
-use qs_data::{Data, Result};
+use qs_data::{Data, Result, Scalar, WriteResult, Writer};
 use std::alloc::Global;
 
 /// References to the fields of a struct that is written, as nested pairs: `(&self.x, (&self.y, ()))`.
@@ -34,6 +36,10 @@ pub trait References: Sized {
     ) -> Result<Vec<(String, Data)>>
         ensures exact { IfOk result (λ all. map (named data_of) all.items ≡ map (named data_of) before.items ++ members (texts names.now) self) }
         ensures errors { OnlyOutOfMemory result };
+
+    /// Writes the fields under their names, where the writer is.
+    fn write_members(self, names: &[&str], writer: &mut Writer) -> WriteResult
+        ensures written { WritesPart result writer.old writer.new (members_part (members_of (members (texts names.now) self))) };
 }
 
 /// A field that is left out where it is None, for a field that is [`Optional`](crate::Optional): `(SkipNone(&self.page), ())`.
@@ -50,6 +56,10 @@ impl References for () {
         before: Vec<(String, Data)>,
     ) -> Result<Vec<(String, Data)>> {
         Ok(before)
+    }
+
+    fn write_members(self, _names: &[&str], _writer: &mut Writer) -> WriteResult {
+        Ok(())
     }
 }
 
@@ -68,6 +78,13 @@ impl<'a, T: Serialize, R: References + Drop> References for (&'a T, R) {
         let name = String::from_str(alloc, name)?;
         before.push((name, datum))?;
         others.push_members(alloc, rest, before)
+    }
+
+    fn write_members(self, names: &[&str], writer: &mut Writer) -> WriteResult {
+        let (field, others) = self;
+        let (name, rest) = split(names);
+        write_under(writer, Scalar::Bytes(name.as_bytes()), field)?;
+        others.write_members(rest, writer)
     }
 }
 
@@ -88,6 +105,14 @@ impl<'a, T: Serialize, R: References + Drop> References for (SkipNone<'a, T>, R)
             before.push((name, datum))?;
         }
         others.push_members(alloc, rest, before)
+    }
+
+    fn write_members(self, names: &[&str], writer: &mut Writer) -> WriteResult {
+        let (SkipNone(field), others) = self;
+        match field {
+            Some(value) => (value, others).write_members(names, writer),
+            None => others.write_members(split(names).1, writer),
+        }
     }
 }
 

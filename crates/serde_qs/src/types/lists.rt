@@ -7,6 +7,7 @@ ghost use Rattle.std.specs.declared.vec.Vec.{Vec};
 ghost use Rattle.std.specs.declared.alloc.Global.{Global};
 ghost use Rattle.qs_data.specs.data.Views.{values_in};
 ghost use Rattle.qs_data.specs.read.Gives.{Gives};
+ghost use Rattle.qs_data.specs.write.Parts.{WritesPart, elements_part};
 ghost use Rattle.qs_data.specs.read.Items.{are_text, items_view};
 ghost use Rattle.qs_spec.specs.internal.ReadFunction.{reads};
 ghost use Rattle.serde_qs.specs.internal.NodeParts.{each_value};
@@ -16,8 +17,9 @@ ghost use Rattle.serde_qs.specs.Meaning.{sequence_in, values_meant};
 ghost use Rattle.serde_qs.specs.internal.OwnTables.{sequence_own};
 ghost use Rattle.serde_qs.specs.Tables.{sequence_table};
 
+use crate::parts::write_element;
 use crate::traits::{Deserialize, RoundTrip, Serialize, unexpected};
-use qs_data::{Data, Items, Reader, Result, Shape};
+use qs_data::{Data, Items, Reader, Result, Shape, WriteResult, Writer};
 use qs_tree::ParsedValue;
 use std::alloc::Global;
 
@@ -31,6 +33,23 @@ impl<T: Serialize> Serialize for Vec<T> {
         }
         Ok(Data::Seq(parts))
     }
+
+    fn write_to(&self, writer: &mut Writer) -> WriteResult {
+        if self.is_empty() {
+            return writer.unit();
+        }
+        write_elements(writer, self)
+    }
+}
+
+// Writes these values as the elements of a list, in order.
+fn write_elements<T: Serialize>(writer: &mut Writer, values: &Vec<T>) -> WriteResult
+    ensures { WritesPart result writer.old writer.new (elements_part 0 (d.values_of (map T.datum values.now.items))) }
+{
+    for (place, value) in values.iter().enumerate() {
+        write_element(writer, place, value)?;
+    }
+    Ok(())
 }
 
 impl<T: Deserialize + Drop> Deserialize for Vec<T> {

@@ -4,14 +4,16 @@ ghost use Rattle.std.specs.Prelude.{◌≡◌, List, ℕ, Option, map};
 ghost use Rattle.qs_spec.specs.Data as d;
 ghost use Rattle.qs_spec.specs.Shape as s;
 ghost use Rattle.qs_data.specs.data.Views.{data_of, pairs_in};
+ghost use Rattle.qs_data.specs.write.Parts.{WritesPart, pairs_part};
 ghost use Rattle.serde_qs.specs.internal.MapsComeBack.{mapping_back};
 ghost use Rattle.serde_qs.specs.Typed.{Means};
 ghost use Rattle.serde_qs.specs.Maps.{entry_data, values_by_text, pair_onto, pairs_onto, mapping_in, nowhere};
 ghost use Rattle.serde_qs.specs.internal.OwnTables.{mapping_own};
 ghost use Rattle.serde_qs.specs.Tables.{mapping_table};
 
+use crate::parts::write_under;
 use crate::traits::{Deserialize, RoundTrip, Serialize, unexpected};
-use qs_data::{Data, KeyShape, Result, Shape};
+use qs_data::{Data, KeyShape, Result, Scalar, Shape, WriteResult, Writer};
 use std::alloc::Global;
 use std::collections::BTreeMap;
 
@@ -26,6 +28,23 @@ impl<T: Serialize> Serialize for BTreeMap<String, T> {
         }
         Ok(Data::Map(pairs))
     }
+
+    fn write_to(&self, writer: &mut Writer) -> WriteResult {
+        if self.is_empty() {
+            return writer.unit();
+        }
+        write_pairs(writer, self)
+    }
+}
+
+// Writes the values under their keys, in order.
+fn write_pairs<T: Serialize>(writer: &mut Writer, values: &BTreeMap<String, T>) -> WriteResult
+    ensures { WritesPart result writer.old writer.new (pairs_part (d.pairs_of (map (entry_data T.datum) values.now.entries))) }
+{
+    for (key, value) in values {
+        write_under(writer, Scalar::Bytes(key.as_bytes()), value)?;
+    }
+    Ok(())
 }
 
 impl<T: Deserialize + Drop> Deserialize for BTreeMap<String, T> {

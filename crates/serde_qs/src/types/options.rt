@@ -8,7 +8,7 @@ ghost use Rattle.serde_qs.specs.internal.OwnTables.{option_own};
 ghost use Rattle.serde_qs.specs.Tables.{option_table};
 
 use crate::traits::{Deserialize, RoundTrip, Serialize, unexpected};
-use qs_data::{Data, Reader, Result, Shape};
+use qs_data::{Data, Reader, Result, Shape, WriteResult, Writer};
 use qs_tree::ParsedValue;
 use std::alloc::Global;
 
@@ -19,6 +19,14 @@ impl<T: Serialize> Serialize for Option<T> {
         match self {
             Some(part) => Ok(Data::Some(Box::new(alloc, part.to_data(alloc)?)?)),
             None => Ok(Data::None),
+        }
+    }
+
+    #[tactic(auto, unfolding(qs_spec::specs::Entry::entries_at))]
+    fn write_to(&self, writer: &mut Writer) -> WriteResult {
+        match self {
+            Some(part) => part.write_to(writer),
+            None => writer.none(),
         }
     }
 }

@@ -11,7 +11,7 @@ ghost use Rattle.serde_qs.specs.internal.OwnTables.{itself};
 ghost use Rattle.serde_qs.specs.Tables.{table_of};
 
 use crate::traits::{Deserialize, RoundTrip, Serialize, unexpected};
-use qs_data::{Data, Reader, Result, Shape};
+use qs_data::{Data, Reader, Result, Scalar, Shape, WriteResult, Writer};
 use qs_tree::ParsedValue;
 use std::alloc::Global;
 
@@ -20,6 +20,11 @@ impl Serialize for () {
 
     fn to_data(&self, _alloc: Global) -> Result<Data> {
         Ok(Data::Unit)
+    }
+
+    #[tactic(auto, unfolding(qs_spec::specs::Entry::entries_at))]
+    fn write_to(&self, writer: &mut Writer) -> WriteResult {
+        writer.unit()
     }
 }
 
@@ -62,6 +67,11 @@ impl Serialize for bool {
     fn to_data(&self, _alloc: Global) -> Result<Data> {
         Ok(Data::Bool(*self))
     }
+
+    #[tactic(auto, unfolding(qs_spec::specs::Entry::entries_at))]
+    fn write_to(&self, writer: &mut Writer) -> WriteResult {
+        writer.scalar(Scalar::Bool(*self))
+    }
 }
 
 impl Deserialize for bool {
@@ -102,6 +112,11 @@ impl Serialize for char {
 
     fn to_data(&self, _alloc: Global) -> Result<Data> {
         Ok(Data::Char(*self))
+    }
+
+    #[tactic(auto, unfolding(qs_spec::specs::Entry::entries_at))]
+    fn write_to(&self, writer: &mut Writer) -> WriteResult {
+        writer.scalar(Scalar::Char(*self))
     }
 }
 
@@ -145,6 +160,11 @@ impl Serialize for String {
 
     fn to_data(&self, alloc: Global) -> Result<Data> {
         Ok(Data::Text(String::from_str(alloc, self.as_str())?))
+    }
+
+    #[tactic(auto, unfolding(qs_spec::specs::Entry::entries_at))]
+    fn write_to(&self, writer: &mut Writer) -> WriteResult {
+        writer.scalar(Scalar::Bytes(self.as_bytes()))
     }
 }
 

@@ -12,7 +12,7 @@ ghost use Rattle.serde_qs.specs.Tables.{table_of};
 ghost use Rattle.serde_qs.specs.Typed.{Means};
 
 use crate::traits::{Deserialize, RoundTrip, Serialize, unexpected};
-use qs_data::{Data, Reader, Result, Shape, Width};
+use qs_data::{Data, Reader, Result, Scalar, Shape, Width, WriteResult, Writer};
 use qs_tree::ParsedValue;
 use std::alloc::Global;
 
@@ -38,6 +38,11 @@ impl Serialize for i8 {
 
     fn to_data(&self, _alloc: Global) -> Result<Data> {
         Ok(Data::Signed(i64::from(*self)))
+    }
+
+    #[tactic(auto, unfolding(qs_spec::specs::Entry::entries_at))]
+    fn write_to(&self, writer: &mut Writer) -> WriteResult {
+        writer.scalar(Scalar::Signed(i64::from(*self)))
     }
 }
 
@@ -84,6 +89,11 @@ impl Serialize for i16 {
     fn to_data(&self, _alloc: Global) -> Result<Data> {
         Ok(Data::Signed(i64::from(*self)))
     }
+
+    #[tactic(auto, unfolding(qs_spec::specs::Entry::entries_at))]
+    fn write_to(&self, writer: &mut Writer) -> WriteResult {
+        writer.scalar(Scalar::Signed(i64::from(*self)))
+    }
 }
 
 impl Deserialize for i16 {
@@ -129,6 +139,11 @@ impl Serialize for i32 {
     fn to_data(&self, _alloc: Global) -> Result<Data> {
         Ok(Data::Signed(i64::from(*self)))
     }
+
+    #[tactic(auto, unfolding(qs_spec::specs::Entry::entries_at))]
+    fn write_to(&self, writer: &mut Writer) -> WriteResult {
+        writer.scalar(Scalar::Signed(i64::from(*self)))
+    }
 }
 
 impl Deserialize for i32 {
@@ -173,6 +188,11 @@ impl Serialize for i64 {
 
     fn to_data(&self, _alloc: Global) -> Result<Data> {
         Ok(Data::Signed(*self))
+    }
+
+    #[tactic(auto, unfolding(qs_spec::specs::Entry::entries_at))]
+    fn write_to(&self, writer: &mut Writer) -> WriteResult {
+        writer.scalar(Scalar::Signed(*self))
     }
 }
 

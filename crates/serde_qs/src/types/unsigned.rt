@@ -11,7 +11,7 @@ ghost use Rattle.serde_qs.specs.Tables.{table_of};
 ghost use Rattle.serde_qs.specs.Typed.{Means};
 
 use crate::traits::{Deserialize, RoundTrip, Serialize, unexpected};
-use qs_data::{Data, Reader, Result, Shape, Width};
+use qs_data::{Data, Reader, Result, Scalar, Shape, Width, WriteResult, Writer};
 use qs_tree::ParsedValue;
 use std::alloc::Global;
 
@@ -37,6 +37,11 @@ impl Serialize for u8 {
 
     fn to_data(&self, _alloc: Global) -> Result<Data> {
         Ok(Data::Unsigned(u64::from(*self)))
+    }
+
+    #[tactic(auto, unfolding(qs_spec::specs::Entry::entries_at))]
+    fn write_to(&self, writer: &mut Writer) -> WriteResult {
+        writer.scalar(Scalar::Unsigned(u64::from(*self)))
     }
 }
 
@@ -83,6 +88,11 @@ impl Serialize for u16 {
     fn to_data(&self, _alloc: Global) -> Result<Data> {
         Ok(Data::Unsigned(u64::from(*self)))
     }
+
+    #[tactic(auto, unfolding(qs_spec::specs::Entry::entries_at))]
+    fn write_to(&self, writer: &mut Writer) -> WriteResult {
+        writer.scalar(Scalar::Unsigned(u64::from(*self)))
+    }
 }
 
 impl Deserialize for u16 {
@@ -128,6 +138,11 @@ impl Serialize for u32 {
     fn to_data(&self, _alloc: Global) -> Result<Data> {
         Ok(Data::Unsigned(u64::from(*self)))
     }
+
+    #[tactic(auto, unfolding(qs_spec::specs::Entry::entries_at))]
+    fn write_to(&self, writer: &mut Writer) -> WriteResult {
+        writer.scalar(Scalar::Unsigned(u64::from(*self)))
+    }
 }
 
 impl Deserialize for u32 {
@@ -172,6 +187,11 @@ impl Serialize for u64 {
 
     fn to_data(&self, _alloc: Global) -> Result<Data> {
         Ok(Data::Unsigned(*self))
+    }
+
+    #[tactic(auto, unfolding(qs_spec::specs::Entry::entries_at))]
+    fn write_to(&self, writer: &mut Writer) -> WriteResult {
+        writer.scalar(Scalar::Unsigned(*self))
     }
 }
 

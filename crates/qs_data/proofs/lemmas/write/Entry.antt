@@ -16,7 +16,7 @@ use Rattle.qs_data.specs.declared.write.entry.Walk.{Walk}
 use Rattle.qs_data.specs.declared.write.stop.Stop.{Stop}
 use Rattle.qs_data.specs.declared.write.stop.Stop.TheVariants.{Io}
 use Rattle.qs_data.specs.write.State.{IsVisible}
-use Rattle.qs_data.specs.write.internal.Writes.{IsAt, StreamState, Adds, AddsPart, Stops, path_after, grown}
+use Rattle.qs_data.specs.write.Writes.{IsAt, StreamState, Adds, AddsPart, Stops, path_after, grown}
 
 -- a segment in brackets
 abbrev bracketed : Bool → List ℕ → List ℕ

@@ -14,7 +14,7 @@ use Rattle.qs_data.specs.declared.write.stop.Stop.TheVariants.{TooDeep, OutOfMem
 use Rattle.qs_data.specs.declared.data.data.Data as r
 use Rattle.qs_data.specs.declared.data.data.Data.{Data}
 use Rattle.qs_data.specs.data.Views.{data_of, named, pair_of}
-use Rattle.qs_data.specs.write.internal.Writes.{StreamState, IsAt, Stops, Writes, path_after}
+use Rattle.qs_data.specs.write.Writes.{StreamState, IsAt, Stops, Writes, path_after}
 use Rattle.qs_data.proofs.lemmas.write.Wrote.{adds_nothing, some_none}
 
 pub deeper_refused : (limit : ℕ) (p : Path) (s : List ℕ) (f : Path → Output) → limit < length p → deeper limit p s f ≡ refused too_deep
@@ -53,16 +53,31 @@ module _ (config : Config) (s : List ℕ) (f : Path → Output) (a b : StreamSta
       λ p at. let g = entered p at in
       subst (Stops e config a b) (sym (deeper_goes config.max_depth p s f g.0)) (stops (p ++ s ∷ []) g.1)
 
+module _ {A : Type 0} (datum : A → d.Data) where
+  pub elements_here_by : (limit : ℕ) (format : ArrayFormat) (xs : List A) (i : ℕ) (x : A) (p : Path) → i < length xs → x ≡ get_or xs i x
+      → elements_from limit format i (d.values_of (map datum (drop i xs))) p
+      ≡ and_then (maybe_deeper limit p (element_segment format i) (entries_at limit format (datum x))) (elements_from limit format (i + 1) (d.values_of (map datum (drop (i + 1) xs))) p)
+  unfolding elements_from
+  elements_here_by limit format xs i x p h is =
+      ap (λ ys. elements_from limit format i (d.values_of (map datum ys)) p) (drop_more xs i x h ∙ ap (λ y. y ∷ drop (i + 1) xs) (sym is))
+
+  pub elements_end_by : (limit : ℕ) (format : ArrayFormat) (xs : List A) (i : ℕ) (p : Path) → length xs ≤ i → elements_from limit format i (d.values_of (map datum (drop i xs))) p ≡ nothing
+  unfolding elements_from
+  elements_end_by limit format xs i p h = ap (λ ys. elements_from limit format i (d.values_of (map datum ys)) p) (drop_all i xs h)
+
+  pub sequence_elements_by : (limit : ℕ) (format : ArrayFormat) (xs : List A) (p : Path) → 0 < length xs
+      → entries_at limit format (d.Data.sequence (d.values_of (map datum xs))) p ≡ elements_from limit format 0 (d.values_of (map datum xs)) p
+  unfolding entries_at
+  sequence_elements_by limit format [] p h = absurd (omega arith)
+  sequence_elements_by limit format (x ∷ xs) p h = refl
+
 pub elements_here : (limit : ℕ) (format : ArrayFormat) (xs : List Data) (i : ℕ) (x : Data) (p : Path) → i < length xs → x ≡ get_or xs i x
     → elements_from limit format i (d.values_of (map data_of (drop i xs))) p
     ≡ and_then (maybe_deeper limit p (element_segment format i) (entries_at limit format (data_of x))) (elements_from limit format (i + 1) (d.values_of (map data_of (drop (i + 1) xs))) p)
-unfolding elements_from
-elements_here limit format xs i x p h is =
-    ap (λ ys. elements_from limit format i (d.values_of (map data_of ys)) p) (drop_more xs i x h ∙ ap (λ y. y ∷ drop (i + 1) xs) (sym is))
+elements_here = elements_here_by data_of
 
 pub elements_end : (limit : ℕ) (format : ArrayFormat) (xs : List Data) (i : ℕ) (p : Path) → length xs ≤ i → elements_from limit format i (d.values_of (map data_of (drop i xs))) p ≡ nothing
-unfolding elements_from
-elements_end limit format xs i p h = ap (λ ys. elements_from limit format i (d.values_of (map data_of ys)) p) (drop_all i xs h)
+elements_end = elements_end_by data_of
 
 pub pairs_here : (limit : ℕ) (format : ArrayFormat) (xs : List (Data × Data)) (i : ℕ) (x : Data × Data) (p : Path) → i < length xs → x ≡ get_or xs i x
     → pair_entries limit format (d.pairs_of (map pair_of (drop i xs))) p
@@ -91,9 +106,7 @@ members_end limit format xs i p h = ap (λ ys. member_entries limit format (d.me
 
 pub sequence_elements : (limit : ℕ) (format : ArrayFormat) (xs : List Data) (p : Path) → 0 < length xs
     → entries_at limit format (d.Data.sequence (d.values_of (map data_of xs))) p ≡ elements_from limit format 0 (d.values_of (map data_of xs)) p
-unfolding entries_at
-sequence_elements limit format [] p h = absurd (omega arith)
-sequence_elements limit format (x ∷ xs) p h = refl
+sequence_elements = sequence_elements_by data_of
 
 pub tuple_elements : (limit : ℕ) (format : ArrayFormat) (xs : List Data) (p : Path) → 0 < length xs
     → entries_at limit format (d.Data.tuple (d.values_of (map data_of xs))) p ≡ elements_from limit format 0 (d.values_of (map data_of xs)) p

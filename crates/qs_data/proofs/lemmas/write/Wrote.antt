@@ -15,7 +15,7 @@ use Rattle.qs_data.specs.declared.write.entry.Walk.{Walk}
 use Rattle.qs_data.specs.declared.write.stop.Stop.{Stop}
 use Rattle.qs_data.specs.declared.write.stop.Stop.TheVariants.{TooDeep, BadKey, Io, OutOfMemory}
 use Rattle.qs_data.specs.write.State.{IsVisible}
-use Rattle.qs_data.specs.write.internal.Writes.{IsAt, StreamState, Adds, AddsSome, AddsPart, Stops, Writes}
+use Rattle.qs_data.specs.write.Writes.{IsAt, StreamState, Adds, AddsSome, AddsPart, Stops, Writes}
 
 pub written-append : (form s : Bool) (es fs : List Entry) → written form s (es ++ fs) ≡ written form s es ++ written form (started_after s es) fs
 unfolding written started_after
@@ -103,7 +103,7 @@ stops_then OutOfMemory config a b c x y p q = record {
   adds = adds_then config.form a b c x.entries q.front p.1 q.adds;
 }
 
-writes_then : (r : Result (Unit {0}) Stop) (config : Config) (path : Path) (a b c : StreamState) (to : Walk) (x y : Output) → Wrote config a b x → Writes r config path b c to y
+pub writes_then : (r : Result (Unit {0}) Stop) (config : Config) (path : Path) (a b c : StreamState) (to : Walk) (x y : Output) → Wrote config a b x → Writes r config path b c to y
     → Writes r config path a c to (and_then x y)
 writes_then (Ok t) config path a b c to x y p q =
     let P : Output → Type 0 = λ o. Writes (Ok t) config path a c to o in
@@ -126,7 +126,7 @@ part_follow form a c es None o h = part_more form a c es o.entries h
 part_follow form a c es (Some s) o h = h
 
 -- a stop in the first output
-stops_early : (e : Stop) (config : Config) (a b : StreamState) (x y : Output) → Stops e config a b x → Stops e config a b (and_then x y)
+pub stops_early : (e : Stop) (config : Config) (a b : StreamState) (x y : Output) → Stops e config a b x → Stops e config a b (and_then x y)
 stops_early TooDeep config a b x y p = subst (Stops TooDeep config a b) (sym (follow_stop x.entries x.refusal y too_deep p.0)) (refl, p.1)
 stops_early BadKey config a b x y p = subst (Stops BadKey config a b) (sym (follow_stop x.entries x.refusal y bad_key p.0)) (refl, p.1)
 stops_early Io config a b x y p = part_follow config.form a b x.entries x.refusal y p

@@ -1,7 +1,7 @@
 use Rattle.std.proofs.Common.{◌≡◌, drop, Some}
 use Rattle.qs_spec.specs.Plain.{is_written_key}
 use Rattle.qs_data.specs.data.Views.{pairs_in}
-use Rattle.qs_data.specs.write.internal.Scalars.{scalar_text}
+use Rattle.qs_data.specs.write.Scalars.{scalar_text}
 use Rattle.qs_data.proofs.data.plain.is_written_key.Given as goal
 
 abbrev pub invariant-loop-pair : goal.invariant-loop-pair

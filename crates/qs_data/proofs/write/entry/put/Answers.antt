@@ -7,7 +7,7 @@ use Rattle.qs_spec.specs.Escape.{encoded}
 use Rattle.qs_spec.specs.Entry.{one}
 use Rattle.qs_spec.specs.Written.{value_text}
 use Rattle.qs_data.specs.declared.write.stop.Stop.TheVariants.{OutOfMemory}
-use Rattle.qs_data.specs.write.internal.Scalars.{scalar_text}
+use Rattle.qs_data.specs.write.Scalars.{scalar_text}
 use Rattle.qs_data.proofs.lemmas.write.Wrote.{writes_exit, some_none}
 use Rattle.qs_data.proofs.lemmas.write.Puts.{put_middle}
 use Rattle.qs_data.proofs.lemmas.write.Entry.{entry_shown, has_key_is, at_back, adds_one, part_one, io_stops}

@@ -8,8 +8,8 @@ use Rattle.qs_spec.specs.Entry.{Path, Output, refused, bad_key, entries_at, elem
 use Rattle.qs_data.specs.declared.data.data.Data.{Data}
 use Rattle.qs_data.specs.declared.write.stop.Stop.TheVariants.{BadKey}
 use Rattle.qs_data.specs.data.Views.{data_of, values_in, pairs_in, members_in}
-use Rattle.qs_data.specs.write.internal.Scalars.{scalar_text}
-use Rattle.qs_data.specs.write.internal.Writes.{IsAt, Writes, Stops, state_in}
+use Rattle.qs_data.specs.write.Scalars.{scalar_text}
+use Rattle.qs_data.specs.write.Writes.{IsAt, Writes, Stops, state_in}
 use Rattle.qs_data.proofs.lemmas.write.Wrote.{continue_step, continue_stop, continue_end, writes_exit, adds_nothing}
 use Rattle.qs_data.proofs.lemmas.write.Walk.{stops_entering, writes_under, stops_under, elements_here, elements_end, pairs_with_key, pairs_without_key, pairs_end, members_here, members_end, seq_elements, tup_elements, map_pairs}
 use Rattle.qs_data.proofs.write.walk.+write.Goals as goal

@@ -1,7 +1,7 @@
 use Rattle.std.proofs.Common.{drop}
 use Rattle.qs_spec.specs.Entry.{elements_from, pair_entries, member_entries}
 use Rattle.qs_data.specs.data.Views.{values_in, pairs_in, members_in}
-use Rattle.qs_data.specs.write.internal.Writes.{state_in}
+use Rattle.qs_data.specs.write.Writes.{state_in}
 use Rattle.qs_data.proofs.lemmas.write.Wrote.{Continues}
 use Rattle.qs_data.proofs.write.walk.+write.Given as goal
 

@@ -1,3 +1,0 @@
--- Steps of proofs: what the private functions of writing write.
-pub mod Scalars
-pub mod Writes

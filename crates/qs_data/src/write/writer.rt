@@ -1,0 +1,168 @@
+//! A writer: a value writes itself to it part by part, and its text is kept in memory.
+
+ghost use Rattle.std.specs.Prelude.{◌≡◌, [], Some, None, IfOk, IfErr, Err};
+ghost use Rattle.qs_spec.specs.Entry.{one};
+ghost use Rattle.qs_data.specs.data.Views.{data_of};
+ghost use Rattle.qs_data.specs.write.Scalars.{scalar_text};
+ghost use Rattle.qs_data.specs.write.Parts.{Part, WritesPart, IsFresh, Enters, Leaves, data_part, state_of, under};
+
+use crate::data::Data;
+use crate::write::entry::{Stream, Walk, put, put_empty};
+use crate::write::scalar::Scalar;
+use crate::write::sink::ByWrite;
+use crate::write::stop::{Stop, WriteResult};
+use crate::write::walk::write_data;
+use qs_tree::Config;
+use std::alloc::{AllocError, Global};
+use std::mem;
+
+/// Writes a value part by part, each at the path where the writer is, as text in memory.
+///
+/// A type that writes itself calls one of [`scalar`](Writer::scalar), [`none`](Writer::none), [`unit`](Writer::unit) and [`data`](Writer::data), or goes
+/// in to the key of each part by [`enter`](Writer::enter), and out again by [`leave`](Writer::leave).
+///
+/// ```
+/// let len = writer.enter(Scalar::Bytes(b"age"))?;
+/// writer.scalar(Scalar::Unsigned(24))?; // age=24
+/// writer.leave(len);
+/// ```
+#[derive(Drop)]
+pub struct Writer {
+    /// Where memory comes from.
+    pub alloc: Global,
+    /// How it writes.
+    pub config: Config,
+    stream: Stream<ByWrite<Vec<u8>>>,
+    walk: Walk,
+}
+
+impl Writer {
+    /// Returns a writer at the top, that wrote nothing yet. It allocates 128 bytes for the text.
+    ///
+    /// ```
+    /// let writer = Writer::new(alloc, Config::new())?;
+    /// ```
+    pub fn new(alloc: Global, config: Config) -> Result<Writer, AllocError>
+        ensures { IfOk result (λ writer. IsFresh config writer) }
+    {
+        let text = Vec::with_capacity(alloc, 128)?;
+        Ok(Writer {
+            alloc,
+            config,
+            stream: Stream {
+                sink: ByWrite::new(text),
+                started: false,
+            },
+            walk: Walk::new(alloc),
+        })
+    }
+
+    /// Returns this writer, and leaves one without text in its place. Doesn't allocate.
+    ///
+    /// ```
+    /// let whole = writer.take();
+    /// ```
+    pub fn take(&mut self) -> Writer
+        ensures { result ≡ self.old }
+    {
+        let empty = Writer {
+            alloc: self.alloc,
+            config: self.config,
+            stream: Stream {
+                sink: ByWrite::new(Vec::new(self.alloc)),
+                started: false,
+            },
+            walk: Walk::new(self.alloc),
+        };
+        mem::replace(self, empty)
+    }
+
+    /// Returns the text that was written. Doesn't allocate.
+    ///
+    /// ```
+    /// let text = writer.into_text(); // b"age=24"
+    /// ```
+    pub fn into_text(self) -> Vec<u8>
+        ensures { Some result.items ≡ (state_of self).taken }
+    {
+        self.stream.sink.into_writer()
+    }
+
+    /// Writes one entry with this value at the writer's path.
+    ///
+    /// The errors are [`OutOfMemory`](Stop::OutOfMemory) and [`Io`](Stop::Io), both where an allocation failed.
+    ///
+    /// ```
+    /// writer.scalar(Scalar::Bool(true))?;
+    /// ```
+    pub fn scalar(&mut self, value: Scalar<'_>) -> WriteResult
+        ensures { WritesPart result self.old self.new (λ config path. one path (Some (scalar_text value.entry))) }
+    {
+        put(&mut self.stream, &mut self.walk, self.config, Some(value))
+    }
+
+    /// Writes one entry without a value at the writer's path, as an absent value is written. The errors are those of [`scalar`](Writer::scalar).
+    ///
+    /// ```
+    /// writer.none()?;
+    /// ```
+    pub fn none(&mut self) -> WriteResult
+        ensures { WritesPart result self.old self.new (λ config path. one path None) }
+    {
+        put(&mut self.stream, &mut self.walk, self.config, None)
+    }
+
+    /// Writes one entry with an empty value at the writer's path, as a unit, an empty list and an empty map are written. The errors are those of
+    /// [`scalar`](Writer::scalar).
+    ///
+    /// ```
+    /// writer.unit()?;
+    /// ```
+    pub fn unit(&mut self) -> WriteResult
+        ensures { WritesPart result self.old self.new (λ config path. one path (Some [])) }
+    {
+        put_empty(&mut self.stream, &mut self.walk, self.config)
+    }
+
+    /// Writes the entries of the data at the writer's path, up to the first error.
+    ///
+    /// The errors are those of [`scalar`](Writer::scalar), and of [`enter`](Writer::enter) and [`BadKey`](Stop::BadKey), after the entries before the rejected one.
+    ///
+    /// ```
+    /// writer.data(&datum)?;
+    /// ```
+    pub fn data(&mut self, datum: &Data) -> WriteResult
+        ensures { WritesPart result self.old self.new (data_part (data_of datum.now)) }
+    {
+        write_data(&mut self.stream, &mut self.walk, self.config, datum)
+    }
+
+    /// Goes in to the part under this key, the name of a field or the index of an item. Returns how long the path was, for [`leave`](Writer::leave).
+    ///
+    /// The errors are [`TooDeep`](Stop::TooDeep), where the path is as long as the configuration allows, and [`OutOfMemory`](Stop::OutOfMemory). Nothing
+    /// is written.
+    ///
+    /// ```
+    /// let len = writer.enter(Scalar::Unsigned(0))?;
+    /// ```
+    pub fn enter(&mut self, segment: Scalar<'_>) -> Result<usize, Stop>
+        ensures ok { IfOk result (λ len. Enters (scalar_text segment.entry) len self.old self.new) }
+        ensures err { IfErr result (λ stop. (part : Part) → WritesPart (Err stop) self.old self.new (under (scalar_text segment.entry) part)) }
+    {
+        match self.walk.enter(self.config, segment) {
+            Ok(len) => Ok(len),
+            Err(stop) => Err(stop),
+        }
+    }
+
+    /// Goes out again, to where the path was so long. It doesn't allocate.
+    ///
+    /// ```
+    /// writer.leave(len);
+    /// ```
+    pub fn leave(&mut self, len: usize)
+        ensures { Leaves len self.old self.new }
+    {
+        self.walk.leave(len);
+    }
+}

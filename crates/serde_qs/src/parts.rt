@@ -1,0 +1,49 @@
+//! The parts of a value that writes itself.
+
+ghost use Rattle.std.specs.Prelude.{◌≡◌, IfOk};
+ghost use Rattle.qs_spec.specs.Data.{Data as Datum};
+ghost use Rattle.qs_data.specs.data.Views.{data_of};
+ghost use Rattle.qs_data.specs.write.Parts.{WritesPart, data_part, element, under};
+ghost use Rattle.qs_data.specs.write.Scalars.{scalar_text};
+
+use crate::traits::Serialize;
+use qs_data::{ArrayFormat, Data, Result, Scalar, Stop, WriteResult, Writer};
+
+// Writes data, if they were made.
+pub(crate) fn write_made(writer: &mut Writer, made: Result<Data>) -> WriteResult
+    ensures { (x : Datum) → IfOk made (λ d. data_of d ≡ x) → WritesPart result writer.old writer.new (data_part x) }
+{
+    match made {
+        Ok(datum) => writer.data(&datum),
+        Err(_) => Err(Stop::OutOfMemory),
+    }
+}
+
+// Writes a value under one more segment.
+pub(crate) fn write_under<T: Serialize>(
+    writer: &mut Writer,
+    segment: Scalar<'_>,
+    value: &T,
+) -> WriteResult
+    ensures { WritesPart result writer.old writer.new (under (scalar_text segment.entry) (data_part (T.datum value.now))) }
+{
+    let len = writer.enter(segment)?;
+    value.write_to(writer)?;
+    writer.leave(len);
+    Ok(())
+}
+
+// Writes a value as the element of this index.
+pub(crate) fn write_element<T: Serialize>(
+    writer: &mut Writer,
+    place: usize,
+    value: &T,
+) -> WriteResult
+    ensures { WritesPart result writer.old writer.new (element place (data_part (T.datum value.now))) }
+{
+    match writer.config.get_array_format() {
+        ArrayFormat::Indexed => write_under(writer, Scalar::Unsigned(place as u64), value),
+        ArrayFormat::EmptyIndexed => write_under(writer, Scalar::Bytes(&[]), value),
+        ArrayFormat::Unindexed => value.write_to(writer),
+    }
+}

@@ -6,6 +6,7 @@ mod encoding;
 mod search;
 
 pub use decoding::decode;
-pub(crate) use decoding::unescape;
+pub(crate) use decoding::unescape_unless;
 pub use encoding::{encode, encode_to};
+pub(crate) use search::{find_value_end, is_letter};
 pub use search::{find_ampersand, find_encoded, find_escape};

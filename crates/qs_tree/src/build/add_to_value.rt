@@ -106,7 +106,25 @@ fn add_in_entries<'qs>(
 }
 
 // A node with a pair alone, which is at a level of its path. The keys that are left and the leaf are taken out of the pair.
+#[inline(always)]
 fn value_of<'qs>(
+    alloc: Global,
+    pair: &mut Pair<'qs>,
+    level: usize,
+) -> Result<ParsedValue<'qs>, AllocError>
+    requires { level ≤ length pair.old.path.items }
+    ensures { let path = path_of (drop level pair.old.path.items) in
+        IfOk result (λ value. add path (is_push pair.old.manner) (leaf_of pair.old.leaf) uninitialized ≡ Some (tree_of value)) }
+{
+    if level == pair.path.len() {
+        return Ok(value_at_end(alloc, pair)?);
+    }
+    chain_of(alloc, pair, level)
+}
+
+// The same, by a loop.
+#[inline(never)]
+fn chain_of<'qs>(
     alloc: Global,
     pair: &mut Pair<'qs>,
     level: usize,

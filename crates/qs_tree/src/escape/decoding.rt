@@ -1,6 +1,6 @@
 //! Percent-decoding.
 
-ghost use Rattle.std.specs.Prelude.{◌≡◌, ◌+◌, ◌<◌, ◌≤◌, ◌++◌, false, length, IfOk, IsOk, SomeIff, take, drop};
+ghost use Rattle.std.specs.Prelude.{◌≡◌, ◌+◌, ◌<◌, ◌≤◌, ◌++◌, false, length, IfOk, IsOk, IsTrue, SomeIff, take, drop};
 ghost use Rattle.std.specs.Char.{digit_value};
 ghost use Rattle.std.specs.Cow.{cow_slice_items};
 ghost use Rattle.qs_spec.specs.Escape.{decoded, is_marked};
@@ -46,6 +46,24 @@ pub(crate) fn unescape(alloc: Global, bytes: &[u8]) -> Result<CowSlice<'_, u8>, 
         return Ok(CowSlice::Borrowed(bytes));
     }
     Ok(CowSlice::Owned(unescaped(alloc, bytes)?))
+}
+
+/// Percent-decodes bytes as [`decode`] does. Doesn't look for `+` and `%` where it is known that there are none (`plain`).
+#[inline(always)]
+pub(crate) fn unescape_unless(
+    plain: bool,
+    alloc: Global,
+    bytes: &[u8],
+) -> Result<CowSlice<'_, u8>, AllocError>
+    requires { IsTrue plain → is_marked bytes.now ≡ false }
+    ensures value { IfOk result (λ text. cow_slice_items text ≡ decoded bytes.now) }
+    ensures owned { IfOk result (λ text. is_owned text ≡ is_marked bytes.now) }
+    ensures no_memory { is_marked bytes.now ≡ false → IsOk result }
+{
+    if plain {
+        return Ok(CowSlice::Borrowed(bytes));
+    }
+    unescape(alloc, bytes)
 }
 
 // Percent-decodes bytes into a vector.

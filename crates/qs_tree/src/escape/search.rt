@@ -2,15 +2,18 @@
 
 mod class;
 mod encoded;
+mod letter;
 mod marks;
 
-ghost use Rattle.std.specs.Prelude.{◌≡◌, ◌<◌, length, position, IfSome, is_some};
+ghost use Rattle.std.specs.Prelude.{◌≡◌, ◌<◌, length, take, position, IfSome, IsTrue, is_some, false};
+ghost use Rattle.std.specs.List.{position_or_len};
 ghost use Rattle.qs_spec.specs.Escape.{is_marked};
 ghost use Rattle.qs_tree.specs.escape.Classes.{is_escape, is_ampersand, is_encoded};
 
 pub(crate) use self::class::{Class, LANES, count, run};
 use self::encoded::Encoded;
 pub(crate) use self::encoded::Escaped;
+pub(crate) use self::letter::is_letter;
 pub(crate) use self::marks::Byte;
 use self::marks::Escape;
 
@@ -41,6 +44,38 @@ pub fn find_ampersand(bytes: &[u8]) -> Option<usize>
     ensures within { IfSome result (λ at. at < length bytes.now) }
 {
     find(Byte(b'&'), bytes)
+}
+
+/// The index of the first `&`, or the length, and whether it is known that `+` and `%` aren't before it.
+pub(crate) fn find_value_end(bytes: &[u8]) -> (usize, bool)
+    ensures first { result.0 ≡ position_or_len is_ampersand bytes.now }
+    ensures plain { IsTrue result.1 → is_marked (take result.0 bytes.now) ≡ false }
+{
+    let mut at = 0;
+    let mut plain = true;
+    while bytes.len() - at >= LANES {
+        let end = run(Byte(b'&'), bytes, at);
+        if run(Escape, bytes, at) < end {
+            plain = false;
+        }
+        if end < LANES {
+            return (at + end, plain);
+        }
+        at += LANES;
+    }
+    while at < bytes.len() {
+        let byte = bytes[at];
+        if !is_letter(byte) {
+            if byte == b'&' {
+                break;
+            }
+            if Escape.has(byte) {
+                plain = false;
+            }
+        }
+        at += 1;
+    }
+    (at, plain)
 }
 
 /// The index of the first byte that [`encode`](crate::encode) changes in form encoding (`form`) or query encoding, or `None`. A space

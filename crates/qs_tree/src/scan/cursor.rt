@@ -8,7 +8,7 @@ ghost use Rattle.qs_spec.specs.Grammar.{is_amp, is_equals, is_open, is_close};
 ghost use Rattle.qs_spec.specs.internal.Parsing.{cut};
 ghost use Rattle.qs_tree.specs.internal.scan.Cursor.{kind_of_token, token_of, BeginsWith, ends_of, left, spent, looks, ended_after, raw_from_token, from_token, IsPast, GoesOn, taken, to_come, IsLeft, IsLetter};
 
-use crate::escape::find_ampersand;
+use crate::escape::{find_value_end, is_letter};
 use crate::steps::Steps;
 use std::alloc::{AllocFailed, Global};
 
@@ -59,6 +59,16 @@ pub(crate) struct Token<'qs> {
     pub raw: &'qs [u8],
     /// The position of its first byte.
     pub place: Place<'qs>,
+}
+
+impl Token<'_> {
+    /// Whether it is known to be without `+` and `%`.
+    #[inline(always)]
+    pub fn is_plain(&self) -> bool
+        ensures { IsTrue result → is_marked self.now.raw.now ≡ false }
+    {
+        matches!(self.raw, [byte] if *byte != b'+' && *byte != b'%')
+    }
 }
 
 /// A position in the input, as the bytes from there on.
@@ -116,21 +126,15 @@ fn first_token(bytes: &[u8], form: bool) -> (Kind, usize)
     }
 }
 
-// Whether the byte is a token of kind `Other` in both encodings.
-#[inline(always)]
-fn is_letter(byte: u8) -> bool
-    ensures { IsTrue result → IsLetter byte }
-{
-    !matches!(byte, b'%' | b'&' | b'=' | b'[' | b']')
-}
-
-// The length of a run, without the token that ends it.
-fn run_len(bytes: &[u8], form: bool, until: Until) -> usize
-    ensures within { result ≤ length bytes.now }
-    ensures run { take result bytes.now ≡ raw_of (cut (ends_of until) (tokens form bytes.now)).0 }
-    ensures stop { tokens form (drop result bytes.now) ≡ (cut (ends_of until) (tokens form bytes.now)).1 }
+// The length of a run, without the token that ends it, and whether it is known to be without `+` and `%`.
+fn run_len(bytes: &[u8], form: bool, until: Until) -> (usize, bool)
+    ensures within { result.0 ≤ length bytes.now }
+    ensures run { take result.0 bytes.now ≡ raw_of (cut (ends_of until) (tokens form bytes.now)).0 }
+    ensures stop { tokens form (drop result.0 bytes.now) ≡ (cut (ends_of until) (tokens form bytes.now)).1 }
+    ensures plain { IsTrue result.1 → is_marked (take result.0 bytes.now) ≡ false }
 {
     let mut at = 0;
+    let mut plain = true;
     while at < bytes.len() {
         if is_letter(bytes[at]) {
             at += 1;
@@ -141,8 +145,9 @@ fn run_len(bytes: &[u8], form: bool, until: Until) -> usize
             break;
         }
         at += len;
+        plain = false;
     }
-    at
+    (at, plain)
 }
 
 /// A cursor over an input. The input is read only by the methods below, and they count steps: one for each byte that is taken, and
@@ -152,6 +157,8 @@ pub(crate) struct Cursor<'qs> {
     rest: &'qs [u8],
     ended: bool,
     form: bool,
+    /// Whether the last run or value is known to be without `+` and `%`.
+    plain: bool,
     steps: Steps,
     trail: Trail<'qs>,
 }
@@ -196,6 +203,7 @@ impl<'qs> Cursor<'qs> {
             rest: input,
             ended: false,
             form,
+            plain: false,
             steps,
             trail: Trail {
                 start: input,
@@ -216,6 +224,13 @@ impl<'qs> Cursor<'qs> {
         ensures { result ≡ self.now.ended }
     {
         self.ended
+    }
+
+    /// Whether the last run or value is known to be without `+` and `%`.
+    pub fn is_plain(&self) -> bool
+        ensures { result ≡ self.now.plain }
+    {
+        self.plain
     }
 
     /// The current position.
@@ -303,6 +318,7 @@ impl<'qs> Cursor<'qs> {
         ensures form { self.new.form ≡ self.old.form }
         ensures cost { spent self.new ≡ spent self.old + looks result }
         ensures ended { self.new.ended ≡ ended_after result self.old.ended }
+        ensures plain { self.new.plain ≡ self.old.plain }
     {
         if self.rest.is_empty() {
             self.ended = true;
@@ -331,6 +347,7 @@ impl<'qs> Cursor<'qs> {
         ensures ended { self.new.ended ≡ ended_after result.1 self.old.ended }
         ensures fewer { length self.new.rest.now ≤ length self.old.rest.now }
         ensures form { self.new.form ≡ self.old.form }
+        ensures plain { IsTrue self.new.plain → is_marked result.0.now ≡ false }
     {
         self.run_from(self.place(), until)
     }
@@ -350,8 +367,10 @@ impl<'qs> Cursor<'qs> {
         ensures ended { self.new.ended ≡ ended_after result.1 self.old.ended }
         ensures fewer { length self.new.rest.now ≤ length self.old.rest.now }
         ensures form { self.new.form ≡ self.old.form }
+        ensures plain { IsTrue self.new.plain → is_marked (raw_of (cut (ends_of until) (left self.old)).0) ≡ false }
     {
-        let len = run_len(self.rest, self.form, until);
+        let (len, plain) = run_len(self.rest, self.form, until);
+        self.plain = plain;
         let (_, rest) = self.rest.split_at(len);
         self.rest = rest;
         self.steps.add(len);
@@ -366,8 +385,10 @@ impl<'qs> Cursor<'qs> {
         ensures plain { IsTrue (is_plain self.old.rest.now) → (is_marked result.now ≡ false) × (self.new.rest.now ≡ []) }
         ensures fewer { length self.new.rest.now ≤ length self.old.rest.now }
         ensures moves { self.old.ended ≡ false → GoesOn self.old self.new }
+        ensures noted { IsTrue self.new.plain → is_marked result.now ≡ false }
     {
-        let end = find_ampersand(self.rest).unwrap_or(self.rest.len());
+        let (end, plain) = find_value_end(self.rest);
+        self.plain = plain;
         let (value, rest) = self.rest.split_at(end);
         self.rest = rest;
         self.steps.add(end);

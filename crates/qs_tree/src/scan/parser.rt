@@ -2,6 +2,7 @@
 
 ghost use Rattle.std.specs.Prelude.{◌≡◌, ◌++◌, ◌<◌, [], length, IfOk, IsOk, IsTrue, true, false};
 ghost use Rattle.qs_spec.specs.Grammar.{direct, pushed, longer, ends_last, ends_root};
+ghost use Rattle.qs_spec.specs.Escape.{is_marked};
 ghost use Rattle.qs_spec.specs.Token.{raw_of};
 ghost use Rattle.qs_spec.specs.internal.Parsing.{cut, with_leaf, parsed_value, parsed_brackets};
 ghost use Rattle.qs_tree.specs.internal.scan.Pairs.{path_of};
@@ -137,11 +138,12 @@ fn parse_after_root<'qs>(
     requires root { IsRootStop stop }
     requires follows { FollowsStop stop cursor.old }
     requires empty { pair.old.path.items ≡ [] }
+    requires plain { IsTrue cursor.old.plain → is_marked key.now ≡ false }
     ensures pair { ParsesPair (from_root max_depth key.now (from_token stop.entry (left cursor.old))) result cursor.new pair.new }
     ensures moves { GoesOn cursor.old cursor.new }
     ensures bare { key.now ≡ [] → IsEqualsStop stop.entry → IsTrue (is_plain cursor.old.rest.now) → ParsesBare result cursor.new pair.new }
 {
-    parse_root(alloc, key, &mut pair.path)?;
+    parse_root(alloc, key, cursor.is_plain(), &mut pair.path)?;
     match stop {
         Some(token) if token.kind.is_open() => {
             cursor.keep_root(key, token.place)?;
@@ -155,14 +157,16 @@ fn parse_after_root<'qs>(
 fn parse_root<'qs>(
     alloc: Global,
     key: &'qs [u8],
+    plain: bool,
     path: &mut Vec<Key<'qs>>,
 ) -> Result<(), AllocError>
-    requires { path.old.items ≡ [] }
+    requires empty { path.old.items ≡ [] }
+    requires plain { IsTrue plain → is_marked key.now ≡ false }
     ensures path { IfOk result (λ _. path_of path.new.items ≡ root_path key.now) }
     ensures empty { key.now ≡ [] → IsOk result × (path.new.items ≡ []) }
 {
     if !key.is_empty() {
-        path.push(parse_key(alloc, key)?)?;
+        path.push(parse_key(alloc, key, plain)?)?;
     }
     Ok(())
 }
@@ -181,7 +185,10 @@ fn parse_value<'qs>(
     ensures plain { IsEqualsStop stop.entry → IsTrue (is_plain cursor.old.rest.now) → IsOk result × (cursor.new.rest.now ≡ []) }
 {
     match stop {
-        Some(token) if token.kind.is_equals() => parse_leaf(alloc, cursor.value()),
+        Some(token) if token.kind.is_equals() => {
+            let raw = cursor.value();
+            parse_leaf(alloc, raw, cursor.is_plain())
+        }
         _ => Ok(Leaf::NoValue),
     }
 }
@@ -263,7 +270,8 @@ fn parse_brackets<'qs>(
             return parse_last_key(alloc, cursor, bracket, pair);
         }
         let (segment, stop) = cursor.run_from(first.place, Until::Close);
-        pair.path.push(parse_key(alloc, segment)?)?;
+        let plain = first.is_plain() && cursor.is_plain();
+        pair.path.push(parse_key(alloc, segment, plain)?)?;
         let Some(_) = stop else {
             return Err(ParseError::Syntax(SyntaxError::EndInSegment));
         };
@@ -299,6 +307,6 @@ fn parse_last_key<'qs>(
     ensures moves { GoesOn cursor.old cursor.new }
 {
     let (key, stop) = cursor.run_from(bracket.place, Until::Separator);
-    pair.path.push(parse_key(alloc, key)?)?;
+    pair.path.push(parse_key(alloc, key, false)?)?;
     parse_plain(alloc, cursor, stop, pair)
 }

@@ -1,6 +1,6 @@
 //! From raw bytes to keys and leaves.
 
-ghost use Rattle.std.specs.Prelude.{◌≡◌, false, IfOk, IsOk};
+ghost use Rattle.std.specs.Prelude.{◌≡◌, false, IfOk, IsOk, IsTrue};
 ghost use Rattle.qs_spec.specs.Escape.{is_marked};
 ghost use Rattle.qs_spec.specs.Segment.{step_of};
 ghost use Rattle.qs_spec.specs.Leaf.{value_leaf};
@@ -8,7 +8,7 @@ ghost use Rattle.qs_tree.specs.tree.Views.{step_of_key};
 ghost use Rattle.qs_tree.specs.internal.scan.Pairs.{leaf_of};
 ghost use Rattle.qs_tree.specs.internal.scan.Raw.{index_from, index_of};
 
-use crate::escape::unescape;
+use crate::escape::unescape_unless;
 use crate::scan::pair::Leaf;
 use crate::tree::key::Key;
 use std::alloc::{AllocError, Global};
@@ -16,27 +16,29 @@ use std::alloc::{AllocError, Global};
 /// The key of a segment with these raw bytes. It is an integer key for digits alone whose value fits in 32 bits, and a string key
 /// with the decoded bytes otherwise.
 ///
-/// Returns an error only where an allocation failed. Borrows a string without `+` and `%`.
-pub(crate) fn parse_key(alloc: Global, raw: &[u8]) -> Result<Key<'_>, AllocError>
+/// Returns an error only where an allocation failed. Borrows a string without `+` and `%`. Where it is known that there are none (`plain`), they aren't looked for.
+pub(crate) fn parse_key(alloc: Global, raw: &[u8], plain: bool) -> Result<Key<'_>, AllocError>
+    requires { IsTrue plain → is_marked raw.now ≡ false }
     ensures key { IfOk result (λ key. step_of_key key ≡ step_of raw.now) }
 {
     match parse_index(raw) {
         Some(index) => Ok(Key::Int(index)),
-        None => Ok(Key::String(unescape(alloc, raw)?)),
+        None => Ok(Key::String(unescape_unless(plain, alloc, raw)?)),
     }
 }
 
 /// The leaf of a value with these raw bytes.
 ///
-/// Returns an error only where an allocation failed. Borrows a value without `+` and `%`.
-pub(crate) fn parse_leaf(alloc: Global, raw: &[u8]) -> Result<Leaf<'_>, AllocError>
+/// Returns an error only where an allocation failed. Borrows a value without `+` and `%`. Where it is known that there are none (`plain`), they aren't looked for.
+pub(crate) fn parse_leaf(alloc: Global, raw: &[u8], plain: bool) -> Result<Leaf<'_>, AllocError>
+    requires { IsTrue plain → is_marked raw.now ≡ false }
     ensures leaf { IfOk result (λ leaf. leaf_of leaf ≡ value_leaf raw.now) }
     ensures no_memory { is_marked raw.now ≡ false → IsOk result }
 {
     if raw.is_empty() {
         return Ok(Leaf::Null);
     }
-    Ok(Leaf::Text(unescape(alloc, raw)?))
+    Ok(Leaf::Text(unescape_unless(plain, alloc, raw)?))
 }
 
 // The value of digits alone, at least one, where it fits in 32 bits.

@@ -76,18 +76,23 @@ fn without_last_entry<'qs>(map: ParsedMap<'qs>) -> ParsedValue<'qs>
     ParsedValue::Uninitialized
 }
 
-// Drops the last item of a sequence, or else the first leaf below it, and returns the parent.
-fn without_last_item<'qs>(items: Vec<ParsedValue<'qs>>) -> ParsedValue<'qs>
-    ensures { DropsOne (node_count (sequence (items_of items.entry.items))) (node_count (tree_of result)) }
+// Drops the last leaves of a sequence, or else the first leaf below its last item, and returns the parent. The first item of the
+// sequence is the node above.
+fn without_last_item<'qs>(leaves: Vec<ParsedValue<'qs>>) -> ParsedValue<'qs>
+    ensures { node_count (tree_of result) < node_count (sequence (items_of leaves.entry.items)) }
 {
-    let mut items = items;
-    let Some(last) = items.pop() else {
-        items.destroy_empty();
-        return ParsedValue::Uninitialized;
-    };
-    if items.is_empty() {
-        items.destroy_empty();
-        return last;
+    let mut items = leaves;
+    while let Some(last) = items.pop() {
+        if items.is_empty() {
+            items.destroy_empty();
+            return last;
+        }
+        match last {
+            ParsedValue::String(_) => {}
+            ParsedValue::Null | ParsedValue::NoValue | ParsedValue::Uninitialized => {}
+            inner => return drop_first_leaf(inner, ParsedValue::Sequence(items)),
+        }
     }
-    drop_first_leaf(last, ParsedValue::Sequence(items))
+    items.destroy_empty();
+    ParsedValue::Uninitialized
 }

@@ -1,5 +1,5 @@
 -- The first index at which a test passes, from the elements before it, and back.
-use Rattle.std.proofs.Common.{◌≡◌, ℕ, zero, suc, Option, ◌<◌, ◌≤◌, true, false, Bool, List, [], ◌∷◌, length, get_or, ap, ◌∙◌, arith, sym, Some, None, ltb, inl, inr}
+use Rattle.std.proofs.Common.{◌≡◌, ℕ, zero, suc, Option, ◌<◌, ◌≤◌, true, false, Bool, List, [], ◌∷◌, length, take, get_or, ◌||◌, refl, ap, ◌∙◌, arith, sym, Some, None, ltb, inl, inr}
 use Rattle.std.specs.Option.{is_some}
 use Rattle.std.specs.List.{position_or_len, position, list_any}
 use Rattle.std.proofs.lemmas.Bool.{cond-true, cond-false, lt-ltb, le-ltb, cases_Bool, ltb-true, ltb-false, both_ways}
@@ -47,6 +47,14 @@ pub none_passes : (p : ℕ → Bool) (xs : List ℕ) → list_any p xs ≡ false
 none_passes p [] none n below = absurd (omega arith)
 none_passes p (x ∷ xs) none zero below = (or_both (p x) (list_any p xs) none).0
 none_passes p (x ∷ xs) none (suc n) below = none_passes p xs (or_both (p x) (list_any p xs) none).1 n (omega arith)
+
+-- where none of the first elements passes, none passes in the front
+pub none_in_front : (p : ℕ → Bool) (xs : List ℕ) (n : ℕ) → n ≤ length xs → NoneBetween p xs 0 n → list_any p (take n xs) ≡ false
+none_in_front p xs zero within none = refl
+none_in_front p [] (suc n) within none = refl
+none_in_front p (x ∷ xs) (suc n) within none =
+    ap (λ b. b || list_any p (take n xs)) (none zero (omega arith) (omega arith))
+    ∙ none_in_front p xs n (omega arith) (λ k from to. none (suc k) (omega arith) (omega (arith, to)))
 
 -- a place is found just where an element passes
 pub is_found : (p : ℕ → Bool) (xs : List ℕ) (r : Option ℕ) → r ≡ position p xs → is_some r ≡ list_any p xs

@@ -1,5 +1,5 @@
 -- The order of keys, and what a map finds, seen as segments and trees.
-use Rattle.std.proofs.Common.{◌≡◌, ℕ, zero, suc, slice_get, length, List, [], ◌∷◌, Option, Some, None, option_map, Bor, refl, ap, ◌∙◌, sym, inl, inr, rules, map, Bool, true, false}
+use Rattle.std.proofs.Common.{◌≡◌, ℕ, zero, suc, slice_get, length, List, [], ◌∷◌, Option, Some, None, option_map, Bor, refl, ap, ◌∙◌, sym, inl, inr, rules, map}
 use Rattle.std.proofs.lemmas.Bool.{cases_Bool}
 use Rattle.std.specs.Map.{lookup, remove_entry}
 use Rattle.std.specs.BTreeMap.{is_at}

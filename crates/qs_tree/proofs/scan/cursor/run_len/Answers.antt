@@ -1,4 +1,8 @@
-use Rattle.std.proofs.Common.{◌≡◌, false, refl, sym, ◌∙◌, arith}
+use Rattle.std.proofs.Common.{◌≡◌, false, refl, sym, ap, ◌∙◌, arith, inl, inr}
+use Rattle.std.specs.Prelude.{slice_index}
+use Rattle.std.proofs.lemmas.Bool.{cases_lt}
+use Rattle.qs_tree.specs.escape.Classes.{is_escape}
+use Rattle.qs_tree.proofs.lemmas.escape.FirstPlace.{none_in_front}
 use Rattle.qs_spec.specs.Token.Kind.{Other}
 use Rattle.qs_tree.specs.declared.scan.cursor.Until as until
 use Rattle.qs_tree.specs.internal.scan.Cursor.{ends_of, kind_of_token}
@@ -6,8 +10,13 @@ use Rattle.qs_tree.proofs.lemmas.scan.Runs.{token_on, letter_on}
 use Rattle.qs_tree.proofs.scan.cursor.run_len.Goals as goal
 
 pub loop-at-preserved-then-is_letter : goal.loop-at-preserved-then-is_letter
-loop-at-preserved-then-is_letter c =
-    letter_on (ends_of c.args.until) c.args.form c.args.bytes.now c.loop-at.at (other c.args.until) c.loop-at.invariant (omega (arith, c.loop-at-test.true)) (c.if-is_letter.ensures refl)
+loop-at-preserved-then-is_letter c = (
+  letter_on (ends_of c.args.until) c.args.form c.args.bytes.now c.loop-at.at (other c.args.until) c.loop-at.invariant.0 (omega (arith, c.loop-at-test.true)) (c.if-is_letter.ensures.letter refl),
+  λ plain k from to. elim (cases_lt k c.loop-at.at) [
+    | inl early ↦ c.loop-at.invariant.1 plain k from early
+    | inr late ↦ ap (λ n. is_escape (slice_index c.args.bytes.now n)) (omega (arith, late, to)) ∙ c.if-is_letter.ensures.plain refl
+  ],
+)
   where
     other : (u : until.Until) → ends_of u Other ≡ false
     other until.TheVariants.Separator = refl
@@ -15,6 +24,14 @@ loop-at-preserved-then-is_letter c =
     other until.TheVariants.Close = refl
 
 pub loop-at-preserved : goal.loop-at-preserved
-loop-at-preserved c =
-    token_on (ends_of c.args.until) c.args.form c.args.bytes.now c.loop-at.at c.first_token-kind.result.1 (kind_of_token c.first_token-kind.result.0) c.loop-at.invariant
-    c.first_token-kind.ensures.within c.first_token-kind.ensures.token (sym c.is_at.ensures ∙ c.if-is_at.false)
+loop-at-preserved c = (
+  token_on (ends_of c.args.until) c.args.form c.args.bytes.now c.loop-at.at c.first_token-kind.result.1 (kind_of_token c.first_token-kind.result.0) c.loop-at.invariant.0
+      c.first_token-kind.ensures.within c.first_token-kind.ensures.token (sym c.is_at.ensures ∙ c.if-is_at.false),
+  λ is. absurd (cc),
+)
+
+pub returns-then-is_at-clause-plain : goal.returns-then-is_at-clause-plain
+returns-then-is_at-clause-plain c = λ plain. none_in_front is_escape c.args.bytes.now c.loop-at.at c.loop-at.invariant.0.some (c.loop-at.invariant.1 plain)
+
+pub returns-after-loop-at-clause-plain : goal.returns-after-loop-at-clause-plain
+returns-after-loop-at-clause-plain c = λ plain. none_in_front is_escape c.args.bytes.now c.loop-at.at c.loop-at.invariant.0.some (c.loop-at.invariant.1 plain)

@@ -4,6 +4,6 @@ use Rattle.qs_tree.proofs.scan.raw.parse_key.Goals as goal
 pub returns-in-Some : goal.returns-in-Some
 returns-in-Some c = record { key = number_key c.args.raw.now c.in-Some.index c.in-Some.ensures }
 
-pub returns-in_ok-unescape-in-None : goal.returns-in_ok-unescape-in-None
-returns-in_ok-unescape-in-None c =
-    record { key = text_key c.args.raw.now c.in_ok-unescape-in-None.field-0 c.in-None.ensures c.in_ok-unescape-in-None.ensures.value c.in_ok-unescape-in-None.ensures.owned }
+pub returns-in_ok-unescape_unless-in-None : goal.returns-in_ok-unescape_unless-in-None
+returns-in_ok-unescape_unless-in-None c =
+    record { key = text_key c.args.raw.now c.in_ok-unescape_unless-in-None.field-0 c.in-None.ensures c.in_ok-unescape_unless-in-None.ensures.value c.in_ok-unescape_unless-in-None.ensures.owned }

@@ -10,4 +10,4 @@ loop-left-smaller-in-Map c =
 
 pub loop-left-smaller : goal.loop-left-smaller
 loop-left-smaller c =
-    omega (arith, c.without_last_item.ensures.0, ap nodes c.in-Sequence.is ∙ ap node_count (tree_of-Sequence c.in-Sequence.items))
+    omega (arith, c.without_last_item.ensures, ap nodes c.in-Sequence.is ∙ ap node_count (tree_of-Sequence c.in-Sequence.items))

@@ -1,19 +1,19 @@
 use Rattle.std.proofs.Common.{take, drop, sym, ap, ◌∙◌}
 use Rattle.qs_spec.specs.Token.{tokens}
 use Rattle.qs_tree.specs.internal.scan.Cursor.{left}
-use Rattle.qs_tree.proofs.lemmas.scan.Values.{value_cut, end_of, value_past, plain_value}
+use Rattle.qs_tree.proofs.lemmas.scan.Values.{value_cut, value_past, plain_value}
 use Rattle.qs_tree.proofs.scan.cursor.Cursor.value.Goals as goal
 
 pub returns-clause-value : goal.returns-clause-value
 returns-clause-value c =
     let old = c.args.self.now in
-    let end = c.unwrap_or-end.ensures ∙ end_of old.rest.now c.find_ampersand.result c.find_ampersand.ensures.first in
+    let end = c.find_value_end-end.ensures.first in
     c.split_at.ensures.front ∙ ap (λ n. take n old.rest.now) end ∙ sym (value_cut old.form old.rest.now).run
 
 pub returns-clause-past : goal.returns-clause-past
 returns-clause-past c =
     let old = c.args.self.now in
-    let end = c.unwrap_or-end.ensures ∙ end_of old.rest.now c.find_ampersand.result c.find_ampersand.ensures.first in
+    let end = c.find_value_end-end.ensures.first in
     value_past (left old) c.next.result c.next.new.self
     ((value_cut old.form old.rest.now).rest ∙ sym (ap (tokens old.form) (c.split_at.ensures.back ∙ ap (λ n. drop n old.rest.now) end)) ∙ c.next.ensures.token)
     c.next.ensures.end
@@ -21,6 +21,6 @@ returns-clause-past c =
 pub returns-clause-plain : goal.returns-clause-plain
 returns-clause-plain c =
     let old = c.args.self.now in
-    let end = c.unwrap_or-end.ensures ∙ end_of old.rest.now c.find_ampersand.result c.find_ampersand.ensures.first in
+    let end = c.find_value_end-end.ensures.first in
     λ plain. plain_value old.rest.now c.split_at.result.0.now c.split_at.result.1.now c.next.result c.next.new.self.rest.now plain
     (c.split_at.ensures.front ∙ ap (λ n. take n old.rest.now) end) (c.split_at.ensures.back ∙ ap (λ n. drop n old.rest.now) end) c.next.ensures.bytes c.next.ensures.end

@@ -5,7 +5,7 @@ use Rattle.qs_spec.specs.internal.InPlace.{add}
 use Rattle.qs_tree.specs.tree.Views.{tree_of}
 use Rattle.qs_tree.specs.internal.scan.Pairs.{is_push, leaf_of, path_of}
 use Rattle.qs_tree.proofs.lemmas.build.Chains.{chain}
-use Rattle.qs_tree.proofs.build.add_to_value.value_of.Given as goal
+use Rattle.qs_tree.proofs.build.add_to_value.chain_of.Given as goal
 
 abbrev pub invariant-keys : goal.invariant-keys
 invariant-keys l = record {

@@ -5,7 +5,7 @@ use Rattle.qs_tree.specs.tree.Views.{tree_of}
 use Rattle.qs_tree.specs.internal.scan.Pairs.{is_push, leaf_of, path_of}
 use Rattle.qs_tree.proofs.lemmas.Views.{tree_of-Map}
 use Rattle.qs_tree.proofs.lemmas.build.Chains.{chain, alone, shorter}
-use Rattle.qs_tree.proofs.build.add_to_value.value_of.Goals as goal
+use Rattle.qs_tree.proofs.build.add_to_value.chain_of.Goals as goal
 
 pub keys-init : goal.keys-init
 keys-init c =

@@ -1,0 +1,23 @@
+-- The table has `.` for the bytes that are letters.
+use Rattle.std.proofs.Common.{◌≡◌, ◌∙◌, ℕ, ◌<◌, ◌==◌, ◌||◌, Bool, true, false, cond, not, get_or, refl, sym}
+use Rattle.std.proofs.lemmas.Bool.{agree_below_at}
+use Rattle.qs_spec.specs.Token.Kind.{Amp, Equals, Open, Close, Other}
+use Rattle.qs_tree.specs.escape.Classes.{is_escape}
+use Rattle.qs_tree.specs.internal.scan.Cursor.{IsLetter}
+use Rattle.qs_tree.specs.declared.escape.search.letter.TheConstants.{LETTERS}
+
+letters_are : (b : ℕ) → b < 256 → (get_or LETTERS b 0 == 46) ≡ not (b == 37 || b == 38 || b == 43 || b == 61 || b == 91 || b == 93)
+letters_are b small = agree_below_at (λ b. get_or LETTERS b 0 == 46) (λ b. not (b == 37 || b == 38 || b == 43 || b == 61 || b == 91 || b == 93)) 256 b refl small
+
+pub letter_alone : (b : ℕ) → b < 256 → (get_or LETTERS b 0 == 46) ≡ true → IsLetter b × (is_escape b ≡ false)
+letter_alone b small is = by (b == 37) (b == 38) (b == 43) (b == 61) (b == 91) (b == 93) (sym (letters_are b small) ∙ is)
+  where
+    by : (p a s e o c : Bool) → not (p || a || s || e || o || c) ≡ true
+        → ((p ≡ false) × (cond a Amp (cond e Equals (cond o Open (cond c Close Other))) ≡ Other)) × ((s || p) ≡ false)
+    by true a s e o c is = cc
+    by false true s e o c is = cc
+    by false false true e o c is = cc
+    by false false false true o c is = cc
+    by false false false false true c is = cc
+    by false false false false false true is = cc
+    by false false false false false false is = ((refl, refl), refl)

@@ -84,23 +84,43 @@ fn is_written_as<T: Serialize + Drop>(
     Ok(Config::new().serialize_string(alloc, &value?)?.as_str() == wanted)
 }
 
+// Whether the value that is read by a shape that is kept has this querystring.
+fn is_read_by_shape<T: Serialize + Deserialize + Drop>(
+    alloc: Global,
+    input: &[u8],
+    wanted: &str,
+) -> Result<bool> {
+    let shape = T::shape(alloc)?;
+    let value = read_by(alloc, Config::new(), &shape, input);
+    is_written_as::<T>(alloc, value, wanted)
+}
+
+// Whether the value that each other typed call reads has this querystring.
+fn is_read_by_each<T: Serialize + Deserialize + Drop>(
+    alloc: Global,
+    input: &[u8],
+    wanted: &str,
+) -> Result<bool> {
+    let config = Config::new();
+    let text = str::from_utf8(input)?;
+    Ok(
+        is_written_as::<T>(alloc, from_str(alloc, text), wanted)?
+            && is_written_as::<T>(alloc, config.deserialize_str(alloc, text), wanted)?
+            && is_written_as::<T>(alloc, config.deserialize_bytes(alloc, input), wanted)?
+            && is_read_by_shape::<T>(alloc, input, wanted)?,
+    )
+}
+
 // Returns the querystring of the value that each typed call reads from the input and writes again.
 fn rewritten_by_each<T: Serialize + Deserialize + Drop>(
     alloc: Global,
     input: &[u8],
 ) -> Result<String> {
-    let config = Config::new();
-    let text = str::from_utf8(input)?;
-    let shape = T::shape(alloc)?;
-    let written = rewritten::<T>(alloc, input)?;
-    if is_written_as::<T>(alloc, from_str(alloc, text), &written)?
-        && is_written_as::<T>(alloc, config.deserialize_str(alloc, text), &written)?
-        && is_written_as::<T>(alloc, config.deserialize_bytes(alloc, input), &written)?
-        && is_written_as::<T>(alloc, read_by(alloc, config, &shape, input), &written)?
-    {
-        return Ok(written);
+    let querystring = rewritten::<T>(alloc, input)?;
+    match is_read_by_each::<T>(alloc, input, &querystring)? {
+        true => Ok(querystring),
+        false => Ok(String::from_str(alloc, "the calls disagree")?),
     }
-    Ok(String::from_str(alloc, "the calls disagree")?)
 }
 
 // Returns what a writer with this room holds of the querystring of the value that is read from the input.

@@ -12,8 +12,6 @@ mod answers;
 #[cfg(test)]
 mod build;
 #[cfg(test)]
-mod callers;
-#[cfg(test)]
 mod configurations;
 #[cfg(test)]
 mod deep;

@@ -3,6 +3,7 @@
 use super::query;
 use crate::build::Build;
 use crate::narrow::{Narrow, Stop};
+use qs_callers::Query;
 use serde_qs::{ByWrite, ConfigExt, Data, Error, Result, Serializer, Sink, from_str, to_writer};
 use std::alloc::Global;
 use std::collections::BTreeMap;
@@ -12,6 +13,8 @@ const WHOLE: &[u8; 10] = b"a=1&b[0]=2";
 
 const ADDRESS: &str =
     "address[city]=Carrot+City&address[postcode]=12345&address[street]=Special-Street*+No.+11";
+
+const QUERY: &str = "name=Alice&age=24&occupation=Student";
 
 // A struct of a number and a list of one number.
 fn number_and_list<R: Abort>(b: &Build<'_, R>) -> Data {
@@ -126,6 +129,19 @@ fn typed_calls_stop_in_mid_stream(rt: HostRuntime) {
                 fronts(&rt, rt.alloc(), &addresses, call, step, stop);
             }
         }
+    }
+}
+
+// A struct of a user's is written field by field.
+#[test]
+fn a_struct_stops_in_mid_stream(rt: HostRuntime) {
+    let query: Query = from_str(rt.alloc(), QUERY).expect(&rt, "a query");
+    for room in 0..=QUERY.len() {
+        let mut writer = Narrow::new(rt.alloc(), 1, room, Stop::Fails).expect(&rt, "memory");
+        let result = to_writer(rt.alloc(), &query, &mut writer);
+        assert_eq!(rt; writer.held.as_slice(), &QUERY.as_bytes()[..room]);
+        assert_eq!(rt; result.is_ok(), room == QUERY.len());
+        assert!(rt; matches!(result, Ok(()) | Err(Error::Io(_))), "{room}");
     }
 }
 

@@ -1,6 +1,6 @@
 //! Nodes of a tree, each read by itself.
 
-use super::is_custom;
+use crate::values::is_custom;
 use qs_callers::Query;
 use qs_data::{Data, Entries, Error, Found, Reader, Result, Shape};
 use qs_tree::{Config, ParsedValue, parse};

@@ -5,8 +5,8 @@ ghost use Rattle.qs_tests.specs.declared.callers.kinds.TheConstants.{MESSAGE_NAM
 ghost use Rattle.serde_qs.specs.declared.compound.variants.OneOf.TheVariants.{First, Later};
 ghost use Rattle.serde_qs.specs.PartTables.{made_of};
 
-use super::round_trips::comes_back;
-use super::{list, text};
+use crate::round_trips::comes_back;
+use crate::values::{list, text};
 use qs_callers::Pair;
 use serde_qs::OneOf::{First, Later};
 use serde_qs::{

@@ -1,7 +1,7 @@
 //! Types that are only read or only written, and a struct with an enum in a field.
 
-use super::round_trips::comes_back;
-use super::{is_custom, list, one, text};
+use crate::round_trips::comes_back;
+use crate::values::{is_custom, list, one, text};
 use qs_callers::{Listing, Report, Sort, Values, Visit};
 use serde_qs::{Result, from_str, to_string};
 

@@ -1,6 +1,6 @@
 //! Values that are written and read back, in both modes.
 
-use super::{list, one, text, with};
+use crate::values::{list, one, text, with};
 use qs_callers::{Account, Filter, Pair, Price, Sort};
 use serde_qs::{Config, ConfigExt, RoundTrip, to_string};
 use std::alloc::Global;

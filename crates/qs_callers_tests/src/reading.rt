@@ -1,6 +1,6 @@
 //! Typed calls that read.
 
-use super::is_custom;
+use crate::values::is_custom;
 use qs_callers::{Account, Filter, Pair, Price, Query, Search, Sort, asked, sorted};
 use serde_qs::{
     Config, ConfigExt, Deserialize, Deserializer, Error, Result, Serialize, from_bytes, from_str,

@@ -1,6 +1,6 @@
 //! Types that reject unknown keys.
 
-use super::is_custom;
+use crate::values::is_custom;
 use qs_callers::{Method, Payment};
 use serde_qs::{Result, from_str, to_string};
 

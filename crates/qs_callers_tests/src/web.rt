@@ -1,6 +1,6 @@
 //! Wrapped values, and errors that a caller makes.
 
-use super::text;
+use crate::values::text;
 use qs_callers::{
     Query, copied_form, copied_query, form_inside, form_text, is_same_form, is_same_query,
     order_of_forms, order_of_queries, partial_order_of_forms, partial_order_of_queries,

@@ -1,9 +1,8 @@
 //! Typed calls that write.
 
-use super::{list, one, text};
-use crate::narrow::{Narrow, Stop};
+use crate::values::{list, one, text};
 use qs_callers::{Account, Filter, Pair, Price, Query, Search, Sort, rewritten};
-use serde_qs::{Config, ConfigExt, Error, Result, from_str, to_string, to_writer};
+use serde_qs::{Config, ConfigExt, Error, from_str, to_string, to_writer};
 use std::process::Abort;
 
 const TEXT: &str = "name=Alice&age=24&occupation=Student";
@@ -100,20 +99,4 @@ fn too_deep(rt: HostRuntime) {
     let result = config.serialize_to_writer(alloc, &pair, &mut out);
     assert!(rt; matches!(result, Err(Error::MaxSerializationDepthExceeded(0))));
     assert!(rt; out.as_slice() == b"a=1".as_slice());
-}
-
-#[test]
-fn a_writer_that_stops(rt: HostRuntime) {
-    let alloc = rt.alloc();
-    let query: Query = from_str(alloc, TEXT).expect(&rt, "a query");
-    for room in 0..=TEXT.len() {
-        let mut writer = Narrow::new(alloc, 1, room, Stop::Fails).expect(&rt, "memory");
-        let result: Result<()> = to_writer(alloc, &query, &mut writer);
-        assert!(rt; writer.held.as_slice() == &TEXT.as_bytes()[..room]);
-        if room < TEXT.len() {
-            assert!(rt; matches!(result, Err(Error::Io(_))), "{room}");
-        } else {
-            assert!(rt; result.is_ok());
-        }
-    }
 }

@@ -1,7 +1,7 @@
 //! Fields of users' types: a list in one text, a checked value.
 
-use super::round_trips::comes_back;
-use super::{is_custom, list, text};
+use crate::round_trips::comes_back;
+use crate::values::{is_custom, list, text};
 use qs_callers::{Age, Chart, Columns, Page, Paging, Pair, Place, Price, Profile, Sort, Span};
 use serde_qs::{Config, ConfigExt, Delimited, Result, from_str, to_string};
 

@@ -1,6 +1,6 @@
 //! Lists in one text.
 
-use super::{is_custom, list, one, text};
+use crate::values::{is_custom, list, one, text};
 use qs_callers::Values;
 use serde_qs::helpers::{
     Item, comma_separated, generic_delimiter, pipe_delimited, signed_list_comes_back,

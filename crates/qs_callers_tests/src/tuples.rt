@@ -3,8 +3,8 @@
 ghost use Rattle.serde_qs.specs.PartTables.{made_of};
 ghost use Rattle.std.specs.Prelude.{[]};
 
-use super::round_trips::comes_back;
-use super::{list, text};
+use crate::round_trips::comes_back;
+use crate::values::{list, text};
 use qs_callers::Pair;
 use serde_qs::{Compound, Data, Out, Parts, Result, RoundTrip, Shape, Source, Tuple, to_string};
 use std::alloc::Global;

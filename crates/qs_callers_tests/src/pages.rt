@@ -1,7 +1,7 @@
 //! A search page, a posted form, links, a client with its server, and the leaves of a tree.
 
-use super::round_trips::comes_back;
-use super::text;
+use crate::round_trips::comes_back;
+use crate::values::text;
 use qs_callers::{
     Address, Filter, Link, Order, Products, Query, exchanged, leaf_paths, next_page, ordered,
     served, target,
@@ -39,7 +39,7 @@ fn a_posted_form(rt: HostRuntime) {
             street: text(&rt, alloc, "No. 11"),
             city: text(&rt, alloc, "Carrot City"),
         },
-        items: super::list(&rt, alloc, [7, 9]),
+        items: crate::values::list(&rt, alloc, [7, 9]),
     };
     let posted = ordered(alloc, body).expect(&rt, "an order").into_inner();
     assert!(rt; posted == order);

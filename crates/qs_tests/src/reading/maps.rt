@@ -67,54 +67,48 @@ fn numbers_as_keys(rt: HostRuntime) {
     t.reads(input, &shape, b.one("example", pair));
 }
 
-// A map with keys of this shape reads the first input, and not the second.
-fn keys_end_at<R: Abort>(
-    t: &Rows<'_, R>,
-    kind: KeyShape,
-    input: &str,
-    last: Data,
-    beyond: &str,
-    said: &str,
-) {
-    let shape = keys(&t.build, kind);
-    t.reads(input, &shape, key(&t.build, last));
-    t.says(beyond, &shape, said);
-}
-
 #[test]
 fn unsigned_keys(rt: HostRuntime) {
     let t = Rows::new(&rt, rt.alloc());
-    let said = "invalid type: string, expected u8";
-    let last = Data::Unsigned(255);
-    keys_end_at(&t, KeyShape::U8, "m[255]", last, "m[256]", said);
-    let said = "invalid type: string, expected u16";
-    let last = Data::Unsigned(65535);
-    keys_end_at(&t, KeyShape::U16, "m[65535]", last, "m[65536]", said);
-    let said = "invalid type: string, expected u32";
-    let last = Data::Unsigned(4294967295);
-    let beyond = "m[4294967296]";
-    keys_end_at(&t, KeyShape::U32, "m[4294967295]", last, beyond, said);
-    let said = "invalid type: string, expected u64";
-    let last = Data::Unsigned(4294967296);
-    keys_end_at(&t, KeyShape::U64, "m[4294967296]", last, "m[-1]", said);
+    let b = &t.build;
+    let shape = keys(b, KeyShape::U8);
+    t.reads("m[255]", &shape, key(b, Data::Unsigned(255)));
+    t.says("m[256]", &shape, "invalid type: string, expected u8");
+    let shape = keys(b, KeyShape::U16);
+    t.reads("m[65535]", &shape, key(b, Data::Unsigned(65535)));
+    t.says("m[65536]", &shape, "invalid type: string, expected u16");
+    let shape = keys(b, KeyShape::U32);
+    t.reads("m[4294967295]", &shape, key(b, Data::Unsigned(4294967295)));
+    t.says(
+        "m[4294967296]",
+        &shape,
+        "invalid type: string, expected u32",
+    );
+    let shape = keys(b, KeyShape::U64);
+    t.reads("m[4294967296]", &shape, key(b, Data::Unsigned(4294967296)));
+    t.says("m[-1]", &shape, "invalid type: string, expected u64");
 }
 
 #[test]
 fn signed_keys(rt: HostRuntime) {
     let t = Rows::new(&rt, rt.alloc());
-    let said = "invalid type: string, expected i8";
-    let last = Data::Signed(-128);
-    keys_end_at(&t, KeyShape::I8, "m[-128]", last, "m[-129]", said);
-    let said = "invalid type: string, expected i16";
-    let last = Data::Signed(-32768);
-    keys_end_at(&t, KeyShape::I16, "m[-32768]", last, "m[-32769]", said);
-    let said = "invalid type: string, expected i32";
-    let last = Data::Signed(2147483647);
-    let beyond = "m[2147483648]";
-    keys_end_at(&t, KeyShape::I32, "m[2147483647]", last, beyond, said);
-    let said = "invalid type: string, expected i64";
-    let last = Data::Signed(-4294967296);
-    keys_end_at(&t, KeyShape::I64, "m[-4294967296]", last, "m[x]", said);
+    let b = &t.build;
+    let shape = keys(b, KeyShape::I8);
+    t.reads("m[-128]", &shape, key(b, Data::Signed(-128)));
+    t.says("m[-129]", &shape, "invalid type: string, expected i8");
+    let shape = keys(b, KeyShape::I16);
+    t.reads("m[-32768]", &shape, key(b, Data::Signed(-32768)));
+    t.says("m[-32769]", &shape, "invalid type: string, expected i16");
+    let shape = keys(b, KeyShape::I32);
+    t.reads("m[2147483647]", &shape, key(b, Data::Signed(2147483647)));
+    t.says(
+        "m[2147483648]",
+        &shape,
+        "invalid type: string, expected i32",
+    );
+    let shape = keys(b, KeyShape::I64);
+    t.reads("m[-4294967296]", &shape, key(b, Data::Signed(-4294967296)));
+    t.says("m[x]", &shape, "invalid type: string, expected i64");
 }
 
 #[test]

@@ -8,6 +8,7 @@ mod helpers;
 mod kinds;
 mod nodes;
 mod pages;
+mod parts;
 mod reading;
 mod round_trips;
 mod strict;

@@ -18,6 +18,8 @@ mod nodes;
 #[cfg(test)]
 mod pages;
 #[cfg(test)]
+mod parts;
+#[cfg(test)]
 mod reading;
 #[cfg(test)]
 mod round_trips;

@@ -218,6 +218,7 @@ impl Exit {
     /// ```
     /// Sort::Between { from, to } => out.struct_variant("Between", &["from", "to"], (from, (to, ()))),
     /// ```
+    #[tactic(auto, unfolding(qs_spec::specs::Entry::entries_at))]
     pub fn struct_variant<R: FieldReferences + Drop>(
         &mut self,
         name: &str,
@@ -232,7 +233,7 @@ impl Exit {
         match self {
             Exit::Data(alloc) => struct_variant(*alloc, name, names, fields),
             Exit::Writer(writer, result) => {
-                *result = write_made(writer, struct_variant(writer.alloc, name, names, fields));
+                *result = own::write_variant(writer, name, names, fields);
                 Err(Error::OutOfMemory)
             }
             Exit::Nothing => {

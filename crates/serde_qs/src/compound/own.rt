@@ -1,16 +1,19 @@
 //! What a type's functions return, in the words of its table.
 
 ghost use Rattle.std.specs.Prelude.{◌≡◌, true, IfOk, option_and_then};
+ghost use Rattle.qs_spec.specs.Data.{members_of};
 ghost use Rattle.qs_tree.specs.Error.{OnlyOutOfMemory};
 ghost use Rattle.qs_data.specs.data.Views.{data_of};
 ghost use Rattle.qs_data.specs.shape.Views.{shape_of};
-ghost use Rattle.qs_data.specs.write.Parts.{WritesPart, data_part, under};
+ghost use Rattle.qs_data.specs.write.Parts.{WritesPart, data_part, members_part, under};
 ghost use Rattle.qs_tree.specs.tree.Views.{tree_of};
 ghost use Rattle.serde_qs.specs.Fits.{fits};
 ghost use Rattle.serde_qs.specs.Nodes.{ReadsNode, missing_data};
+ghost use Rattle.serde_qs.specs.Records.{texts};
 ghost use Rattle.serde_qs.specs.Typed.{Means};
 
 use super::defaulted::OrDefault;
+use super::references::FieldReferences;
 use crate::parts;
 use crate::traits::{Deserialize, RoundTrip, Serialize};
 use qs_data::{Data, Reader, Result, Scalar, Shape, WriteResult, Writer};
@@ -73,6 +76,21 @@ pub(crate) fn write_under<T: RoundTrip>(writer: &mut Writer, name: &str, value: 
     ensures { WritesPart result writer.old writer.new (under name.now (data_part (T.table.datum value.now))) }
 {
     parts::write_under(writer, Scalar::Bytes(name.as_bytes()), value)
+}
+
+// Writes the fields of a variant under its name.
+pub(crate) fn write_variant<R: FieldReferences + Drop>(
+    writer: &mut Writer,
+    name: &str,
+    names: &[&str],
+    fields: R,
+) -> WriteResult
+    ensures { WritesPart result writer.old writer.new (under name.now (members_part (members_of (R.own_members (texts names.now) fields)))) }
+{
+    let len = writer.enter(Scalar::Bytes(name.as_bytes()))?;
+    fields.write_members(names, writer)?;
+    writer.leave(len);
+    Ok(())
 }
 
 // Shows that the data of a value fit its shape. It does nothing when it runs.

@@ -116,7 +116,7 @@ impl<'a, T: Serialize, R: References + Drop> References for (SkipNone<'a, T>, R)
     }
 }
 
-/// References to fields whose values come back, for [`Out::fields`](crate::Out::fields).
+/// References to fields whose values come back, for [`Out::fields`](crate::Exit::fields).
 pub trait FieldReferences: References {
     // The members of the fields, by their names, in the words of the fields' tables.
     ghost own_members: { List (List ℕ) → Self → List Named };
@@ -202,7 +202,7 @@ impl<'a, T: Serialize, R: ItemReferences + Drop> ItemReferences for (&'a T, R) {
     }
 }
 
-/// References to items whose values come back, for [`Out::items`](crate::Out::items).
+/// References to items whose values come back, for [`Out::items`](crate::Exit::items).
 pub trait ListedReferences: ItemReferences {
     // The data of the items, in the words of their tables.
     ghost own_data: { Self → List Datum };

@@ -86,6 +86,7 @@ fn add_along<'qs>(
 }
 
 // Adds a pair that is a plain leaf with one key left.
+#[inline(never)]
 fn add_unsorted<'qs>(
     leaves: &mut Unsorted<'qs>,
     pair: &mut Pair<'qs>,
@@ -163,6 +164,7 @@ fn add_in_new_map<'qs>(
 
 // Adds a pair to the node at a key of a map. The node is at this level of the pair's path.
 #[cycle(adding)]
+#[inline(never)]
 fn add_below<'qs>(
     alloc: Global,
     map: &mut MapBuilder<'qs>,
@@ -257,7 +259,7 @@ fn add_by_value<'qs>(
 }
 
 // Adds a pair's leaf at the end of its path.
-#[inline(always)]
+#[inline(never)]
 #[tactic(auto, using(crate::proofs::lemmas::Views::views))]
 fn add_here<'qs>(
     alloc: Global,

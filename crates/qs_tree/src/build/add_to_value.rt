@@ -123,7 +123,7 @@ fn value_of<'qs>(
 }
 
 // The same, by a loop.
-#[inline(never)]
+#[inline(always)]
 fn chain_of<'qs>(
     alloc: Global,
     pair: &mut Pair<'qs>,

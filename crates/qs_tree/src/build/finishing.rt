@@ -50,6 +50,7 @@ impl<'qs> TreeBuilder<'qs> {
 }
 
 // Finishes a map and all maps in it.
+#[inline(never)]
 fn finish_map<'qs>(alloc: Global, map: MapBuilder<'qs>) -> Result<ParsedMap<'qs>, AllocError>
     ensures { IfOk result (λ done. entries_of_map done ≡ built_entries map.entry) }
 {

@@ -50,6 +50,7 @@ impl<'qs> Unsorted<'qs> {
     }
 
     /// The finished entries. Sorts the leaves.
+    #[inline(never)]
     pub fn into_entries(
         self,
         alloc: Global,

@@ -25,6 +25,7 @@ pub(crate) fn drop_tree<'qs>(tree: ParsedValue<'qs>) {
 }
 
 // Drops the first leaf of a tree, and returns its parent. The topmost node stores the node above the tree as its first child.
+#[inline(never)]
 fn drop_first_leaf<'qs>(tree: ParsedValue<'qs>, above: ParsedValue<'qs>) -> ParsedValue<'qs>
     ensures { DropsOne (node_count (tree_of tree.entry) + node_count (tree_of above.entry)) (node_count (tree_of result)) }
 {

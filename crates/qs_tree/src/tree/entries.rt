@@ -138,6 +138,7 @@ impl<K: Ord + Drop, V: Drop> Entries<K, V> {
     }
 
     /// Inserts an entry with a missing key at an index. On an error nothing is changed.
+    #[inline(always)]
     pub fn insert_at(&mut self, at: usize, key: K, value: V) -> Result<(), AllocError>
         requires { IsGap K.cmp key self.old at }
         ensures ok { OnOk result (self.new ≡ insert_entry K.cmp self.old key value) }
@@ -147,6 +148,7 @@ impl<K: Ord + Drop, V: Drop> Entries<K, V> {
     }
 
     /// Pushes an entry whose key is greater than all others. On an error nothing is changed.
+    #[inline(always)]
     pub fn push(&mut self, key: K, value: V) -> Result<(), AllocError>
         requires { IsStrictlySortedBy K.cmp (keys_of self.old ++ key ∷ []) }
         ensures ok { OnOk result (self.new ≡ self.old ++ (key, value) ∷ []) }

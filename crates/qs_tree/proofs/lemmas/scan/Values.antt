@@ -1,8 +1,7 @@
 -- A value that is found by its first `&`, and the tokens that it is.
 use Rattle.std.proofs.Common.{◌≡◌, ℕ, suc, ◌+◌, ◌==◌, Bool, true, false, cond, not, ◌&&◌, ◌||◌, List, [], ◌∷◌, ◌++◌, length, take, drop, eqb-true, refl, sym, ap, ap₂, ◌∙◌, le_refl, subst, arith, Option, Some, None}
-use Rattle.std.specs.Option.{IfNone, unwrap_or}
-use Rattle.std.specs.List.{position, position_or_len}
-use Rattle.std.proofs.lemmas.List.Sums.{prefix_len-le-length}
+use Rattle.std.specs.Option.{IfNone}
+use Rattle.std.specs.List.{position_or_len}
 use Rattle.std.proofs.Math.Seq.{take-length}
 use Rattle.std.proofs.lemmas.List.{drop_all}
 use Rattle.qs_spec.specs.Escape.{is_marked}
@@ -16,7 +15,6 @@ use Rattle.qs_tree.specs.declared.scan.cursor.Token as code
 use Rattle.qs_tree.specs.declared.scan.cursor.Cursor as cursor
 use Rattle.qs_tree.specs.internal.scan.Cursor.{kind_of_token, token_of, raw_from_token, from_token, left, IsPast}
 use Rattle.qs_tree.specs.Parsing.{is_plain}
-use Rattle.qs_tree.proofs.lemmas.escape.FirstPlace.{position_some_is, position_none_is}
 
 -- where the value ends
 abbrev pub value_end : List ℕ → ℕ
@@ -113,11 +111,6 @@ stop_ends ends (u ∷ ts) t rest e = by (ends u.kind) refl e (stop_ends ends ts 
     by : (x : Bool) → ends u.kind ≡ x → (cut_at x u ts (cut ends ts)).1 ≡ t ∷ rest → ((cut ends ts).1 ≡ t ∷ rest → ends t.kind ≡ true) → ends t.kind ≡ true
     by true d e h = let same : u ≡ t = cc in ap (λ (v : Token). ends v.kind) (sym same) ∙ d
     by false d e h = h e
-
--- where a search by place ended
-pub end_of : (bytes : List ℕ) (found : Option ℕ) → found ≡ position is_ampersand bytes → unwrap_or found (length bytes) ≡ value_end bytes
-end_of bytes None e = omega (arith, position_none_is is_ampersand bytes e, prefix_len-le-length (λ x. not (is_ampersand x)) bytes)
-end_of bytes (Some n) e = (position_some_is is_ampersand bytes n e).0
 
 pub is_amp_of : (k : Kind) → is_amp k ≡ true → k ≡ Amp
 is_amp_of Amp e = refl

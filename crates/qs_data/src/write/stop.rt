@@ -5,14 +5,14 @@ ghost use Rattle.std.specs.Prelude.{◌≡◌};
 use qs_tree::{Config, Error};
 use std::alloc::AllocError;
 
-/// Why a walk over data stopped before its end.
+/// Why the writing of a value, or of a part of it, stopped before its end.
 #[derive(Drop)]
 pub enum Stop {
     /// A path is longer than the configuration allows.
     TooDeep,
     /// A map's key is no scalar.
     BadKey,
-    /// The sink failed; the walk holds the cause.
+    /// The sink failed, which is text in memory where a [`Writer`](crate::Writer) writes.
     Io,
     /// An allocation failed.
     OutOfMemory,

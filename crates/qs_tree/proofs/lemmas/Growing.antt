@@ -1,20 +1,7 @@
 -- What the pairs of an input make of a tree, item by item.
-use Rattle.std.proofs.Common.{◌≡◌, ℕ, ◌==◌, Bool, false, IfOk, List, [], ◌∷◌, length, refl, sym, ap, ◌∙◌, subst, Option, Some, None, option_map, option_and_then, Result, Ok, Err}
-use Rattle.std.proofs.lemmas.Option.{none-some}
-use Rattle.qs_spec.specs.Token.{Token, tokens}
-use Rattle.qs_spec.specs.Grammar.{Pair}
-use Rattle.qs_spec.specs.Tree.{Tree, IsTree, IsRefused}
-use Rattle.qs_spec.specs.Tree.Tree.{uninitialized}
-use Rattle.qs_spec.specs.internal.Parsing.{parsed_pairs}
-use Rattle.qs_spec.specs.internal.InPlace.{add, add_all}
+use Rattle.qs_tree.proofs.Common.{◌≡◌, ℕ, ◌==◌, Bool, false, IfOk, List, [], ◌∷◌, length, refl, sym, ap, ◌∙◌, subst, Option, Some, None, option_map, option_and_then, Result, Ok, Err, none-some, Token, tokens, Pair, Tree, IsTree, IsRefused, uninitialized, parsed_pairs, add, add_all, Error, Custom, MaxSerializationDepthExceeded, Parse, Unsupported, FromUtf8, Io, ParseInt, Utf8, OutOfMemory, Failed, ParsedValue, tree_of, IsParse, grown, Returns}
 use Rattle.qs_spec.proofs.RelatedIsRead.{found_pairs, are_pairs}
 use Rattle.qs_spec.proofs.Scan.{in_place}
-use Rattle.qs_tree.specs.declared.error.Error.{Error}
-use Rattle.qs_tree.specs.declared.error.Error.TheVariants.{Custom, MaxSerializationDepthExceeded, Parse, Unsupported, FromUtf8, Io, ParseInt, Utf8, OutOfMemory, Failed}
-use Rattle.qs_tree.specs.declared.tree.value.ParsedValue.{ParsedValue}
-use Rattle.qs_tree.specs.tree.Views.{tree_of}
-use Rattle.qs_tree.specs.Error.{IsParse}
-use Rattle.qs_tree.specs.internal.Parsing.{grown, Returns}
 
 module _ (depth : ℕ) (ts : List Token) (t : Tree) where
   pub grown_same : (us : List Token) → parsed_pairs depth ts ≡ parsed_pairs depth us → grown depth ts t ≡ grown depth us t

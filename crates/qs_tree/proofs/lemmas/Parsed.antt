@@ -1,25 +1,10 @@
 -- From the tree of a result to all that `Parses` promises of it.
-use Rattle.std.proofs.Common.{Global, ◌≡◌, ◌≢◌, ℕ, ◌+◌, ◌≤◌, ◌⊎◌, inl, inr, Bool, List, [], ◌∷◌, length, refl, sym, ap, ◌∙◌, IfOk, Option, Result, Ok, Err, ◌==◌, true, eqb-true, arith, rules}
-use Rattle.std.proofs.lemmas.Result.{IfOk-weaker}
+use Rattle.qs_tree.proofs.Common.{Global, ◌≡◌, ◌≢◌, ℕ, ◌+◌, ◌≤◌, ◌⊎◌, inl, inr, Bool, List, [], ◌∷◌, length, refl, sym, ap, ◌∙◌, IfOk, Option, Result, Ok, Err, ◌==◌, true, eqb-true, arith, rules, IfOk-weaker, Tree, IsTree, IsRefused, Pair, ArePairs, tokens, AreReordered, AreAlike, marks, one_tree, Error, Custom, MaxSerializationDepthExceeded, Parse, Unsupported, FromUtf8, Io, ParseInt, Utf8, OutOfMemory, Failed, ParsedValue, NoValue, the_lemmas, tree_of, IsParse, IfParse, IsOutOfMemory, OnlyOutOfMemory, OnlyParseOrOutOfMemory, owns, Returns, HoldsOf}
 use Rattle.std.specs.declared.string.String.{String}
-use Rattle.qs_spec.specs.Tree.{Tree, IsTree, IsRefused}
-use Rattle.qs_spec.specs.Grammar.{Pair, ArePairs}
-use Rattle.qs_spec.specs.Token.{tokens}
 use Rattle.qs_spec.specs.Holds.{IsSound, leaf_count, nesting}
-use Rattle.qs_spec.specs.Order.{AreReordered, AreAlike}
 use Rattle.qs_spec.specs.Input.{HasPairs, IsReordered}
-use Rattle.qs_spec.specs.Marks.{marks}
-use Rattle.qs_spec.proofs.TreeOf.{one_tree}
 use Rattle.qs_spec.proofs.Sound as sound_trees
 use Rattle.qs_spec.proofs.Alike as trees
-use Rattle.qs_tree.specs.declared.error.Error.{Error}
-use Rattle.qs_tree.specs.declared.error.Error.TheVariants.{Custom, MaxSerializationDepthExceeded, Parse, Unsupported, FromUtf8, Io, ParseInt, Utf8, OutOfMemory, Failed}
-use Rattle.qs_tree.specs.declared.tree.value.ParsedValue.{ParsedValue, NoValue, the_lemmas}
-use Rattle.qs_tree.specs.tree.Views.{tree_of}
-use Rattle.qs_tree.specs.Error.{IsParse, IfParse, IsOutOfMemory, OnlyOutOfMemory, OnlyParseOrOutOfMemory}
-use Rattle.qs_tree.specs.tree.Owned.{owns}
-use Rattle.qs_tree.specs.internal.Parsing.{Returns}
-use Rattle.qs_tree.specs.Parsing.{HoldsOf}
 use Rattle.qs_tree.proofs.lemmas.tree.Owned.{owns_marked}
 
 -- the pairs of an input that has a tree

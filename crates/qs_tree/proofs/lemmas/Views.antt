@@ -1,23 +1,11 @@
 -- A value of the code, level by level, beside the tree that it is.
-use Rattle.std.proofs.Common.{◌≡◌, List, [], ◌∷◌, ◌++◌, Vec, Global, ℕ, true, false, None, refl, ap, ◌∙◌, rules}
-use Rattle.std.specs.declared.borrow.CowSlice.{CowSlice}
-use Rattle.std.specs.declared.borrow.CowSlice.TheVariants.{Borrowed, Owned}
-use Rattle.qs_spec.specs.Leaf.{Leaf}
+use Rattle.qs_tree.proofs.Common.{◌≡◌, List, [], ◌∷◌, ◌++◌, Vec, Global, ℕ, true, false, None, refl, ap, ◌∙◌, rules, CowSlice, Borrowed, Owned, Leaf, Tree, leaf, sequence, mapping, uninitialized, add_flat, add_here, push_item, ParsedValue, Map, Sequence, Null, NoValue, Uninitialized, the_lemmas, ParsedMap, MapBuilder, built_tree, built_entries, fresh, second, entries_below, IsLeaf, unsorted_entries, tree_of, entries_of_map, items_of}
 use Rattle.qs_spec.specs.Leaf.Leaf.{Text, Null as leaf_null, NoValue as leaf_none}
-use Rattle.qs_spec.specs.Tree.{Tree}
-use Rattle.qs_spec.specs.Tree.Tree.{leaf, sequence, mapping, uninitialized}
 use Rattle.qs_spec.specs.Tree.Items.{item}
-use Rattle.qs_spec.specs.internal.InPlace.{add_flat, add_here, push_item}
-use Rattle.qs_tree.specs.declared.tree.value.ParsedValue.{ParsedValue, Map, Sequence, String, Null, NoValue, Uninitialized, the_lemmas}
-use Rattle.qs_tree.specs.declared.tree.map.ParsedMap.{ParsedMap}
+use Rattle.qs_tree.specs.declared.tree.value.ParsedValue.{String}
 use Rattle.qs_tree.specs.declared.build.builder.MapBuilder.{the_lemmas as builder_lemmas}
 use Rattle.qs_tree.specs.declared.build.builder.TreeBuilder.TheVariants as builder
-use Rattle.qs_tree.specs.declared.build.builder.MapBuilder.{MapBuilder}
-use Rattle.qs_tree.specs.internal.build.Builder.{built_tree, built_entries, fresh}
-use Rattle.qs_tree.specs.internal.build.Adding.{second, entries_below}
-use Rattle.qs_tree.specs.internal.build.Unsorted.{IsLeaf, unsorted_entries}
 use Rattle.qs_tree.specs.declared.build.unsorted.Unsorted.{Unsorted}
-use Rattle.qs_tree.specs.tree.Views.{tree_of, entries_of_map, items_of}
 
 pub tree_of-Uninitialized : tree_of Uninitialized ≡ uninitialized
 tree_of-Uninitialized = search (rules, the_lemmas)

@@ -1,26 +1,8 @@
 -- What a map under construction holds after a step.
-use Rattle.std.proofs.Common.{◌≡◌, ℕ, List, [], ◌∷◌, ◌++◌, length, slice_get, Option, Some, None, option_map, unwrap_or, Result, Ok, Err, Ordering, Less, Equal, Greater, refl, sym, ap, ◌∙◌, arith, rules, Global}
-use Rattle.std.specs.List.{AllByRecursion}
-use Rattle.std.specs.List.Sorted.{IsStrictlySortedBy}
-use Rattle.std.specs.Map.{keys_of, lookup, set_value}
-use Rattle.std.specs.Ordering.{ordering_reverse}
-use Rattle.std.specs.BTreeMap.{is_at, insert_entry}
-use Rattle.std.specs.declared.collections.BTreeMap.{BTreeMap}
-use Rattle.qs_spec.specs.Tree.{Tree, Entries}
-use Rattle.qs_spec.specs.Tree.Tree.{uninitialized}
-use Rattle.qs_spec.specs.Segment.{compare_segments}
-use Rattle.qs_spec.specs.internal.InPlace.{update}
-use Rattle.qs_tree.specs.declared.tree.key.Key.{Key}
-use Rattle.qs_tree.specs.declared.build.builder.TreeBuilder.{TreeBuilder}
+use Rattle.qs_tree.proofs.Common.{◌≡◌, ℕ, List, [], ◌∷◌, ◌++◌, length, slice_get, Option, Some, None, option_map, unwrap_or, Result, Ok, Err, Ordering, Less, Equal, Greater, refl, sym, ap, ◌∙◌, arith, rules, Global, AllByRecursion, IsStrictlySortedBy, keys_of, lookup, set_value, ordering_reverse, is_at, insert_entry, BTreeMap, Tree, Entries, uninitialized, compare_segments, update, Key, TreeBuilder, AddError, key_cmp, Gives, IsHit, IsGap, put_value, segment_of_key, step_of_key, find, built_tree, built_entries, entries_seen, entries_held, as_builders, fresh, child, Takes}
 use Rattle.qs_tree.specs.declared.build.builder.MapBuilder.{the_lemmas}
 use Rattle.qs_tree.specs.declared.build.builder.MapBuilder.TheVariants as form
 use Rattle.qs_tree.specs.contracts.tree.key.KeyOrd.TheImpl.Laws.{total-law}
-use Rattle.qs_tree.specs.declared.build.conflict.AddError.{AddError}
-use Rattle.qs_tree.specs.tree.Keys.{key_cmp}
-use Rattle.qs_tree.specs.internal.build.Adding.{Gives}
-use Rattle.qs_tree.specs.internal.tree.Places.{IsHit, IsGap, put_value}
-use Rattle.qs_tree.specs.tree.Views.{segment_of_key, step_of_key, find}
-use Rattle.qs_tree.specs.internal.build.Builder.{built_tree, built_entries, entries_seen, entries_held, as_builders, fresh, child, Takes}
 use Rattle.qs_tree.proofs.lemmas.tree.Keys.{Held, seen_view, seen-lookup, key_cmp-segments}
 use Rattle.qs_tree.proofs.lemmas.tree.Ordered.{ordered_seen}
 use Rattle.qs_tree.proofs.lemmas.tree.Places.{hit_lookup, gap_lookup, hit_set}

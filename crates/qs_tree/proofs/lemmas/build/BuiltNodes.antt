@@ -1,12 +1,6 @@
 -- How many nodes a tree under construction has, when a child is changed or taken out.
-use Rattle.std.proofs.Common.{◌≡◌, ℕ, zero, suc, ◌+◌, ◌≤◌, List, [], ◌∷◌, ◌++◌, slice_get, Some, option_map, ap, ◌∙◌, arith}
-use Rattle.std.proofs.lemmas.Option.{none-some, same_Some}
-use Rattle.qs_tree.specs.declared.tree.key.Key.{Key}
-use Rattle.qs_tree.specs.declared.build.builder.TreeBuilder.{TreeBuilder, Map}
-use Rattle.qs_tree.specs.declared.build.builder.MapBuilder.{MapBuilder, Vector}
-use Rattle.qs_tree.specs.internal.tree.NodeCount.{node_count, entries_node_count}
-use Rattle.qs_tree.specs.internal.tree.Places.{put_value}
-use Rattle.qs_tree.specs.internal.build.Builder.{built_tree, built_entries, entries_seen}
+use Rattle.qs_tree.proofs.Common.{◌≡◌, ℕ, zero, suc, ◌+◌, ◌≤◌, List, [], ◌∷◌, ◌++◌, slice_get, Some, option_map, ap, ◌∙◌, arith, none-some, same_Some, Key, TreeBuilder, MapBuilder, Vector, node_count, entries_node_count, put_value, built_tree, built_entries, entries_seen}
+use Rattle.qs_tree.specs.declared.build.builder.TreeBuilder.{Map}
 use Rattle.qs_tree.proofs.lemmas.build.Built.{built_entries-Vector}
 use Rattle.qs_tree.proofs.lemmas.Views.{built_tree-Map}
 

@@ -1,26 +1,6 @@
 -- A node with one pair alone, and what a finished map holds after a step.
-use Rattle.std.proofs.Common.{◌≡◌, ℕ, zero, suc, ◌≤◌, ◌<◌, Bool, true, false, List, [], ◌∷◌, ◌++◌, length, drop, slice_get, Some, None, option_map, unwrap_or, Result, Ok, Err, refl, sym, ap, ◌∙◌, arith}
-use Rattle.std.proofs.lemmas.List.{drop-append-le}
-use Rattle.std.proofs.lemmas.Option.{same_Some}
-use Rattle.std.specs.List.Sorted.{IsStrictlySortedBy}
-use Rattle.std.specs.Map.{keys_of}
-use Rattle.std.specs.BTreeMap.{insert_entry}
-use Rattle.qs_spec.specs.Segment.{Step}
-use Rattle.qs_spec.specs.Leaf.{Leaf}
-use Rattle.qs_spec.specs.Tree.{Tree}
-use Rattle.qs_spec.specs.Tree.Tree.{mapping, uninitialized}
-use Rattle.qs_spec.specs.Tree.Entries.{entry, no_entries}
-use Rattle.qs_spec.specs.internal.InPlace.{add_flat, add}
-use Rattle.qs_tree.specs.declared.tree.key.Key.{Key}
-use Rattle.qs_tree.specs.declared.tree.value.ParsedValue.{ParsedValue, Uninitialized}
+use Rattle.qs_tree.proofs.Common.{◌≡◌, ℕ, zero, suc, ◌≤◌, ◌<◌, Bool, true, false, List, [], ◌∷◌, ◌++◌, length, drop, slice_get, Some, None, option_map, unwrap_or, Result, Ok, Err, refl, sym, ap, ◌∙◌, arith, drop-append-le, same_Some, IsStrictlySortedBy, keys_of, insert_entry, Step, Leaf, Tree, mapping, uninitialized, entry, no_entries, add_flat, add, Key, ParsedValue, Uninitialized, AddError, key_cmp, segment_of_key, key_mark, step_of_key, tree_of, path_of, IsHit, IsGap, put_value, entries_held, Adds, entries_below}
 use Rattle.qs_tree.specs.declared.scan.pair.Pair.{Pair}
-use Rattle.qs_tree.specs.declared.build.conflict.AddError.{AddError}
-use Rattle.qs_tree.specs.tree.Keys.{key_cmp}
-use Rattle.qs_tree.specs.tree.Views.{segment_of_key, key_mark, step_of_key, tree_of}
-use Rattle.qs_tree.specs.internal.scan.Pairs.{path_of}
-use Rattle.qs_tree.specs.internal.tree.Places.{IsHit, IsGap, put_value}
-use Rattle.qs_tree.specs.internal.build.Builder.{entries_held}
-use Rattle.qs_tree.specs.internal.build.Adding.{Adds, entries_below}
 use Rattle.qs_tree.proofs.lemmas.Views.{tree_of-Uninitialized}
 use Rattle.qs_tree.proofs.lemmas.tree.Keys.{Held}
 use Rattle.qs_tree.proofs.lemmas.tree.Places.{hit_value, hit_insert, gap_lookup}

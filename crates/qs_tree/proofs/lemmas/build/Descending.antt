@@ -1,16 +1,6 @@
 -- What a step of a zipper leaves.
-use Rattle.std.proofs.Common.{◌≡◌, Bool, List, [], ◌∷◌, ◌++◌, Option, Some, None, option_map, option_and_then, refl, sym, ap, subst, ◌∙◌, append-nil}
-use Rattle.qs_spec.specs.Segment.{Step}
-use Rattle.qs_spec.specs.Leaf.{Leaf}
-use Rattle.qs_spec.specs.Tree.{Tree, Entries}
-use Rattle.qs_spec.specs.Tree.Tree.{leaf, sequence, mapping, uninitialized}
-use Rattle.qs_spec.specs.internal.InPlace.{update, add_below, add}
+use Rattle.qs_tree.proofs.Common.{◌≡◌, Bool, List, [], ◌∷◌, ◌++◌, Option, Some, None, option_map, option_and_then, refl, sym, ap, subst, ◌∙◌, append-nil, Step, Leaf, Tree, Entries, leaf, sequence, mapping, uninitialized, update, add_below, add, AddError, step_of_key, built_entries, Takes, IsRejected, entries_below, put_back, put_all_back, IsOpen, Leads, IsBarred}
 use Rattle.qs_tree.specs.declared.build.descent.Frame.{Frame}
-use Rattle.qs_tree.specs.declared.build.conflict.AddError.{AddError}
-use Rattle.qs_tree.specs.tree.Views.{step_of_key}
-use Rattle.qs_tree.specs.internal.build.Builder.{built_entries, Takes}
-use Rattle.qs_tree.specs.internal.build.Adding.{IsRejected, entries_below}
-use Rattle.qs_tree.specs.internal.build.Descent.{put_back, put_all_back, IsOpen, Leads, IsBarred}
 use Rattle.qs_tree.proofs.lemmas.build.Turns.{rejected_too, updated, one_below}
 
 -- the node at a key is taken out of the map that a node is or becomes

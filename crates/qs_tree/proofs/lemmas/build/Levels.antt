@@ -1,20 +1,6 @@
 -- The finished entries, those in frames and those that are left make the whole tree.
-use Rattle.std.proofs.Common.{◌≡◌, ℕ, ◌+◌, List, [], ◌∷◌, ◌++◌, refl, sym, ap, ◌∙◌, arith}
-use Rattle.std.specs.List.Sorted.{IsStrictlySortedBy}
-use Rattle.std.specs.Map.{keys_of}
-use Rattle.std.specs.Vec.Iter.{into_iter_items}
-use Rattle.qs_spec.specs.Tree.{Tree, Entries}
-use Rattle.qs_spec.specs.Tree.Tree.{mapping}
-use Rattle.qs_tree.specs.declared.tree.key.Key.{Key}
-use Rattle.qs_tree.specs.declared.tree.value.ParsedValue.{ParsedValue}
-use Rattle.qs_tree.specs.declared.build.builder.TreeBuilder.{TreeBuilder}
+use Rattle.qs_tree.proofs.Common.{◌≡◌, ℕ, ◌+◌, List, [], ◌∷◌, ◌++◌, refl, sym, ap, ◌∙◌, arith, IsStrictlySortedBy, keys_of, into_iter_items, Tree, Entries, mapping, Key, ParsedValue, TreeBuilder, Frame, key_cmp, tree_of, entries_from, entries_seen, built_pairs, level_pairs, with_node, entries_map_count, maps_left, IsOpened, key_trees}
 use Rattle.qs_tree.specs.declared.build.finishing.Level.{Level}
-use Rattle.qs_tree.specs.declared.build.finishing.Frame.{Frame}
-use Rattle.qs_tree.specs.tree.Keys.{key_cmp}
-use Rattle.qs_tree.specs.tree.Views.{tree_of, entries_from}
-use Rattle.qs_tree.specs.internal.build.Builder.{entries_seen}
-use Rattle.qs_tree.specs.internal.build.Finishing.{built_pairs, level_pairs, with_node, entries_map_count, maps_left, IsOpened}
-use Rattle.qs_tree.specs.internal.tree.KeyTrees.{key_trees}
 use Rattle.qs_tree.proofs.lemmas.tree.Places.{sorted_upto}
 use Rattle.qs_tree.proofs.lemmas.tree.Keys.{Held}
 

@@ -1,19 +1,5 @@
 -- What a step of adding a pair leaves.
-use Rattle.std.proofs.Common.{◌≡◌, Bool, false, List, ◌∷◌, Option, Some, None, option_map, option_and_then, Result, Ok, Err, Ordering, Less, Equal, Greater, refl, sym, ap, subst, ◌∙◌}
-use Rattle.std.proofs.lemmas.Option.{same_Some}
-use Rattle.std.specs.Result.{IsErrAnd}
-use Rattle.qs_spec.specs.Segment.{Segment, Step, compare_segments}
-use Rattle.qs_spec.specs.Leaf.{Leaf}
-use Rattle.qs_spec.specs.Tree.{Tree, Entries, empty_step}
-use Rattle.qs_spec.specs.Tree.Tree.{leaf, sequence, mapping, uninitialized}
-use Rattle.qs_spec.specs.Tree.Entries.{no_entries, entry}
-use Rattle.qs_spec.specs.internal.InPlace.{update, update_by, add_below, add_flat, add_here, add}
-use Rattle.qs_spec.proofs.Order.{segments_total}
-use Rattle.qs_tree.specs.declared.build.conflict.AddError.{AddError}
-use Rattle.qs_tree.specs.tree.Views.{find}
-use Rattle.qs_tree.specs.tree.Ordered.{IsBefore, AreOrdered}
-use Rattle.qs_tree.specs.internal.build.Builder.{child}
-use Rattle.qs_tree.specs.internal.build.Adding.{Gives, IsRejected, entries_below}
+use Rattle.qs_tree.proofs.Common.{◌≡◌, Bool, false, List, ◌∷◌, Option, Some, None, option_map, option_and_then, Result, Ok, Err, Ordering, Less, Equal, Greater, refl, sym, ap, subst, ◌∙◌, same_Some, IsErrAnd, Segment, Step, compare_segments, Leaf, Tree, Entries, empty_step, leaf, sequence, mapping, uninitialized, no_entries, entry, update, update_by, add_below, add_flat, add_here, add, segments_total, AddError, find, IsBefore, AreOrdered, child, Gives, IsRejected, entries_below}
 
 pub gives_err : {A B : Type 0} (view : A → B) (expected : Option B) (r : Result A AddError) (e : AddError) (Q : AddError → Type 0)
     → IsErrAnd r Q → ((y : AddError) → Q y → y ≡ e) → IsRejected expected e → Gives view expected r

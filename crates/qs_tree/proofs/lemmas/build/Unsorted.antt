@@ -1,22 +1,9 @@
 -- Leaves in no order, and the entries that they make.
-use Rattle.std.proofs.Common.{◌≡◌, Bool, true, false, cond, not, ◌&&◌, List, [], ◌∷◌, ◌++◌, map, refl, sym, ap, ap₂, ◌∙◌, Option, Some, Ordering, Less, Equal, Greater, is_lt, is_eq}
-use Rattle.std.specs.List.{filter}
-use Rattle.std.specs.List.Sorted.{IsPermutation, IsStrictlySortedBy, IsStableBy, ties}
-use Rattle.std.specs.Map.{keys_of}
-use Rattle.std.specs.Ordering.{ordering_reverse}
-use Rattle.std.specs.declared.borrow.CowSlice.TheVariants.{Borrowed}
-use Rattle.std.proofs.lemmas.List.Elements.{filter_agree}
-use Rattle.std.proofs.lemmas.Option.{same_Some, none-some}
-use Rattle.qs_spec.specs.Grammar.{Pair}
+use Rattle.qs_tree.proofs.Common.{◌≡◌, Bool, true, false, cond, not, ◌&&◌, List, [], ◌∷◌, ◌++◌, map, refl, sym, ap, ap₂, ◌∙◌, Option, Some, Ordering, Less, Equal, Greater, is_lt, filter, IsPermutation, IsStrictlySortedBy, IsStableBy, ties, keys_of, ordering_reverse, Borrowed, filter_agree, same_Some, none-some, Pair, Segment, is_same_segment, compare_segments, Int, Str, Tree, entries_of, flat, head_mark, heads, node_within, leaf, entry, add_flat, add_here, update, Key, ParsedValue, entries_held, leaf_pairs, entries_of_leaves, leaf_in, leaf_of, key_cmp, segment_of_key, key_mark, step_of_key, tree_of}
+use Rattle.std.proofs.Common.{is_eq}
 use Rattle.qs_spec.specs.History.{Event, event, under}
 use Rattle.qs_spec.specs.History.Event.{direct, push, below}
 use Rattle.qs_spec.specs.Leaf as spec
-use Rattle.qs_spec.specs.Segment.{Segment, is_same_segment, compare_segments}
-use Rattle.qs_spec.specs.Segment.Segment.{Int, Str}
-use Rattle.qs_spec.specs.Tree.{Tree, entries_of, flat, head_mark, heads, node_within}
-use Rattle.qs_spec.specs.Tree.Tree.{leaf}
-use Rattle.qs_spec.specs.Tree.Entries.{entry}
-use Rattle.qs_spec.specs.internal.InPlace.{add_flat, add_here, update}
 use Rattle.qs_spec.proofs.Flat.{AllDirect, direct_adds}
 use Rattle.qs_spec.proofs.OneMore.{pair, history_push}
 use Rattle.qs_spec.proofs.Permuted.{Perm-from, perm_map, perm_heads}
@@ -24,14 +11,7 @@ use Rattle.qs_spec.proofs.Update.{entries_within, update_pairs}
 use Rattle.qs_tree.specs.contracts.tree.key.KeyOrd.TheImpl.Laws.{total-law}
 use Rattle.qs_tree.specs.declared.scan.pair.Leaf.{Leaf}
 use Rattle.qs_tree.specs.declared.scan.pair.Leaf.TheVariants.{NoValue}
-use Rattle.qs_tree.specs.declared.tree.key.Key.{Key}
 use Rattle.qs_tree.specs.declared.tree.key.Key.TheVariants as variant
-use Rattle.qs_tree.specs.declared.tree.value.ParsedValue.{ParsedValue}
-use Rattle.qs_tree.specs.internal.build.Builder.{entries_held}
-use Rattle.qs_tree.specs.internal.build.Unsorted.{leaf_pairs, entries_of_leaves}
-use Rattle.qs_tree.specs.internal.scan.Pairs.{leaf_in, leaf_of}
-use Rattle.qs_tree.specs.tree.Keys.{key_cmp}
-use Rattle.qs_tree.specs.tree.Views.{segment_of_key, key_mark, step_of_key, tree_of}
 use Rattle.qs_tree.proofs.lemmas.tree.Keys.{Held}
 use Rattle.qs_tree.proofs.lemmas.build.Built.{above}
 

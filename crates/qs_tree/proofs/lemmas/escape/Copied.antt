@@ -1,10 +1,5 @@
 -- Bytes that were copied with one byte in place of another.
-use Rattle.std.proofs.Common.{◌≡◌, ℕ, ◌+◌, ◌≤◌, Bool, List, [], ◌∷◌, ◌++◌, ◌==◌, cond, map, length, take, replicate, w8, refl, sym, ap, ◌∙◌, arith}
-use Rattle.std.proofs.Math.Seq.{take-append-add}
-use Rattle.std.proofs.lemmas.List.{length-map, length-take-le, take-take, take-map}
-use Rattle.std.proofs.lemmas.Simd.{tops_compared, zip2_splat, take_more_put_chunk}
-use lib.Lanes.{put_chunk, sel_l, top, zip2}
-use Rattle.qs_tree.specs.internal.escape.Copying.{swapped}
+use Rattle.qs_tree.proofs.Common.{◌≡◌, ℕ, ◌+◌, ◌≤◌, Bool, List, [], ◌∷◌, ◌++◌, ◌==◌, cond, map, length, take, replicate, w8, refl, sym, ap, ◌∙◌, arith, take-append-add, length-map, length-take-le, take-take, take-map, tops_compared, zip2_splat, take_more_put_chunk, put_chunk, sel_l, top, zip2, swapped}
 
 chosen : (p : ℕ → Bool) (y : ℕ) (v : List ℕ) → sel_l (map p v) (replicate (length v) y) v ≡ map (λ x. cond (p x) y x) v
 chosen p y [] = refl

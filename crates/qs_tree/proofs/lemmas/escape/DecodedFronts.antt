@@ -1,10 +1,5 @@
 -- What `decoded` is up to a `%`.
-use Rattle.std.proofs.Common.{◌≡◌, ℕ, zero, suc, ◌≤◌, false, ◌||◌, ◌==◌, List, [], ◌∷◌, ◌++◌, map, length, take, drop, refl, ap, ◌∙◌, arith}
-use Rattle.std.proofs.lemmas.Bool.{cond-false}
-use Rattle.qs_spec.proofs.Booleans.{or_both}
-use Rattle.qs_spec.specs.Escape.{decoded, is_marked, unplus}
-use Rattle.qs_tree.specs.internal.escape.Search.{NoneBetween}
-use Rattle.qs_tree.specs.internal.escape.Copying.{swapped}
+use Rattle.qs_tree.proofs.Common.{◌≡◌, ℕ, zero, suc, ◌≤◌, false, ◌||◌, ◌==◌, List, [], ◌∷◌, ◌++◌, map, length, take, drop, refl, ap, ◌∙◌, arith, cond-false, or_both, decoded, is_marked, unplus, NoneBetween, swapped}
 
 -- any other byte is one
 decoded_plain : (b : ℕ) (bs : List ℕ) → (b == 37) ≡ false → decoded (b ∷ bs) ≡ unplus b ∷ decoded bs

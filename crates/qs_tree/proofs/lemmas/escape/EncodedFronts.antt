@@ -1,15 +1,8 @@
 -- How many bytes `encoded` has, and what it is up to an escape, and after one.
-use Rattle.std.proofs.Common.{◌≡◌, ℕ, zero, suc, ◌+◌, ◌*◌, ◌/◌, ◌%◌, ◌<◌, ◌≤◌, true, false, Bool, List, [], ◌∷◌, ◌++◌, map, length, get_or, take, drop, refl, sym, ap, ◌∙◌, arith, ◌||◌, ◌==◌, inl, inr, Fits, w8, cond, count_by}
-use Rattle.std.specs.List.{AllByRecursion}
-use Rattle.std.specs.Fmt.{digit_glyph}
+use Rattle.qs_tree.proofs.Common.{◌≡◌, ℕ, zero, suc, ◌+◌, ◌*◌, ◌/◌, ◌%◌, ◌<◌, ◌≤◌, true, false, Bool, List, [], ◌∷◌, ◌++◌, map, length, get_or, take, drop, refl, sym, ap, ◌∙◌, arith, ◌||◌, ◌==◌, inl, inr, Fits, w8, cond, count_by, AllByRecursion, digit_glyph, sum_by-cons, cond-true, cond-false, not-true, not-false, cases_Bool, or_both, encoded, spelling, escape, is_kept_in_query, is_escaped, NoneBetween, swapped}
 use Rattle.std.proofs.lemmas.List.{length-append}
-use Rattle.std.proofs.lemmas.List.Sums.{sum_by-cons}
-use Rattle.std.proofs.lemmas.Bool.{cond-true, cond-false, not-true, not-false, cases_Bool, eqb-true}
+use Rattle.std.proofs.lemmas.Bool.{eqb-true}
 use Rattle.percent_encoding.specs.Percent.{percent_encode_byte}
-use Rattle.qs_spec.proofs.Booleans.{or_both}
-use Rattle.qs_spec.specs.Escape.{encoded, spelling, escape, is_kept_in_query}
-use Rattle.qs_tree.specs.internal.escape.Search.{is_escaped, NoneBetween}
-use Rattle.qs_tree.specs.internal.escape.Copying.{swapped}
 
 pub escape_is : (b : ℕ) → b < 256 → percent_encode_byte b ≡ escape b
 unfolding percent_encode_byte

@@ -1,13 +1,5 @@
 -- The first index at which a test passes, from the elements before it, and back.
-use Rattle.std.proofs.Common.{◌≡◌, ℕ, zero, suc, Option, ◌<◌, ◌≤◌, true, false, Bool, List, [], ◌∷◌, length, take, get_or, ◌||◌, refl, ap, ◌∙◌, arith, sym, Some, None, ltb, inl, inr}
-use Rattle.std.specs.Option.{is_some}
-use Rattle.std.specs.List.{position_or_len, position, list_any}
-use Rattle.std.proofs.lemmas.Bool.{cond-true, cond-false, lt-ltb, le-ltb, cases_Bool, ltb-true, ltb-false, both_ways}
-use Rattle.std.proofs.lemmas.List.Sums.{position_or_len_is, fails_before_first, passes_at_first}
-use Rattle.std.proofs.lemmas.List.Elements.{All-from_get_or}
-use Rattle.std.proofs.lemmas.List.Folds.{list_any_none}
-use Rattle.qs_spec.proofs.Booleans.{or_both}
-use Rattle.qs_tree.specs.internal.escape.Search.{NoneBetween}
+use Rattle.qs_tree.proofs.Common.{◌≡◌, ℕ, zero, suc, Option, ◌<◌, ◌≤◌, true, false, Bool, List, [], ◌∷◌, length, take, get_or, ◌||◌, refl, ap, ◌∙◌, arith, sym, Some, None, ltb, inl, inr, is_some, position_or_len, position, list_any, cond-true, cond-false, lt-ltb, le-ltb, cases_Bool, ltb-true, ltb-false, both_ways, position_or_len_is, fails_before_first, passes_at_first, All-from_get_or, list_any_none, or_both, NoneBetween}
 
 pub position-some : (p : ℕ → Bool) (xs : List ℕ) (n : ℕ) → n < length xs → NoneBetween p xs 0 n → p (get_or xs n 0) ≡ true → Some n ≡ position p xs
 position-some p xs n inside none passes =

@@ -1,10 +1,5 @@
 -- From the lanes of one load to the mask of a class of bytes.
-use Rattle.std.proofs.Common.{◌≡◌, ℕ, ◌+◌, ◌%◌, ◌^◌, ◌≤◌, Bool, true, List, [], ◌∷◌, map, length, get_or, replicate, Fits, w8, refl, sym, ap, ◌∙◌, arith}
-use Rattle.std.proofs.lemmas.Bool.{agree_below, agree_below_at}
-use Rattle.std.proofs.lemmas.Simd.{map-map, mask_l-mod, length-chunk, chunk-fits, zip2_of_maps, splat_is_map, zip2_splat}
-use Rattle.std.proofs.lemmas.List.{length-map, map-id}
-use lib.Lanes.{Each1, chunk, zip2, mask_l, top}
-use Rattle.qs_tree.specs.internal.escape.Search.{class_mask}
+use Rattle.qs_tree.proofs.Common.{◌≡◌, ℕ, ◌+◌, ◌%◌, ◌^◌, ◌≤◌, Bool, true, List, [], ◌∷◌, map, length, get_or, replicate, Fits, w8, refl, sym, ap, ◌∙◌, arith, agree_below, agree_below_at, map-map, mask_l-mod, length-chunk, chunk-fits, zip2_of_maps, splat_is_map, zip2_splat, length-map, map-id, Each1, chunk, zip2, mask_l, top, class_mask}
 
 -- an operation on two vectors that were computed lane by lane from v
 pub joined : (h : ℕ → ℕ → ℕ) (f g : ℕ → ℕ) (v : List ℕ) {a b : List ℕ} → a ≡ map f v → b ≡ map g v → zip2 h a b ≡ map (λ x. h (f x) (g x)) v

@@ -1,9 +1,5 @@
 -- The table has `.` for the bytes that are letters.
-use Rattle.std.proofs.Common.{◌≡◌, ◌∙◌, ℕ, ◌<◌, ◌==◌, ◌||◌, Bool, true, false, cond, not, get_or, refl, sym}
-use Rattle.std.proofs.lemmas.Bool.{agree_below_at}
-use Rattle.qs_spec.specs.Token.Kind.{Amp, Equals, Open, Close, Other}
-use Rattle.qs_tree.specs.escape.Classes.{is_escape}
-use Rattle.qs_tree.specs.internal.scan.Cursor.{IsLetter}
+use Rattle.qs_tree.proofs.Common.{◌≡◌, ◌∙◌, ℕ, ◌<◌, ◌==◌, ◌||◌, Bool, true, false, cond, not, get_or, refl, sym, agree_below_at, Amp, Equals, Open, Close, Other, is_escape, IsLetter}
 use Rattle.qs_tree.specs.declared.escape.search.letter.TheConstants.{LETTERS}
 
 letters_are : (b : ℕ) → b < 256 → (get_or LETTERS b 0 == 46) ≡ not (b == 37 || b == 38 || b == 43 || b == 61 || b == 91 || b == 93)

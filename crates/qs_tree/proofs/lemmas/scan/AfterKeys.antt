@@ -1,23 +1,11 @@
 -- What follows a key, by the raw bytes of runs.
-use Rattle.std.proofs.Common.{◌≡◌, ℕ, zero, suc, ◌-◌, Bool, true, false, cond, ◌&&◌, List, [], ◌∷◌, ◌++◌, length, take, drop, refl, sym, ap, ap₂, ◌∙◌, subst, arith, Option, Some, None, Result, length-append, ◌==◌, ◌<◌, ◌⊎◌, ⊎_elim}
-use Rattle.std.proofs.Math.Seq.{take-append_seam}
-use Rattle.std.proofs.lemmas.List.{drop_at, map-append}
-use Rattle.qs_spec.specs.Token.{Kind, Token, tokens, byte_token, is_escaped_bracket, raw_of}
-use Rattle.qs_spec.specs.Token.Kind.{Amp, Equals, Open, Close, Other}
-use Rattle.qs_spec.specs.Segment.{Step, step_of}
+use Rattle.qs_tree.proofs.Common.{◌≡◌, ℕ, zero, suc, ◌-◌, Bool, true, false, cond, ◌&&◌, List, [], ◌∷◌, ◌++◌, length, take, drop, refl, sym, ap, ap₂, ◌∙◌, subst, arith, Option, Some, None, Result, length-append, ◌==◌, ◌<◌, ◌⊎◌, ⊎_elim, take-append_seam, drop_at, map-append, Kind, Token, tokens, byte_token, is_escaped_bracket, raw_of, Amp, Equals, Open, Close, Other, Step, step_of, Pair, direct, pushed, longer, is_equals, is_open, is_close, ends_last, Rest, cut, with_leaf, parsed_value, value_at, after_close, after_close_at, after_run, in_segment, in_last, parsed_brackets, Key, step_of_key, path_of, kind_of_token, token_of, from_token, left, taken, IsLeft, IsPast, IsClosing, FollowsStop, ParsesPair, root_path, from_root, from_root_at}
 use Rattle.qs_spec.specs.Leaf.{NoValue}
-use Rattle.qs_spec.specs.Grammar.{Pair, direct, pushed, longer, is_equals, is_open, is_close, ends_last}
-use Rattle.qs_spec.specs.internal.Parsing.{Rest, cut, with_leaf, parsed_value, value_at, after_close, after_close_at, after_run, in_segment, in_last, parsed_brackets}
-use Rattle.qs_tree.specs.declared.tree.key.Key.{Key}
 use Rattle.qs_tree.specs.declared.scan.cursor.Kind as kind
 use Rattle.qs_tree.specs.declared.scan.cursor.Token as code
 use Rattle.qs_tree.specs.declared.scan.cursor.Cursor as cursor
 use Rattle.qs_tree.specs.declared.scan.pair.Pair as code_pair
 use Rattle.qs_tree.specs.declared.scan.parser.ParseError as parse_error
-use Rattle.qs_tree.specs.tree.Views.{step_of_key}
-use Rattle.qs_tree.specs.internal.scan.Pairs.{path_of}
-use Rattle.qs_tree.specs.internal.scan.Cursor.{kind_of_token, token_of, from_token, left, taken, IsLeft, IsPast}
-use Rattle.qs_tree.specs.internal.scan.Parser.{IsClosing, FollowsStop, ParsesPair, root_path, from_root, from_root_at}
 
 -- what is left after some bytes
 pub left_behind : (start front rest : List ℕ) → start ≡ front ++ rest → IsLeft start rest

@@ -1,20 +1,10 @@
 -- The number of a raw segment, read from left to right.
-use Rattle.std.proofs.Common.{◌≡◌, ◌≢◌, ℕ, ◌+◌, ◌-◌, ◌*◌, ◌≤◌, ◌==◌, Bool, true, false, cond, ◌&&◌, ◌||◌, nat_le, List, [], ◌∷◌, refl, sym, ap, ap₂, ◌∙◌, arith, Some, None, fold}
-use Rattle.std.specs.List.{list_all}
-use Rattle.std.proofs.lemmas.Bool.{le-leb, lt-leb, leb-true, leb-false, eqb-true}
-use Rattle.qs_spec.specs.Escape.{is_between, is_marked, decoded}
-use Rattle.qs_spec.specs.Segment.{is_index, number, segment_of, step_of}
-use Rattle.qs_spec.specs.Segment.Segment.{Int, Str}
-use Rattle.qs_spec.proofs.Booleans.{and_both}
-use Rattle.std.proofs.lemmas.Option.{same_Some}
-use Rattle.std.specs.declared.borrow.CowSlice.{CowSlice}
-use Rattle.std.specs.declared.borrow.CowSlice.TheVariants.{Borrowed, Owned}
+use Rattle.qs_tree.proofs.Common.{◌≡◌, ◌≢◌, ℕ, ◌+◌, ◌-◌, ◌*◌, ◌≤◌, ◌==◌, Bool, true, false, cond, ◌&&◌, ◌||◌, nat_le, List, [], ◌∷◌, refl, sym, ap, ap₂, ◌∙◌, arith, Some, None, fold, list_all, le-leb, lt-leb, leb-true, leb-false, is_between, is_marked, decoded, is_index, number, segment_of, step_of, Int, Str, and_both, same_Some, CowSlice, Borrowed, Owned, segment_of_key, key_mark, step_of_key, index_of, index_from}
+use Rattle.std.proofs.lemmas.Bool.{eqb-true}
 use Rattle.std.specs.declared.alloc.Global.{Global}
 use Rattle.std.specs.Cow.{cow_slice_items}
 use Rattle.qs_tree.specs.declared.tree.key.Key.TheVariants as variant
 use Rattle.qs_tree.specs.escape.Copies.{is_owned}
-use Rattle.qs_tree.specs.tree.Views.{segment_of_key, key_mark, step_of_key}
-use Rattle.qs_tree.specs.internal.scan.Raw.{index_of, index_from}
 
 -- one digit more
 abbrev digit : ℕ → ℕ → ℕ

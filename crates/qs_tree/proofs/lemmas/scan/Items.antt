@@ -1,22 +1,12 @@
 -- One item of what is left, and the pairs after it.
-use Rattle.std.proofs.Common.{◌≡◌, ℕ, zero, suc, Bool, true, false, ◌&&◌, ◌==◌, List, [], ◌∷◌, ◌++◌, length, refl, sym, ap, ◌∙◌, subst, arith, Option, Some, None, Result, Ok, Err, option_map, eqb-true, length-append}
-use Rattle.std.specs.Result.{IsErrAnd}
-use Rattle.qs_spec.specs.Token.{Kind, Token, tokens, raw_of}
-use Rattle.qs_spec.specs.Token.Kind.{Amp, Equals, Open, Close, Other}
-use Rattle.qs_spec.specs.Segment.{step_of}
+use Rattle.qs_tree.proofs.Common.{◌≡◌, ℕ, zero, suc, Bool, true, false, ◌&&◌, ◌==◌, List, [], ◌∷◌, ◌++◌, length, refl, sym, ap, ◌∙◌, subst, arith, Option, Some, None, Result, Ok, Err, option_map, eqb-true, length-append, IsErrAnd, Kind, Token, tokens, raw_of, Amp, Equals, Open, Close, Other, step_of, Pair, direct, root, is_amp, ends_root, Rest, cut, cut_at, with_leaf, value_at, parsed_brackets, after_root, after_root_at, named, parsed_pairs, and_pairs, and_both, pair_of, kind_of_token, token_of, from_token, left, IsPast, is_nothing, IsParseError, ParsesPair, ParsesItem, root_path, from_root, from_root_at}
 use Rattle.qs_spec.specs.Leaf.{NoValue}
-use Rattle.qs_spec.specs.Grammar.{Pair, direct, root, is_amp, ends_root}
-use Rattle.qs_spec.specs.internal.Parsing.{Rest, cut, cut_at, with_leaf, value_at, parsed_brackets, after_root, after_root_at, named, parsed_pairs, and_pairs}
 use Rattle.qs_spec.proofs.ReadOn.{after_ampersand, after_pair}
-use Rattle.qs_spec.proofs.Booleans.{and_both}
 use Rattle.qs_tree.specs.declared.scan.cursor.Token as code
 use Rattle.qs_tree.specs.declared.scan.cursor.Cursor as cursor
 use Rattle.qs_tree.specs.declared.scan.pair.Pair as code_pair
 use Rattle.qs_tree.specs.declared.scan.parser.Item as item
 use Rattle.qs_tree.specs.declared.scan.parser.ParseError as parse_error
-use Rattle.qs_tree.specs.internal.scan.Pairs.{pair_of}
-use Rattle.qs_tree.specs.internal.scan.Cursor.{kind_of_token, token_of, from_token, left, IsPast}
-use Rattle.qs_tree.specs.internal.scan.Parser.{is_nothing, IsParseError, ParsesPair, ParsesItem, root_path, from_root, from_root_at}
 use Rattle.qs_tree.proofs.lemmas.scan.AfterKeys.{HasBytes}
 use Rattle.qs_tree.proofs.lemmas.scan.Values.{is_amp_of}
 

@@ -1,12 +1,6 @@
 -- A run that is taken token by token.
-use Rattle.std.proofs.Common.{◌≡◌, ℕ, ◌+◌, ◌-◌, ◌≤◌, ◌&&◌, ◌||◌, ◌==◌, Bool, true, false, cond, List, [], ◌∷◌, ◌++◌, length, take, drop, get_or, ◌<◌, refl, sym, ap, ap₂, ◌∙◌, subst, arith, Option, Some, None, append_assoc, length-append, length-drop, drop-drop}
-use Rattle.std.specs.Option.{IfSome}
-use Rattle.std.proofs.Math.Seq.{take-add, take-append_seam}
-use Rattle.std.proofs.lemmas.List.{drop_more, take_all}
-use Rattle.qs_spec.specs.Token.{Kind, Token, tokens, byte_token, is_escaped_bracket, raw_of}
-use Rattle.qs_spec.specs.internal.Parsing.{cut, cut_at}
+use Rattle.qs_tree.proofs.Common.{◌≡◌, ℕ, ◌+◌, ◌-◌, ◌≤◌, ◌&&◌, ◌||◌, ◌==◌, Bool, true, false, cond, List, [], ◌∷◌, ◌++◌, length, take, drop, get_or, ◌<◌, refl, sym, ap, ap₂, ◌∙◌, subst, arith, Option, Some, None, append_assoc, length-append, length-drop, drop-drop, IfSome, take-add, take-append_seam, drop_more, take_all, Kind, Token, tokens, byte_token, is_escaped_bracket, raw_of, cut, cut_at, kind_of_token, token_of, from_token, taken, IsLeft, IsLetter}
 use Rattle.qs_tree.specs.declared.scan.cursor.Token as code
-use Rattle.qs_tree.specs.internal.scan.Cursor.{kind_of_token, token_of, from_token, taken, IsLeft, IsLetter}
 use Rattle.qs_tree.proofs.lemmas.scan.Values.{stop_ends}
 
 count : (start rest raw next : List ℕ) → IsLeft start rest → rest ≡ raw ++ next → length start - length next ≡ (length start - length rest) + length raw

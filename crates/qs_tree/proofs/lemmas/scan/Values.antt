@@ -1,20 +1,7 @@
 -- A value that is found by its first `&`, and the tokens that it is.
-use Rattle.std.proofs.Common.{◌≡◌, ℕ, suc, ◌+◌, ◌==◌, Bool, true, false, cond, not, ◌&&◌, ◌||◌, List, [], ◌∷◌, ◌++◌, length, take, drop, eqb-true, refl, sym, ap, ap₂, ◌∙◌, le_refl, subst, arith, Option, Some, None}
-use Rattle.std.specs.Option.{IfNone}
-use Rattle.std.specs.List.{position_or_len}
-use Rattle.std.proofs.Math.Seq.{take-length}
-use Rattle.std.proofs.lemmas.List.{drop_all}
-use Rattle.qs_spec.specs.Escape.{is_marked}
-use Rattle.qs_spec.proofs.Booleans.{and_both}
-use Rattle.qs_spec.specs.Token.{Kind, Token, tokens, byte_token, byte_kind, is_escaped_bracket, raw_of}
-use Rattle.qs_spec.specs.Token.Kind.{Amp, Equals, Open, Close, Other}
-use Rattle.qs_spec.specs.Grammar.{is_amp}
-use Rattle.qs_spec.specs.internal.Parsing.{cut, cut_at}
-use Rattle.qs_tree.specs.escape.Classes.{is_ampersand}
+use Rattle.qs_tree.proofs.Common.{◌≡◌, ℕ, suc, ◌+◌, ◌==◌, Bool, true, false, cond, not, ◌&&◌, ◌||◌, List, [], ◌∷◌, ◌++◌, length, take, drop, eqb-true, refl, sym, ap, ap₂, ◌∙◌, le_refl, subst, arith, Option, Some, None, IfNone, position_or_len, take-length, drop_all, is_marked, and_both, Kind, Token, tokens, byte_token, byte_kind, is_escaped_bracket, raw_of, Amp, Equals, Open, Close, Other, is_amp, cut, cut_at, is_ampersand, kind_of_token, token_of, raw_from_token, from_token, left, IsPast, is_plain}
 use Rattle.qs_tree.specs.declared.scan.cursor.Token as code
 use Rattle.qs_tree.specs.declared.scan.cursor.Cursor as cursor
-use Rattle.qs_tree.specs.internal.scan.Cursor.{kind_of_token, token_of, raw_from_token, from_token, left, IsPast}
-use Rattle.qs_tree.specs.Parsing.{is_plain}
 
 -- where the value ends
 abbrev pub value_end : List ℕ → ℕ

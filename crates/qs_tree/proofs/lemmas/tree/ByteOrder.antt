@@ -1,8 +1,5 @@
 -- Bytes that are compared as numbers.
-use Rattle.std.proofs.Common.{◌≡◌, ℕ, zero, suc, ◌+◌, ◌*◌, ◌<◌, ◌≤◌, List, [], ◌∷◌, length, take, drop, slice_index, true, false, true≢false, Less, Equal, Greater, Ordering, refl, sym, ◌∙◌, subst, arith}
-use Rattle.std.specs.Ordering.{nat_cmp, is_ne, ordering_then, MatchOrdering}
-use Rattle.std.specs.Cmp.{ranks, nat_cmp_is}
-use Rattle.std.specs.Cmp.Lexicographic.{slice_cmp}
+use Rattle.qs_tree.proofs.Common.{◌≡◌, ℕ, zero, suc, ◌+◌, ◌*◌, ◌<◌, ◌≤◌, List, [], ◌∷◌, length, take, drop, slice_index, true, false, true≢false, Less, Equal, Greater, Ordering, refl, sym, ◌∙◌, subst, arith, nat_cmp, is_ne, ordering_then, MatchOrdering, ranks, nat_cmp_is, slice_cmp}
 use Rattle.std.specs.Slice.Scan.{big_endian}
 use mir.Syntax.{w8}
 use mir.Val.{Fits}

@@ -1,16 +1,7 @@
 -- When two keys and two values are equal: where their segments and their trees are, marks aside.
-use Rattle.std.proofs.Common.{◌≡◌, IsTrue, ◌↔◌, ap, sym, ◌∙◌}
-use Rattle.std.specs.Ordering.{is_eq}
-use Rattle.qs_spec.specs.Segment.{is_same_segment}
-use Rattle.qs_spec.specs.Order.{unmarked}
-use Rattle.qs_spec.proofs.Order.{is_itself}
-use Rattle.qs_spec.proofs.TreeOf.{same_segment}
-use Rattle.qs_tree.specs.declared.tree.key.Key.{Key}
-use Rattle.qs_tree.specs.declared.tree.value.ParsedValue.{ParsedValue}
+use Rattle.qs_tree.proofs.Common.{◌≡◌, IsTrue, ◌↔◌, ap, sym, ◌∙◌, is_eq, is_same_segment, unmarked, is_itself, same_segment, Key, ParsedValue, key_eq, value_eq, segment_of_key, tree_of}
 use Rattle.qs_tree.specs.contracts.tree.key.KeyOrd.TheImpl.Laws.{matches_eq-law}
 use Rattle.qs_tree.specs.internal.tree.EqualityLaws.{same_trees}
-use Rattle.qs_tree.specs.tree.Keys.{key_eq, value_eq}
-use Rattle.qs_tree.specs.tree.Views.{segment_of_key, tree_of}
 use Rattle.qs_tree.proofs.lemmas.tree.Keys.{key_cmp-segments}
 
 pub key_eq-segments : (a b : Key) → key_eq a b ≡ is_same_segment (segment_of_key a) (segment_of_key b)

@@ -1,15 +1,5 @@
 -- The order of keys, and what a map finds, seen as segments and trees.
-use Rattle.std.proofs.Common.{◌≡◌, ℕ, zero, suc, slice_get, length, List, [], ◌∷◌, Option, Some, None, option_map, Bor, refl, ap, ◌∙◌, sym, inl, inr, rules, map}
-use Rattle.std.proofs.lemmas.Bool.{cases_Bool}
-use Rattle.std.specs.Map.{lookup, remove_entry}
-use Rattle.std.specs.BTreeMap.{is_at}
-use Rattle.qs_spec.specs.Segment.{Step, compare_segments, is_same_segment}
-use Rattle.qs_spec.specs.Tree.{Tree, Entries}
-use Rattle.qs_tree.specs.declared.tree.key.Key.{Key}
-use Rattle.qs_tree.specs.declared.tree.value.ParsedValue.{ParsedValue, the_lemmas}
-use Rattle.qs_tree.specs.declared.tree.map.ParsedMap.{ParsedMap}
-use Rattle.qs_tree.specs.tree.Keys.{key_cmp}
-use Rattle.qs_tree.specs.tree.Views.{segment_of_key, step_of_key, tree_of, entries_from, entries_of_map, map_pairs, entry_list, find, take_out}
+use Rattle.qs_tree.proofs.Common.{◌≡◌, ℕ, zero, suc, slice_get, length, List, [], ◌∷◌, Option, Some, None, option_map, Bor, refl, ap, ◌∙◌, sym, inl, inr, rules, map, cases_Bool, lookup, remove_entry, is_at, Step, compare_segments, is_same_segment, Tree, Entries, Key, ParsedValue, the_lemmas, ParsedMap, key_cmp, segment_of_key, step_of_key, tree_of, entries_from, entries_of_map, map_pairs, entry_list, find, take_out}
 
 abbrev pub Held : Type 0
 Held = List (Key × ParsedValue)

@@ -1,9 +1,5 @@
 -- Lists of other lengths are not the same.
-use Rattle.std.proofs.Common.{◌≡◌, ◌≢◌, suc, Bool, true, false, ◌&&◌, List, [], ◌∷◌, length, refl, ap, ◌∙◌}
-use Rattle.qs_spec.specs.Segment.{is_same_segment}
-use Rattle.qs_tree.specs.declared.tree.value.ParsedValue.{ParsedValue}
-use Rattle.qs_tree.specs.tree.Equality.{tree_same, items_same, entries_same}
-use Rattle.qs_tree.specs.tree.Views.{segment_of_key, tree_of, items_of}
+use Rattle.qs_tree.proofs.Common.{◌≡◌, ◌≢◌, suc, Bool, true, false, ◌&&◌, List, [], ◌∷◌, length, refl, ap, ◌∙◌, is_same_segment, ParsedValue, tree_same, items_same, entries_same, segment_of_key, tree_of, items_of}
 use Rattle.qs_tree.proofs.lemmas.tree.Keys.{Held, entries_view}
 
 never : (b : Bool) → (b && false) ≡ false

@@ -1,12 +1,5 @@
 -- How many nodes a value has, when a child is changed or taken out.
-use Rattle.std.proofs.Common.{◌≡◌, ℕ, zero, suc, ◌+◌, ◌<◌, ◌≤◌, List, [], ◌∷◌, ◌++◌, length, get_or, slice_get, slice_set, Some, option_map, Vec, Global, ap, ◌∙◌, arith}
-use Rattle.std.proofs.lemmas.Option.{none-some, same_Some}
-use Rattle.qs_tree.specs.declared.tree.key.Key.{Key}
-use Rattle.qs_tree.specs.declared.tree.value.ParsedValue.{ParsedValue, Map, Sequence}
-use Rattle.qs_tree.specs.declared.tree.map.ParsedMap.{ParsedMap}
-use Rattle.qs_tree.specs.internal.tree.NodeCount.{node_count, items_node_count, entries_node_count}
-use Rattle.qs_tree.specs.internal.tree.Places.{put_value}
-use Rattle.qs_tree.specs.tree.Views.{tree_of, items_of}
+use Rattle.qs_tree.proofs.Common.{◌≡◌, ℕ, zero, suc, ◌+◌, ◌<◌, ◌≤◌, List, [], ◌∷◌, ◌++◌, length, get_or, slice_get, slice_set, Some, option_map, Vec, Global, ap, ◌∙◌, arith, none-some, same_Some, Key, ParsedValue, Map, Sequence, ParsedMap, node_count, items_node_count, entries_node_count, put_value, tree_of, items_of}
 use Rattle.qs_tree.proofs.lemmas.tree.Keys.{Held, entries_view, entries_of_map-map}
 use Rattle.qs_tree.proofs.lemmas.Views.{tree_of-Map, tree_of-Sequence}
 

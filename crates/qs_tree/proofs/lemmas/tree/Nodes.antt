@@ -1,9 +1,5 @@
 -- Nodes as trees.
-use Rattle.std.proofs.Common.{◌≡◌, sym, ap, ◌∙◌}
-use Rattle.qs_spec.specs.Tree.Tree.{mapping}
-use Rattle.qs_tree.specs.declared.tree.map.ParsedMap.{ParsedMap}
-use Rattle.qs_tree.specs.declared.tree.value.ParsedValue.{ParsedValue, Map}
-use Rattle.qs_tree.specs.tree.Views.{tree_of, entries_of_map}
+use Rattle.qs_tree.proofs.Common.{◌≡◌, sym, ap, ◌∙◌, mapping, ParsedMap, ParsedValue, Map, tree_of, entries_of_map}
 use Rattle.qs_tree.proofs.lemmas.tree.Keys.{Held, entries_view, entries_of_map-map}
 use Rattle.qs_tree.proofs.lemmas.Views.{tree_of-Map}
 

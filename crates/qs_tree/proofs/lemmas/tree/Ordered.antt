@@ -1,13 +1,5 @@
 -- The entries of a sorted vector are in the order of their keys.
-use Rattle.std.proofs.Common.{◌≡◌, List, [], ◌∷◌, Less, sym, ◌∙◌}
-use Rattle.std.specs.List.{AllByRecursion}
-use Rattle.std.specs.List.Sorted.{IsStrictlySortedBy}
-use Rattle.std.specs.Map.{keys_of}
-use Rattle.qs_spec.specs.Tree.{Tree}
-use Rattle.qs_tree.specs.declared.tree.key.Key.{Key}
-use Rattle.qs_tree.specs.tree.Keys.{key_cmp}
-use Rattle.qs_tree.specs.tree.Views.{segment_of_key, tree_of}
-use Rattle.qs_tree.specs.tree.Ordered.{IsBefore, AreOrdered}
+use Rattle.qs_tree.proofs.Common.{◌≡◌, List, [], ◌∷◌, Less, sym, ◌∙◌, AllByRecursion, IsStrictlySortedBy, keys_of, Tree, Key, key_cmp, segment_of_key, tree_of, IsBefore, AreOrdered}
 use Rattle.qs_tree.proofs.lemmas.tree.Keys.{Held, entries_view, seen_view, key_cmp-segments}
 
 module _ {X : Type 0} (seen : X → Tree) where

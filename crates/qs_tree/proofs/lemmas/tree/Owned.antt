@@ -1,16 +1,8 @@
 -- A value owns the strings that are marked in its tree.
-use Rattle.std.proofs.Common.{◌≡◌, List, [], ◌∷◌, ◌++◌, refl, ap₂, subst, rules, map}
-use Rattle.std.specs.declared.borrow.CowSlice.TheVariants.{Borrowed, Owned}
-use Rattle.qs_spec.specs.Marks.{key_marks, marks, items_marks, entries_marks}
-use Rattle.qs_tree.specs.declared.tree.key.Key.{Key}
+use Rattle.qs_tree.proofs.Common.{◌≡◌, List, [], ◌∷◌, ◌++◌, refl, ap₂, subst, rules, map, Borrowed, Owned, key_marks, marks, items_marks, entries_marks, Key, ParsedValue, the_lemmas, ind-ParsedValue, roll-ParsedValue, roll-ParsedMap, ParsedMap, segment_of_key, key_mark, tree_of, items_of, entries_of_map, key_owns, items_own, entries_own, owns, map_owns}
 use Rattle.qs_tree.specs.declared.tree.key.Key.TheVariants as key
-use Rattle.qs_tree.specs.declared.tree.value.ParsedValue.{ParsedValue, the_lemmas, ind-ParsedValue}
 use Rattle.qs_tree.specs.declared.tree.value.ParsedValue.TheFolds.{map-ParsedValue, map-ParsedMap}
 use Rattle.qs_tree.specs.declared.tree.value.ParsedValue.TheOpen.{ParsedValue-F, ParsedMap-F}
-use Rattle.qs_tree.specs.declared.tree.value.ParsedValue.TheViews.{roll-ParsedValue, roll-ParsedMap}
-use Rattle.qs_tree.specs.declared.tree.map.ParsedMap.{ParsedMap}
-use Rattle.qs_tree.specs.tree.Views.{segment_of_key, key_mark, tree_of, items_of, entries_of_map}
-use Rattle.qs_tree.specs.tree.Owned.{key_owns, items_own, entries_own, owns, map_owns}
 use Rattle.qs_tree.proofs.lemmas.tree.Keys.{entries_view, entries_of_map-map}
 
 abbrev IsMarked : ParsedValue → Type 0

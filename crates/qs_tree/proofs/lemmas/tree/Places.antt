@@ -1,16 +1,8 @@
 -- What a binary search finds among entries in order, and what an edit at its place does.
-use Rattle.std.proofs.Common.{◌≡◌, ℕ, zero, suc, ◌+◌, ◌<◌, ◌≤◌, ◌/◌, List, [], ◌∷◌, ◌++◌, length, get_or, slice_get, slice_set, Some, None, unwrap_or, option_map, Ordering, Less, Equal, Greater, refl, sym, ap, subst, ◌∙◌, inl, inr, ◌⊎◌, arith}
+use Rattle.qs_tree.proofs.Common.{◌≡◌, ℕ, zero, suc, ◌+◌, ◌<◌, ◌≤◌, ◌/◌, List, [], ◌∷◌, ◌++◌, length, get_or, slice_get, slice_set, Some, None, unwrap_or, option_map, Ordering, Less, Equal, Greater, refl, sym, ap, subst, ◌∙◌, inl, inr, ◌⊎◌, arith, IsTotalOrder, insert, remove, AllByRecursion, IsStrictlySortedBy, keys_of, lookup, set_value, remove_entry, is_at, insert_entry, ordering_reverse, against, IsHit, IsGap, put_value, binary_digits}
 use Rattle.std.proofs.lemmas.Int.Digits.{length-digits_of_step}
-use Rattle.std.specs.Cmp.{IsTotalOrder}
-use Rattle.std.specs.List.{insert, remove, AllByRecursion}
-use Rattle.std.specs.List.Sorted.{IsStrictlySortedBy}
-use Rattle.std.specs.Map.{keys_of, lookup, set_value, remove_entry}
-use Rattle.std.specs.BTreeMap.{is_at, insert_entry}
-use Rattle.std.specs.Ordering.{ordering_reverse}
 use Rattle.std.proofs.lemmas.Map.Keys.{Less-from_sorted}
 use Rattle.std.proofs.lemmas.Map.Entries.{length-keys_of}
-use Rattle.qs_tree.specs.internal.tree.Places.{against, IsHit, IsGap, put_value}
-use Rattle.qs_tree.specs.tree.Lookup.{binary_digits}
 
 below_or_at : (j m : ℕ) → j < m + 1 → (j < m) ⊎ (j ≡ m)
 below_or_at zero zero lt = inr refl

@@ -1,8 +1,4 @@
-use Rattle.std.proofs.Common.{Ok, refl, sym, ap₂, subst, ◌∙◌, ◌+◌, length}
-use Rattle.qs_spec.specs.Token.{tokens}
-use Rattle.qs_tree.specs.declared.tree.value.ParsedValue.{NoValue}
-use Rattle.qs_tree.specs.internal.scan.Cursor.{left}
-use Rattle.qs_tree.specs.Parsing.{TakesNoMemory}
+use Rattle.qs_tree.proofs.Common.{Ok, refl, sym, ap₂, subst, ◌∙◌, ◌+◌, length, tokens, NoValue, left, TakesNoMemory}
 use Rattle.qs_tree.proofs.lemmas.Growing.{result_tree, result_rejected}
 use Rattle.qs_tree.proofs.lemmas.Parsed as parsed
 use Rattle.qs_tree.proofs.parsing.parse_with.Goals as goal

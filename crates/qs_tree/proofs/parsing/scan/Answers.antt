@@ -1,11 +1,5 @@
-use Rattle.std.proofs.Common.{Ok, ◌∙◌, sym, subst, arith, refl, ap, length}
-use Rattle.qs_tree.specs.internal.build.Builder.{built_tree}
-use Rattle.qs_tree.specs.internal.scan.Pairs.{pair_of}
-use Rattle.qs_tree.specs.internal.scan.Cursor.{left, to_come}
-use Rattle.qs_tree.specs.internal.scan.Parser.{IsEnd, IsMore, ParsesItem}
+use Rattle.qs_tree.proofs.Common.{Ok, ◌∙◌, sym, subst, arith, refl, ap, length, built_tree, pair_of, left, to_come, IsEnd, IsMore, ParsesItem, grown, ParsesSmall}
 use Rattle.qs_tree.proofs.lemmas.Growing.{grown_same, grown_pair}
-use Rattle.qs_tree.specs.internal.Parsing.{grown}
-use Rattle.qs_tree.specs.internal.scan.Small.{ParsesSmall}
 use Rattle.qs_tree.proofs.lemmas.Views.{built_tree-fresh}
 use Rattle.qs_tree.proofs.lemmas.scan.SmallItems.{small_start, small_end, small_goes, small_ampersand, small_fresh}
 use Rattle.qs_tree.proofs.parsing.scan.Goals as goal

@@ -1,10 +1,4 @@
-use Rattle.std.proofs.Common.{◌≡◌, ◌≤◌, length}
-use Rattle.qs_spec.specs.Tree.Tree.{uninitialized}
-use Rattle.qs_tree.specs.internal.build.Builder.{built_tree}
-use Rattle.qs_tree.specs.internal.scan.Cursor.{left, in_all, KnowsEnd}
-use Rattle.qs_tree.specs.internal.Parsing.{grown}
-use Rattle.qs_tree.specs.Parsing.{TakesNoMemory}
-use Rattle.qs_tree.specs.internal.scan.Small.{StaysSmall}
+use Rattle.qs_tree.proofs.Common.{◌≡◌, ◌≤◌, length, uninitialized, built_tree, left, in_all, KnowsEnd, grown, TakesNoMemory, StaysSmall}
 use Rattle.qs_tree.proofs.parsing.scan.Given as goal
 
 -- the pairs that are left make of the tree what all pairs make of none

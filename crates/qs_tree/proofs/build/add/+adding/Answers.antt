@@ -1,15 +1,5 @@
-use Rattle.std.proofs.Common.{drop, ◌+◌, ◌≡◌, ap, sym, ◌∙◌, unwrap_or, rules, refl, Global}
-use Rattle.std.specs.declared.collections.BTreeMap.{BTreeMap}
-use Rattle.qs_spec.specs.internal.InPlace.{add}
-use Rattle.qs_tree.specs.declared.tree.key.Key.{Key}
-use Rattle.qs_tree.specs.declared.build.builder.TreeBuilder.{TreeBuilder}
-use Rattle.qs_tree.specs.internal.scan.Pairs.{is_push, leaf_of, path_of}
-use Rattle.qs_tree.specs.internal.build.Builder.{built_tree, built_entries, entries_seen, fresh}
-use Rattle.qs_tree.specs.tree.Views.{step_of_key}
+use Rattle.qs_tree.proofs.Common.{drop, ◌+◌, ◌≡◌, ap, sym, ◌∙◌, unwrap_or, rules, refl, Global, BTreeMap, add, Key, TreeBuilder, is_push, leaf_of, path_of, built_tree, built_entries, entries_seen, fresh, step_of_key, Ok, Err, same_Some, key_cmp}
 use Rattle.qs_tree.proofs.lemmas.Views.{built_tree-Map, built_tree-fresh}
-use Rattle.std.proofs.Common.{Ok, Err}
-use Rattle.std.proofs.lemmas.Option.{same_Some}
-use Rattle.qs_tree.specs.tree.Keys.{key_cmp}
 use Rattle.qs_tree.proofs.lemmas.tree.Places.{hit_value, hit_insert, gap_lookup}
 use Rattle.qs_tree.proofs.lemmas.build.Turns.{gives_err, below_map}
 use Rattle.qs_tree.proofs.lemmas.build.Built.{built_entries-Vector, at_key}

@@ -1,6 +1,4 @@
-use Rattle.std.proofs.Common.{drop}
-use Rattle.qs_tree.specs.internal.build.Builder.{built_tree}
-use Rattle.qs_tree.specs.internal.scan.Pairs.{is_push, leaf_of, path_of}
+use Rattle.qs_tree.proofs.Common.{drop, built_tree, is_push, leaf_of, path_of}
 use Rattle.qs_tree.proofs.lemmas.build.Turns.{gives_err}
 use Rattle.qs_tree.proofs.lemmas.build.Descending.{barred_at_end, rejected_at_end, lost_at_end, added_at_end}
 use Rattle.qs_tree.proofs.build.add.add_by_value.Goals as goal

@@ -1,7 +1,4 @@
-use Rattle.std.proofs.Common.{ap, option_map}
-use Rattle.qs_spec.specs.Tree.Tree.{mapping}
-use Rattle.qs_tree.specs.internal.build.Builder.{built_entries}
-use Rattle.qs_tree.specs.internal.scan.Pairs.{leaf_of}
+use Rattle.qs_tree.proofs.Common.{ap, option_map, mapping, built_entries, leaf_of}
 use Rattle.qs_tree.proofs.lemmas.Views.{built_tree-Map, built_tree-Unsorted}
 use Rattle.qs_tree.proofs.lemmas.build.Turns.{at_map}
 use Rattle.qs_tree.proofs.build.add.add_here.Goals as goal

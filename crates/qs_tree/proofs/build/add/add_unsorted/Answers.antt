@@ -1,9 +1,4 @@
-use Rattle.std.proofs.Math.ListN.{drop_of_length-le}
-use Rattle.std.proofs.Common.{◌≡◌, ◌+◌, ◌∷◌, [], drop, ap, ◌∙◌, arith}
-use Rattle.qs_spec.specs.Tree.Tree.{mapping}
-use Rattle.qs_tree.specs.tree.Views.{step_of_key}
-use Rattle.qs_tree.specs.internal.scan.Pairs.{path_of}
-use Rattle.std.proofs.Common.{option_map}
+use Rattle.qs_tree.proofs.Common.{drop_of_length-le, ◌≡◌, ◌+◌, ◌∷◌, [], drop, ap, ◌∙◌, arith, mapping, step_of_key, path_of, option_map}
 use Rattle.qs_tree.proofs.build.add.add_unsorted.Goals as goal
 
 pub returns : goal.returns

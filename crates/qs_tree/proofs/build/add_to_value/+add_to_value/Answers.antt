@@ -1,6 +1,4 @@
-use Rattle.std.proofs.Common.{◌≡◌, ◌+◌, drop, sym, ◌∙◌, arith}
-use Rattle.qs_tree.specs.tree.Views.{tree_of}
-use Rattle.qs_tree.specs.internal.scan.Pairs.{is_push, leaf_of, path_of}
+use Rattle.qs_tree.proofs.Common.{◌≡◌, ◌+◌, drop, sym, ◌∙◌, arith, tree_of, is_push, leaf_of, path_of}
 use Rattle.qs_tree.proofs.lemmas.Views.{below-String, below-Null, below-NoValue, below-Sequence}
 use Rattle.qs_tree.proofs.lemmas.build.Chains.{added_below, added_new, barred, same_head}
 use Rattle.qs_tree.proofs.build.add_to_value.+add_to_value.Goals as goal

@@ -1,5 +1,4 @@
-use Rattle.qs_tree.specs.tree.Views.{tree_of}
-use Rattle.qs_tree.specs.internal.scan.Pairs.{leaf_of}
+use Rattle.qs_tree.proofs.Common.{tree_of, leaf_of}
 use Rattle.qs_tree.proofs.lemmas.Views.{here-push}
 use Rattle.qs_tree.proofs.build.add_to_value.add_at_end.Goals as goal
 

@@ -1,11 +1,4 @@
-use Rattle.std.proofs.Common.{◌∙◌, Some, Ok, false, refl, sym, ap, unwrap_or}
-use Rattle.std.proofs.lemmas.Option.{same_Some}
-use Rattle.qs_spec.specs.internal.InPlace.{add_flat}
-use Rattle.qs_tree.specs.declared.tree.value.ParsedValue.{Uninitialized}
-use Rattle.qs_tree.specs.internal.scan.Pairs.{leaf_of}
-use Rattle.qs_tree.specs.internal.build.Builder.{entries_held}
-use Rattle.qs_tree.specs.tree.Keys.{key_cmp}
-use Rattle.qs_tree.specs.tree.Views.{tree_of}
+use Rattle.qs_tree.proofs.Common.{◌∙◌, Some, Ok, false, refl, sym, ap, unwrap_or, same_Some, add_flat, Uninitialized, leaf_of, entries_held, key_cmp, tree_of}
 use Rattle.qs_tree.proofs.lemmas.Views.{tree_of-Uninitialized}
 use Rattle.qs_tree.proofs.lemmas.tree.Places.{hit_value, hit_insert, gap_lookup}
 use Rattle.qs_tree.proofs.lemmas.build.Built.{at_key}

@@ -1,8 +1,4 @@
-use Rattle.std.proofs.Math.ListN.{drop_of_length-le}
-use Rattle.std.proofs.Common.{◌≤◌, [], ◌∷◌, length, drop, Some, sym, ap, ◌∙◌, length-append, arith}
-use Rattle.qs_spec.specs.Tree.Tree.{mapping}
-use Rattle.qs_tree.specs.tree.Views.{tree_of}
-use Rattle.qs_tree.specs.internal.scan.Pairs.{is_push, leaf_of, path_of}
+use Rattle.qs_tree.proofs.Common.{drop_of_length-le, ◌≤◌, [], ◌∷◌, length, drop, Some, sym, ap, ◌∙◌, length-append, arith, mapping, tree_of, is_push, leaf_of, path_of}
 use Rattle.qs_tree.proofs.lemmas.Views.{tree_of-Map}
 use Rattle.qs_tree.proofs.lemmas.build.Chains.{chain, alone, shorter}
 use Rattle.qs_tree.proofs.build.add_to_value.chain_of.Goals as goal

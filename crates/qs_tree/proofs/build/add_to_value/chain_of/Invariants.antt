@@ -1,9 +1,5 @@
 -- The keys that are left, above the value, are the whole path above the leaf.
-use Rattle.std.proofs.Common.{◌≡◌, ◌≤◌, length, drop, Some}
-use Rattle.qs_spec.specs.Tree.Tree.{uninitialized}
-use Rattle.qs_spec.specs.internal.InPlace.{add}
-use Rattle.qs_tree.specs.tree.Views.{tree_of}
-use Rattle.qs_tree.specs.internal.scan.Pairs.{is_push, leaf_of, path_of}
+use Rattle.qs_tree.proofs.Common.{◌≡◌, ◌≤◌, length, drop, Some, uninitialized, add, tree_of, is_push, leaf_of, path_of}
 use Rattle.qs_tree.proofs.lemmas.build.Chains.{chain}
 use Rattle.qs_tree.proofs.build.add_to_value.chain_of.Given as goal
 

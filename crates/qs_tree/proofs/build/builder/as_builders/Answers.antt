@@ -1,8 +1,4 @@
-use Rattle.std.proofs.Common.{◌∷◌, [], length, sym, ap, ◌∙◌, append-nil, append_assoc, arith}
-use Rattle.std.specs.Map.{keys_of}
-use Rattle.std.specs.Vec.Iter.{into_iter_items}
-use Rattle.qs_tree.specs.tree.Keys.{key_cmp}
-use Rattle.qs_tree.specs.declared.build.builder.TreeBuilder.{Value}
+use Rattle.qs_tree.proofs.Common.{◌∷◌, [], length, sym, ap, ◌∙◌, append-nil, append_assoc, arith, keys_of, into_iter_items, key_cmp, Value}
 use Rattle.qs_tree.proofs.lemmas.tree.Places.{sorted_upto, keys-append}
 use Rattle.qs_tree.proofs.lemmas.build.Built.{nothing}
 use Rattle.qs_tree.proofs.build.builder.as_builders.Goals as goal

@@ -1,10 +1,5 @@
 -- The entries so far, and those that are left, are those of the finished map.
-use Rattle.std.proofs.Common.{◌≡◌, ◌++◌, length}
-use Rattle.std.specs.List.Sorted.{IsStrictlySortedBy}
-use Rattle.std.specs.Map.{keys_of}
-use Rattle.std.specs.Vec.Iter.{into_iter_items, into_iter_len}
-use Rattle.qs_tree.specs.tree.Keys.{key_cmp}
-use Rattle.qs_tree.specs.internal.build.Builder.{as_builders}
+use Rattle.qs_tree.proofs.Common.{◌≡◌, ◌++◌, length, IsStrictlySortedBy, keys_of, into_iter_items, into_iter_len, key_cmp, as_builders}
 use Rattle.qs_tree.proofs.build.builder.as_builders.Given as goal
 
 abbrev pub invariant-loop-entry : goal.invariant-loop-entry

@@ -1,8 +1,4 @@
-use Rattle.std.proofs.Common.{◌++◌, ◌∷◌, length, sym, ap, ◌∙◌, append-nil, arith}
-use Rattle.std.specs.List.Sorted.{IsStrictlySortedBy}
-use Rattle.std.specs.Map.{keys_of}
-use Rattle.std.specs.Vec.Iter.{into_iter_items}
-use Rattle.qs_tree.specs.tree.Keys.{key_cmp}
+use Rattle.qs_tree.proofs.Common.{◌++◌, ◌∷◌, length, sym, ap, ◌∙◌, append-nil, arith, IsStrictlySortedBy, keys_of, into_iter_items, key_cmp}
 use Rattle.qs_tree.proofs.lemmas.build.Built.{keys_at_end, pushed, nothing}
 use Rattle.qs_tree.proofs.build.builder.into_tree.Goals as goal
 

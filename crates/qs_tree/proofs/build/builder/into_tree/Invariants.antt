@@ -1,9 +1,5 @@
 -- The entries in the tree, and those that are left, are the entries of the vector.
-use Rattle.std.proofs.Common.{◌≡◌, ◌++◌, length}
-use Rattle.std.specs.List.Sorted.{IsStrictlySortedBy}
-use Rattle.std.specs.Map.{keys_of}
-use Rattle.std.specs.Vec.Iter.{into_iter_items, into_iter_len}
-use Rattle.qs_tree.specs.tree.Keys.{key_cmp}
+use Rattle.qs_tree.proofs.Common.{◌≡◌, ◌++◌, length, IsStrictlySortedBy, keys_of, into_iter_items, into_iter_len, key_cmp}
 use Rattle.qs_tree.proofs.build.builder.into_tree.Given as goal
 
 abbrev pub invariant-loop-entry : goal.invariant-loop-entry

@@ -1,6 +1,4 @@
-use Rattle.std.proofs.Common.{◌∷◌, sym, ◌∙◌, append-nil, append_assoc}
-use Rattle.std.specs.Map.{keys_of}
-use Rattle.qs_tree.specs.tree.Keys.{key_cmp}
+use Rattle.qs_tree.proofs.Common.{◌∷◌, sym, ◌∙◌, append-nil, append_assoc, keys_of, key_cmp}
 use Rattle.qs_tree.proofs.lemmas.tree.Places.{sorted_upto, keys-append}
 use Rattle.qs_tree.proofs.build.builder.into_vector.Goals as goal
 

@@ -1,5 +1,4 @@
-use Rattle.qs_tree.specs.tree.Keys.{key_cmp}
-use Rattle.qs_tree.specs.internal.build.Builder.{built_tree}
+use Rattle.qs_tree.proofs.Common.{key_cmp, built_tree}
 use Rattle.qs_tree.proofs.lemmas.tree.Places.{hit_insert}
 use Rattle.qs_tree.proofs.lemmas.build.Built.{inserted}
 use Rattle.qs_tree.proofs.build.builder.put_at.Goals as goal

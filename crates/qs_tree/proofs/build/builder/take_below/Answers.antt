@@ -1,6 +1,4 @@
-use Rattle.std.proofs.Common.{◌≡◌, Some, None, ap, rules, ◌∙◌, option_map}
-use Rattle.qs_tree.specs.tree.Views.{segment_of_key, find}
-use Rattle.qs_tree.specs.internal.build.Builder.{built_tree, entries_seen}
+use Rattle.qs_tree.proofs.Common.{◌≡◌, Some, None, ap, rules, ◌∙◌, option_map, segment_of_key, find, built_tree, entries_seen}
 use Rattle.qs_tree.proofs.lemmas.tree.Keys.{seen-lookup}
 use Rattle.qs_tree.proofs.lemmas.tree.Ordered.{ordered_seen}
 use Rattle.qs_tree.proofs.lemmas.Views.{built_tree-fresh}

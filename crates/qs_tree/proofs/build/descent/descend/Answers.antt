@@ -1,7 +1,4 @@
-use Rattle.std.proofs.Common.{arith, ◌∙◌, ◌+◌, drop}
-use Rattle.qs_tree.specs.tree.Views.{step_of_key}
-use Rattle.qs_tree.specs.internal.scan.Pairs.{path_of}
-use Rattle.qs_tree.specs.internal.build.Builder.{built_tree}
+use Rattle.qs_tree.proofs.Common.{arith, ◌∙◌, ◌+◌, drop, step_of_key, path_of, built_tree}
 use Rattle.qs_tree.proofs.lemmas.build.Descending.{goes_on}
 use Rattle.qs_tree.proofs.build.descent.descend.Goals as goal
 

@@ -1,8 +1,5 @@
 -- The maps so far lead from the node to this one, with the keys from its level on ahead.
-use Rattle.std.proofs.Common.{◌≡◌, ◌≤◌, ◌-◌, length, drop}
-use Rattle.qs_tree.specs.internal.scan.Pairs.{path_of}
-use Rattle.qs_tree.specs.internal.build.Builder.{built_tree}
-use Rattle.qs_tree.specs.internal.build.Descent.{Leads}
+use Rattle.qs_tree.proofs.Common.{◌≡◌, ◌≤◌, ◌-◌, length, drop, path_of, built_tree, Leads}
 use Rattle.qs_tree.proofs.build.descent.descend.Given as goal
 
 abbrev pub invariant-loop-level : goal.invariant-loop-level

@@ -1,7 +1,4 @@
-use Rattle.std.proofs.Common.{sym, ap, ◌∙◌, Some, option_map, option_and_then}
-use Rattle.qs_spec.specs.Tree.Tree.{mapping}
-use Rattle.qs_tree.specs.internal.build.Builder.{built_tree}
-use Rattle.qs_tree.specs.internal.build.Descent.{put_all_back}
+use Rattle.qs_tree.proofs.Common.{sym, ap, ◌∙◌, Some, option_map, option_and_then, mapping, built_tree, put_all_back}
 use Rattle.qs_tree.proofs.lemmas.Views.{built_tree-Map}
 use Rattle.qs_tree.proofs.lemmas.build.Descending.{put_lowest}
 use Rattle.qs_tree.proofs.build.descent.rebuild.Goals as goal

@@ -1,7 +1,5 @@
 -- The frames that are left, with the node below them, are the whole tree.
-use Rattle.std.proofs.Common.{◌≡◌, length}
-use Rattle.qs_tree.specs.internal.build.Builder.{built_tree}
-use Rattle.qs_tree.specs.internal.build.Descent.{put_all_back}
+use Rattle.qs_tree.proofs.Common.{◌≡◌, length, built_tree, put_all_back}
 use Rattle.qs_tree.proofs.build.descent.rebuild.Given as goal
 
 abbrev pub invariant-loop-map : goal.invariant-loop-map

@@ -1,5 +1,4 @@
-use Rattle.std.proofs.Common.{◌≡◌, ◌+◌, ap, ◌∙◌, arith}
-use Rattle.qs_tree.specs.internal.tree.NodeCount.{entries_node_count}
+use Rattle.qs_tree.proofs.Common.{◌≡◌, ◌+◌, ap, ◌∙◌, arith, entries_node_count}
 use Rattle.qs_tree.proofs.lemmas.build.BuiltNodes.{nodes, entry_nodes, map_nodes, vector_nodes, entry_put, entry_within, entry_last}
 use Rattle.qs_tree.proofs.build.dropping.+dropping.Goals as goal
 

@@ -1,6 +1,5 @@
 -- What is left gets less. A vector or a search tree is less than the map that it is in.
-use Rattle.std.proofs.Common.{◌≡◌, ◌≤◌, ◌+◌, ◌*◌}
-use Rattle.std.specs.BTreeMap.{btree_map_len}
+use Rattle.qs_tree.proofs.Common.{◌≡◌, ◌≤◌, ◌+◌, ◌*◌, btree_map_len}
 use Rattle.qs_tree.proofs.lemmas.build.BuiltNodes.{nodes, entry_nodes}
 use Rattle.qs_tree.proofs.build.dropping.+dropping.Given as goal
 

@@ -1,9 +1,4 @@
-use Rattle.std.proofs.Common.{◌≡◌, [], ◌∷◌, length, sym, ap, ◌∙◌, append-nil, length-append, arith}
-use Rattle.qs_spec.specs.Tree.Tree.{mapping}
-use Rattle.qs_tree.specs.declared.build.finishing.Frame.{Frame}
-use Rattle.qs_tree.specs.tree.Views.{entries_from}
-use Rattle.qs_tree.specs.internal.build.Builder.{built_entries}
-use Rattle.qs_tree.specs.internal.build.Finishing.{level_pairs, with_node}
+use Rattle.qs_tree.proofs.Common.{◌≡◌, [], ◌∷◌, length, sym, ap, ◌∙◌, append-nil, length-append, arith, mapping, Frame, entries_from, built_entries, level_pairs, with_node}
 use Rattle.qs_tree.proofs.lemmas.tree.Keys.{entries_of_map-map}
 use Rattle.qs_tree.proofs.lemmas.build.Levels.{maps_on_stack, taken, put_back, in_order, in_order-last, last_in_order, maps_on_stack-last}
 use Rattle.qs_tree.proofs.build.finishing.finish_map.Goals as goal

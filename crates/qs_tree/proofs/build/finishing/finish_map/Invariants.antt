@@ -1,11 +1,5 @@
 -- The level and those that wait for it are the whole, and their keys are in order. Each turn takes a map out, or ends one that waits.
-use Rattle.std.proofs.Common.{◌≡◌, ◌+◌, ◌*◌, length}
-use Rattle.std.specs.List.Sorted.{IsStrictlySortedBy}
-use Rattle.std.specs.Map.{keys_of}
-use Rattle.qs_tree.specs.tree.Keys.{key_cmp}
-use Rattle.qs_tree.specs.tree.Views.{entries_from}
-use Rattle.qs_tree.specs.internal.build.Builder.{built_entries}
-use Rattle.qs_tree.specs.internal.build.Finishing.{level_pairs, maps_left}
+use Rattle.qs_tree.proofs.Common.{◌≡◌, ◌+◌, ◌*◌, length, IsStrictlySortedBy, keys_of, key_cmp, entries_from, built_entries, level_pairs, maps_left}
 use Rattle.qs_tree.proofs.lemmas.build.Levels.{whole, AreInOrder, maps_on_stack}
 use Rattle.qs_tree.proofs.build.finishing.finish_map.Given as goal
 

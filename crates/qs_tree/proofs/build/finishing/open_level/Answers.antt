@@ -1,5 +1,4 @@
-use Rattle.std.proofs.Common.{◌∙◌}
-use Rattle.qs_tree.specs.internal.build.Builder.{built_entries}
+use Rattle.qs_tree.proofs.Common.{◌∙◌, built_entries}
 use Rattle.qs_tree.proofs.lemmas.build.Levels.{is_opened}
 use Rattle.qs_tree.proofs.build.finishing.open_level.Goals as goal
 

@@ -1,6 +1,4 @@
-use Rattle.std.proofs.Math.ListN.{drop_of_length-le}
-use Rattle.std.proofs.Common.{◌≡◌, ◌+◌, ◌∷◌, drop, refl, sym, ap, ◌∙◌}
-use Rattle.std.proofs.lemmas.List.{drop_more}
+use Rattle.qs_tree.proofs.Common.{drop_of_length-le, ◌≡◌, ◌+◌, ◌∷◌, drop, refl, sym, ap, ◌∙◌, drop_more}
 use Rattle.qs_tree.proofs.build.unsorted.are_leaves.Goals as goal
 
 pub loop-entry-init : goal.loop-entry-init

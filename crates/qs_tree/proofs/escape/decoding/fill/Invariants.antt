@@ -1,5 +1,4 @@
-use Rattle.std.proofs.Common.{◌≡◌, ◌+◌, ◌≤◌, ◌++◌, length, take}
-use Rattle.qs_spec.specs.Escape.{decoded}
+use Rattle.qs_tree.proofs.Common.{◌≡◌, ◌+◌, ◌≤◌, ◌++◌, length, take, decoded}
 use Rattle.qs_tree.proofs.escape.decoding.fill.Given as goal
 
 abbrev pub invariant-loop-rest : goal.invariant-loop-rest

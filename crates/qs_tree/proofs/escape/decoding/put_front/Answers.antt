@@ -1,6 +1,5 @@
-use Rattle.std.proofs.Common.{◌++◌, ◌∙◌, ap, sym, take, drop}
+use Rattle.qs_tree.proofs.Common.{◌++◌, ◌∙◌, ap, sym, take, drop, decoded}
 use Rattle.std.proofs.lemmas.List.{append_assoc}
-use Rattle.qs_spec.specs.Escape.{decoded}
 use Rattle.qs_tree.proofs.lemmas.escape.DecodedFronts.{decoded_run}
 use Rattle.qs_tree.proofs.escape.decoding.put_front.Goals as goal
 

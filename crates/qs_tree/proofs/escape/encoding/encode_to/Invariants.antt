@@ -1,5 +1,4 @@
-use Rattle.std.proofs.Common.{◌≡◌, ◌+◌, ◌++◌, length, take}
-use Rattle.qs_spec.specs.Escape.{encoded}
+use Rattle.qs_tree.proofs.Common.{◌≡◌, ◌+◌, ◌++◌, length, take, encoded}
 use Rattle.qs_tree.proofs.escape.encoding.encode_to.Given as goal
 
 abbrev pub invariant-loop-rest : goal.invariant-loop-rest

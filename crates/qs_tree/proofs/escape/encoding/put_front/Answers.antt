@@ -1,7 +1,5 @@
-use Rattle.std.proofs.Common.{◌+◌, ◌++◌, ◌∙◌, ap, sym, arith, length, take, drop, map, get_or}
-use Rattle.std.proofs.lemmas.List.{append_assoc, length-append, length-map, length-take-le}
-use Rattle.qs_spec.specs.Escape.{encoded, escape}
-use Rattle.qs_tree.specs.internal.escape.Copying.{swapped}
+use Rattle.qs_tree.proofs.Common.{◌+◌, ◌++◌, ◌∙◌, ap, sym, arith, length, take, drop, map, get_or, length-map, length-take-le, encoded, escape, swapped}
+use Rattle.std.proofs.lemmas.List.{append_assoc, length-append}
 use Rattle.qs_tree.proofs.lemmas.escape.EncodedFronts.{encoded_run, encoded_escape, escape_is, length-encoded}
 use Rattle.qs_tree.proofs.escape.encoding.put_front.Goals as goal
 

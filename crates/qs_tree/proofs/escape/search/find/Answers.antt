@@ -1,5 +1,4 @@
-use Rattle.std.proofs.Common.{◌+◌, ◌<◌, arith, length, inl, inr, sym, ◌∙◌}
-use Rattle.std.proofs.lemmas.Bool.{cases_lt}
+use Rattle.qs_tree.proofs.Common.{◌+◌, ◌<◌, arith, length, inl, inr, sym, ◌∙◌, cases_lt}
 use Rattle.qs_tree.proofs.lemmas.escape.FirstPlace.{position-some, position-none}
 use Rattle.qs_tree.proofs.escape.search.find.Goals as goal
 

@@ -1,5 +1,4 @@
-use Rattle.std.proofs.Common.{length, ◌-◌, ◌≤◌}
-use Rattle.qs_tree.specs.internal.escape.Search.{NoneBetween}
+use Rattle.qs_tree.proofs.Common.{length, ◌-◌, ◌≤◌, NoneBetween}
 use Rattle.qs_tree.proofs.escape.search.find.Given as goal
 
 abbrev pub invariant-loop-at : goal.invariant-loop-at

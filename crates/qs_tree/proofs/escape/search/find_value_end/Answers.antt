@@ -1,7 +1,4 @@
-use Rattle.std.proofs.Common.{◌≡◌, ◌+◌, ◌≤◌, true, length, sym, ap, arith, inl, inr}
-use Rattle.std.proofs.lemmas.Bool.{cases_lt}
-use Rattle.std.proofs.lemmas.List.Sums.{position_or_len_is}
-use Rattle.qs_tree.specs.escape.Classes.{is_escape, is_ampersand}
+use Rattle.qs_tree.proofs.Common.{◌≡◌, ◌+◌, ◌≤◌, true, length, sym, ap, arith, inl, inr, cases_lt, position_or_len_is, is_escape, is_ampersand}
 use Rattle.qs_tree.proofs.lemmas.escape.FirstPlace.{none_in_front}
 use Rattle.qs_tree.proofs.escape.search.find_value_end.Goals as goal
 use Rattle.qs_tree.proofs.escape.search.find_value_end.Goals.{then-run-end, else-run-end}

@@ -1,6 +1,4 @@
-use Rattle.std.proofs.Common.{◌≡◌, true, length, ◌-◌, ◌≤◌}
-use Rattle.qs_tree.specs.escape.Classes.{is_escape, is_ampersand}
-use Rattle.qs_tree.specs.internal.escape.Search.{NoneBetween}
+use Rattle.qs_tree.proofs.Common.{◌≡◌, true, length, ◌-◌, ◌≤◌, is_escape, is_ampersand, NoneBetween}
 use Rattle.qs_tree.proofs.escape.search.find_value_end.Given as goal
 
 abbrev pub invariant-loop-at : goal.invariant-loop-at

@@ -1,11 +1,7 @@
-use Rattle.std.proofs.Common.{◌≡◌, false, refl, sym, ap, ◌∙◌, arith, inl, inr}
+use Rattle.qs_tree.proofs.Common.{◌≡◌, false, refl, sym, ap, ◌∙◌, arith, inl, inr, cases_lt, is_escape, Other, ends_of, kind_of_token}
 use Rattle.std.specs.Prelude.{slice_index}
-use Rattle.std.proofs.lemmas.Bool.{cases_lt}
-use Rattle.qs_tree.specs.escape.Classes.{is_escape}
 use Rattle.qs_tree.proofs.lemmas.escape.FirstPlace.{none_in_front}
-use Rattle.qs_spec.specs.Token.Kind.{Other}
 use Rattle.qs_tree.specs.declared.scan.cursor.Until as until
-use Rattle.qs_tree.specs.internal.scan.Cursor.{ends_of, kind_of_token}
 use Rattle.qs_tree.proofs.lemmas.scan.Runs.{token_on, letter_on}
 use Rattle.qs_tree.proofs.scan.cursor.run_len.Goals as goal
 

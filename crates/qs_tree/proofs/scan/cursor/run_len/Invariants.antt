@@ -1,7 +1,4 @@
-use Rattle.std.proofs.Common.{◌≡◌, true, ◌-◌, length}
-use Rattle.qs_tree.specs.escape.Classes.{is_escape}
-use Rattle.qs_tree.specs.internal.escape.Search.{NoneBetween}
-use Rattle.qs_tree.specs.internal.scan.Cursor.{ends_of}
+use Rattle.qs_tree.proofs.Common.{◌≡◌, true, ◌-◌, length, is_escape, NoneBetween, ends_of}
 use Rattle.qs_tree.proofs.lemmas.scan.Runs.{Within}
 use Rattle.qs_tree.proofs.scan.cursor.run_len.Given as goal
 

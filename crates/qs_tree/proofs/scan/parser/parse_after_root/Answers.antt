@@ -1,7 +1,4 @@
-use Rattle.std.proofs.Common.{sym, ap₂, ◌∙◌}
-use Rattle.qs_spec.specs.Token.{tokens}
-use Rattle.qs_tree.specs.internal.scan.Cursor.{left}
-use Rattle.qs_tree.specs.internal.scan.Pairs.{path_of}
+use Rattle.qs_tree.proofs.Common.{sym, ap₂, ◌∙◌, tokens, left, path_of}
 use Rattle.qs_tree.proofs.lemmas.scan.AfterKeys.{pair_as, root_open}
 use Rattle.qs_tree.proofs.scan.parser.parse_after_root.Goals as goal
 

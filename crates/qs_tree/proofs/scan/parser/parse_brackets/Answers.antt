@@ -1,9 +1,4 @@
-use Rattle.std.proofs.Common.{◌≡◌, ◌-◌, ◌++◌, length, ◌∷◌, sym, ap, ap₂, ◌∙◌, arith, refl, append_assoc}
-use Rattle.qs_spec.specs.Token.{tokens, raw_of}
-use Rattle.qs_spec.specs.Grammar.{direct, is_close, ends_last}
-use Rattle.qs_spec.specs.internal.Parsing.{cut, with_leaf, parsed_value, parsed_brackets, after_close, after_run}
-use Rattle.qs_tree.specs.internal.scan.Cursor.{kind_of_token, token_of, looks, ended_after, left, from_token, taken}
-use Rattle.qs_tree.specs.internal.scan.Pairs.{path_of}
+use Rattle.qs_tree.proofs.Common.{◌≡◌, ◌-◌, ◌++◌, length, ◌∷◌, sym, ap, ap₂, ◌∙◌, arith, refl, append_assoc, tokens, raw_of, direct, is_close, ends_last, cut, with_leaf, parsed_value, parsed_brackets, after_close, after_run, kind_of_token, token_of, looks, ended_after, left, from_token, taken, path_of}
 use Rattle.qs_tree.proofs.lemmas.scan.AfterKeys.{pair_as, push_found, last_found, first_token, left_behind, taken_behind, segment_read, next_closing, next_open, next_close, next_other, closes}
 use Rattle.qs_tree.proofs.scan.parser.parse_brackets.Goals as goal
 

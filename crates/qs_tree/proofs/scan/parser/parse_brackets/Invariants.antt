@@ -1,8 +1,4 @@
-use Rattle.std.proofs.Common.{◌≡◌, ◌≤◌, length}
-use Rattle.qs_spec.specs.internal.Parsing.{parsed_brackets}
-use Rattle.qs_tree.specs.internal.scan.Cursor.{left, spent}
-use Rattle.qs_tree.specs.internal.scan.Pairs.{path_of}
-use Rattle.qs_tree.specs.internal.scan.Parser.{Follows}
+use Rattle.qs_tree.proofs.Common.{◌≡◌, ◌≤◌, length, parsed_brackets, left, spent, path_of, Follows}
 use Rattle.qs_tree.proofs.scan.parser.parse_brackets.Given as goal
 
 -- what is found after the last bracket is what is found after the first

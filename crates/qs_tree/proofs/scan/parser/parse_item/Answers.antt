@@ -1,11 +1,6 @@
-use Rattle.std.proofs.Common.{sym, ap, ap₂, ◌∙◌, subst}
-use Rattle.qs_spec.specs.Token.{tokens, raw_of}
-use Rattle.qs_spec.specs.internal.Parsing.{cut, parsed_pairs, and_pairs}
-use Rattle.qs_tree.specs.internal.scan.Cursor.{left, from_token}
-use Rattle.qs_tree.specs.internal.scan.Parser.{is_nothing, from_root}
+use Rattle.qs_tree.proofs.Common.{sym, ap, ap₂, ◌∙◌, subst, tokens, raw_of, cut, parsed_pairs, and_pairs, left, from_token, is_nothing, from_root, TakesNoMemory}
 use Rattle.qs_tree.proofs.lemmas.scan.AfterKeys.{has_bytes}
 use Rattle.qs_tree.proofs.lemmas.scan.Items.{end_pairs, ampersand_pairs, pair_pairs, pair_item, error_item}
-use Rattle.qs_tree.specs.Parsing.{TakesNoMemory}
 use Rattle.qs_tree.proofs.lemmas.scan.SmallItems.{small_nothing, small_value}
 use Rattle.qs_tree.proofs.scan.parser.parse_item.Goals as goal
 

@@ -1,9 +1,4 @@
-use Rattle.std.proofs.Common.{sym, ap, ap₂, ◌∙◌, ◌++◌}
-use Rattle.qs_spec.specs.Token.{raw_of}
-use Rattle.qs_spec.specs.Segment.{step_of}
-use Rattle.qs_spec.specs.Grammar.{direct, ends_last}
-use Rattle.qs_spec.specs.internal.Parsing.{cut, with_leaf, parsed_value}
-use Rattle.qs_tree.specs.internal.scan.Cursor.{left, taken}
+use Rattle.qs_tree.proofs.Common.{sym, ap, ap₂, ◌∙◌, ◌++◌, raw_of, step_of, direct, ends_last, cut, with_leaf, parsed_value, left, taken}
 use Rattle.qs_tree.proofs.lemmas.scan.AfterKeys.{path_more, pair_as}
 use Rattle.qs_tree.proofs.scan.parser.parse_last_key.Goals as goal
 

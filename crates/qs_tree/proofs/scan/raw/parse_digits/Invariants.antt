@@ -1,5 +1,4 @@
-use Rattle.std.proofs.Common.{◌≡◌, drop}
-use Rattle.qs_tree.specs.internal.scan.Raw.{index_from}
+use Rattle.qs_tree.proofs.Common.{◌≡◌, drop, index_from}
 use Rattle.qs_tree.proofs.scan.raw.parse_digits.Given as goal
 
 abbrev pub invariant-loop-byte : goal.invariant-loop-byte

@@ -1,5 +1,4 @@
-use Rattle.std.proofs.Common.{◌≡◌, ◌-◌, ◌∙◌, sym, length, take, drop, length-drop, arith}
-use Rattle.std.proofs.lemmas.List.{take_all}
+use Rattle.qs_tree.proofs.Common.{◌≡◌, ◌-◌, ◌∙◌, sym, length, take, drop, length-drop, arith, take_all}
 use Rattle.qs_tree.proofs.lemmas.tree.ByteOrder.{found_first, found_later}
 use Rattle.qs_tree.proofs.tree.byte_order.compare_bytes.Goals as goal
 

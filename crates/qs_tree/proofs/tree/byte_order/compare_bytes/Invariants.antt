@@ -1,7 +1,5 @@
 -- What is left compares as the whole does.
-use Rattle.std.proofs.Common.{◌≡◌, length}
-use Rattle.std.specs.Ordering.{nat_cmp}
-use Rattle.std.specs.Cmp.Lexicographic.{slice_cmp}
+use Rattle.qs_tree.proofs.Common.{◌≡◌, length, nat_cmp, slice_cmp}
 use Rattle.qs_tree.proofs.tree.byte_order.compare_bytes.Given as goal
 
 abbrev pub invariant-loop-left : goal.invariant-loop-left

@@ -1,7 +1,5 @@
-use Rattle.std.proofs.Common.{◌≡◌, ◌+◌, ◌<◌, length, ap, ◌∙◌, arith}
+use Rattle.qs_tree.proofs.Common.{◌≡◌, ◌+◌, ◌<◌, length, ap, ◌∙◌, arith, Map, roll-ParsedMap}
 use Rattle.std.specs.Vec.{with_item}
-use Rattle.qs_tree.specs.declared.tree.value.ParsedValue.{Map}
-use Rattle.qs_tree.specs.declared.tree.value.ParsedValue.TheViews.{roll-ParsedMap}
 use Rattle.qs_tree.proofs.lemmas.tree.NodeCounts.{nodes, entry_nodes, item_nodes, map_nodes, sequence_nodes, entry_put, entry_within, item_put, item_within}
 use Rattle.qs_tree.proofs.tree.dropping.drop_first_leaf.Goals as goal
 

@@ -1,5 +1,4 @@
-use Rattle.std.proofs.Common.{ap, ◌∙◌, arith}
-use Rattle.qs_tree.specs.internal.tree.NodeCount.{node_count}
+use Rattle.qs_tree.proofs.Common.{ap, ◌∙◌, arith, node_count}
 use Rattle.qs_tree.proofs.lemmas.Views.{tree_of-Map, tree_of-Sequence}
 use Rattle.qs_tree.proofs.lemmas.tree.NodeCounts.{nodes}
 use Rattle.qs_tree.proofs.tree.dropping.drop_tree.Goals as goal

@@ -1,8 +1,4 @@
-use Rattle.std.proofs.Common.{◌≡◌, ℕ, ◌≤◌, ◌++◌, ◌∷◌, [], ap, ◌∙◌, arith}
-use Rattle.qs_tree.specs.declared.tree.key.Key.{Key}
-use Rattle.qs_tree.specs.declared.tree.value.ParsedValue.{ParsedValue}
-use Rattle.qs_tree.specs.declared.tree.value.ParsedValue.TheViews.{roll-ParsedMap}
-use Rattle.qs_tree.specs.internal.tree.NodeCount.{entries_node_count}
+use Rattle.qs_tree.proofs.Common.{◌≡◌, ℕ, ◌≤◌, ◌++◌, ◌∷◌, [], ap, ◌∙◌, arith, Key, ParsedValue, roll-ParsedMap, entries_node_count}
 use Rattle.qs_tree.proofs.lemmas.tree.Keys.{Held, entries_of_map-map}
 use Rattle.qs_tree.proofs.lemmas.tree.NodeCounts.{entry_nodes, map_nodes, entry_last}
 use Rattle.qs_tree.proofs.tree.dropping.without_last_entry.Goals as goal

@@ -1,5 +1,4 @@
-use Rattle.std.proofs.Common.{◌≡◌, ℕ, ◌≤◌, List, ◌++◌, ◌∷◌, [], ap, arith}
-use Rattle.qs_tree.specs.declared.tree.value.ParsedValue.{ParsedValue}
+use Rattle.qs_tree.proofs.Common.{◌≡◌, ℕ, ◌≤◌, List, ◌++◌, ◌∷◌, [], ap, arith, ParsedValue}
 use Rattle.qs_tree.proofs.lemmas.tree.NodeCounts.{item_nodes, sequence_nodes, item_last}
 use Rattle.qs_tree.proofs.tree.dropping.without_last_item.Goals as goal
 

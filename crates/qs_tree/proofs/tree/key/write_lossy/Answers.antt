@@ -1,6 +1,4 @@
-use Rattle.std.proofs.Common.{◌≡◌, ◌<◌, ◌++◌, length, sym, ap, ◌∙◌, append_assoc, append-nil, rules}
-use Rattle.std.specs.Str.Lossy.{replacement_bytes}
-use Rattle.std.specs.Str.Chunks.{utf8_chunks_rest}
+use Rattle.qs_tree.proofs.Common.{◌≡◌, ◌<◌, ◌++◌, length, sym, ap, ◌∙◌, append_assoc, append-nil, rules, replacement_bytes, utf8_chunks_rest}
 use Rattle.std.proofs.Output.{has_written_append, has_written_of_eq}
 use Rattle.std.proofs.lemmas.Str.{utf8_lossy_chunk, utf8_lossy_last_chunk, utf8_lossy_empty}
 use Rattle.qs_tree.proofs.tree.key.write_lossy.Goals as goal

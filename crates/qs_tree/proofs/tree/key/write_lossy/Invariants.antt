@@ -1,8 +1,5 @@
 -- What was written, with the text of the bytes that are left, is the text of all the bytes.
-use Rattle.std.proofs.Common.{◌≡◌, ℕ, List, ◌++◌}
-use Rattle.std.specs.Fmt.{HasWritten, IsPlainFormatter}
-use Rattle.std.specs.Str.Chunks.{utf8_chunks_rest}
-use Rattle.std.specs.Str.Lossy.{utf8_lossy}
+use Rattle.qs_tree.proofs.Common.{◌≡◌, ℕ, List, ◌++◌, HasWritten, IsPlainFormatter, utf8_chunks_rest, utf8_lossy}
 use Rattle.qs_tree.proofs.tree.key.write_lossy.Given as goal
 
 abbrev pub invariant-loop-chunk : goal.invariant-loop-chunk

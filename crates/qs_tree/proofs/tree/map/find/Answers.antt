@@ -1,5 +1,4 @@
-use Rattle.std.proofs.lemmas.Option.{slice_get-get_or}
-use Rattle.qs_tree.specs.tree.Keys.{key_cmp}
+use Rattle.qs_tree.proofs.Common.{slice_get-get_or, key_cmp}
 use Rattle.qs_tree.proofs.lemmas.tree.Places.{hit_lookup, gap_lookup}
 use Rattle.qs_tree.proofs.tree.map.find.Goals as goal
 

@@ -1,7 +1,4 @@
-use Rattle.std.proofs.Common.{◌≡◌, ℕ, ◌+◌, ◌-◌, ◌<◌, ◌≤◌, length, Less, Greater}
-use Rattle.qs_tree.specs.tree.Keys.{key_cmp}
-use Rattle.qs_tree.specs.internal.tree.Places.{against}
-use Rattle.qs_tree.specs.tree.Lookup.{binary_digits}
+use Rattle.qs_tree.proofs.Common.{◌≡◌, ℕ, ◌+◌, ◌-◌, ◌<◌, ◌≤◌, length, Less, Greater, key_cmp, against, binary_digits}
 use Rattle.qs_tree.proofs.tree.map.search.Given as goal
 
 abbrev pub invariant-loop-low : goal.invariant-loop-low

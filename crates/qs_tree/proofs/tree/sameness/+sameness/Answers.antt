@@ -1,7 +1,4 @@
-use Rattle.std.proofs.Common.{◌≡◌, ◌&&◌, true, false, arith, sym, ap, ap₂, ◌∙◌}
-use Rattle.qs_spec.specs.Segment.{is_same_segment}
-use Rattle.qs_tree.specs.tree.Equality.{tree_same}
-use Rattle.qs_tree.specs.tree.Views.{segment_of_key, tree_of}
+use Rattle.qs_tree.proofs.Common.{◌≡◌, ◌&&◌, true, false, arith, sym, ap, ap₂, ◌∙◌, is_same_segment, tree_same, segment_of_key, tree_of}
 use Rattle.qs_tree.proofs.lemmas.tree.Equality.{key_eq-segments}
 use Rattle.qs_tree.proofs.lemmas.tree.Nodes.{node_with}
 use Rattle.qs_tree.proofs.lemmas.tree.NodeCounts.{entry_at_within, item_at_within}

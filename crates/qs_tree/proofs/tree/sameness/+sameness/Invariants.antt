@@ -1,8 +1,4 @@
-use Rattle.std.proofs.Common.{◌≡◌, ◌+◌, ◌*◌, drop}
-use Rattle.qs_tree.specs.tree.Equality.{items_same, entries_same}
-use Rattle.qs_tree.specs.internal.tree.NodeCount.{node_count, items_node_count, entries_node_count}
-use Rattle.qs_tree.specs.internal.tree.KeyTrees.{key_trees}
-use Rattle.qs_tree.specs.tree.Views.{tree_of, items_of, entries_from}
+use Rattle.qs_tree.proofs.Common.{◌≡◌, ◌+◌, ◌*◌, drop, items_same, entries_same, node_count, items_node_count, entries_node_count, key_trees, tree_of, items_of, entries_from}
 use Rattle.qs_tree.proofs.tree.sameness.+sameness.Given as goal
 
 abbrev pub decreases-same_nodes : goal.decreases-same_nodes

@@ -1,6 +1,4 @@
-use Rattle.std.proofs.Common.{sym, ◌∙◌}
-use Rattle.std.specs.Cmp.{Equal-is}
-use Rattle.qs_tree.specs.tree.Keys.{key_cmp}
+use Rattle.qs_tree.proofs.Common.{sym, ◌∙◌, Equal-is, key_cmp}
 use Rattle.qs_tree.specs.contracts.tree.key.KeyOrd.TheImpl.Laws.{matches_eq-law}
 use Rattle.qs_tree.proofs.lemmas.tree.Equality.{equal_keys}
 use Rattle.qs_tree.proofs.tree.tree_laws.equality_of_keys.Goals as goal

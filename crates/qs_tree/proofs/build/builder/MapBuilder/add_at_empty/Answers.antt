@@ -1,9 +1,4 @@
-use Rattle.std.proofs.Common.{false, Option}
-use Rattle.qs_spec.specs.Tree.{Tree}
-use Rattle.qs_spec.specs.internal.InPlace.{add_flat}
-use Rattle.qs_tree.specs.internal.scan.Pairs.{leaf_of}
-use Rattle.qs_tree.specs.tree.Views.{step_of_key}
-use Rattle.qs_tree.specs.internal.build.Builder.{built_tree, built_entries}
+use Rattle.qs_tree.proofs.Common.{false, Option, Tree, add_flat, leaf_of, step_of_key, built_tree, built_entries}
 use Rattle.qs_tree.proofs.lemmas.build.Turns.{gives_err, rejected_too, put_there, rejected_there}
 use Rattle.qs_tree.proofs.build.builder.MapBuilder.add_at_empty.Goals as goal
 

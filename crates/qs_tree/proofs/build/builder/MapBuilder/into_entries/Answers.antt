@@ -1,6 +1,4 @@
-use Rattle.std.proofs.Common.{sym, ap, ◌∙◌}
-use Rattle.std.proofs.lemmas.Result.{IfOk-weaker}
-use Rattle.qs_tree.specs.internal.build.Builder.{built_entries, entries_seen}
+use Rattle.qs_tree.proofs.Common.{sym, ap, ◌∙◌, IfOk-weaker, built_entries, entries_seen}
 use Rattle.qs_tree.proofs.lemmas.build.Built.{built_entries-Tree}
 use Rattle.qs_tree.proofs.build.builder.MapBuilder.into_entries.Goals as goal
 

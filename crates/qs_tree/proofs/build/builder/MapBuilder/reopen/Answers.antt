@@ -1,5 +1,4 @@
-use Rattle.std.proofs.Common.{sym, ap, ◌∙◌}
-use Rattle.qs_tree.specs.internal.build.Builder.{entries_seen, as_builders}
+use Rattle.qs_tree.proofs.Common.{sym, ap, ◌∙◌, entries_seen, as_builders}
 use Rattle.qs_tree.proofs.lemmas.tree.Keys.{entries_of_map-map}
 use Rattle.qs_tree.proofs.lemmas.build.Built.{built_entries-Vector, seen-builders}
 use Rattle.qs_tree.proofs.build.builder.MapBuilder.reopen.Goals as goal

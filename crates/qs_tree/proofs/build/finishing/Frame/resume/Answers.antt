@@ -1,7 +1,4 @@
-use Rattle.qs_spec.specs.Tree.Tree.{mapping}
-use Rattle.qs_tree.specs.declared.tree.value.ParsedValue.{Map}
-use Rattle.qs_tree.specs.tree.Views.{entries_of_map}
-use Rattle.qs_tree.specs.internal.build.Finishing.{left_pairs}
+use Rattle.qs_tree.proofs.Common.{mapping, Map, entries_of_map, left_pairs}
 use Rattle.qs_tree.proofs.lemmas.Views.{tree_of-Map}
 use Rattle.qs_tree.proofs.lemmas.build.Levels.{may_push, key_trees-push}
 use Rattle.qs_tree.proofs.build.finishing.Frame.resume.Goals as goal

@@ -1,6 +1,4 @@
-use Rattle.qs_tree.specs.internal.build.Builder.{built_tree}
-use Rattle.std.specs.Vec.Iter.{into_iter_items}
-use Rattle.qs_tree.specs.internal.build.Finishing.{built_pairs}
+use Rattle.qs_tree.proofs.Common.{built_tree, into_iter_items, built_pairs}
 use Rattle.qs_tree.proofs.lemmas.build.Levels.{may_push}
 use Rattle.qs_tree.proofs.build.finishing.Level.next_map.Goals as goal
 

@@ -1,7 +1,5 @@
 -- The entries stay the same, and no map is finished.
-use Rattle.std.proofs.Common.{◌≡◌, ◌≤◌}
-use Rattle.std.specs.Vec.Iter.{into_iter_len}
-use Rattle.qs_tree.specs.internal.build.Finishing.{level_pairs, maps_left}
+use Rattle.qs_tree.proofs.Common.{◌≡◌, ◌≤◌, into_iter_len, level_pairs, maps_left}
 use Rattle.qs_tree.proofs.build.finishing.Level.next_map.Given as goal
 
 abbrev pub invariant-loop-key : goal.invariant-loop-key

@@ -1,15 +1,7 @@
-use Rattle.std.proofs.Common.{◌≡◌, ◌++◌, ◌∷◌, [], length, sym, ap, ◌∙◌, append-nil, append_assoc, arith, rules, is_lt, false}
+use Rattle.qs_tree.proofs.Common.{◌≡◌, ◌++◌, ◌∷◌, [], length, sym, ap, ◌∙◌, append-nil, append_assoc, arith, rules, is_lt, false, same_Some, into_iter_items, add_flat, update, key_cmp, step_of_key, leaf_of, entries_held, entries_of_leaves}
 use Rattle.std.proofs.lemmas.Fn.{always_returns_same}
 use Rattle.std.proofs.lemmas.List.MinMax.{ranks_by}
-use Rattle.std.proofs.lemmas.Option.{same_Some}
-use Rattle.std.specs.Vec.Iter.{into_iter_items}
-use Rattle.qs_spec.specs.internal.InPlace.{add_flat, update}
 use Rattle.qs_tree.specs.contracts.tree.key.KeyOrd.TheImpl.Laws.{total-law}
-use Rattle.qs_tree.specs.tree.Keys.{key_cmp}
-use Rattle.qs_tree.specs.tree.Views.{step_of_key}
-use Rattle.qs_tree.specs.internal.scan.Pairs.{leaf_of}
-use Rattle.qs_tree.specs.internal.build.Builder.{entries_held}
-use Rattle.qs_tree.specs.internal.build.Unsorted.{entries_of_leaves}
 use Rattle.qs_tree.proofs.lemmas.build.Built.{nothing}
 use Rattle.qs_tree.proofs.lemmas.build.Unsorted.{added_flat, is_before, sorted_leaves}
 use Rattle.qs_tree.proofs.build.unsorted.Unsorted.into_entries.Goals as goal

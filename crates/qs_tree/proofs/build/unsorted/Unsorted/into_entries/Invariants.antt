@@ -1,8 +1,5 @@
 -- The entries are those of the leaves that were taken, which are together with those that are left all leaves, sorted.
-use Rattle.std.proofs.Common.{◌≡◌, ◌++◌, length}
-use Rattle.std.specs.Vec.Iter.{into_iter_items, into_iter_len}
-use Rattle.qs_tree.specs.internal.build.Builder.{entries_held}
-use Rattle.qs_tree.specs.internal.build.Unsorted.{entries_of_leaves, unsorted_entries}
+use Rattle.qs_tree.proofs.Common.{◌≡◌, ◌++◌, length, into_iter_items, into_iter_len, entries_held, entries_of_leaves, unsorted_entries}
 use Rattle.qs_tree.proofs.lemmas.build.Unsorted.{Leaves}
 use Rattle.qs_tree.proofs.build.unsorted.Unsorted.into_entries.Given as goal
 

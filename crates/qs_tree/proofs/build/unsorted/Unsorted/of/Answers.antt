@@ -1,11 +1,4 @@
-use Rattle.std.proofs.Common.{◌≡◌, ◌++◌, ◌∷◌, [], length, sym, ap, ◌∙◌, append-nil, append_assoc, arith, Some, false}
-use Rattle.std.proofs.lemmas.Option.{none-some, same_Some}
-use Rattle.std.specs.Vec.Iter.{into_iter_items}
-use Rattle.qs_spec.specs.internal.InPlace.{add_flat, update}
-use Rattle.qs_tree.specs.tree.Views.{step_of_key, tree_of}
-use Rattle.qs_tree.specs.internal.scan.Pairs.{leaf_in, leaf_of}
-use Rattle.qs_tree.specs.internal.build.Builder.{entries_held}
-use Rattle.qs_tree.specs.internal.build.Unsorted.{entries_of_leaves}
+use Rattle.qs_tree.proofs.Common.{◌≡◌, ◌++◌, ◌∷◌, [], length, sym, ap, ◌∙◌, append-nil, append_assoc, arith, Some, false, none-some, same_Some, into_iter_items, add_flat, update, step_of_key, tree_of, leaf_in, leaf_of, entries_held, entries_of_leaves}
 use Rattle.qs_tree.proofs.lemmas.tree.Keys.{entries_of_map-map}
 use Rattle.qs_tree.proofs.lemmas.tree.Places.{keys-append}
 use Rattle.qs_tree.proofs.lemmas.build.Built.{nothing}

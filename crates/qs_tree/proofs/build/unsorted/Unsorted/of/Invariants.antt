@@ -1,12 +1,5 @@
 -- The leaves so far are those of the entries that were taken, and the entries that are left are leaves too.
-use Rattle.std.proofs.Common.{◌≡◌, ◌++◌, length}
-use Rattle.std.specs.List.Sorted.{IsStrictlySortedBy}
-use Rattle.std.specs.Map.{keys_of}
-use Rattle.std.specs.Vec.Iter.{into_iter_items, into_iter_len}
-use Rattle.qs_tree.specs.tree.Keys.{key_cmp}
-use Rattle.qs_tree.specs.tree.Views.{entries_of_map}
-use Rattle.qs_tree.specs.internal.build.Builder.{entries_held}
-use Rattle.qs_tree.specs.internal.build.Unsorted.{unsorted_entries, AreLeaves}
+use Rattle.qs_tree.proofs.Common.{◌≡◌, ◌++◌, length, IsStrictlySortedBy, keys_of, into_iter_items, into_iter_len, key_cmp, entries_of_map, entries_held, unsorted_entries, AreLeaves}
 use Rattle.qs_tree.proofs.lemmas.tree.Keys.{Held}
 use Rattle.qs_tree.proofs.build.unsorted.Unsorted.of.Given as goal
 

@@ -1,8 +1,5 @@
-use Rattle.std.proofs.Common.{◌≡◌, ◌∙◌, ap, arith, cond, count_by, count_ones, take, take-add}
-use Rattle.std.proofs.lemmas.List.Sums.{count_by-le-length, sum_by-append}
-use Rattle.std.proofs.lemmas.List.{length-take-le}
-use Rattle.std.proofs.lemmas.Simd.{ones-mask_l, length-chunk}
-use lib.Lanes.{chunk}
+use Rattle.qs_tree.proofs.Common.{◌≡◌, ◌∙◌, ap, arith, cond, count_by, count_ones, take, count_by-le-length, sum_by-append, length-take-le, ones-mask_l, length-chunk, chunk}
+use Rattle.std.proofs.Common.{take-add}
 use Rattle.qs_tree.proofs.escape.search.class.count.Goals as goal
 
 pub overflow_add-count : goal.overflow_add-count

@@ -1,8 +1,4 @@
-use Rattle.std.proofs.Common.{◌≡◌, ◌∙◌, ap, arith, not}
-use Rattle.std.proofs.lemmas.Simd.{length-chunk, first_set_mask_l, run_in_chunk_le, run_in_chunk_fails, run_in_chunk_stops}
-use Rattle.std.specs.List.{prefix_len}
-use lib.Lanes.{chunk}
-use Rattle.qs_tree.specs.internal.escape.Search.{first_set}
+use Rattle.qs_tree.proofs.Common.{◌≡◌, ◌∙◌, ap, arith, not, length-chunk, first_set_mask_l, run_in_chunk_le, run_in_chunk_fails, run_in_chunk_stops, prefix_len, chunk, first_set}
 use Rattle.qs_tree.proofs.escape.search.class.run.Goals as goal
 
 pub returns : goal.returns

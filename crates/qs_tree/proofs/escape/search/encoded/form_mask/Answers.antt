@@ -1,7 +1,4 @@
-use Rattle.std.proofs.Common.{refl, arith, true, cond, leb}
-use Rattle.std.proofs.lemmas.Simd.{length-chunk}
-use lib.Lanes.{chunk}
-use Rattle.qs_tree.specs.internal.escape.Search.{is_escaped}
+use Rattle.qs_tree.proofs.Common.{refl, arith, true, cond, leb, length-chunk, chunk, is_escaped}
 use Rattle.qs_tree.proofs.lemmas.escape.LaneLemmas.{mask_is, after_splat, joined, splatted, before_splat}
 use Rattle.qs_tree.proofs.escape.search.encoded.form_mask.Goals as goal
 

@@ -1,7 +1,4 @@
-use Rattle.std.proofs.Common.{◌≡◌, ◌++◌, ◌-◌, length, append_assoc, sym, ap, ap₂, ◌∙◌}
-use Rattle.std.proofs.lemmas.List.{take-append-drop}
-use Rattle.qs_spec.specs.Token.{tokens}
-use Rattle.qs_tree.specs.internal.scan.Cursor.{ends_of, left, taken}
+use Rattle.qs_tree.proofs.Common.{◌≡◌, ◌++◌, ◌-◌, length, append_assoc, sym, ap, ap₂, ◌∙◌, take-append-drop, tokens, ends_of, left, taken}
 use Rattle.qs_tree.proofs.lemmas.scan.Runs.{taken_more, stop_kind}
 use Rattle.qs_tree.proofs.scan.cursor.Cursor.run_from.Goals as goal
 

@@ -1,6 +1,4 @@
-use Rattle.std.proofs.Common.{take, drop, sym, ap, ◌∙◌}
-use Rattle.qs_spec.specs.Token.{tokens}
-use Rattle.qs_tree.specs.internal.scan.Cursor.{left}
+use Rattle.qs_tree.proofs.Common.{take, drop, sym, ap, ◌∙◌, tokens, left}
 use Rattle.qs_tree.proofs.lemmas.scan.Values.{value_cut, value_past, plain_value}
 use Rattle.qs_tree.proofs.scan.cursor.Cursor.value.Goals as goal
 

@@ -1,5 +1,4 @@
-use Rattle.std.proofs.Common.{ap, Some, sym}
-use Rattle.std.proofs.lemmas.Option.{slice_get-get_or}
+use Rattle.qs_tree.proofs.Common.{ap, Some, sym, slice_get-get_or}
 use Rattle.qs_tree.proofs.lemmas.tree.Places.{sorted_remove}
 use Rattle.qs_tree.proofs.tree.entries.Entries.remove_at.Goals as goal
 

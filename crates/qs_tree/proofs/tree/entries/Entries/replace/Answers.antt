@@ -1,5 +1,4 @@
-use Rattle.std.proofs.Common.{Some, sym, ap}
-use Rattle.std.proofs.lemmas.Option.{slice_get-get_or}
+use Rattle.qs_tree.proofs.Common.{Some, sym, ap, slice_get-get_or}
 use Rattle.qs_tree.proofs.lemmas.tree.Places.{put_value-set, keys-put_value}
 use Rattle.qs_tree.proofs.tree.entries.Entries.replace.Goals as goal
 

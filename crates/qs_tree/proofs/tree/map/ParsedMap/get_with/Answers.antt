@@ -1,5 +1,4 @@
-use Rattle.std.proofs.Common.{ap, sym, ◌∙◌, option_map}
-use Rattle.qs_tree.specs.tree.Views.{segment_of_key, tree_of, find}
+use Rattle.qs_tree.proofs.Common.{ap, sym, ◌∙◌, option_map, segment_of_key, tree_of, find}
 use Rattle.qs_tree.proofs.lemmas.tree.Keys.{option_map-copied, view-lookup, entries_of_map-map, map_pairs-map, length-pairs_view}
 use Rattle.qs_tree.proofs.lemmas.tree.Ordered.{ordered_view}
 use Rattle.qs_tree.proofs.tree.map.ParsedMap.get_with.Goals as goal

@@ -1,5 +1,4 @@
-use Rattle.std.proofs.Common.{◌∙◌}
-use Rattle.qs_tree.specs.tree.Keys.{key_cmp}
+use Rattle.qs_tree.proofs.Common.{◌∙◌, key_cmp}
 use Rattle.qs_tree.proofs.lemmas.tree.Places.{hit_lookup, gap_lookup, hit_remove, gap_remove}
 use Rattle.qs_tree.proofs.lemmas.tree.Keys.{view-lookup, view-remove_entry, entries_of_map-map}
 use Rattle.qs_tree.proofs.tree.map.ParsedMap.remove.Goals as goal

@@ -1,5 +1,4 @@
-use Rattle.std.proofs.Common.{ap₂, ◌∙◌}
-use Rattle.qs_tree.specs.tree.Equality.{entries_same}
+use Rattle.qs_tree.proofs.Common.{ap₂, ◌∙◌, entries_same}
 use Rattle.qs_tree.proofs.lemmas.tree.Nodes.{entries_in}
 use Rattle.qs_tree.proofs.tree.map.ParsedMapPartialEq.eq.Goals as goal
 

@@ -1,9 +1,4 @@
-use Rattle.std.proofs.Common.{◌≡◌, ◌^◌, ◌==◌, ◌∙◌, ap, sym, arith, map, false}
-use Rattle.std.proofs.lemmas.List.{length-map}
-use Rattle.std.proofs.lemmas.Simd.{length-chunk, mask_l-lt}
-use lib.Lanes.{chunk, mask_l}
-use Rattle.qs_tree.specs.internal.escape.Search.{class_mask, is_escaped}
-use Rattle.qs_tree.specs.escape.Classes.{is_encoded}
+use Rattle.qs_tree.proofs.Common.{◌≡◌, ◌^◌, ◌==◌, ◌∙◌, ap, sym, arith, map, false, length-map, length-chunk, mask_l-lt, chunk, mask_l, class_mask, is_escaped, is_encoded}
 use Rattle.qs_tree.proofs.lemmas.escape.Spaces.{mask_with_spaces}
 use Rattle.qs_tree.proofs.escape.search.encoded.EncodedClass.mask.Goals as goal
 

@@ -1,5 +1,4 @@
-use Rattle.std.proofs.Common.{◌∙◌, ap, sym, arith}
-use Rattle.qs_tree.specs.internal.escape.Search.{is_escaped}
+use Rattle.qs_tree.proofs.Common.{◌∙◌, ap, sym, arith, is_escaped}
 use Rattle.qs_tree.proofs.lemmas.escape.Tables.{form_plain, query_plain}
 use Rattle.qs_tree.proofs.escape.search.encoded.Escaped.plain.Goals as goal
 

@@ -1,5 +1,4 @@
-use Rattle.std.proofs.Common.{◌∙◌, ap, sym, arith}
-use Rattle.qs_tree.specs.internal.escape.Search.{is_escaped}
+use Rattle.qs_tree.proofs.Common.{◌∙◌, ap, sym, arith, is_escaped}
 use Rattle.qs_tree.proofs.lemmas.escape.Tables.{form_marks, query_marks}
 use Rattle.qs_tree.proofs.escape.search.encoded.EscapedClass.has.Goals as goal
 

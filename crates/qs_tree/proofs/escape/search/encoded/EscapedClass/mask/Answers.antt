@@ -1,5 +1,4 @@
-use Rattle.std.proofs.Common.{◌∙◌, ap, sym}
-use Rattle.qs_tree.specs.internal.escape.Search.{class_mask, is_escaped}
+use Rattle.qs_tree.proofs.Common.{◌∙◌, ap, sym, class_mask, is_escaped}
 use Rattle.qs_tree.proofs.escape.search.encoded.EscapedClass.mask.Goals as goal
 
 pub returns-then-self : goal.returns-then-self

@@ -1,6 +1,4 @@
-use Rattle.std.proofs.Common.{arith, ◌==◌, w8}
-use Rattle.std.proofs.lemmas.Simd.{bitmask_splat, length-chunk}
-use lib.Lanes.{chunk}
+use Rattle.qs_tree.proofs.Common.{arith, ◌==◌, w8, bitmask_splat, length-chunk, chunk}
 use Rattle.qs_tree.proofs.escape.search.marks.ByteClass.mask.Goals as goal
 
 pub returns : goal.returns

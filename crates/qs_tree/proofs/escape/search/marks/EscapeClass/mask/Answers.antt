@@ -1,7 +1,4 @@
-use Rattle.std.proofs.Common.{refl, arith}
-use Rattle.std.proofs.lemmas.Simd.{length-chunk}
-use lib.Lanes.{chunk}
-use Rattle.qs_tree.specs.escape.Classes.{is_escape}
+use Rattle.qs_tree.proofs.Common.{refl, arith, length-chunk, chunk, is_escape}
 use Rattle.qs_tree.proofs.lemmas.escape.LaneLemmas.{mask_is, joined, splatted}
 use Rattle.qs_tree.proofs.escape.search.marks.EscapeClass.mask.Goals as goal
 

@@ -6,6 +6,7 @@ use qs_data::{Data, Entries, Error, Found, Reader, Result, Shape};
 use qs_tree::{Config, ParsedValue, parse};
 use serde_qs::Deserialize;
 use std::alloc::Global;
+use std::collections::BTreeMap;
 
 const INPUT: &[u8] = b"age=24&ids[]=7&ids[]=8&name=Alice&occupation=Student";
 
@@ -50,6 +51,24 @@ fn second_id(reader: Reader, tree: &ParsedValue<'_>) -> Result<Option<Data>> {
         Some(item) if items.len() == 2 => Ok(Some(reader.read(&Shape::U8, item)?)),
         _ => Ok(None),
     }
+}
+
+#[test]
+fn by_its_entries(rt: HostRuntime) {
+    let alloc = rt.alloc();
+    let tree = parse(alloc, b"b=2&a=1", Config::new()).expect(&rt, "a tree");
+    let reader = Reader::new(alloc, Config::new());
+    let entries = reader.entries(&tree).expect(&rt, "a map");
+    assert_eq!(rt; entries.len(), 2);
+    let first = entries.get(reader, 0).expect(&rt, "a string");
+    let (key, node) = first.expect(&rt, "an entry");
+    assert_eq!(rt; key.as_str(), "a");
+    assert!(rt; matches!(u8::from_node(reader, node), Ok(1)));
+    assert!(rt; matches!(entries.get(reader, 2), Ok(None)));
+    let map: BTreeMap<String, u8> = BTreeMap::from_node(reader, &tree).expect(&rt, "a map");
+    assert_eq!(rt; map.len(), 2);
+    let list = ParsedValue::Sequence(Vec::new(alloc));
+    assert!(rt; is_custom(&reader.entries(&list), "invalid type: sequence, expected a map"));
 }
 
 #[test]

@@ -1,4 +1,5 @@
 pub mod Levels
+pub mod NodeEntries
 pub mod NodeFields
 pub mod NodeItems
 pub mod NodeValues

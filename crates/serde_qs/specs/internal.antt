@@ -5,6 +5,7 @@ pub mod Compound
 pub mod Defaulted
 pub mod DelimitedComesBack
 pub mod MapsComeBack
+pub mod NodeEntries
 pub mod NodeParts
 pub mod NumberLists
 pub mod Optional

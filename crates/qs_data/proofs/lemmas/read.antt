@@ -10,6 +10,7 @@ pub mod Fields
 pub mod Variants
 pub mod Items
 pub mod Pairs
+pub mod FirstEntry
 pub mod Tuples
 pub mod Sizes
 pub mod Nesting

@@ -7,6 +7,7 @@ ghost use Rattle.qs_spec.specs.Scalar.{key_data, name_data};
 ghost use Rattle.qs_tree.specs.tree.Views.{segment_of_key};
 ghost use Rattle.qs_data.specs.data.Views.{data_of};
 ghost use Rattle.qs_data.specs.shape.Views.{key_shape_of};
+ghost use Rattle.qs_data.specs.read.internal.GivenText.{utf8_text};
 ghost use Rattle.qs_data.specs.read.internal.ReadError.{ReadGives};
 
 use crate::data::Data;
@@ -33,6 +34,25 @@ pub(crate) fn read_key(alloc: Global, shape: &KeyShape, key: &Key<'_>) -> Result
             let bytes = text.as_slice();
             match key_data(alloc, shape, bytes) {
                 Ok(data) => Ok(data),
+                Err(error) => Err(key_error(alloc, bytes, error)),
+            }
+        }
+    }
+}
+
+/// Returns the text of a key; that of a number is its digits. The error of a key that holds a bracket has a hint.
+pub(crate) fn key_text(alloc: Global, key: &Key<'_>) -> Result<String>
+    ensures { ReadGives string_bytes (is_utf8 (segment_text (segment_of_key key.now))) result (utf8_text (segment_text (segment_of_key key.now))) }
+{
+    match key {
+        Key::Int(number) => {
+            let mut buffer = Buffer::new();
+            Ok(String::from_str(alloc, buffer.format(*number))?)
+        }
+        Key::String(text) => {
+            let bytes = text.as_slice();
+            match as_text(bytes) {
+                Ok(text) => Ok(String::from_str(alloc, text)?),
                 Err(error) => Err(key_error(alloc, bytes, error)),
             }
         }

@@ -1,18 +1,23 @@
 //! The keys of a map.
 
-ghost use Rattle.std.specs.Prelude.{◌++◌, Err};
+ghost use Rattle.std.specs.Prelude.{◌≡◌, ◌++◌, Err, length, option_map, string_bytes};
 ghost use Rattle.std.specs.Str.{is_utf8};
 ghost use Rattle.qs_spec.specs.Segment.{segment_text};
 ghost use Rattle.qs_spec.specs.Node.{found, keys_are_text};
-ghost use Rattle.qs_tree.specs.tree.Views.{entries_of_map, segment_of_key};
+ghost use Rattle.qs_tree.specs.tree.Views.{entries_of_map, entry_list, segment_of_key, tree_of};
 ghost use Rattle.qs_data.specs.declared.read.error.ReadError.TheVariants.{Utf8};
 ghost use Rattle.qs_data.specs.read.internal.Hint.{IsKeyError};
 ghost use Rattle.qs_data.specs.read.Errors.{OnlyCustomUtf8OrOutOfMemory};
+ghost use Rattle.qs_data.specs.read.Entries.{entries_after, first_entry};
 ghost use Rattle.qs_data.specs.read.Found.{Finds};
+ghost use Rattle.qs_data.specs.read.Gives.{Gives};
+ghost use Rattle.qs_data.specs.read.internal.ReadError.{ReadGives};
 ghost use Rattle.qs_data.specs.read.Keys.{NumbersFit, KeyFits, PassesTest, entries_view};
 ghost use Rattle.qs_data.specs.read.internal.Keys.{ParsesNumber, value_in};
 
+use crate::read::by_shape::Reader;
 use crate::read::error::{ReadError, Result};
+use crate::read::key::key_text;
 use crate::read::message::key_error;
 use itoa::Buffer;
 use qs_tree::{Error, Key, ParsedMap, ParsedValue};
@@ -20,7 +25,7 @@ use std::alloc::Global;
 use std::str;
 use std::str::Utf8Error;
 
-/// Keys with their values, of which the fields of a struct are read.
+/// Keys with their values, of which the fields of a struct and the pairs of a map are read.
 #[derive(Clone, Copy)]
 pub enum Entries<'t, 'qs> {
     /// None.
@@ -58,6 +63,67 @@ impl<'t, 'qs> Entries<'t, 'qs> {
     {
         test_keys(self)
     }
+
+    /// Returns how many entries there are.
+    pub fn len(self) -> usize
+        ensures { result ≡ length (entry_list (entries_view self.entry)) }
+    {
+        match self {
+            Entries::Empty => 0,
+            Entries::Map(map) => map.len(),
+            Entries::Leaf(_) => 1,
+        }
+    }
+
+    /// Returns the entry at an index, in the order of the keys, if there are so many: its key as a string, an integer by its digits, and its
+    /// value. It allocates the string.
+    ///
+    /// Where the key isn't UTF-8, the error is [`Utf8`](qs_tree::Error::Utf8), or [`Custom`](qs_tree::Error::Custom) with a hint if it holds a
+    /// bracket.
+    ///
+    /// ```
+    /// let Some((key, node)) = entries.get(reader, 0)? else {
+    ///     return Ok(values);
+    /// };
+    /// values.insert(key, T::from_node(reader, node)?)?;
+    /// ```
+    #[inline(always)]
+    pub fn get(
+        self,
+        reader: Reader,
+        place: usize,
+    ) -> std::result::Result<Option<(String, &'t ParsedValue<'qs>)>, Error>
+        ensures { Gives (option_map (λ e. (string_bytes e.0, tree_of e.1.now))) (keys_are_text (entries_view self.entry)) result
+            (first_entry (entries_after place (entries_view self.entry))) }
+    {
+        match self {
+            Entries::Empty => Ok(None),
+            Entries::Map(map) => Ok(entry_at(reader.alloc, map, place)?),
+            Entries::Leaf(leaf) => {
+                if place == 0 {
+                    Ok(Some((String::new(reader.alloc), leaf)))
+                } else {
+                    Ok(None)
+                }
+            }
+        }
+    }
+}
+
+// The entry at an index of a map, its key as a string.
+fn entry_at<'t, 'qs>(
+    alloc: Global,
+    map: &'t ParsedMap<'qs>,
+    place: usize,
+) -> Result<Option<(String, &'t ParsedValue<'qs>)>>
+    ensures { ReadGives (option_map (λ e. (string_bytes e.0, tree_of e.1.now))) (keys_are_text (entries_of_map map.now)) result
+        (first_entry (entries_after place (entries_of_map map.now))) }
+{
+    let Some((key, value)) = map.at(place) else {
+        return Ok(None);
+    };
+    let text = key_text(alloc, key)?;
+    Ok(Some((text, value)))
 }
 
 /// The value under a name.

@@ -8,7 +8,9 @@ ghost use Rattle.qs_tree.specs.tree.Views.{tree_of};
 ghost use Rattle.qs_data.specs.data.Views.{data_of};
 ghost use Rattle.qs_data.specs.shape.Views.{shape_of};
 ghost use Rattle.qs_data.specs.shape.Widths.{bits_of};
-ghost use Rattle.qs_data.specs.read.TreeText.{is_text};
+ghost use Rattle.qs_data.specs.read.TreeText.{entries_are_text, is_text};
+ghost use Rattle.qs_data.specs.read.Entries.{node_entries};
+ghost use Rattle.qs_data.specs.read.Keys.{entries_view};
 ghost use Rattle.qs_data.specs.read.Reads.{reads};
 ghost use Rattle.qs_data.specs.read.Gives.{Gives, Rejects};
 ghost use Rattle.qs_data.specs.read.Errors.{IsCustomOrOutOfMemory};
@@ -19,6 +21,7 @@ use crate::data::Data;
 use crate::read::by_shape::{Reader, read};
 use crate::read::error::ReadError;
 use crate::read::items::{Items, items_of};
+use crate::read::keys::Entries;
 use crate::read::message::{Expected, Message};
 use crate::read::scalar::{as_text, read_signed, read_text, read_unsigned};
 use crate::shape::{Shape, Width};
@@ -77,6 +80,27 @@ impl Reader {
         ensures text { IfOk result (λ xs. are_text (items_view xs) ≡ false → is_text (tree_of node.now) ≡ false) }
     {
         Ok(items_of(self.alloc, node, Expected::Sequence)?)
+    }
+
+    /// Returns the entries of a node, if it has a map of them: those of a map, none where there is no value or an empty one, and a text under
+    /// the empty key. It doesn't allocate.
+    ///
+    /// ```
+    /// let entries = reader.entries(node)?;
+    /// ```
+    pub fn entries<'t, 'qs>(self, node: &'t ParsedValue<'qs>) -> Result<Entries<'t, 'qs>>
+        ensures exact { Gives entries_view true result (node_entries (tree_of node.now)) }
+        ensures text { IfOk result (λ es. entries_are_text (entries_view es) ≡ false → is_text (tree_of node.now) ≡ false) }
+    {
+        match node {
+            ParsedValue::NoValue | ParsedValue::Null => Ok(Entries::Empty),
+            ParsedValue::String(_) => Ok(Entries::Leaf(node)),
+            ParsedValue::Map(map) => Ok(Entries::Map(map)),
+            ParsedValue::Sequence(_) | ParsedValue::Uninitialized => {
+                let error = Message::mismatch(self.alloc, node, Expected::Map);
+                Err(Error::from(error))
+            }
+        }
     }
 
     /// Returns the error of a node that holds nothing at all.

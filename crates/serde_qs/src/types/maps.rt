@@ -1,11 +1,16 @@
 //! Maps whose keys are strings.
 
-ghost use Rattle.std.specs.Prelude.{◌≡◌, List, ℕ, Option, map};
+ghost use Rattle.std.specs.Prelude.{◌≡◌, List, ℕ, Option, map, option_and_then};
 ghost use Rattle.qs_spec.specs.Data as d;
 ghost use Rattle.qs_spec.specs.Shape as s;
+ghost use Rattle.qs_spec.specs.internal.ReadFunction.{reads};
 ghost use Rattle.qs_data.specs.data.Views.{data_of, pairs_in};
+ghost use Rattle.qs_data.specs.read.Gives.{Gives};
+ghost use Rattle.qs_data.specs.read.Keys.{entries_view};
+ghost use Rattle.qs_data.specs.read.TreeText.{entries_are_text};
 ghost use Rattle.qs_data.specs.write.Parts.{WritesPart, pairs_part};
 ghost use Rattle.serde_qs.specs.internal.MapsComeBack.{mapping_back};
+ghost use Rattle.serde_qs.specs.internal.NodeEntries.{entries_onto};
 ghost use Rattle.serde_qs.specs.Typed.{Means};
 ghost use Rattle.serde_qs.specs.Maps.{entry_data, values_by_text, pair_onto, pairs_onto, mapping_in, nowhere};
 ghost use Rattle.serde_qs.specs.internal.OwnTables.{mapping_own};
@@ -13,7 +18,8 @@ ghost use Rattle.serde_qs.specs.Tables.{mapping_table};
 
 use crate::parts::write_under;
 use crate::traits::{Deserialize, RoundTrip, Serialize, unexpected};
-use qs_data::{Data, KeyShape, Result, Scalar, Shape, WriteResult, Writer};
+use qs_data::{Data, Entries, KeyShape, Reader, Result, Scalar, Shape, WriteResult, Writer};
+use qs_tree::ParsedValue;
 use std::alloc::Global;
 use std::collections::BTreeMap;
 
@@ -68,6 +74,11 @@ impl<T: Deserialize + Drop> Deserialize for BTreeMap<String, T> {
             _ => Err(unexpected(alloc, "a map")),
         }
     }
+
+    fn from_node(reader: Reader, node: &ParsedValue<'_>) -> Result<BTreeMap<String, T>> {
+        let entries = reader.entries(node)?;
+        entries_of(reader, entries)
+    }
 }
 
 impl<T: RoundTrip + Drop> RoundTrip for BTreeMap<String, T> {
@@ -117,4 +128,24 @@ fn with_pair<T: Deserialize + Drop>(
         }
         _ => Err(unexpected(alloc, "a string")),
     }
+}
+
+// Returns the map of these entries, each value read from its node. Of two with a key the later counts.
+#[tactic(auto, using(crate::proofs::PairsPut::empty))]
+fn entries_of<T: Deserialize + Drop>(
+    reader: Reader,
+    entries: Entries<'_, '_>,
+) -> Result<BTreeMap<String, T>>
+    ensures { Gives (λ m. values_by_text T.value m) (entries_are_text (entries_view entries.entry)) result
+        (entries_onto (λ node. option_and_then T.meaning (reads reader.reject_duplicates T.form node)) nowhere (entries_view entries.entry)) }
+{
+    let mut values = BTreeMap::new(reader.alloc);
+    for i in 0..entries.len() {
+        let Some((key, node)) = entries.get(reader, i)? else {
+            break;
+        };
+        let value = T::from_node(reader, node)?;
+        values.insert(key, value)?;
+    }
+    Ok(values)
 }

@@ -1,0 +1,29 @@
+use Rattle.std.proofs.Common.{sym, option_map, string_bytes}
+use Rattle.std.specs.Str.{is_utf8}
+use Rattle.qs_spec.specs.Segment.{Step, segment_text}
+use Rattle.qs_spec.specs.Tree.{Tree}
+use Rattle.qs_spec.specs.Node.{keys_are_text}
+use Rattle.qs_tree.specs.tree.Views.{entries_of_map, step_of_key, tree_of}
+use Rattle.qs_data.specs.read.Entries.{entries_after, first_entry}
+use Rattle.qs_data.specs.read.internal.GivenText.{utf8_text}
+use Rattle.qs_data.proofs.lemmas.read.FirstEntry.{first_given, first_none, first_rejected, key_bad}
+use Rattle.qs_data.proofs.lemmas.read.ReadErrors.{gives_exit}
+use Rattle.qs_data.proofs.read.keys.entry_at.Goals as goal
+
+pub returns-in_default : goal.returns-in_default
+returns-in_default c = first_none c.args.place (entries_of_map c.args.map.now) (sym c.in_default.ensures)
+
+pub returns-in_err-text : goal.returns-in_err-text
+returns-in_err-text c =
+    let es = entries_of_map c.args.map.now in
+    let i = c.args.place in
+    let x : Step × Tree = (step_of_key c.in-Some.key.now, tree_of c.in-Some.value.now) in
+    let here = sym c.in-Some.ensures in
+    gives_exit (option_map (λ e. (string_bytes e.0, tree_of e.1.now))) (is_utf8 (segment_text x.0.seg)) (keys_are_text es) c.from_residual.result c.in_err-text.field-0.0
+    (utf8_text (segment_text x.0.seg)) (first_entry (entries_after i es)) c.from_residual.ensures.1 c.in_err-text.ensures (first_rejected i es x here) (key_bad i es x here)
+
+pub returns : goal.returns
+returns c =
+    let es = entries_of_map c.args.map.now in
+    let x : Step × Tree = (step_of_key c.in-Some.key.now, tree_of c.in-Some.value.now) in
+    first_given c.args.place es x (sym c.in-Some.ensures) (string_bytes c.in_ok-text.text) c.in_ok-text.ensures

@@ -68,7 +68,12 @@ fn by_its_entries(rt: HostRuntime) {
     let map: BTreeMap<String, u8> = BTreeMap::from_node(reader, &tree).expect(&rt, "a map");
     assert_eq!(rt; map.len(), 2);
     let list = ParsedValue::Sequence(Vec::new(alloc));
-    assert!(rt; is_custom(&reader.entries(&list), "invalid type: sequence, expected a map"));
+    assert!(rt;
+        is_custom(
+            &reader.entries(&list),
+            "invalid type: sequence, expected a map"
+        )
+    );
 }
 
 #[test]

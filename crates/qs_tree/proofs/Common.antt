@@ -82,7 +82,7 @@ pub use Rattle.std.specs.declared.collections.BTreeMap.{BTreeMap}
 pub use lib.Lanes.{Each1, chunk, mask_l, put_chunk, sel_l, top, zip2}
 pub use mir.Val.{Val, vnil, vptr, vstruct}
 pub use types.ByLocal.{alloc_all, free_all, look_at, pass_all, sets}
-pub use types.Kit.{!, done, move, qed, raw, suffices, ‵, ◌$◌, ◌∵◌}
+pub use types.Kit.{ !, done, move, qed, raw, suffices, ‵, ◌$◌, ◌∵◌}
 pub use types.Logic.{Logic}
 pub use types.Part.{agg}
 pub use types.Run.{enter, no_more, returns}

@@ -17,7 +17,6 @@ use super::written::{
     newtype_struct, newtype_variant, struct_of, struct_variant, tuple_struct, tuple_variant,
     unit_variant,
 };
-use crate::parts::write_made;
 use crate::traits::RoundTrip;
 use qs_data::{Data, Error, Result, Scalar, WriteResult, Writer};
 use std::alloc::Global;
@@ -104,7 +103,7 @@ impl Exit {
         match self {
             Exit::Data(alloc) => tuple_struct(*alloc, items),
             Exit::Writer(writer, result) => {
-                *result = write_made(writer, tuple_struct(writer.alloc, items));
+                *result = own::write_tuple(writer, items);
                 Err(Error::OutOfMemory)
             }
             Exit::Nothing => {
@@ -203,7 +202,7 @@ impl Exit {
         match self {
             Exit::Data(alloc) => tuple_variant(*alloc, name, items),
             Exit::Writer(writer, result) => {
-                *result = write_made(writer, tuple_variant(writer.alloc, name, items));
+                *result = own::write_tuple_variant(writer, name, items);
                 Err(Error::OutOfMemory)
             }
             Exit::Nothing => {

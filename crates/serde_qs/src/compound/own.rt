@@ -1,7 +1,8 @@
 //! What a type's functions return, in the words of its table.
 
 ghost use Rattle.std.specs.Prelude.{◌≡◌, true, IfOk, option_and_then};
-ghost use Rattle.qs_spec.specs.Data.{members_of};
+ghost use Rattle.qs_spec.specs.Data.{members_of, values_of};
+ghost use Rattle.qs_spec.specs.Data as d;
 ghost use Rattle.qs_tree.specs.Error.{OnlyOutOfMemory};
 ghost use Rattle.qs_data.specs.data.Views.{data_of};
 ghost use Rattle.qs_data.specs.shape.Views.{shape_of};
@@ -13,7 +14,8 @@ ghost use Rattle.serde_qs.specs.Records.{texts};
 ghost use Rattle.serde_qs.specs.Typed.{Means};
 
 use super::defaulted::OrDefault;
-use super::references::FieldReferences;
+use super::references::{FieldReferences, ListedReferences};
+use super::written::{tuple_struct, tuple_variant};
 use crate::parts;
 use crate::traits::{Deserialize, RoundTrip, Serialize};
 use qs_data::{Data, Reader, Result, Scalar, Shape, WriteResult, Writer};
@@ -91,6 +93,24 @@ pub(crate) fn write_variant<R: FieldReferences + Drop>(
     fields.write_members(names, writer)?;
     writer.leave(len);
     Ok(())
+}
+
+// Writes the tuple of these items where the writer is.
+pub(crate) fn write_tuple<R: ListedReferences + Drop>(writer: &mut Writer, items: R) -> WriteResult
+    ensures { WritesPart result writer.old writer.new (data_part (d.tuple (values_of (R.own_data items)))) }
+{
+    parts::write_made(writer, tuple_struct(writer.alloc, items))
+}
+
+// Writes the variant of this name with these items where the writer is.
+pub(crate) fn write_tuple_variant<R: ListedReferences + Drop>(
+    writer: &mut Writer,
+    name: &str,
+    items: R,
+) -> WriteResult
+    ensures { WritesPart result writer.old writer.new (data_part (d.tuple_variant name.now (values_of (R.own_data items)))) }
+{
+    parts::write_made(writer, tuple_variant(writer.alloc, name, items))
 }
 
 // Shows that the data of a value fit its shape. It does nothing when it runs.

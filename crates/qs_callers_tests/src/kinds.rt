@@ -1,7 +1,7 @@
 //! An enum with every kind of variant, and names as other programs write them.
 
-ghost use Rattle.qs_tests.specs.declared.callers.kinds.Message.TheVariants.{Unit as Empty, Newtype as One, Tuple as Two, Struct as Named};
-ghost use Rattle.qs_tests.specs.declared.callers.kinds.TheConstants.{MESSAGE_NAMES, LOUD_NAMES, PERSON_NAMES};
+ghost use Rattle.qs_callers_tests.specs.declared.kinds.Message.TheVariants.{Unit as Empty, Newtype as One, Tuple as Two, Struct as Named};
+ghost use Rattle.qs_callers_tests.specs.declared.kinds.TheConstants.{MESSAGE_NAMES, LOUD_NAMES, PERSON_NAMES};
 ghost use Rattle.serde_qs.specs.declared.compound.variants.OneOf.TheVariants.{First, Later};
 ghost use Rattle.serde_qs.specs.PartTables.{made_of};
 

@@ -32,10 +32,10 @@ pub use Rattle.qs_tree.specs.declared.tree.value.ParsedValue.TheViews.{roll-Pars
 pub use Rattle.qs_tree.specs.escape.Classes.{is_ampersand, is_encoded, is_escape}
 pub use Rattle.qs_tree.specs.internal.Parsing.{Returns, grown}
 pub use Rattle.qs_tree.specs.internal.build.Adding.{Adds, Gives, IsRejected, entries_below, second}
-pub use Rattle.qs_tree.specs.internal.build.Builder.{IsFlat, IsNoMap, Takes, as_builders, built_entries, built_tree, child, entries_held, entries_seen, fresh}
+pub use Rattle.qs_tree.specs.internal.build.Builder.{IsFlat, IsNoMap, Takes, as_builders, built_entries, built_tree, child, entries_held, entries_seen, fresh, unsorted_entries}
 pub use Rattle.qs_tree.specs.internal.build.Descent.{IsBarred, IsOpen, Leads, put_all_back, put_back}
 pub use Rattle.qs_tree.specs.internal.build.Finishing.{IsOpened, built_pairs, entries_map_count, left_pairs, level_pairs, maps_left, with_node}
-pub use Rattle.qs_tree.specs.internal.build.Unsorted.{AreLeaves, IsLeaf, entries_of_leaves, leaf_pairs, unsorted_entries}
+pub use Rattle.qs_tree.specs.internal.build.Unsorted.{AreLeaves, entries_of_leaves, is_leaf, leaf_held, leaf_pairs}
 pub use Rattle.qs_tree.specs.internal.escape.Copying.{swapped}
 pub use Rattle.qs_tree.specs.internal.escape.Search.{NoneBetween, class_mask, first_set, is_escaped}
 pub use Rattle.qs_tree.specs.internal.scan.Cursor.{IsLeft, IsLetter, IsPast, KnowsEnd, ended_after, ends_of, from_token, in_all, kind_of_token, left, looks, raw_from_token, spent, taken, to_come, token_of}

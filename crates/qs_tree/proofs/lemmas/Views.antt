@@ -1,5 +1,5 @@
 -- A value of the code, level by level, beside the tree that it is.
-use Rattle.qs_tree.proofs.Common.{◌≡◌, List, [], ◌∷◌, ◌++◌, Vec, Global, ℕ, true, false, None, refl, ap, ◌∙◌, rules, CowSlice, Borrowed, Owned, Leaf, Tree, leaf, sequence, mapping, uninitialized, add_flat, add_here, push_item, ParsedValue, Map, Sequence, Null, NoValue, Uninitialized, the_lemmas, ParsedMap, MapBuilder, built_tree, built_entries, fresh, second, entries_below, IsLeaf, unsorted_entries, tree_of, entries_of_map, items_of}
+use Rattle.qs_tree.proofs.Common.{◌≡◌, List, [], ◌∷◌, ◌++◌, Vec, Global, ℕ, true, false, None, refl, ap, ◌∙◌, rules, CowSlice, Borrowed, Owned, Leaf, Tree, leaf, sequence, mapping, uninitialized, add_flat, add_here, push_item, ParsedValue, Map, Sequence, Null, NoValue, Uninitialized, the_lemmas, ParsedMap, MapBuilder, built_tree, built_entries, fresh, second, entries_below, IsTrue, is_leaf, unsorted_entries, tree_of, entries_of_map, items_of}
 use Rattle.qs_spec.specs.Leaf.Leaf.{Text, Null as leaf_null, NoValue as leaf_none}
 use Rattle.qs_spec.specs.Tree.Items.{item}
 use Rattle.qs_tree.specs.declared.tree.value.ParsedValue.{String}
@@ -42,15 +42,15 @@ below-String (Borrowed r) = let is : tree_of (String (Borrowed r)) ≡ leaf (Tex
 below-String (Owned v) = let is : tree_of (String (Owned v)) ≡ leaf (Text v.items true) = search (rules, the_lemmas) in rw is
 
 -- a string is a leaf
-pub leaf-String : (s : CowSlice ℕ Global) → IsLeaf (tree_of (String s))
-leaf-String (Borrowed r) = let is : tree_of (String (Borrowed r)) ≡ leaf (Text r.now false) = search (rules, the_lemmas) in rw is (Text r.now false, refl)
-leaf-String (Owned v) = let is : tree_of (String (Owned v)) ≡ leaf (Text v.items true) = search (rules, the_lemmas) in rw is (Text v.items true, refl)
+pub leaf-String : (s : CowSlice ℕ Global) → IsTrue (is_leaf (tree_of (String s)))
+leaf-String (Borrowed r) = let is : tree_of (String (Borrowed r)) ≡ leaf (Text r.now false) = search (rules, the_lemmas) in rw is
+leaf-String (Owned v) = let is : tree_of (String (Owned v)) ≡ leaf (Text v.items true) = search (rules, the_lemmas) in rw is
 
-pub leaf-Null : IsLeaf (tree_of Null)
-leaf-Null = let is : tree_of Null ≡ leaf leaf_null = search (rules, the_lemmas) in rw is (leaf_null, refl)
+pub leaf-Null : IsTrue (is_leaf (tree_of Null))
+leaf-Null = let is : tree_of Null ≡ leaf leaf_null = search (rules, the_lemmas) in rw is
 
-pub leaf-NoValue : IsLeaf (tree_of NoValue)
-leaf-NoValue = let is : tree_of NoValue ≡ leaf leaf_none = search (rules, the_lemmas) in rw is (leaf_none, refl)
+pub leaf-NoValue : IsTrue (is_leaf (tree_of NoValue))
+leaf-NoValue = let is : tree_of NoValue ≡ leaf leaf_none = search (rules, the_lemmas) in rw is
 
 pub below-Null : entries_below (tree_of Null) ≡ None
 below-Null = let is : tree_of Null ≡ leaf leaf_null = search (rules, the_lemmas) in rw is

@@ -5,7 +5,7 @@ ghost use Rattle.qs_spec.specs.Tree.Tree.{mapping};
 ghost use Rattle.qs_spec.specs.internal.InPlace as in_place;
 ghost use Rattle.qs_spec.specs.internal.InPlace.{add, add_flat, update};
 ghost use Rattle.qs_tree.specs.declared.scan.pair.Manner.TheVariants.{Plain};
-ghost use Rattle.qs_tree.specs.internal.build.Builder.{built_tree, built_entries, entries_seen, fresh, IsFlat};
+ghost use Rattle.qs_tree.specs.internal.build.Builder.{built_tree, built_entries, entries_seen, fresh, unsorted_entries, IsFlat};
 ghost use Rattle.std.specs.List.Sorted.{IsStrictlySortedBy};
 ghost use Rattle.std.specs.Map.{keys_of};
 ghost use Rattle.qs_tree.specs.tree.Keys.{key_cmp};
@@ -13,7 +13,6 @@ ghost use Rattle.qs_tree.specs.internal.tree.Places.{IsPlaced};
 ghost use Rattle.qs_tree.specs.tree.Views.{step_of_key, tree_of};
 ghost use Rattle.qs_tree.specs.internal.scan.Pairs.{IsBare, leaf_of, is_push, pair_of, path_of};
 ghost use Rattle.qs_tree.specs.internal.build.Adding.{Adds, Gives};
-ghost use Rattle.qs_tree.specs.internal.build.Unsorted.{unsorted_entries};
 
 use crate::build::add_to_value::{add_at_end, add_plain, add_to_value};
 use crate::build::builder::{MapBuilder, TreeBuilder, goes_between, into_tree, place_among};
@@ -115,7 +114,7 @@ fn add_out_of_order<'qs>(
         Gives (λ _. built_tree node.new) (add path push (leaf_of pair.old.leaf) (built_tree node.old)) result }
 {
     if pair.is_leaf_below(level) {
-        *node = mem::replace(node, TreeBuilder::fresh()).unsorted(alloc)?;
+        *node = mem::replace(node, TreeBuilder::fresh()).unsorted();
         if let TreeBuilder::Unsorted(leaves) = node {
             return add_unsorted(leaves, pair, level);
         }

@@ -80,12 +80,12 @@ impl<'qs> TreeBuilder<'qs> {
 
     /// A finished map of leaves alone as one to which leaves are added in any order. Other nodes stay the same.
     #[tactic(auto, using(crate::proofs::lemmas::Views::views))]
-    pub fn unsorted(self, alloc: Global) -> Result<Self, AllocError>
-        ensures { IfOk result (λ node. built_tree node ≡ built_tree self.entry) }
+    pub fn unsorted(self) -> Self
+        ensures { built_tree result ≡ built_tree self.entry }
     {
         match self {
-            TreeBuilder::Value(ParsedValue::Map(map)) => unsorted_map(alloc, map),
-            node => Ok(node),
+            TreeBuilder::Value(ParsedValue::Map(map)) => unsorted_map(map),
+            node => node,
         }
     }
 }
@@ -198,13 +198,13 @@ pub(crate) fn key_list<'qs, V>(
 
 // A finished map as a node, unsorted where it has leaves alone.
 #[tactic(auto, using(crate::proofs::lemmas::Views::views))]
-fn unsorted_map<'qs>(alloc: Global, map: ParsedMap<'qs>) -> Result<TreeBuilder<'qs>, AllocError>
-    ensures { IfOk result (λ node. built_tree node ≡ mapping (entries_of_map map.entry)) }
+fn unsorted_map<'qs>(map: ParsedMap<'qs>) -> TreeBuilder<'qs>
+    ensures { built_tree result ≡ mapping (entries_of_map map.entry) }
 {
     if are_leaves(map.map.as_slice()) {
-        Ok(TreeBuilder::Unsorted(Unsorted::of(alloc, map)?))
+        TreeBuilder::Unsorted(Unsorted::of(map))
     } else {
-        Ok(TreeBuilder::Value(ParsedValue::Map(map)))
+        TreeBuilder::Value(ParsedValue::Map(map))
     }
 }
 

@@ -5,8 +5,7 @@ ghost use Rattle.std.specs.Prelude.{◌≡◌, Some, false, IfOk, IsTrue, OnOk};
 ghost use Rattle.qs_spec.specs.internal.InPlace.{add_flat, add_here, update};
 ghost use Rattle.qs_tree.specs.tree.Views.{step_of_key, entries_of_map};
 ghost use Rattle.qs_tree.specs.internal.scan.Pairs.{leaf_of};
-ghost use Rattle.qs_tree.specs.internal.build.Builder.{entries_held};
-ghost use Rattle.qs_tree.specs.internal.build.Unsorted.{unsorted_entries, AreLeaves};
+ghost use Rattle.qs_tree.specs.internal.build.Unsorted.{AreLeaves, entries_of_leaves};
 
 use crate::build::add_to_value::add_leaf_at;
 use crate::scan::pair::Leaf;
@@ -19,26 +18,21 @@ use std::alloc::{AllocError, Global};
 /// A map of leaves alone, in the order in which they came. Those of one key make a sequence.
 #[derive(Drop)]
 pub(crate) struct Unsorted<'qs> {
-    leaves: Vec<(Key<'qs>, Leaf<'qs>)>,
+    leaves: Vec<(Key<'qs>, ParsedValue<'qs>)>,
+    ghost are_leaves: { AreLeaves leaves.items },
 }
 
 impl<'qs> Unsorted<'qs> {
-    /// A finished map of leaves alone.
-    pub fn of(alloc: Global, map: ParsedMap<'qs>) -> Result<Self, AllocError>
-        requires { AreLeaves (entries_of_map map) }
-        ensures { IfOk result (λ unsorted. unsorted_entries unsorted ≡ entries_of_map map.entry) }
+    ghost use Rattle.qs_tree.specs.internal.build.Builder.{entries_held, unsorted_entries};
+
+    /// A finished map of leaves alone. Doesn't allocate.
+    pub fn of(map: ParsedMap<'qs>) -> Self
+        requires { AreLeaves map.map }
+        ensures { unsorted_entries result ≡ entries_of_map map.entry }
     {
-        let entries = map.into_entries();
-        let mut unsorted = Unsorted {
-            leaves: Vec::with_capacity(alloc, entries.len())?,
-        };
-        for entry in entries.into_items() {
-            let Some(leaf) = Leaf::of(entry.1) else {
-                continue;
-            };
-            unsorted.push(entry.0, leaf)?;
+        Unsorted {
+            leaves: map.into_entries().into_items(),
         }
-        Ok(unsorted)
     }
 
     /// Adds a leaf at a key.
@@ -46,10 +40,10 @@ impl<'qs> Unsorted<'qs> {
         ensures flat { OnOk result (update (step_of_key key.entry) (add_flat false (leaf_of leaf.entry)) (unsorted_entries self.old) ≡ Some (unsorted_entries self.new)) }
         ensures here { OnOk result (update (step_of_key key.entry) (add_here false (leaf_of leaf.entry)) (unsorted_entries self.old) ≡ Some (unsorted_entries self.new)) }
     {
-        Ok(self.leaves.push((key, leaf))?)
+        Ok(self.leaves.push((key, leaf.into_value()))?)
     }
 
-    /// The finished entries. Sorts the leaves.
+    /// The finished entries. Sorts the leaves in their vector, and allocates another one only where a key has several.
     #[inline(never)]
     pub fn into_entries(
         self,
@@ -59,10 +53,24 @@ impl<'qs> Unsorted<'qs> {
     {
         let mut leaves = self.leaves;
         leaves.sort_by(|left, right| left.0.compare(&right.0))?;
+        match Entries::of_sorted(leaves) {
+            Ok(entries) => Ok(entries),
+            Err(leaves) => Self::merge(alloc, leaves),
+        }
+    }
+
+    // The entries of sorted leaves, of which those of one key make a sequence.
+    #[inline(never)]
+    fn merge(
+        alloc: Global,
+        leaves: Vec<(Key<'qs>, ParsedValue<'qs>)>,
+    ) -> Result<Entries<Key<'qs>, ParsedValue<'qs>>, AllocError>
+        ensures { IfOk result (λ entries. entries_held entries ≡ entries_of_leaves leaves.entry.items) }
+    {
         let mut entries = Entries::with_capacity(alloc, leaves.len())?;
         for entry in leaves {
             // Leaves are in no conflict with one another.
-            let Ok(()) = add_leaf_at(alloc, &mut entries, entry.0, entry.1, 0) else {
+            let Ok(()) = add_leaf_at(alloc, &mut entries, entry.0, Leaf::of(entry.1), 0) else {
                 return Err(AllocError);
             };
         }
@@ -72,7 +80,7 @@ impl<'qs> Unsorted<'qs> {
 
 /// Whether all values are leaves.
 pub(crate) fn are_leaves<'qs>(entries: &[(Key<'qs>, ParsedValue<'qs>)]) -> bool
-    ensures { IsTrue result → AreLeaves (entries_held entries.now) }
+    ensures { IsTrue result → AreLeaves entries.now }
 {
     for entry in entries {
         if !entry.1.is_leaf() {

@@ -2,7 +2,8 @@
 ghost use Rattle.std.specs.Prelude.{◌≡◌, ◌+◌, ◌<◌, ◌∷◌, ◌++◌, [], length, drop, not, false, option_map, IsTrue};
 ghost use Rattle.qs_spec.specs.Tree.Tree.{leaf};
 ghost use Rattle.qs_tree.specs.tree.Views.{tree_of};
-ghost use Rattle.qs_tree.specs.internal.scan.Pairs.{leaf_in, leaf_of, is_push};
+ghost use Rattle.qs_tree.specs.internal.scan.Pairs.{leaf_of, is_push};
+ghost use Rattle.qs_tree.specs.internal.build.Unsorted.{leaf_held};
 
 use crate::tree::key::Key;
 use crate::tree::value::ParsedValue;
@@ -97,15 +98,14 @@ impl<'qs> Pair<'qs> {
 }
 
 impl<'qs> Leaf<'qs> {
-    /// The leaf that a node is, or `None` for another node.
-    pub fn of(value: ParsedValue<'qs>) -> Option<Leaf<'qs>>
-        ensures { option_map leaf_of result ≡ leaf_in (tree_of value.entry) }
+    /// The leaf that a node is, or `NoValue` for another node.
+    pub fn of(value: ParsedValue<'qs>) -> Leaf<'qs>
+        ensures { leaf_of result ≡ leaf_held value.entry }
     {
         match value {
-            ParsedValue::NoValue => Some(Leaf::NoValue),
-            ParsedValue::Null => Some(Leaf::Null),
-            ParsedValue::String(text) => Some(Leaf::Text(text)),
-            _ => None,
+            ParsedValue::Null => Leaf::Null,
+            ParsedValue::String(text) => Leaf::Text(text),
+            _ => Leaf::NoValue,
         }
     }
 

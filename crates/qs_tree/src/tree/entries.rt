@@ -1,5 +1,5 @@
 //! A sorted vector of entries with distinct keys.
-ghost use Rattle.std.specs.Prelude.{◌≡◌, ◌<◌, [], length, ◌∷◌, ◌++◌, IfOk, IfNone, OnOk, OnErr, Some, option_map, slice_get};
+ghost use Rattle.std.specs.Prelude.{◌≡◌, ◌<◌, [], length, ◌∷◌, ◌++◌, IfOk, IfNone, MatchResult, OnOk, OnErr, Some, option_map, slice_get};
 ghost use Rattle.std.specs.List.{remove};
 ghost use Rattle.std.specs.Option.{option_to_list};
 ghost use Rattle.std.specs.List.Sorted.{IsStrictlySortedBy};
@@ -51,6 +51,18 @@ impl<K: Ord, V> Entries<K, V> {
     {
         let items = Vec::with_capacity(alloc, capacity)?;
         Ok(Entries { items })
+    }
+
+    /// The entries of a vector whose keys are sorted and distinct. Returns any other vector.
+    pub fn of_sorted(items: Vec<(K, V)>) -> Result<Self, Vec<(K, V)>>
+        ensures all { MatchResult result (λ entries. entries ≡ items.items) (λ others. others.items ≡ items.items) }
+        ensures sorted { IfOk result (λ entries. IsStrictlySortedBy K.cmp (keys_of entries)) }
+    {
+        if items.is_sorted_by(|left, right| left.0.cmp(&right.0).is_lt()) {
+            Ok(Entries { items })
+        } else {
+            Err(items)
+        }
     }
 
     /// How many entries there are.

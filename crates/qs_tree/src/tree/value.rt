@@ -3,7 +3,7 @@ ghost use Rattle.std.specs.Cmp.{on_per};
 ghost use Rattle.qs_tree.specs.tree.Equality.{tree_same};
 ghost use Rattle.qs_tree.specs.internal.tree.EqualityLaws.{trees_per};
 ghost use Rattle.qs_tree.specs.tree.Views.{tree_of};
-ghost use Rattle.qs_tree.specs.internal.build.Unsorted.{IsLeaf};
+ghost use Rattle.qs_tree.specs.internal.build.Unsorted.{is_leaf};
 ghost use Rattle.std.specs.Prelude.{IsTrue};
 
 use crate::tree::map::ParsedMap;
@@ -31,7 +31,7 @@ pub enum ParsedValue<'qs> {
 impl<'qs> ParsedValue<'qs> {
     /// Whether it is neither a map nor a sequence, and not empty.
     pub(crate) fn is_leaf(&self) -> bool
-        ensures { IsTrue result → IsLeaf (tree_of self.now) }
+        ensures { IsTrue result → IsTrue (is_leaf (tree_of self.now)) }
     {
         match self {
             ParsedValue::String(_) => true,

@@ -1,6 +1,9 @@
 -- Leaves in no order, and the entries that they make.
-use Rattle.qs_tree.proofs.Common.{◌≡◌, Bool, true, false, cond, not, ◌&&◌, List, [], ◌∷◌, ◌++◌, map, refl, sym, ap, ap₂, ◌∙◌, Option, Some, Ordering, Less, Equal, Greater, is_lt, filter, IsPermutation, IsStrictlySortedBy, IsStableBy, ties, keys_of, ordering_reverse, Borrowed, filter_agree, same_Some, none-some, Pair, Segment, is_same_segment, compare_segments, Int, Str, Tree, entries_of, flat, head_mark, heads, node_within, leaf, entry, add_flat, add_here, update, Key, ParsedValue, entries_held, leaf_pairs, entries_of_leaves, leaf_in, leaf_of, key_cmp, segment_of_key, key_mark, step_of_key, tree_of}
+use Rattle.qs_tree.proofs.Common.{◌≡◌, Bool, true, false, cond, not, ◌&&◌, List, [], ◌∷◌, ◌++◌, map, refl, sym, ap, ap₂, ◌∙◌, Option, Some, Ordering, Less, Equal, Greater, is_lt, filter, IsPermutation, IsStrictlySortedBy, IsStableBy, ties, keys_of, ordering_reverse, Borrowed, filter_agree, same_Some, none-some, Pair, Segment, is_same_segment, compare_segments, Int, Str, Tree, entries_of, flat, head_mark, heads, node_within, leaf, entry, add_flat, add_here, update, Key, ParsedValue, NoValue, None, entries_held, leaf_pairs, entries_of_leaves, AreLeaves, is_leaf, is_some, unwrap_or, IsTrue, true≢false, append-nil, append_assoc, list_all-append, leaf_held, leaf_in, key_cmp, segment_of_key, key_mark, step_of_key, tree_of}
 use Rattle.std.proofs.Common.{is_eq}
+use Rattle.std.proofs.lemmas.Bool.{and_parts}
+use Rattle.std.proofs.lemmas.List.Sorted.{All-permutation}
+use Rattle.std.proofs.lemmas.List.Sums.{AllPass-from_list_all, list_all-from_AllPass}
 use Rattle.qs_spec.specs.History.{Event, event, under}
 use Rattle.qs_spec.specs.History.Event.{direct, push, below}
 use Rattle.qs_spec.specs.Leaf as spec
@@ -9,27 +12,23 @@ use Rattle.qs_spec.proofs.OneMore.{pair, history_push}
 use Rattle.qs_spec.proofs.Permuted.{Perm-from, perm_map, perm_heads}
 use Rattle.qs_spec.proofs.Update.{entries_within, update_pairs}
 use Rattle.qs_tree.specs.contracts.tree.key.KeyOrd.TheImpl.Laws.{total-law}
-use Rattle.qs_tree.specs.declared.scan.pair.Leaf.{Leaf}
-use Rattle.qs_tree.specs.declared.scan.pair.Leaf.TheVariants.{NoValue}
 use Rattle.qs_tree.specs.declared.tree.key.Key.TheVariants as variant
 use Rattle.qs_tree.proofs.lemmas.tree.Keys.{Held}
+use Rattle.qs_tree.proofs.lemmas.tree.Places.{keys-append}
 use Rattle.qs_tree.proofs.lemmas.build.Built.{above}
 
-abbrev pub Leaves : Type 0
-Leaves = List (Key × Leaf)
-
 -- the leaves of one key are direct
-directs : (k : Segment) (ls : Leaves) → AllDirect (map event (under k (leaf_pairs ls)))
+directs : (k : Segment) (ls : Held) → AllDirect (map event (under k (leaf_pairs ls)))
 directs k [] = tt
 directs k (p ∷ ls) = by (is_same_segment k (segment_of_key p.0)) (directs k ls)
   where
-    by : (b : Bool) → AllDirect (map event (under k (leaf_pairs ls))) → AllDirect (map event (cond b (pair [] false (leaf_of p.1) ∷ under k (leaf_pairs ls)) (under k (leaf_pairs ls))))
+    by : (b : Bool) → AllDirect (map event (under k (leaf_pairs ls))) → AllDirect (map event (cond b (pair [] false (leaf_held p.1) ∷ under k (leaf_pairs ls)) (under k (leaf_pairs ls))))
     by true all = all
     by false all = all
 
-leaf_pairs-last : (ls : Leaves) (p : Key × Leaf) → leaf_pairs (ls ++ p ∷ []) ≡ leaf_pairs ls ++ pair (step_of_key p.0 ∷ []) false (leaf_of p.1) ∷ []
+leaf_pairs-last : (ls : Held) (p : Key × ParsedValue) → leaf_pairs (ls ++ p ∷ []) ≡ leaf_pairs ls ++ pair (step_of_key p.0 ∷ []) false (leaf_held p.1) ∷ []
 leaf_pairs-last [] p = refl
-leaf_pairs-last (q ∷ ls) p = ap (λ ps. pair (step_of_key q.0 ∷ []) false (leaf_of q.1) ∷ ps) (leaf_pairs-last ls p)
+leaf_pairs-last (q ∷ ls) p = ap (λ ps. pair (step_of_key q.0 ∷ []) false (leaf_held q.1) ∷ ps) (leaf_pairs-last ls p)
 
 here_flat : (l : spec.Leaf) (h : List Event) → add_here false l (flat h) ≡ add_flat false l (flat h)
 here_flat l [] = refl
@@ -39,41 +38,41 @@ here_flat l (push o ∷ h) = refl
 here_flat l (below ∷ h) = refl
 
 -- one leaf more
-module _ (ls : Leaves) (key : Key) (l : Leaf) where
-  added : (g : Tree → Option Tree) → ((h : List Event) → g (flat h) ≡ add_flat false (leaf_of l) (flat h)) → update (step_of_key key) g (entries_of_leaves ls) ≡ Some (entries_of_leaves (ls ++ (key, l) ∷ []))
+module _ (ls : Held) (key : Key) (v : ParsedValue) where
+  added : (g : Tree → Option Tree) → ((h : List Event) → g (flat h) ≡ add_flat false (leaf_held v) (flat h)) → update (step_of_key key) g (entries_of_leaves ls) ≡ Some (entries_of_leaves (ls ++ (key, v) ∷ []))
   added g same =
       let own = under (segment_of_key key) (leaf_pairs ls) in
-      let made : g (flat (map event own)) ≡ Some (flat (map event own ++ direct (leaf_of l) ∷ [])) = same (map event own) ∙ direct_adds (map event own) (leaf_of l) (directs (segment_of_key key) ls) in
-      update_pairs 0 (leaf_pairs ls) (step_of_key key) [] false (leaf_of l) g (Some (flat (map event own ++ direct (leaf_of l) ∷ []))) made (λ t d. sym (same_Some _ t d) ∙ ap flat (sym (history_push own (pair [] false (leaf_of l)))))
-      ∙ ap (λ (ps : List Pair). Some (entries_within 0 ps)) (sym (leaf_pairs-last ls (key, l)))
+      let made : g (flat (map event own)) ≡ Some (flat (map event own ++ direct (leaf_held v) ∷ [])) = same (map event own) ∙ direct_adds (map event own) (leaf_held v) (directs (segment_of_key key) ls) in
+      update_pairs 0 (leaf_pairs ls) (step_of_key key) [] false (leaf_held v) g (Some (flat (map event own ++ direct (leaf_held v) ∷ []))) made (λ t d. sym (same_Some _ t d) ∙ ap flat (sym (history_push own (pair [] false (leaf_held v)))))
+      ∙ ap (λ (ps : List Pair). Some (entries_within 0 ps)) (sym (leaf_pairs-last ls (key, v)))
 
-  pub added_flat : update (step_of_key key) (add_flat false (leaf_of l)) (entries_of_leaves ls) ≡ Some (entries_of_leaves (ls ++ (key, l) ∷ []))
-  added_flat = added (add_flat false (leaf_of l)) (λ h. refl)
+  pub added_flat : update (step_of_key key) (add_flat false (leaf_held v)) (entries_of_leaves ls) ≡ Some (entries_of_leaves (ls ++ (key, v) ∷ []))
+  added_flat = added (add_flat false (leaf_held v)) (λ h. refl)
 
-  pub added_here : update (step_of_key key) (add_here false (leaf_of l)) (entries_of_leaves ls) ≡ Some (entries_of_leaves (ls ++ (key, l) ∷ []))
-  added_here = added (add_here false (leaf_of l)) (here_flat (leaf_of l))
+  pub added_here : update (step_of_key key) (add_here false (leaf_held v)) (entries_of_leaves ls) ≡ Some (entries_of_leaves (ls ++ (key, v) ∷ []))
+  added_here = added (add_here false (leaf_held v)) (here_flat (leaf_held v))
 
 -- the leaves of one key decide what its entry is
-abbrev is_at_segment : Segment → Key × Leaf → Bool
+abbrev is_at_segment : Segment → Key × ParsedValue → Bool
 is_at_segment k p = is_same_segment k (segment_of_key p.0)
 
-abbrev first_mark : Leaves → Bool
+abbrev first_mark : Held → Bool
 first_mark [] = false
 first_mark (p ∷ ls) = key_mark p.0
 
-abbrev bare_pairs : Leaves → List Pair
-bare_pairs ls = map (λ p. pair [] false (leaf_of p.1)) ls
+abbrev bare_pairs : Held → List Pair
+bare_pairs ls = map (λ p. pair [] false (leaf_held p.1)) ls
 
-under_leaves : (k : Segment) (ls : Leaves) → under k (leaf_pairs ls) ≡ bare_pairs (filter (is_at_segment k) ls)
+under_leaves : (k : Segment) (ls : Held) → under k (leaf_pairs ls) ≡ bare_pairs (filter (is_at_segment k) ls)
 under_leaves k [] = refl
 under_leaves k (p ∷ ls) = by (is_at_segment k p) (under_leaves k ls)
   where
     by : (b : Bool) → under k (leaf_pairs ls) ≡ bare_pairs (filter (is_at_segment k) ls)
-        → cond b (pair [] false (leaf_of p.1) ∷ under k (leaf_pairs ls)) (under k (leaf_pairs ls)) ≡ bare_pairs (cond b (p ∷ filter (is_at_segment k) ls) (filter (is_at_segment k) ls))
-    by true e = ap (λ ps. pair [] false (leaf_of p.1) ∷ ps) e
+        → cond b (pair [] false (leaf_held p.1) ∷ under k (leaf_pairs ls)) (under k (leaf_pairs ls)) ≡ bare_pairs (cond b (p ∷ filter (is_at_segment k) ls) (filter (is_at_segment k) ls))
+    by true e = ap (λ ps. pair [] false (leaf_held p.1) ∷ ps) e
     by false e = e
 
-mark_of_leaves : (k : Segment) (ls : Leaves) → head_mark k (leaf_pairs ls) ≡ first_mark (filter (is_at_segment k) ls)
+mark_of_leaves : (k : Segment) (ls : Held) → head_mark k (leaf_pairs ls) ≡ first_mark (filter (is_at_segment k) ls)
 mark_of_leaves k [] = refl
 mark_of_leaves k (p ∷ ls) = by (is_at_segment k p) (mark_of_leaves k ls)
   where
@@ -87,7 +86,7 @@ entries_agree m n f g marks trees [] = refl
 entries_agree m n f g marks trees (k ∷ ks) =
     ap₂ (λ (b : Bool) (t : Tree). entry k b t (entries_of m f ks)) (marks k) (trees k) ∙ ap (entry k (n k) (g k)) (entries_agree m n f g marks trees ks)
 
-abbrev pub is_before : Key × Leaf → Key × Leaf → Bool
+abbrev pub is_before : Key × ParsedValue → Key × ParsedValue → Bool
 is_before p q = is_lt (key_cmp p.0 q.0)
 
 abbrev key_at : Segment → Key
@@ -103,13 +102,13 @@ at_itself : (k : Segment) (key : Key) → key_cmp (key_at k) key ≡ compare_seg
 at_itself (Int n) key = refl
 at_itself (Str b) key = refl
 
-ties_at : (k : Segment) (p : Key × Leaf) → ties is_before (key_at k, NoValue) p ≡ is_at_segment k p
+ties_at : (k : Segment) (p : Key × ParsedValue) → ties is_before (key_at k, NoValue) p ≡ is_at_segment k p
 ties_at k p =
     let turned : key_cmp p.0 (key_at k) ≡ ordering_reverse (key_cmp (key_at k) p.0) = total-law.antisymm p.0 (key_at k) in
     ap (λ (o : Ordering). not (is_lt (key_cmp (key_at k) p.0)) && not (is_lt o)) turned ∙ neither (key_cmp (key_at k) p.0) ∙ ap is_eq (at_itself k p.0)
 
 -- leaves that were sorted stably make the same entries
-pub sorted_leaves : (xs ys : Leaves) → IsPermutation xs ys → IsStableBy is_before xs ys → entries_of_leaves ys ≡ entries_of_leaves xs
+pub sorted_leaves : (xs ys : Held) → IsPermutation xs ys → IsStableBy is_before xs ys → entries_of_leaves ys ≡ entries_of_leaves xs
 sorted_leaves xs ys moved stable =
     let same : (k : Segment) → filter (is_at_segment k) ys ≡ filter (is_at_segment k) xs = λ k. sym (filter_agree _ _ (ties_at k) ys) ∙ stable (key_at k, NoValue) ∙ filter_agree _ _ (ties_at k) xs in
     entries_agree (λ k. head_mark k (leaf_pairs ys)) (λ k. head_mark k (leaf_pairs xs)) (λ k. node_within 0 (under k (leaf_pairs ys))) (λ k. node_within 0 (under k (leaf_pairs xs)))
@@ -132,3 +131,23 @@ at_end key ks v l is [] sorted = ap (λ t. Some (entry (segment_of_key key) (key
 at_end key ks v l is (e ∷ es) sorted =
     let after : compare_segments (step_of_key key).seg (segment_of_key e.0) ≡ Greater = above key ks e.0 (keys_of es) sorted.0 in
     rw (after, at_end key ks v l is es sorted.1)
+
+-- leaves of distinct keys make their own entries
+grown : (front es : Held) → entries_of_leaves front ≡ entries_held front → IsStrictlySortedBy key_cmp (keys_of front ++ keys_of es) → AreLeaves es → entries_of_leaves (front ++ es) ≡ entries_held (front ++ es)
+grown front [] same sorted leaves = rw append-nil same
+grown front (e ∷ es) same sorted leaves =
+    let each = and_parts (is_leaf (tree_of e.1)) _ leaves in
+    let put = at_end e.0 (keys_of es) e.1 (leaf_held e.1) (held (leaf_in (tree_of e.1)) each.0) front sorted in
+    let more = same_Some _ _ (sym (added_flat front e.0 e.1) ∙ ap (update (step_of_key e.0) (add_flat false (leaf_held e.1))) same ∙ put) in
+    let all = grown (front ++ e ∷ []) es more (rw (keys-append front (e ∷ []), append_assoc) sorted) each.1 in
+    rw append_assoc at all
+  where
+    held : (o : Option spec.Leaf) → is_some o ≡ true → o ≡ Some (unwrap_or o spec.NoValue)
+    held None is = absurd (true≢false (sym is))
+    held (Some l) is = refl
+
+pub distinct_leaves : (es : Held) → IsStrictlySortedBy key_cmp (keys_of es) → AreLeaves es → entries_of_leaves es ≡ entries_held es
+distinct_leaves es sorted leaves = grown [] es refl sorted leaves
+
+pub moved_leaves : (xs ys : Held) → IsPermutation xs ys → AreLeaves xs → AreLeaves ys
+moved_leaves xs ys moved leaves = list_all-from_AllPass _ ys (All-permutation (λ p. is_leaf (tree_of p.1) ≡ true) xs ys moved (AllPass-from_list_all _ xs leaves))

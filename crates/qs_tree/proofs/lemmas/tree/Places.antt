@@ -1,5 +1,7 @@
 -- What a binary search finds among entries in order, and what an edit at its place does.
-use Rattle.qs_tree.proofs.Common.{◌≡◌, ℕ, zero, suc, ◌+◌, ◌<◌, ◌≤◌, ◌/◌, List, [], ◌∷◌, ◌++◌, length, get_or, slice_get, slice_set, Some, None, unwrap_or, option_map, Ordering, Less, Equal, Greater, refl, sym, ap, subst, ◌∙◌, inl, inr, ◌⊎◌, arith, IsTotalOrder, insert, remove, AllByRecursion, IsStrictlySortedBy, keys_of, lookup, set_value, remove_entry, is_at, insert_entry, ordering_reverse, against, IsHit, IsGap, put_value, binary_digits}
+use Rattle.qs_tree.proofs.Common.{◌≡◌, ℕ, zero, suc, ◌+◌, ◌<◌, ◌≤◌, ◌/◌, List, [], ◌∷◌, ◌++◌, length, get_or, slice_get, slice_set, Some, None, unwrap_or, option_map, Ordering, Less, Equal, Greater, refl, sym, ap, subst, ◌∙◌, inl, inr, ◌⊎◌, arith, IsTotalOrder, insert, remove, AllByRecursion, IsStrictlySortedBy, keys_of, lookup, set_value, remove_entry, is_at, insert_entry, ordering_reverse, against, IsHit, IsGap, put_value, binary_digits, true, true≢false, is_lt}
+use native.Mathlib.Numerals.{unary_clauses}
+use Rattle.std.specs.List.{AllAdjacentBelow}
 use Rattle.std.proofs.lemmas.Int.Digits.{length-digits_of_step}
 use Rattle.std.proofs.lemmas.Map.Keys.{Less-from_sorted}
 use Rattle.std.proofs.lemmas.Map.Entries.{length-keys_of}
@@ -177,6 +179,21 @@ module _ {K : Type 0} (cmp : K → K → Ordering) where
     pub sorted_front : (es fs : List (K × X)) → IsStrictlySortedBy cmp (keys_of (es ++ fs)) → IsStrictlySortedBy cmp (keys_of es)
     sorted_front [] fs s = sorted_none
     sorted_front (e ∷ es) fs s = sorted_cons e.0 (keys_of es) (all_front (λ y. cmp e.0 y ≡ Less) es fs (sorted_head e.0 (keys_of (es ++ fs)) s)) (sorted_front es fs (sorted_tail e.0 (keys_of (es ++ fs)) s))
+
+-- each key is below the next
+pub sorted_adjacent : {K X : Type 0} {cmp : K → K → Ordering} → IsTotalOrder cmp → (es : List (K × X)) → AllAdjacentBelow (λ x y. true ≡ is_lt (cmp x.0 y.0)) es (length es) → IsStrictlySortedBy cmp (keys_of es)
+sorted_adjacent {K} {X} {cmp} total [] adjacent = sorted_none cmp
+sorted_adjacent {K} {X} {cmp} total (e ∷ []) adjacent = sorted_one cmp e.0
+sorted_adjacent {K} {X} {cmp} total (e ∷ f ∷ es) adjacent =
+    let rest : IsStrictlySortedBy cmp (keys_of (f ∷ es)) = sorted_adjacent total (f ∷ es) (λ k d lt. simp unary_clauses (simp unary_clauses at adjacent (suc k) d (omega (arith, lt)))) in
+    let less : cmp e.0 f.0 ≡ Less = less_from (cmp e.0 f.0) (adjacent 0 e (omega arith)) in
+    let gap : IsGap cmp e.0 (f ∷ es) 0 = record { in_range = omega arith; before = λ j lt. absurd (omega (arith, lt)); after = after_middle total e.0 (f ∷ es) rest 0 less } in
+    sorted_insert cmp total e.0 e.1 (f ∷ es) 0 gap rest
+  where
+    less_from : (o : Ordering) → true ≡ is_lt o → o ≡ Less
+    less_from Less is = refl
+    less_from Equal is = absurd (true≢false is)
+    less_from Greater is = absurd (true≢false is)
 
 -- a binary search
 digits_grow : (fuel m n : ℕ) → n ≤ fuel → m ≤ n → binary_digits m ≤ binary_digits n

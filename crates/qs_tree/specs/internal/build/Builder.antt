@@ -7,13 +7,18 @@ use Rattle.qs_tree.specs.declared.build.builder.TreeBuilder.{TreeBuilder, fold-T
 use Rattle.qs_tree.specs.declared.build.builder.TreeBuilder.TheVariants.{Value}
 use Rattle.qs_tree.specs.declared.build.builder.MapBuilder.TheOpen.{TreeBuilder-F, MapBuilder-F}
 use Rattle.qs_tree.specs.declared.build.builder.MapBuilder.{MapBuilder, fold-MapBuilder}
+use Rattle.qs_tree.specs.declared.build.unsorted.Unsorted.{Unsorted}
 use Rattle.qs_tree.specs.declared.tree.key.Key.{Key}
 use Rattle.qs_tree.specs.declared.tree.value.ParsedValue.{ParsedValue}
 use Rattle.qs_tree.specs.declared.tree.value.ParsedValue.TheVariants.{Uninitialized}
 use Rattle.qs_tree.specs.tree.Views.{segment_of_key, step_of_key, tree_of, entries_from, find}
 use Rattle.qs_tree.specs.tree.Ordered.{AreOrdered}
 use Rattle.qs_spec.specs.internal.InPlace.{update}
-use Rattle.qs_tree.specs.internal.build.Unsorted.{unsorted_entries}
+use Rattle.qs_tree.specs.internal.build.Unsorted.{entries_of_leaves}
+
+-- the entries of a map of leaves in no order
+abbrev pub unsorted_entries : Unsorted → Entries
+unsorted_entries u = entries_of_leaves u.leaves.items
 
 -- one level of a node, with what is inside already seen as trees
 abbrev pub built_step : TreeBuilder-F Entries Tree → Tree

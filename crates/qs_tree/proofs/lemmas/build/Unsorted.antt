@@ -1,5 +1,5 @@
 -- Leaves in no order, and the entries that they make.
-use Rattle.qs_tree.proofs.Common.{◌≡◌, Bool, true, false, cond, not, ◌&&◌, List, [], ◌∷◌, ◌++◌, map, refl, sym, ap, ap₂, ◌∙◌, Option, Some, Ordering, Less, Equal, Greater, is_lt, filter, IsPermutation, IsStrictlySortedBy, IsStableBy, ties, keys_of, ordering_reverse, Borrowed, filter_agree, same_Some, none-some, Pair, Segment, is_same_segment, compare_segments, Int, Str, Tree, entries_of, flat, head_mark, heads, node_within, leaf, entry, add_flat, add_here, update, Key, ParsedValue, NoValue, None, entries_held, leaf_pairs, entries_of_leaves, AreLeaves, is_leaf, is_some, unwrap_or, IsTrue, true≢false, append-nil, append_assoc, list_all-append, leaf_held, leaf_in, key_cmp, segment_of_key, key_mark, step_of_key, tree_of}
+use Rattle.qs_tree.proofs.Common.{◌≡◌, Bool, true, false, cond, not, ◌&&◌, List, [], ◌∷◌, ◌++◌, map, refl, sym, ap, ap₂, ◌∙◌, Option, Some, Ordering, Less, Equal, Greater, is_lt, filter, IsPermutation, IsStrictlySortedBy, IsStableBy, ties, keys_of, ordering_reverse, Borrowed, filter_agree, same_Some, none-some, Pair, Segment, is_same_segment, compare_segments, Int, Str, Tree, entries_of, flat, head_mark, heads, node_within, leaf, entry, add_flat, add_here, update, Key, ParsedValue, NoValue, None, entries_held, leaf_pairs, entries_of_leaves, AreLeaves, is_leaf, is_some, unwrap_or, true≢false, append-nil, append_assoc, leaf_held, leaf_in, key_cmp, segment_of_key, key_mark, step_of_key, tree_of}
 use Rattle.std.proofs.Common.{is_eq}
 use Rattle.std.proofs.lemmas.Bool.{and_parts}
 use Rattle.std.proofs.lemmas.List.Sorted.{All-permutation}

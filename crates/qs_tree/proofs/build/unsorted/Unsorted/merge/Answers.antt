@@ -1,4 +1,4 @@
-use Rattle.qs_tree.proofs.Common.{◌≡◌, ◌++◌, ◌∷◌, [], length, sym, ap, ◌∙◌, append-nil, append_assoc, arith, false, same_Some, into_iter_items, add_flat, update, step_of_key, leaf_held, entries_held, entries_of_leaves}
+use Rattle.qs_tree.proofs.Common.{◌++◌, ◌∷◌, [], length, sym, ap, ◌∙◌, append-nil, append_assoc, arith, false, same_Some, into_iter_items, add_flat, update, step_of_key, leaf_held, entries_held, entries_of_leaves}
 use Rattle.qs_tree.proofs.lemmas.build.Built.{nothing}
 use Rattle.qs_tree.proofs.lemmas.build.Unsorted.{added_flat}
 use Rattle.qs_tree.proofs.build.unsorted.Unsorted.merge.Goals as goal

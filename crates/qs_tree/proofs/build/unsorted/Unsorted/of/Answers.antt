@@ -1,4 +1,4 @@
-use Rattle.qs_tree.proofs.Common.{sym, ap, ◌∙◌, entries_held, entries_of_leaves}
+use Rattle.qs_tree.proofs.Common.{sym, ap, ◌∙◌, entries_of_leaves}
 use Rattle.qs_tree.proofs.lemmas.tree.Keys.{entries_of_map-map}
 use Rattle.qs_tree.proofs.lemmas.build.Unsorted.{distinct_leaves}
 use Rattle.qs_tree.proofs.build.unsorted.Unsorted.of.Goals as goal

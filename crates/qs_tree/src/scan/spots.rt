@@ -47,11 +47,17 @@ impl Spots {
     #[inline(always)]
     pub fn push(&mut self, spot: Spot) -> Result<(), AllocError> {
         if self.near_len >= NEAR {
-            return Ok(self.far.push(spot)?);
+            return self.push_far(spot);
         }
         self.near[self.near_len] = spot;
         self.near_len += 1;
         Ok(())
+    }
+
+    // Pushes a position that isn't stored in place.
+    #[inline(never)]
+    fn push_far(&mut self, spot: Spot) -> Result<(), AllocError> {
+        Ok(self.far.push(spot)?)
     }
 
     /// The position at a level, or `None`.

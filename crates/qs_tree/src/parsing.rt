@@ -38,8 +38,8 @@ use std::mem;
 ///
 /// # Memory and time
 ///
-/// Strings and string keys without `+` and `%` are borrowed from the input. It allocates for all others, for each path, map and
-/// sequence, and for the text of an error. It doesn't allocate for the empty input, for `&` alone, and for `=` with a value without
+/// Strings and string keys without `+` and `%` are borrowed from the input. It allocates for all others, for paths of more than one
+/// key, for each map and sequence, and for the text of an error. It doesn't allocate for the empty input, for `&` alone, and for `=` with a value without
 /// `&`, `+` and `%`. Each byte is parsed once, and each key is looked up in its map in logarithmic time.
 ///
 /// ```

@@ -3,4 +3,6 @@
 pub(crate) mod cursor;
 pub(crate) mod pair;
 pub(crate) mod parser;
+pub(crate) mod path;
 mod raw;
+mod spots;

@@ -1,4 +1,5 @@
 pub mod Cursor
+pub mod Paths
 pub mod Pairs
 pub mod Raw
 pub mod Parser

@@ -1,5 +1,5 @@
 //! Adding a pair to a tree, in place.
-ghost use Rattle.std.specs.Prelude.{◌≡◌, ◌+◌, ◌<◌, ◌≤◌, [], ◌∷◌, length, drop, true, false, IsOkAnd, Some, None};
+ghost use Rattle.std.specs.Prelude.{◌≡◌, ◌+◌, ◌^◌, ◌<◌, ◌≤◌, [], ◌∷◌, length, drop, true, false, IsOkAnd, Some, None};
 ghost use Rattle.qs_spec.specs.Tree.{empty_step};
 ghost use Rattle.qs_spec.specs.Tree.Tree.{mapping};
 ghost use Rattle.qs_spec.specs.internal.InPlace as in_place;
@@ -53,8 +53,8 @@ fn add_along<'qs>(
     pair: &mut Pair<'qs>,
     level: usize,
 ) -> Result<(), AddError>
-    requires { level ≤ length pair.old.path.items }
-    ensures added { let push = is_push pair.old.manner in let path = path_of (drop level pair.old.path.items) in
+    requires { level ≤ length pair.old.path }
+    ensures added { let push = is_push pair.old.manner in let path = path_of (drop level pair.old.path) in
         Gives (λ _. built_tree node.new) (add path push (leaf_of pair.old.leaf) (built_tree node.old)) result }
     ensures fresh { IsBare pair.old → level ≡ 0 → node.old ≡ fresh → IsOkAnd result (λ _. IsFlat node.new) }
 {
@@ -91,9 +91,9 @@ fn add_unsorted<'qs>(
     pair: &mut Pair<'qs>,
     level: usize,
 ) -> Result<(), AddError>
-    requires one { length pair.old.path.items ≡ level + 1 }
+    requires one { length pair.old.path ≡ level + 1 }
     requires plain { is_push pair.old.manner ≡ false }
-    ensures { let push = is_push pair.old.manner in let path = path_of (drop level pair.old.path.items) in
+    ensures { let push = is_push pair.old.manner in let path = path_of (drop level pair.old.path) in
         Gives (λ _. mapping (unsorted_entries leaves.new)) (add path push (leaf_of pair.old.leaf) (mapping (unsorted_entries leaves.old))) result }
 {
     let key = pair.take_key(level);
@@ -109,8 +109,8 @@ fn add_out_of_order<'qs>(
     pair: &mut Pair<'qs>,
     level: usize,
 ) -> Result<(), AddError>
-    requires { level < length pair.old.path.items }
-    ensures { let push = is_push pair.old.manner in let path = path_of (drop level pair.old.path.items) in
+    requires { level < length pair.old.path }
+    ensures { let push = is_push pair.old.manner in let path = path_of (drop level pair.old.path) in
         Gives (λ _. built_tree node.new) (add path push (leaf_of pair.old.leaf) (built_tree node.old)) result }
 {
     if pair.is_leaf_below(level) {
@@ -131,8 +131,8 @@ fn add_in_place<'qs>(
     pair: &mut Pair<'qs>,
     level: usize,
 ) -> Result<bool, AddError>
-    requires { level ≤ length pair.old.path.items }
-    ensures { let path = path_of (drop level pair.old.path.items) in let old = tree_of value.old in
+    requires { level ≤ length pair.old.path }
+    ensures { let path = path_of (drop level pair.old.path) in let old = tree_of value.old in
         Adds (add path (is_push pair.old.manner) (leaf_of pair.old.leaf) old) old (tree_of value.new) pair.old pair.new result }
 {
     if pair.path.len() - level > LEVELS {
@@ -151,8 +151,9 @@ fn add_in_new_map<'qs>(
     pair: &mut Pair<'qs>,
     level: usize,
 ) -> Result<(), AddError>
-    requires { level < length pair.old.path.items }
-    ensures { let push = is_push pair.old.manner in let path = step_of_key key.entry ∷ path_of (drop (level + 1) pair.old.path.items) in
+    requires level { level < length pair.old.path }
+    requires fits { level + 1 < 2 ^ 64 }
+    ensures { let push = is_push pair.old.manner in let path = step_of_key key.entry ∷ path_of (drop (level + 1) pair.old.path) in
         Gives (λ _. built_tree node.new) (add path push (leaf_of pair.old.leaf) (built_tree node.old)) result }
 {
     let mut map = map_of(alloc, mem::replace(node, TreeBuilder::fresh()), level)?;
@@ -171,8 +172,8 @@ fn add_below<'qs>(
     pair: &mut Pair<'qs>,
     level: usize,
 ) -> Result<(), AddError>
-    requires { level ≤ length pair.old.path.items }
-    ensures { let push = is_push pair.old.manner in let path = path_of (drop level pair.old.path.items) in
+    requires { level ≤ length pair.old.path }
+    ensures { let push = is_push pair.old.manner in let path = path_of (drop level pair.old.path) in
         Gives (λ _. built_entries map.new) (update (step_of_key key.entry) (add path push (leaf_of pair.old.leaf)) (built_entries map.old)) result }
 {
     match map {
@@ -202,10 +203,10 @@ fn add_in_vector<'qs>(
     pair: &mut Pair<'qs>,
     level: usize,
 ) -> Result<(), AddError>
-    requires level { level ≤ length pair.old.path.items }
+    requires level { level ≤ length pair.old.path }
     requires place { IsPlaced key_cmp key entries.old place }
     requires sorted { IsStrictlySortedBy key_cmp (keys_of entries.old) }
-    ensures { let push = is_push pair.old.manner in let path = path_of (drop level pair.old.path.items) in
+    ensures { let push = is_push pair.old.manner in let path = path_of (drop level pair.old.path) in
         Gives (λ _. entries_seen entries.new) (update (step_of_key key.entry) (add path push (leaf_of pair.old.leaf)) (entries_seen entries.old)) result }
 {
     match place {
@@ -227,8 +228,8 @@ fn add_in_tree<'qs>(
     pair: &mut Pair<'qs>,
     level: usize,
 ) -> Result<(), AddError>
-    requires { level ≤ length pair.old.path.items }
-    ensures { let push = is_push pair.old.manner in let path = path_of (drop level pair.old.path.items) in
+    requires { level ≤ length pair.old.path }
+    ensures { let push = is_push pair.old.manner in let path = path_of (drop level pair.old.path) in
         Gives (λ _. entries_seen tree.new.entries) (update (step_of_key key.entry) (add path push (leaf_of pair.old.leaf)) (entries_seen tree.old.entries)) result }
 {
     let child = tree.entry(key)?.or_insert(TreeBuilder::fresh());
@@ -243,8 +244,8 @@ fn add_by_value<'qs>(
     pair: &mut Pair<'qs>,
     level: usize,
 ) -> Result<(), AddError>
-    requires { level ≤ length pair.old.path.items }
-    ensures { let push = is_push pair.old.manner in let path = path_of (drop level pair.old.path.items) in
+    requires { level ≤ length pair.old.path }
+    ensures { let push = is_push pair.old.manner in let path = path_of (drop level pair.old.path) in
         Gives (λ _. built_tree node.new) (add path push (leaf_of pair.old.leaf) (built_tree node.old)) result }
 {
     let top = mem::replace(node, TreeBuilder::fresh());

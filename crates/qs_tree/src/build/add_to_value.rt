@@ -34,8 +34,8 @@ pub(crate) fn add_to_value<'qs>(
     pair: &mut Pair<'qs>,
     level: usize,
 ) -> Result<bool, AddError>
-    requires { level ≤ length pair.old.path.items }
-    ensures { let path = path_of (drop level pair.old.path.items) in let old = tree_of value.old in
+    requires { level ≤ length pair.old.path }
+    ensures { let path = path_of (drop level pair.old.path) in let old = tree_of value.old in
         Adds (add path (is_push pair.old.manner) (leaf_of pair.old.leaf) old) old (tree_of value.new) pair.old pair.new result }
 {
     if level == pair.path.len() {
@@ -50,14 +50,10 @@ pub(crate) fn add_to_value<'qs>(
             *value = value_of(alloc, pair, level)?;
             Ok(true)
         }
-        ParsedValue::Sequence(_) => Err(AddError::conflict(
-            alloc,
-            level,
-            ConflictKind::BelowSequence,
-        )),
-        ParsedValue::String(_) => Err(AddError::conflict(alloc, level, ConflictKind::BelowText)),
-        ParsedValue::Null => Err(AddError::conflict(alloc, level, ConflictKind::BelowUnit)),
-        ParsedValue::NoValue => Err(AddError::conflict(alloc, level, ConflictKind::BelowUnit)),
+        ParsedValue::Sequence(_) => Err(AddError::below(alloc, level, value)),
+        ParsedValue::String(_) => Err(AddError::below(alloc, level, value)),
+        ParsedValue::Null => Err(AddError::below(alloc, level, value)),
+        ParsedValue::NoValue => Err(AddError::below(alloc, level, value)),
     }
 }
 
@@ -70,8 +66,8 @@ fn add_in_map<'qs>(
     pair: &mut Pair<'qs>,
     level: usize,
 ) -> Result<bool, AddError>
-    requires { level < length pair.old.path.items }
-    ensures { let path = path_of (drop level pair.old.path.items) in let old = mapping (entries_of_map map.old) in
+    requires { level < length pair.old.path }
+    ensures { let path = path_of (drop level pair.old.path) in let old = mapping (entries_of_map map.old) in
         Adds (add path (is_push pair.old.manner) (leaf_of pair.old.leaf) old) old (mapping (entries_of_map map.new)) pair.old pair.new result }
 {
     add_in_entries(alloc, &mut map.map, pair, level)
@@ -86,8 +82,8 @@ fn add_in_entries<'qs>(
     pair: &mut Pair<'qs>,
     level: usize,
 ) -> Result<bool, AddError>
-    requires { level < length pair.old.path.items }
-    ensures { let path = path_of (drop level pair.old.path.items) in let old = mapping (entries_held entries.old) in
+    requires { level < length pair.old.path }
+    ensures { let path = path_of (drop level pair.old.path) in let old = mapping (entries_held entries.old) in
         Adds (add path (is_push pair.old.manner) (leaf_of pair.old.leaf) old) old (mapping (entries_held entries.new)) pair.old pair.new result }
 {
     let place = place_among(entries.as_slice(), pair.key(level));
@@ -112,8 +108,8 @@ fn value_of<'qs>(
     pair: &mut Pair<'qs>,
     level: usize,
 ) -> Result<ParsedValue<'qs>, AllocError>
-    requires { level ≤ length pair.old.path.items }
-    ensures { let path = path_of (drop level pair.old.path.items) in
+    requires { level ≤ length pair.old.path }
+    ensures { let path = path_of (drop level pair.old.path) in
         IfOk result (λ value. add path (is_push pair.old.manner) (leaf_of pair.old.leaf) uninitialized ≡ Some (tree_of value)) }
 {
     if level == pair.path.len() {
@@ -129,8 +125,8 @@ fn chain_of<'qs>(
     pair: &mut Pair<'qs>,
     level: usize,
 ) -> Result<ParsedValue<'qs>, AllocError>
-    requires { level ≤ length pair.old.path.items }
-    ensures { let path = path_of (drop level pair.old.path.items) in
+    requires { level ≤ length pair.old.path }
+    ensures { let path = path_of (drop level pair.old.path) in
         IfOk result (λ value. add path (is_push pair.old.manner) (leaf_of pair.old.leaf) uninitialized ≡ Some (tree_of value)) }
 {
     let mut value = value_at_end(alloc, pair)?;

@@ -2,6 +2,7 @@
 ghost use Rattle.std.specs.Prelude.{◌≡◌};
 ghost use Rattle.qs_tree.specs.declared.build.conflict.AddError.TheVariants.{OutOfMemory};
 
+use crate::scan::path::Path;
 use crate::tree::key::Key;
 use crate::tree::value::ParsedValue;
 use std::alloc::{AllocError, AllocFailed, Global};
@@ -21,6 +22,12 @@ impl AddError {
             Ok(conflict) => AddError::Conflict(conflict),
             Err(_) => AddError::OutOfMemory,
         }
+    }
+
+    /// The conflict of a pair whose path leads through a node at a level that isn't a map. Allocates the box.
+    #[inline(never)]
+    pub fn below(alloc: Global, level: usize, node: &ParsedValue<'_>) -> AddError {
+        AddError::conflict(alloc, level, ConflictKind::below(node))
     }
 }
 
@@ -48,6 +55,17 @@ pub(crate) enum ConflictKind {
     BelowUnit,
 }
 
+impl ConflictKind {
+    /// The conflict of a path through a node that isn't a map.
+    pub fn below(node: &ParsedValue<'_>) -> ConflictKind {
+        match node {
+            ParsedValue::Sequence(_) => ConflictKind::BelowSequence,
+            ParsedValue::String(_) => ConflictKind::BelowText,
+            _ => ConflictKind::BelowUnit,
+        }
+    }
+}
+
 impl From<AllocError> for AddError {
     ghost from_gives = { λ _ error. error ≡ OutOfMemory };
 
@@ -67,10 +85,11 @@ impl<T: Drop> From<AllocFailed<T>> for AddError {
 /// The first node on a path that can't have a child at the next key, with its level, or `None`. Doesn't allocate.
 pub(crate) fn conflict_below<'qs>(
     tree: &ParsedValue<'qs>,
-    path: &[Key<'qs>],
+    path: &Path<'qs>,
 ) -> Option<(usize, ConflictKind)> {
     let mut node = Some(tree);
-    for (level, key) in path.iter().enumerate() {
+    for level in 0..path.len() {
+        let key = path.key(level);
         let Some(here) = node else {
             return None;
         };
@@ -90,8 +109,6 @@ fn node_below<'t, 'qs>(
     match node {
         ParsedValue::Map(map) => Ok(map.get(key)),
         ParsedValue::Uninitialized => Ok(None),
-        ParsedValue::Sequence(_) => Err(ConflictKind::BelowSequence),
-        ParsedValue::String(_) => Err(ConflictKind::BelowText),
-        ParsedValue::Null | ParsedValue::NoValue => Err(ConflictKind::BelowUnit),
+        _ => Err(ConflictKind::below(node)),
     }
 }

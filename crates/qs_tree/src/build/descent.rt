@@ -39,8 +39,8 @@ pub(crate) fn descend<'qs>(
     pair: &mut Pair<'qs>,
     level: usize,
 ) -> Result<Zipper<'qs>, AddError>
-    requires { level ≤ length pair.old.path.items }
-    ensures way { let path = path_of (drop level pair.old.path.items) in let before = built_tree node.entry in MatchResult result
+    requires { level ≤ length pair.old.path }
+    ensures way { let path = path_of (drop level pair.old.path) in let before = built_tree node.entry in MatchResult result
         (λ way. Leads path before way.maps.items [] (built_tree way.node)) (λ error. IsBarred path before error) }
     ensures manner { pair.new.manner ≡ pair.old.manner }
     ensures leaf { pair.new.leaf ≡ pair.old.leaf }

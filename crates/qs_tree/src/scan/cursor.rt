@@ -9,8 +9,9 @@ ghost use Rattle.qs_spec.specs.internal.Parsing.{cut};
 ghost use Rattle.qs_tree.specs.internal.scan.Cursor.{kind_of_token, token_of, BeginsWith, ends_of, left, spent, looks, ended_after, raw_from_token, from_token, IsPast, GoesOn, taken, to_come, IsLeft, IsLetter};
 
 use crate::escape::{find_value_end, is_letter};
+use crate::scan::spots::{Spot, Spots};
 use crate::steps::Steps;
-use std::alloc::{AllocFailed, Global};
+use std::alloc::{AllocError, Global};
 
 /// The kind of a token.
 #[derive(Clone, Copy)]
@@ -170,7 +171,7 @@ struct Trail<'qs> {
     /// The input from the pair's first byte on.
     start: &'qs [u8],
     /// One for each level of the pair's path.
-    spots: Vec<Spot>,
+    spots: Spots,
 }
 
 /// The key and position of a conflict's error.
@@ -182,15 +183,6 @@ pub(crate) struct Site<'qs> {
     pub to_come: usize,
 }
 
-/// The position of a conflict at a level: after the first token in the bracket there.
-#[derive(Clone, Copy)]
-pub(crate) struct Spot {
-    /// How many bytes of the pair are before the bracket.
-    key_len: usize,
-    /// How many steps remain after the token.
-    to_come: usize,
-}
-
 impl<'qs> Cursor<'qs> {
     /// A cursor at the start of an input, with the steps of earlier calls. Doesn't allocate.
     pub fn new(alloc: Global, input: &'qs [u8], form: bool, steps: Steps) -> Self
@@ -199,7 +191,7 @@ impl<'qs> Cursor<'qs> {
         ensures steps { result.steps ≡ steps }
         ensures fresh { result.ended ≡ false }
     {
-        let spots = Vec::new(alloc);
+        let spots = Spots::new(alloc);
         Cursor {
             rest: input,
             ended: false,
@@ -260,7 +252,7 @@ impl<'qs> Cursor<'qs> {
     }
 
     /// Stores the current position for a conflict at the next level of the pair's path, whose bracket is at `bracket`.
-    pub fn keep_spot(&mut self, bracket: Place<'qs>) -> Result<(), AllocFailed<Spot>>
+    pub fn keep_spot(&mut self, bracket: Place<'qs>) -> Result<(), AllocError>
         ensures rest { self.new.rest.now ≡ self.old.rest.now }
         ensures form { self.new.form ≡ self.old.form }
         ensures ended { self.new.ended ≡ self.old.ended }
@@ -272,7 +264,7 @@ impl<'qs> Cursor<'qs> {
     }
 
     /// Stores the position for a conflict at the root key. Does nothing for an empty key, which isn't in the path.
-    pub fn keep_root(&mut self, key: &[u8], bracket: Place<'qs>) -> Result<(), AllocFailed<Spot>>
+    pub fn keep_root(&mut self, key: &[u8], bracket: Place<'qs>) -> Result<(), AllocError>
         ensures rest { self.new.rest.now ≡ self.old.rest.now }
         ensures form { self.new.form ≡ self.old.form }
         ensures ended { self.new.ended ≡ self.old.ended }
@@ -287,7 +279,7 @@ impl<'qs> Cursor<'qs> {
     /// The key and position of a conflict at a level of the pair's path: the current position where no bracket is stored for it.
     pub fn site(&self, level: usize) -> Site<'qs> {
         let Trail { start, spots } = &self.trail;
-        match spots.as_slice().get(level) {
+        match spots.get(level) {
             Some(spot) => Site {
                 key: start.get(..spot.key_len).unwrap_or(start),
                 to_come: spot.to_come,

@@ -1,10 +1,11 @@
 //! A pair of a querystring.
-ghost use Rattle.std.specs.Prelude.{◌≡◌, ◌+◌, ◌<◌, ◌∷◌, ◌++◌, [], length, drop, not, false, IsTrue};
+ghost use Rattle.std.specs.Prelude.{◌≡◌, ◌+◌, ◌^◌, ◌<◌, ◌∷◌, ◌++◌, [], length, drop, not, false, IsTrue};
 ghost use Rattle.qs_spec.specs.Tree.Tree.{leaf};
 ghost use Rattle.qs_tree.specs.tree.Views.{tree_of};
 ghost use Rattle.qs_tree.specs.internal.scan.Pairs.{leaf_of, is_push};
 ghost use Rattle.qs_tree.specs.internal.build.Unsorted.{leaf_held};
 
+use crate::scan::path::Path;
 use crate::tree::key::Key;
 use crate::tree::value::ParsedValue;
 use std::alloc::Global;
@@ -42,7 +43,7 @@ impl Manner {
 /// A pair: a path of keys, and a leaf.
 #[derive(Debug, Drop)]
 pub(crate) struct Pair<'qs> {
-    pub path: Vec<Key<'qs>>,
+    pub path: Path<'qs>,
     pub manner: Manner,
     pub leaf: Leaf<'qs>,
 }
@@ -51,7 +52,7 @@ impl<'qs> Pair<'qs> {
     /// A pair with an empty path. Doesn't allocate.
     pub fn new(alloc: Global) -> Self {
         Pair {
-            path: Vec::new(alloc),
+            path: Path::new(alloc),
             manner: Manner::Plain,
             leaf: Leaf::NoValue,
         }
@@ -59,41 +60,40 @@ impl<'qs> Pair<'qs> {
 
     /// The key of the path at a level.
     pub fn key(&self, level: usize) -> &Key<'qs>
-        requires { level < length self.now.path.items }
-        ensures { drop level self.now.path.items ≡ result.now ∷ drop (level + 1) self.now.path.items }
+        requires { level < length self.now.path }
+        ensures key { drop level self.now.path ≡ result.now ∷ drop (level + 1) self.now.path }
+        ensures fits { level + 1 < 2 ^ 64 }
     {
-        &self.path[level]
+        self.path.key(level)
     }
 
     /// Whether the pair is a plain leaf at the child of a node at a level.
     pub fn is_leaf_below(&self, level: usize) -> bool
-        requires { level < length self.now.path.items }
-        ensures one { IsTrue result → length self.now.path.items ≡ level + 1 }
+        requires { level < length self.now.path }
+        ensures one { IsTrue result → length self.now.path ≡ level + 1 }
         ensures plain { IsTrue result → is_push self.now.manner ≡ false }
     {
-        level + 1 == self.path.len() && self.manner.is_plain()
+        self.path.len() - level == 1 && self.manner.is_plain()
     }
 
     /// Removes the last key of the path, and returns it.
     pub fn pop_key(&mut self) -> Key<'qs>
-        requires { 0 < length self.old.path.items }
-        ensures { self.old.path.items ≡ self.new.path.items ++ result ∷ [] }
+        requires { 0 < length self.old.path }
+        ensures { self.old.path ≡ self.new.path ++ result ∷ [] }
     {
-        match self.path.pop() {
-            Some(key) => key,
-            None => Key::Int(0),
-        }
+        self.path.pop()
     }
 
     /// Takes a key out of the path, and leaves an integer key.
     pub fn take_key(&mut self, level: usize) -> Key<'qs>
-        requires { level < length self.old.path.items }
-        ensures key { drop level self.old.path.items ≡ result ∷ drop (level + 1) self.new.path.items }
-        ensures len { length self.new.path.items ≡ length self.old.path.items }
+        requires { level < length self.old.path }
+        ensures key { drop level self.old.path ≡ result ∷ drop (level + 1) self.new.path }
+        ensures len { length self.new.path ≡ length self.old.path }
+        ensures fits { level + 1 < 2 ^ 64 }
         ensures manner { self.new.manner ≡ self.old.manner }
         ensures leaf { self.new.leaf ≡ self.old.leaf }
     {
-        mem::replace(&mut self.path[level], Key::Int(0))
+        self.path.take(level)
     }
 }
 

@@ -13,8 +13,8 @@ ghost use Rattle.qs_tree.specs.internal.scan.Small.{IsEqualsStop, ParsesBare, Pa
 
 use crate::scan::cursor::{Cursor, Kind, Token, Until};
 use crate::scan::pair::{Leaf, Manner, Pair};
+use crate::scan::path::Path;
 use crate::scan::raw::{parse_key, parse_leaf};
-use crate::tree::key::Key;
 use std::alloc::{AllocError, AllocFailed, Global};
 
 /// What was parsed.
@@ -74,8 +74,8 @@ impl<T: Drop> From<AllocFailed<T>> for ParseError {
 
 /// Parses up to the next `&` or the end, and stores the pair in `pair`. After the end it returns [`Item::End`] without a step.
 ///
-/// Returns an error where the pair has a syntax error, or where an allocation failed. Allocates for the pair's path, and for strings
-/// with `+` or `%`.
+/// Returns an error where the pair has a syntax error, or where an allocation failed. Allocates for a path of more than one key, and
+/// for strings with `+` or `%`.
 pub(crate) fn parse_item<'qs>(
     alloc: Global,
     cursor: &mut Cursor<'qs>,
@@ -137,7 +137,7 @@ fn parse_after_root<'qs>(
 ) -> Result<(), ParseError>
     requires root { IsRootStop stop }
     requires follows { FollowsStop stop cursor.old }
-    requires empty { pair.old.path.items ≡ [] }
+    requires empty { pair.old.path ≡ [] }
     requires plain { IsTrue cursor.old.plain → is_marked key.now ≡ false }
     ensures pair { ParsesPair (from_root max_depth key.now (from_token stop.entry (left cursor.old))) result cursor.new pair.new }
     ensures moves { GoesOn cursor.old cursor.new }
@@ -158,12 +158,12 @@ fn parse_root<'qs>(
     alloc: Global,
     key: &'qs [u8],
     plain: bool,
-    path: &mut Vec<Key<'qs>>,
+    path: &mut Path<'qs>,
 ) -> Result<(), AllocError>
-    requires empty { path.old.items ≡ [] }
+    requires empty { path.old ≡ [] }
     requires plain { IsTrue plain → is_marked key.now ≡ false }
-    ensures path { IfOk result (λ _. path_of path.new.items ≡ root_path key.now) }
-    ensures empty { key.now ≡ [] → IsOk result × (path.new.items ≡ []) }
+    ensures path { IfOk result (λ _. path_of path.new ≡ root_path key.now) }
+    ensures empty { key.now ≡ [] → IsOk result × (path.new ≡ []) }
 {
     if !key.is_empty() {
         path.push(parse_key(alloc, key, plain)?)?;
@@ -203,9 +203,9 @@ fn parse_plain<'qs>(
 ) -> Result<(), ParseError>
     requires closing { IsClosing stop }
     requires follows { FollowsStop stop cursor.old }
-    ensures pair { ParsesPair (with_leaf (direct (path_of pair.old.path.items)) (parsed_value (from_token stop.entry (left cursor.old)))) result cursor.new pair.new }
+    ensures pair { ParsesPair (with_leaf (direct (path_of pair.old.path)) (parsed_value (from_token stop.entry (left cursor.old)))) result cursor.new pair.new }
     ensures moves { GoesOn cursor.old cursor.new }
-    ensures bare { pair.old.path.items ≡ [] → IsEqualsStop stop.entry → IsTrue (is_plain cursor.old.rest.now) → ParsesBare result cursor.new pair.new }
+    ensures bare { pair.old.path ≡ [] → IsEqualsStop stop.entry → IsTrue (is_plain cursor.old.rest.now) → ParsesBare result cursor.new pair.new }
 {
     pair.manner = Manner::Plain;
     pair.leaf = parse_value(alloc, cursor, stop)?;
@@ -219,7 +219,7 @@ fn parse_push<'qs>(
     pair: &mut Pair<'qs>,
 ) -> Result<(), ParseError>
     requires { cursor.old.ended ≡ false }
-    ensures pair { ParsesPair (with_leaf (pushed (path_of pair.old.path.items)) (parsed_value (left cursor.old))) result cursor.new pair.new }
+    ensures pair { ParsesPair (with_leaf (pushed (path_of pair.old.path)) (parsed_value (left cursor.old))) result cursor.new pair.new }
     ensures moves { GoesOn cursor.old cursor.new }
 {
     let next = cursor.next();
@@ -254,7 +254,7 @@ fn parse_brackets<'qs>(
     pair: &mut Pair<'qs>,
 ) -> Result<(), ParseError>
     requires { Follows bracket cursor.old }
-    ensures pair { ParsesPair (parsed_brackets max_depth (path_of pair.old.path.items) bracket.entry.raw.now (left cursor.old)) result cursor.new pair.new }
+    ensures pair { ParsesPair (parsed_brackets max_depth (path_of pair.old.path) bracket.entry.raw.now (left cursor.old)) result cursor.new pair.new }
     ensures moves { GoesOn cursor.old cursor.new }
 {
     let mut room = max_depth;
@@ -303,7 +303,7 @@ fn parse_last_key<'qs>(
     requires end { cursor.old.ended ≡ false }
     requires follows { IsLeft bracket.place.rest.now cursor.old.rest.now }
     ensures pair { let run = cut ends_last (left cursor.old) in let key = taken bracket.entry.place.rest.now cursor.old.rest.now ++ raw_of run.0 in
-        ParsesPair (with_leaf (direct (longer (path_of pair.old.path.items) key)) (parsed_value run.1)) result cursor.new pair.new }
+        ParsesPair (with_leaf (direct (longer (path_of pair.old.path) key)) (parsed_value run.1)) result cursor.new pair.new }
     ensures moves { GoesOn cursor.old cursor.new }
 {
     let (key, stop) = cursor.run_from(bracket.place, Until::Separator);

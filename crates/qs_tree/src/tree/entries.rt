@@ -11,6 +11,12 @@ use std::alloc::{AllocError, Global};
 use std::marker::Model;
 use std::mem;
 
+/// How many entries the first allocation has room for.
+const FIRST_ROOM: usize = 4;
+
+/// How many the next one has room for, where the entries came in order.
+const SECOND_ROOM: usize = 12;
+
 /// A sorted vector of entries with distinct keys. Contracts see the list of entries.
 #[derive(Debug, Drop)]
 pub(crate) struct Entries<K: Ord, V> {
@@ -156,6 +162,9 @@ impl<K: Ord + Drop, V: Drop> Entries<K, V> {
         ensures ok { OnOk result (self.new ≡ insert_entry K.cmp self.old key value) }
         ensures err { OnErr result (self.new ≡ self.old) }
     {
+        if at == self.len() {
+            return self.push(key, value);
+        }
         Ok(self.items.insert(at, (key, value))?)
     }
 
@@ -166,7 +175,9 @@ impl<K: Ord + Drop, V: Drop> Entries<K, V> {
         ensures ok { OnOk result (self.new ≡ self.old ++ (key, value) ∷ []) }
         ensures err { OnErr result (self.new ≡ self.old) }
     {
-        self.items.reserve(1)?;
+        let is_full = self.items.len() == FIRST_ROOM && self.items.capacity() == FIRST_ROOM;
+        self.items
+            .reserve(if is_full { SECOND_ROOM - FIRST_ROOM } else { 1 })?;
         self.items.push_reserved((key, value));
         Ok(())
     }

@@ -5,6 +5,7 @@ use Rattle.std.specs.List.{AllAdjacentBelow}
 use Rattle.std.proofs.lemmas.Int.Digits.{length-digits_of_step}
 use Rattle.std.proofs.lemmas.Map.Keys.{Less-from_sorted}
 use Rattle.std.proofs.lemmas.Map.Entries.{length-keys_of}
+use Rattle.std.proofs.lemmas.List.Edits.{insert_end}
 
 below_or_at : (j m : ℕ) → j < m + 1 → (j < m) ⊎ (j ≡ m)
 below_or_at zero zero lt = inr refl
@@ -209,3 +210,9 @@ halved s t some half = omega (arith, length-digits_of_step 2 s (omega arith) som
 pub keys-append : {K X : Type 0} (es fs : List (K × X)) → keys_of (es ++ fs) ≡ keys_of es ++ keys_of fs
 keys-append [] fs = refl
 keys-append (e ∷ es) fs = ap (λ l. e.0 ∷ l) (keys-append es fs)
+
+-- a key whose place is the end
+pub sorted_push : {K X : Type 0} (cmp : K → K → Ordering) → IsTotalOrder cmp → (k : K) (v : X) (es : List (K × X)) (i : ℕ) → IsGap cmp k es i → i ≡ length es → IsStrictlySortedBy cmp (keys_of es) → IsStrictlySortedBy cmp (keys_of es ++ k ∷ [])
+sorted_push cmp total k v es i h at s =
+    let inserted : insert es i (k, v) ≡ es ++ (k, v) ∷ [] = rw at (insert_end es (k, v)) in
+    subst (λ ks. IsStrictlySortedBy cmp ks) (ap keys_of inserted ∙ keys-append es ((k, v) ∷ [])) (sorted_insert cmp total k v es i h s)

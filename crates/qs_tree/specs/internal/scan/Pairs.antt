@@ -36,8 +36,8 @@ abbrev pub path_of : List Key → List Step
 path_of keys = map step_of_key keys
 
 abbrev pub pair_of : Pair → grammar.Pair
-pair_of p = record { path = path_of p.path.items; push = is_push p.manner; leaf = leaf_of p.leaf }
+pair_of p = record { path = path_of p.path; push = is_push p.manner; leaf = leaf_of p.leaf }
 
 -- a plain pair at the empty path
 abbrev pub IsBare : Pair → Type 0
-IsBare p = (p.path.items ≡ []) × (p.manner ≡ Plain)
+IsBare p = (p.path ≡ []) × (p.manner ≡ Plain)

@@ -12,7 +12,7 @@ add_in_vector-returns-in-Ok t c =
     let new = c.add_along.new.node in
     let hit = rw c.in-Ok.is at c.requires.place in
     at_key built_tree fresh built_tree-fresh c.args.key es c.requires.sorted c.at_mut.result.now (same_Some _ _ (sym c.at_mut.ensures.value ∙ hit_value key_cmp c.args.key es c.in-Ok.at fresh hit)) _ _ refl
-    (add (path_of (drop c.args.level pair.path.items)) (is_push pair.manner) (leaf_of pair.leaf)) new (ap entries_seen (hit_insert key_cmp c.args.key es c.in-Ok.at new hit)) c.add_along.result c.add_along.ensures.added
+    (add (path_of (drop c.args.level pair.path)) (is_push pair.manner) (leaf_of pair.leaf)) new (ap entries_seen (hit_insert key_cmp c.args.key es c.in-Ok.at new hit)) c.add_along.result c.add_along.ensures.added
 
 pub add_in_vector-returns-in_err-add_along-in-Err : goal.add_in_vector-returns-in_err-add_along-in-Err
 add_in_vector-returns-in_err-add_along-in-Err t c =
@@ -22,7 +22,7 @@ add_in_vector-returns-in_err-add_along-in-Err t c =
     let error = c.in_err-add_along-in-Err.field-0.0 in
     gives_err _ _ c.from_residual.result error _ c.from_residual.ensures.1 (λ y p. p)
     (at_key built_tree fresh built_tree-fresh c.args.key es c.requires.sorted fresh (sym (ap (λ o. unwrap_or o fresh) (gap_lookup key_cmp c.args.key es c.in-Err.at gap))) {A = Unit {0}} _ _ refl
-    (add (path_of (drop c.args.level pair.path.items)) (is_push pair.manner) (leaf_of pair.leaf)) fresh refl (Err error) (rw c.fresh-node.ensures at c.in_err-add_along-in-Err.ensures.added))
+    (add (path_of (drop c.args.level pair.path)) (is_push pair.manner) (leaf_of pair.leaf)) fresh refl (Err error) (rw c.fresh-node.ensures at c.in_err-add_along-in-Err.ensures.added))
 
 pub add_in_vector-returns-in_ok-insert_at-in-Err : goal.add_in_vector-returns-in_ok-insert_at-in-Err
 add_in_vector-returns-in_ok-insert_at-in-Err t c =
@@ -31,7 +31,7 @@ add_in_vector-returns-in_ok-insert_at-in-Err t c =
     let gap = rw c.in-Err.is at c.requires.place in
     rw c.in_ok-insert_at-in-Err.ensures.ok
     (at_key built_tree fresh built_tree-fresh c.args.key es c.requires.sorted fresh (sym (ap (λ o. unwrap_or o fresh) (gap_lookup key_cmp c.args.key es c.in-Err.at gap))) _ _ refl
-    (add (path_of (drop c.args.level pair.path.items)) (is_push pair.manner) (leaf_of pair.leaf)) c.add_along-in-Err.new.node refl (Ok (tt {0})) (rw c.fresh-node.ensures at c.in_ok-add_along-in-Err.ensures.added))
+    (add (path_of (drop c.args.level pair.path)) (is_push pair.manner) (leaf_of pair.leaf)) c.add_along-in-Err.new.node refl (Ok (tt {0})) (rw c.fresh-node.ensures at c.in_ok-add_along-in-Err.ensures.added))
 
 pub add_below-returns-in_err-add_in_tree-in-Vector : goal.add_below-returns-in_err-add_in_tree-in-Vector
 add_below-returns-in_err-add_in_tree-in-Vector t c =
@@ -43,7 +43,7 @@ add_below-returns-in_err-add_in_tree-in-Vector t c =
 pub add_in_tree-returns : goal.add_in_tree-returns
 add_in_tree-returns t c =
     let es = c.args.tree.now.entries in
-    let path = path_of (drop c.args.level c.args.pair.now.path.items) in
+    let path = path_of (drop c.args.level c.args.pair.now.path) in
     let push = is_push c.args.pair.now.manner in
     let new = c.add_along.new.node in
     let lent = (rw c.fresh.ensures at c.or_insert-child.ensures.value) ∙ ap (λ o. unwrap_or o fresh) c.in_ok-tree.ensures.value in
@@ -56,5 +56,5 @@ add_along-returns-in-Map-clause-added t c =
     let pair = c.take_key-key.new.self in
     let h = rw (c.take_key-key.ensures.manner, c.take_key-key.ensures.leaf) at c.add_below.ensures in
     rw (c.in-Map.is, c.take_key-key.ensures.key, built_tree-Map c.in-Map.map, built_tree-Map c.add_below.new.map)
-    (below_map (step_of_key c.take_key-key.result) (path_of (drop (c.args.level + 1) pair.path.items)) (is_push c.args.pair.now.manner) (leaf_of c.args.pair.now.leaf)
+    (below_map (step_of_key c.take_key-key.result) (path_of (drop (c.args.level + 1) pair.path)) (is_push c.args.pair.now.manner) (leaf_of c.args.pair.now.leaf)
     (built_entries c.in-Map.map) (built_entries c.add_below.new.map) c.add_below.result h)

@@ -7,37 +7,37 @@ pub add_in_entries-returns-in-Ok : goal.add_in_entries-returns-in-Ok
 add_in_entries-returns-in-Ok t c =
     let pair = c.args.pair.now in
     let found = rw (c.in-Ok.is, c.as_slice.ensures.all) at c.place_among-place.ensures in
-    rw c.key.ensures
-    (added_below c.key.result.now c.args.entries.now c.as_slice.ensures.sorted c.in-Ok.at (path_of (drop (c.args.level + 1) pair.path.items)) (is_push pair.manner) (leaf_of pair.leaf)
+    rw c.key.ensures.key
+    (added_below c.key.result.now c.args.entries.now c.as_slice.ensures.sorted c.in-Ok.at (path_of (drop (c.args.level + 1) pair.path)) (is_push pair.manner) (leaf_of pair.leaf)
     found c.at_mut.result.now c.add_to_value.new.value c.at_mut.ensures.value pair c.add_to_value.new.pair c.add_to_value.result c.add_to_value.ensures)
 
 pub add_in_entries-returns-in_ok-insert_at-in-Err : goal.add_in_entries-returns-in_ok-insert_at-in-Err
 add_in_entries-returns-in_ok-insert_at-in-Err t c =
     let pair = c.args.pair.now in
     let taken = c.take_key-key.new.self in
-    let key : c.key.result.now ≡ c.take_key-key.result = same_head _ _ _ _ (sym c.key.ensures ∙ c.take_key-key.ensures.key) in
+    let key : c.key.result.now ≡ c.take_key-key.result = same_head _ _ _ _ (sym c.key.ensures.key ∙ c.take_key-key.ensures.key) in
     let gap = rw (c.in-Err.is, c.as_slice.ensures.all, key) at c.place_among-place.ensures in
     let alone = rw (c.take_key-key.ensures.manner, c.take_key-key.ensures.leaf) at c.in_ok-value-in-Err.ensures in
     rw (c.take_key-key.ensures.key, c.in_ok-insert_at-in-Err.ensures.ok)
-    (added_new c.take_key-key.result c.args.entries.now c.as_slice.ensures.sorted c.in-Err.at (path_of (drop (c.args.level + 1) taken.path.items)) (is_push pair.manner) (leaf_of pair.leaf)
+    (added_new c.take_key-key.result c.args.entries.now c.as_slice.ensures.sorted c.in-Err.at (path_of (drop (c.args.level + 1) taken.path)) (is_push pair.manner) (leaf_of pair.leaf)
     gap c.in_ok-value-in-Err.value alone)
 
 pub add_to_value-returns-in-Sequence : goal.add_to_value-returns-in-Sequence
 add_to_value-returns-in-Sequence t c =
     let pair = c.args.pair.now in
-    λ other. barred pair.path.items c.args.level (omega (arith, c.requires, c.if-level-len.false, c.len.ensures)) (is_push pair.manner) (leaf_of pair.leaf) (tree_of c.args.value.now) (rw c.in-Sequence.is (below-Sequence _))
+    λ other. barred pair.path c.args.level (omega (arith, c.requires, c.if-level-len.false, c.len.ensures)) (is_push pair.manner) (leaf_of pair.leaf) (tree_of c.args.value.now) (rw c.in-Sequence.is (below-Sequence _))
 
 pub add_to_value-returns-in-String : goal.add_to_value-returns-in-String
 add_to_value-returns-in-String t c =
     let pair = c.args.pair.now in
-    λ other. barred pair.path.items c.args.level (omega (arith, c.requires, c.if-level-len.false, c.len.ensures)) (is_push pair.manner) (leaf_of pair.leaf) (tree_of c.args.value.now) (rw c.in-String.is (below-String _))
+    λ other. barred pair.path c.args.level (omega (arith, c.requires, c.if-level-len.false, c.len.ensures)) (is_push pair.manner) (leaf_of pair.leaf) (tree_of c.args.value.now) (rw c.in-String.is (below-String _))
 
 pub add_to_value-returns-in-Null : goal.add_to_value-returns-in-Null
 add_to_value-returns-in-Null t c =
     let pair = c.args.pair.now in
-    λ other. barred pair.path.items c.args.level (omega (arith, c.requires, c.if-level-len.false, c.len.ensures)) (is_push pair.manner) (leaf_of pair.leaf) (tree_of c.args.value.now) (rw c.in-Null.is below-Null)
+    λ other. barred pair.path c.args.level (omega (arith, c.requires, c.if-level-len.false, c.len.ensures)) (is_push pair.manner) (leaf_of pair.leaf) (tree_of c.args.value.now) (rw c.in-Null.is below-Null)
 
 pub add_to_value-returns-in-NoValue : goal.add_to_value-returns-in-NoValue
 add_to_value-returns-in-NoValue t c =
     let pair = c.args.pair.now in
-    λ other. barred pair.path.items c.args.level (omega (arith, c.requires, c.if-level-len.false, c.len.ensures)) (is_push pair.manner) (leaf_of pair.leaf) (tree_of c.args.value.now) (rw c.in-NoValue.is below-NoValue)
+    λ other. barred pair.path c.args.level (omega (arith, c.requires, c.if-level-len.false, c.len.ensures)) (is_push pair.manner) (leaf_of pair.leaf) (tree_of c.args.value.now) (rw c.in-NoValue.is below-NoValue)

@@ -7,23 +7,23 @@ pub keys-init : goal.keys-init
 keys-init c =
     let pair = c.args.pair.now in
     record {
-      made = rw c.in_ok-value.ensures.path (alone (path_of (drop c.args.level pair.path.items)) (is_push pair.manner) (leaf_of pair.leaf) (tree_of c.in_ok-value.value) c.in_ok-value.ensures.value);
+      made = rw c.in_ok-value.ensures.path (alone (path_of (drop c.args.level pair.path)) (is_push pair.manner) (leaf_of pair.leaf) (tree_of c.in_ok-value.value) c.in_ok-value.ensures.value);
       count = rw c.in_ok-value.ensures.path c.requires;
     }
 
 pub keys-preserved : goal.keys-preserved
 keys-preserved c =
     let key = c.pop_key-key.result in
-    let rest = c.pop_key-key.new.self.path.items in
+    let rest = c.pop_key-key.new.self.path in
     let count : c.args.level ≤ length rest = omega (arith, c.keys-test.true, ap length c.pop_key-key.ensures, length-append rest (key ∷ [])) in
     let above = tree_of-Map c.in_ok-map.map ∙ ap mapping c.in_ok-map.ensures in
     record {
       made = c.keys.invariant.made
-          ∙ ap Some (shorter c.args.level c.keys.pair.path.items rest key (tree_of c.keys.value) c.pop_key-key.ensures count ∙ ap (chain (path_of (drop c.args.level rest))) (sym above));
+          ∙ ap Some (shorter c.args.level c.keys.pair.path rest key (tree_of c.keys.value) c.pop_key-key.ensures count ∙ ap (chain (path_of (drop c.args.level rest))) (sym above));
       count = count;
     }
 
 pub returns : goal.returns
 returns c =
-    let keys = c.keys.pair.path.items in
+    let keys = c.keys.pair.path in
     c.keys.invariant.made ∙ ap (λ l. Some (chain (path_of l) (tree_of c.keys.value))) (drop_of_length-le keys (omega (arith, c.keys-test.false)))

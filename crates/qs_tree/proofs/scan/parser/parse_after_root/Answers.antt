@@ -6,6 +6,6 @@ pub returns-in_ok-keep_root-in-Some-clause-pair : goal.returns-in_ok-keep_root-i
 returns-in_ok-keep_root-in-Some-clause-pair c =
     let kept = c.in_ok-keep_root-in-Some.ensures in
     pair_as _ _ c.parse_brackets.result c.parse_brackets.new.cursor c.parse_brackets.new.pair
-    (root_open c.args.max_depth c.args.key.now c.args.stop c.in-Some.token (left c.args.cursor.now) (left c.keep_root.new.self) (path_of c.parse_root.new.path.items)
+    (root_open c.args.max_depth c.args.key.now c.args.stop c.in-Some.token (left c.args.cursor.now) (left c.keep_root.new.self) (path_of c.parse_root.new.path)
     c.in-Some.is (sym c.is_open.ensures ∙ c.if-is_open.true) (sym (ap₂ tokens kept.form kept.rest)) c.in_ok-parse_root.ensures.path)
     c.parse_brackets.ensures.pair

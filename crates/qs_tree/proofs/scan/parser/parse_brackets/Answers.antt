@@ -4,7 +4,7 @@ use Rattle.qs_tree.proofs.scan.parser.parse_brackets.Goals as goal
 
 pub returns-then-is_close-clause-pair : goal.returns-then-is_close-clause-pair
 returns-then-is_close-clause-pair c =
-    let keys = c.loop-first.pair.path.items in
+    let keys = c.loop-first.pair.path in
     let room = c.loop-first.room in
     let bracket = c.loop-first.bracket.raw.now in
     let first = token_of c.in-Some.first in
@@ -25,7 +25,7 @@ parse_last_key-requires-clause-follows c =
 
 pub returns-then-room-eq0-clause-pair : goal.returns-then-room-eq0-clause-pair
 returns-then-room-eq0-clause-pair c =
-    let keys = c.loop-first.pair.path.items in
+    let keys = c.loop-first.pair.path in
     let room = c.loop-first.room in
     let bracket = c.loop-first.bracket.raw.now in
     let first = token_of c.in-Some.first in
@@ -44,34 +44,34 @@ returns-then-room-eq0-clause-pair c =
 
 pub returns-in_default-stop-clause-pair : goal.returns-in_default-stop-clause-pair
 returns-in_default-stop-clause-pair c =
-    let keys = c.loop-first.pair.path.items in
+    let keys = c.loop-first.pair.path in
     let room = c.loop-first.room in
     let bracket = c.loop-first.bracket.raw.now in
     let first = token_of c.in-Some.first in
     let kept = c.keep_spot.new.self in
     let found = c.loop-first.invariant.found ∙ ap (parsed_brackets room (path_of keys) bracket) (c.in-Some.ensures.token ∙ ap (λ ts. first ∷ ts) (sym (ap₂ tokens c.in_ok-keep_spot.ensures.form c.in_ok-keep_spot.ensures.rest))) in
-    let new = c.push.new.self.items in
+    let new = c.push.new.self in
     let run_rest = left c.run_from.new.self in
     let first_bytes = first_token c.in-Some.first.place.rest.now first.raw c.loop-first.cursor.rest.now c.next.new.self.rest.now kept.rest.now c.in-Some.ensures.place c.in-Some.ensures.bytes c.in_ok-keep_spot.ensures.rest in
     let run = c.run_from.ensures.run ∙ ap (λ l. l ++ raw_of (cut is_close (left kept)).0) (taken_behind c.in-Some.first.place.rest.now first.raw kept.rest.now first_bytes) in
     let segment = found ∙ segment_read room keys new c.in_ok-parse_key.field-0 bracket c.run_from.result.0.now first (left kept) (from_token c.run_from.result.1 run_rest) (omega arith)
-    (sym c.is_close.ensures ∙ c.if-is_close.false) run c.run_from.ensures.token c.in_ok-push.ensures.items c.in_ok-parse_key.ensures.key in
+    (sym c.is_close.ensures ∙ c.if-is_close.false) run c.run_from.ensures.token c.in_ok-push.ensures c.in_ok-parse_key.ensures.key in
     segment ∙ ap (λ o. after_run (parsed_brackets (room - 1)) (path_of new) (from_token o run_rest)) c.in_default-stop.is
 
 pub returns-in_default-next-clause-pair : goal.returns-in_default-next-clause-pair
 returns-in_default-next-clause-pair c =
-    let keys = c.loop-first.pair.path.items in
+    let keys = c.loop-first.pair.path in
     let room = c.loop-first.room in
     let bracket = c.loop-first.bracket.raw.now in
     let first = token_of c.in-Some.first in
     let kept = c.keep_spot.new.self in
     let found = c.loop-first.invariant.found ∙ ap (parsed_brackets room (path_of keys) bracket) (c.in-Some.ensures.token ∙ ap (λ ts. first ∷ ts) (sym (ap₂ tokens c.in_ok-keep_spot.ensures.form c.in_ok-keep_spot.ensures.rest))) in
-    let new = c.push.new.self.items in
+    let new = c.push.new.self in
     let run_rest = left c.run_from.new.self in
     let first_bytes = first_token c.in-Some.first.place.rest.now first.raw c.loop-first.cursor.rest.now c.next.new.self.rest.now kept.rest.now c.in-Some.ensures.place c.in-Some.ensures.bytes c.in_ok-keep_spot.ensures.rest in
     let run = c.run_from.ensures.run ∙ ap (λ l. l ++ raw_of (cut is_close (left kept)).0) (taken_behind c.in-Some.first.place.rest.now first.raw kept.rest.now first_bytes) in
     let segment = found ∙ segment_read room keys new c.in_ok-parse_key.field-0 bracket c.run_from.result.0.now first (left kept) (from_token c.run_from.result.1 run_rest) (omega arith)
-    (sym c.is_close.ensures ∙ c.if-is_close.false) run c.run_from.ensures.token c.in_ok-push.ensures.items c.in_ok-parse_key.ensures.key in
+    (sym c.is_close.ensures ∙ c.if-is_close.false) run c.run_from.ensures.token c.in_ok-push.ensures c.in_ok-parse_key.ensures.key in
     let closed = segment ∙ ap (λ o. after_run (parsed_brackets (room - 1)) (path_of new) (from_token o run_rest)) c.in-Some-stop.is in
     pair_as _ _ c.parse_plain.result c.parse_plain.new.cursor c.parse_plain.new.pair
     (closed ∙ ap (after_close (parsed_brackets (room - 1)) (path_of new)) c.in_default-next.ensures.token
@@ -80,18 +80,18 @@ returns-in_default-next-clause-pair c =
 
 pub returns-in-Ampersand-clause-pair : goal.returns-in-Ampersand-clause-pair
 returns-in-Ampersand-clause-pair c =
-    let keys = c.loop-first.pair.path.items in
+    let keys = c.loop-first.pair.path in
     let room = c.loop-first.room in
     let bracket = c.loop-first.bracket.raw.now in
     let first = token_of c.in-Some.first in
     let kept = c.keep_spot.new.self in
     let found = c.loop-first.invariant.found ∙ ap (parsed_brackets room (path_of keys) bracket) (c.in-Some.ensures.token ∙ ap (λ ts. first ∷ ts) (sym (ap₂ tokens c.in_ok-keep_spot.ensures.form c.in_ok-keep_spot.ensures.rest))) in
-    let new = c.push.new.self.items in
+    let new = c.push.new.self in
     let run_rest = left c.run_from.new.self in
     let first_bytes = first_token c.in-Some.first.place.rest.now first.raw c.loop-first.cursor.rest.now c.next.new.self.rest.now kept.rest.now c.in-Some.ensures.place c.in-Some.ensures.bytes c.in_ok-keep_spot.ensures.rest in
     let run = c.run_from.ensures.run ∙ ap (λ l. l ++ raw_of (cut is_close (left kept)).0) (taken_behind c.in-Some.first.place.rest.now first.raw kept.rest.now first_bytes) in
     let segment = found ∙ segment_read room keys new c.in_ok-parse_key.field-0 bracket c.run_from.result.0.now first (left kept) (from_token c.run_from.result.1 run_rest) (omega arith)
-    (sym c.is_close.ensures ∙ c.if-is_close.false) run c.run_from.ensures.token c.in_ok-push.ensures.items c.in_ok-parse_key.ensures.key in
+    (sym c.is_close.ensures ∙ c.if-is_close.false) run c.run_from.ensures.token c.in_ok-push.ensures c.in_ok-parse_key.ensures.key in
     let closed = segment ∙ ap (λ o. after_run (parsed_brackets (room - 1)) (path_of new) (from_token o run_rest)) c.in-Some-stop.is in
     let token = c.in-Some-next.token in
     pair_as _ _ c.parse_plain-in-Ampersand.result c.parse_plain-in-Ampersand.new.cursor c.parse_plain-in-Ampersand.new.pair
@@ -102,18 +102,18 @@ returns-in-Ampersand-clause-pair c =
 
 pub loop-first-preserved : goal.loop-first-preserved
 loop-first-preserved c =
-    let keys = c.loop-first.pair.path.items in
+    let keys = c.loop-first.pair.path in
     let room = c.loop-first.room in
     let bracket = c.loop-first.bracket.raw.now in
     let first = token_of c.in-Some.first in
     let kept = c.keep_spot.new.self in
     let found = c.loop-first.invariant.found ∙ ap (parsed_brackets room (path_of keys) bracket) (c.in-Some.ensures.token ∙ ap (λ ts. first ∷ ts) (sym (ap₂ tokens c.in_ok-keep_spot.ensures.form c.in_ok-keep_spot.ensures.rest))) in
-    let new = c.push.new.self.items in
+    let new = c.push.new.self in
     let run_rest = left c.run_from.new.self in
     let first_bytes = first_token c.in-Some.first.place.rest.now first.raw c.loop-first.cursor.rest.now c.next.new.self.rest.now kept.rest.now c.in-Some.ensures.place c.in-Some.ensures.bytes c.in_ok-keep_spot.ensures.rest in
     let run = c.run_from.ensures.run ∙ ap (λ l. l ++ raw_of (cut is_close (left kept)).0) (taken_behind c.in-Some.first.place.rest.now first.raw kept.rest.now first_bytes) in
     let segment = found ∙ segment_read room keys new c.in_ok-parse_key.field-0 bracket c.run_from.result.0.now first (left kept) (from_token c.run_from.result.1 run_rest) (omega arith)
-    (sym c.is_close.ensures ∙ c.if-is_close.false) run c.run_from.ensures.token c.in_ok-push.ensures.items c.in_ok-parse_key.ensures.key in
+    (sym c.is_close.ensures ∙ c.if-is_close.false) run c.run_from.ensures.token c.in_ok-push.ensures c.in_ok-parse_key.ensures.key in
     let closed = segment ∙ ap (λ o. after_run (parsed_brackets (room - 1)) (path_of new) (from_token o run_rest)) c.in-Some-stop.is in
     record {
       found = closed ∙ ap (after_close (parsed_brackets (room - 1)) (path_of new)) c.in-Some-next.ensures.token
@@ -126,18 +126,18 @@ loop-first-preserved c =
 
 pub returns-in-Close-clause-pair : goal.returns-in-Close-clause-pair
 returns-in-Close-clause-pair c =
-    let keys = c.loop-first.pair.path.items in
+    let keys = c.loop-first.pair.path in
     let room = c.loop-first.room in
     let bracket = c.loop-first.bracket.raw.now in
     let first = token_of c.in-Some.first in
     let kept = c.keep_spot.new.self in
     let found = c.loop-first.invariant.found ∙ ap (parsed_brackets room (path_of keys) bracket) (c.in-Some.ensures.token ∙ ap (λ ts. first ∷ ts) (sym (ap₂ tokens c.in_ok-keep_spot.ensures.form c.in_ok-keep_spot.ensures.rest))) in
-    let new = c.push.new.self.items in
+    let new = c.push.new.self in
     let run_rest = left c.run_from.new.self in
     let first_bytes = first_token c.in-Some.first.place.rest.now first.raw c.loop-first.cursor.rest.now c.next.new.self.rest.now kept.rest.now c.in-Some.ensures.place c.in-Some.ensures.bytes c.in_ok-keep_spot.ensures.rest in
     let run = c.run_from.ensures.run ∙ ap (λ l. l ++ raw_of (cut is_close (left kept)).0) (taken_behind c.in-Some.first.place.rest.now first.raw kept.rest.now first_bytes) in
     let segment = found ∙ segment_read room keys new c.in_ok-parse_key.field-0 bracket c.run_from.result.0.now first (left kept) (from_token c.run_from.result.1 run_rest) (omega arith)
-    (sym c.is_close.ensures ∙ c.if-is_close.false) run c.run_from.ensures.token c.in_ok-push.ensures.items c.in_ok-parse_key.ensures.key in
+    (sym c.is_close.ensures ∙ c.if-is_close.false) run c.run_from.ensures.token c.in_ok-push.ensures c.in_ok-parse_key.ensures.key in
     let closed = segment ∙ ap (λ o. after_run (parsed_brackets (room - 1)) (path_of new) (from_token o run_rest)) c.in-Some-stop.is in
     let token = c.in-Some-next.token in
     closed ∙ ap (after_close (parsed_brackets (room - 1)) (path_of new)) c.in-Some-next.ensures.token
@@ -145,18 +145,18 @@ returns-in-Close-clause-pair c =
 
 pub returns-in-Other-clause-pair : goal.returns-in-Other-clause-pair
 returns-in-Other-clause-pair c =
-    let keys = c.loop-first.pair.path.items in
+    let keys = c.loop-first.pair.path in
     let room = c.loop-first.room in
     let bracket = c.loop-first.bracket.raw.now in
     let first = token_of c.in-Some.first in
     let kept = c.keep_spot.new.self in
     let found = c.loop-first.invariant.found ∙ ap (parsed_brackets room (path_of keys) bracket) (c.in-Some.ensures.token ∙ ap (λ ts. first ∷ ts) (sym (ap₂ tokens c.in_ok-keep_spot.ensures.form c.in_ok-keep_spot.ensures.rest))) in
-    let new = c.push.new.self.items in
+    let new = c.push.new.self in
     let run_rest = left c.run_from.new.self in
     let first_bytes = first_token c.in-Some.first.place.rest.now first.raw c.loop-first.cursor.rest.now c.next.new.self.rest.now kept.rest.now c.in-Some.ensures.place c.in-Some.ensures.bytes c.in_ok-keep_spot.ensures.rest in
     let run = c.run_from.ensures.run ∙ ap (λ l. l ++ raw_of (cut is_close (left kept)).0) (taken_behind c.in-Some.first.place.rest.now first.raw kept.rest.now first_bytes) in
     let segment = found ∙ segment_read room keys new c.in_ok-parse_key.field-0 bracket c.run_from.result.0.now first (left kept) (from_token c.run_from.result.1 run_rest) (omega arith)
-    (sym c.is_close.ensures ∙ c.if-is_close.false) run c.run_from.ensures.token c.in_ok-push.ensures.items c.in_ok-parse_key.ensures.key in
+    (sym c.is_close.ensures ∙ c.if-is_close.false) run c.run_from.ensures.token c.in_ok-push.ensures c.in_ok-parse_key.ensures.key in
     let closed = segment ∙ ap (λ o. after_run (parsed_brackets (room - 1)) (path_of new) (from_token o run_rest)) c.in-Some-stop.is in
     let token = c.in-Some-next.token in
     closed ∙ ap (after_close (parsed_brackets (room - 1)) (path_of new)) c.in-Some-next.ensures.token

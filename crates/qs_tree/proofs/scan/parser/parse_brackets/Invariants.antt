@@ -4,7 +4,7 @@ use Rattle.qs_tree.proofs.scan.parser.parse_brackets.Given as goal
 -- what is found after the last bracket is what is found after the first
 abbrev pub invariant-loop-first : goal.invariant-loop-first
 invariant-loop-first l = record {
-  found : parsed_brackets l.fn.max_depth (path_of l.fn.pair.path.items) l.fn.bracket.raw.now (left l.fn.cursor) ≡ parsed_brackets l.room (path_of l.pair.path.items) l.bracket.raw.now (left l.cursor);
+  found : parsed_brackets l.fn.max_depth (path_of l.fn.pair.path) l.fn.bracket.raw.now (left l.fn.cursor) ≡ parsed_brackets l.room (path_of l.pair.path) l.bracket.raw.now (left l.cursor);
   follows : Follows l.bracket l.cursor;
   form : l.cursor.form ≡ l.fn.cursor.form;
   shorter : length l.cursor.rest.now ≤ length l.fn.cursor.rest.now;

@@ -34,7 +34,7 @@ some_bytes a b h = cc
 module _ (config : Config) (x : Data) (start last : Writer) (fresh : IsFresh config start) where
   at_top : (r : Result (Unit {0}) Stop) → WritesPart r start last (data_part x) → Writes r config [] start_of (state_of last) last.walk (entries config x)
   at_top r p =
-      let P : Config → Type 0 = λ k. (path : Path) → IsAt k.form path start.walk → Writes r k path (state_of start) (state_of last) last.walk (data_part x k path) in
+      let P : Config → Type 0 = λ k. (path : Path) → IsAt k path start.walk → Writes r k path (state_of start) (state_of last) last.walk (data_part x k path) in
       let Q : StreamState → Type 0 = λ s. Writes r config [] s (state_of last) last.walk (entries config x) in
       subst Q fresh.state (subst P fresh.settings p.writes [] fresh.top)
 

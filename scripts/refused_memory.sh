@@ -117,7 +117,8 @@ refuse_each 'a=1,,3' 1 'error: invalid item ``' values
 refuse_each 'name=a' 1 'error: missing field `address`' order
 refuse_each 'a=1&a[b' 1 "error: parsing failed with error: '$value_and_map' at position: 7" map
 
-# Each typed call, and writers that take a byte at a time and have room for some: what they hold after a failed allocation are whole entries.
+# Each typed call, and writers that take a byte at a time and have room for some: after a failed allocation they hold whole entries of a
+# serializer, and nothing of a typed call.
 order='items=7&items=8&name=A%63me&address[city]=Carrot+City&address[street]=S'
 text='name=Acme&address[street]=S&address[city]=Carrot+City&items[0]=7&items[1]=8'
 refuse_each "$order" 0 "$text" order each_call

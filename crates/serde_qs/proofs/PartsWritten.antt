@@ -1,5 +1,5 @@
 -- The parts of values that write themselves.
-use Rattle.std.proofs.Common.{◌≡◌, ℕ, ◌+◌, ◌<◌, List, [], ◌∷◌, length, map, refl, arith, Some, Result, Ok, Err}
+use Rattle.std.proofs.Common.{◌≡◌, ℕ, ◌<◌, List, [], ◌∷◌, length, map, refl, arith, Some, Result, Ok, Err}
 use Rattle.qs_spec.specs.Config.{Config}
 use Rattle.qs_spec.specs.Data as d
 use Rattle.qs_spec.specs.Data.{Data, Named, members_of, pairs_of, values_of}

@@ -1,7 +1,6 @@
 -- Where the parts of a value go.
-use Rattle.std.specs.Prelude.{⊤, Result}
+use Rattle.std.specs.Prelude.{⊤}
 use Rattle.qs_data.specs.write.Parts.{Part, WritesPart}
-use Rattle.qs_data.specs.declared.write.stop.Stop.{Stop}
 use Rattle.qs_data.specs.declared.write.writer.Writer.{Writer}
 use Rattle.serde_qs.specs.declared.compound.out.Exit.{Exit}
 use Rattle.serde_qs.specs.declared.compound.out.Exit.TheVariants as exit

@@ -1,7 +1,6 @@
 //! Typed calls.
 
 mod config_ext;
-mod lent;
 mod reading;
 mod writing;
 

@@ -45,12 +45,12 @@ state_of w = record { taken = Some w.stream.sink.writer.items; failed = w.stream
 -- Wherever the writer was, all of the part was written after what was written before, and the writer is there again; or what the stop says.
 pub record WritesPart (result : Result (Unit {0}) Stop) (old new : Writer) (part : Part) : Type 0 where
   pub config : new.config ≡ old.config
-  pub writes : (path : Path) → IsAt old.config.form path old.walk → Writes result old.config path (state_of old) (state_of new) new.walk (part old.config path)
+  pub writes : (path : Path) → IsAt old.config path old.walk → Writes result old.config path (state_of old) (state_of new) new.walk (part old.config path)
 
 -- a writer that wrote nothing, at the top
 pub record IsFresh (config : Config) (w : Writer) : Type 0 where
   pub settings : w.config ≡ config
-  pub top : IsAt config.form [] w.walk
+  pub top : IsAt config [] w.walk
   pub state : state_of w ≡ record { taken = Some []; failed = false; writer = 0; started = false }
 
 -- wherever the writer was, it is under one more segment; its text was so long before
@@ -58,10 +58,10 @@ pub record Enters (segment : List ℕ) (len : ℕ) (old new : Writer) : Type 0 w
   pub config : new.config ≡ old.config
   pub state : state_of new ≡ state_of old
   pub before : len ≡ length old.walk.text
-  pub within : (path : Path) → IsAt old.config.form path old.walk → (length path ≤ old.config.max_depth) × IsAt old.config.form (path ++ segment ∷ []) new.walk
+  pub within : (path : Path) → IsAt old.config path old.walk → (length path ≤ old.config.max_depth) × IsAt old.config (path ++ segment ∷ []) new.walk
 
 -- the writer is where it was before its last segment, if its text was so long there
 pub record Leaves (len : ℕ) (old new : Writer) : Type 0 where
   pub config : new.config ≡ old.config
   pub state : state_of new ≡ state_of old
-  pub back : (path : Path) (segment : List ℕ) → IsAt old.config.form (path ++ segment ∷ []) old.walk → len ≡ length (path_after old.config.form path) → IsAt old.config.form path new.walk
+  pub back : (path : Path) (segment : List ℕ) → IsAt old.config (path ++ segment ∷ []) old.walk → len ≡ length (path_after old.config.form path) → IsAt old.config path new.walk

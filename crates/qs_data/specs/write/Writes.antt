@@ -61,15 +61,16 @@ abbrev pub grown : Bool → List ℕ → List ℕ → List ℕ
 grown form [] s = 38 ∷ encoded form s
 grown form (b ∷ text) s = (b ∷ text) ++ (open_bytes form ++ (encoded form s ++ close_bytes form))
 
--- the walk is at this path
-pub record IsAt (form : Bool) (path : Path) (walk : Walk) : Type 0 where
+-- the walk is at this path, under this configuration
+pub record IsAt (config : Config) (path : Path) (walk : Walk) : Type 0 where
+  pub settings : walk.config ≡ config
   pub depth : walk.depth ≡ length path
-  pub text : walk.text ≡ path_after form path
+  pub text : walk.text ≡ path_after config.form path
   pub visible : All IsVisible walk.text
 
 -- all entries were written, there is no error and the walk is where it was, or what the stop says
 abbrev pub Writes : Result (Unit {0}) Stop → Config → Path → StreamState → StreamState → Walk → Output → Type 0
-Writes (Ok x) config path old new walk o = (o.refusal ≡ None) × Adds config.form old new o.entries × IsAt config.form path walk
+Writes (Ok x) config path old new walk o = (o.refusal ≡ None) × Adds config.form old new o.entries × IsAt config path walk
 Writes (Err e) config path old new walk o = Stops e config old new o
 
 -- a stream and the text in it, by what its sink reports
@@ -77,6 +78,6 @@ abbrev pub state_in : {S : Type 0} → (S → Option (List ℕ)) → (S → Bool
 state_in taken failed name stream = record { taken = taken stream.sink; failed = failed stream.sink; writer = name stream.sink; started = stream.started }
 
 -- what a call leaves that writes a part of the data to a stream, wherever the walk is
-abbrev pub WritesTo : {S : Type 0} → (S → Option (List ℕ)) → (S → Bool) → (S → ℕ) → Result (Unit {0}) Stop → Config → Stream S → Stream S → Walk → Walk → (Path → Output) → Type 0
-WritesTo taken failed name result config old new from to part =
-    (path : Path) → IsAt config.form path from → Writes result config path (state_in taken failed name old) (state_in taken failed name new) to (part path)
+abbrev pub WritesTo : {S : Type 0} → (S → Option (List ℕ)) → (S → Bool) → (S → ℕ) → Result (Unit {0}) Stop → Stream S → Stream S → Walk → Walk → (Config → Path → Output) → Type 0
+WritesTo taken failed name result old new from to part =
+    (config : Config) (path : Path) → IsAt config path from → Writes result config path (state_in taken failed name old) (state_in taken failed name new) to (part config path)

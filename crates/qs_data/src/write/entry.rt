@@ -1,6 +1,7 @@
 //! Entries. Each is made whole before it is put, but for a long value, which is put in pieces after its key and allocates nothing.
 
 ghost use Rattle.std.specs.Prelude.{◌≡◌, ◌==◌, ◌||◌, cond, ◌<◌, ◌≤◌, ◌⊎◌, ◌++◌, [], ◌∷◌, ℕ, Bool, List, length, take, Some, Err, OnOk, OnErr, IfOk, IfErr, IsNone, option_map};
+ghost use Rattle.qs_spec.specs.Config.{Config as Settings};
 ghost use Rattle.qs_spec.specs.Entry.{Path, one};
 ghost use Rattle.qs_spec.specs.Escape.{encoded};
 ghost use Rattle.std.specs.List.{All};
@@ -25,9 +26,11 @@ pub(crate) struct Stream<S> {
     pub(crate) started: bool,
 }
 
-/// Where a walk over data is.
+/// Where a walk over data is, and how it writes.
 #[derive(Drop)]
 pub(crate) struct Walk {
+    /// How it writes.
+    pub(crate) config: Config,
     /// How many segments lead there.
     depth: usize,
     /// Their text after an `&`. Going in appends, leaving truncates.
@@ -38,10 +41,11 @@ pub(crate) struct Walk {
 
 impl Walk {
     /// A walk that begins at the top.
-    pub(crate) fn new(alloc: Global) -> Walk
-        ensures { (form : Bool) → IsAt form [] result }
+    pub(crate) fn new(alloc: Global, config: Config) -> Walk
+        ensures { IsAt config [] result }
     {
         Walk {
+            config,
             depth: 0,
             text: Text::new(alloc),
             cause: io::Error::from(io::ErrorKind::WriteZero),
@@ -49,26 +53,26 @@ impl Walk {
     }
 
     /// Goes under one more segment, unless the path is as long as the limit allows. Returns how long the text was before.
-    pub(crate) fn enter(&mut self, config: Config, segment: Scalar<'_>) -> Result<usize, Stop>
+    pub(crate) fn enter(&mut self, segment: Scalar<'_>) -> Result<usize, Stop>
         ensures len { IfOk result (λ len. len ≡ length self.old.text) }
-        ensures ok { OnOk result ((path : Path) → IsAt config.form path self.old
-            → (length path ≤ config.max_depth) × IsAt config.form (path ++ scalar_text segment.entry ∷ []) self.new) }
-        ensures err { IfErr result (λ stop. (path : Path) → IsAt config.form path self.old
+        ensures ok { OnOk result ((config : Settings) (path : Path) → IsAt config path self.old
+            → (length path ≤ config.max_depth) × IsAt config (path ++ scalar_text segment.entry ∷ []) self.new) }
+        ensures err { IfErr result (λ stop. (config : Settings) (path : Path) → IsAt config path self.old
             → ((stop ≡ TooDeep) × (config.max_depth < length path)) ⊎ (stop ≡ OutOfMemory)) }
     {
-        if config.get_max_depth() < self.depth {
+        if self.config.get_max_depth() < self.depth {
             return Err(Stop::TooDeep);
         }
         let len = self.text.len();
-        append_segment(&mut self.text, config.get_form(), segment)?;
+        append_segment(&mut self.text, self.config.get_form(), segment)?;
         self.depth = self.depth.saturating_add(1);
         Ok(len)
     }
 
     /// Leaves the last segment; the text was this long before it.
     pub(crate) fn leave(&mut self, len: usize)
-        ensures { (form : Bool) (path : Path) (segment : List ℕ) → IsAt form (path ++ segment ∷ []) self.old
-            → len ≡ length (path_after form path) → IsAt form path self.new }
+        ensures { (config : Settings) (path : Path) (segment : List ℕ) → IsAt config (path ++ segment ∷ []) self.old
+            → len ≡ length (path_after config.form path) → IsAt config path self.new }
     {
         self.text.truncate(len);
         self.depth = self.depth.saturating_sub(1);
@@ -126,14 +130,13 @@ fn append_value<'a>(
 pub(crate) fn put<S: Sink>(
     stream: &mut Stream<S>,
     walk: &mut Walk,
-    config: Config,
     value: Option<Scalar<'_>>,
 ) -> Result<(), Stop>
-    ensures writes { WritesTo S.taken S.failed S.writer_name result config stream.old stream.new walk.old walk.new
-        (λ path. one path (option_map scalar_text value.entry)) }
+    ensures writes { WritesTo S.taken S.failed S.writer_name result stream.old stream.new walk.old walk.new
+        (λ config path. one path (option_map scalar_text value.entry)) }
     ensures bare { walk.old.text ≡ [] → IsNone value.entry → result ≡ Err OutOfMemory → ⊥ }
 {
-    let form = config.get_form();
+    let form = walk.config.get_form();
     let len = walk.text.len();
     let rest = append_value(&mut walk.text, form, value)?;
     let start = skipped(stream.started, len);
@@ -145,17 +148,13 @@ pub(crate) fn put<S: Sink>(
 }
 
 /// Puts the entry with an empty value where the walk is.
-pub(crate) fn put_empty<S: Sink>(
-    stream: &mut Stream<S>,
-    walk: &mut Walk,
-    config: Config,
-) -> Result<(), Stop>
-    ensures writes { WritesTo S.taken S.failed S.writer_name result config stream.old stream.new walk.old walk.new
-        (λ path. one path (Some [])) }
+pub(crate) fn put_empty<S: Sink>(stream: &mut Stream<S>, walk: &mut Walk) -> Result<(), Stop>
+    ensures writes { WritesTo S.taken S.failed S.writer_name result stream.old stream.new walk.old walk.new
+        (λ config path. one path (Some [])) }
     ensures bare { walk.old.text ≡ [] → result ≡ Err OutOfMemory → ⊥ }
 {
     if walk.text.len() != 0 {
-        return put(stream, walk, config, Some(Scalar::Bytes(&[])));
+        return put(stream, walk, Some(Scalar::Bytes(&[])));
     }
     put_all(&mut stream.sink, b"=", &mut walk.cause)?;
     Ok(())

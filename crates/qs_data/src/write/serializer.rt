@@ -148,7 +148,7 @@ impl<S: Sink> Serializer<S> {
             return Err(Error::Failed);
         }
         self.failed = true;
-        let mut walk = Walk::new(alloc);
+        let mut walk = Walk::new(alloc, self.config);
         match write_all(&mut self.stream, &mut walk, self.config, datum) {
             Ok(()) => {
                 self.failed = false;

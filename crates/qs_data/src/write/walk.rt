@@ -1,9 +1,9 @@
 //! The walk over data.
 
 ghost use Rattle.std.specs.Prelude.{◌≡◌, [], Err};
-ghost use Rattle.qs_spec.specs.Config.{element_segment};
-ghost use Rattle.qs_spec.specs.Entry.{entries, entries_at, elements_from, pair_entries, member_entries, deeper, maybe_deeper};
+ghost use Rattle.qs_spec.specs.Entry.{entries};
 ghost use Rattle.qs_data.specs.data.Views.{data_of, values_in, pairs_in, members_in};
+ghost use Rattle.qs_data.specs.write.Parts.{data_part, elements_part, element, pairs_part, members_part, under};
 ghost use Rattle.qs_data.specs.write.Scalars.{scalar_text};
 ghost use Rattle.qs_data.specs.write.Writes.{IsAt, Writes, WritesTo, state_in};
 ghost use Rattle.qs_data.specs.write.State.{IsBare};
@@ -16,19 +16,19 @@ use crate::write::sink::Sink;
 use crate::write::stop::Stop;
 use qs_tree::{ArrayFormat, Config};
 
-/// Writes the entries of the data, where the walk is at the top.
+/// Writes the entries of the data, where the walk is at the top, under this configuration.
 pub(crate) fn write_all<S: Sink>(
     stream: &mut Stream<S>,
     walk: &mut Walk,
     config: Config,
     datum: &Data,
 ) -> Result<(), Stop>
-    requires { IsAt config.form [] walk.old }
+    requires { IsAt config [] walk.old }
     ensures writes { Writes result config [] (state_in S.taken S.failed S.writer_name stream.old) (state_in S.taken S.failed S.writer_name stream.new) walk.new
         (entries config (data_of datum.now)) }
     ensures bare { IsBare (data_of datum.now) → result ≡ Err OutOfMemory → ⊥ }
 {
-    write_data(stream, walk, config, datum)
+    write_data(stream, walk, datum)
 }
 
 /// Writes the entries of the data at the walk's path.
@@ -37,43 +37,41 @@ pub(crate) fn write_all<S: Sink>(
 pub(crate) fn write_data<'a, S: Sink>(
     stream: &mut Stream<S>,
     walk: &mut Walk,
-    config: Config,
     datum: &'a Data,
 ) -> Result<(), Stop>
-    ensures writes { WritesTo S.taken S.failed S.writer_name result config stream.old stream.new walk.old walk.new
-        (entries_at config.max_depth config.array_format (data_of datum.now)) }
+    ensures writes { WritesTo S.taken S.failed S.writer_name result stream.old stream.new walk.old walk.new (data_part (data_of datum.now)) }
     ensures bare { IsBare (data_of datum.now) → walk.old.text ≡ [] → result ≡ Err OutOfMemory → ⊥ }
 {
     match datum {
-        Data::Unit => put_empty(stream, walk, config),
+        Data::Unit => put_empty(stream, walk),
         Data::None | Data::Bool(_) | Data::Unsigned(_) | Data::Signed(_) | Data::Char(_) => {
-            put(stream, walk, config, Scalar::of(datum))
+            put(stream, walk, Scalar::of(datum))
         }
         Data::Text(_) | Data::Bytes(_) | Data::UnitVariant(_) => {
-            put(stream, walk, config, Scalar::of(datum))
+            put(stream, walk, Scalar::of(datum))
         }
-        Data::Some(held) | Data::Newtype(held) => write_data(stream, walk, config, held),
+        Data::Some(held) | Data::Newtype(held) => write_data(stream, walk, held),
         Data::Seq(items) | Data::Tuple(items) => {
             if items.is_empty() {
-                return put_empty(stream, walk, config);
+                return put_empty(stream, walk);
             }
-            write_elements(stream, walk, config, items)
+            write_elements(stream, walk, items)
         }
         Data::Map(pairs) => {
             if pairs.is_empty() {
-                return put_empty(stream, walk, config);
+                return put_empty(stream, walk);
             }
-            write_pairs(stream, walk, config, pairs)
+            write_pairs(stream, walk, pairs)
         }
-        Data::Struct(members) => write_members(stream, walk, config, members),
+        Data::Struct(members) => write_members(stream, walk, members),
         Data::NewtypeVariant(name, held) => {
-            write_under(stream, walk, config, Scalar::Bytes(name.as_bytes()), held)
+            write_under(stream, walk, Scalar::Bytes(name.as_bytes()), held)
         }
         Data::TupleVariant(name, items) => {
-            write_tuple_variant(stream, walk, config, name.as_bytes(), items)
+            write_tuple_variant(stream, walk, name.as_bytes(), items)
         }
         Data::StructVariant(name, members) => {
-            write_struct_variant(stream, walk, config, name.as_bytes(), members)
+            write_struct_variant(stream, walk, name.as_bytes(), members)
         }
     }
 }
@@ -83,14 +81,12 @@ pub(crate) fn write_data<'a, S: Sink>(
 fn write_elements<'a, S: Sink>(
     stream: &mut Stream<S>,
     walk: &mut Walk,
-    config: Config,
     items: &'a Vec<Data>,
 ) -> Result<(), Stop>
-    ensures writes { WritesTo S.taken S.failed S.writer_name result config stream.old stream.new walk.old walk.new
-        (elements_from config.max_depth config.array_format 0 (values_in items.now.items)) }
+    ensures writes { WritesTo S.taken S.failed S.writer_name result stream.old stream.new walk.old walk.new (elements_part 0 (values_in items.now.items)) }
 {
     for (place, item) in items.iter().enumerate() {
-        write_element(stream, walk, config, place, item)?;
+        write_element(stream, walk, place, item)?;
     }
     Ok(())
 }
@@ -100,19 +96,15 @@ fn write_elements<'a, S: Sink>(
 fn write_element<'a, S: Sink>(
     stream: &mut Stream<S>,
     walk: &mut Walk,
-    config: Config,
     place: usize,
     item: &'a Data,
 ) -> Result<(), Stop>
-    ensures writes { WritesTo S.taken S.failed S.writer_name result config stream.old stream.new walk.old walk.new
-        (λ path. maybe_deeper config.max_depth path (element_segment config.array_format place) (entries_at config.max_depth config.array_format (data_of item.now))) }
+    ensures writes { WritesTo S.taken S.failed S.writer_name result stream.old stream.new walk.old walk.new (element place (data_part (data_of item.now))) }
 {
-    match config.get_array_format() {
-        ArrayFormat::Indexed => {
-            write_under(stream, walk, config, Scalar::Unsigned(place as u64), item)
-        }
-        ArrayFormat::EmptyIndexed => { write_under(stream, walk, config, Scalar::Bytes(&[]), item) }
-        ArrayFormat::Unindexed => write_data(stream, walk, config, item),
+    match walk.config.get_array_format() {
+        ArrayFormat::Indexed => { write_under(stream, walk, Scalar::Unsigned(place as u64), item) }
+        ArrayFormat::EmptyIndexed => { write_under(stream, walk, Scalar::Bytes(&[]), item) }
+        ArrayFormat::Unindexed => write_data(stream, walk, item),
     }
 }
 
@@ -121,17 +113,15 @@ fn write_element<'a, S: Sink>(
 fn write_pairs<'a, S: Sink>(
     stream: &mut Stream<S>,
     walk: &mut Walk,
-    config: Config,
     pairs: &'a Vec<(Data, Data)>,
 ) -> Result<(), Stop>
-    ensures writes { WritesTo S.taken S.failed S.writer_name result config stream.old stream.new walk.old walk.new
-        (pair_entries config.max_depth config.array_format (pairs_in pairs.now.items)) }
+    ensures writes { WritesTo S.taken S.failed S.writer_name result stream.old stream.new walk.old walk.new (pairs_part (pairs_in pairs.now.items)) }
 {
     for pair in pairs {
         let Some(key) = Scalar::of(&pair.0) else {
             return Err(Stop::BadKey);
         };
-        write_under(stream, walk, config, key, &pair.1)?;
+        write_under(stream, walk, key, &pair.1)?;
     }
     Ok(())
 }
@@ -141,20 +131,12 @@ fn write_pairs<'a, S: Sink>(
 fn write_members<'a, S: Sink>(
     stream: &mut Stream<S>,
     walk: &mut Walk,
-    config: Config,
     members: &'a Vec<(String, Data)>,
 ) -> Result<(), Stop>
-    ensures writes { WritesTo S.taken S.failed S.writer_name result config stream.old stream.new walk.old walk.new
-        (member_entries config.max_depth config.array_format (members_in members.now.items)) }
+    ensures writes { WritesTo S.taken S.failed S.writer_name result stream.old stream.new walk.old walk.new (members_part (members_in members.now.items)) }
 {
     for member in members {
-        write_under(
-            stream,
-            walk,
-            config,
-            Scalar::Bytes(member.0.as_bytes()),
-            &member.1,
-        )?;
+        write_under(stream, walk, Scalar::Bytes(member.0.as_bytes()), &member.1)?;
     }
     Ok(())
 }
@@ -164,15 +146,13 @@ fn write_members<'a, S: Sink>(
 fn write_tuple_variant<'a, S: Sink>(
     stream: &mut Stream<S>,
     walk: &mut Walk,
-    config: Config,
     name: &'a [u8],
     items: &'a Vec<Data>,
 ) -> Result<(), Stop>
-    ensures writes { WritesTo S.taken S.failed S.writer_name result config stream.old stream.new walk.old walk.new
-        (λ path. deeper config.max_depth path name.now (elements_from config.max_depth config.array_format 0 (values_in items.now.items))) }
+    ensures writes { WritesTo S.taken S.failed S.writer_name result stream.old stream.new walk.old walk.new (under name.now (elements_part 0 (values_in items.now.items))) }
 {
-    let len = walk.enter(config, Scalar::Bytes(name))?;
-    write_elements(stream, walk, config, items)?;
+    let len = walk.enter(Scalar::Bytes(name))?;
+    write_elements(stream, walk, items)?;
     walk.leave(len);
     Ok(())
 }
@@ -182,15 +162,13 @@ fn write_tuple_variant<'a, S: Sink>(
 fn write_struct_variant<'a, S: Sink>(
     stream: &mut Stream<S>,
     walk: &mut Walk,
-    config: Config,
     name: &'a [u8],
     members: &'a Vec<(String, Data)>,
 ) -> Result<(), Stop>
-    ensures writes { WritesTo S.taken S.failed S.writer_name result config stream.old stream.new walk.old walk.new
-        (λ path. deeper config.max_depth path name.now (member_entries config.max_depth config.array_format (members_in members.now.items))) }
+    ensures writes { WritesTo S.taken S.failed S.writer_name result stream.old stream.new walk.old walk.new (under name.now (members_part (members_in members.now.items))) }
 {
-    let len = walk.enter(config, Scalar::Bytes(name))?;
-    write_members(stream, walk, config, members)?;
+    let len = walk.enter(Scalar::Bytes(name))?;
+    write_members(stream, walk, members)?;
     walk.leave(len);
     Ok(())
 }
@@ -200,15 +178,13 @@ fn write_struct_variant<'a, S: Sink>(
 fn write_under<'a, S: Sink>(
     stream: &mut Stream<S>,
     walk: &mut Walk,
-    config: Config,
     segment: Scalar<'a>,
     part: &'a Data,
 ) -> Result<(), Stop>
-    ensures writes { WritesTo S.taken S.failed S.writer_name result config stream.old stream.new walk.old walk.new
-        (λ path. deeper config.max_depth path (scalar_text segment.entry) (entries_at config.max_depth config.array_format (data_of part.now))) }
+    ensures writes { WritesTo S.taken S.failed S.writer_name result stream.old stream.new walk.old walk.new (under (scalar_text segment.entry) (data_part (data_of part.now))) }
 {
-    let len = walk.enter(config, segment)?;
-    write_data(stream, walk, config, part)?;
+    let len = walk.enter(segment)?;
+    write_data(stream, walk, part)?;
     walk.leave(len);
     Ok(())
 }

@@ -53,7 +53,7 @@ impl Writer {
                 sink: ByWrite::new(text),
                 started: false,
             },
-            walk: Walk::new(alloc),
+            walk: Walk::new(alloc, config),
         })
     }
 
@@ -72,7 +72,7 @@ impl Writer {
                 sink: ByWrite::new(Vec::new(self.alloc)),
                 started: false,
             },
-            walk: Walk::new(self.alloc),
+            walk: Walk::new(self.alloc, self.config),
         };
         mem::replace(self, empty)
     }
@@ -98,7 +98,7 @@ impl Writer {
     pub fn scalar(&mut self, value: Scalar<'_>) -> WriteResult
         ensures { WritesPart result self.old self.new (λ config path. one path (Some (scalar_text value.entry))) }
     {
-        put(&mut self.stream, &mut self.walk, self.config, Some(value))
+        put(&mut self.stream, &mut self.walk, Some(value))
     }
 
     /// Writes one entry without a value at the writer's path, as an absent value is written. The errors are those of [`scalar`](Writer::scalar).
@@ -109,7 +109,7 @@ impl Writer {
     pub fn none(&mut self) -> WriteResult
         ensures { WritesPart result self.old self.new (λ config path. one path None) }
     {
-        put(&mut self.stream, &mut self.walk, self.config, None)
+        put(&mut self.stream, &mut self.walk, None)
     }
 
     /// Writes one entry with an empty value at the writer's path, as a unit, an empty list and an empty map are written. The errors are those of
@@ -121,7 +121,7 @@ impl Writer {
     pub fn unit(&mut self) -> WriteResult
         ensures { WritesPart result self.old self.new (λ config path. one path (Some [])) }
     {
-        put_empty(&mut self.stream, &mut self.walk, self.config)
+        put_empty(&mut self.stream, &mut self.walk)
     }
 
     /// Writes the entries of the data at the writer's path, up to the first error.
@@ -134,7 +134,7 @@ impl Writer {
     pub fn data(&mut self, datum: &Data) -> WriteResult
         ensures { WritesPart result self.old self.new (data_part (data_of datum.now)) }
     {
-        write_data(&mut self.stream, &mut self.walk, self.config, datum)
+        write_data(&mut self.stream, &mut self.walk, datum)
     }
 
     /// Goes in to the part under this key, the name of a field or the index of an item. Returns how long the path was, for [`leave`](Writer::leave).
@@ -149,7 +149,7 @@ impl Writer {
         ensures ok { IfOk result (λ len. Enters (scalar_text segment.entry) len self.old self.new) }
         ensures err { IfErr result (λ stop. (part : Part) → WritesPart (Err stop) self.old self.new (under (scalar_text segment.entry) part)) }
     {
-        match self.walk.enter(self.config, segment) {
+        match self.walk.enter(segment) {
             Ok(len) => Ok(len),
             Err(stop) => Err(stop),
         }

@@ -36,12 +36,14 @@ impl Call {
         }
     }
 
-    // The text that it writes where there is room for it.
-    fn whole_text<T: Serialize>(self, alloc: Global, value: &T) -> Result<String> {
-        let text = to_string(alloc, value)?;
+    // The text of which whole entries may be written before an allocation fails: none of a typed call's, which makes its text first.
+    fn text_in_part<T: Serialize>(self, alloc: Global, value: &T) -> Result<String> {
         match self {
-            Call::Twice => Ok(format!(in alloc; "{text}&{text}")?),
-            _ => Ok(text),
+            Call::Lent | Call::Configured => Ok(String::new(alloc)),
+            Call::Twice => {
+                let text = to_string(alloc, value)?;
+                Ok(format!(in alloc; "{text}&{text}")?)
+            }
         }
     }
 }
@@ -64,7 +66,7 @@ fn ends_with_an_entry(text: &str, whole: &str) -> bool {
     }
 }
 
-// Returns what a writer holds after a call, and the error of the call. After `OutOfMemory` it has to hold whole entries.
+// Returns what a writer holds after a call, and the error of the call. After `OutOfMemory` it has to hold whole entries of this text.
 fn held(alloc: Global, writer: Narrow, outcome: Result<()>, whole: &str) -> Result<String> {
     let held = String::from_utf8(writer.held)?;
     match outcome {
@@ -78,7 +80,7 @@ fn held(alloc: Global, writer: Narrow, outcome: Result<()>, whole: &str) -> Resu
 
 /// Returns what a writer holds to which a value was written by this call, and the error of the call.
 pub fn written<T: Serialize>(alloc: Global, call: Call, room: usize, value: &T) -> Result<String> {
-    let whole = call.whole_text(alloc, value)?;
+    let whole = call.text_in_part(alloc, value)?;
     let mut writer = Narrow::new(alloc, 1, room, call.stop())?;
     let outcome = call.write(alloc, value, &mut writer);
     held(alloc, writer, outcome, &whole)

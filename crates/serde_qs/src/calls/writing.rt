@@ -1,18 +1,15 @@
 //! Typed calls that write.
 
-ghost use Rattle.std.specs.Prelude.{◌≡◌, ℕ, ◌<◌, List, length, take, Some, None, IfOk, OnOk, string_bytes};
-ghost use Rattle.std.specs.List.{All};
+ghost use Rattle.std.specs.Prelude.{◌≡◌, ◌⊎◌, ◌<◌, ℕ, length, take, IfOk, string_bytes};
 ghost use Rattle.std.specs.Io.KnownBytes.{Appends};
 ghost use Rattle.qs_spec.specs.Config.{default};
-ghost use Rattle.qs_spec.specs.Entry.{entries, too_deep, bad_key};
-ghost use Rattle.qs_tree.specs.Error.{IsTooDeep, IsUnsupported, IsIo, IsOutOfMemory, OnlyOutOfMemory};
-ghost use Rattle.qs_data.specs.write.State.{IsVisible};
-ghost use Rattle.serde_qs.specs.WrittenText.{IsValueWriteError, ReturnsText, WritesValue, text_of, text_of_first};
+ghost use Rattle.qs_tree.specs.Error.{IsIo, OnlyOutOfMemory};
+ghost use Rattle.serde_qs.specs.WrittenText.{ReturnsText, WritesValue};
 
-use super::lent::Lent;
 use crate::traits::Serialize;
-use qs_data::{Config, Error, Result, Serializer, Writer};
+use qs_data::{Config, Error, Result, Stop, Writer};
 use std::alloc::Global;
+use std::io;
 use std::io::Write;
 
 /// Returns the querystring of a value, with the default configuration.
@@ -43,8 +40,8 @@ pub fn to_string<T: Serialize>(alloc: Global, value: &T) -> Result<String>
 /// to_writer(alloc, &query, &mut out)?; // name=Alice&age=24
 /// ```
 ///
-/// Only bytes from 0x21 to 0x7E are written. On `Ok` the whole text was written. It allocates for the data of the value and
-/// for its longest entry; the time grows with the text.
+/// Only bytes from 0x21 to 0x7E are written. On `Ok` the whole text was written. The text is made in memory first, as [`to_string`] makes it
+/// and with its allocations, and then written by as few writes as the writer allows.
 ///
 /// # Errors
 ///
@@ -52,7 +49,8 @@ pub fn to_string<T: Serialize>(alloc: Global, value: &T) -> Result<String>
 ///   [`to_string`]: the text of the entries before the rejected one was written.
 /// - [`Io`](Error::Io): a write failed, was interrupted or took no byte. It isn't repeated. A proper prefix of the text was
 ///   written.
-/// - [`OutOfMemory`](Error::OutOfMemory): an allocation failed. The text of the first few entries was written.
+/// - [`OutOfMemory`](Error::OutOfMemory): an allocation failed, before the first write. The contract allows that the text of the first few
+///   entries was written.
 pub fn to_writer<T: Serialize, W: Write>(alloc: Global, value: &T, writer: &mut W) -> Result<()>
     ensures { WritesValue default (T.datum value.now) (W.contents writer.old) (W.contents writer.new) result }
 {
@@ -81,7 +79,7 @@ fn string_of(text: Vec<u8>) -> Result<String>
     }
 }
 
-// Writes the querystring of a value under a configuration.
+// Writes the querystring of a value under a configuration: the text is made in memory, and then put.
 pub(crate) fn write_to<T: Serialize, W: Write>(
     alloc: Global,
     config: Config,
@@ -90,35 +88,29 @@ pub(crate) fn write_to<T: Serialize, W: Write>(
 ) -> Result<()>
     ensures { WritesValue config (T.datum value.now) (W.contents writer.old) (W.contents writer.new) result }
 {
-    write_clauses(alloc, config, value, writer)
+    let mut text = Writer::new(alloc, config)?;
+    match value.write_to(&mut text) {
+        Ok(()) => put(writer, &text.into_text(), Ok(())),
+        Err(Stop::TooDeep) => {
+            let error = Error::MaxSerializationDepthExceeded(config.get_max_depth());
+            put(writer, &text.into_text(), Err(error))
+        }
+        Err(Stop::BadKey) => put(writer, &text.into_text(), Err(Error::Unsupported)),
+        Err(Stop::Io | Stop::OutOfMemory) => Err(Error::OutOfMemory),
+    }
 }
 
-// Writes the querystring of a value under a configuration.
-fn write_clauses<T: Serialize, W: Write>(
-    alloc: Global,
-    config: Config,
-    value: &T,
-    writer: &mut W,
-) -> Result<()>
-    ensures whole { OnOk result ((entries config (T.datum value.now)).refusal ≡ None) }
-    ensures text { OnOk result (Appends (W.contents writer.old) (W.contents writer.new) (text_of config (T.datum value.now))) }
-    ensures too_deep { (n : ℕ) → IsTooDeep result n → (n ≡ config.max_depth) × ((entries config (T.datum value.now)).refusal ≡ Some too_deep) }
-    ensures too_deep_text { (n : ℕ) → IsTooDeep result n → Appends (W.contents writer.old) (W.contents writer.new) (text_of config (T.datum value.now)) }
-    ensures bad_key { IsUnsupported result → (entries config (T.datum value.now)).refusal ≡ Some bad_key }
-    ensures bad_key_text { IsUnsupported result → Appends (W.contents writer.old) (W.contents writer.new) (text_of config (T.datum value.now)) }
-    ensures io_text { IsIo result → (n : ℕ) × (n < length (text_of config (T.datum value.now))) × Appends (W.contents writer.old) (W.contents writer.new) (take n (text_of config (T.datum value.now))) }
-    ensures memory_text { IsOutOfMemory result → (k : ℕ) × Appends (W.contents writer.old) (W.contents writer.new) (text_of_first k config (T.datum value.now)) }
-    ensures visible { (added : List ℕ) × Appends (W.contents writer.old) (W.contents writer.new) added × All IsVisible added }
-    ensures errors { IsValueWriteError result }
+// Puts all of these bytes, one write after another, and returns this result; where a write fails `Io`.
+fn put<W: Write>(writer: &mut W, bytes: &[u8], made: Result<()>) -> Result<()>
+    ensures { ((result ≡ made) × Appends (W.contents writer.old) (W.contents writer.new) bytes.now) ⊎ (IsIo result × (n : ℕ) × (n < length bytes.now) × Appends (W.contents writer.old) (W.contents writer.new) (take n bytes.now)) }
 {
-    let datum = value.to_data(alloc)?;
-    let lent = Lent {
-        writer,
-        failed: false,
-    };
-    let mut serializer = Serializer::over(lent, config);
-    let result = serializer.serialize(alloc, &datum);
-    let Lent { writer, failed: _ } = serializer.into_sink();
-    let _ = &*writer;
-    result
+    let mut rest = bytes;
+    while !rest.is_empty() {
+        match writer.write(rest) {
+            Ok(0) => return Err(Error::Io(io::Error::from(io::ErrorKind::WriteZero))),
+            Ok(count) => rest = &rest[count..],
+            Err(error) => return Err(Error::Io(error)),
+        }
+    }
+    made
 }

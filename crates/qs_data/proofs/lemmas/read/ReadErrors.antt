@@ -1,10 +1,9 @@
 -- An error of a part as the error of the whole, inside reading.
-use Rattle.std.proofs.Common.{◌≡◌, ℕ, List, Bool, true, false, Option, None, ◌∙◌, sym, Result, Ok, Err, subst, inl, inr}
+use Rattle.std.proofs.Common.{◌≡◌, ℕ, List, Bool, false, Option, None, ◌∙◌, sym, Result, Ok, Err, subst, inl, inr}
 use Rattle.std.specs.Prelude.{◌==◌}
 use Rattle.std.specs.List.{list_any}
 use Rattle.std.specs.Result.{IsErrAnd}
 use Rattle.std.proofs.lemmas.Bool.{cases_Bool, MatchBool-at_true, MatchBool-at_false}
-use Rattle.qs_tree.specs.declared.error.Error.{Error}
 use Rattle.qs_tree.specs.Error.{IsCustomSaying}
 use Rattle.qs_data.specs.declared.read.error.ReadError.{ReadError}
 use Rattle.qs_data.specs.declared.read.error.ReadError.TheVariants.{Custom, Utf8, OutOfMemory}

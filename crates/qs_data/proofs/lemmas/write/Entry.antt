@@ -64,14 +64,14 @@ led form true (x ∷ path) value = refl
 led form false (x ∷ path) value = ap (λ b. drop (cond b 0 1) (path_after form (x ∷ path) ++ value_text form value)) (some_text form x path)
 
 -- what is shown of a text, and what is left of the value, are the entry: it begins with the path's `&`, or after it
-pub entry_shown : (form started : Bool) (path : Path) (value : Option (List ℕ)) (walk : Walk) (out rest shown : List ℕ) (len start : ℕ) → IsAt form path walk
+pub entry_shown : (form started : Bool) (path : Path) (value : Option (List ℕ)) (walk : Walk) (out rest shown : List ℕ) (len start : ℕ) → walk.text ≡ path_after form path
     → out ++ rest ≡ walk.text ++ value_text form value → take (length walk.text) out ≡ walk.text → len ≡ length walk.text → start ≡ cond (started || eqb len 0) 0 1 → start ≤ len
     → shown ≡ drop start out → All IsVisible (out ++ rest) → (shown ++ rest ≡ entry_text form started path value) × All IsVisible (shown ++ rest)
 entry_shown form started path value walk out rest shown len start at is kept l n within shows visible =
     let fits : start ≤ length out = omega (arith, within, l, ap length kept, length-take (length walk.text) out) in
     let same : shown ++ rest ≡ drop start (out ++ rest) = ap (λ t. t ++ rest) shows ∙ sym (drop-append-le start out rest fits) in (
-      same ∙ ap (λ k. drop k (out ++ rest)) (n ∙ ap (λ m. cond (started || eqb m 0) 0 1) (l ∙ ap length at.text))
-          ∙ ap (drop (cond (started || eqb (length (path_after form path)) 0) 0 1)) (is ∙ ap (λ t. t ++ value_text form value) at.text) ∙ led form started path value,
+      same ∙ ap (λ k. drop k (out ++ rest)) (n ∙ ap (λ m. cond (started || eqb m 0) 0 1) (l ∙ ap length at))
+          ∙ ap (drop (cond (started || eqb (length (path_after form path)) 0) 0 1)) (is ∙ ap (λ t. t ++ value_text form value) at) ∙ led form started path value,
       subst (All IsVisible) (sym same) (All-drop IsVisible start (out ++ rest) visible),
     )
 
@@ -80,17 +80,17 @@ key_is form [] = refl
 key_is form (x ∷ path) = ap not (some_text form x path)
 
 -- there is a key where there is text
-pub has_key_is : (form : Bool) (path : Path) (walk : Walk) (len : ℕ) → IsAt form path walk → len ≡ length walk.text → not (eqb len 0) ≡ has_key path
-has_key_is form path walk len at l = ap (λ n. not (eqb n 0)) (l ∙ ap length at.text) ∙ key_is form path
+pub has_key_is : (form : Bool) (path : Path) (walk : Walk) (len : ℕ) → walk.text ≡ path_after form path → len ≡ length walk.text → not (eqb len 0) ≡ has_key path
+has_key_is form path walk len at l = ap (λ n. not (eqb n 0)) (l ∙ ap length at) ∙ key_is form path
 
-pub at_top : (form : Bool) (path : Path) (walk : Walk) → IsAt form path walk → length walk.text ≡ 0 → path ≡ []
+pub at_top : (form : Bool) (path : Path) (walk : Walk) → walk.text ≡ path_after form path → length walk.text ≡ 0 → path ≡ []
 at_top form [] walk at h = refl
-at_top form (x ∷ path) walk at h = let e = ap length at.text in absurd (omega (arith, e, h))
+at_top form (x ∷ path) walk at h = let e = ap length at in absurd (omega (arith, e, h))
 
 -- the walk is back where it was, when the value is cut off
-pub at_back : (form : Bool) (path : Path) (walk back : Walk) → IsAt form path walk → back.depth ≡ walk.depth → back.text ≡ walk.text → IsAt form path back
-at_back form path walk back at d same =
-    record { depth = d ∙ at.depth; text = same ∙ at.text; visible = subst (All IsVisible) (sym same) at.visible }
+pub at_back : (config : Config) (path : Path) (walk back : Walk) → IsAt config path walk → back.config ≡ walk.config → back.depth ≡ walk.depth → back.text ≡ walk.text → IsAt config path back
+at_back config path walk back at k d same =
+    record { settings = k ∙ at.settings; depth = d ∙ at.depth; text = same ∙ at.text; visible = subst (All IsVisible) (sym same) at.visible }
 
 written-one : (form started : Bool) (path : Path) (value : Option (List ℕ)) → written form started (record { path = path; value = value } ∷ []) ≡ entry_text form started path value
 unfolding written

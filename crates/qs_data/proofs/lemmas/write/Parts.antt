@@ -2,7 +2,7 @@
 use Rattle.std.proofs.Common.{◌≡◌, refl, ℕ, ◌<◌, ◌≤◌, ◌⊎◌, List, [], ◌∷◌, ◌++◌, length, sym, ap, ◌∙◌, subst, Result, Ok, Err}
 use Rattle.std.specs.Result.{IsErrAnd}
 use Rattle.qs_spec.specs.Config.{Config}
-use Rattle.qs_spec.specs.Entry.{Path, Output, and_then, deeper, nothing}
+use Rattle.qs_spec.specs.Entry.{Path, Output, nothing}
 use Rattle.qs_data.specs.declared.write.stop.Stop.{Stop}
 use Rattle.qs_data.specs.declared.write.stop.Stop.TheVariants.{TooDeep, OutOfMemory}
 use Rattle.qs_data.specs.declared.write.writer.Writer.{Writer}
@@ -13,7 +13,7 @@ use Rattle.qs_data.proofs.lemmas.write.Walk.{deeper_goes, stops_entering}
 
 -- what a part's clause says under an equal configuration
 abbrev WritesUnder : Result (Unit {0}) Stop → Writer → Writer → Part → Config → Type 0
-WritesUnder r a b x config = (path : Path) → IsAt config.form path a.walk → Writes r config path (state_of a) (state_of b) b.walk (x config path)
+WritesUnder r a b x config = (path : Path) → IsAt config path a.walk → Writes r config path (state_of a) (state_of b) b.walk (x config path)
 
 pub part_then : (r : Result (Unit {0}) Stop) (a b c : Writer) (x y : Part) → WritesPart (Ok tt) a b x → WritesPart r b c y → WritesPart r a c (both x y)
 part_then r a b c x y p q =
@@ -37,7 +37,7 @@ part_without_memory a x = record { config = refl; writes = λ path at. some_none
 
 -- where the writer doesn't go in
 pub part_entering : (e : Stop) (a b : Writer) (s : List ℕ) → b.config ≡ a.config → state_of b ≡ state_of a
-    → ((path : Path) → IsAt a.config.form path a.walk → ((e ≡ TooDeep) × (a.config.max_depth < length path)) ⊎ (e ≡ OutOfMemory)) → (x : Part) → WritesPart (Err e) a b (under s x)
+    → ((path : Path) → IsAt a.config path a.walk → ((e ≡ TooDeep) × (a.config.max_depth < length path)) ⊎ (e ≡ OutOfMemory)) → (x : Part) → WritesPart (Err e) a b (under s x)
 part_entering e a b s same kept why x = record {
   config = same;
   writes = λ path at. subst (λ t. Stops e a.config (state_of a) t (under s x a.config path)) (sym kept) (stops_entering e a.config (state_of a) path s (x a.config) (why path at));
@@ -72,7 +72,7 @@ module _ (start now : Writer) (old whole : Part) (go : PartContinues start now o
 module _ (segment : List ℕ) (len : ℕ) (old within : Writer) (x : Part) (entered : Enters segment len old within) where
   -- the part's clause, from before the writer went in
   inner : (r : Result (Unit {0}) Stop) (back : Writer) → WritesPart r within back x
-      → (path : Path) → IsAt old.config.form (path ++ segment ∷ []) within.walk → Writes r old.config (path ++ segment ∷ []) (state_of old) (state_of back) back.walk (x old.config (path ++ segment ∷ []))
+      → (path : Path) → IsAt old.config (path ++ segment ∷ []) within.walk → Writes r old.config (path ++ segment ∷ []) (state_of old) (state_of back) back.walk (x old.config (path ++ segment ∷ []))
   inner r back p path at =
       let moved : WritesUnder r within back x old.config = subst (WritesUnder r within back x) entered.config p.writes in
       subst (λ s. Writes r old.config (path ++ segment ∷ []) s (state_of back) back.walk (x old.config (path ++ segment ∷ []))) entered.state (moved (path ++ segment ∷ []) at)
@@ -84,8 +84,8 @@ module _ (segment : List ℕ) (len : ℕ) (old within : Writer) (x : Part) (ente
   pub part_under : (back to : Writer) → WritesPart (Ok tt) within back x → Leaves len back to → WritesPart (Ok tt) old to (under segment x)
   part_under back to p left =
       let same : back.config ≡ old.config = p.config ∙ entered.config in
-      let out : (path : Path) → IsAt old.config.form (path ++ segment ∷ []) back.walk → len ≡ length (path_after old.config.form path) → IsAt old.config.form path to.walk =
-      subst (λ (k : Config). (path : Path) → IsAt k.form (path ++ segment ∷ []) back.walk → len ≡ length (path_after k.form path) → IsAt k.form path to.walk) same (λ path. left.back path segment) in
+      let out : (path : Path) → IsAt old.config (path ++ segment ∷ []) back.walk → len ≡ length (path_after old.config.form path) → IsAt old.config path to.walk =
+      subst (λ (k : Config). (path : Path) → IsAt k (path ++ segment ∷ []) back.walk → len ≡ length (path_after k.form path) → IsAt k path to.walk) same (λ path. left.back path segment) in
       record {
         config = left.config ∙ same;
         writes = λ path at. let e = entered.within path at in

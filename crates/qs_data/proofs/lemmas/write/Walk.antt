@@ -1,5 +1,5 @@
 -- The entries of data, part by part.
-use Rattle.std.proofs.Common.{◌≡◌, ℕ, ◌<◌, ◌≤◌, ◌+◌, Bool, cond, List, [], ◌∷◌, ◌++◌, length, drop, get_or, map, refl, sym, ap, ◌∙◌, subst, Some, None, arith, rules, lt-ltb, string_bytes, Vec, ◌⊎◌, inl, inr}
+use Rattle.std.proofs.Common.{◌≡◌, ℕ, ◌<◌, ◌≤◌, ◌+◌, cond, List, [], ◌∷◌, ◌++◌, length, drop, get_or, map, refl, sym, ap, ◌∙◌, subst, Some, None, arith, rules, lt-ltb, string_bytes, Vec, ◌⊎◌, inl, inr}
 use Rattle.std.proofs.lemmas.Bool.{le-ltb}
 use Rattle.std.proofs.lemmas.List.{drop_more, drop_all}
 use Rattle.std.specs.declared.string.String.{String}
@@ -37,18 +37,18 @@ stops_entering e config t p s f (inr h) =
     subst Q (sym h) (some_none config.form t (deeper config.max_depth p s f).entries)
 
 module _ (config : Config) (s : List ℕ) (f : Path → Output) (a b : StreamState) (from within : Walk)
-    (entered : (p : Path) → IsAt config.form p from → (length p ≤ config.max_depth) × IsAt config.form (p ++ s ∷ []) within) where
+    (entered : (p : Path) → IsAt config p from → (length p ≤ config.max_depth) × IsAt config (p ++ s ∷ []) within) where
   -- a part is written under one more segment
-  pub writes_under : (back to : Walk) (len : ℕ) → ((p : Path) → IsAt config.form p within → Writes (Ok tt) config p a b back (f p))
-      → ((form : Bool) (p : Path) (s : List ℕ) → IsAt form (p ++ s ∷ []) back → len ≡ length (path_after form p) → IsAt form p to) → len ≡ length from.text
-      → (p : Path) → IsAt config.form p from → Writes (Ok tt) config p a b to (deeper config.max_depth p s f)
+  pub writes_under : (back to : Walk) (len : ℕ) → ((p : Path) → IsAt config p within → Writes (Ok tt) config p a b back (f p))
+      → ((config : Config) (p : Path) (s : List ℕ) → IsAt config (p ++ s ∷ []) back → len ≡ length (path_after config.form p) → IsAt config p to) → len ≡ length from.text
+      → (p : Path) → IsAt config p from → Writes (Ok tt) config p a b to (deeper config.max_depth p s f)
   writes_under back to len wrote left is =
       λ p at. let e = entered p at in
       let w = wrote (p ++ s ∷ []) e.1 in
       let P : Output → Type 0 = λ o. Writes (Ok tt) config p a b to o in
-      subst P (sym (deeper_goes config.max_depth p s f e.0)) (w.0, w.1, left config.form p s w.2 (is ∙ ap length at.text))
+      subst P (sym (deeper_goes config.max_depth p s f e.0)) (w.0, w.1, left config p s w.2 (is ∙ ap length at.text))
 
-  pub stops_under : (e : Stop) → ((p : Path) → IsAt config.form p within → Stops e config a b (f p)) → (p : Path) → IsAt config.form p from → Stops e config a b (deeper config.max_depth p s f)
+  pub stops_under : (e : Stop) → ((p : Path) → IsAt config p within → Stops e config a b (f p)) → (p : Path) → IsAt config p from → Stops e config a b (deeper config.max_depth p s f)
   stops_under e stops =
       λ p at. let g = entered p at in
       subst (Stops e config a b) (sym (deeper_goes config.max_depth p s f g.0)) (stops (p ++ s ∷ []) g.1)
@@ -151,3 +151,10 @@ pub map_pairs : (limit : ℕ) (format : ArrayFormat) (x : Data) (xs : Vec (Data 
 map_pairs limit format x xs p is some =
     let level : data_of (r.Map xs) ≡ d.mapping (d.pairs_of (map pair_of xs.items)) = search (rules, r.the_lemmas) in
     ap (λ y. entries_at limit format (data_of y) p) is ∙ ap (λ y. entries_at limit format y p) level ∙ mapping_pairs limit format xs.items p some
+
+pub variant_elements : (limit : ℕ) (format : ArrayFormat) (x : Data) (name : String Global) (xs : Vec Data Global) (p : Path) → x ≡ r.TupleVariant name xs
+    → entries_at limit format (data_of x) p ≡ deeper limit p (string_bytes name) (elements_from limit format 0 (d.values_of (map data_of xs.items)))
+unfolding entries_at
+variant_elements limit format x name xs p is =
+    let level : data_of (r.TupleVariant name xs) ≡ d.tuple_variant (string_bytes name) (d.values_of (map data_of xs.items)) = search (rules, r.the_lemmas) in
+    ap (λ y. entries_at limit format (data_of y) p) is ∙ ap (λ y. entries_at limit format y p) level

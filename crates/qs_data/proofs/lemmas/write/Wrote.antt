@@ -139,12 +139,12 @@ some_none form t es = record { front = []; rest = es; parts = refl; adds = adds_
 -- The invariant of a loop: the walk is where it was, and whatever is yet written of the rest makes the whole.
 abbrev pub Continues : Config → StreamState → StreamState → Walk → Walk → (Path → Output) → (Path → Output) → Type 0
 Continues config start now from here rest whole =
-    (path : Path) → IsAt config.form path from → IsAt config.form path here
+    (path : Path) → IsAt config path from → IsAt config path here
     × ((r : Result (Unit {0}) Stop) (last : StreamState) (to : Walk) → Writes r config path now last to (rest path) → Writes r config path start last to (whole path))
 
 module _ (config : Config) (start now next : StreamState) (from here there : Walk) (mine rest old whole : Path → Output)
     (go : Continues config start now from here old whole) where
-  pub continue_step : ((path : Path) → old path ≡ and_then (mine path) (rest path)) → ((path : Path) → IsAt config.form path here → Writes (Ok tt) config path now next there (mine path))
+  pub continue_step : ((path : Path) → old path ≡ and_then (mine path) (rest path)) → ((path : Path) → IsAt config path here → Writes (Ok tt) config path now next there (mine path))
       → Continues config start next from there rest whole
   continue_step e w =
       λ path at. let g = go path at in
@@ -154,14 +154,14 @@ module _ (config : Config) (start now next : StreamState) (from here there : Wal
             g.1 r last to (subst P (sym (e path)) (writes_then r config path now next last to (mine path) (rest path) (m.0, m.1) h)),
       )
 
-  pub continue_stop : (e : Stop) → ((path : Path) → old path ≡ and_then (mine path) (rest path)) → ((path : Path) → IsAt config.form path here → Stops e config now next (mine path))
-      → (path : Path) → IsAt config.form path from → Stops e config start next (whole path)
+  pub continue_stop : (e : Stop) → ((path : Path) → old path ≡ and_then (mine path) (rest path)) → ((path : Path) → IsAt config path here → Stops e config now next (mine path))
+      → (path : Path) → IsAt config path from → Stops e config start next (whole path)
   continue_stop e same w =
       λ path at. let g = go path at in
       g.1 (Err e) next here (subst (Stops e config now next) (sym (same path)) (stops_early e config now next (mine path) (rest path) (w path g.0)))
 
 pub continue_end : (config : Config) (start now : StreamState) (from here : Walk) (old whole : Path → Output) → Continues config start now from here old whole
-    → ((path : Path) → old path ≡ nothing) → (path : Path) → IsAt config.form path from → Writes (Ok tt) config path start now here (whole path)
+    → ((path : Path) → old path ≡ nothing) → (path : Path) → IsAt config path from → Writes (Ok tt) config path start now here (whole path)
 continue_end config start now from here old whole go same =
     λ path at. let g = go path at in
     let P : Output → Type 0 = λ o. Writes (Ok tt) config path now now here o in
@@ -169,7 +169,7 @@ continue_end config start now from here old whole go same =
 
 -- what the exit of a `?` owes
 pub writes_exit : (r : Result (Unit {0}) Stop) (e : Stop) (config : Config) (a b : StreamState) (from to : Walk) (part : Path → Output) → IsErrAnd r (λ y. y ≡ e)
-    → ((path : Path) → IsAt config.form path from → Stops e config a b (part path)) → (path : Path) → IsAt config.form path from → Writes r config path a b to (part path)
+    → ((path : Path) → IsAt config path from → Stops e config a b (part path)) → (path : Path) → IsAt config path from → Writes r config path a b to (part path)
 writes_exit (Ok x) e config a b from to part h s = absurd h
 writes_exit (Err y) e config a b from to part h s = λ path at. let P : Stop → Type 0 = λ z. Stops z config a b (part path) in subst P (sym h) (s path at)
 

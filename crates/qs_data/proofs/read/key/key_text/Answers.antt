@@ -1,4 +1,4 @@
-use Rattle.std.proofs.Common.{◌≡◌, ◌<◌, ◌^◌, Some, decimal, ap, ◌∙◌, sym, arith, string_bytes}
+use Rattle.std.proofs.Common.{◌<◌, ◌^◌, Some, decimal, ap, ◌∙◌, sym, arith}
 use Rattle.qs_spec.specs.Segment.{segment_text}
 use Rattle.qs_tree.specs.tree.Views.{segment_of_key}
 use Rattle.qs_data.specs.read.internal.GivenText.{utf8_text}

@@ -8,21 +8,19 @@ use Rattle.qs_data.proofs.write.entry.put_empty.Goals as goal
 
 pub returns-in_err-put_all-clause-writes : goal.returns-in_err-put_all-clause-writes
 returns-in_err-put_all-clause-writes g c =
-    let config = c.args.config in
     let empty : length c.args.walk.now.text ≡ 0 = omega (arith, c.len.ensures.value, c.if-len-ne0.false) in
     let part = c.in_err-put_all.ensures.part in
-    writes_exit _ c.in_err-put_all.field-0.0 config _ _ c.args.walk.now _ (λ path. one path (Some [])) c.from_residual.ensures.1
+    λ config. writes_exit _ c.in_err-put_all.field-0.0 config _ _ c.args.walk.now _ (λ path. one path (Some [])) c.from_residual.ensures.1
     (λ path at. io_stops config _ _ _ _ part.0
-    (part_one config.form _ _ path (Some []) _ (entry_empty config.form _ path (at_top config.form path c.args.walk.now at empty))
+    (part_one config.form _ _ path (Some []) _ (entry_empty config.form _ path (at_top config.form path c.args.walk.now at.text empty))
     part.1 part.2 part.3 equals_visible (c.in_err-put_all.ensures.fails ∙ or-true _) c.put_all.ensures.same_writer))
 
 pub returns-clause-writes : goal.returns-clause-writes
-returns-clause-writes g c = λ path at.
-    let config = c.args.config in
+returns-clause-writes g c = λ config path at.
     let empty : length c.args.walk.now.text ≡ 0 = omega (arith, c.len.ensures.value, c.if-len-ne0.false) in
-    let top = at_top config.form path c.args.walk.now at empty in (
+    let top = at_top config.form path c.args.walk.now at.text empty in (
       refl,
       adds_one config.form _ _ path (Some []) _ (entry_empty config.form _ path top)
           c.in_ok-put_all.ensures.all equals_visible (no_key path c.args.stream.now.started top) (c.in_ok-put_all.ensures.fails ∙ or-false _) c.put_all.ensures.same_writer,
-      record { depth = at.depth; text = at.text; visible = at.visible },
+      record { settings = at.settings; depth = at.depth; text = at.text; visible = at.visible },
     )

@@ -1,7 +1,6 @@
 use Rattle.std.proofs.Common.{Err, Ok, subst}
-use Rattle.qs_spec.specs.Data.{Named, members_of}
-use Rattle.qs_data.specs.write.Parts.{Part, WritesPart, members_part, under}
-use Rattle.qs_data.specs.write.Scalars.{scalar_text}
+use Rattle.qs_spec.specs.Data.{members_of}
+use Rattle.qs_data.specs.write.Parts.{WritesPart, members_part, under}
 use Rattle.qs_data.proofs.lemmas.write.Parts.{part_exit, part_stops_under, part_under}
 use Rattle.serde_qs.specs.Records.{texts}
 use Rattle.serde_qs.proofs.compound.own.write_variant.Goals as goal

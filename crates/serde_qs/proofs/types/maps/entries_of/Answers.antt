@@ -1,4 +1,4 @@
-use Rattle.std.proofs.Common.{◌≡◌, ◌+◌, Option, Some, None, ℕ, List, ap, ◌∙◌, sym, arith, string_bytes}
+use Rattle.std.proofs.Common.{◌≡◌, ◌+◌, Option, Some, None, ap, ◌∙◌, sym, arith, string_bytes}
 use Rattle.std.specs.Option.{option_and_then, option_map}
 use Rattle.std.specs.BTreeMap.{BTreeMap}
 use Rattle.std.specs.declared.string.String.{String}

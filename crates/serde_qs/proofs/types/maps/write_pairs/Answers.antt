@@ -1,4 +1,4 @@
-use Rattle.std.proofs.Common.{List, Ok, Err, [], map, string_bytes, subst}
+use Rattle.std.proofs.Common.{List, Ok, Err, map, string_bytes, subst}
 use Rattle.std.specs.declared.string.String.{String}
 use Rattle.std.specs.declared.alloc.Global.{Global}
 use Rattle.qs_spec.specs.Data.{pairs_of}

@@ -10,7 +10,7 @@ use Rattle.qs_data.proofs.lemmas.write.Wrote.{some_entries, writes_visible}
 use Rattle.qs_data.proofs.write.serializer.Serializer.serialize.Goals as goal
 
 pub write_all-requires : goal.write_all-requires
-write_all-requires g c = c.new-walk.ensures c.self.inside.config.form
+write_all-requires g c = c.new-walk.ensures
 
 pub returns-clause-memory_text : goal.returns-clause-memory_text
 returns-clause-memory_text g c = λ refused.

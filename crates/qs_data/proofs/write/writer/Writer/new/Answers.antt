@@ -9,6 +9,6 @@ returns c =
     let empty = ap (λ (v : Vec ℕ Global). v.items) c.new.ensures.writer ∙ c.in_ok-text.ensures.items in
     record {
       settings = refl;
-      top = c.new-2.ensures c.args.config.form;
+      top = c.new-2.ensures;
       state = ap (λ text. state text c.new.result.failed) empty ∙ ap (state []) c.new.ensures.fresh;
     }

@@ -93,7 +93,8 @@ pub trait Deserialize: Sized {
     /// this function.
     ///
     /// The errors are those of reading by the shape, and of [`from_data`](Deserialize::from_data). Unless a type has a function of its own, this
-    /// makes the shape and the data. Numbers, strings, options, lists, maps and structs read the node itself.
+    /// makes the shape and the data. The unit, booleans, numbers, characters, strings, options, lists, maps, newtypes and structs read the
+    /// node itself.
     fn from_node(reader: Reader, node: &ParsedValue<'_>) -> Result<Self>
         ensures node { ReadsNode value form meaning reader.reject_duplicates (tree_of node.now) result }
     {

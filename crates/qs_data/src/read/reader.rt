@@ -23,7 +23,9 @@ use crate::read::error::ReadError;
 use crate::read::items::{Items, items_of};
 use crate::read::keys::Entries;
 use crate::read::message::{Expected, Message};
-use crate::read::scalar::{as_text, read_signed, read_text, read_unsigned};
+use crate::read::scalar::{
+    as_text, read_bool, read_char, read_signed, read_text, read_unit, read_unsigned,
+};
 use crate::shape::{Shape, Width};
 use qs_tree::{Config, DuplicateKeyBehavior, Error, ParsedValue, Result};
 use std::alloc::Global;
@@ -47,6 +49,24 @@ impl Reader {
         read(self, shape, node)
     }
 
+    /// Reads the unit, as by its shape.
+    #[inline(always)]
+    #[tactic(auto, unfolding(qs_spec::specs::internal::ReadFunction::reads))]
+    pub fn unit(self, node: &ParsedValue<'_>) -> Result<Data>
+        ensures { Gives data_of (is_text (tree_of node.now)) result (reads self.reject_duplicates s.Shape.unit (tree_of node.now)) }
+    {
+        Ok(read_unit(self.alloc, node)?)
+    }
+
+    /// Reads a boolean, as by its shape.
+    #[inline(always)]
+    #[tactic(auto, unfolding(qs_spec::specs::internal::ReadFunction::reads))]
+    pub fn boolean(self, node: &ParsedValue<'_>) -> Result<Data>
+        ensures { Gives data_of (is_text (tree_of node.now)) result (reads self.reject_duplicates s.Shape.boolean (tree_of node.now)) }
+    {
+        Ok(read_bool(self, node)?)
+    }
+
     /// Reads an unsigned number of this width, as by its shape.
     #[inline(always)]
     #[tactic(auto, unfolding(qs_spec::specs::internal::ReadFunction::reads))]
@@ -63,6 +83,15 @@ impl Reader {
         ensures { Gives data_of (is_text (tree_of node.now)) result (reads self.reject_duplicates (s.Shape.signed (bits_of width)) (tree_of node.now)) }
     {
         Ok(read_signed(self, width, node)?)
+    }
+
+    /// Reads a character, as by its shape.
+    #[inline(always)]
+    #[tactic(auto, unfolding(qs_spec::specs::internal::ReadFunction::reads))]
+    pub fn character(self, node: &ParsedValue<'_>) -> Result<Data>
+        ensures { Gives data_of (is_text (tree_of node.now)) result (reads self.reject_duplicates s.Shape.character (tree_of node.now)) }
+    {
+        Ok(read_char(self.alloc, node)?)
     }
 
     /// Reads a text, as by its shape.

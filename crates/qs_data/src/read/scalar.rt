@@ -90,6 +90,7 @@ pub(crate) fn read_char(alloc: Global, value: &ParsedValue<'_>) -> Result<Data>
 }
 
 /// A text: the last one, and the empty one where there is none.
+#[inline(always)]
 pub(crate) fn read_text(reader: Reader, value: &ParsedValue<'_>) -> Result<Data>
     ensures { ReadGives data_of (is_text (tree_of value.now)) result (read_scalar reader.reject_duplicates (Some (d.text [])) text_data (tree_of value.now)) }
 {
@@ -222,6 +223,7 @@ pub(crate) fn char_data(alloc: Global, bytes: &[u8]) -> Result<Data>
 }
 
 /// A text, which must be UTF-8.
+#[inline(always)]
 pub(crate) fn text_data(alloc: Global, bytes: &[u8]) -> Result<Data>
     ensures { ReadGives data_of (is_utf8 bytes.now) result (text_data bytes.now) }
 {

@@ -95,6 +95,7 @@ impl Fields for () {
     }
 
     #[tactic(auto, unfolding(qs_spec::specs::internal::ReadFunction::reads))]
+    #[inline(always)]
     fn from_entries(
         _reader: Reader,
         _names: &[&'static str],
@@ -147,6 +148,7 @@ impl<T: RoundTrip + Drop, R: Fields> Fields for (T, R) {
         Ok((first, others))
     }
 
+    #[inline(always)]
     fn from_entries(
         reader: Reader,
         names: &[&'static str],
@@ -193,6 +195,7 @@ pub(crate) fn push_field<T: RoundTrip, R: Fields>(
 }
 
 // Returns the first name, which is empty where there is none, and the others.
+#[inline(always)]
 pub(crate) fn split<'a, 'n>(names: &'a [&'n str]) -> (&'n str, &'a [&'n str])
     ensures first { result.0.now ≡ first_of (texts names.now) }
     ensures others { texts result.1.now ≡ others_of (texts names.now) }

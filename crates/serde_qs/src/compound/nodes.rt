@@ -21,6 +21,7 @@ use qs_tree::ParsedValue;
 
 // Returns the fields that a node holds: by their names among keys, and by their places among items.
 #[tactic(auto, unfolding(qs_spec::specs::internal::ReadFunction::struct_members))]
+#[inline(always)]
 pub(crate) fn struct_of<F: Fields>(
     reader: Reader,
     names: &[&'static str],
@@ -39,6 +40,7 @@ pub(crate) fn struct_of<F: Fields>(
 }
 
 // Returns the fields that are read by their names. All keys must be texts.
+#[inline(always)]
 fn read_entries<F: Fields>(
     reader: Reader,
     names: &[&'static str],
@@ -57,6 +59,7 @@ fn read_entries<F: Fields>(
 }
 
 // Returns the value of a field by its name.
+#[inline(always)]
 pub(crate) fn by_name<T: RoundTrip>(
     reader: Reader,
     name: &str,
@@ -108,6 +111,7 @@ pub(crate) fn defaulted_by_name<T: RoundTrip + OrDefault>(
 }
 
 // Returns the value of a field by its place, the first of these items. There are so many items in all.
+#[inline(always)]
 pub(crate) fn by_place<T: RoundTrip>(
     reader: Reader,
     items: &[ParsedValue<'_>],

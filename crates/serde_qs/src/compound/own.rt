@@ -38,6 +38,7 @@ pub(crate) fn value_of<T: RoundTrip>(alloc: Global, datum: Data) -> Result<T>
 }
 
 // Returns the value that is read from a node.
+#[inline(always)]
 pub(crate) fn from_node<T: RoundTrip>(reader: Reader, node: &ParsedValue<'_>) -> Result<T>
     ensures { ReadsNode T.table.value T.table.form T.table.meaning reader.reject_duplicates (tree_of node.now) result }
 {

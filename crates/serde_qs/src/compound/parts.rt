@@ -60,6 +60,7 @@ pub trait Parts: Sized {
     /// ```
     /// let Struct((x, (y, ()))) = PointParts::read(source, NAMES)?;
     /// ```
+    #[inline(always)]
     fn read(source: Source<'_, '_>, names: &[&'static str]) -> Result<Self>
         requires { is_distinct (table.form (texts names.now)) ≡ true }
         ensures source { ReadsSource table.value (table.form (texts names.now)) (table.meaning (texts names.now)) source.entry result }
@@ -83,6 +84,7 @@ impl<F: Fields> Parts for Struct<F> {
         Ok(Struct(struct_fields(alloc, names, datum)?))
     }
 
+    #[inline(always)]
     fn from_node(
         reader: Reader,
         names: &[&'static str],
@@ -93,6 +95,7 @@ impl<F: Fields> Parts for Struct<F> {
 }
 
 // Returns the fields that the data of a struct mean.
+#[inline(never)]
 #[tactic(auto, using(crate::proofs::Levels::levels))]
 pub(crate) fn struct_fields<F: Fields>(
     alloc: Global,
@@ -133,6 +136,15 @@ impl<T: RoundTrip> Parts for Newtype<T> {
             Data::Newtype(part) => Ok(Newtype(own::value_of(alloc, Box::into_inner(part))?)),
             _ => Err(unexpected(alloc, "a newtype")),
         }
+    }
+
+    #[tactic(auto, unfolding(qs_spec::specs::internal::ReadFunction::reads))]
+    fn from_node(
+        reader: Reader,
+        _names: &[&'static str],
+        node: &ParsedValue<'_>,
+    ) -> Result<Newtype<T>> {
+        Ok(Newtype(own::from_node(reader, node)?))
     }
 }
 

@@ -49,6 +49,11 @@ impl Deserialize for () {
             _ => Err(unexpected(alloc, "unit")),
         }
     }
+
+    #[tactic(auto, unfolding(qs_spec::specs::internal::ReadFunction::reads))]
+    fn from_node(reader: Reader, node: &ParsedValue<'_>) -> Result<()> {
+        Self::from_data(reader.alloc, reader.unit(node)?)
+    }
 }
 
 impl RoundTrip for () {
@@ -94,6 +99,11 @@ impl Deserialize for bool {
             Data::Bool(b) => Ok(b),
             _ => Err(unexpected(alloc, "a boolean")),
         }
+    }
+
+    #[tactic(auto, unfolding(qs_spec::specs::internal::ReadFunction::reads))]
+    fn from_node(reader: Reader, node: &ParsedValue<'_>) -> Result<bool> {
+        Self::from_data(reader.alloc, reader.boolean(node)?)
     }
 }
 
@@ -141,6 +151,11 @@ impl Deserialize for char {
             _ => Err(unexpected(alloc, "a character")),
         }
     }
+
+    #[tactic(auto, unfolding(qs_spec::specs::internal::ReadFunction::reads))]
+    fn from_node(reader: Reader, node: &ParsedValue<'_>) -> Result<char> {
+        Self::from_data(reader.alloc, reader.character(node)?)
+    }
 }
 
 impl RoundTrip for char {
@@ -183,6 +198,7 @@ impl Deserialize for String {
         Ok(Shape::Text)
     }
 
+    #[inline(always)]
     fn from_data(alloc: Global, datum: Data) -> Result<String> {
         match datum {
             Data::Text(text) => Ok(text),
@@ -191,6 +207,7 @@ impl Deserialize for String {
     }
 
     #[tactic(auto, unfolding(qs_spec::specs::internal::ReadFunction::reads))]
+    #[inline(always)]
     fn from_node(reader: Reader, node: &ParsedValue<'_>) -> Result<String> {
         Self::from_data(reader.alloc, reader.text(node)?)
     }

@@ -17,6 +17,7 @@ use qs_tree::ParsedValue;
 use std::alloc::Global;
 
 // Returns the number that these data mean, if it is from `least` to `most`.
+#[inline(always)]
 fn signed(alloc: Global, datum: Data, least: i64, most: i64, expected: &'static str) -> Result<i64>
     ensures exact { Means (λ (z : ℤ). z) result (signed_between least most (data_of datum)) }
     ensures bound { IfOk result (λ z. (least ≤ℤ z) × (z ≤ℤ most)) }
@@ -61,11 +62,13 @@ impl Deserialize for i8 {
         Ok(Shape::I8)
     }
 
+    #[inline(always)]
     fn from_data(alloc: Global, datum: Data) -> Result<i8> {
         Ok(signed(alloc, datum, -128, 127, "i8")? as i8)
     }
 
     #[tactic(auto, unfolding(qs_spec::specs::internal::ReadFunction::reads))]
+    #[inline(always)]
     fn from_node(reader: Reader, node: &ParsedValue<'_>) -> Result<i8> {
         Self::from_data(reader.alloc, reader.signed(Width::Bits8, node)?)
     }
@@ -111,11 +114,13 @@ impl Deserialize for i16 {
         Ok(Shape::I16)
     }
 
+    #[inline(always)]
     fn from_data(alloc: Global, datum: Data) -> Result<i16> {
         Ok(signed(alloc, datum, -32768, 32767, "i16")? as i16)
     }
 
     #[tactic(auto, unfolding(qs_spec::specs::internal::ReadFunction::reads))]
+    #[inline(always)]
     fn from_node(reader: Reader, node: &ParsedValue<'_>) -> Result<i16> {
         Self::from_data(reader.alloc, reader.signed(Width::Bits16, node)?)
     }
@@ -161,11 +166,13 @@ impl Deserialize for i32 {
         Ok(Shape::I32)
     }
 
+    #[inline(always)]
     fn from_data(alloc: Global, datum: Data) -> Result<i32> {
         Ok(signed(alloc, datum, -2147483648, 2147483647, "i32")? as i32)
     }
 
     #[tactic(auto, unfolding(qs_spec::specs::internal::ReadFunction::reads))]
+    #[inline(always)]
     fn from_node(reader: Reader, node: &ParsedValue<'_>) -> Result<i32> {
         Self::from_data(reader.alloc, reader.signed(Width::Bits32, node)?)
     }
@@ -211,11 +218,13 @@ impl Deserialize for i64 {
         Ok(Shape::I64)
     }
 
+    #[inline(always)]
     fn from_data(alloc: Global, datum: Data) -> Result<i64> {
         signed(alloc, datum, i64::MIN, i64::MAX, "i64")
     }
 
     #[tactic(auto, unfolding(qs_spec::specs::internal::ReadFunction::reads))]
+    #[inline(always)]
     fn from_node(reader: Reader, node: &ParsedValue<'_>) -> Result<i64> {
         Self::from_data(reader.alloc, reader.signed(Width::Bits64, node)?)
     }

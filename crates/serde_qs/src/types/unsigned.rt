@@ -16,6 +16,7 @@ use qs_tree::ParsedValue;
 use std::alloc::Global;
 
 // Returns the number that these data mean, if it is at most `most`.
+#[inline(always)]
 fn unsigned(alloc: Global, datum: Data, most: u64, expected: &'static str) -> Result<u64>
     ensures exact { Means (λ (n : ℕ). n) result (unsigned_in most (data_of datum)) }
     ensures bound { IfOk result (λ n. n ≤ most) }
@@ -60,11 +61,13 @@ impl Deserialize for u8 {
         Ok(Shape::U8)
     }
 
+    #[inline(always)]
     fn from_data(alloc: Global, datum: Data) -> Result<u8> {
         Ok(unsigned(alloc, datum, 255, "u8")? as u8)
     }
 
     #[tactic(auto, unfolding(qs_spec::specs::internal::ReadFunction::reads))]
+    #[inline(always)]
     fn from_node(reader: Reader, node: &ParsedValue<'_>) -> Result<u8> {
         Self::from_data(reader.alloc, reader.unsigned(Width::Bits8, node)?)
     }
@@ -110,11 +113,13 @@ impl Deserialize for u16 {
         Ok(Shape::U16)
     }
 
+    #[inline(always)]
     fn from_data(alloc: Global, datum: Data) -> Result<u16> {
         Ok(unsigned(alloc, datum, 65535, "u16")? as u16)
     }
 
     #[tactic(auto, unfolding(qs_spec::specs::internal::ReadFunction::reads))]
+    #[inline(always)]
     fn from_node(reader: Reader, node: &ParsedValue<'_>) -> Result<u16> {
         Self::from_data(reader.alloc, reader.unsigned(Width::Bits16, node)?)
     }
@@ -160,11 +165,13 @@ impl Deserialize for u32 {
         Ok(Shape::U32)
     }
 
+    #[inline(always)]
     fn from_data(alloc: Global, datum: Data) -> Result<u32> {
         Ok(unsigned(alloc, datum, 4294967295, "u32")? as u32)
     }
 
     #[tactic(auto, unfolding(qs_spec::specs::internal::ReadFunction::reads))]
+    #[inline(always)]
     fn from_node(reader: Reader, node: &ParsedValue<'_>) -> Result<u32> {
         Self::from_data(reader.alloc, reader.unsigned(Width::Bits32, node)?)
     }
@@ -210,11 +217,13 @@ impl Deserialize for u64 {
         Ok(Shape::U64)
     }
 
+    #[inline(always)]
     fn from_data(alloc: Global, datum: Data) -> Result<u64> {
         unsigned(alloc, datum, 18446744073709551615, "u64")
     }
 
     #[tactic(auto, unfolding(qs_spec::specs::internal::ReadFunction::reads))]
+    #[inline(always)]
     fn from_node(reader: Reader, node: &ParsedValue<'_>) -> Result<u64> {
         Self::from_data(reader.alloc, reader.unsigned(Width::Bits64, node)?)
     }

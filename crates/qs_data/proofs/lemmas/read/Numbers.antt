@@ -1,12 +1,12 @@
 -- What std reads as a number is what the definitions read.
-use Rattle.std.proofs.Common.{◌≡◌, ℕ, zero, suc, slice_index, ◌+◌, ◌-◌, ◌*◌, ◌^◌, ◌<◌, ◌≤◌, ◌⊎◌, inl, inr, Bool, true, false, cond, decimal, List, [], ◌∷◌, fold, Some, None, ℤ, pos, neg_ℤ, ◌≤ℤ◌, ◌<ℤ◌, w64, refl, sym, ap, ◌∙◌, subst, arith, rules, eqb}
+use Rattle.std.proofs.Common.{◌≡◌, ℕ, zero, suc, length, get_or, slice_index, ◌+◌, ◌-◌, ◌*◌, ◌^◌, ◌<◌, ◌≤◌, ◌⊎◌, inl, inr, Bool, true, false, cond, decimal, List, [], ◌∷◌, fold, Some, None, ℤ, pos, neg_ℤ, ◌≤ℤ◌, ◌<ℤ◌, w64, refl, sym, ap, ◌∙◌, subst, arith, rules, eqb}
 use Rattle.std.specs.List.{list_all}
 use Rattle.std.specs.Str.{IsAscii, is_utf8}
 use Rattle.std.specs.Str.Parse.{IsNumeral, digits_value, signed_digits_value, starts_with_minus, without_leading_plus, without_leading_sign}
 use Rattle.std.specs.Int.RustNames.{FitsSigned}
 use Rattle.std.specs.Option.{option_map}
 use Rattle.std.proofs.lemmas.Int.{ints}
-use Rattle.std.proofs.lemmas.Fmt.{IsAscii-decimal}
+use Rattle.std.proofs.lemmas.Fmt.{IsAscii-decimal, decimal_is_IsNumeral}
 use Rattle.std.proofs.lemmas.Bool.{cases_Bool, false≢true}
 use Rattle.std.proofs.lemmas.Bool.Decides.{nat_tests}
 use Rattle.std.proofs.lemmas.Str.Parse.{IsNumeralModel, numerals_by_fold}
@@ -89,7 +89,7 @@ all_ascii (b ∷ bs) h i = by_place (byte_ascii b bs h).0 (all_ascii bs (byte_as
 pub word_text : (bs : List ℕ) → list_all (is_between 0 127) bs ≡ true → is_utf8 bs ≡ true
 word_text bs h = is_utf8-from_IsUtf8 bs (IsUtf8-from_ascii bs (all_ascii bs h))
 
-ascii_text : (bs : List ℕ) → IsAscii bs → is_utf8 bs ≡ true
+pub ascii_text : (bs : List ℕ) → IsAscii bs → is_utf8 bs ≡ true
 ascii_text bs h = is_utf8-from_IsUtf8 bs (IsUtf8-from_ascii bs h)
 
 -- and so they are after a sign
@@ -235,3 +235,14 @@ decimal_text n lt = ascii_text (decimal n) (IsAscii-decimal n (omega arith))
 
 pub empty_text : is_utf8 [] ≡ true
 empty_text = word_text [] refl
+
+-- and the first is a digit
+first_digit : (ds : List ℕ) → AreDigits ds → 0 < length ds → (48 ≤ get_or ds 0 0) × (get_or ds 0 0 ≤ 57)
+first_digit [] h some = absurd (omega (arith, some))
+first_digit (d ∷ ds) h some = (grind (arith, nat_tests, h), grind (arith, nat_tests, h))
+
+pub decimal_begins : (n : ℕ) (ds : List ℕ) → n < 2 ^ 32 → decimal n ≡ ds → (0 < length ds) × (48 ≤ get_or ds 0 0) × (get_or ds 0 0 ≤ 57)
+decimal_begins n ds lt is =
+    let numeral : IsNumeral 10 ds = subst (IsNumeral 10) is (decimal_is_IsNumeral n (omega arith)).0 in
+    let digit = first_digit ds (own.from ds numeral.1) numeral.0 in
+    (numeral.0, digit.0, digit.1)

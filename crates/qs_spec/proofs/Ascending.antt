@@ -5,7 +5,7 @@ use Rattle.qs_spec.specs.Escape.{decoded}
 use Rattle.qs_spec.specs.Segment.{Segment, Step, segment_of, is_index, number, compare_segments, is_same_segment}
 use Rattle.qs_spec.specs.Segment.Segment.{Int, Str}
 use Rattle.qs_spec.specs.Grammar.{Pair}
-use Rattle.qs_spec.specs.History.{Event, events, is_below, under, under_one}
+use Rattle.qs_spec.specs.History.{Event, events, is_below, under}
 use Rattle.qs_spec.specs.History.Event.{direct, push, below}
 use Rattle.qs_spec.specs.Tree.{Tree, IsTree, flat, put, put_head, heads, filled, filled_path, head_mark, entries_of, node_within, longest}
 use Rattle.qs_spec.specs.internal.Keys.{IsInRange, AreAbove, AreAscending, IsAscending, HoldAscending}
@@ -51,7 +51,7 @@ under_in_range : (k : Segment) (ps : List Pair) → AllSegments IsInRange ps →
 under_in_range k [] h = tt
 under_in_range k (p ∷ ps) h = by p.path h.0 (under_in_range k ps h.1)
   where
-    by : (path : List Step) → AllSteps IsInRange path → AllSegments IsInRange (under k ps) → AllSegments IsInRange (under_one k path p (under k ps))
+    by : (path : List Step) → AllSteps IsInRange path → AllSegments IsInRange (under k ps) → AllSegments IsInRange (under k (record p { path = path } ∷ ps))
     by [] r more = more
     by (s ∷ path) r more = each (is_same_segment k s.seg)
       where

@@ -6,7 +6,7 @@ use Rattle.qs_spec.specs.Segment.{Step}
 use Rattle.qs_spec.specs.Leaf.{Leaf}
 use Rattle.qs_spec.specs.Segment.Segment.{Str}
 use Rattle.qs_spec.specs.Grammar.{Pair}
-use Rattle.qs_spec.specs.History.{Event, event, event_of, is_below, is_push, begins_below, begins_direct_push, permitted, under, under_one}
+use Rattle.qs_spec.specs.History.{Event, event, event_of, is_below, is_push, begins_below, begins_direct_push, permitted, under}
 use Rattle.qs_spec.specs.Tree.{leaves_in, leaf_items, flat, filled, filled_path, Tree}
 use Rattle.qs_spec.specs.History.Event.{direct, push, below}
 use Rattle.qs_spec.specs.Tree.Tree.{leaf, sequence}
@@ -99,7 +99,7 @@ all_direct [] n e = tt
 all_direct (p ∷ ps) n e = by p.path p.push n.0 e (all_direct ps n.1)
   where
     by : (path : List Step) (b : Bool) → NoEmpty path → (is_push (event_of path b p.leaf) || list_any is_push (map event ps)) ≡ false → (list_any is_push (map event ps) ≡ false → AllDirect (map event (under (Str []) (filled ps))))
-        → AllDirect (map event (under_one (Str []) (filled_path path b) (record p { path = filled_path path b; push = b }) (under (Str []) (filled ps))))
+        → AllDirect (map event (under (Str []) (record p { path = filled_path path b; push = b } ∷ filled ps)))
     by [] true n e h = cc
     by [] false n e h = h e
     by (s ∷ path) b n e h = subst (λ x. AllDirect (map event (cond x (record p { path = path; push = b } ∷ under (Str []) (filled ps)) (under (Str []) (filled ps))))) (sym n.0) (h e)

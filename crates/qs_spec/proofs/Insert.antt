@@ -6,7 +6,7 @@ use Rattle.qs_spec.specs.Segment.{Segment, Step}
 use Rattle.qs_spec.specs.Leaf.{Leaf}
 use Rattle.qs_spec.specs.Segment.Segment.{Str}
 use Rattle.qs_spec.specs.Grammar.{Pair}
-use Rattle.qs_spec.specs.History.{Event, event, event_of, events, is_below, permitted, under, under_one}
+use Rattle.qs_spec.specs.History.{Event, event, event_of, events, is_below, permitted, under}
 use Rattle.qs_spec.specs.Tree.{flat, filled, filled_path, empty_step, node_within, longest, Tree}
 use Rattle.qs_spec.specs.Segment.{is_same_segment}
 use Rattle.qs_spec.specs.History.Event.{direct, push, below}
@@ -87,7 +87,7 @@ pub under_filled : (k : Segment) (ps : List Pair) → is_same_segment (Str []) k
 under_filled k [] e = refl
 under_filled k (p ∷ ps) e = by p.path p.push (under_filled k ps e)
   where
-    by : (path : List Step) (b : Bool) → under k (filled ps) ≡ under k ps → under_one k (filled_path path b) (record p { path = filled_path path b }) (under k (filled ps)) ≡ under_one k path p (under k ps)
+    by : (path : List Step) (b : Bool) → under k (filled ps) ≡ under k ps → under k (record p { path = filled_path path b } ∷ filled ps) ≡ under k (record p { path = path } ∷ ps)
     by [] true h = h
     by [] false h = ap (λ x. cond x (record p { path = [] } ∷ under k (filled ps)) (under k (filled ps))) (same_turned k (Str []) ∙ e) ∙ h
     by (s ∷ path) b h = ap (λ (l : List Pair). cond (is_same_segment k s.seg) (record p { path = path } ∷ l) l) h
@@ -96,7 +96,7 @@ pub none_empty_under : (k : Segment) (ps : List Pair) → NoneEmpty ps → NoneE
 none_empty_under k [] h = tt
 none_empty_under k (p ∷ ps) h = by p.path h.0 (none_empty_under k ps h.1)
   where
-    by : (path : List Step) → NoEmpty path → NoneEmpty (under k ps) → NoneEmpty (under_one k path p (under k ps))
+    by : (path : List Step) → NoEmpty path → NoneEmpty (under k ps) → NoneEmpty (under k (record p { path = path } ∷ ps))
     by [] n h = h
     by (s ∷ path) n h = each (is_same_segment k s.seg)
       where

@@ -6,7 +6,7 @@ use Rattle.qs_spec.specs.Segment.{Segment, Step}
 use Rattle.qs_spec.specs.Leaf.{Leaf}
 use Rattle.qs_spec.specs.Token.{Token}
 use Rattle.qs_spec.specs.Grammar.{Pair, IsPair, IsBrackets, ArePairs, root}
-use Rattle.qs_spec.specs.History.{Event, event_of, events, is_below, is_push, under, under_one}
+use Rattle.qs_spec.specs.History.{Event, event_of, events, is_below, is_push, under}
 use Rattle.qs_spec.specs.Tree.{leaves_in, leaf_items, flat, heads, put_head, put, filled, filled_path, head_mark, entries_of, node_within, longest, Tree}
 use Rattle.qs_spec.specs.Segment.{compare_segments, is_same_segment}
 use Rattle.qs_spec.specs.History.Event.{direct, push, below}
@@ -131,17 +131,17 @@ pub counted : (ps : List Pair) → AllLonger ps → total (λ k. length (under k
 counted [] h = refl
 counted (p ∷ ps) h = by p.path h.0 (counted ps h.1)
   where
-    at_key : (s : Step) (path : List Step) (k : Segment) → length (under_one k (s ∷ path) p (under k ps)) ≡ one_if (is_same_segment k s.seg) + length (under k ps)
+    at_key : (s : Step) (path : List Step) (k : Segment) → length (under k (record p { path = s ∷ path } ∷ ps)) ≡ one_if (is_same_segment k s.seg) + length (under k ps)
     at_key s path k = each (is_same_segment k s.seg)
       where
         each : (b : Bool) → length (cond b (record p { path = path } ∷ under k ps) (under k ps)) ≡ one_if b + length (under k ps)
         each true = omega arith
         each false = omega arith
 
-    by : (path : List Step) → 0 < length path → total (λ k. length (under k ps)) (heads ps) ≡ length ps → total (λ k. length (under_one k path p (under k ps))) (put_head path (heads ps)) ≡ suc (length ps)
+    by : (path : List Step) → 0 < length path → total (λ k. length (under k ps)) (heads ps) ≡ length ps → total (λ k. length (under k (record p { path = path } ∷ ps))) (put_head path (heads ps)) ≡ suc (length ps)
     by [] l e = absurd (omega arith)
     by (s ∷ path) l e =
-        one_more s.seg (λ k. length (under_one k (s ∷ path) p (under k ps))) (λ k. length (under k ps)) (at_key s path) (heads ps) (ascends_heads ps) (λ n. ap length (none_under s.seg ps n))
+        one_more s.seg (λ k. length (under k (record p { path = s ∷ path } ∷ ps))) (λ k. length (under k ps)) (at_key s path) (heads ps) (ascends_heads ps) (λ n. ap length (none_under s.seg ps n))
         ∙ ap suc e
 
 pub entries_counted : (m : Segment → Bool) (f : Segment → Tree) (g : Segment → ℕ) → ((k : Segment) → leaf_count (f k) ≡ g k) → (ks : List Segment) → entries_leaf_count (entries_of m f ks) ≡ total g ks

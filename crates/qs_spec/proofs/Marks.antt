@@ -5,7 +5,7 @@ use Rattle.qs_spec.specs.Segment.{Segment, Step, is_same_segment}
 use Rattle.qs_spec.specs.Leaf.{Leaf}
 use Rattle.qs_spec.specs.Leaf.Leaf.{NoValue, Null, Text}
 use Rattle.qs_spec.specs.Grammar.{Pair}
-use Rattle.qs_spec.specs.History.{Event, event, event_of, under, under_one, events, is_below, is_push, begins_below, begins_direct_push, permitted}
+use Rattle.qs_spec.specs.History.{Event, event, event_of, under, events, is_below, is_push, begins_below, begins_direct_push, permitted}
 use Rattle.qs_spec.specs.History.Event.{direct, push, below}
 use Rattle.qs_spec.specs.Tree.{Tree, Items, leaves_in, leaf_items, flat, filled, filled_path, put_head, heads, node_within, longest, node}
 use Rattle.qs_spec.specs.Tree.Items.{item}
@@ -19,7 +19,7 @@ under_bare : (k : Segment) (ps : List Pair) → under k (bare ps) ≡ bare (unde
 under_bare k [] = refl
 under_bare k (p ∷ ps) = by p.path (under_bare k ps)
   where
-    by : (path : List Step) → under k (bare ps) ≡ bare (under k ps) → under_one k (map unmarked_step path) (unmarked_pair p) (under k (bare ps)) ≡ bare (under_one k path p (under k ps))
+    by : (path : List Step) → under k (bare ps) ≡ bare (under k ps) → under k (bare (record p { path = path } ∷ ps)) ≡ bare (under k (record p { path = path } ∷ ps))
     by [] e = e
     by (s ∷ path) e = each (is_same_segment k s.seg)
       where

@@ -5,8 +5,8 @@ use Rattle.qs_spec.specs.Segment.{Segment, Step}
 use Rattle.qs_spec.specs.Leaf.{Leaf}
 use Rattle.qs_spec.specs.Segment.Segment.{Str}
 use Rattle.qs_spec.specs.Grammar.{Pair}
-use Rattle.qs_spec.specs.History.{event, events, permitted, under, under_one}
-use Rattle.qs_spec.specs.Tree.{heads, put_head, put, filled, filled_path, head_mark, head_mark_or}
+use Rattle.qs_spec.specs.History.{event, events, permitted, under}
+use Rattle.qs_spec.specs.Tree.{heads, put_head, put, filled, filled_path, head_mark}
 use Rattle.qs_spec.specs.Segment.{is_same_segment}
 use Rattle.qs_spec.proofs.Order.{put_twice}
 use Rattle.qs_spec.proofs.TreeOf.{any_put}
@@ -30,7 +30,7 @@ pub under_push : (k : Segment) (ps : List Pair) (p : Pair) → under k (ps ++ p 
 under_push k [] p = refl
 under_push k (q ∷ ps) p = by q.path (under_push k ps p)
   where
-    by : (path : List Step) → under k (ps ++ p ∷ []) ≡ under k ps ++ under k (p ∷ []) → under_one k path q (under k (ps ++ p ∷ [])) ≡ under_one k path q (under k ps) ++ under k (p ∷ [])
+    by : (path : List Step) → under k (ps ++ p ∷ []) ≡ under k ps ++ under k (p ∷ []) → under k (record q { path = path } ∷ (ps ++ p ∷ [])) ≡ under k (record q { path = path } ∷ ps) ++ under k (p ∷ [])
     by [] e = e
     by (s ∷ path) e = each (is_same_segment k s.seg)
       where
@@ -61,13 +61,13 @@ or-false false = refl
 -- the mark of another key stays, and so does that of a key that is there
 pub mark_push : (k : Segment) (ps : List Pair) (s : Step) (path : List Step) (b : Bool) (l : Leaf) → is_same_segment k s.seg ≡ false → head_mark k (ps ++ pair (s ∷ path) b l ∷ []) ≡ head_mark k ps
 mark_push k [] s path b l e = ap (λ x. cond x s.mark false) e
-mark_push k (q ∷ ps) s path b l e = ap (head_mark_or k q.path) (mark_push k ps s path b l e)
+mark_push k (q ∷ ps) s path b l e = ap (λ m. elim q.path [ [] ↦ m | (t ∷ p) ↦ cond (is_same_segment k t.seg) t.mark m ]) (mark_push k ps s path b l e)
 
 pub mark_there : (k : Segment) (ps qs : List Pair) → list_any (is_same_segment k) (heads ps) ≡ true → head_mark k (ps ++ qs) ≡ head_mark k ps
 mark_there k [] qs e = cc
 mark_there k (q ∷ ps) qs e = by q.path e (mark_there k ps qs)
   where
-    by : (p : List Step) → list_any (is_same_segment k) (put_head p (heads ps)) ≡ true → (list_any (is_same_segment k) (heads ps) ≡ true → head_mark k (ps ++ qs) ≡ head_mark k ps) → head_mark_or k p (head_mark k (ps ++ qs)) ≡ head_mark_or k p (head_mark k ps)
+    by : (p : List Step) → list_any (is_same_segment k) (put_head p (heads ps)) ≡ true → (list_any (is_same_segment k) (heads ps) ≡ true → head_mark k (ps ++ qs) ≡ head_mark k ps) → head_mark k (record q { path = p } ∷ (ps ++ qs)) ≡ head_mark k (record q { path = p } ∷ ps)
     by [] e h = h e
     by (t ∷ p) e h = each (is_same_segment k t.seg) (sym (any_put k t.seg (heads ps)) ∙ e)
       where
@@ -79,7 +79,7 @@ pub mark_new : (k : Segment) (ps : List Pair) (s : Step) (path : List Step) (b :
 mark_new k [] s path b l n e = ap (λ x. cond x s.mark false) e
 mark_new k (q ∷ ps) s path b l n e = by q.path n (mark_new k ps s path b l)
   where
-    by : (p : List Step) → list_any (is_same_segment k) (put_head p (heads ps)) ≡ false → (list_any (is_same_segment k) (heads ps) ≡ false → is_same_segment k s.seg ≡ true → head_mark k (ps ++ pair (s ∷ path) b l ∷ []) ≡ s.mark) → head_mark_or k p (head_mark k (ps ++ pair (s ∷ path) b l ∷ [])) ≡ s.mark
+    by : (p : List Step) → list_any (is_same_segment k) (put_head p (heads ps)) ≡ false → (list_any (is_same_segment k) (heads ps) ≡ false → is_same_segment k s.seg ≡ true → head_mark k (ps ++ pair (s ∷ path) b l ∷ []) ≡ s.mark) → head_mark k (record q { path = p } ∷ (ps ++ pair (s ∷ path) b l ∷ [])) ≡ s.mark
     by [] n h = h n e
     by (t ∷ p) n h =
         let parts = or_both (is_same_segment k t.seg) _ (sym (any_put k t.seg (heads ps)) ∙ n) in

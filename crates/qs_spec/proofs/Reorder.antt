@@ -4,7 +4,7 @@ use Rattle.std.specs.List.{AllByRecursion, list_any}
 use Rattle.qs_spec.specs.Segment.{Segment, Step}
 use Rattle.qs_spec.specs.Leaf.{Leaf}
 use Rattle.qs_spec.specs.Grammar.{Pair}
-use Rattle.qs_spec.specs.History.{Event, event, event_of, under, under_one, events, is_below, permitted}
+use Rattle.qs_spec.specs.History.{Event, event, event_of, under, events, is_below, permitted}
 use Rattle.qs_spec.specs.Tree.{Tree, Entries, flat, filled, filled_path, put_head, heads, entries_of, node_within, longest, node}
 use Rattle.qs_spec.specs.Segment.{is_same_segment}
 use Rattle.qs_spec.specs.Permutation.{IsReordering}
@@ -27,11 +27,11 @@ swaps_of [] qs h = subst (λ l. Swaps [] l) (sym h) (same [])
 swaps_of (p ∷ ps) qs h = subst (λ l. Swaps (p ∷ ps) l) (sym h.2) (both (keep p (swaps_of ps (h.0 ++ h.1) h.4)) (to_place p h.0 h.1 h.3))
 
 -- a part of each pair's path decides whether it stays, and with which path
-under_keep : (k : Segment) (path : List Step) (p : Pair) {a b : List Pair} → Swaps a b → Swaps (under_one k path p a) (under_one k path p b)
-under_keep k [] p w = w
-under_keep k (s ∷ path) p {a} {b} w = by (is_same_segment k s.seg)
+under_keep : (k : Segment) (path : List Step) (p : Pair) (ps qs : List Pair) → Swaps (under k ps) (under k qs) → Swaps (under k (record p { path = path } ∷ ps)) (under k (record p { path = path } ∷ qs))
+under_keep k [] p ps qs w = w
+under_keep k (s ∷ path) p ps qs w = by (is_same_segment k s.seg)
   where
-    by : (t : Bool) → Swaps (cond t (record p { path = path } ∷ a) a) (cond t (record p { path = path } ∷ b) b)
+    by : (t : Bool) → Swaps (cond t (record p { path = path } ∷ under k ps) (under k ps)) (cond t (record p { path = path } ∷ under k qs) (under k qs))
     by true = keep (record p { path = path }) w
     by false = w
 
@@ -43,22 +43,22 @@ pub apart_rest : (s t : Step) (a b : List Step) → is_same_segment s.seg t.seg 
 apart_rest s t a b e f h = sym (ap₂ (λ x y. (x && is_front a b) || (y && is_front b a)) e f) ∙ h
 
 under_swap : (k : Segment) (a b : List Step) (p q : Pair) (rest : List Pair) → Apart a b
-    → Swaps (under_one k a p (under_one k b q rest)) (under_one k b q (under_one k a p rest))
+    → Swaps (under k (record p { path = a } ∷ record q { path = b } ∷ rest)) (under k (record q { path = b } ∷ record p { path = a } ∷ rest))
 under_swap k [] b p q rest h = cc
 under_swap k (s ∷ a) [] p q rest h = cc
 under_swap k (s ∷ a) (t ∷ b) p q rest h = by (is_same_segment k s.seg) (is_same_segment k t.seg) refl refl
   where
     by : (x y : Bool) → is_same_segment k s.seg ≡ x → is_same_segment k t.seg ≡ y
-        → Swaps (cond x (record p { path = a } ∷ cond y (record q { path = b } ∷ rest) rest) (cond y (record q { path = b } ∷ rest) rest)) (cond y (record q { path = b } ∷ cond x (record p { path = a } ∷ rest) rest) (cond x (record p { path = a } ∷ rest) rest))
-    by true true e f = swap (record p { path = a }) (record q { path = b }) rest (apart_rest s t a b (same_as_both k s.seg t.seg e f) (same_as_both k t.seg s.seg f e) h)
+        → Swaps (cond x (record p { path = a } ∷ cond y (record q { path = b } ∷ under k rest) (under k rest)) (cond y (record q { path = b } ∷ under k rest) (under k rest))) (cond y (record q { path = b } ∷ cond x (record p { path = a } ∷ under k rest) (under k rest)) (cond x (record p { path = a } ∷ under k rest) (under k rest)))
+    by true true e f = swap (record p { path = a }) (record q { path = b }) (under k rest) (apart_rest s t a b (same_as_both k s.seg t.seg e f) (same_as_both k t.seg s.seg f e) h)
     by true false e f = same _
     by false true e f = same _
     by false false e f = same _
 
 pub swaps_under : (k : Segment) {ps qs : List Pair} → Swaps ps qs → Swaps (under k ps) (under k qs)
 swaps_under k (same ps) = same (under k ps)
-swaps_under k (keep p w) = under_keep k p.path p (swaps_under k w)
-swaps_under k (swap p q ps h) = under_swap k p.path q.path p q (under k ps) h
+swaps_under k (keep {ps} {qs} p w) = under_keep k p.path p ps qs (swaps_under k w)
+swaps_under k (swap p q ps h) = under_swap k p.path q.path p q ps h
 swaps_under k (both w v) = both (swaps_under k w) (swaps_under k v)
 
 event_swap : (a b : List Step) (p q : Bool) (l m : Leaf) (h : List Event) → Apart a b → event_of a p l ∷ event_of b q m ∷ h ≡ event_of b q m ∷ event_of a p l ∷ h

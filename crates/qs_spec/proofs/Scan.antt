@@ -6,7 +6,7 @@ use Rattle.std.proofs.lemmas.List.Folds.{list_any-append}
 use Rattle.qs_spec.specs.Segment.{Segment, Step}
 use Rattle.qs_spec.specs.Token.{tokens}
 use Rattle.qs_spec.specs.Grammar.{Pair, ArePairs}
-use Rattle.qs_spec.specs.History.{Event, event, events, under, under_one, is_below, is_push, permitted}
+use Rattle.qs_spec.specs.History.{Event, event, events, under, is_below, is_push, permitted}
 use Rattle.qs_spec.specs.Tree.{node_within, node, longest, Tree, IsTree}
 use Rattle.qs_spec.specs.Segment.{is_same_segment}
 use Rattle.qs_spec.specs.History.Event.{direct, push, below}
@@ -43,7 +43,7 @@ pub under-append : (k : Segment) (ps qs : List Pair) → under k (ps ++ qs) ≡ 
 under-append k [] qs = refl
 under-append k (p ∷ ps) qs = by p.path (under-append k ps qs)
   where
-    by : (path : List Step) → under k (ps ++ qs) ≡ under k ps ++ under k qs → under_one k path p (under k (ps ++ qs)) ≡ under_one k path p (under k ps) ++ under k qs
+    by : (path : List Step) → under k (ps ++ qs) ≡ under k ps ++ under k qs → under k (record p { path = path } ∷ (ps ++ qs)) ≡ under k (record p { path = path } ∷ ps) ++ under k qs
     by [] e = e
     by (s ∷ path) e = each (is_same_segment k s.seg)
       where

@@ -5,7 +5,7 @@ use Rattle.qs_spec.specs.Segment.{Segment, Step}
 use Rattle.qs_spec.specs.Leaf.{Leaf}
 use Rattle.qs_spec.specs.Segment.Segment.{Int, Str}
 use Rattle.qs_spec.specs.Grammar.{Pair}
-use Rattle.qs_spec.specs.History.{Event, event, event_of, events, under, under_one, is_below}
+use Rattle.qs_spec.specs.History.{Event, event, event_of, events, under, is_below}
 use Rattle.qs_spec.specs.Tree.{node_within, longest, Tree, IsTree, heads, put, put_head, entries_of, filled, filled_path, flat, leaves_in, leaf_items}
 use Rattle.qs_spec.specs.Segment.{is_same_segment}
 use Rattle.qs_spec.specs.History.Event.{direct, push, below}
@@ -44,7 +44,7 @@ some_under : (k : Segment) (ps : List Pair) → list_any (is_same_segment k) (he
 some_under k [] e = cc
 some_under k (p ∷ ps) e = by p.path e (some_under k ps)
   where
-    by : (path : List Step) → list_any (is_same_segment k) (put_head path (heads ps)) ≡ true → (list_any (is_same_segment k) (heads ps) ≡ true → under k ps ≢ []) → under_one k path p (under k ps) ≢ []
+    by : (path : List Step) → list_any (is_same_segment k) (put_head path (heads ps)) ≡ true → (list_any (is_same_segment k) (heads ps) ≡ true → under k ps ≢ []) → under k (record p { path = path } ∷ ps) ≢ []
     by [] e h = h e
     by (s ∷ path) e h = each (is_same_segment k s.seg) (sym (any_put k s.seg (heads ps)) ∙ e)
       where
@@ -56,7 +56,7 @@ none_empty_filled : (k : Segment) (ps : List Pair) → NoneEmpty ps → NoneEmpt
 none_empty_filled k [] m = tt
 none_empty_filled k (p ∷ ps) m = by p.path p.push m.0 (none_empty_filled k ps m.1)
   where
-    by : (path : List Step) (b : Bool) → NoEmpty path → NoneEmpty (under k (filled ps)) → NoneEmpty (under_one k (filled_path path b) (record p { path = filled_path path b }) (under k (filled ps)))
+    by : (path : List Step) (b : Bool) → NoEmpty path → NoneEmpty (under k (filled ps)) → NoneEmpty (under k (record p { path = filled_path path b } ∷ filled ps))
     by [] true n h = h
     by [] false n h = each (is_same_segment k (Str []))
       where
@@ -73,7 +73,7 @@ own_flat : (ps : List Pair) → NoneEmpty ps → list_any is_below (map event (u
 own_flat [] m = refl
 own_flat (p ∷ ps) m = by p.path p.push m.0 (own_flat ps m.1)
   where
-    by : (path : List Step) (b : Bool) → NoEmpty path → list_any is_below (map event (under (Str []) (filled ps))) ≡ false → list_any is_below (map event (under_one (Str []) (filled_path path b) (record p { path = filled_path path b; push = b }) (under (Str []) (filled ps)))) ≡ false
+    by : (path : List Step) (b : Bool) → NoEmpty path → list_any is_below (map event (under (Str []) (filled ps))) ≡ false → list_any is_below (map event (under (Str []) (record p { path = filled_path path b; push = b } ∷ filled ps))) ≡ false
     by [] true n h = h
     by [] false n h = h
     by (s ∷ path) b n h = ap (λ x. list_any is_below (map event (cond x (record p { path = path; push = b } ∷ under (Str []) (filled ps)) (under (Str []) (filled ps))))) n.0 ∙ h

@@ -19,14 +19,12 @@ event_of [] false leaf = direct leaf
 abbrev pub event : Pair → Event
 event p = event_of p.path p.push p.leaf
 
-abbrev pub under_one : Segment → List Step → Pair → List Pair → List Pair
-under_one k [] p ps = ps
-under_one k (s ∷ path) p ps = if is_same_segment k s.seg then record p { path = path } ∷ ps else ps
-
 -- the pairs whose path begins with a segment, without it
 abbrev pub under : Segment → List Pair → List Pair
 under k [] = []
-under k (p ∷ ps) = under_one k p.path p (under k ps)
+under k (p ∷ ps) = elim p.path [
+    [] ↦ under k ps
+    | (s ∷ path) ↦ if is_same_segment k s.seg then record p { path = path } ∷ under k ps else under k ps ]
 
 -- the pairs whose path begins with a path, without it
 abbrev pub at : List Segment → List Pair → List Pair

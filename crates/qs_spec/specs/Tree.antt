@@ -73,13 +73,11 @@ heads [] = []
 heads (p ∷ ps) = put_head p.path (heads ps)
 
 -- the mark of a segment in the first pair that has it
-abbrev pub head_mark_or : Segment → List Step → Bool → Bool
-head_mark_or k [] more = more
-head_mark_or k (s ∷ path) more = if is_same_segment k s.seg then s.mark else more
-
 abbrev pub head_mark : Segment → List Pair → Bool
 head_mark k [] = false
-head_mark k (p ∷ ps) = head_mark_or k p.path (head_mark k ps)
+head_mark k (p ∷ ps) = elim p.path [
+    [] ↦ head_mark k ps
+    | (s ∷ path) ↦ if is_same_segment k s.seg then s.mark else head_mark k ps ]
 
 abbrev pub entries_of : (Segment → Bool) → (Segment → Tree) → List Segment → Entries
 entries_of mark node [] = no_entries

@@ -11,7 +11,7 @@ use Rattle.qs_spec.specs.Written.{open_bytes, close_bytes, value_text, brackets_
 use Rattle.qs_spec.specs.internal.Entries.{entry_leaf, steps, entry_pair, IsSegment, IsValueOf, IsWritable, HasPath}
 use Rattle.qs_spec.specs.Leaf.Leaf.{NoValue}
 use Rattle.qs_spec.specs.Grammar.{Pair, direct, is_close, ends_root, IsRun, root, longer, IsValue, IsBrackets, IsPair, ArePairs}
-use Rattle.qs_spec.proofs.Spelled.{token_of_byte, no_bracket, is_other, encoded_tokens, open_token, close_token, open_first, close_first, clear_value, Front, value_front, segment_tokens}
+use Rattle.qs_spec.proofs.EncodedTokens.{token_of_byte, no_bracket, is_other, encoded_tokens, open_token, close_token, open_first, close_first, clear_value, Front, value_front, segment_tokens}
 use Rattle.qs_spec.proofs.Booleans.{and_both}
 
 -- segments in brackets and then some text, and a whole key and then some text

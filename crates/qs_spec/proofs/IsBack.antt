@@ -8,7 +8,7 @@ use Rattle.qs_spec.specs.Relation.{Reads, ReadsEach, ReadsFirst, ReadsPairs, Rea
 use Rattle.qs_spec.specs.Plain.{is_optional}
 use Rattle.qs_spec.specs.Same.{Same, SameValues, SamePairs, SameMembers}
 
--- a node that some shapes that aren't options tell from one that isn't there
+-- a node that some shapes that aren't options distinguish from one that isn't there
 abbrev pub IsValued : Tree → Type 0
 IsValued (Tree.leaf NoValue) = ⊥
 IsValued (Tree.leaf Null) = Unit {0}

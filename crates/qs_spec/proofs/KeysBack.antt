@@ -24,10 +24,10 @@ is_digit_byte b = is_between 48 57 b
 abbrev AreBytes : List ℕ → Type 0
 AreBytes s = AllByRecursion (λ b. b < 256) s
 
--- of each byte: its spelling is digits where it is one
-digits_spelled : (form : Bool) (b : ℕ) → b < 256 → list_all is_digit_byte (spelling form b) ≡ is_digit_byte b
-digits_spelled true b l = agree_below_at (λ b. list_all is_digit_byte (spelling true b)) is_digit_byte 256 b refl l
-digits_spelled false b l = agree_below_at (λ b. list_all is_digit_byte (spelling false b)) is_digit_byte 256 b refl l
+-- of each byte: its encoding is digits where it is one
+byte_digits_encoded : (form : Bool) (b : ℕ) → b < 256 → list_all is_digit_byte (spelling form b) ≡ is_digit_byte b
+byte_digits_encoded true b l = agree_below_at (λ b. list_all is_digit_byte (spelling true b)) is_digit_byte 256 b refl l
+byte_digits_encoded false b l = agree_below_at (λ b. list_all is_digit_byte (spelling false b)) is_digit_byte 256 b refl l
 
 -- of each byte: a digit is encoded as itself
 abbrev is_itself : Bool → ℕ → Bool
@@ -37,19 +37,19 @@ itself : (form : Bool) (b : ℕ) → b < 256 → is_itself form b ≡ true
 itself true b l = agree_below_at (is_itself true) (λ b. true) 256 b refl l
 itself false b l = agree_below_at (is_itself false) (λ b. true) 256 b refl l
 
-digit_spelled : (form : Bool) (b : ℕ) → b < 256 → is_digit_byte b ≡ true → spelling form b ≡ b ∷ []
-digit_spelled form b l e = bytes_equal (spelling form b) (b ∷ []) (sym (ap (λ x. not x || bytes_eq (spelling form b) (b ∷ [])) e) ∙ itself form b l)
+digit_kept : (form : Bool) (b : ℕ) → b < 256 → is_digit_byte b ≡ true → spelling form b ≡ b ∷ []
+digit_kept form b l e = bytes_equal (spelling form b) (b ∷ []) (sym (ap (λ x. not x || bytes_eq (spelling form b) (b ∷ [])) e) ∙ itself form b l)
 
 digits_encoded : (form : Bool) (s : List ℕ) → AreBytes s → list_all is_digit_byte (encoded form s) ≡ list_all is_digit_byte s
 digits_encoded form [] l = refl
-digits_encoded form (b ∷ s) l = list_all-append is_digit_byte (spelling form b) (encoded form s) ∙ ap₂ (λ x y. x && y) (digits_spelled form b l.0) (digits_encoded form s l.1)
+digits_encoded form (b ∷ s) l = list_all-append is_digit_byte (spelling form b) (encoded form s) ∙ ap₂ (λ x y. x && y) (byte_digits_encoded form b l.0) (digits_encoded form s l.1)
 
 -- digits are written as themselves
 pub encoded_digits : (form : Bool) (s : List ℕ) → AreBytes s → AreDigits s → encoded form s ≡ s
 encoded_digits form [] l e = refl
 encoded_digits form (b ∷ s) l e =
     let p = and_both (is_digit_byte b) (list_all is_digit_byte s) e in
-    ap₂ (λ (x y : List ℕ). x ++ y) (digit_spelled form b l.0 p.0) (encoded_digits form s l.1 p.1)
+    ap₂ (λ (x y : List ℕ). x ++ y) (digit_kept form b l.0 p.0) (encoded_digits form s l.1 p.1)
 
 digits_of_index : (s : List ℕ) → is_index s ≡ true → AreDigits s
 digits_of_index [] e = cc
@@ -112,10 +112,10 @@ place_back form n l =
     let i = index_of_numeral (decimal n) n d m l in
     segment_back form (decimal n) (bytes_of_digits (decimal n) (digits_of_index (decimal n) i)) ∙ ap (λ b. cond b (Int (number (decimal n))) (Str (decimal n))) i ∙ ap Int m
 
--- of each byte: its spelling begins with a byte
-spelled_some : (form : Bool) (b : ℕ) → b < 256 → bytes_eq (spelling form b) [] ≡ false
-spelled_some true b l = agree_below_at (λ b. bytes_eq (spelling true b) []) (λ b. false) 256 b refl l
-spelled_some false b l = agree_below_at (λ b. bytes_eq (spelling false b) []) (λ b. false) 256 b refl l
+-- of each byte: its encoding begins with a byte
+byte_encoded_some : (form : Bool) (b : ℕ) → b < 256 → bytes_eq (spelling form b) [] ≡ false
+byte_encoded_some true b l = agree_below_at (λ b. bytes_eq (spelling true b) []) (λ b. false) 256 b refl l
+byte_encoded_some false b l = agree_below_at (λ b. bytes_eq (spelling false b) []) (λ b. false) 256 b refl l
 
 some_leaf : (raw rest : List ℕ) → bytes_eq raw [] ≡ false → value_leaf (raw ++ rest) ≡ Text (decoded (raw ++ rest)) (is_marked (raw ++ rest))
 some_leaf [] rest e = cc
@@ -123,7 +123,7 @@ some_leaf (b ∷ raw) rest e = refl
 
 -- bytes that are a value are read as themselves
 pub leaf_back : (form : Bool) (b : ℕ) (s : List ℕ) → AreBytes (b ∷ s) → value_leaf (encoded form (b ∷ s)) ≡ Text (b ∷ s) (is_marked (encoded form (b ∷ s)))
-leaf_back form b s l = some_leaf (spelling form b) (encoded form s) (spelled_some form b l.0) ∙ ap (λ t. Text t (is_marked (encoded form (b ∷ s)))) (decoded-encoded form (b ∷ s) l)
+leaf_back form b s l = some_leaf (spelling form b) (encoded form s) (byte_encoded_some form b l.0) ∙ ap (λ t. Text t (is_marked (encoded form (b ∷ s)))) (decoded-encoded form (b ∷ s) l)
 
 pub leaf_text_back : (form : Bool) (s : List ℕ) → AreBytes s → leaf_text (value_leaf (encoded form s)) ≡ s
 leaf_text_back form [] l = refl

@@ -21,7 +21,7 @@ pub mod Marks
 pub mod Alike
 pub mod Unescaped
 pub mod ReadOn
-pub mod Spelled
+pub mod EncodedTokens
 pub mod EntryRead
 pub mod ReadingParts
 pub mod VariantNames

@@ -12,33 +12,33 @@ use Rattle.qs_spec.specs.internal.Fitting.{Fits}
 use Rattle.qs_spec.specs.Same.{Same}
 use Rattle.qs_spec.proofs.IsBack.{IsBack}
 
--- Null and no value are one to shapes that aren't options
-abbrev tells_null : Shape → Bool
-tells_null (Shape.option s) = true
-tells_null (Shape.newtype s) = tells_null s
-tells_null Shape.any = true
-tells_null _ = false
+-- Null and no value are the same to shapes that aren't options
+abbrev distinguishes_null : Shape → Bool
+distinguishes_null (Shape.option s) = true
+distinguishes_null (Shape.newtype s) = distinguishes_null s
+distinguishes_null Shape.any = true
+distinguishes_null _ = false
 
-null_alike : (st : Bool) (s : Shape) → tells_null s ≡ false → reads st s (Tree.leaf Null) ≡ reads st s (Tree.leaf NoValue)
+null_as_no_value : (st : Bool) (s : Shape) → distinguishes_null s ≡ false → reads st s (Tree.leaf Null) ≡ reads st s (Tree.leaf NoValue)
 unfolding reads read_list read_map read_enum struct_members
-null_alike st Shape.unit e = refl
-null_alike st Shape.boolean e = refl
-null_alike st (Shape.unsigned bits) e = refl
-null_alike st (Shape.signed bits) e = refl
-null_alike st Shape.character e = refl
-null_alike st Shape.text e = refl
-null_alike st Shape.bytes e = refl
-null_alike st (Shape.option s) e = cc
-null_alike st (Shape.sequence s) e = refl
-null_alike st (Shape.tuple ss) e = refl
-null_alike st (Shape.mapping k s) e = refl
-null_alike st (Shape.struct u fs) e = refl
-null_alike st (Shape.newtype s) e = ap (option_map Data.newtype) (null_alike st s e)
-null_alike st (Shape.enumeration vs) e = refl
-null_alike st Shape.any e = cc
-null_alike st Shape.ignored e = refl
+null_as_no_value st Shape.unit e = refl
+null_as_no_value st Shape.boolean e = refl
+null_as_no_value st (Shape.unsigned bits) e = refl
+null_as_no_value st (Shape.signed bits) e = refl
+null_as_no_value st Shape.character e = refl
+null_as_no_value st Shape.text e = refl
+null_as_no_value st Shape.bytes e = refl
+null_as_no_value st (Shape.option s) e = cc
+null_as_no_value st (Shape.sequence s) e = refl
+null_as_no_value st (Shape.tuple ss) e = refl
+null_as_no_value st (Shape.mapping k s) e = refl
+null_as_no_value st (Shape.struct u fs) e = refl
+null_as_no_value st (Shape.newtype s) e = ap (option_map Data.newtype) (null_as_no_value st s e)
+null_as_no_value st (Shape.enumeration vs) e = refl
+null_as_no_value st Shape.any e = cc
+null_as_no_value st Shape.ignored e = refl
 
-pub no_option : {s : Shape} {d : Data} → Fits s d → is_optional d ≡ false → tells_null s ≡ false
+pub no_option : {s : Shape} {d : Data} → Fits s d → is_optional d ≡ false → distinguishes_null s ≡ false
 no_option Fits.unit e = refl
 no_option Fits.boolean e = refl
 no_option (Fits.unsigned l m) e = refl
@@ -60,11 +60,11 @@ no_option (Fits.tuple_variant v u f) e = refl
 no_option (Fits.struct_variant v u f) e = refl
 
 -- some of data that are no option
-pub some_back : (st : Bool) (s : Shape) (d : Data) (t : Tree) → is_distinct s ≡ true → tells_null s ≡ false → is_optional d ≡ false → IsBack st s t d → IsBack st (Shape.option s) t (Data.some d)
+pub some_back : (st : Bool) (s : Shape) (d : Data) (t : Tree) → is_distinct s ≡ true → distinguishes_null s ≡ false → is_optional d ≡ false → IsBack st s t d → IsBack st (Shape.option s) t (Data.some d)
 some_back st s d (Tree.leaf NoValue) dist e o g = absurd (g.valued o)
 some_back st s d (Tree.leaf Null) dist e o g = record {
   answer = Data.some g.answer;
-  reads = Reads.option_null ((is_the_relation st s (Tree.leaf NoValue) g.answer dist).1 (sym (null_alike st s e) ∙ (is_the_relation st s (Tree.leaf Null) g.answer dist).0 g.reads));
+  reads = Reads.option_null ((is_the_relation st s (Tree.leaf NoValue) g.answer dist).1 (sym (null_as_no_value st s e) ∙ (is_the_relation st s (Tree.leaf Null) g.answer dist).0 g.reads));
   same = Same.some g.same;
   valued = λ x. tt;
 }

@@ -25,16 +25,16 @@ through (Str a) (Int m) z e f = cc
 through (Str a) (Str b) (Int n) e f = cc
 through (Str a) (Str b) (Str c) e f = nat_list_cmp_total.trans a b c e f
 
-alike : (x y z : Segment) → compare_segments x y ≡ Equal → compare_segments x z ≡ compare_segments y z
-alike (Int l) (Int m) (Int n) e = nat_cmp_total.congr l m n e
-alike (Int l) (Int m) (Str c) e = refl
-alike (Int l) (Str b) z e = cc
-alike (Str a) (Int m) z e = cc
-alike (Str a) (Str b) (Int n) e = refl
-alike (Str a) (Str b) (Str c) e = nat_list_cmp_total.congr a b c e
+same_compared : (x y z : Segment) → compare_segments x y ≡ Equal → compare_segments x z ≡ compare_segments y z
+same_compared (Int l) (Int m) (Int n) e = nat_cmp_total.congr l m n e
+same_compared (Int l) (Int m) (Str c) e = refl
+same_compared (Int l) (Str b) z e = cc
+same_compared (Str a) (Int m) z e = cc
+same_compared (Str a) (Str b) (Int n) e = refl
+same_compared (Str a) (Str b) (Str c) e = nat_list_cmp_total.congr a b c e
 
 pub segments_total : IsTotalOrder compare_segments
-segments_total = record { antisymm = turned; trans = through; congr = alike }
+segments_total = record { antisymm = turned; trans = through; congr = same_compared }
 
 pub exact_segment : (x y : Segment) → compare_segments x y ≡ Equal → x ≡ y
 exact_segment (Int m) (Int n) e = ap Int (exact_unsigned m n e)
@@ -62,17 +62,17 @@ put_less : (a b : Segment) (ks : List Segment) → compare_segments a b ≡ Less
 put_less a b [] e = put_lt a b [] e ∙ sym (put_gt b a [] (turned_less a b e))
 put_less a b (x ∷ xs) e = by_b (put_less a b xs e) (compare_segments b x) refl
   where
-    behind : put b (a ∷ x ∷ xs) ≡ a ∷ put b (x ∷ xs)
-    behind = put_gt b a (x ∷ xs) (turned_less a b e)
+    put_after : put b (a ∷ x ∷ xs) ≡ a ∷ put b (x ∷ xs)
+    put_after = put_gt b a (x ∷ xs) (turned_less a b e)
 
     by_a : put a (put b xs) ≡ put b (put a xs) → compare_segments b x ≡ Greater → (o : Ordering) → compare_segments a x ≡ o → put a (put b (x ∷ xs)) ≡ put b (put a (x ∷ xs))
-    by_a rest g Less f = ap (put a) (put_gt b x xs g) ∙ put_lt a x (put b xs) f ∙ sym (ap (put b) (put_lt a x xs f) ∙ behind ∙ ap (λ l. a ∷ l) (put_gt b x xs g))
+    by_a rest g Less f = ap (put a) (put_gt b x xs g) ∙ put_lt a x (put b xs) f ∙ sym (ap (put b) (put_lt a x xs f) ∙ put_after ∙ ap (λ l. a ∷ l) (put_gt b x xs g))
     by_a rest g Equal f = ap (put a) (put_gt b x xs g) ∙ put_eq a x (put b xs) f ∙ sym (ap (put b) (put_eq a x xs f) ∙ put_gt b x xs g)
     by_a rest g Greater f = ap (put a) (put_gt b x xs g) ∙ put_gt a x (put b xs) f ∙ ap (λ l. x ∷ l) rest ∙ sym (ap (put b) (put_gt a x xs f) ∙ put_gt b x (put a xs) g)
 
     by_b : put a (put b xs) ≡ put b (put a xs) → (o : Ordering) → compare_segments b x ≡ o → put a (put b (x ∷ xs)) ≡ put b (put a (x ∷ xs))
-    by_b rest Less g = ap (put a) (put_lt b x xs g) ∙ put_lt a b (x ∷ xs) e ∙ sym (ap (put b) (put_lt a x xs (through a b x e g)) ∙ behind ∙ ap (λ l. a ∷ l) (put_lt b x xs g))
-    by_b rest Equal g = ap (put a) (put_eq b x xs g) ∙ put_lt a x xs (less g) ∙ sym (ap (put b) (put_lt a x xs (less g)) ∙ behind ∙ ap (λ l. a ∷ l) (put_eq b x xs g))
+    by_b rest Less g = ap (put a) (put_lt b x xs g) ∙ put_lt a b (x ∷ xs) e ∙ sym (ap (put b) (put_lt a x xs (through a b x e g)) ∙ put_after ∙ ap (λ l. a ∷ l) (put_lt b x xs g))
+    by_b rest Equal g = ap (put a) (put_eq b x xs g) ∙ put_lt a x xs (less g) ∙ sym (ap (put b) (put_lt a x xs (less g)) ∙ put_after ∙ ap (λ l. a ∷ l) (put_eq b x xs g))
       where
         less : compare_segments b x ≡ Equal → compare_segments a x ≡ Less
         less g = sym (alike_right segments_total b x a g) ∙ e

@@ -81,18 +81,18 @@ value_reads (t ∷ ts) = by t.kind refl
 
 -- after some tokens a reader reads what it reads
 module _ {A B : Type 0} (Is : List Token → A → Type 0) (Are : List Token → B → Type 0) (pre : List Token → List Token) (law : (f r : List Token) → pre (f ++ r) ≡ pre f ++ r) where
-  pub behind : (of : A → B) → ((front : List Token) (a : A) → Is front a → Are (pre front) (of a)) → (ts : List Token) (a : A) (rest : List Token) → Reads Is ts a rest → Reads Are (pre ts) (of a) rest
-  behind of f ts a rest h = record { front = pre h.front; is = f h.front a h.is; end = h.end; whole = ap pre h.whole ∙ law h.front rest }
+  pub following : (of : A → B) → ((front : List Token) (a : A) → Is front a → Are (pre front) (of a)) → (ts : List Token) (a : A) (rest : List Token) → Reads Is ts a rest → Reads Are (pre ts) (of a) rest
+  following of f ts a rest h = record { front = pre h.front; is = f h.front a h.is; end = h.end; whole = ap pre h.whole ∙ law h.front rest }
 
-leaf_behind : (Is : List Token → Pair → Type 0) (pre : List Token → List Token) → ((f r : List Token) → pre (f ++ r) ≡ pre f ++ r) → (pair : Leaf → Pair)
+leaf_following : (Is : List Token → Pair → Type 0) (pre : List Token → List Token) → ((f r : List Token) → pre (f ++ r) ≡ pre f ++ r) → (pair : Leaf → Pair)
     → ((front : List Token) (leaf : Leaf) → IsValue front leaf → Is (pre front) (pair leaf)) → (ts : List Token) (r : Rest Leaf) → Found IsValue ts r → Found Is (pre ts) (with_leaf pair r)
-leaf_behind Is pre law pair f ts None h = tt
-leaf_behind Is pre law pair f ts (Some r) h = behind IsValue Is pre law pair f ts r.0 r.1 h
+leaf_following Is pre law pair f ts None h = tt
+leaf_following Is pre law pair f ts (Some r) h = following IsValue Is pre law pair f ts r.0 r.1 h
 
-pair_behind : (Is Are : List Token → Pair → Type 0) (pre : List Token → List Token) → ((f r : List Token) → pre (f ++ r) ≡ pre f ++ r)
+pair_following : (Is Are : List Token → Pair → Type 0) (pre : List Token → List Token) → ((f r : List Token) → pre (f ++ r) ≡ pre f ++ r)
     → ((front : List Token) (p : Pair) → Is front p → Are (pre front) p) → (ts : List Token) (r : Rest Pair) → Found Is ts r → Found Are (pre ts) r
-pair_behind Is Are pre law f ts None h = tt
-pair_behind Is Are pre law f ts (Some r) h = behind Is Are pre law (λ p. p) f ts r.0 r.1 h
+pair_following Is Are pre law f ts None h = tt
+pair_following Is Are pre law f ts (Some r) h = following Is Are pre law (λ p. p) f ts r.0 r.1 h
 
 after : (run : List Token) (f r : List Token) → run ++ (f ++ r) ≡ (run ++ f) ++ r
 after run f r = sym (append_assoc run f r)
@@ -106,7 +106,7 @@ AllFound room = (path : List Step) (bracket : List ℕ) (ts : List Token) → Fo
 
 closed : (room : ℕ) (path : List Step) (bracket : List ℕ) (s t : Token) (run rest : List Token) → IsRun is_close (s ∷ run) → t.kind ≡ Close → AllFound room
     → Found (IsBrackets (suc room) path bracket) (s ∷ run ++ t ∷ rest) (after_close (parsed_brackets room) (longer path (raw_of (s ∷ run))) rest)
-closed room path bracket s t run [] r e h = leaf_behind (IsBrackets (suc room) path bracket) (λ l. s ∷ run ++ t ∷ l) (λ f g. after (s ∷ run) (t ∷ f) g) (direct (longer path (raw_of (s ∷ run)))) (λ value leaf v. IsBrackets.segment s t run value r e v) [] (parsed_value []) (value_reads [])
+closed room path bracket s t run [] r e h = leaf_following (IsBrackets (suc room) path bracket) (λ l. s ∷ run ++ t ∷ l) (λ f g. after (s ∷ run) (t ∷ f) g) (direct (longer path (raw_of (s ∷ run)))) (λ value leaf v. IsBrackets.segment s t run value r e v) [] (parsed_value []) (value_reads [])
 closed room path bracket s t run (u ∷ rest) r e h = by u.kind refl
   where
     by : (k : Kind) → u.kind ≡ k → Found (IsBrackets (suc room) path bracket) (s ∷ run ++ t ∷ u ∷ rest) (after_close_at k (parsed_brackets room) (longer path (raw_of (s ∷ run))) u rest)
@@ -114,12 +114,12 @@ closed room path bracket s t run (u ∷ rest) r e h = by u.kind refl
     by Equals d =
         let c = is_cut is_amp rest in
         record { front = s ∷ run ++ t ∷ u ∷ (cut is_amp rest).0; is = IsBrackets.segment s t run (u ∷ (cut is_amp rest).0) r e (IsValue.some d c.run); end = end_of _ c.stops; whole = ap (λ l. s ∷ run ++ t ∷ u ∷ l) c.whole ∙ after (s ∷ run) (t ∷ u ∷ (cut is_amp rest).0) (cut is_amp rest).1 }
-    by Open d = pair_behind (IsBrackets room (longer path (raw_of (s ∷ run))) u.raw) (IsBrackets (suc room) path bracket) (λ l. s ∷ run ++ t ∷ u ∷ l) (λ f g. after (s ∷ run) (t ∷ u ∷ f) g) (λ front p b. IsBrackets.more s t u run front r e d b) rest (parsed_brackets room (longer path (raw_of (s ∷ run))) u.raw rest) (h (longer path (raw_of (s ∷ run))) u.raw rest)
+    by Open d = pair_following (IsBrackets room (longer path (raw_of (s ∷ run))) u.raw) (IsBrackets (suc room) path bracket) (λ l. s ∷ run ++ t ∷ u ∷ l) (λ f g. after (s ∷ run) (t ∷ u ∷ f) g) (λ front p b. IsBrackets.more s t u run front r e d b) rest (parsed_brackets room (longer path (raw_of (s ∷ run))) u.raw rest) (h (longer path (raw_of (s ∷ run))) u.raw rest)
     by Close d = tt
     by Other d = tt
 
 pushes : (room : ℕ) (path : List Step) (bracket : List ℕ) (t : Token) (ts : List Token) → is_close t.kind ≡ true → Found (IsBrackets room path bracket) (t ∷ ts) (with_leaf (pushed path) (parsed_value ts))
-pushes room path bracket t ts e = leaf_behind (IsBrackets room path bracket) (λ l. t ∷ l) (λ f g. refl) (pushed path) (λ value leaf v. IsBrackets.push (close_of t.kind e) v) ts (parsed_value ts) (value_reads ts)
+pushes room path bracket t ts e = leaf_following (IsBrackets room path bracket) (λ l. t ∷ l) (λ f g. refl) (pushed path) (λ value leaf v. IsBrackets.push (close_of t.kind e) v) ts (parsed_value ts) (value_reads ts)
 
 brackets_read : (room : ℕ) → AllFound room
 brackets_read zero path bracket [] = tt
@@ -130,20 +130,20 @@ brackets_read zero path bracket (t ∷ ts) = by (is_close t.kind) refl
     by false e =
         let c = is_cut ends_last ts in
         subst (λ l. Found (IsBrackets zero path bracket) (t ∷ l) (last_key path bracket t (cut ends_last ts))) (sym c.whole)
-        (leaf_behind (IsBrackets zero path bracket) (λ l. t ∷ (cut ends_last ts).0 ++ l) (after (t ∷ (cut ends_last ts).0)) (direct (longer path (bracket ++ t.raw ++ raw_of (cut ends_last ts).0))) (λ value leaf v. IsBrackets.last t (cut ends_last ts).0 value e c.run v) (cut ends_last ts).1 (parsed_value (cut ends_last ts).1) (value_reads (cut ends_last ts).1))
+        (leaf_following (IsBrackets zero path bracket) (λ l. t ∷ (cut ends_last ts).0 ++ l) (after (t ∷ (cut ends_last ts).0)) (direct (longer path (bracket ++ t.raw ++ raw_of (cut ends_last ts).0))) (λ value leaf v. IsBrackets.last t (cut ends_last ts).0 value e c.run v) (cut ends_last ts).1 (parsed_value (cut ends_last ts).1) (value_reads (cut ends_last ts).1))
 brackets_read (suc room) path bracket [] = tt
 brackets_read (suc room) path bracket (t ∷ ts) = by (brackets_read room) (is_close t.kind) refl
   where
-    behind_run : AllFound room → (run rest : List Token) → IsRun is_close (t ∷ run) → Stops is_close rest → Found (IsBrackets (suc room) path bracket) (t ∷ run ++ rest) (after_run (parsed_brackets room) (longer path (raw_of (t ∷ run))) rest)
-    behind_run h run [] r s = tt
-    behind_run h run (u ∷ rest) r s = closed room path bracket t u run rest r (close_of u.kind s) h
+    following_run : AllFound room → (run rest : List Token) → IsRun is_close (t ∷ run) → Stops is_close rest → Found (IsBrackets (suc room) path bracket) (t ∷ run ++ rest) (after_run (parsed_brackets room) (longer path (raw_of (t ∷ run))) rest)
+    following_run h run [] r s = tt
+    following_run h run (u ∷ rest) r s = closed room path bracket t u run rest r (close_of u.kind s) h
 
     by : AllFound room → (b : Bool) → is_close t.kind ≡ b → Found (IsBrackets (suc room) path bracket) (t ∷ ts) (in_segment b (parsed_brackets room) path t ts)
     by h true e = pushes (suc room) path bracket t ts e
     by h false e =
         let c = is_cut is_close ts in
         subst (λ l. Found (IsBrackets (suc room) path bracket) (t ∷ l) (in_segment false (parsed_brackets room) path t ts)) (sym c.whole)
-        (behind_run h (cut is_close ts).0 (cut is_close ts).1 (run_more is_close t (cut is_close ts).0 e c.run) c.stops)
+        (following_run h (cut is_close ts).0 (cut is_close ts).1 (run_more is_close t (cut is_close ts).0 e c.run) c.stops)
 
 pair_at : (depth : ℕ) (key rest : List Token) → IsRun (ends_root depth) key → Stops (ends_root depth) rest → Found (IsPair depth) (key ++ rest) (after_root depth key rest)
 pair_at depth [] [] r s = tt
@@ -159,7 +159,7 @@ pair_at depth key (u ∷ rest) r s = by u.kind refl
     by Equals e =
         let c = is_cut is_amp rest in
         record { front = key ++ u ∷ (cut is_amp rest).0; is = IsPair.value u key (cut is_amp rest).0 r (IsValue.some e c.run); end = end_of _ c.stops; whole = ap (λ l. key ++ u ∷ l) c.whole ∙ after key (u ∷ (cut is_amp rest).0) (cut is_amp rest).1 }
-    by Open e = pair_behind (IsBrackets depth (root key) u.raw) (IsPair depth) (λ l. key ++ u ∷ l) (λ f g. after key (u ∷ f) g) (λ front p b. IsPair.brackets u key front r (ap is_open e) (sym (ap (ends_root depth) e) ∙ s) b) rest (parsed_brackets depth (root key) u.raw rest) (brackets_read depth (root key) u.raw rest)
+    by Open e = pair_following (IsBrackets depth (root key) u.raw) (IsPair depth) (λ l. key ++ u ∷ l) (λ f g. after key (u ∷ f) g) (λ front p b. IsPair.brackets u key front r (ap is_open e) (sym (ap (ends_root depth) e) ∙ s) b) rest (parsed_brackets depth (root key) u.raw rest) (brackets_read depth (root key) u.raw rest)
     by Close e = tt
     by Other e = tt
 

@@ -37,7 +37,7 @@ use Rattle.qs_spec.proofs.Reorder.{Swaps}
 use Rattle.qs_spec.proofs.Permuted.{Perm, Perm-from, perm_map, perm_one, swaps_perm}
 use Rattle.qs_spec.proofs.Nodes.{leaf_node}
 use Rattle.qs_spec.proofs.Branches.{seg, pairs, IsOther, SegsDiffer, keys, branched, some_pairs}
-use Rattle.qs_spec.proofs.Tidy.{AllTidy, pairs_alike}
+use Rattle.qs_spec.proofs.Tidy.{AllTidy, pairs_compatible}
 use Rattle.qs_spec.proofs.KeysBack.{segment_back, place_back, leaf_back}
 use Rattle.qs_spec.proofs.GoodParts.{AreBytes, IsByteValue, IsGood, AreGood, good_leaf, good_branches, are_full, place_name, is_segment, utf8_bytes}
 use Rattle.qs_spec.proofs.SomeAnswers.{mapped, chained, guarded}
@@ -203,7 +203,7 @@ stable_back config input t d es f i e r whole p =
     let g = subst (λ m. IsGood m form (parts m d)) (sym f) (good form of) in
     let ps = pairs form o.0 in
     let s = perm_swaps form o.2 (subst (λ m. AllTidy m form (parts fm d)) f g.tidy) in
-    let again = written_tree fm form depth (parts fm d) o.0 (rooted fm d li) g.fine x.1 o.2 (some_pairs form (parts fm d) ps g.full (perm_map (part_pair form) o.2)) (pairs_alike fm form o.0 (perm_tidy fm form o.2 g.tidy)) in
+    let again = written_tree fm form depth (parts fm d) o.0 (rooted fm d li) g.fine x.1 o.2 (some_pairs form (parts fm d) ps g.full (perm_map (part_pair form) o.2)) (pairs_compatible fm form o.0 (perm_tidy fm form o.2 g.tidy)) in
     let same = same_node form of (longest ps) ps (le_refl (longest ps)) (subst (λ m. Swaps (pairs form (parts m d)) ps) f s) in
     subst (λ (l : List Entry). AreAlike form depth input (written form false l)) (sym o.1) (record {
       there = λ u j. (node ps, again, same ∙ ap unmarked (one_tree form depth input t u i j));

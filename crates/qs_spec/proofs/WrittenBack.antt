@@ -30,7 +30,7 @@ use Rattle.qs_spec.proofs.Permuted.{Perm, Perm-from, perm_map, perm_all, perm_on
 use Rattle.qs_spec.proofs.Placed.{after, parts_at}
 use Rattle.qs_spec.proofs.Nodes.{HasSomePair}
 use Rattle.qs_spec.proofs.Branches.{pairs, all_both, some_pairs}
-use Rattle.qs_spec.proofs.Tidy.{Tidy, AllTidy, AllAlike, pairs_alike, alike_permitted}
+use Rattle.qs_spec.proofs.Tidy.{Tidy, AllTidy, AllCompatible, pairs_compatible, compatible_permitted}
 use Rattle.qs_spec.proofs.GoodParts.{IsFine, IsByteValue, good}
 use Rattle.qs_spec.proofs.ReadBack.{back}
 use Rattle.qs_spec.proofs.PushRead.{IsReadable, parts_read}
@@ -95,13 +95,13 @@ rooted fm (Data.tuple_variant name ds) e = inl (branches_paths ((name, value_par
 rooted fm (Data.struct_variant name ms) e = inl (branches_paths ((name, branches (member_branches fm ms)) ∷ []))
 
 -- some pairs whose histories are permitted are a tree
-pairs_tree : (fm : ArrayFormat) (form : Bool) (depth : ℕ) (text : List ℕ) (ps : List Pair) → ArePairs depth (tokens form text) ps → HasSomePair ps → AllAlike fm ps → IsTree form depth text (node ps)
+pairs_tree : (fm : ArrayFormat) (form : Bool) (depth : ℕ) (text : List ℕ) (ps : List Pair) → ArePairs depth (tokens form text) ps → HasSomePair ps → AllCompatible fm ps → IsTree form depth text (node ps)
 pairs_tree fm form depth [] [] g h a = absurd h
 pairs_tree fm form depth [] (p ∷ ps) g h a = absurd (none (same_Some [] (p ∷ ps) (found_pairs g)))
   where
     none : [] ≡ p ∷ ps → ⊥
     none e = cc
-pairs_tree fm form depth (b ∷ text) ps g h a = (ps, record { grammar = g; histories = alike_permitted fm ps a }, refl)
+pairs_tree fm form depth (b ∷ text) ps g h a = (ps, record { grammar = g; histories = compatible_permitted fm ps a }, refl)
 
 readable : (form : Bool) (depth : ℕ) (p : Part) → has_key p.path ≡ true → IsFine form p → length (entry_of p).path ≤ depth + 1 → IsReadable form depth p
 readable form depth p h f l = record { some = h; segments = f.0; short = l; value = by p.value f.1 }
@@ -112,11 +112,11 @@ readable form depth p h f l = record { some = h; segments = f.0; short = l; valu
 
 -- the tree of the text of the parts, in another order
 pub written_tree : (fm : ArrayFormat) (form : Bool) (depth : ℕ) (ps qs : List Part) → IsRooted ps → AllByRecursion (IsFine form) ps → AllByRecursion (λ (p : Part). length (entry_of p).path ≤ depth + 1) ps → Perm ps qs
-    → HasSomePair (pairs form qs) → AllAlike fm (pairs form qs) → IsTree form depth (written form false (map entry_of qs)) (node (pairs form qs))
+    → HasSomePair (pairs form qs) → AllCompatible fm (pairs form qs) → IsTree form depth (written form false (map entry_of qs)) (node (pairs form qs))
 unfolding written entry_text path_text
 written_tree fm form depth ps qs r f l w h a = by r
   where
-    alone : (v : Option (List ℕ)) → IsByteValue v → HasSomePair (pairs form (leaf_part v ∷ [])) → AllAlike fm (pairs form (leaf_part v ∷ [])) → IsTree form depth (written form false (map entry_of (leaf_part v ∷ []))) (node (pairs form (leaf_part v ∷ [])))
+    alone : (v : Option (List ℕ)) → IsByteValue v → HasSomePair (pairs form (leaf_part v ∷ [])) → AllCompatible fm (pairs form (leaf_part v ∷ [])) → IsTree form depth (written form false (map entry_of (leaf_part v ∷ []))) (node (pairs form (leaf_part v ∷ [])))
     alone None b h a = refl
     alone (Some v) b h a =
         pairs_tree fm form depth (written form false (map entry_of (leaf_part (Some v) ∷ []))) (pairs form (leaf_part (Some v) ∷ []))
@@ -132,7 +132,7 @@ written_tree fm form depth ps qs r f l w h a = by r
         let one : qs ≡ leaf_part p.0 ∷ [] = perm_one (leaf_part p.0) qs (subst (λ (l : List Part). Perm l qs) p.1 w) in
         let b : AllByRecursion (IsFine form) (leaf_part p.0 ∷ []) = subst (AllByRecursion (IsFine form)) p.1 f in
         subst (λ (l : List Part). IsTree form depth (written form false (map entry_of l)) (node (pairs form l))) (sym one)
-        (alone p.0 b.0.1 (subst (λ (l : List Part). HasSomePair (pairs form l)) one h) (subst (λ (l : List Part). AllAlike fm (pairs form l)) one a))
+        (alone p.0 b.0.1 (subst (λ (l : List Part). HasSomePair (pairs form l)) one h) (subst (λ (l : List Part). AllCompatible fm (pairs form l)) one a))
 
 -- parts in an order that only swaps those whose paths don't overlap are read back
 parts_back : (config : Config) (shape : Shape) (d : Data) (qs : List Part) → is_distinct shape ≡ true → IsPlainFor config shape d → is_listed config.array_format false d ≡ true
@@ -148,7 +148,7 @@ parts_back config shape d qs dist w li q s =
     let b = back fm form (are_rejected config.duplicates) f dist w.plain false li (longest ps) ps (le_refl (longest ps)) s in
     record {
       tree = node ps;
-      is_tree = written_tree fm form depth (parts fm d) qs (rooted fm d li) g.fine r.1 q (some_pairs form (parts fm d) ps g.full (perm_map (part_pair form) q)) (pairs_alike fm form qs (perm_tidy fm form q g.tidy));
+      is_tree = written_tree fm form depth (parts fm d) qs (rooted fm d li) g.fine r.1 q (some_pairs form (parts fm d) ps g.full (perm_map (part_pair form) q)) (pairs_compatible fm form qs (perm_tidy fm form q g.tidy));
       answer = b.answer;
       reads = b.reads;
       same = b.same;

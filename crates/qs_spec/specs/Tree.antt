@@ -27,6 +27,7 @@ mutual
     no_entries : Entries
     entry : (key : Segment) → (mark : Bool) → Tree → Entries → Entries
 
+-- the leaf of an event, if it has one
 abbrev pub leaf_in : Event → List Leaf
 leaf_in (direct l) = l ∷ []
 leaf_in (push l) = l ∷ []
@@ -59,26 +60,29 @@ abbrev pub filled : List Pair → List Pair
 filled [] = []
 filled (p ∷ ps) = record p { path = filled_path p.path p.push } ∷ filled ps
 
--- the segments that come first, each once, in order
+-- ascending segments and one more, which is there once
 abbrev pub put : Segment → List Segment → List Segment
 put k [] = k ∷ []
 put k (x ∷ xs) = match_ordering (compare_segments k x) (k ∷ x ∷ xs) (x ∷ xs) (x ∷ put k xs)
 
+-- the same for the first segment of a path, if it has one
 abbrev pub put_head : List Step → List Segment → List Segment
 put_head [] ks = ks
 put_head (s ∷ path) ks = put s.seg ks
 
+-- the segments that paths begin with, each once, in order
 abbrev pub heads : List Pair → List Segment
 heads [] = []
 heads (p ∷ ps) = put_head p.path (heads ps)
 
--- the mark of a segment in the first pair that has it
+-- the mark of a segment in the first pair whose path begins with it
 abbrev pub head_mark : Segment → List Pair → Bool
 head_mark k [] = false
 head_mark k (p ∷ ps) = elim p.path [
     [] ↦ head_mark k ps
     | (s ∷ path) ↦ if is_same_segment k s.seg then s.mark else head_mark k ps ]
 
+-- the entries of these keys, each with its mark and its node
 abbrev pub entries_of : (Segment → Bool) → (Segment → Tree) → List Segment → Entries
 entries_of mark node [] = no_entries
 entries_of mark node (k ∷ ks) = entry k (mark k) (node k) (entries_of mark node ks)
@@ -91,6 +95,7 @@ node_within (suc n) ps =
     then mapping (entries_of (λ k. head_mark k (filled ps)) (λ k. node_within n (under k (filled ps))) (heads (filled ps)))
     else flat (events ps [])
 
+-- the length of the longest path
 abbrev pub longest : List Pair → ℕ
 longest [] = 0
 longest (p ∷ ps) = max (length p.path) (longest ps)

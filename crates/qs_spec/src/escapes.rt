@@ -18,10 +18,10 @@ pub fn decoded_texts()
 
 /// A broken escape stays as it is, and what was looked at isn't looked at again.
 pub fn broken_escapes_stay()
-    ensures percent_behind { decoded (codes "%%41") ≡ codes "%%41" }
-    ensures plus_behind { decoded (codes "%+") ≡ codes "%+" }
-    ensures percent_behind_a_digit { decoded (codes "%4%41") ≡ codes "%4%41" }
-    ensures plus_behind_a_digit { decoded (codes "%4+1") ≡ codes "%4+1" }
+    ensures percent_after_percent { decoded (codes "%%41") ≡ codes "%%41" }
+    ensures plus_after_percent { decoded (codes "%+") ≡ codes "%+" }
+    ensures percent_after_a_digit { decoded (codes "%4%41") ≡ codes "%4%41" }
+    ensures plus_after_a_digit { decoded (codes "%4+1") ≡ codes "%4+1" }
     ensures cut_short { decoded (codes "%4") ≡ codes "%4" }
 {}
 

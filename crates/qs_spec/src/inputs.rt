@@ -13,10 +13,10 @@ pub fn deep_keys()
     ensures last_key { IsTree false 5 (codes "a[b][c][d][e][f][g][h]=i")
         (only (codes "a") (only (codes "b") (only (codes "c") (only (codes "d") (only (codes "e") (only (codes "f") (only (codes "[g][h]") (text_leaf (codes "i"))))))))) }
     ensures equals_in_the_last_key { IsTree false 1 (codes "a[b][=1&c") (mapping (at_text (codes "a") (only (codes "b") (only (codes "[=1") (leaf NoValue))) (at_text (codes "c") (leaf NoValue) no_entries))) }
-    ensures equals_behind_the_last_key { IsTree false 1 (codes "a[b][c=1") (only (codes "a") (only (codes "b") (only (codes "[c") (text_leaf (codes "1"))))) }
+    ensures equals_after_the_last_key { IsTree false 1 (codes "a[b][c=1") (only (codes "a") (only (codes "b") (only (codes "[c") (text_leaf (codes "1"))))) }
     ensures ampersand_in_brackets { IsTree false 5 (codes "a[b&c]=1") (only (codes "a") (only (codes "b&c") (text_leaf (codes "1")))) }
     ensures bracket_in_brackets { IsTree false 5 (codes "a[[]=1") (only (codes "a") (only (codes "[") (text_leaf (codes "1")))) }
-    ensures text_behind_brackets { IsRefused false 5 (codes "a[b]c=1") }
+    ensures text_after_brackets { IsRefused false 5 (codes "a[b]c=1") }
     ensures open_bracket { IsRefused false 5 (codes "a[b") }
     ensures push_at_the_limit { IsTree false 1 (codes "a[b][]=1") (only (codes "a") (only (codes "b") (text_leaves (codes "1" ∷ [])))) }
     ensures no_depth { IsTree false 0 (codes "a[b]=1") (only (codes "a[b]") (text_leaf (codes "1"))) }

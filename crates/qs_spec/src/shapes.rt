@@ -15,7 +15,7 @@ ghost use Rattle.qs_spec.specs.Worked.{field, struct_with, IsRead};
 /// A flag is true where its key is alone or followed by `=`; twice it is rejected.
 pub fn flags()
     ensures key_alone { IsRead default (field (codes "flag") Shape.boolean) (codes "flag") (Some (struct_with (codes "flag") (Data.boolean true))) }
-    ensures nothing_behind { IsRead default (field (codes "flag") Shape.boolean) (codes "flag=") (Some (struct_with (codes "flag") (Data.boolean true))) }
+    ensures nothing_after { IsRead default (field (codes "flag") Shape.boolean) (codes "flag=") (Some (struct_with (codes "flag") (Data.boolean true))) }
     ensures text { IsRead default (field (codes "flag") Shape.boolean) (codes "flag=false") (Some (struct_with (codes "flag") (Data.boolean false))) }
     ensures twice { IsRead default (field (codes "flag") Shape.boolean) (codes "flag&flag") None }
     ensures twice_where_rejected { IsRead (record default { duplicates = reject }) (field (codes "flag") Shape.boolean) (codes "flag&flag") None }
@@ -24,7 +24,7 @@ pub fn flags()
 /// An option is none where its key is alone or missing, and some of the empty text where nothing follows `=`.
 pub fn options()
     ensures key_alone { IsRead default (field (codes "a") (Shape.option Shape.text)) (codes "a") (Some (struct_with (codes "a") Data.none)) }
-    ensures nothing_behind { IsRead default (field (codes "a") (Shape.option Shape.text)) (codes "a=") (Some (struct_with (codes "a") (Data.some (Data.text [])))) }
+    ensures nothing_after { IsRead default (field (codes "a") (Shape.option Shape.text)) (codes "a=") (Some (struct_with (codes "a") (Data.some (Data.text [])))) }
     ensures missing { IsRead default (field (codes "a") (Shape.option Shape.text)) [] (Some (struct_with (codes "a") Data.none)) }
     ensures number { IsRead default (field (codes "a") (Shape.option (Shape.unsigned 8))) (codes "a=") None }
     ensures some_of_nothing { IsRead default (field (codes "a") (Shape.option Shape.any)) (codes "a=") (Some (struct_with (codes "a") (Data.some Data.unit))) }
@@ -83,7 +83,7 @@ pub fn last_of_several()
 /// Items have the places 0, 1, 2 and so on, as far as they are read.
 pub fn items_by_place()
     ensures gap { IsRead default (field (codes "v") (Shape.sequence (Shape.unsigned 8))) (codes "v[0]=1&v[2]=2") None }
-    ensures behind_the_first { IsRead default (field (codes "v") (Shape.tuple (one_shape (Shape.unsigned 8) no_shapes))) (codes "v[0]=1&v[2]=2") (Some (struct_with (codes "v") (Data.tuple (values_of (Data.unsigned 1 ∷ []))))) }
+    ensures after_the_first { IsRead default (field (codes "v") (Shape.tuple (one_shape (Shape.unsigned 8) no_shapes))) (codes "v[0]=1&v[2]=2") (Some (struct_with (codes "v") (Data.tuple (values_of (Data.unsigned 1 ∷ []))))) }
     ensures any_order { IsRead default (field (codes "v") (Shape.sequence (Shape.unsigned 8))) (codes "v[1]=2&v[0]=1") (Some (struct_with (codes "v") (Data.sequence (values_of (Data.unsigned 1 ∷ Data.unsigned 2 ∷ []))))) }
     ensures nothing { IsRead default (field (codes "v") (Shape.sequence (Shape.unsigned 8))) (codes "v=") (Some (struct_with (codes "v") (Data.sequence (values_of [])))) }
     ensures a_text { IsRead default (field (codes "v") (Shape.sequence (Shape.unsigned 8))) (codes "v=7") (Some (struct_with (codes "v") (Data.sequence (values_of (Data.unsigned 7 ∷ []))))) }
@@ -94,7 +94,7 @@ pub fn items_by_place()
 {}
 
 /// The smallest key of a map names the variant, whatever comes first in the input.
-pub fn least_key_names_the_variant()
+pub fn smallest_key_names_the_variant()
     ensures { IsRead default (field (codes "e") (Shape.enumeration (one_variant (codes "A") (newtype_kind Shape.text) (one_variant (codes "B") (newtype_kind (Shape.unsigned 8)) no_variants)))) (codes "e[B]=1&e[A]=x")
         (Some (struct_with (codes "e") (Data.newtype_variant (codes "A") (Data.text (codes "x"))))) }
 {}

@@ -12,8 +12,8 @@ returns-clause-last_key c = is_tree false 5 (codes "a[b][c][d][e][f][g][h]=i") (
 pub returns-clause-equals_in_the_last_key : goal.returns-clause-equals_in_the_last_key
 returns-clause-equals_in_the_last_key c = is_tree false 1 (codes "a[b][=1&c") (mapping (at_text (codes "a") (only (codes "b") (only (codes "[=1") (leaf NoValue))) (at_text (codes "c") (leaf NoValue) no_entries))) refl
 
-pub returns-clause-equals_behind_the_last_key : goal.returns-clause-equals_behind_the_last_key
-returns-clause-equals_behind_the_last_key c = is_tree false 1 (codes "a[b][c=1") (only (codes "a") (only (codes "b") (only (codes "[c") (text_leaf (codes "1"))))) refl
+pub returns-clause-equals_after_the_last_key : goal.returns-clause-equals_after_the_last_key
+returns-clause-equals_after_the_last_key c = is_tree false 1 (codes "a[b][c=1") (only (codes "a") (only (codes "b") (only (codes "[c") (text_leaf (codes "1"))))) refl
 
 pub returns-clause-ampersand_in_brackets : goal.returns-clause-ampersand_in_brackets
 returns-clause-ampersand_in_brackets c = is_tree false 5 (codes "a[b&c]=1") (only (codes "a") (only (codes "b&c") (text_leaf (codes "1")))) refl
@@ -21,8 +21,8 @@ returns-clause-ampersand_in_brackets c = is_tree false 5 (codes "a[b&c]=1") (onl
 pub returns-clause-bracket_in_brackets : goal.returns-clause-bracket_in_brackets
 returns-clause-bracket_in_brackets c = is_tree false 5 (codes "a[[]=1") (only (codes "a") (only (codes "[") (text_leaf (codes "1")))) refl
 
-pub returns-clause-text_behind_brackets : goal.returns-clause-text_behind_brackets
-returns-clause-text_behind_brackets c = no_tree false 5 (codes "a[b]c=1") refl
+pub returns-clause-text_after_brackets : goal.returns-clause-text_after_brackets
+returns-clause-text_after_brackets c = no_tree false 5 (codes "a[b]c=1") refl
 
 pub returns-clause-open_bracket : goal.returns-clause-open_bracket
 returns-clause-open_bracket c = no_tree false 5 (codes "a[b") refl

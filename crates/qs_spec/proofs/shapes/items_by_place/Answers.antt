@@ -7,9 +7,9 @@ pub returns-clause-gap : goal.returns-clause-gap
 unfolding on_literals
 returns-clause-gap c = is_read _ _ _ _ refl refl
 
-pub returns-clause-behind_the_first : goal.returns-clause-behind_the_first
+pub returns-clause-after_the_first : goal.returns-clause-after_the_first
 unfolding on_literals
-returns-clause-behind_the_first c = is_read _ _ _ _ refl refl
+returns-clause-after_the_first c = is_read _ _ _ _ refl refl
 
 pub returns-clause-any_order : goal.returns-clause-any_order
 unfolding on_literals

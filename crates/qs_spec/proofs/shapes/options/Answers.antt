@@ -7,9 +7,9 @@ pub returns-clause-key_alone : goal.returns-clause-key_alone
 unfolding on_literals
 returns-clause-key_alone c = is_read _ _ _ _ refl refl
 
-pub returns-clause-nothing_behind : goal.returns-clause-nothing_behind
+pub returns-clause-nothing_after : goal.returns-clause-nothing_after
 unfolding on_literals
-returns-clause-nothing_behind c = is_read _ _ _ _ refl refl
+returns-clause-nothing_after c = is_read _ _ _ _ refl refl
 
 pub returns-clause-missing : goal.returns-clause-missing
 unfolding on_literals

@@ -14,6 +14,6 @@ pub returns-clause-in_form_mode : goal.returns-clause-in_form_mode
 unfolding on_literals
 returns-clause-in_form_mode c = record { text_is = refl; refusal_is = refl }
 
-pub returns-clause-nothing_behind : goal.returns-clause-nothing_behind
+pub returns-clause-nothing_after : goal.returns-clause-nothing_after
 unfolding on_literals
-returns-clause-nothing_behind c = record { text_is = refl; refusal_is = refl }
+returns-clause-nothing_after c = record { text_is = refl; refusal_is = refl }

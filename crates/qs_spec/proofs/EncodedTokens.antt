@@ -47,7 +47,7 @@ fine : (form : Bool) (b : ℕ) → b < 256 → is_fine form b (spelling form b) 
 fine true b l = agree_below_at (λ b. is_fine true b (spelling true b)) (λ b. true) 256 b refl l
 fine false b l = agree_below_at (λ b. is_fine false b (spelling false b)) (λ b. true) 256 b refl l
 
--- of each byte: no byte of its spelling is `&`, `=`, `[` or `]`
+-- of each byte: no byte of its encoding is `&`, `=`, `[` or `]`
 other_kinds : (form : Bool) (b : ℕ) → b < 256 → list_all (λ x. is_other (byte_kind x)) (spelling form b) ≡ true
 other_kinds true b l = agree_below_at (λ b. list_all (λ x. is_other (byte_kind x)) (spelling true b)) (λ b. true) 256 b refl l
 other_kinds false b l = agree_below_at (λ b. list_all (λ x. is_other (byte_kind x)) (spelling false b)) (λ b. true) 256 b refl l
@@ -56,7 +56,7 @@ abbrev pub suits : Bool → Kind → Bool
 suits true k = is_other k
 suits false k = not (is_amp k)
 
-suits_other : (strict : Bool) (k : Kind) → is_other k ≡ true → suits strict k ≡ true
+suits_other : (no_brackets : Bool) (k : Kind) → is_other k ≡ true → suits no_brackets k ≡ true
 suits_other true k e = e
 suits_other false Kind.Amp e = cc
 suits_other false Kind.Equals e = refl
@@ -65,30 +65,30 @@ suits_other false Kind.Close e = refl
 suits_other false Other e = refl
 
 -- bytes whose tokens suit, whatever follows
-pub record Tokens (strict form : Bool) (bytes rest : List ℕ) : Type 0 where
+pub record Tokens (no_brackets form : Bool) (bytes rest : List ℕ) : Type 0 where
   pub toks : List Token
-  pub suit : list_all (λ t. suits strict t.kind) toks ≡ true
+  pub suit : list_all (λ t. suits no_brackets t.kind) toks ≡ true
   pub raw : raw_of toks ≡ bytes
   pub whole : tokens form (bytes ++ rest) ≡ toks ++ tokens form rest
 
-all_suit : (strict : Bool) (xs : List ℕ) → list_all (λ x. is_other (byte_kind x)) xs ≡ true → list_all (λ t. suits strict t.kind) (others xs) ≡ true
-all_suit strict [] e = refl
-all_suit strict (x ∷ xs) e =
+all_suit : (no_brackets : Bool) (xs : List ℕ) → list_all (λ x. is_other (byte_kind x)) xs ≡ true → list_all (λ t. suits no_brackets t.kind) (others xs) ≡ true
+all_suit no_brackets [] e = refl
+all_suit no_brackets (x ∷ xs) e =
     let h = and_both (is_other (byte_kind x)) _ e in
-    ap₂ (λ a b. a && b) (suits_other strict (byte_kind x) h.0) (all_suit strict xs h.1)
+    ap₂ (λ a b. a && b) (suits_other no_brackets (byte_kind x) h.0) (all_suit no_brackets xs h.1)
 
-three : (strict form : Bool) (b x y z : ℕ) (rest : List ℕ) → (y == 37) ≡ false → (z == 37) ≡ false → ((form && is_bracket b) || not (form && is_escaped_bracket x y z)) ≡ true
-    → list_all (λ x. is_other (byte_kind x)) (x ∷ y ∷ z ∷ []) ≡ true → (strict && (form && is_bracket b)) ≡ false → Tokens strict form (x ∷ y ∷ z ∷ []) rest
-three strict form b x y z rest ey ez f o n = by strict (form && is_bracket b) (form && is_escaped_bracket x y z) refl f n o
+three : (no_brackets form : Bool) (b x y z : ℕ) (rest : List ℕ) → (y == 37) ≡ false → (z == 37) ≡ false → ((form && is_bracket b) || not (form && is_escaped_bracket x y z)) ≡ true
+    → list_all (λ x. is_other (byte_kind x)) (x ∷ y ∷ z ∷ []) ≡ true → (no_brackets && (form && is_bracket b)) ≡ false → Tokens no_brackets form (x ∷ y ∷ z ∷ []) rest
+three no_brackets form b x y z rest ey ez f o n = by no_brackets (form && is_bracket b) (form && is_escaped_bracket x y z) refl f n o
   where
     no_amp : (c : Bool) → not (is_amp (cond c Kind.Open Kind.Close)) ≡ true
     no_amp true = refl
     no_amp false = refl
 
-    by : (strict a c : Bool) → (form && is_escaped_bracket x y z) ≡ c → (a || not c) ≡ true → (strict && a) ≡ false → list_all (λ x. is_other (byte_kind x)) (x ∷ y ∷ z ∷ []) ≡ true → Tokens strict form (x ∷ y ∷ z ∷ []) rest
-    by strict a false e f n o = record {
+    by : (no_brackets a c : Bool) → (form && is_escaped_bracket x y z) ≡ c → (a || not c) ≡ true → (no_brackets && a) ≡ false → list_all (λ x. is_other (byte_kind x)) (x ∷ y ∷ z ∷ []) ≡ true → Tokens no_brackets form (x ∷ y ∷ z ∷ []) rest
+    by no_brackets a false e f n o = record {
       toks = byte_token x ∷ byte_token y ∷ byte_token z ∷ [];
-      suit = all_suit strict (x ∷ y ∷ z ∷ []) o;
+      suit = all_suit no_brackets (x ∷ y ∷ z ∷ []) o;
       raw = refl;
       whole = token_of_byte form x (y ∷ z ∷ rest) e ∙ ap (λ l. byte_token x ∷ l) (token_of_byte form y (z ∷ rest) (no_bracket form y (z ∷ rest) ey) ∙ ap (λ l. byte_token y ∷ l) (token_of_byte form z rest (no_bracket form z rest ez)));
     }
@@ -102,15 +102,15 @@ three strict form b x y z rest ey ez f o n = by strict (form && is_bracket b) (f
       whole = ap (λ t. cond t (record { kind = cond (z == 66) Kind.Open Kind.Close; raw = x ∷ y ∷ z ∷ [] } ∷ tokens form rest) (byte_token x ∷ tokens form (y ∷ z ∷ rest))) e;
     }
 
-tokens_of : (strict form : Bool) (b : ℕ) (xs rest : List ℕ) → is_fine form b xs ≡ true → list_all (λ x. is_other (byte_kind x)) xs ≡ true → (strict && (form && is_bracket b)) ≡ false → Tokens strict form xs rest
-tokens_of strict form b [] rest f o n = cc
-tokens_of strict form b (x ∷ []) rest f o n = record { toks = byte_token x ∷ []; suit = all_suit strict (x ∷ []) o; raw = refl; whole = token_of_byte form x rest (no_bracket form x rest (not_of (x == 37) f)) }
-tokens_of strict form b (x ∷ y ∷ []) rest f o n = cc
-tokens_of strict form b (x ∷ y ∷ z ∷ []) rest f o n =
+tokens_of : (no_brackets form : Bool) (b : ℕ) (xs rest : List ℕ) → is_fine form b xs ≡ true → list_all (λ x. is_other (byte_kind x)) xs ≡ true → (no_brackets && (form && is_bracket b)) ≡ false → Tokens no_brackets form xs rest
+tokens_of no_brackets form b [] rest f o n = cc
+tokens_of no_brackets form b (x ∷ []) rest f o n = record { toks = byte_token x ∷ []; suit = all_suit no_brackets (x ∷ []) o; raw = refl; whole = token_of_byte form x rest (no_bracket form x rest (not_of (x == 37) f)) }
+tokens_of no_brackets form b (x ∷ y ∷ []) rest f o n = cc
+tokens_of no_brackets form b (x ∷ y ∷ z ∷ []) rest f o n =
     let g = and_both (x == 37 && not (y == 37) && not (z == 37)) _ f in
     let h = and_both (x == 37 && not (y == 37)) (not (z == 37)) g.0 in
-    three strict form b x y z rest (not_of (y == 37) (and_both (x == 37) (not (y == 37)) h.0).1) (not_of (z == 37) h.1) g.1 o n
-tokens_of strict form b (x ∷ y ∷ z ∷ w ∷ xs) rest f o n = cc
+    three no_brackets form b x y z rest (not_of (y == 37) (and_both (x == 37) (not (y == 37)) h.0).1) (not_of (z == 37) h.1) g.1 o n
+tokens_of no_brackets form b (x ∷ y ∷ z ∷ w ∷ xs) rest f o n = cc
 
 list_all-append' : (p : Token → Bool) (xs ys : List Token) → list_all p xs ≡ true → list_all p ys ≡ true → list_all p (xs ++ ys) ≡ true
 list_all-append' p [] ys e f = f
@@ -120,10 +120,10 @@ raw-append : (xs ys : List Token) → raw_of (xs ++ ys) ≡ raw_of xs ++ raw_of 
 raw-append [] ys = refl
 raw-append (x ∷ xs) ys = ap (λ l. x.raw ++ l) (raw-append xs ys) ∙ sym (append_assoc x.raw (raw_of xs) (raw_of ys))
 
-joined : (strict form : Bool) (a b rest : List ℕ) → Tokens strict form a (b ++ rest) → Tokens strict form b rest → Tokens strict form (a ++ b) rest
-joined strict form a b rest s t = record {
+joined : (no_brackets form : Bool) (a b rest : List ℕ) → Tokens no_brackets form a (b ++ rest) → Tokens no_brackets form b rest → Tokens no_brackets form (a ++ b) rest
+joined no_brackets form a b rest s t = record {
   toks = s.toks ++ t.toks;
-  suit = list_all-append' (λ t. suits strict t.kind) s.toks t.toks s.suit t.suit;
+  suit = list_all-append' (λ t. suits no_brackets t.kind) s.toks t.toks s.suit t.suit;
   raw = raw-append s.toks t.toks ∙ ap₂ (λ x y. x ++ y) s.raw t.raw;
   whole = ap (tokens form) (append_assoc a b rest) ∙ s.whole ∙ ap (λ l. s.toks ++ l) t.whole ∙ sym (append_assoc s.toks t.toks (tokens form rest));
 }
@@ -133,12 +133,12 @@ AreBytes s = AllByRecursion (λ b. b < 256) s
 
 -- in form mode a key has no bracket
 abbrev pub IsClear : Bool → Bool → List ℕ → Type 0
-IsClear strict form s = AllByRecursion (λ b. (strict && (form && is_bracket b)) ≡ false) s
+IsClear no_brackets form s = AllByRecursion (λ b. (no_brackets && (form && is_bracket b)) ≡ false) s
 
-pub encoded_tokens : (strict form : Bool) (s rest : List ℕ) → AreBytes s → IsClear strict form s → Tokens strict form (encoded form s) rest
-encoded_tokens strict form [] rest l n = record { toks = []; suit = refl; raw = refl; whole = refl }
-encoded_tokens strict form (b ∷ s) rest l n =
-    joined strict form (spelling form b) (encoded form s) rest (tokens_of strict form b (spelling form b) (encoded form s ++ rest) (fine form b l.0) (other_kinds form b l.0) n.0) (encoded_tokens strict form s rest l.1 n.1)
+pub encoded_tokens : (no_brackets form : Bool) (s rest : List ℕ) → AreBytes s → IsClear no_brackets form s → Tokens no_brackets form (encoded form s) rest
+encoded_tokens no_brackets form [] rest l n = record { toks = []; suit = refl; raw = refl; whole = refl }
+encoded_tokens no_brackets form (b ∷ s) rest l n =
+    joined no_brackets form (spelling form b) (encoded form s) rest (tokens_of no_brackets form b (spelling form b) (encoded form s ++ rest) (fine form b l.0) (other_kinds form b l.0) n.0) (encoded_tokens no_brackets form s rest l.1 n.1)
 
 abbrev pub open_token : Bool → Token
 open_token form = record { kind = Kind.Open; raw = open_bytes form }

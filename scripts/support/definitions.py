@@ -1,6 +1,6 @@
 """Writes the golden cases as equations over the definitions of qs_spec, each to be proved by computing both sides.
 
-usage: definitions.py program|strict|trees|reads|writes TABLE [wrong]     with `wrong` one case alone, with another answer, which is to be rejected
+usage: definitions.py program|strict|trees|reads|writes TABLE [wrong]     with `wrong` one case alone, with another result, which is to be rejected
 """
 
 import sys
@@ -185,7 +185,7 @@ CASES = {"trees": tree_case, "program": program_case, "strict": program_case, "r
 
 
 def wrong_row(kind, rows):
-    """A row whose answer is not the one that is wanted."""
+    """A row whose result is not the one that is wanted."""
     if kind == "trees":
         return ["0", "0", "", "refused", ""]
     if kind in ("program", "strict"):

@@ -76,7 +76,7 @@ module _ (inner : Parser Shape) (t : List ℕ) where
       unfolding n.field
       field-shape why r e = then-found _ _ _ name a named (then-found _ _ _ tt b opened (seen-fault _ _ why r e))
 
-  -- what a variant holds in parentheses: a value, or items behind the first and a comma
+  -- what a variant holds in parentheses: a value, or items after the first and a comma
   module _ (x : Shape) (a : List ℕ) (none : n.comes 41 t ≡ false) (first : inner t ≡ found x a) where
     pub held-value : (b : List ℕ) → n.comes 41 a ≡ true → n.behind a ≡ b → n.held inner t ≡ found (newtype_kind x) b
     unfolding n.held

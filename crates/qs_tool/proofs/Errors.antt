@@ -38,7 +38,7 @@ nothing_read parsed shape (Utf8 cause) report other = report.0
 nothing_read parsed shape OutOfMemory report other = cc
 nothing_read parsed shape Failed report other = absurd report
 
--- what holds where a fault was returned may be put in other words
+-- what holds where an error was returned may be put in other words
 pub input_error_is : {T : Type 0} (r : Result T Error) {P Q : Type 0} → (P → Q) → IfInputError r P → IfInputError r Q
 input_error_is (Ok x) f h = tt
 input_error_is (Err e) f h = λ other. f (h other)

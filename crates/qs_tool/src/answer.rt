@@ -19,7 +19,7 @@ pub struct Answer {
     pub status: u8,
 }
 
-/// The result of the reader's input.
+/// Returns the result of the reader's input.
 pub fn respond<R: Read>(alloc: Global, request: Request, reader: &mut R) -> Result<Answer, Stop>
     ensures answer { IfOk result (λ answer. IfSome (R.remaining reader.old)
         (λ input. IsAnswer request (without_newline input) answer.line.items answer.status)) }
@@ -29,7 +29,7 @@ pub fn respond<R: Read>(alloc: Global, request: Request, reader: &mut R) -> Resu
     Ok(answer_to(alloc, request, before_newline(input.as_slice()))?)
 }
 
-// The result of this input.
+// Returns the result of this input.
 fn answer_to(alloc: Global, request: Request, input: &[u8]) -> Result<Answer, AllocError>
     ensures { IfOk result (λ answer. IsAnswer request input.now answer.line.items answer.status) }
 {
@@ -48,14 +48,14 @@ fn answer_to(alloc: Global, request: Request, input: &[u8]) -> Result<Answer, Al
     }
 }
 
-// Whether the error is that an allocation failed, or a write to memory, which fails for no other reason.
+// Returns whether the error is that an allocation failed, or a write to memory, which fails for no other reason.
 fn is_memory(error: &Error) -> bool
     ensures { result ≡ is_memory error.now }
 {
     matches!(error, Error::OutOfMemory | Error::Io(_))
 }
 
-// The line that says why.
+// Returns the line that says why.
 fn error_line(alloc: Global, error: &Error) -> Result<Vec<u8>, AllocError>
     ensures line { IfOk result (λ line. IsErrorLine line.items) }
     ensures text { IfOk result (λ line. IsLineOfError error.now line.items) }
@@ -67,7 +67,7 @@ fn error_line(alloc: Global, error: &Error) -> Result<Vec<u8>, AllocError>
     Ok(line)
 }
 
-// The input without one final newline.
+// Returns the input without one final newline.
 fn before_newline(input: &[u8]) -> &[u8]
     ensures { result.now ≡ without_newline input.now }
 {

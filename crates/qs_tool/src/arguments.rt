@@ -51,7 +51,7 @@ struct Settings {
 }
 
 impl Request {
-    /// What the words ask for: a command, and then options in any order, each at most once. Where they are anything else, what is
+    /// Returns what the words ask for: a command, and then options in any order, each at most once. Where they are anything else, what is
     /// wrong with them.
     pub fn parse(words: &[String]) -> Result<Request, Misuse<'_>>
         ensures request { result_ok result ≡ asked (map string_bytes words.now) }
@@ -68,7 +68,7 @@ impl Request {
             .ok_or(Misuse::DepthOfFlat)
     }
 
-    /// What the words ask for, where they ask for something.
+    /// Returns what the words ask for, where they ask for something.
     pub fn from_words(words: &[String]) -> Option<Request>
         ensures { result ≡ asked (map string_bytes words.now) }
     {
@@ -77,7 +77,7 @@ impl Request {
 }
 
 impl Command {
-    // The command of this name.
+    // Returns the command of this name.
     fn named(name: &str) -> Option<Command>
         ensures { result ≡ command_named name.now }
     {
@@ -91,7 +91,7 @@ impl Command {
 }
 
 impl Choice {
-    // The option of this name, where it takes no value.
+    // Returns the option of this name, where it takes no value.
     fn flag(name: &str) -> Option<Choice>
         ensures { result ≡ flag_named name.now }
     {
@@ -102,7 +102,7 @@ impl Choice {
         }
     }
 
-    // The option of this name, with this value.
+    // Returns the option of this name, with this value.
     fn valued(name: &str, value: &str) -> Option<Choice>
         ensures { result ≡ valued name.now value.now }
     {
@@ -116,7 +116,7 @@ impl Choice {
 }
 
 impl Settings {
-    // No option.
+    // Returns the settings without an option.
     fn new() -> Settings
         ensures { result ≡ unchosen }
     {
@@ -129,7 +129,7 @@ impl Settings {
         }
     }
 
-    // These options and one more, unless it was given before.
+    // Returns these options and one more, unless it was given before.
     fn choose(self, choice: Choice) -> Option<Settings>
         ensures { result ≡ choose self choice }
     {
@@ -155,7 +155,7 @@ impl Settings {
         }
     }
 
-    // The command under these options; `flat` has no depth to choose.
+    // Returns the command under these options; `flat` has no depth to choose.
     fn configured(self, command: Command) -> Option<Request>
         ensures { result ≡ configured command self }
     {
@@ -178,7 +178,7 @@ impl Settings {
     }
 }
 
-// The options that the words are, each given once at most; or the first that is wrong.
+// Returns the options that the words are, each given once at most; or the first that is wrong.
 fn options(words: &[String]) -> Result<Settings, Misuse<'_>>
     ensures settings { result_ok result ≡ option_and_then (chosen unchosen) (choices_of (map string_bytes words.now)) }
     ensures misuse { IfErr result (λ misuse. IsWrongOption (map string_bytes words.now) misuse) }
@@ -211,21 +211,21 @@ fn options(words: &[String]) -> Result<Settings, Misuse<'_>>
     Ok(settings)
 }
 
-// Whether a value follows the option of this name.
+// Returns whether a value follows the option of this name.
 fn takes_value(name: &str) -> bool
     ensures { result ≡ takes_value name.now }
 {
     matches!(name, "--depth" | "--format" | "--duplicates")
 }
 
-// The number that the text writes: digits, with or without `+` in front, of at most 64 bits.
+// Returns the number that the text writes: digits, with or without `+` in front, of at most 64 bits.
 fn number(text: &str) -> Option<usize>
     ensures { result ≡ unsigned_number 64 text.now }
 {
     text.parse().ok()
 }
 
-// The array format of that name.
+// Returns the array format of that name.
 fn format_named(name: &str) -> Option<ArrayFormat>
     ensures { result ≡ format_named name.now }
 {
@@ -237,7 +237,7 @@ fn format_named(name: &str) -> Option<ArrayFormat>
     }
 }
 
-// The setting for repeated keys of that name.
+// Returns the setting for repeated keys of that name.
 fn duplicates_named(name: &str) -> Option<DuplicateKeyBehavior>
     ensures { result ≡ duplicates_named name.now }
 {

@@ -53,7 +53,7 @@ status: 0 done; 1 the querystring was rejected; 2 the arguments are wrong; 3 out
 const VERSION: &str = "qs_tool 1.1.3\n";
 
 impl Information {
-    /// What the words ask for: `--help` or `--version`, where it is the only one.
+    /// Returns what the words ask for: `--help` or `--version`, where it is the only one.
     pub fn asked(words: &[String]) -> Option<Information>
         ensures { result ≡ information_asked (map string_bytes words.now) }
     {
@@ -63,7 +63,7 @@ impl Information {
         Information::named(word.as_str())
     }
 
-    // The one of this name.
+    // Returns the one of this name.
     fn named(name: &str) -> Option<Information>
         ensures { result ≡ information_named name.now }
     {
@@ -74,7 +74,7 @@ impl Information {
         }
     }
 
-    /// Its lines.
+    /// Returns its lines.
     pub fn text(self) -> &'static str
         ensures { IsInformation self result.now }
     {

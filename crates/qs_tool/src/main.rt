@@ -20,7 +20,7 @@ use std::alloc::AllocError;
 use std::process::ExitCode;
 use std::{env, io};
 
-// The words after the program's name.
+// Returns the words after the program's name.
 fn words(rt: &HostRuntime) -> io::Result<Vec<String>> {
     let mut words = Vec::new(rt.alloc());
     for word in env::args(rt)?.skip(1) {

@@ -32,7 +32,7 @@ impl Display for Misuse<'_> {
     }
 }
 
-// What the option of this name takes.
+// Returns what the option of this name takes.
 fn value_of(name: &str) -> &'static str {
     match name {
         "--depth" => "a number from 0 to 18446744073709551615",

@@ -9,7 +9,7 @@ use crate::arguments::Command;
 use serde_qs::{Field, Shape};
 use std::alloc::{AllocError, Global};
 
-/// What the command reads, where all structs are strict or none is.
+/// Returns what the command reads, where all structs are strict or none is.
 pub fn shape_for(alloc: Global, command: Command, strict: bool) -> Result<Shape, AllocError>
     ensures { IfOk result (λ shape. shape_of shape ≡ shape_for command strict) }
 {
@@ -20,7 +20,7 @@ pub fn shape_for(alloc: Global, command: Command, strict: bool) -> Result<Shape,
     }
 }
 
-// A struct of a name, an age, an occupation, whether it is active, which may be left out, and a note, which may be absent.
+// Returns the shape of a struct of a name, an age, an occupation, whether it is active, which may be left out, and a note, which may be absent.
 fn flat(alloc: Global, strict: bool) -> Result<Shape, AllocError>
     ensures { IfOk result (λ shape. shape_of shape ≡ flat_shape strict) }
 {
@@ -34,7 +34,7 @@ fn flat(alloc: Global, strict: bool) -> Result<Shape, AllocError>
     Ok(struct_of(strict, fields))
 }
 
-// A struct of a number, a name, a phone number, an address and a list of numbers.
+// Returns the shape of a struct of a number, a name, a phone number, an address and a list of numbers.
 fn params(alloc: Global, strict: bool) -> Result<Shape, AllocError>
     ensures { IfOk result (λ shape. shape_of shape ≡ params_shape strict) }
 {
@@ -49,7 +49,7 @@ fn params(alloc: Global, strict: bool) -> Result<Shape, AllocError>
     Ok(struct_of(strict, fields))
 }
 
-// A struct of three texts.
+// Returns the shape of a struct of three texts.
 fn address(alloc: Global, strict: bool) -> Result<Shape, AllocError>
     ensures { IfOk result (λ shape. shape_of shape ≡ address_shape strict) }
 {
@@ -60,7 +60,7 @@ fn address(alloc: Global, strict: bool) -> Result<Shape, AllocError>
     Ok(struct_of(strict, fields))
 }
 
-// A struct of these fields.
+// Returns the shape of a struct of these fields.
 fn struct_of(strict: bool, fields: Vec<Field>) -> Shape
     ensures { shape_of result ≡ s.Shape.struct (unknown_keys strict) (fields_in fields.items) }
 {
@@ -71,7 +71,7 @@ fn struct_of(strict: bool, fields: Vec<Field>) -> Shape
     }
 }
 
-// A field of that name and shape.
+// Returns a field of that name and shape.
 fn field(alloc: Global, name: &str, shape: Shape, optional: bool) -> Result<Field, AllocError>
     ensures { IfOk result (λ field. field_of field ≡ (name.now, shape_of shape, optional)) }
 {

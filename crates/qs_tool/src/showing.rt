@@ -31,41 +31,41 @@ pub fn show(alloc: Global, line: &mut Vec<u8>, datum: &Data) -> Result<()>
     ensures ok { OnOk result (line.new.items ≡ line.old.items ++ shown (data_of datum.now)) }
     ensures errors { OnlyOutOfMemory result }
 {
-    let mut pile = Vec::new(alloc);
-    begin(line, &mut pile, datum)?;
-    while let Some(piece) = pile.pop() {
-        proceed(line, &mut pile, piece)?;
+    let mut stack = Vec::new(alloc);
+    begin(line, &mut stack, datum)?;
+    while let Some(piece) = stack.pop() {
+        proceed(line, &mut stack, piece)?;
     }
     Ok(())
 }
 
 // Appends what the piece begins with, and puts on the stack what is left of it.
-fn proceed<'d>(line: &mut Vec<u8>, pile: &mut Vec<Pending<'d>>, piece: Pending<'d>) -> Result<()>
-    ensures ok { OnOk result (Begins (piece_text piece.entry) line.old.items pile.old.items line.new.items pile.new.items) }
+fn proceed<'d>(line: &mut Vec<u8>, stack: &mut Vec<Pending<'d>>, piece: Pending<'d>) -> Result<()>
+    ensures ok { OnOk result (Begins (piece_text piece.entry) line.old.items stack.old.items line.new.items stack.new.items) }
     ensures errors { OnlyOutOfMemory result }
 {
     match piece {
-        Pending::Datum(datum) => begin(line, pile, datum),
-        Pending::Items(items) => next_item(line, pile, items),
+        Pending::Datum(datum) => begin(line, stack, datum),
+        Pending::Items(items) => next_item(line, stack, items),
         Pending::Value(value) => {
             line.push(b':')?;
-            begin(line, pile, value)
+            begin(line, stack, value)
         }
-        Pending::Pairs(pairs) => next_pair(line, pile, pairs),
+        Pending::Pairs(pairs) => next_pair(line, stack, pairs),
     }
 }
 
 // Appends what the data begin with, and puts on the stack what is left of them.
 #[tactic(auto, using(qs_data::proofs::lemmas::data::Levels::levels, crate::proofs::Pieces::begins_whole))]
-fn begin<'d>(line: &mut Vec<u8>, pile: &mut Vec<Pending<'d>>, datum: &'d Data) -> Result<()>
-    ensures ok { OnOk result (Begins (shown (data_of datum.now)) line.old.items pile.old.items line.new.items pile.new.items) }
+fn begin<'d>(line: &mut Vec<u8>, stack: &mut Vec<Pending<'d>>, datum: &'d Data) -> Result<()>
+    ensures ok { OnOk result (Begins (shown (data_of datum.now)) line.old.items stack.old.items line.new.items stack.new.items) }
     ensures errors { OnlyOutOfMemory result }
 {
     match datum {
         Data::Unit => Ok(line.extend_from_slice(b"()")?),
         Data::Text(text) => show_text(line, text.as_str()),
-        Data::Seq(items) => begin_list(line, pile, items),
-        Data::Map(pairs) => begin_map(line, pile, pairs),
+        Data::Seq(items) => begin_list(line, stack, items),
+        Data::Map(pairs) => begin_map(line, stack, pairs),
         Data::None | Data::Some(_) | Data::Bool(_) | Data::Unsigned(_) | Data::Signed(_) => {
             Ok(line.push(b'?')?)
         }
@@ -90,31 +90,31 @@ fn show_text(line: &mut Vec<u8>, text: &str) -> Result<()>
 }
 
 // Appends the bracket that opens a list, and puts its items on the stack.
-fn begin_list<'d>(line: &mut Vec<u8>, pile: &mut Vec<Pending<'d>>, items: &'d [Data]) -> Result<()>
-    ensures ok { OnOk result (Begins (in_brackets (shown_values (values_in items.now))) line.old.items pile.old.items line.new.items pile.new.items) }
+fn begin_list<'d>(line: &mut Vec<u8>, stack: &mut Vec<Pending<'d>>, items: &'d [Data]) -> Result<()>
+    ensures ok { OnOk result (Begins (in_brackets (shown_values (values_in items.now))) line.old.items stack.old.items line.new.items stack.new.items) }
     ensures errors { OnlyOutOfMemory result }
 {
     line.push(b'[')?;
     match items.split_first() {
         None => Ok(line.push(b']')?),
         Some((first, rest)) => {
-            pile.push(Pending::Items(rest))?;
-            Ok(pile.push(Pending::Datum(first))?)
+            stack.push(Pending::Items(rest))?;
+            Ok(stack.push(Pending::Datum(first))?)
         }
     }
 }
 
 // Appends a comma and what the next item of a list begins with, or the bracket that closes the list.
-fn next_item<'d>(line: &mut Vec<u8>, pile: &mut Vec<Pending<'d>>, items: &'d [Data]) -> Result<()>
-    ensures ok { OnOk result (Begins (items_left (shown_values (values_in items.now))) line.old.items pile.old.items line.new.items pile.new.items) }
+fn next_item<'d>(line: &mut Vec<u8>, stack: &mut Vec<Pending<'d>>, items: &'d [Data]) -> Result<()>
+    ensures ok { OnOk result (Begins (items_left (shown_values (values_in items.now))) line.old.items stack.old.items line.new.items stack.new.items) }
     ensures errors { OnlyOutOfMemory result }
 {
     match items.split_first() {
         None => Ok(line.push(b']')?),
         Some((item, rest)) => {
             line.push(b',')?;
-            pile.push(Pending::Items(rest))?;
-            begin(line, pile, item)
+            stack.push(Pending::Items(rest))?;
+            begin(line, stack, item)
         }
     }
 }
@@ -122,19 +122,19 @@ fn next_item<'d>(line: &mut Vec<u8>, pile: &mut Vec<Pending<'d>>, items: &'d [Da
 // Appends the brace that opens a map, and puts its pairs on the stack.
 fn begin_map<'d>(
     line: &mut Vec<u8>,
-    pile: &mut Vec<Pending<'d>>,
+    stack: &mut Vec<Pending<'d>>,
     pairs: &'d [(Data, Data)],
 ) -> Result<()>
-    ensures ok { OnOk result (Begins (in_braces (shown_pairs (pairs_in pairs.now))) line.old.items pile.old.items line.new.items pile.new.items) }
+    ensures ok { OnOk result (Begins (in_braces (shown_pairs (pairs_in pairs.now))) line.old.items stack.old.items line.new.items stack.new.items) }
     ensures errors { OnlyOutOfMemory result }
 {
     line.push(b'{')?;
     match pairs.split_first() {
         None => Ok(line.push(b'}')?),
         Some((pair, rest)) => {
-            pile.push(Pending::Pairs(rest))?;
-            pile.push(Pending::Value(&pair.1))?;
-            Ok(pile.push(Pending::Datum(&pair.0))?)
+            stack.push(Pending::Pairs(rest))?;
+            stack.push(Pending::Value(&pair.1))?;
+            Ok(stack.push(Pending::Datum(&pair.0))?)
         }
     }
 }
@@ -142,19 +142,19 @@ fn begin_map<'d>(
 // Appends a comma and what the next pair of a map begins with, or the brace that closes the map.
 fn next_pair<'d>(
     line: &mut Vec<u8>,
-    pile: &mut Vec<Pending<'d>>,
+    stack: &mut Vec<Pending<'d>>,
     pairs: &'d [(Data, Data)],
 ) -> Result<()>
-    ensures ok { OnOk result (Begins (pairs_left (shown_pairs (pairs_in pairs.now))) line.old.items pile.old.items line.new.items pile.new.items) }
+    ensures ok { OnOk result (Begins (pairs_left (shown_pairs (pairs_in pairs.now))) line.old.items stack.old.items line.new.items stack.new.items) }
     ensures errors { OnlyOutOfMemory result }
 {
     match pairs.split_first() {
         None => Ok(line.push(b'}')?),
         Some((pair, rest)) => {
             line.push(b',')?;
-            pile.push(Pending::Pairs(rest))?;
-            pile.push(Pending::Value(&pair.1))?;
-            begin(line, pile, &pair.0)
+            stack.push(Pending::Pairs(rest))?;
+            stack.push(Pending::Value(&pair.1))?;
+            begin(line, stack, &pair.0)
         }
     }
 }

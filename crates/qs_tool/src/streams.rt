@@ -32,7 +32,7 @@ impl From<AllocError> for Stop {
     }
 }
 
-/// All that the reader has, by as many reads as are allowed.
+/// Returns all that the reader has, by as many reads as are allowed.
 pub fn read_input<R: Read>(alloc: Global, reader: &mut R) -> Result<Vec<u8>, Stop>
     ensures all { IfOk result (λ bytes. IfSome (R.remaining reader.old) (λ input. bytes.items ≡ input)) }
     ensures ended { OnOk result (IsAtEnd (R.remaining reader.new)) }

@@ -1,4 +1,4 @@
--- Steps of a loop that takes data apart, and faults of parts.
+-- Steps of a loop that takes data apart, and errors of parts.
 use Rattle.std.proofs.Common.{◌≡◌, Bool, List, [], ◌∷◌, ◌++◌, Option, Some, None, refl, sym, ap, ◌∙◌, append_assoc}
 use Rattle.std.specs.Option.{option_map, option_and_then}
 use Rattle.qs_spec.specs.Data as v
@@ -30,7 +30,7 @@ before-part m xs d ds x h =
 pub no-part : {A : Type 0} (m : Data → Option A) (xs : List A) (d : Data) (ds : Values) → m d ≡ None → before xs (values_meant m (v.one_value d ds)) ≡ None
 no-part m xs d ds h = ap (λ r. before xs (option_and_then (λ y. option_map (λ ys. y ∷ ys) (values_meant m ds)) r)) h
 
--- the fault of a part is one of the whole, where the whole means nothing without it
+-- the error of a part is one of the whole, where the whole means nothing without it
 pub fault_of_part : {A B : Type 0} (b : Bool) (x : Error) (r : Option A) (s : Option B) → (r ≡ None → s ≡ None) → Rejects b x r → Rejects b x s
 fault_of_part b (e.Custom m) r s f h = f h
 fault_of_part b (e.Utf8 m) r s f h = (f h.0, h.1)

@@ -7,7 +7,7 @@ use crate::data::Data;
 use std::alloc::{AllocError, Global};
 
 impl Data {
-    /// Data that are equal to these, in memory of their own.
+    /// Returns data that are equal to these, in memory of their own.
     ///
     /// It allocates for each text, list and nested value. The one error is that an allocation failed; what was copied is dropped then.
     /// It takes time with the size of the data, and stack with their depth.

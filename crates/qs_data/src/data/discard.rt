@@ -44,7 +44,7 @@ impl Data {
         stack.destroy_empty();
     }
 
-    // Whether it is of a kind that holds no data.
+    // Returns whether these data are of a kind that holds no others.
     fn is_leaf(&self) -> bool
         ensures { result ≡ is_leaf self.now }
     {
@@ -57,7 +57,7 @@ impl Data {
         }
     }
 
-    // The data in it, and their allocator. A leaf is dropped.
+    // Returns the data in it, and their allocator. A leaf is dropped.
     #[tactic(auto, using(crate::proofs::lemmas::data::Weights::weights))]
     fn into_parts(self) -> Option<(Global, Parts)>
         ensures { MatchOption result (weight self ≡ 1) (λ p. parts_weight p.1 + 1 ≡ weight self) }

@@ -11,7 +11,7 @@ use crate::write::Scalar;
 use qs_tree::{ArrayFormat, Config};
 
 impl Data {
-    /// Whether the lists in these data can be read back in the array format of the configuration.
+    /// Returns whether the lists in these data can be read back in the array format of the configuration.
     ///
     /// In the indexed format all can. In the other two, at every depth:
     /// - each list and tuple has a key, of its own or of what it is in, so it isn't the whole;
@@ -36,7 +36,7 @@ impl Data {
     }
 }
 
-// Whether lists can be read back; `below` says that they are under a key.
+// Returns whether lists can be read back; `below` says that they are under a key.
 #[cycle(listed)]
 #[tactic(auto, using(crate::proofs::lemmas::data::Levels::levels))]
 fn is_listed(datum: &Data, format: ArrayFormat, below: bool) -> bool
@@ -57,7 +57,7 @@ fn is_listed(datum: &Data, format: ArrayFormat, below: bool) -> bool
     }
 }
 
-// Whether the lists in each item can be read back.
+// Returns whether the lists in each item can be read back.
 #[cycle(listed)]
 fn are_listed(items: &Vec<Data>, format: ArrayFormat) -> bool
     ensures { result ≡ are_listed (array_format_of format) (values_in items.now.items) }
@@ -70,7 +70,7 @@ fn are_listed(items: &Vec<Data>, format: ArrayFormat) -> bool
     true
 }
 
-// Whether the lists in each value of a map can be read back.
+// Returns whether the lists in each value of a map can be read back.
 #[cycle(listed)]
 fn are_listed_pairs(pairs: &Vec<(Data, Data)>, format: ArrayFormat) -> bool
     ensures { result ≡ are_listed_pairs (array_format_of format) (pairs_in pairs.now.items) }
@@ -83,7 +83,7 @@ fn are_listed_pairs(pairs: &Vec<(Data, Data)>, format: ArrayFormat) -> bool
     true
 }
 
-// Whether the lists in each field can be read back.
+// Returns whether the lists in each field can be read back.
 #[cycle(listed)]
 fn are_listed_members(members: &Vec<(String, Data)>, format: ArrayFormat) -> bool
     ensures { result ≡ are_listed_members (array_format_of format) (members_in members.now.items) }
@@ -96,7 +96,7 @@ fn are_listed_members(members: &Vec<(String, Data)>, format: ArrayFormat) -> boo
     true
 }
 
-// Where no index is written, a list needs a key above it.
+// Returns whether a list is where it can be written: where no index is written, it needs a key above it.
 fn is_placed(format: ArrayFormat, below: bool) -> bool
     ensures { result ≡ is_placed (array_format_of format) below }
 {
@@ -106,7 +106,7 @@ fn is_placed(format: ArrayFormat, below: bool) -> bool
     }
 }
 
-// Whether a list of these elements is read as them.
+// Returns whether a list of these elements is read as them.
 fn is_list(items: &[Data], format: ArrayFormat) -> bool
     ensures { result ≡ is_list (array_format_of format) (values_in items.now) }
 {
@@ -117,7 +117,7 @@ fn is_list(items: &[Data], format: ArrayFormat) -> bool
     }
 }
 
-// Whether each item is written as one text.
+// Returns whether each item is written as one text.
 fn are_scalars(items: &[Data]) -> bool
     ensures { result ≡ are_scalars (values_in items.now) }
 {
@@ -129,14 +129,14 @@ fn are_scalars(items: &[Data]) -> bool
     true
 }
 
-// Whether the data are written as one text.
+// Returns whether the data are written as one text.
 fn has_text(datum: &Data) -> bool
     ensures { result ≡ has_text (key_text (data_of datum.now)) }
 {
     Scalar::of(datum).is_some()
 }
 
-// Whether this is one empty text.
+// Returns whether this is one empty text.
 fn is_one_empty(items: &[Data]) -> bool
     ensures { result ≡ is_one_empty (values_in items.now) }
 {
@@ -146,7 +146,7 @@ fn is_one_empty(items: &[Data]) -> bool
     }
 }
 
-// Whether the data are written as one empty text.
+// Returns whether the data are written as one empty text.
 fn is_empty_text(datum: &Data) -> bool
     ensures { result ≡ is_empty_text (key_text (data_of datum.now)) }
 {

@@ -7,7 +7,7 @@ ghost use Rattle.qs_data.specs.data.Views.{data_of, values_in, pairs_in, members
 
 use crate::data::Data;
 
-/// Whether two data are of one kind and hold the same.
+/// Returns whether two data are of one kind and hold the same.
 #[cycle(sameness)]
 #[tactic(auto, using(crate::proofs::lemmas::data::Levels::levels, crate::proofs::lemmas::data::Weights::weights))]
 pub(crate) fn same_data(left: &Data, right: &Data) -> bool
@@ -42,7 +42,7 @@ pub(crate) fn same_data(left: &Data, right: &Data) -> bool
     }
 }
 
-// Whether two lists have equal items in the same order.
+// Returns whether two lists have equal items in the same order.
 #[cycle(sameness)]
 fn same_items(left: &[Data], right: &[Data]) -> bool
     ensures { result ≡ values_same (values_in left.now) (values_in right.now) }
@@ -59,7 +59,7 @@ fn same_items(left: &[Data], right: &[Data]) -> bool
     true
 }
 
-// Whether two maps have equal pairs in the same order.
+// Returns whether two maps have equal pairs in the same order.
 #[cycle(sameness)]
 fn same_pairs(left: &[(Data, Data)], right: &[(Data, Data)]) -> bool
     ensures { result ≡ pairs_same (pairs_in left.now) (pairs_in right.now) }
@@ -76,7 +76,7 @@ fn same_pairs(left: &[(Data, Data)], right: &[(Data, Data)]) -> bool
     true
 }
 
-// Whether two pairs have equal keys and equal values.
+// Returns whether two pairs have equal keys and equal values.
 #[cycle(sameness)]
 fn same_pair(left: &(Data, Data), right: &(Data, Data)) -> bool
     ensures { result ≡ (data_same (data_of left.now.0) (data_of right.now.0) && data_same (data_of left.now.1) (data_of right.now.1)) }
@@ -84,7 +84,7 @@ fn same_pair(left: &(Data, Data), right: &(Data, Data)) -> bool
     same_data(&left.0, &right.0) && same_data(&left.1, &right.1)
 }
 
-// Whether two structs have equal fields in the same order.
+// Returns whether two structs have equal fields in the same order.
 #[cycle(sameness)]
 fn same_members(left: &[(String, Data)], right: &[(String, Data)]) -> bool
     ensures { result ≡ members_same (members_in left.now) (members_in right.now) }
@@ -101,7 +101,7 @@ fn same_members(left: &[(String, Data)], right: &[(String, Data)]) -> bool
     true
 }
 
-// Whether two fields have one name and equal values.
+// Returns whether two fields have one name and equal values.
 #[cycle(sameness)]
 fn same_member(left: &(String, Data), right: &(String, Data)) -> bool
     ensures { result ≡ (bytes_eq (string_bytes left.now.0) (string_bytes right.now.0) && data_same (data_of left.now.1) (data_of right.now.1)) }

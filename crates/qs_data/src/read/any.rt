@@ -14,7 +14,7 @@ use qs_tree::ParsedValue;
 use std::alloc::Global;
 use std::mem;
 
-/// Whatever is there: a text as a text, and an empty one where nothing follows `=`. A sequence is a list, and so is a map
+/// Reads whatever is there: a text as a text, and an empty one where nothing follows `=`. A sequence is a list, and so is a map
 /// whose keys are all numbers; another map keeps its keys as texts.
 ///
 /// Iterative: it takes constant stack at any depth, and keeps the lists and maps around on the heap.

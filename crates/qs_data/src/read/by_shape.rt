@@ -46,7 +46,7 @@ pub(crate) fn read(reader: Reader, shape: &Shape, value: &ParsedValue<'_>) -> Re
     Ok(read_node(reader, shape, value)?)
 }
 
-/// The same, on the way through the levels of a tree.
+/// Reads a value by a shape, on the way through the levels of a tree.
 #[cycle(read)]
 #[tactic(auto, using(crate::proofs::lemmas::data::Levels::levels), unfolding(qs_spec::specs::internal::ReadFunction::reads))]
 pub(crate) fn read_node(reader: Reader, shape: &Shape, value: &ParsedValue<'_>) -> Result<Data>
@@ -144,7 +144,7 @@ fn newtype_data(reader: Reader, part: &Shape, value: &ParsedValue<'_>) -> Result
     Ok(Data::Newtype(Box::new(reader.alloc, held)?))
 }
 
-// A value that may be absent: it is where there is no value, and an empty one is read as none.
+// Reads a value that may be absent: it is where there is no value, and an empty one is read as none.
 #[cycle(read)]
 fn read_option(reader: Reader, part: &Shape, value: &ParsedValue<'_>) -> Result<Data>
     ensures { ReadGives data_of (is_text (tree_of value.now)) result (read_option (reads reader.reject_duplicates (shape_of part.now)) (tree_of value.now)) }
@@ -163,7 +163,7 @@ fn read_option(reader: Reader, part: &Shape, value: &ParsedValue<'_>) -> Result<
     }
 }
 
-// Whatever is there is passed over.
+// Passes over whatever is there.
 fn read_ignored(alloc: Global, value: &ParsedValue<'_>) -> Result<Data>
     ensures { ReadGives data_of true result (read_ignored (tree_of value.now)) }
 {

@@ -35,7 +35,7 @@ pub struct Deserializer<'qs> {
 }
 
 impl<'qs> Deserializer<'qs> {
-    /// The querystring, parsed with the default configuration.
+    /// Returns the querystring, parsed with the default configuration.
     ///
     /// The errors are those of [`with_config`](Deserializer::with_config). It allocates, and takes time, as that call does.
     pub fn new(alloc: Global, input: &'qs [u8]) -> Result<Deserializer<'qs>>
@@ -49,7 +49,7 @@ impl<'qs> Deserializer<'qs> {
         Deserializer::with_config(alloc, Config::new(), input)
     }
 
-    /// The querystring, parsed.
+    /// Returns the querystring, parsed.
     ///
     /// It is rejected, with [`Parse`](qs_tree::Error::Parse) and the position of the first error, exactly where it has no tree. The only
     /// other error is [`OutOfMemory`](qs_tree::Error::OutOfMemory), where an allocation failed. It allocates as

@@ -25,7 +25,7 @@ pub(crate) enum ReadError {
 }
 
 impl ReadError {
-    /// The error with this message, or that an allocation failed.
+    /// Returns the error with this message, or that an allocation failed.
     pub(crate) fn saying<T: Display + Drop>(alloc: Global, message: T) -> ReadError
         ensures { IsCustomSaying (error_of result) (T.output message) }
     {

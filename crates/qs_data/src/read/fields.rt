@@ -22,7 +22,7 @@ use crate::read::unknown::UnknownKeys;
 use crate::shape::Field;
 use qs_tree::ParsedValue;
 
-/// The fields of a node: by their names among keys, and by their indexes among items.
+/// Reads the fields of a node: by their names among keys, and by their indexes among items.
 #[cycle(read)]
 #[tactic(auto, unfolding(qs_spec::specs::internal::ReadFunction::struct_members))]
 #[inline(always)]
@@ -53,7 +53,7 @@ pub(crate) fn read_struct(
     }
 }
 
-/// The fields by their names, and then a test of all keys: for one that no field has, where such are rejected, and for one that isn't
+/// Reads the fields by their names, and then tests all keys: for one that no field has, where such are rejected, and for one that isn't
 /// a text.
 #[cycle(read)]
 pub(crate) fn read_entries(
@@ -75,7 +75,7 @@ pub(crate) fn read_entries(
     }
 }
 
-// The fields by their names, in their order.
+// Reads the fields by their names, in their order.
 #[cycle(read)]
 #[tactic(auto, unfolding(qs_spec::specs::internal::ReadFunction::reads))]
 fn read_names(
@@ -98,7 +98,7 @@ fn read_names(
     Ok(members)
 }
 
-// A field by its name, if it isn't left out.
+// Reads a field by its name, if it isn't left out.
 #[cycle(read)]
 fn read_field(reader: Reader, field: &Field, entries: Entries<'_, '_>) -> Result<Option<Data>>
     requires { NumbersFit (entries_view entries) }
@@ -121,7 +121,7 @@ fn read_field(reader: Reader, field: &Field, entries: Entries<'_, '_>) -> Result
     }
 }
 
-// The fields by their indexes.
+// Reads the fields by their indexes.
 #[cycle(read)]
 #[tactic(auto, unfolding(qs_spec::specs::internal::ReadFunction::reads))]
 fn read_places(
@@ -143,7 +143,7 @@ fn read_places(
     Ok(members)
 }
 
-// A field by its index, if it isn't left out.
+// Reads a field by its index, if it isn't left out.
 #[cycle(read)]
 fn read_place(
     reader: Reader,

@@ -28,7 +28,7 @@ pub enum Items<'t, 'qs> {
     Places(&'t ParsedMap<'qs>),
 }
 
-/// The items of a node, if it has a list of them.
+/// Returns the items of a node, if it has a list of them.
 pub(crate) fn items_of<'t, 'qs>(
     alloc: Global,
     value: &'t ParsedValue<'qs>,
@@ -51,7 +51,7 @@ pub(crate) fn items_of<'t, 'qs>(
     }
 }
 
-/// Whether all keys of a map are integers.
+/// Returns whether all keys of a map are integers.
 pub(crate) fn are_integers(map: &ParsedMap<'_>) -> bool
     ensures { result ≡ are_ints (entries_of_map map.now) }
 {
@@ -79,7 +79,7 @@ impl<'t, 'qs> Items<'t, 'qs> {
         }
     }
 
-    /// The item at an index, if there are so many; rejected where a map has another key there.
+    /// Returns the item at an index, if there are so many; rejected where a map has another key there.
     #[inline(always)]
     pub(crate) fn at(self, alloc: Global, place: usize) -> Result<Option<&'t ParsedValue<'qs>>>
         ensures { ReadGives (option_map (λ v. tree_of v.now)) true result (first_item (drop place (items_view self.entry))) }
@@ -112,7 +112,7 @@ impl<'t, 'qs> Items<'t, 'qs> {
     }
 }
 
-// The value at an index of a map, whose key must be that index.
+// Returns the value at an index of a map, whose key must be that index.
 fn value_at<'t, 'qs>(
     alloc: Global,
     map: &'t ParsedMap<'qs>,
@@ -127,7 +127,7 @@ fn value_at<'t, 'qs>(
     Ok(Some(value))
 }
 
-// Whether a key is the index that is due, of which there are 4,294,967,295 at most.
+// Tests whether a key is the index that is due, of which there are 4,294,967,295 at most.
 fn test_place(alloc: Global, key: &Key<'_>, due: usize) -> Result<()>
     ensures { ReadGives (λ _. true) true result (passed (is_place due (segment_of_key key.now))) }
 {

@@ -80,7 +80,7 @@ pub(crate) fn key_data(alloc: Global, shape: &KeyShape, bytes: &[u8]) -> Result<
     }
 }
 
-// One of some names.
+// Reads one of some names.
 fn name_data(alloc: Global, names: &Vec<String>, bytes: &[u8]) -> Result<Data>
     ensures { ReadGives data_of (is_utf8 bytes.now) result (name_data (map string_bytes names.now.items) bytes.now) }
 {

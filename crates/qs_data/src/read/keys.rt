@@ -110,7 +110,7 @@ impl<'t, 'qs> Entries<'t, 'qs> {
     }
 }
 
-// The entry at an index of a map, its key as a string.
+// Returns the entry at an index of a map, its key as a string.
 fn entry_at<'t, 'qs>(
     alloc: Global,
     map: &'t ParsedMap<'qs>,
@@ -126,7 +126,7 @@ fn entry_at<'t, 'qs>(
     Ok(Some((text, value)))
 }
 
-/// The value under a name.
+/// Returns the value under a name.
 pub(crate) fn find<'t, 'qs>(entries: Entries<'t, 'qs>, name: &str) -> Found<'t, 'qs>
     requires { NumbersFit (entries_view entries) }
     ensures { Finds result (found name.now (entries_view entries.entry)) }
@@ -144,7 +144,7 @@ pub(crate) fn find<'t, 'qs>(entries: Entries<'t, 'qs>, name: &str) -> Found<'t, 
     }
 }
 
-// The same in a map: by the text, and by the integer that is written so.
+// Returns the value under a name in a map: by the text, and by the integer that is written so.
 fn find_in_map<'t, 'qs>(map: &'t ParsedMap<'qs>, name: &str) -> Found<'t, 'qs>
     requires { NumbersFit (entries_of_map map.now) }
     ensures { Finds result (found name.now (entries_of_map map.now)) }
@@ -156,7 +156,7 @@ fn find_in_map<'t, 'qs>(map: &'t ParsedMap<'qs>, name: &str) -> Found<'t, 'qs>
     }
 }
 
-// The only one of two values.
+// Returns the only one of two values.
 fn either<'t, 'qs>(
     a: Option<&'t ParsedValue<'qs>>,
     b: Option<&'t ParsedValue<'qs>>,
@@ -170,7 +170,7 @@ fn either<'t, 'qs>(
     }
 }
 
-// The number that is written so.
+// Returns the number that is written so.
 fn number_of(name: &str) -> Option<u32>
     ensures { ParsesNumber result name.now }
 {
@@ -190,7 +190,7 @@ fn number_of(name: &str) -> Option<u32>
     }
 }
 
-// Whether a text begins as numbers do.
+// Returns whether a text begins as numbers do.
 fn begins_with_a_digit(text: &[u8]) -> bool
     ensures { (n : ℕ) → n < 2 ^ 32 → decimal n ≡ text.now → IsTrue result }
 {
@@ -208,7 +208,7 @@ pub struct BrokenKey<'t> {
 }
 
 impl BrokenKey<'_> {
-    /// The error that says so.
+    /// Returns the error that says so.
     pub(crate) fn error(self, alloc: Global) -> ReadError
         ensures { IsKeyError self.entry.text.now (Utf8 self.entry.cause) result }
     {
@@ -223,7 +223,7 @@ impl BrokenKey<'_> {
     }
 }
 
-/// Whether all keys are texts, or the first that isn't.
+/// Tests whether all keys are texts, and returns the first that isn't.
 pub(crate) fn test_keys<'t>(entries: Entries<'t, '_>) -> Result<(), BrokenKey<'t>>
     ensures text { PassesTest result (keys_are_text (entries_view entries.entry)) }
     ensures fit { NumbersFit (entries_view entries.entry) }
@@ -235,7 +235,7 @@ pub(crate) fn test_keys<'t>(entries: Entries<'t, '_>) -> Result<(), BrokenKey<'t
     }
 }
 
-// The same of a map. All keys are looked at, so their numbers are known to have 32 bits whatever comes of the test.
+// Tests the keys of a map. All keys are looked at, so their numbers are known to have 32 bits whatever comes of the test.
 fn test_map<'t>(map: &'t ParsedMap<'_>) -> Result<(), BrokenKey<'t>>
     ensures text { PassesTest result (keys_are_text (entries_of_map map.now)) }
     ensures fit { NumbersFit (entries_of_map map.now) }
@@ -250,7 +250,7 @@ fn test_map<'t>(map: &'t ParsedMap<'_>) -> Result<(), BrokenKey<'t>>
     tested
 }
 
-// Whether a key is a text.
+// Tests whether a key is a text.
 fn test_key<'t>(key: &'t Key<'_>) -> Result<(), BrokenKey<'t>>
     ensures text { PassesTest result (is_utf8 (segment_text (segment_of_key key.now))) }
     ensures fit { KeyFits (segment_of_key key.now) }
@@ -264,7 +264,7 @@ fn test_key<'t>(key: &'t Key<'_>) -> Result<(), BrokenKey<'t>>
     }
 }
 
-// Whether bytes are a text. Most are ASCII, for which the test is faster.
+// Tests whether bytes are a text. Most are ASCII, for which the test is faster.
 #[tactic(auto, using(crate::proofs::lemmas::read::Errors::utf8_tests, crate::proofs::lemmas::read::Numbers::ascii_text))]
 fn test_text(text: &[u8]) -> Result<(), BrokenKey<'_>>
     ensures { PassesTest result (is_utf8 text.now) }

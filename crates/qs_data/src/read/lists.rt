@@ -18,7 +18,7 @@ use crate::read::message::{Expected, Message};
 use crate::shape::Shape;
 use qs_tree::ParsedValue;
 
-/// A list: the items of a node, all by one shape.
+/// Reads a list: the items of a node, all by one shape.
 #[cycle(read)]
 #[tactic(auto, unfolding(qs_spec::specs::internal::ReadFunction::read_list))]
 pub(crate) fn read_list(reader: Reader, part: &Shape, value: &ParsedValue<'_>) -> Result<Vec<Data>>
@@ -29,7 +29,7 @@ pub(crate) fn read_list(reader: Reader, part: &Shape, value: &ParsedValue<'_>) -
     read_each(reader, part, items)
 }
 
-/// Each item, by one shape.
+/// Reads each item, by one shape.
 #[cycle(read)]
 pub(crate) fn read_each(reader: Reader, part: &Shape, items: Items<'_, '_>) -> Result<Vec<Data>>
     ensures { ReadGives (λ v. map data_of v.items) (are_text (items_view items.entry)) result
@@ -45,7 +45,7 @@ pub(crate) fn read_each(reader: Reader, part: &Shape, items: Items<'_, '_>) -> R
     Ok(values)
 }
 
-/// A tuple: the first items of a node, each by its own shape.
+/// Reads a tuple: the first items of a node, each by its own shape.
 #[cycle(read)]
 #[inline(always)]
 pub(crate) fn read_tuple(
@@ -61,7 +61,7 @@ pub(crate) fn read_tuple(
     read_parts(reader, parts, items)
 }
 
-// The first items, each by its own shape.
+// Reads the first items, each by its own shape.
 #[cycle(read)]
 #[tactic(auto, unfolding(qs_spec::specs::internal::ReadFunction::reads))]
 fn read_parts(reader: Reader, parts: &Vec<Shape>, items: Items<'_, '_>) -> Result<Vec<Data>>

@@ -17,7 +17,7 @@ use crate::read::message::{Expected, Message};
 use crate::shape::{KeyShape, Shape};
 use qs_tree::{ParsedMap, ParsedValue};
 
-/// The pairs of a node: those of a map, and a text under the empty key.
+/// Reads the pairs of a node: those of a map, and a text under the empty key.
 #[cycle(read)]
 #[tactic(auto, unfolding(qs_spec::specs::internal::ReadFunction::read_map))]
 pub(crate) fn read_map(
@@ -41,7 +41,7 @@ pub(crate) fn read_map(
     }
 }
 
-/// The pairs of a map, in the order of its keys: of each the key first, and then the value.
+/// Reads the pairs of a map, in the order of its keys: of each the key first, and then the value.
 #[cycle(read)]
 pub(crate) fn read_pairs(
     reader: Reader,
@@ -64,7 +64,7 @@ pub(crate) fn read_pairs(
     Ok(pairs)
 }
 
-// A value under the empty key.
+// Reads a value under the empty key.
 #[cycle(read)]
 fn read_under_empty(
     reader: Reader,

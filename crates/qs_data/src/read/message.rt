@@ -76,14 +76,14 @@ pub(crate) enum Expected {
 }
 
 impl Message<'_> {
-    /// The error with this message, or that an allocation failed.
+    /// Returns the error with this message, or that an allocation failed.
     pub(crate) fn error(self, alloc: Global) -> ReadError
         ensures { ReadIsCustom result }
     {
         ReadError::saying(alloc, self)
     }
 
-    /// The error of a node of another kind than the one that is asked for.
+    /// Returns the error of a node of another kind than the one that is asked for.
     pub(crate) fn mismatch(alloc: Global, value: &ParsedValue<'_>, expected: Expected) -> ReadError
         ensures { ReadIsCustom result }
     {
@@ -97,7 +97,7 @@ impl Message<'_> {
         Message::InvalidType { found, expected }.error(alloc)
     }
 
-    /// The error of a string that can't be parsed as what is asked for.
+    /// Returns the error of a string that can't be parsed as what is asked for.
     pub(crate) fn unreadable(alloc: Global, expected: Expected) -> ReadError
         ensures { ReadIsCustom result }
     {
@@ -106,7 +106,7 @@ impl Message<'_> {
     }
 }
 
-/// The error of a key that can't be read, from why it can't: a hint follows it where the key holds a bracket.
+/// Returns the error of a key that can't be read, from why it can't: a hint follows it where the key holds a bracket.
 pub(crate) fn key_error(alloc: Global, key: &[u8], error: ReadError) -> ReadError
     ensures { IsKeyError key.now error result }
 {

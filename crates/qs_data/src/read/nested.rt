@@ -84,7 +84,7 @@ pub(crate) fn visit<'t, 'qs>(alloc: Global, value: &'t ParsedValue<'qs>) -> Resu
 }
 
 impl<'t, 'qs> Frame<'t, 'qs> {
-    // A list of which nothing is read yet.
+    // Returns a list of which nothing is read yet.
     fn list(alloc: Global, items: Items<'t, 'qs>) -> Self
         ensures value { frame_data result ≡ option_map (λ ds. sequence (values_of ds)) (read_each any_data (items_view items.entry)) }
         ensures text { frame_is_text result ≡ are_text (items_view items.entry) }
@@ -97,7 +97,7 @@ impl<'t, 'qs> Frame<'t, 'qs> {
         })
     }
 
-    // A map of which nothing is read yet.
+    // Returns a map of which nothing is read yet.
     fn map(alloc: Global, entries: &'t ParsedMap<'qs>) -> Self
         ensures value { frame_data result ≡ option_map (λ ps. mapping (pairs_of ps)) (read_pairs text any_data (entries_of_map entries.now)) }
         ensures text { frame_is_text result ≡ entries_are_text (entries_of_map entries.now) }
@@ -132,7 +132,7 @@ impl<'t, 'qs> Frame<'t, 'qs> {
         }
     }
 
-    /// What was read, where nothing is left.
+    /// Returns what was read, where nothing is left.
     pub fn done(self) -> Data
         ensures { data_of result ≡ done_of self.entry }
     {
@@ -161,7 +161,7 @@ impl Drop for MapFrame<'_, '_> {
 }
 
 impl<'t, 'qs> ListFrame<'t, 'qs> {
-    // What was read.
+    // Returns what was read.
     fn into_values(self) -> Vec<Data>
         ensures { result ≡ self.entry.values }
     {
@@ -203,7 +203,7 @@ impl<'t, 'qs> ListFrame<'t, 'qs> {
 }
 
 impl<'t, 'qs> MapFrame<'t, 'qs> {
-    // What was read.
+    // Returns what was read.
     fn into_pairs(self) -> Vec<(Data, Data)>
         ensures { result ≡ self.entry.pairs }
     {

@@ -23,7 +23,7 @@ use qs_tree::ParsedValue;
 use std::alloc::Global;
 use std::str;
 
-/// Nothing, where there is no value or an empty one.
+/// Reads the unit, where there is no value or an empty one.
 pub(crate) fn read_unit(alloc: Global, value: &ParsedValue<'_>) -> Result<Data>
     ensures gives { ReadGives data_of (is_text (tree_of value.now)) result (read_unit (tree_of value.now)) }
     ensures frugal { ReadIsFrugal result (read_unit (tree_of value.now)) }
@@ -38,7 +38,7 @@ pub(crate) fn read_unit(alloc: Global, value: &ParsedValue<'_>) -> Result<Data>
     }
 }
 
-/// A boolean: the last text, and true where there is none.
+/// Reads a boolean: the last text, and true where there is none.
 pub(crate) fn read_bool(reader: Reader, value: &ParsedValue<'_>) -> Result<Data>
     ensures gives { ReadGives data_of (is_text (tree_of value.now)) result
         (read_scalar reader.reject_duplicates (Some (d.boolean true)) boolean_data (tree_of value.now)) }
@@ -50,7 +50,7 @@ pub(crate) fn read_bool(reader: Reader, value: &ParsedValue<'_>) -> Result<Data>
     }
 }
 
-/// An unsigned number: the last text.
+/// Reads an unsigned number: the last text.
 #[inline(always)]
 pub(crate) fn read_unsigned(reader: Reader, width: Width, value: &ParsedValue<'_>) -> Result<Data>
     ensures gives { ReadGives data_of (is_text (tree_of value.now)) result
@@ -64,7 +64,7 @@ pub(crate) fn read_unsigned(reader: Reader, width: Width, value: &ParsedValue<'_
     }
 }
 
-/// A signed number: the last text.
+/// Reads a signed number: the last text.
 #[inline(always)]
 pub(crate) fn read_signed(reader: Reader, width: Width, value: &ParsedValue<'_>) -> Result<Data>
     ensures gives { ReadGives data_of (is_text (tree_of value.now)) result
@@ -78,7 +78,7 @@ pub(crate) fn read_signed(reader: Reader, width: Width, value: &ParsedValue<'_>)
     }
 }
 
-/// A character: a text of just one.
+/// Reads a character: a text of just one.
 pub(crate) fn read_char(alloc: Global, value: &ParsedValue<'_>) -> Result<Data>
     ensures gives { ReadGives data_of (is_text (tree_of value.now)) result (read_character (tree_of value.now)) }
     ensures frugal { ReadIsFrugal result (read_character (tree_of value.now)) }
@@ -89,7 +89,7 @@ pub(crate) fn read_char(alloc: Global, value: &ParsedValue<'_>) -> Result<Data>
     }
 }
 
-/// A text: the last one, and the empty one where there is none.
+/// Reads a text: the last one, and the empty one where there is none.
 #[inline(always)]
 pub(crate) fn read_text(reader: Reader, value: &ParsedValue<'_>) -> Result<Data>
     ensures { ReadGives data_of (is_text (tree_of value.now)) result (read_scalar reader.reject_duplicates (Some (d.text [])) text_data (tree_of value.now)) }
@@ -100,7 +100,7 @@ pub(crate) fn read_text(reader: Reader, value: &ParsedValue<'_>) -> Result<Data>
     }
 }
 
-/// Bytes: those of the last text, and none where there is none.
+/// Reads bytes: those of the last text, and none where there is none.
 pub(crate) fn read_bytes(reader: Reader, value: &ParsedValue<'_>) -> Result<Data>
     ensures { ReadGives data_of (is_text (tree_of value.now)) result
         (read_scalar reader.reject_duplicates (Some (d.bytes [])) (λ b. Some (d.bytes b)) (tree_of value.now)) }
@@ -111,7 +111,7 @@ pub(crate) fn read_bytes(reader: Reader, value: &ParsedValue<'_>) -> Result<Data
     }
 }
 
-// The last text of a node, if it has one; none where there is no value or an empty one.
+// Returns the last text of a node, if it has one; none where there is no value or an empty one.
 #[inline(always)]
 fn given_text<'t>(
     reader: Reader,
@@ -133,7 +133,7 @@ fn given_text<'t>(
     }
 }
 
-// The text of the last item; several items are rejected under `reject_duplicates`.
+// Returns the text of the last item; several items are rejected under `reject_duplicates`.
 fn last_text<'t>(
     reader: Reader,
     items: &'t [ParsedValue<'_>],
@@ -152,7 +152,7 @@ fn last_text<'t>(
     item_text(reader.alloc, last, expected)
 }
 
-// The text of an item, which is empty where there is no value or an empty one.
+// Returns the text of an item, which is empty where there is no value or an empty one.
 fn item_text<'t>(alloc: Global, value: &'t ParsedValue<'_>, expected: Expected) -> Result<&'t [u8]>
     ensures gives { ReadGives (λ b. b.now) true result (item_text (tree_of value.now)) }
     ensures frugal { ReadIsFrugal result (item_text (tree_of value.now)) }
@@ -164,7 +164,7 @@ fn item_text<'t>(alloc: Global, value: &'t ParsedValue<'_>, expected: Expected) 
     }
 }
 
-/// Bytes as text, where they are UTF-8.
+/// Returns bytes as text, where they are UTF-8.
 #[tactic(auto, using(crate::proofs::lemmas::read::Errors::utf8_tests))]
 pub(crate) fn as_text(bytes: &[u8]) -> Result<&str>
     ensures gives { ReadGives (λ s. s.now) (is_utf8 bytes.now) result (utf8_text bytes.now) }
@@ -211,7 +211,7 @@ pub(crate) fn signed_data(alloc: Global, width: Width, bytes: &[u8]) -> Result<D
     }
 }
 
-/// The one character of a text.
+/// Parses a character: a text of just one.
 pub(crate) fn char_data(alloc: Global, bytes: &[u8]) -> Result<Data>
     ensures gives { ReadGives data_of (is_utf8 bytes.now) result (character_data bytes.now) }
     ensures frugal { ReadIsFrugal result (character_data bytes.now) }
@@ -222,7 +222,7 @@ pub(crate) fn char_data(alloc: Global, bytes: &[u8]) -> Result<Data>
     }
 }
 
-/// A text, which must be UTF-8.
+/// Parses a text, which must be UTF-8.
 #[inline(always)]
 pub(crate) fn text_data(alloc: Global, bytes: &[u8]) -> Result<Data>
     ensures { ReadGives data_of (is_utf8 bytes.now) result (text_data bytes.now) }
@@ -231,7 +231,7 @@ pub(crate) fn text_data(alloc: Global, bytes: &[u8]) -> Result<Data>
     Ok(Data::Text(String::from_str(alloc, text)?))
 }
 
-// The number of a text, where it has this width.
+// Returns the number of a text, where it has this width.
 fn unsigned(width: Width, text: &str) -> Option<u64>
     ensures { result ≡ unsigned_number (bits_of width) text.now }
 {
@@ -247,7 +247,7 @@ fn unsigned(width: Width, text: &str) -> Option<u64>
     }
 }
 
-// The same of a signed number.
+// Returns the signed number of a text, where it has this width.
 fn signed(width: Width, text: &str) -> Option<i64>
     ensures { result ≡ signed_number (bits_of width) text.now }
 {

@@ -29,7 +29,7 @@ use itoa::Buffer;
 use qs_tree::{Key, ParsedMap, ParsedValue};
 use std::alloc::Global;
 
-/// One of the variants: the one that the smallest key of a map names, or the unit variant that a text names.
+/// Reads one of the variants: the one that the smallest key of a map names, or the unit variant that a text names.
 #[cycle(read)]
 #[tactic(auto, unfolding(qs_spec::specs::internal::ReadFunction::read_enum))]
 pub(crate) fn read_enum(
@@ -47,7 +47,7 @@ pub(crate) fn read_enum(
     }
 }
 
-// The unit variant of a name.
+// Reads the unit variant of a name.
 fn read_name(alloc: Global, variants: &[Variant], name: &[u8]) -> Result<Data>
     ensures { ReadGives data_of (is_utf8 name.now) result (unit_variant_data (variants_in variants.now) name.now) }
 {
@@ -64,7 +64,7 @@ fn read_name(alloc: Global, variants: &[Variant], name: &[u8]) -> Result<Data>
     Err(Message::InvalidType { found, expected }.error(alloc))
 }
 
-// The variant that the smallest key of a map names, of the value there. The other keys are passed over.
+// Reads the variant that the smallest key of a map names, of the value there. The other keys are passed over.
 #[cycle(read)]
 #[tactic(auto, unfolding(qs_spec::specs::internal::ReadFunction::read_enum))]
 fn read_least(reader: Reader, variants: &Vec<Variant>, map: &ParsedMap<'_>) -> Result<Data>
@@ -80,7 +80,7 @@ fn read_least(reader: Reader, variants: &Vec<Variant>, map: &ParsedMap<'_>) -> R
     read_variant(reader, &variants[place], value)
 }
 
-// The index of the variant that a key names.
+// Returns the index of the variant that a key names.
 fn place_of_key(alloc: Global, variants: &[Variant], key: &Key<'_>) -> Result<usize>
     ensures place { IfOk result (λ i. i < length variants.now) }
     ensures named { let name = segment_text (segment_of_key key.now) in
@@ -96,7 +96,7 @@ fn place_of_key(alloc: Global, variants: &[Variant], key: &Key<'_>) -> Result<us
     }
 }
 
-// The index of the variant of a name.
+// Returns the index of the variant of a name.
 fn place_of(alloc: Global, variants: &[Variant], name: &[u8]) -> Result<usize>
     ensures place { IfOk result (λ i. i < length variants.now) }
     ensures named { ReadGives (λ i. option_map variant_of (slice_get variants.now i)) (is_utf8 name.now) result
@@ -110,7 +110,7 @@ fn place_of(alloc: Global, variants: &[Variant], name: &[u8]) -> Result<usize>
     Err(Message::UnknownVariant(as_text(name)?).error(alloc))
 }
 
-// What a variant holds, of the value under its name.
+// Reads what a variant holds, of the value under its name.
 #[cycle(read)]
 #[tactic(auto, using(crate::proofs::lemmas::data::Levels::levels), unfolding(qs_spec::specs::internal::ReadFunction::reads))]
 fn read_variant(reader: Reader, variant: &Variant, value: &ParsedValue<'_>) -> Result<Data>
@@ -163,7 +163,7 @@ fn struct_variant_data(
     Ok(Data::StructVariant(name, members))
 }
 
-// The fields of a struct variant: those of a struct, where a text counts as a map with that text under the empty key.
+// Reads the fields of a struct variant: those of a struct, where a text counts as a map with that text under the empty key.
 #[cycle(read)]
 #[tactic(auto, unfolding(qs_spec::specs::internal::ReadFunction::struct_members))]
 fn read_variant_fields(

@@ -9,7 +9,7 @@ ghost use Rattle.qs_data.specs.shape.Views.{shape_of, kind_of, key_shape_of, sha
 use crate::shape::{Field, KeyShape, Shape, Variant, VariantKind};
 
 impl Shape {
-    /// Whether names differ: those of the fields in each struct and struct variant, and those of the variants in each
+    /// Returns whether names differ: those of the fields in each struct and struct variant, and those of the variants in each
     /// enum and key shape, at every depth. Only such a shape can be read.
     ///
     /// Each name is compared with the ones after it in its list. It takes stack with the depth of the shape, and doesn't allocate.
@@ -35,7 +35,7 @@ impl Shape {
     }
 }
 
-// Whether names differ in each shape.
+// Returns whether names differ in each shape.
 #[cycle(distinct)]
 fn are_distinct(shapes: &Vec<Shape>) -> bool
     ensures { result ≡ are_distinct (shapes_in shapes.now.items) }
@@ -48,7 +48,7 @@ fn are_distinct(shapes: &Vec<Shape>) -> bool
     true
 }
 
-// Whether the names of fields differ, and those in the shape of each.
+// Returns whether the names of fields differ, and those in the shape of each.
 #[cycle(distinct)]
 fn is_distinct_struct(fields: &Vec<Field>) -> bool
     ensures { result ≡ (field_names_differ (fields_in fields.now.items) && are_distinct_fields (fields_in fields.now.items)) }
@@ -56,7 +56,7 @@ fn is_distinct_struct(fields: &Vec<Field>) -> bool
     field_names_differ(fields) && are_distinct_fields(fields)
 }
 
-// Whether names differ in the shape of each field.
+// Returns whether names differ in the shape of each field.
 #[cycle(distinct)]
 fn are_distinct_fields(fields: &Vec<Field>) -> bool
     ensures { result ≡ are_distinct_fields (fields_in fields.now.items) }
@@ -69,7 +69,7 @@ fn are_distinct_fields(fields: &Vec<Field>) -> bool
     true
 }
 
-// Whether names differ in what each variant holds.
+// Returns whether names differ in what each variant holds.
 #[cycle(distinct)]
 fn are_distinct_variants(variants: &Vec<Variant>) -> bool
     ensures { result ≡ are_distinct_variants (variants_in variants.now.items) }
@@ -82,7 +82,7 @@ fn are_distinct_variants(variants: &Vec<Variant>) -> bool
     true
 }
 
-// Whether names differ in what a variant holds.
+// Returns whether names differ in what a variant holds.
 #[cycle(distinct)]
 fn is_distinct_kind(kind: &VariantKind) -> bool
     ensures { result ≡ is_distinct_kind (kind_of kind.now) }
@@ -97,7 +97,7 @@ fn is_distinct_kind(kind: &VariantKind) -> bool
     }
 }
 
-// Whether names differ in the shape of a key.
+// Returns whether names differ in the shape of a key.
 fn is_distinct_key(key: &KeyShape) -> bool
     ensures { result ≡ is_distinct_key (key_shape_of key.now) }
 {
@@ -107,7 +107,7 @@ fn is_distinct_key(key: &KeyShape) -> bool
     }
 }
 
-// Whether the names of fields differ.
+// Returns whether the names of fields differ.
 fn field_names_differ(fields: &[Field]) -> bool
     ensures { result ≡ field_names_differ (fields_in fields.now) }
 {
@@ -119,7 +119,7 @@ fn field_names_differ(fields: &[Field]) -> bool
     true
 }
 
-/// Whether the text of a key is one of the fields' names.
+/// Returns whether the text of a key is one of the fields' names.
 pub(crate) fn is_field_name(fields: &[Field], name: &[u8]) -> bool
     ensures { result ≡ is_field_name name.now (fields_in fields.now) }
 {
@@ -131,7 +131,7 @@ pub(crate) fn is_field_name(fields: &[Field], name: &[u8]) -> bool
     false
 }
 
-// Whether the names of variants differ.
+// Returns whether the names of variants differ.
 fn variant_names_differ(variants: &[Variant]) -> bool
     ensures { result ≡ variant_names_differ (variants_in variants.now) }
 {
@@ -143,7 +143,7 @@ fn variant_names_differ(variants: &[Variant]) -> bool
     true
 }
 
-// Whether one of the variants has this name.
+// Returns whether one of the variants has this name.
 fn is_variant_name(variants: &[Variant], name: &str) -> bool
     ensures { result ≡ is_variant_name name.now (variants_in variants.now) }
 {
@@ -155,7 +155,7 @@ fn is_variant_name(variants: &[Variant], name: &str) -> bool
     false
 }
 
-// Whether names differ.
+// Returns whether names differ.
 fn names_differ(names: &[String]) -> bool
     ensures { result ≡ names_differ (map string_bytes names.now) }
 {
@@ -167,7 +167,7 @@ fn names_differ(names: &[String]) -> bool
     true
 }
 
-/// Whether a name is one of these.
+/// Returns whether a name is one of these.
 pub(crate) fn is_name(names: &[String], name: &str) -> bool
     ensures { result ≡ list_any (bytes_eq name.now) (map string_bytes names.now) }
 {

@@ -17,7 +17,7 @@ use crate::shape::fits::scalar::{
 use crate::shape::{Field, KeyShape, Shape, Variant, VariantKind, Width};
 
 impl Shape {
-    /// Whether the data are such as this shape reads: the same kinds in each position.
+    /// Returns whether the data are such as this shape reads: the same kinds in each position.
     ///
     /// Numbers lie in their width, an `Unsigned` in that of an unsigned shape and a `Signed` in that of a signed one. Variants and
     /// keys are of the shape. A tuple has the shape's length. The fields of a struct, and of a struct variant, are fields of the
@@ -38,7 +38,7 @@ impl Shape {
     }
 }
 
-// Whether data fit a shape.
+// Returns whether data fit a shape.
 #[cycle(fits)]
 fn fits(shape: &Shape, datum: &Data) -> bool
     ensures { result ≡ fits (shape_of shape.now) (data_of datum.now) }
@@ -68,7 +68,7 @@ fn fits(shape: &Shape, datum: &Data) -> bool
     }
 }
 
-// Whether data fit an option.
+// Returns whether data fit an option.
 #[cycle(fits)]
 fn fits_option(part: &Shape, datum: &Data) -> bool
     ensures { result ≡ fits (s.Shape.option (shape_of part.now)) (data_of datum.now) }
@@ -80,7 +80,7 @@ fn fits_option(part: &Shape, datum: &Data) -> bool
     }
 }
 
-// Whether data fit a value in a type of its own.
+// Returns whether data fit a value in a type of its own.
 #[cycle(fits)]
 fn fits_newtype(part: &Shape, datum: &Data) -> bool
     ensures { result ≡ fits (s.Shape.newtype (shape_of part.now)) (data_of datum.now) }
@@ -91,7 +91,7 @@ fn fits_newtype(part: &Shape, datum: &Data) -> bool
     }
 }
 
-// Whether data fit a list.
+// Returns whether data fit a list.
 #[cycle(fits)]
 fn fits_seq(part: &Shape, datum: &Data) -> bool
     ensures { result ≡ fits (s.Shape.sequence (shape_of part.now)) (data_of datum.now) }
@@ -102,7 +102,7 @@ fn fits_seq(part: &Shape, datum: &Data) -> bool
     }
 }
 
-// Whether each item fits a shape.
+// Returns whether each item fits a shape.
 #[cycle(fits)]
 fn each_fits(part: &Shape, items: &Vec<Data>) -> bool
     ensures { result ≡ each_fits (shape_of part.now) (values_in items.now.items) }
@@ -115,7 +115,7 @@ fn each_fits(part: &Shape, items: &Vec<Data>) -> bool
     true
 }
 
-// Whether data fit a tuple.
+// Returns whether data fit a tuple.
 #[cycle(fits)]
 fn fits_tuple(parts: &Vec<Shape>, datum: &Data) -> bool
     ensures { result ≡ fits (s.Shape.tuple (shapes_in parts.now.items)) (data_of datum.now) }
@@ -126,7 +126,7 @@ fn fits_tuple(parts: &Vec<Shape>, datum: &Data) -> bool
     }
 }
 
-// As many items as there are shapes, each by its shape.
+// Returns whether there are as many items as shapes, and each fits its shape.
 #[cycle(fits)]
 fn fits_items(parts: &Vec<Shape>, items: &Vec<Data>) -> bool
     ensures { result ≡ fits_tuple (shapes_in parts.now.items) (values_in items.now.items) }
@@ -142,7 +142,7 @@ fn fits_items(parts: &Vec<Shape>, items: &Vec<Data>) -> bool
     items[parts.len()..].is_empty()
 }
 
-// Whether data fit a map.
+// Returns whether data fit a map.
 #[cycle(fits)]
 fn fits_map(key: &KeyShape, part: &Shape, datum: &Data) -> bool
     ensures { result ≡ fits (s.Shape.mapping (key_shape_of key.now) (shape_of part.now)) (data_of datum.now) }
@@ -153,7 +153,7 @@ fn fits_map(key: &KeyShape, part: &Shape, datum: &Data) -> bool
     }
 }
 
-// Whether each key and each value fits.
+// Returns whether each key and each value fits.
 #[cycle(fits)]
 fn fits_pairs(key: &KeyShape, part: &Shape, pairs: &Vec<(Data, Data)>) -> bool
     ensures { result ≡ fits_pairs (key_shape_of key.now) (shape_of part.now) (pairs_in pairs.now.items) }
@@ -166,7 +166,7 @@ fn fits_pairs(key: &KeyShape, part: &Shape, pairs: &Vec<(Data, Data)>) -> bool
     true
 }
 
-// Whether data fit a struct.
+// Returns whether data fit a struct.
 #[cycle(fits)]
 #[tactic(auto, using(crate::proofs::lemmas::data::Levels::levels))]
 fn fits_struct(fields: &Vec<Field>, datum: &Data) -> bool
@@ -179,7 +179,7 @@ fn fits_struct(fields: &Vec<Field>, datum: &Data) -> bool
     }
 }
 
-// The members are fields in their order, and each field that isn't optional is there.
+// Returns whether the members are fields in their order, and each field that isn't optional is there.
 #[cycle(fits)]
 fn fits_fields(fields: &Vec<Field>, members: &Vec<(String, Data)>) -> bool
     ensures { result ≡ fits_fields (fields_in fields.now.items) (members_in members.now.items) }
@@ -194,7 +194,7 @@ fn fits_fields(fields: &Vec<Field>, members: &Vec<(String, Data)>) -> bool
     members[at..].is_empty()
 }
 
-// Where the members that are left begin, if the next one fits the field or the field is optional.
+// Returns where the members that are left begin, if the next one fits the field or the field is optional.
 #[cycle(fits)]
 fn fits_field(field: &Field, members: &Vec<(String, Data)>, at: usize) -> Option<usize>
     requires { at ≤ length members.now.items }
@@ -211,7 +211,7 @@ fn fits_field(field: &Field, members: &Vec<(String, Data)>, at: usize) -> Option
     }
 }
 
-// Whether the first member has this name.
+// Returns whether the first member has this name.
 fn is_next(members: &[(String, Data)], name: &str) -> bool
     ensures { result ≡ is_next name.now (members_in members.now) }
 {
@@ -221,7 +221,7 @@ fn is_next(members: &[(String, Data)], name: &str) -> bool
     }
 }
 
-// Whether data fit an enum.
+// Returns whether data fit an enum.
 #[cycle(fits)]
 #[tactic(auto, using(crate::proofs::lemmas::data::Levels::levels))]
 fn fits_enum(variants: &Vec<Variant>, datum: &Data) -> bool
@@ -236,7 +236,7 @@ fn fits_enum(variants: &Vec<Variant>, datum: &Data) -> bool
     }
 }
 
-// The variant of a name is of the kind of the data.
+// Returns whether the variant of a name is of the kind of the data.
 #[cycle(fits)]
 #[tactic(auto, using(crate::proofs::lemmas::shape::Fitting::no_kind))]
 fn fits_named(variants: &Vec<Variant>, name: &str, datum: &Data) -> bool
@@ -250,7 +250,7 @@ fn fits_named(variants: &Vec<Variant>, name: &str, datum: &Data) -> bool
     false
 }
 
-// Whether data are a variant of this kind, and what they hold fits.
+// Returns whether data are a variant of this kind, and what they hold fits.
 #[cycle(fits)]
 fn fits_kind(kind: &VariantKind, datum: &Data) -> bool
     ensures { result ≡ fits_variant (Some (view.kind_of kind.now)) (data_of datum.now) }
@@ -265,14 +265,14 @@ fn fits_kind(kind: &VariantKind, datum: &Data) -> bool
     }
 }
 
-// Whether data are a variant that holds nothing.
+// Returns whether data are a variant that holds nothing.
 fn is_unit_variant(datum: &Data) -> bool
     ensures { result ≡ fits_variant (Some s.unit_kind) (data_of datum.now) }
 {
     matches!(datum, Data::UnitVariant(_))
 }
 
-// Whether data are a variant with a value that fits.
+// Returns whether data are a variant with a value that fits.
 #[cycle(fits)]
 fn fits_newtype_variant(part: &Shape, datum: &Data) -> bool
     ensures { result ≡ fits_variant (Some (s.newtype_kind (shape_of part.now))) (data_of datum.now) }
@@ -283,7 +283,7 @@ fn fits_newtype_variant(part: &Shape, datum: &Data) -> bool
     }
 }
 
-// Whether data are a variant with items that fit.
+// Returns whether data are a variant with items that fit.
 #[cycle(fits)]
 fn fits_tuple_variant(parts: &Vec<Shape>, datum: &Data) -> bool
     ensures { result ≡ fits_variant (Some (s.tuple_kind (shapes_in parts.now.items))) (data_of datum.now) }
@@ -294,7 +294,7 @@ fn fits_tuple_variant(parts: &Vec<Shape>, datum: &Data) -> bool
     }
 }
 
-// Whether data are a variant with fields that fit.
+// Returns whether data are a variant with fields that fit.
 #[cycle(fits)]
 #[tactic(auto, using(crate::proofs::lemmas::data::Levels::levels))]
 fn fits_struct_variant(fields: &Vec<Field>, datum: &Data) -> bool

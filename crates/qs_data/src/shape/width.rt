@@ -15,7 +15,7 @@ pub enum Width {
 }
 
 impl Width {
-    /// The greatest unsigned number of this width.
+    /// Returns the greatest unsigned number of this width.
     pub(crate) fn unsigned_max(self) -> u64
         ensures { result ≡ 2 ^ bits_of self - 1 }
     {
@@ -27,7 +27,7 @@ impl Width {
         }
     }
 
-    /// The greatest signed number of this width.
+    /// Returns the greatest signed number of this width.
     pub(crate) fn signed_max(self) -> i64
         ensures { result ≡ pos (2 ^ (bits_of self - 1) - 1) }
     {
@@ -39,7 +39,7 @@ impl Width {
         }
     }
 
-    /// The least signed number of this width.
+    /// Returns the smallest signed number of this width.
     pub(crate) fn signed_min(self) -> i64
         ensures { result ≡ neg_ℤ (pos (2 ^ (bits_of self - 1))) }
     {

@@ -40,7 +40,7 @@ pub(crate) struct Walk {
 }
 
 impl Walk {
-    /// A walk that begins at the top.
+    /// Returns a walk that begins at the top.
     pub(crate) fn new(alloc: Global, config: Config) -> Walk
         ensures { IsAt config [] result }
     {
@@ -95,7 +95,7 @@ fn append_segment(out: &mut Text, form: bool, segment: Scalar<'_>) -> Result<(),
     Ok(())
 }
 
-/// How a bracket that opens, and one that closes, is written.
+/// Returns how a bracket that opens, and one that closes, is written.
 fn brackets(form: bool) -> (&'static str, &'static str)
     ensures open { result.0.now ≡ open_bytes form }
     ensures close { result.1.now ≡ close_bytes form }
@@ -160,7 +160,7 @@ pub(crate) fn put_empty<S: Sink>(stream: &mut Stream<S>, walk: &mut Walk) -> Res
     Ok(())
 }
 
-/// How much of the text is left out: the `&` where no entry with a key was put before.
+/// Returns how much of the text is left out: the `&` where no entry with a key was put before.
 fn skipped(started: bool, len: usize) -> usize
     ensures skips { result ≡ cond (started || len == 0) 0 1 }
     ensures within { result ≤ len }

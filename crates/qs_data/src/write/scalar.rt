@@ -32,7 +32,7 @@ pub enum Scalar<'a> {
 }
 
 impl<'a> Scalar<'a> {
-    /// The scalar that the data are, where they are one.
+    /// Returns the scalar that the data are, where they are one.
     #[tactic(auto, using(crate::proofs::lemmas::data::Levels::levels))]
     pub(crate) fn of(datum: &'a Data) -> Option<Scalar<'a>>
         ensures { option_map scalar_text result ≡ key_text (data_of datum.now) }
@@ -53,7 +53,7 @@ impl<'a> Scalar<'a> {
         }
     }
 
-    /// Whether its text is empty. Digits, words and characters aren't.
+    /// Returns whether its text is empty. Digits, words and characters aren't.
     pub(crate) fn is_empty(self) -> bool
         ensures { result ≡ is_empty_text (Some (scalar_text self.entry)) }
     {
@@ -66,7 +66,7 @@ impl<'a> Scalar<'a> {
         }
     }
 
-    /// Its bytes, where they are too many to be copied before they are put, or none.
+    /// Returns its bytes, where they are too many to be copied before they are put, or none.
     #[inline(always)]
     pub(crate) fn long_bytes(self) -> &'a [u8]
         ensures which { (length result.now ≡ 0) ⊎ (result.now ≡ scalar_text self.entry) }
@@ -101,7 +101,7 @@ pub(crate) fn word(value: bool) -> &'static str
     if value { "true" } else { "false" }
 }
 
-/// The bytes, where they are too many to be copied before they are put, or none.
+/// Returns the bytes, where they are too many to be copied before they are put, or none.
 fn long(bytes: &[u8]) -> &[u8]
     ensures which { (length result.now ≡ 0) ⊎ (result.now ≡ bytes.now) }
     ensures visible { (form : Bool) → All IsVisible (encoded form result.now) }

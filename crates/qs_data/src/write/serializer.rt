@@ -44,7 +44,7 @@ impl<S: Sink> Model for Serializer<S> {
 }
 
 impl<W: Write + Drop> Serializer<ByWrite<W>> {
-    /// A serializer that writes to this writer, one `write` for each put. Nothing is written yet, and nothing is
+    /// Returns a serializer that writes to this writer, one `write` for each put. Nothing is written yet, and nothing is
     /// allocated.
     pub fn new(writer: W, config: Config) -> Serializer<ByWrite<W>>
         ensures config { result.config ≡ config }
@@ -62,7 +62,7 @@ impl<S: Sink> Serializer<S> {
     ghost use Rattle.qs_data.specs.write.State.{IsVisible, IsBare};
     ghost use Rattle.qs_data.specs.write.Errors.{IsWriteError};
 
-    /// A serializer over a sink that has not failed. Nothing is put yet, and nothing is allocated.
+    /// Returns a serializer over a sink that has not failed. Nothing is put yet, and nothing is allocated.
     ///
     /// ```
     /// let serializer = Serializer::over(ByWrite::new(out), Config::new());
@@ -84,7 +84,7 @@ impl<S: Sink> Serializer<S> {
         }
     }
 
-    /// The sink, with all that was put to it. Doesn't allocate.
+    /// Returns the sink, with all that was put to it. Doesn't allocate.
     ///
     /// ```
     /// let out = serializer.into_sink().into_writer();

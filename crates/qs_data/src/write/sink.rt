@@ -40,7 +40,7 @@ pub trait Sink {
         ensures fails { failed self.new ≡ (failed self.old || put_fails result bytes.now) }
         ensures same_writer { writer_name self.new ≡ writer_name self.old };
 
-    /// Whether a put ever failed.
+    /// Returns whether a put ever failed.
     fn has_failed(&self) -> bool
         ensures { result ≡ failed self.now };
 }
@@ -53,7 +53,7 @@ pub struct ByWrite<W: Write + Drop> {
 }
 
 impl<W: Write + Drop> ByWrite<W> {
-    /// The sink of this writer. Nothing is written yet, and nothing is allocated.
+    /// Returns the sink of this writer. Nothing is written yet, and nothing is allocated.
     pub fn new(writer: W) -> ByWrite<W>
         ensures writer { result.writer ≡ writer }
         ensures fresh { result.failed ≡ false }
@@ -64,7 +64,7 @@ impl<W: Write + Drop> ByWrite<W> {
         }
     }
 
-    /// The writer, with all that was written to it. Doesn't allocate.
+    /// Returns the writer, with all that was written to it. Doesn't allocate.
     pub fn into_writer(self) -> W
         ensures { result ≡ self.writer }
     {

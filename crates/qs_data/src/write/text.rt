@@ -25,7 +25,7 @@ impl Model for Text {
 }
 
 impl Text {
-    /// No text. Nothing is allocated.
+    /// Returns a buffer without text. Nothing is allocated.
     pub(crate) fn new(alloc: Global) -> Text
         ensures { result ≡ [] }
     {
@@ -35,7 +35,7 @@ impl Text {
         }
     }
 
-    /// How many bytes it has.
+    /// Returns how many bytes it has.
     pub(crate) fn len(&self) -> usize
         ensures value { result ≡ length self.now }
         ensures few { result < usize.MAX }
@@ -43,7 +43,7 @@ impl Text {
         self.len
     }
 
-    /// The bytes after so many.
+    /// Returns the bytes after so many.
     pub(crate) fn after(&self, start: usize) -> &[u8]
         requires { start ≤ length self.now }
         ensures { result.now ≡ drop start self.now }
@@ -97,7 +97,7 @@ fn make_room(room: &mut Vec<u8>, len: usize, more: usize) -> Result<(), AllocErr
     grow(room, len, more)
 }
 
-/// The same where there is less room: for twice the bytes at least, so that growing is rare.
+/// Makes room where there is less: for at least twice the bytes, so that growing is rare.
 #[inline(never)]
 fn grow(room: &mut Vec<u8>, len: usize, more: usize) -> Result<(), AllocError>
     requires { len ≤ length room.old.items }

@@ -180,7 +180,7 @@ fn accepted_after<R: Abort>(
     Ok(accepted)
 }
 
-// Ten have a tree: six without below that don't begin with plain and push, and four that begin with below and hold no push.
+// Ten have a tree: six without below that don't begin with direct and push, and four that begin with below and hold no push.
 #[test]
 fn three_pairs(rt: HostRuntime) -> Result<(), Fail> {
     let mut accepted = 0u32;

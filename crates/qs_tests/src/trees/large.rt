@@ -120,7 +120,7 @@ fn an_escaped_key(rt: HostRuntime) -> Result<(), Fail> {
     )
 }
 
-// The first fault of the input is reported.
+// The first error of the input is reported.
 #[test]
 fn faults(rt: HostRuntime) -> Result<(), Fail> {
     let alloc = rt.alloc();

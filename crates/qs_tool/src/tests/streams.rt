@@ -20,8 +20,8 @@ enum End {
 }
 
 impl End {
-    // What a read or write returns at this end.
-    fn meet(self) -> io::Result<usize>
+    // Returns what a read or write returns at this end.
+    fn outcome(self) -> io::Result<usize>
         ensures { IfOk result (λ count. count ≡ 0) }
     {
         match self {
@@ -42,7 +42,7 @@ struct Source<'a> {
 impl Read for Source<'_> {
     fn read(&mut self, buf: &mut [u8]) -> io::Result<usize> {
         let [byte, rest @ ..] = self.rest else {
-            return self.end.meet();
+            return self.end.outcome();
         };
         let [place, ..] = buf else {
             return Ok(0);
@@ -79,7 +79,7 @@ struct Target {
 impl Write for Target {
     fn write(&mut self, buf: &[u8]) -> io::Result<usize> {
         if self.room == 0 {
-            return self.end.meet();
+            return self.end.outcome();
         }
         let count = buf.len().min(self.step).min(self.room);
         self.held.extend_from_slice(&buf[..count])?;

@@ -90,7 +90,7 @@ unit_at name vs d h =
 pub no_unit : (name : List ℕ) (vs : List Variant) → option_map Some (variant_named name (variants_in vs)) ≡ None → unit_variant_data (variants_in vs) name ≡ None
 no_unit name vs h = unit_named (variants_in vs) name ∙ ap (option_and_then (λ x. cond (is_unit_kind x.1) (Some (Data.unit_variant x.0)) None)) (not_named (variant_named name (variants_in vs)) h)
 
--- what an enum reads of a map whose least entry is known
+-- what an enum reads of a map whose first entry is known
 module _ (reject_duplicates : Bool) (vs : Variants) (es more : Entries) (k : Segment) (m : Bool) (t : Tree) (least : es ≡ entry k m t more) where
   enum_at : read_enum vs (reads_variant reject_duplicates vs) (mapping es) ≡ option_and_then (λ x. reads_kind reject_duplicates x.1 x.0 t) (variant_named (segment_text k) vs)
   unfolding read_enum

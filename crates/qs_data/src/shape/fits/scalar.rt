@@ -13,14 +13,14 @@ use crate::data::Data;
 use crate::shape::distinct::is_name;
 use crate::shape::{KeyShape, Width};
 
-/// Whether data are no value.
+/// Returns whether data are no value.
 pub(super) fn is_unit(datum: &Data) -> bool
     ensures { result ≡ fits s.Shape.unit (data_of datum.now) }
 {
     matches!(datum, Data::Unit)
 }
 
-/// Whether data are a boolean.
+/// Returns whether data are a boolean.
 pub(super) fn is_bool(datum: &Data) -> bool
     ensures shape { result ≡ fits s.Shape.boolean (data_of datum.now) }
     ensures key { result ≡ fits_key s.KeyShape.boolean (data_of datum.now) }
@@ -28,7 +28,7 @@ pub(super) fn is_bool(datum: &Data) -> bool
     matches!(datum, Data::Bool(_))
 }
 
-/// Whether data are an unsigned number of this width.
+/// Returns whether data are an unsigned number of this width.
 pub(super) fn is_unsigned(width: Width, datum: &Data) -> bool
     ensures shape { result ≡ fits (s.Shape.unsigned (bits_of width)) (data_of datum.now) }
     ensures key { result ≡ fits_key (s.KeyShape.unsigned (bits_of width)) (data_of datum.now) }
@@ -39,14 +39,14 @@ pub(super) fn is_unsigned(width: Width, datum: &Data) -> bool
     }
 }
 
-// Whether an unsigned number has this width.
+// Returns whether an unsigned number has this width.
 fn has_width(width: Width, n: u64) -> bool
     ensures { result ≡ fits_unsigned (bits_of width) n }
 {
     n <= width.unsigned_max()
 }
 
-/// Whether data are a signed number of this width.
+/// Returns whether data are a signed number of this width.
 pub(super) fn is_signed(width: Width, datum: &Data) -> bool
     ensures shape { result ≡ fits (s.Shape.signed (bits_of width)) (data_of datum.now) }
     ensures key { result ≡ fits_key (s.KeyShape.signed (bits_of width)) (data_of datum.now) }
@@ -57,14 +57,14 @@ pub(super) fn is_signed(width: Width, datum: &Data) -> bool
     }
 }
 
-// Whether a signed number has this width.
+// Returns whether a signed number has this width.
 fn has_signed_width(width: Width, n: i64) -> bool
     ensures { result ≡ fits_signed (bits_of width) n }
 {
     width.signed_min() <= n && n <= width.signed_max()
 }
 
-/// Whether data are a character.
+/// Returns whether data are a character.
 pub(super) fn is_char(datum: &Data) -> bool
     ensures shape { result ≡ fits s.Shape.character (data_of datum.now) }
     ensures key { result ≡ fits_key s.KeyShape.character (data_of datum.now) }
@@ -75,7 +75,7 @@ pub(super) fn is_char(datum: &Data) -> bool
     }
 }
 
-// Each character is a Unicode scalar value.
+// Returns whether each character is a Unicode scalar value.
 fn is_any_char(c: char) -> bool
     ensures { result ≡ is_scalar c }
 {
@@ -83,7 +83,7 @@ fn is_any_char(c: char) -> bool
     true
 }
 
-/// Whether data are a text.
+/// Returns whether data are a text.
 pub(super) fn is_text(datum: &Data) -> bool
     ensures shape { result ≡ fits s.Shape.text (data_of datum.now) }
     ensures key { result ≡ fits_key s.KeyShape.text (data_of datum.now) }
@@ -94,7 +94,7 @@ pub(super) fn is_text(datum: &Data) -> bool
     }
 }
 
-// Each text, also a name, is UTF-8.
+// Returns whether each text, also a name, is UTF-8.
 pub(super) fn is_any_text(text: &String) -> bool
     ensures { result ≡ is_utf8 (string_bytes text.now) }
 {
@@ -102,7 +102,7 @@ pub(super) fn is_any_text(text: &String) -> bool
     true
 }
 
-/// Whether data are bytes.
+/// Returns whether data are bytes.
 pub(super) fn is_bytes(datum: &Data) -> bool
     ensures { result ≡ fits s.Shape.bytes (data_of datum.now) }
 {
@@ -112,7 +112,7 @@ pub(super) fn is_bytes(datum: &Data) -> bool
     }
 }
 
-// Each byte is below 256.
+// Returns whether each byte is below 256.
 fn are_bytes(bytes: &[u8]) -> bool
     ensures { result ≡ list_all is_byte bytes.now }
 {
@@ -120,7 +120,7 @@ fn are_bytes(bytes: &[u8]) -> bool
     true
 }
 
-/// Whether data fit the shape of a key.
+/// Returns whether data fit the shape of a key.
 pub(super) fn fits_key(key: &KeyShape, datum: &Data) -> bool
     ensures { result ≡ fits_key (key_shape_of key.now) (data_of datum.now) }
 {
@@ -140,7 +140,7 @@ pub(super) fn fits_key(key: &KeyShape, datum: &Data) -> bool
     }
 }
 
-// A unit variant of one of the names.
+// Returns whether data are a unit variant of one of the names.
 fn is_named(names: &Vec<String>, datum: &Data) -> bool
     ensures { result ≡ fits_key (s.KeyShape.variants (map string_bytes names.now.items)) (data_of datum.now) }
 {

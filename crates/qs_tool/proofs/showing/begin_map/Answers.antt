@@ -12,7 +12,7 @@ returns-in_ok-push-in-Some-3-clause-ok c =
     let value = codes ":" ++ shown (data_of pair.1) in
     let left = text_of_more _ _ _ c.in_ok-push-in-Some-3.ensures.items ∙ ap (λ l. key ++ l) (text_of_more _ _ _ c.in_ok-push-in-Some-2.ensures.items)
     ∙ sym (append_assoc key value _) ∙ ap (λ l. (key ++ value) ++ l) (text_of_more _ _ _ c.in_ok-push-in-Some.ensures.items) in
-    subst (λ ps. Begins (in_braces (shown_pairs (pairs_in ps))) c.args.line.now.items c.args.pile.now.items c.push.new.self.items c.push-in-Some-3.new.self.items)
+    subst (λ ps. Begins (in_braces (shown_pairs (pairs_in ps))) c.args.line.now.items c.args.stack.now.items c.push.new.self.items c.push-in-Some-3.new.self.items)
     (sym c.in-Some.ensures.cases.0)
-    (begins_listed (codes "{") (codes "}") (key ++ value) (shown_pairs (pairs_in c.in-Some.rest.now)) c.args.line.now.items c.args.pile.now.items
+    (begins_listed (codes "{") (codes "}") (key ++ value) (shown_pairs (pairs_in c.in-Some.rest.now)) c.args.line.now.items c.args.stack.now.items
     c.push.new.self.items c.push-in-Some-3.new.self.items (omega arith) c.in_ok-push.ensures.items left)

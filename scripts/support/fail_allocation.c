@@ -1,4 +1,4 @@
-/* Loaded before the C library: refuses the allocation whose number the environment names, and says so by a byte to descriptor 9. */
+/* Loaded before the C library: makes the allocation fail whose number the environment names, and says so by a byte to descriptor 9. */
 typedef unsigned long size;
 
 extern void *__libc_malloc(size);
@@ -10,9 +10,9 @@ extern long write(int, const void *, size);
 static long calls = 0;
 static long wanted = -1;
 
-static int is_refused(void) {
+static int fails(void) {
     if (wanted < 0) {
-        const char *word = getenv("REFUSED_ALLOCATION");
+        const char *word = getenv("FAILING_ALLOCATION");
         wanted = 0;
         for (; word && *word >= '0' && *word <= '9'; word++) {
             wanted = 10 * wanted + (*word - '0');
@@ -26,8 +26,8 @@ static int is_refused(void) {
     return 1;
 }
 
-void *malloc(size bytes) { return is_refused() ? 0 : __libc_malloc(bytes); }
+void *malloc(size bytes) { return fails() ? 0 : __libc_malloc(bytes); }
 
-void *calloc(size count, size bytes) { return is_refused() ? 0 : __libc_calloc(count, bytes); }
+void *calloc(size count, size bytes) { return fails() ? 0 : __libc_calloc(count, bytes); }
 
-void *realloc(void *at, size bytes) { return is_refused() ? 0 : __libc_realloc(at, bytes); }
+void *realloc(void *at, size bytes) { return fails() ? 0 : __libc_realloc(at, bytes); }

@@ -17,7 +17,7 @@ pub(crate) struct Load {
     pub(crate) each: usize,
 }
 
-/// The load with a number, if there are so many.
+/// Returns the load with a number, if there are so many.
 pub(crate) fn numbered_load(alloc: Global, number: usize) -> Result<Option<Load>, AllocError>
     ensures { IfOk result (λ found. IfSome found (λ load. slice_get spec.loads number ≡ Some (shape_of load.shape, load.each))) }
 {
@@ -34,7 +34,7 @@ pub(crate) fn numbered_load(alloc: Global, number: usize) -> Result<Option<Load>
     Ok(Some(Load { shape, each }))
 }
 
-// A record of ten entries.
+// Returns the shape of a record of ten entries.
 fn record(alloc: Global) -> Result<Shape, AllocError>
     ensures { IfOk result (λ shape. shape_of shape ≡ spec.record_of_ten) }
 {
@@ -68,7 +68,7 @@ fn person(alloc: Global) -> Result<Shape, AllocError>
     Ok(Shape::Struct(fields))
 }
 
-// A text five keys deep.
+// Returns the shape of a text five keys deep.
 fn nested(alloc: Global) -> Result<Shape, AllocError>
     ensures { IfOk result (λ shape. shape_of shape ≡ spec.nested) }
 {
@@ -79,14 +79,14 @@ fn nested(alloc: Global) -> Result<Shape, AllocError>
     only(alloc, "a", second)
 }
 
-// A list under one field.
+// Returns the shape of a list under one field.
 fn list(alloc: Global, item: Shape) -> Result<Shape, AllocError>
     ensures { IfOk result (λ shape. shape_of shape ≡ spec.list (shape_of item)) }
 {
     only(alloc, "ids", Shape::Seq(Box::new(alloc, item)?))
 }
 
-// One field.
+// Returns the shape of one field.
 fn only(alloc: Global, name: &str, shape: Shape) -> Result<Shape, AllocError>
     ensures { IfOk result (λ made. shape_of made ≡ spec.only name.now (shape_of shape)) }
 {
@@ -106,7 +106,7 @@ fn field(alloc: Global, name: &str, shape: Shape) -> Result<Field, AllocError>
 }
 
 impl Load {
-    /// How much the data are: nothing where that is no `usize`.
+    /// Returns how much the data are: nothing where that is no `usize`.
     pub(crate) fn size_of(&self, datum: &Data) -> Option<usize>
         ensures { IfSome result (λ size. size ≡ size_of self.now.each (data_of datum.now)) }
     {

@@ -49,7 +49,7 @@ fn count(tree: &ParsedValue<'_>) -> Keys
     }
 }
 
-// How many keys a tree has at its root.
+// Returns how many keys a tree has at its root.
 fn len(tree: &ParsedValue<'_>) -> usize
     ensures { result ≡ root_keys (tree_of tree.now) }
 {

@@ -30,7 +30,7 @@ pub extern "C" fn qs_bench_read(
     true
 }
 
-// How much is read the last of so many times.
+// Returns how much is read the last of so many times.
 fn last_size(alloc: Global, times: usize, number: usize, input: &[u8]) -> Option<usize>
     ensures { IfSome result (IsRead number input.now) }
 {
@@ -47,7 +47,7 @@ fn last_size(alloc: Global, times: usize, number: usize, input: &[u8]) -> Option
     Some(size)
 }
 
-// The data that are read the last of so many times.
+// Returns the data that are read the last of so many times.
 fn last_data(alloc: Global, times: usize, shape: &Shape, input: &[u8]) -> Result<Data>
     requires { is_distinct (shape_of shape.now) ≡ true }
     ensures { IfOk result (λ d. IsReadBy (shape_of shape.now) input.now (data_of d)) }
@@ -58,7 +58,7 @@ fn last_data(alloc: Global, times: usize, shape: &Shape, input: &[u8]) -> Result
     read(alloc, shape, input)
 }
 
-// The data that are read.
+// Returns the data that are read.
 fn read(alloc: Global, shape: &Shape, input: &[u8]) -> Result<Data>
     requires { is_distinct (shape_of shape.now) ≡ true }
     ensures { IfOk result (λ d. IsReadBy (shape_of shape.now) input.now (data_of d)) }

@@ -9,7 +9,7 @@ ghost use Rattle.qs_bench.specs.Samples as spec;
 use qs_data::Data;
 use std::alloc::{AllocError, Global};
 
-/// A record of ten entries.
+/// Returns a record of ten entries.
 pub(crate) fn record(alloc: Global) -> Result<Data, AllocError>
     ensures { IfOk result (λ d. data_of d ≡ spec.record_of_ten) }
 {
@@ -37,7 +37,7 @@ fn address(alloc: Global) -> Result<Data, AllocError>
     Ok(Data::Struct(fields))
 }
 
-/// So many fields, whose names and texts have their numbers, below so many keys.
+/// Returns so many fields, whose names and texts have their numbers, below so many keys.
 #[tactic(auto, using(qs_data::proofs::lemmas::data::Levels::levels))]
 pub(crate) fn fields_below(alloc: Global, keys: usize, count: usize) -> Result<Data, AllocError>
     ensures { IfOk result (λ d. data_of d ≡ spec.below keys (spec.fields count)) }
@@ -67,7 +67,7 @@ fn numbered(alloc: Global, number: usize) -> Result<(String, Data), AllocError>
     Ok((name, Data::Text(text)))
 }
 
-/// A field with the numbers below a count.
+/// Returns a field with the numbers below a count.
 pub(crate) fn numbers(alloc: Global, count: usize) -> Result<Data, AllocError>
     ensures { IfOk result (λ d. data_of d ≡ spec.only (spec.numbers count)) }
 {
@@ -78,7 +78,7 @@ pub(crate) fn numbers(alloc: Global, count: usize) -> Result<Data, AllocError>
     only(alloc, Data::Seq(items))
 }
 
-/// A field with these bytes.
+/// Returns a field with these bytes.
 pub(crate) fn held(alloc: Global, content: &[u8]) -> Result<Data, AllocError>
     ensures { IfOk result (λ d. data_of d ≡ spec.only (bytes content.now)) }
 {

@@ -50,7 +50,7 @@ pub extern "C" fn qs_bench_person(
     read_and_write::<Person>(alloc, times, input, out, len)
 }
 
-/// The same with the record of ten entries.
+/// Does the same with the record of ten entries.
 #[unsafe(no_mangle)]
 pub extern "C" fn qs_bench_record(
     alloc: Global,
@@ -73,7 +73,7 @@ pub extern "C" fn qs_bench_record(
     read_and_write::<Record>(alloc, times, input, out, len)
 }
 
-/// The same with a list of numbers under one field.
+/// Does the same with a list of numbers under one field.
 #[unsafe(no_mangle)]
 pub extern "C" fn qs_bench_ids(
     alloc: Global,
@@ -96,7 +96,7 @@ pub extern "C" fn qs_bench_ids(
     read_and_write::<Ids>(alloc, times, input, out, len)
 }
 
-/// The same with a map of texts.
+/// Does the same with a map of texts.
 #[unsafe(no_mangle)]
 pub extern "C" fn qs_bench_map(
     alloc: Global,
@@ -119,7 +119,7 @@ pub extern "C" fn qs_bench_map(
     read_and_write::<BTreeMap<String, String>>(alloc, times, input, out, len)
 }
 
-/// The same with a text five keys deep.
+/// Does the same with a text five keys deep.
 #[unsafe(no_mangle)]
 pub extern "C" fn qs_bench_nested(
     alloc: Global,
@@ -142,7 +142,7 @@ pub extern "C" fn qs_bench_nested(
     read_and_write::<Nested>(alloc, times, input, out, len)
 }
 
-// The same with any type.
+// Reads and writes a value of any type.
 fn read_and_write<T: RoundTrip + Drop>(
     alloc: Global,
     times: Times,
@@ -163,7 +163,7 @@ fn read_and_write<T: RoundTrip + Drop>(
     true
 }
 
-// The value that is read the last of so many times.
+// Returns the value that is read the last of so many times.
 fn last_value<T: RoundTrip + Drop>(alloc: Global, times: Times, input: &[u8]) -> Result<T>
     ensures { IfOk result (λ x. IsRead default T.form T.meaning input.now (T.value x)) }
 {
@@ -174,7 +174,7 @@ fn last_value<T: RoundTrip + Drop>(alloc: Global, times: Times, input: &[u8]) ->
     }
 }
 
-// The same, by a shape that is made once.
+// Returns the last value, read by a shape that is made once.
 fn read_kept<T: RoundTrip + Drop>(alloc: Global, times: usize, input: &[u8]) -> Result<T>
     ensures { IfOk result (λ x. IsRead default T.form T.meaning input.now (T.value x)) }
 {
@@ -182,7 +182,7 @@ fn read_kept<T: RoundTrip + Drop>(alloc: Global, times: usize, input: &[u8]) -> 
     read_by_shape(alloc, times, &shape, input)
 }
 
-// The same, by this shape.
+// Returns the last value, read by this shape.
 fn read_by_shape<T: RoundTrip + Drop>(
     alloc: Global,
     times: usize,
@@ -198,7 +198,7 @@ fn read_by_shape<T: RoundTrip + Drop>(
     read_by(alloc, Config::new(), shape, input)
 }
 
-// The same, by a shape that is made each time.
+// Returns the last value, read by a shape that is made each time.
 fn read_anew<T: RoundTrip + Drop>(alloc: Global, times: usize, input: &[u8]) -> Result<T>
     ensures { IfOk result (λ x. IsRead default T.form T.meaning input.now (T.value x)) }
 {
@@ -208,7 +208,7 @@ fn read_anew<T: RoundTrip + Drop>(alloc: Global, times: usize, input: &[u8]) -> 
     from_bytes(alloc, input)
 }
 
-// The text of the last of so many writes.
+// Returns the text of the last of so many writes.
 fn last_text<T: RoundTrip>(alloc: Global, times: usize, value: &T) -> Result<String>
     ensures whole { IfOk result (λ text. (entries default (T.datum value.now)).refusal ≡ None) }
     ensures text { IfOk result (λ text. string_bytes text ≡ text_of (T.datum value.now)) }

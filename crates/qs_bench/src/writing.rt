@@ -29,7 +29,7 @@ pub extern "C" fn qs_bench_write_record(
     write(alloc, times, samples::record(alloc), out, len)
 }
 
-/// The same for a struct of so many fields, whose names and texts have their numbers, below so many keys.
+/// Does the same for a struct of so many fields, whose names and texts have their numbers, below so many keys.
 #[unsafe(no_mangle)]
 pub extern "C" fn qs_bench_write_fields(
     alloc: Global,
@@ -51,7 +51,7 @@ pub extern "C" fn qs_bench_write_fields(
     )
 }
 
-/// The same for a field with the list of the numbers below a count.
+/// Does the same for a field with the list of the numbers below a count.
 #[unsafe(no_mangle)]
 pub extern "C" fn qs_bench_write_numbers(
     alloc: Global,
@@ -66,7 +66,7 @@ pub extern "C" fn qs_bench_write_numbers(
     write(alloc, times, samples::numbers(alloc, count), out, len)
 }
 
-/// The same for a field with these bytes.
+/// Does the same for a field with these bytes.
 #[unsafe(no_mangle)]
 pub extern "C" fn qs_bench_write_bytes(
     alloc: Global,
@@ -103,7 +103,7 @@ fn write(
     true
 }
 
-// The text of the last of so many writes.
+// Returns the text of the last of so many writes.
 fn last_text(alloc: Global, times: usize, datum: &Data) -> Result<Vec<u8>>
     ensures whole { IfOk result (λ text. (entries default (data_of datum.now)).refusal ≡ None) }
     ensures text { IfOk result (λ text. text.items ≡ text_of (data_of datum.now)) }
@@ -114,7 +114,7 @@ fn last_text(alloc: Global, times: usize, datum: &Data) -> Result<Vec<u8>>
     text_of(alloc, datum)
 }
 
-// The text that the data are written as, in a buffer that begins with room for 128 bytes.
+// Returns the text that the data are written as, in a buffer that begins with room for 128 bytes.
 fn text_of(alloc: Global, datum: &Data) -> Result<Vec<u8>>
     ensures whole { IfOk result (λ text. (entries default (data_of datum.now)).refusal ≡ None) }
     ensures text { IfOk result (λ text. text.items ≡ text_of (data_of datum.now)) }

@@ -10,7 +10,7 @@ use crate::failure::Failure;
 use qs_tree::{decode, encode};
 use std::alloc::Global;
 
-/// The bytes, decoded: `+` is a space, and `%` with two hexadecimal digits is one byte.
+/// Decodes the bytes: `+` is a space, and `%` with two hexadecimal digits is one byte.
 ///
 /// Only an allocation can fail.
 #[unsafe(no_mangle)]
@@ -25,7 +25,7 @@ pub extern "C" fn qs_decode(alloc: Global, bytes: &[u8], out: &mut [u8], answer:
     }
 }
 
-/// The bytes, encoded for form mode (`form`) or query mode.
+/// Encodes the bytes for form mode (`form`) or query mode.
 ///
 /// Only an allocation can fail.
 #[unsafe(no_mangle)]

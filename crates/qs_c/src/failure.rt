@@ -28,7 +28,7 @@ pub(crate) enum FailureKind {
 }
 
 impl FailureKind {
-    /// The number that a call returns.
+    /// Returns the number that a call returns.
     pub(crate) fn code(self) -> u32
         ensures code { result ≡ code_of self }
         ensures failed { IsDone result → ⊥ }
@@ -59,7 +59,7 @@ pub(crate) struct Failure {
 impl Failure {
     ghost use Rattle.qs_c.specs.declared.failure.FailureKind.TheVariants.{OutOfMemory};
 
-    /// The error that an allocation failed.
+    /// Returns the error that an allocation failed.
     pub(crate) fn out_of_memory() -> Failure
         ensures { result.kind ≡ OutOfMemory }
     {
@@ -70,7 +70,7 @@ impl Failure {
         }
     }
 
-    /// The error of this kind, with this text, at this place.
+    /// Returns the error of this kind, with this text, at this place.
     pub(crate) fn new(kind: FailureKind, text: String, position: usize) -> Failure
         ensures kind { result.kind ≡ kind }
         ensures position { result.position ≡ position }
@@ -84,7 +84,7 @@ impl Failure {
     }
 }
 
-/// The error of this kind, with this text, at this place, or that there was no memory for the text.
+/// Returns the error of this kind, with this text, at this place, or that there was no memory for the text.
 pub(crate) fn failure_at(alloc: Global, kind: FailureKind, text: &str, position: usize) -> Failure
     ensures { (result.kind ≡ OutOfMemory) ⊎ ((result.kind ≡ kind) × (result.position ≡ position) × (text_of result ≡ text.now)) }
 {

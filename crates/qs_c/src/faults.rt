@@ -7,7 +7,7 @@ use crate::failure::{Failure, FailureKind};
 use qs_data::Error;
 use std::alloc::Global;
 
-/// The failure that the error is, with its text. That an allocation failed has none.
+/// Returns the failure that the error is, with its text. That an allocation failed has none.
 pub(crate) fn failure_of(alloc: Global, error: Error) -> Failure
     ensures { IsFailureOf result error }
 {
@@ -22,7 +22,7 @@ pub(crate) fn failure_of(alloc: Global, error: Error) -> Failure
     }
 }
 
-// The kind of an error of reading or writing.
+// Returns the kind of an error of reading or writing.
 fn kind_of(error: &Error) -> FailureKind
     ensures { result ≡ kind_of error.now }
 {
@@ -35,7 +35,7 @@ fn kind_of(error: &Error) -> FailureKind
     }
 }
 
-// The position of a parse error; 0 for any other.
+// Returns the position of a parse error; 0 for any other.
 fn position_of(error: &Error) -> usize
     ensures { result ≡ position_of error.now }
 {

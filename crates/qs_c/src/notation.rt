@@ -26,7 +26,7 @@ use stop::{Result, Stop};
 /// How deep a shape may nest. So a call takes little stack.
 const MOST_LEVELS: usize = 32;
 
-/// The shape that the text is, in the notation of docs/LIBRARY.md. The names in each struct and enum differ.
+/// Parses the shape that the text is, in the notation of docs/LIBRARY.md. The names in each struct and enum differ.
 pub(crate) fn shape_of_text(alloc: Global, text: &[u8]) -> std::result::Result<Shape, Failure>
     ensures shape { IfOk result (λ shape. IsNotation text.now (shape_of shape)) }
     ensures distinct { IfOk result (λ shape. is_distinct (shape_of shape) ≡ true) }
@@ -43,7 +43,7 @@ pub(crate) fn shape_of_text(alloc: Global, text: &[u8]) -> std::result::Result<S
     }
 }
 
-// A shape, and nothing after it.
+// Parses a shape, and nothing after it.
 fn whole_shape(alloc: Global, cursor: &mut Cursor<'_>) -> Result<Shape>
     ensures shape { Parses shape_of (and_then (shape 32 cursor.old.rest.now) whole) result cursor.new.rest.now }
     ensures end { OnOk result (cursor.new.rest.now ≡ []) }

@@ -23,7 +23,7 @@ use crate::showing::shown;
 use qs_data::{Config, Data, Deserializer, Shape};
 use std::alloc::Global;
 
-/// The querystring as JSON, read as whatever is there: strings, lists and maps.
+/// Makes JSON of the querystring, read as whatever is there: strings, lists and maps.
 #[unsafe(no_mangle)]
 pub extern "C" fn qs_parse(
     alloc: Global,
@@ -45,7 +45,7 @@ pub extern "C" fn qs_parse(
     }
 }
 
-/// The querystring as JSON, read by a shape in the notation of docs/LIBRARY.md.
+/// Makes JSON of the querystring, read by a shape in the notation of docs/LIBRARY.md.
 #[unsafe(no_mangle)]
 pub extern "C" fn qs_read(
     alloc: Global,
@@ -69,7 +69,7 @@ pub extern "C" fn qs_read(
     }
 }
 
-// The JSON of what `any` reads.
+// Returns the JSON of what `any` reads.
 fn parsed(alloc: Global, settings: &Settings, input: &[u8]) -> Result<Vec<u8>, Failure>
     ensures text { IfOk result (λ text. IsRead (config_of settings.now) any input.now text.items) }
     ensures none { IfErr result (λ failure. WhyNotParsed failure.kind failure.position settings.now input.now) }
@@ -80,7 +80,7 @@ fn parsed(alloc: Global, settings: &Settings, input: &[u8]) -> Result<Vec<u8>, F
     read_json(alloc, config, &Shape::Any, input)
 }
 
-// The JSON of what the shape in the notation reads.
+// Returns the JSON of what the shape in the notation reads.
 fn read(alloc: Global, settings: &Settings, shape: &[u8], input: &[u8]) -> Result<Vec<u8>, Failure>
     ensures text { IfOk result (λ text. IsReadByText (config_of settings.now) shape.now input.now text.items) }
     ensures none { IfErr result (λ failure. WhyNotRead failure.kind failure.position settings.now shape.now input.now) }
@@ -93,7 +93,7 @@ fn read(alloc: Global, settings: &Settings, shape: &[u8], input: &[u8]) -> Resul
     read_json(alloc, config, &shape, input)
 }
 
-// The JSON of the data that the shape reads.
+// Returns the JSON of the data that the shape reads.
 fn read_json(alloc: Global, config: Config, shape: &Shape, input: &[u8]) -> Result<Vec<u8>, Failure>
     requires { is_distinct (shape_of shape.now) ≡ true }
     ensures text { IfOk result (λ text. IsRead config (shape_of shape.now) input.now text.items) }
@@ -105,7 +105,7 @@ fn read_json(alloc: Global, config: Config, shape: &Shape, input: &[u8]) -> Resu
     }
 }
 
-// What a shape reads from the input.
+// Returns what a shape reads from the input.
 fn read_data(alloc: Global, config: Config, shape: &Shape, input: &[u8]) -> qs_data::Result<Data>
     requires { is_distinct (shape_of shape.now) ≡ true }
     ensures data { IfOk result (λ datum. IsReadBy config (shape_of shape.now) input.now (data_of datum)) }

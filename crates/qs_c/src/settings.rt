@@ -27,7 +27,7 @@ pub struct Settings {
 }
 
 impl Settings {
-    /// The configuration, unless a number in the settings is too large.
+    /// Returns the configuration, unless a number in the settings is too large.
     pub(crate) fn config(&self, alloc: Global) -> Result<Config, Failure>
         ensures config { IfOk result (λ config. config ≡ config_of self.now) }
         ensures sound { IfOk result (λ config. AreNone self.now → ⊥) }
@@ -52,7 +52,7 @@ impl Settings {
         )
     }
 
-    // The array format of its number.
+    // Returns the array format of its number.
     fn elements(&self, alloc: Global) -> Result<ArrayFormat, Failure>
         ensures format { IfOk result (λ format. array_format_of format ≡ format_of self.now.array_format) }
         ensures sound { IfOk result (λ format. 2 < self.now.array_format → ⊥) }
@@ -71,7 +71,7 @@ impl Settings {
         }
     }
 
-    // What repeated keys are.
+    // Returns what repeated keys are.
     fn duplicates(&self) -> DuplicateKeyBehavior
         ensures { behavior_of result ≡ duplicates_of self.now.reject_duplicates }
     {

@@ -10,7 +10,7 @@ use json::Writer;
 use qs_data::Data;
 use std::alloc::{AllocError, Global};
 
-/// The data as JSON without blanks.
+/// Returns the data as JSON without blanks.
 pub(crate) fn shown(alloc: Global, datum: &Data) -> Result<Vec<u8>, AllocError>
     ensures { IfOk result (λ text. text.items ≡ json_text (data_of datum.now)) }
 {

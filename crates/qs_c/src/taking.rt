@@ -12,7 +12,7 @@ use json::{MAX_DEPTH, Reader, Scratch, Value};
 use qs_data::Data;
 use std::alloc::{AllocError, Global};
 
-/// The data that the JSON is.
+/// Returns the data that the JSON is.
 pub(crate) fn taken(alloc: Global, text: &[u8]) -> Result<Data, Failure>
     ensures json { IfOk result (λ datum. IsJsonOf text.now (data_of datum)) }
     ensures none { IfErr result (λ failure. (failure.kind ≡ kind.OutOfMemory) ⊎ ((failure.kind ≡ kind.Json) × (IsUtf8 text.now → document text.now ≡ None))) }
@@ -31,7 +31,7 @@ pub(crate) fn taken(alloc: Global, text: &[u8]) -> Result<Data, Failure>
     }
 }
 
-// Where the JSON can't be read on, which is read once more.
+// Returns where the JSON can't be read on, which is read once more.
 fn fault_in(alloc: Global, text: &str) -> Result<usize, AllocError> {
     let mut scratch = Scratch::new(alloc);
     let mut reader = Reader::new(text, &mut scratch)?;
@@ -41,7 +41,7 @@ fn fault_in(alloc: Global, text: &str) -> Result<usize, AllocError> {
     }
 }
 
-// The data that the value is. It calls itself for each level.
+// Returns the data that the value is. It calls itself for each level.
 #[cycle(take)]
 #[tactic(auto, using(qs_data::proofs::lemmas::data::Levels::levels))]
 fn take(alloc: Global, value: &Value<'_>) -> Result<Data, AllocError>
@@ -56,7 +56,7 @@ fn take(alloc: Global, value: &Value<'_>) -> Result<Data, AllocError>
     }
 }
 
-// The data of each item.
+// Returns the data of each item.
 #[cycle(take)]
 fn take_items(alloc: Global, items: &Vec<Value<'_>>) -> Result<Vec<Data>, AllocError>
     ensures { IfOk result (λ taken. map data_of taken.items ≡ map item_data items.now.items) }
@@ -68,7 +68,7 @@ fn take_items(alloc: Global, items: &Vec<Value<'_>>) -> Result<Vec<Data>, AllocE
     Ok(taken)
 }
 
-// The data of each member, under its name as a text.
+// Returns the data of each member, under its name as a text.
 #[cycle(take)]
 fn take_members(
     alloc: Global,

@@ -8,7 +8,7 @@ use std::alloc::Global;
 use std::process::Abort;
 use std::test::Fail;
 
-// The default settings.
+// Returns the default settings.
 fn settings() -> Settings {
     Settings {
         max_depth: 5,
@@ -18,7 +18,7 @@ fn settings() -> Settings {
     }
 }
 
-// The first `len` bytes, or all.
+// Returns the first `len` bytes, or all.
 fn front(bytes: &[u8], len: usize) -> &[u8] {
     if len <= bytes.len() {
         &bytes[..len]
@@ -27,7 +27,7 @@ fn front(bytes: &[u8], len: usize) -> &[u8] {
     }
 }
 
-// Whether the call returns this status and, where one is wanted, this text.
+// Returns whether the call returns this status and, where one is wanted, this text.
 fn expect_read<R: Abort>(rt: &R, alloc: Global, shape: &str, input: &str, status: u32, text: &str) {
     let mut out = [0; 128];
     let mut answer = Answer {

@@ -19,7 +19,7 @@ use crate::taking::taken;
 use qs_data::{Config, Data, Serializer};
 use std::alloc::Global;
 
-/// The querystring that the JSON is written as.
+/// Writes the JSON as a querystring.
 #[unsafe(no_mangle)]
 pub extern "C" fn qs_write(
     alloc: Global,
@@ -41,7 +41,7 @@ pub extern "C" fn qs_write(
     }
 }
 
-// The querystring of data that are JSON.
+// Returns the querystring of data that are JSON.
 fn written(alloc: Global, settings: &Settings, json: &[u8]) -> Result<Vec<u8>, Failure>
     ensures text { IfOk result (λ text. IsWritten (config_of settings.now) json.now text.items) }
     ensures none { IfErr result (λ failure. WhyNotWritten failure.kind settings.now json.now) }
@@ -56,7 +56,7 @@ fn written(alloc: Global, settings: &Settings, json: &[u8]) -> Result<Vec<u8>, F
     }
 }
 
-// The text that the data are written as.
+// Returns the text that the data are written as.
 fn text_of(alloc: Global, config: Config, datum: &Data) -> qs_data::Result<Vec<u8>>
     ensures whole { IfOk result (λ text. (entries config (data_of datum.now)).refusal ≡ None) }
     ensures text { IfOk result (λ text. text.items ≡ written config.form false (entries config (data_of datum.now)).entries) }

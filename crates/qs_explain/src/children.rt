@@ -14,7 +14,7 @@ use qs_data::{Config, Shape};
 use qs_tree::{Key, ParsedValue};
 use std::alloc::{AllocError, Global};
 
-// The mismatch of a node, or of nothing where it is missing.
+// Finds the mismatch of a node, or of nothing where it is missing.
 #[cycle(walk)]
 fn find_in_node(
     alloc: Global,

@@ -46,7 +46,7 @@ pub(crate) fn find_in_enum(
     }
 }
 
-// The same in a map.
+// Finds what isn't read of the variant that the first key of this map names.
 #[cycle(walk)]
 fn find_in_named(
     alloc: Global,
@@ -67,7 +67,7 @@ fn find_in_named(
     find_in_variant(alloc, config, key, &variant.kind, value)
 }
 
-// What isn't read of the value under a variant's name.
+// Finds what isn't read of the value under a variant's name.
 #[cycle(walk)]
 fn find_in_variant(
     alloc: Global,
@@ -95,7 +95,7 @@ fn find_in_variant(
     }
 }
 
-// The same of fields. Nothing is found in a text, which counts as a map.
+// Finds what isn't read of a variant's fields. Nothing is found in a text, which counts as a map.
 #[cycle(walk)]
 fn find_in_held_fields(
     alloc: Global,
@@ -115,7 +115,7 @@ fn find_in_held_fields(
     Ok(Some(put_under(alloc, key, mismatch)?))
 }
 
-// Whether the node is a text.
+// Returns whether the node is a text.
 fn is_text_leaf(value: &ParsedValue<'_>) -> bool
     ensures { result ≡ is_text_leaf (tree_of value.now) }
 {
@@ -129,7 +129,7 @@ fn is_text_leaf(value: &ParsedValue<'_>) -> bool
     }
 }
 
-// The mismatch of a tuple that isn't read.
+// Finds the mismatch of a tuple that isn't read.
 #[cycle(walk)]
 fn find_in_held_tuple(
     alloc: Global,
@@ -146,7 +146,7 @@ fn find_in_held_tuple(
     }
 }
 
-// The mismatch of a struct that isn't read.
+// Finds the mismatch of a struct that isn't read.
 #[cycle(walk)]
 fn find_in_held_struct(
     alloc: Global,
@@ -167,7 +167,7 @@ fn find_in_held_struct(
     }
 }
 
-// The same mismatch, seen from where a key leads to the part.
+// Returns the same mismatch, seen from where a key leads to the part.
 fn put_under(alloc: Global, key: &Key<'_>, mismatch: Mismatch) -> Result<Mismatch, AllocError>
     ensures path { IfOk result (λ m. path_of m ≡ segment_of_key key.now ∷ path_of mismatch) }
     ensures problem { IfOk result (λ m. m.problem ≡ mismatch.problem) }

@@ -39,7 +39,7 @@ pub enum Expected {
 }
 
 impl Expected {
-    /// What a shape expects. An option and a newtype expect what their part does.
+    /// Returns what a shape expects. An option and a newtype expect what their part does.
     pub(crate) fn of(shape: &Shape) -> Expected
         ensures { result ≡ expected_of (shape_of shape.now) }
     {

@@ -32,7 +32,7 @@ pub fn explain(
     find_explanation(alloc, config, shape, input)
 }
 
-// The explanation, if the input isn't read.
+// Finds the explanation, if the input isn't read.
 #[tactic(auto, using(crate::proofs::Parts::explained))]
 fn find_explanation(
     alloc: Global,

@@ -41,7 +41,7 @@ pub enum Problem {
 }
 
 impl Mismatch {
-    /// The same mismatch, seen from where a segment leads to the part.
+    /// Returns the same mismatch, seen from where a segment leads to the part.
     pub(crate) fn under(self, segment: Segment) -> Result<Mismatch, AllocError>
         ensures path { IfOk result (λ m. path_of m ≡ segment_of segment ∷ path_of self) }
         ensures problem { IfOk result (λ m. m.problem ≡ self.problem) }

@@ -34,7 +34,7 @@ pub(crate) fn find_in_struct(
     }
 }
 
-// The same among the keys of a map, or none.
+// Finds it among the keys of a map, or among none.
 #[cycle(walk)]
 fn find_in_fields(
     alloc: Global,
@@ -53,7 +53,7 @@ fn find_in_fields(
     Ok(None)
 }
 
-// The mismatch of a field, if at most one key has its name.
+// Finds the mismatch of a field, if at most one key has its name.
 #[cycle(walk)]
 fn find_in_field(
     alloc: Global,
@@ -73,7 +73,7 @@ fn find_in_field(
     }
 }
 
-// The mismatch of a field that no key names, if it must be there.
+// Finds the mismatch of a field that no key names, if it must be there.
 #[cycle(walk)]
 fn find_missing(
     alloc: Global,
@@ -89,7 +89,7 @@ fn find_missing(
     find_under(alloc, config, &Key::from(name), &field.shape, None)
 }
 
-// Whether a shape is an option.
+// Returns whether a shape is an option.
 fn may_be_absent(shape: &Shape) -> bool
     ensures { result ≡ is_option (shape_of shape.now) }
 {
@@ -99,7 +99,7 @@ fn may_be_absent(shape: &Shape) -> bool
     }
 }
 
-// What stands under a name, among the keys of a map, or none.
+// Finds what stands under a name, among the keys of a map, or none.
 fn find_name<'t, 'qs>(map: Option<&'t ParsedMap<'qs>>, name: &str) -> Found<'t, 'qs>
     ensures { Finds result (found name.now (keys_of map.entry)) }
 {

@@ -27,7 +27,7 @@ pub enum Found {
 }
 
 impl Found {
-    /// What stands at a node. It allocates for a text.
+    /// Returns what stands at a node. It allocates for a text.
     pub(crate) fn at(alloc: Global, node: &ParsedValue<'_>) -> Result<Found, AllocError>
         ensures { IfOk result (λ found. Stands found (tree_of node.now)) }
     {

@@ -36,7 +36,7 @@ pub fn find_hint(config: Config, input: &[u8]) -> Option<Hint>
     })
 }
 
-// The position after the first bracket in a key that the mode doesn't read.
+// Finds the position after the first bracket in a key that the mode doesn't read.
 fn find_unread_bracket(form: bool, input: &[u8]) -> Option<usize>
     ensures { result ≡ unread_bracket form input.now }
 {
@@ -52,7 +52,7 @@ fn find_unread_bracket(form: bool, input: &[u8]) -> Option<usize>
     None
 }
 
-// Whether three bytes are an escaped bracket that the mode doesn't read.
+// Returns whether three bytes are an escaped bracket that the mode doesn't read.
 fn is_unread(form: bool, percent: u8, five: u8, letter: u8) -> bool
     ensures { result ≡ is_unread_bracket form percent five letter }
 {
@@ -62,7 +62,7 @@ fn is_unread(form: bool, percent: u8, five: u8, letter: u8) -> bool
     is_escape && (is_lower || !form && is_upper)
 }
 
-// Whether the byte after this one stands in a key.
+// Returns whether the byte after this one stands in a key.
 fn is_in_key(in_key: bool, byte: u8) -> bool
     ensures { result ≡ is_key_after in_key byte }
 {

@@ -31,7 +31,7 @@ pub(crate) fn find_in_list(
     }
 }
 
-// The same of so many items.
+// Finds it among so many items.
 #[cycle(walk)]
 fn find_in_items(
     alloc: Global,
@@ -67,7 +67,7 @@ pub(crate) fn find_in_tuple(
     }
 }
 
-// The same of a list.
+// Finds it in a list.
 #[cycle(walk)]
 fn find_in_parts(
     alloc: Global,
@@ -86,7 +86,7 @@ fn find_in_parts(
     Ok(None)
 }
 
-// How many items a node has, if it has a list of them.
+// Returns how many items a node has, if it has a list of them.
 fn count_items(node: &ParsedValue<'_>) -> Option<usize>
     ensures { result ≡ option_map length (items (tree_of node.now)) }
 {
@@ -105,7 +105,7 @@ fn count_items(node: &ParsedValue<'_>) -> Option<usize>
     }
 }
 
-// Whether all keys of a map are integers.
+// Returns whether all keys of a map are integers.
 fn are_integers(map: &ParsedMap<'_>) -> bool
     ensures { result ≡ are_ints (entries_of_map map.now) }
 {
@@ -120,7 +120,7 @@ fn are_integers(map: &ParsedMap<'_>) -> bool
     true
 }
 
-// The item at an index of a list, if it isn't missing.
+// Returns the item at an index of a list, if it isn't missing.
 fn item_at<'t, 'qs>(node: &'t ParsedValue<'qs>, index: usize) -> Option<&'t ParsedValue<'qs>>
     ensures { (xs : List (Option Tree)) → items (tree_of node.now) ≡ Some xs → node_of result ≡ first_there (drop index xs) }
 {
@@ -132,7 +132,7 @@ fn item_at<'t, 'qs>(node: &'t ParsedValue<'qs>, index: usize) -> Option<&'t Pars
     }
 }
 
-// The value under an integer key, which stands at its place among the keys.
+// Returns the value under an integer key, which stands at its place among the keys.
 fn value_at<'t, 'qs>(map: &'t ParsedMap<'qs>, index: usize) -> Option<&'t ParsedValue<'qs>>
     ensures { node_of result ≡ first_there (drop index (placed 0 (entries_of_map map.now))) }
 {
@@ -146,7 +146,7 @@ fn value_at<'t, 'qs>(map: &'t ParsedMap<'qs>, index: usize) -> Option<&'t Parsed
     }
 }
 
-// Whether a key is an index, of which there are 4,294,967,295 at most.
+// Returns whether a key is an index, of which there are 4,294,967,295 at most.
 fn is_index(key: &Key<'_>, index: usize) -> bool
     ensures { result ≡ is_place index (segment_of_key key.now) }
 {

@@ -53,7 +53,7 @@ pub(crate) fn find_unexpected_key(
     }
 }
 
-/// The same of a struct with these fields.
+/// Finds the first key of a map that a struct with these fields doesn't allow.
 pub(crate) fn find_unknown_key(
     alloc: Global,
     unknown: UnknownKeys,
@@ -72,7 +72,7 @@ pub(crate) fn find_unknown_key(
     }
 }
 
-// The same among the keys of a map.
+// Finds it among the keys of a map.
 fn find_among_keys(
     alloc: Global,
     config: Config,
@@ -110,7 +110,7 @@ fn find_among_keys(
     }
 }
 
-// The first key that isn't UTF-8, or that no field has where unknown keys are rejected.
+// Finds the first key that isn't UTF-8, or that no field has where unknown keys are rejected.
 fn find_unknown_field(
     alloc: Global,
     unknown: UnknownKeys,
@@ -131,7 +131,7 @@ fn find_unknown_field(
     Ok(None)
 }
 
-// The first key that the key shape of a map doesn't read.
+// Finds the first key that the key shape of a map doesn't read.
 fn find_unread_key(
     alloc: Global,
     config: Config,
@@ -153,7 +153,7 @@ fn find_unread_key(
     Ok(None)
 }
 
-// The first key, if it names no variant.
+// Finds the first key, if it names no variant.
 fn find_unknown_variant(
     alloc: Global,
     variants: &[Variant],
@@ -170,7 +170,7 @@ fn find_unknown_variant(
     }
 }
 
-// Whether a struct allows a key.
+// Returns whether a struct allows a key.
 fn is_allowed_key(unknown: UnknownKeys, fields: &[Field], key: &Key<'_>) -> bool
     ensures { result ≡ is_allowed (unknown_of unknown) (fields_in fields.now) (segment_text (segment_of_key key.now)) }
 {
@@ -183,14 +183,14 @@ fn is_allowed_key(unknown: UnknownKeys, fields: &[Field], key: &Key<'_>) -> bool
     }
 }
 
-// Whether a struct allows the text of a key.
+// Returns whether a struct allows the text of a key.
 fn is_allowed_name(unknown: UnknownKeys, fields: &[Field], name: &[u8]) -> bool
     ensures { result ≡ is_allowed (unknown_of unknown) (fields_in fields.now) name.now }
 {
     is_text(name) && (is_field_name(fields, name) || is_ignored(unknown))
 }
 
-// Whether unknown keys are ignored.
+// Returns whether unknown keys are ignored.
 fn is_ignored(unknown: UnknownKeys) -> bool
     ensures { result ≡ are_ignored (unknown_of unknown) }
 {
@@ -200,7 +200,7 @@ fn is_ignored(unknown: UnknownKeys) -> bool
     }
 }
 
-// Whether the bytes are UTF-8.
+// Returns whether the bytes are UTF-8.
 #[tactic(auto, using(qs_data::proofs::lemmas::read::Errors::utf8_tests))]
 fn is_text(bytes: &[u8]) -> bool
     ensures { result ≡ is_utf8 bytes.now }
@@ -211,7 +211,7 @@ fn is_text(bytes: &[u8]) -> bool
     }
 }
 
-// Whether one of the fields has this name.
+// Returns whether one of the fields has this name.
 fn is_field_name(fields: &[Field], name: &[u8]) -> bool
     ensures { result ≡ is_field_name name.now (fields_in fields.now) }
 {
@@ -223,7 +223,7 @@ fn is_field_name(fields: &[Field], name: &[u8]) -> bool
     false
 }
 
-// Whether a key shape reads a key.
+// Returns whether a key shape reads a key.
 fn is_key_read(
     alloc: Global,
     config: Config,
@@ -241,7 +241,7 @@ fn is_key_read(
     }
 }
 
-// Whether a key shape reads the text of a key.
+// Returns whether a key shape reads the text of a key.
 #[tactic(auto, unfolding(qs_spec::specs::internal::ReadFunction::reads))]
 fn is_name_read(
     alloc: Global,
@@ -267,7 +267,7 @@ fn is_name_read(
     }
 }
 
-// Whether a shape reads a text.
+// Returns whether a shape reads a text.
 fn is_text_read(
     alloc: Global,
     config: Config,
@@ -284,7 +284,7 @@ fn is_text_read(
     )
 }
 
-// Whether this is one of the names.
+// Returns whether this is one of the names.
 fn is_one_of(names: &[String], name: &[u8]) -> bool
     ensures { result ≡ list_any (bytes_eq name.now) (map string_bytes names.now) }
 {

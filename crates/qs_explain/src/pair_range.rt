@@ -41,7 +41,7 @@ pub fn find_pair(config: Config, input: &[u8], position: usize) -> PairRange
     }
 }
 
-// The first of such bytes between two positions, or the second position.
+// Finds the first of such bytes between two positions, or the second position.
 fn find_first(input: &[u8], byte: u8, from: usize, to: usize) -> usize
     requires order { from ≤ to }
     requires within { to ≤ length input.now }

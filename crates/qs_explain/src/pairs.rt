@@ -32,7 +32,7 @@ pub(crate) fn find_in_map(
     }
 }
 
-// The same among the pairs of a map.
+// Finds it among the pairs of a map.
 #[cycle(walk)]
 fn find_in_pairs(
     alloc: Global,

@@ -49,7 +49,7 @@ pub(crate) fn find_start(form: bool, max_depth: usize, input: &[u8]) -> usize
     start
 }
 
-// What a byte is. In form mode the last byte of `%5B` or `%5D` is a bracket.
+// Returns what a byte is. In form mode the last byte of `%5B` or `%5D` is a bracket.
 fn kind_after(form: bool, percent: u8, five: u8, byte: u8) -> Kind
     ensures { result ≡ kind_after form percent five byte }
 {
@@ -67,7 +67,7 @@ fn kind_after(form: bool, percent: u8, five: u8, byte: u8) -> Kind
     }
 }
 
-// Whether another pair begins after a byte. In brackets an `&` is a byte of the key.
+// Returns whether another pair begins after a byte. In brackets an `&` is a byte of the key.
 fn begins_after(place: Place, kind: Kind) -> bool
     ensures { result ≡ begins_after place kind }
 {
@@ -77,7 +77,7 @@ fn begins_after(place: Place, kind: Kind) -> bool
     }
 }
 
-// Where the byte after a byte stands.
+// Returns where the byte after a byte stands.
 fn next_place(max_depth: usize, place: Place, kind: Kind) -> Place
     ensures { result ≡ next_place max_depth place kind }
 {
@@ -113,7 +113,7 @@ fn next_place(max_depth: usize, place: Place, kind: Kind) -> Place
     }
 }
 
-// Where the byte after an opening bracket stands, if so many brackets may follow; else this.
+// Returns where the byte after an opening bracket stands, if so many brackets may follow; else this.
 fn opened(room: usize, full: Place) -> Place
     ensures { result ≡ opened room full }
 {

@@ -19,7 +19,7 @@ pub enum Segment {
 }
 
 impl Segment {
-    /// The segment that a key is.
+    /// Returns the segment that a key is.
     pub(crate) fn of(alloc: Global, key: &Key<'_>) -> Result<Segment, AllocError>
         ensures { IfOk result (λ segment. segment_of segment ≡ segment_of_key key.now) }
     {

@@ -10,7 +10,7 @@ use itoa::Buffer;
 use qs_data::Variant;
 use qs_tree::Key;
 
-/// The index of the variant that a key names.
+/// Finds the index of the variant that a key names.
 pub(crate) fn find_variant(variants: &[Variant], key: &Key<'_>) -> Option<usize>
     ensures index { IfSome result (λ i. i < length variants.now) }
     ensures named { option_map (λ i. option_map variant_of (slice_get variants.now i)) result ≡ option_map Some (variant_named (segment_text (segment_of_key key.now)) (variants_in variants.now)) }
@@ -24,7 +24,7 @@ pub(crate) fn find_variant(variants: &[Variant], key: &Key<'_>) -> Option<usize>
     }
 }
 
-// The index of the variant of a name.
+// Returns the index of the variant of a name.
 fn variant_of_name(variants: &[Variant], name: &[u8]) -> Option<usize>
     ensures index { IfSome result (λ i. i < length variants.now) }
     ensures named { option_map (λ i. option_map variant_of (slice_get variants.now i)) result ≡ option_map Some (variant_named name.now (variants_in variants.now)) }

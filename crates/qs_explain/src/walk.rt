@@ -46,7 +46,7 @@ pub(crate) fn find_mismatch(
     }
 }
 
-/// Whether a shape reads a node.
+/// Returns whether a shape reads a node.
 pub(crate) fn is_read(
     alloc: Global,
     config: Config,
@@ -62,7 +62,7 @@ pub(crate) fn is_read(
     }
 }
 
-// The first part that isn't read inside a node that isn't read either.
+// Finds the first part that isn't read inside a node that isn't read either.
 #[cycle(walk)]
 #[tactic(auto, using(crate::proofs::Parts::parts))]
 fn find_inside(
@@ -101,7 +101,7 @@ fn find_inside(
     }
 }
 
-// The same inside an option.
+// Finds it inside an option.
 #[cycle(walk)]
 #[tactic(auto, using(crate::proofs::Parts::parts))]
 fn find_in_option(
@@ -121,7 +121,7 @@ fn find_in_option(
     }
 }
 
-/// The mismatch of a node itself: an unexpected key, or else what is expected and what stands there.
+/// Returns the mismatch of a node itself: an unexpected key, or else what is expected and what stands there.
 pub(crate) fn mismatch_here(
     alloc: Global,
     unexpected: Option<Segment>,

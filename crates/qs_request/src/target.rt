@@ -31,7 +31,7 @@ pub fn query<T: Deserialize>(alloc: Global, uri: &Uri, config: Config) -> Result
     config.deserialize_str(alloc, query_text(uri)).map(QsQuery)
 }
 
-// The query of a request target, empty where there is none.
+// Returns the query of a request target, empty where there is none.
 fn query_text(uri: &Uri) -> &str
     ensures { result.now ≡ query_of uri.now }
 {

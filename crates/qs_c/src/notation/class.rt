@@ -16,7 +16,7 @@ pub(crate) enum Class {
 }
 
 impl Class {
-    // Whether the byte is of the class.
+    // Returns whether the byte is of the class.
     fn has(self, byte: u8) -> bool
         ensures { result ≡ is_in self byte }
     {
@@ -28,14 +28,14 @@ impl Class {
     }
 }
 
-// Whether the byte is white space.
+// Returns whether the byte is white space.
 fn is_blank(byte: u8) -> bool
     ensures { result ≡ is_blank byte }
 {
     byte == b' ' || byte == b'\t' || byte == b'\n' || byte == b'\r'
 }
 
-// Whether a word may have the byte: an ASCII letter or digit, `_`, `-`, or a byte beyond ASCII.
+// Returns whether a word may have the byte: an ASCII letter or digit, `_`, `-`, or a byte beyond ASCII.
 fn is_of_word(byte: u8) -> bool
     ensures { result ≡ is_of_word byte }
 {
@@ -47,14 +47,14 @@ fn is_of_word(byte: u8) -> bool
         || byte >= 128
 }
 
-// Whether the byte is one of these, both ends included.
+// Returns whether the byte is one of these, both ends included.
 fn is_between(low: u8, high: u8, byte: u8) -> bool
     ensures { result ≡ is_between low high byte }
 {
     low <= byte && byte <= high
 }
 
-/// How many bytes of the class stand at the front.
+/// Returns how many bytes of the class stand at the front.
 pub(crate) fn run(class: Class, bytes: &[u8]) -> usize
     ensures len { result ≡ prefix_len (is_in class) bytes.now }
     ensures within { result ≤ length bytes.now }

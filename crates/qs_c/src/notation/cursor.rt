@@ -25,7 +25,7 @@ impl<'t> Cursor<'t> {
         }
     }
 
-    /// How many bytes are left.
+    /// Returns how many bytes are left.
     pub(crate) fn len(&self) -> usize
         ensures { result ≡ length self.now.rest.now }
     {
@@ -58,7 +58,7 @@ impl<'t> Cursor<'t> {
         }
     }
 
-    /// Whether a list goes on, after a comma; else the sign has to come next.
+    /// Returns whether a list goes on, after a comma; else the sign has to come next.
     #[tactic(auto, using(crate::proofs::Found::steps), unfolding(crate::specs::Notation::goes_on))]
     pub(crate) fn goes_on(&mut self, sign: u8, reason: &'static str) -> Result<bool>
         ensures { Parses (λ more. more) (goes_on sign reason.now self.old.rest.now) result self.new.rest.now }
@@ -70,7 +70,7 @@ impl<'t> Cursor<'t> {
         Ok(false)
     }
 
-    /// The letters, digits, `_` and `-` that come next.
+    /// Takes the letters, digits, `_` and `-` that come next.
     #[tactic(auto, using(crate::proofs::Found::steps), unfolding(crate::specs::Notation::word, crate::specs::Notation::after_word))]
     pub(crate) fn word(&mut self) -> &'t [u8]
         ensures word { result.now ≡ word self.old.rest.now }
@@ -96,7 +96,7 @@ impl<'t> Cursor<'t> {
         false
     }
 
-    /// The name that comes next: a word, or what stands between two `"`, decoded as in a querystring.
+    /// Takes the name that comes next: a word, or what stands between two `"`, decoded as in a querystring.
     #[tactic(auto, using(crate::proofs::Found::steps), unfolding(crate::specs::Notation::name))]
     pub(crate) fn name(&mut self, alloc: Global) -> Result<String>
         ensures { Parses string_bytes (name self.old.rest.now) result self.new.rest.now }
@@ -110,7 +110,7 @@ impl<'t> Cursor<'t> {
         }
     }
 
-    // The name up to the closing quote, decoded.
+    // Takes the name up to the closing quote, decoded.
     #[tactic(auto, using(crate::proofs::Found::steps), unfolding(crate::specs::Notation::quoted))]
     fn quoted(&mut self, alloc: Global) -> Result<String>
         ensures { Parses string_bytes (quoted self.old.rest.now) result self.new.rest.now }
@@ -125,7 +125,7 @@ impl<'t> Cursor<'t> {
         }
     }
 
-    // The word as a name.
+    // Returns the word as a name.
     fn word_name(&mut self, alloc: Global) -> Result<String>
         ensures { Parses string_bytes (word_name self.old.rest.now) result self.new.rest.now }
     {
@@ -137,7 +137,7 @@ impl<'t> Cursor<'t> {
     }
 }
 
-// The bytes as a name.
+// Returns the bytes as a name.
 fn name_of(alloc: Global, bytes: &[u8]) -> Result<String>
     ensures { (rest : List ℕ) → Parses string_bytes (name_of bytes.now rest) result rest }
 {
@@ -147,7 +147,7 @@ fn name_of(alloc: Global, bytes: &[u8]) -> Result<String>
     }
 }
 
-// The text without the white space in front.
+// Returns the text without the white space in front.
 #[tactic(auto, using(crate::proofs::Found::steps), unfolding(crate::specs::Notation::trimmed))]
 fn without_blanks(text: &[u8]) -> &[u8]
     ensures { result.now ≡ trimmed text.now }

@@ -11,7 +11,7 @@ use super::words::scalar_key;
 use qs_data::KeyShape;
 use std::alloc::Global;
 
-/// How the keys are read.
+/// Parses how the keys are read.
 #[tactic(auto, using(crate::proofs::Found::steps), unfolding(crate::specs::Notation::key))]
 pub(crate) fn map_key(alloc: Global, cursor: &mut Cursor<'_>) -> Result<KeyShape>
     ensures { Parses key_shape_of (key cursor.old.rest.now) result cursor.new.rest.now }
@@ -24,7 +24,7 @@ pub(crate) fn map_key(alloc: Global, cursor: &mut Cursor<'_>) -> Result<KeyShape
     scalar_key(word).ok_or(Stop::Fault("the word before is no shape of a key"))
 }
 
-// Names, up to the parenthesis that closes them.
+// Parses names, up to the parenthesis that closes them.
 fn names(alloc: Global, cursor: &mut Cursor<'_>) -> Result<Vec<String>>
     ensures { Parses (λ names. map string_bytes names.items) (list_of name 41 comma_or_parenthesis cursor.old.rest.now) result cursor.new.rest.now }
 {

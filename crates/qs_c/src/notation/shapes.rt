@@ -14,7 +14,7 @@ use super::words::scalar;
 use qs_data::{Field, Shape};
 use std::alloc::Global;
 
-/// The shape that comes next, which may nest so deep.
+/// Parses the shape that comes next, which may nest so deep.
 #[cycle(shape)]
 #[tactic(auto, using(crate::proofs::Found::steps), unfolding(crate::specs::Notation::shape))]
 pub(crate) fn shape(alloc: Global, cursor: &mut Cursor<'_>, levels: usize) -> Result<Shape>
@@ -27,7 +27,7 @@ pub(crate) fn shape(alloc: Global, cursor: &mut Cursor<'_>, levels: usize) -> Re
     options(alloc, cursor, levels - 1, shape)
 }
 
-// The shape with an option round it for each `?` that comes next, of which there are so many at most.
+// Returns the shape with an option round it for each `?` that comes next, of which there are so many at most.
 #[tactic(auto, using(crate::proofs::Found::steps), unfolding(crate::specs::Notation::options))]
 fn options(alloc: Global, cursor: &mut Cursor<'_>, most: usize, shape: Shape) -> Result<Shape>
     ensures { Parses shape_of (n.options most (shape_of shape) cursor.old.rest.now) result cursor.new.rest.now }
@@ -42,7 +42,7 @@ fn options(alloc: Global, cursor: &mut Cursor<'_>, most: usize, shape: Shape) ->
     Ok(shape)
 }
 
-// A shape before any `?`.
+// Parses a shape before any `?`.
 #[cycle(shape)]
 #[tactic(auto, using(crate::proofs::Found::steps), unfolding(crate::specs::Notation::base))]
 fn base(alloc: Global, cursor: &mut Cursor<'_>, levels: usize) -> Result<Shape>
@@ -61,7 +61,7 @@ fn base(alloc: Global, cursor: &mut Cursor<'_>, levels: usize) -> Result<Shape>
     named(alloc, cursor, levels, word)
 }
 
-// A list, up to the bracket that closes it.
+// Parses a list, up to the bracket that closes it.
 #[cycle(shape)]
 #[tactic(auto, using(crate::proofs::Found::steps), unfolding(crate::specs::Notation::list))]
 fn list(alloc: Global, cursor: &mut Cursor<'_>, levels: usize) -> Result<Shape>
@@ -72,7 +72,7 @@ fn list(alloc: Global, cursor: &mut Cursor<'_>, levels: usize) -> Result<Shape>
     Ok(Shape::Seq(Box::new(alloc, item)?))
 }
 
-// A shape that begins with this word.
+// Parses a shape that begins with this word.
 #[cycle(shape)]
 #[tactic(auto, using(crate::proofs::Found::steps), unfolding(crate::specs::Notation::named))]
 fn named(alloc: Global, cursor: &mut Cursor<'_>, levels: usize, word: &[u8]) -> Result<Shape>
@@ -95,7 +95,7 @@ fn named(alloc: Global, cursor: &mut Cursor<'_>, levels: usize, word: &[u8]) -> 
     scalar(word).ok_or(Stop::Fault("the word before is no shape"))
 }
 
-// A value in a type of its own.
+// Parses a value in a type of its own.
 #[cycle(shape)]
 #[tactic(auto, using(crate::proofs::Found::steps), unfolding(crate::specs::Notation::newtype))]
 fn newtype(alloc: Global, cursor: &mut Cursor<'_>, levels: usize) -> Result<Shape>
@@ -107,7 +107,7 @@ fn newtype(alloc: Global, cursor: &mut Cursor<'_>, levels: usize) -> Result<Shap
     Ok(Shape::Newtype(Box::new(alloc, inner)?))
 }
 
-// The key and the value of a map.
+// Parses the key and the value of a map.
 #[cycle(shape)]
 #[tactic(auto, using(crate::proofs::Found::steps), unfolding(crate::specs::Notation::map))]
 fn map(alloc: Global, cursor: &mut Cursor<'_>, levels: usize) -> Result<Shape>
@@ -121,7 +121,7 @@ fn map(alloc: Global, cursor: &mut Cursor<'_>, levels: usize) -> Result<Shape>
     Ok(Shape::Map(key, Box::new(alloc, value)?))
 }
 
-/// Fields, up to the brace that closes them.
+/// Parses fields, up to the brace that closes them.
 #[cycle(shape)]
 #[tactic(auto, using(crate::proofs::Found::steps), unfolding(crate::specs::Notation::fields))]
 pub(crate) fn fields(alloc: Global, cursor: &mut Cursor<'_>, levels: usize) -> Result<Vec<Field>>
@@ -140,7 +140,7 @@ pub(crate) fn fields(alloc: Global, cursor: &mut Cursor<'_>, levels: usize) -> R
     Err(Stop::Fault("`,` or `}` is wanted"))
 }
 
-// A field: its name, `?` if it may be left out, and its shape.
+// Parses a field: its name, `?` if it may be left out, and its shape.
 #[cycle(shape)]
 #[tactic(auto, using(crate::proofs::Found::steps), unfolding(crate::specs::Notation::field))]
 fn field(alloc: Global, cursor: &mut Cursor<'_>, levels: usize) -> Result<Field>
@@ -157,7 +157,7 @@ fn field(alloc: Global, cursor: &mut Cursor<'_>, levels: usize) -> Result<Field>
     })
 }
 
-/// Shapes after these, up to the parenthesis that closes them.
+/// Parses shapes after these, up to the parenthesis that closes them.
 #[cycle(shape)]
 #[tactic(auto, using(crate::proofs::Found::steps), unfolding(crate::specs::Notation::items))]
 pub(crate) fn items(

@@ -11,7 +11,7 @@ use super::stop::{Result, Stop};
 use qs_data::{Shape, Variant, VariantKind};
 use std::alloc::Global;
 
-/// Variants, up to the parenthesis that closes them.
+/// Parses variants, up to the parenthesis that closes them.
 #[cycle(shape)]
 #[tactic(auto, using(crate::proofs::Found::steps), unfolding(crate::specs::Notation::variants))]
 pub(crate) fn variants(
@@ -31,7 +31,7 @@ pub(crate) fn variants(
     Err(Stop::Fault("`,` or `)` is wanted"))
 }
 
-// One variant: its name and what it holds.
+// Parses one variant: its name and what it holds.
 #[cycle(shape)]
 #[tactic(auto, using(crate::proofs::Found::steps), unfolding(crate::specs::Notation::variant))]
 fn variant(alloc: Global, cursor: &mut Cursor<'_>, levels: usize) -> Result<Variant>
@@ -42,7 +42,7 @@ fn variant(alloc: Global, cursor: &mut Cursor<'_>, levels: usize) -> Result<Vari
     Ok(Variant { name, kind })
 }
 
-// What a variant holds: nothing, a value, `(shape, ..)`, `{name: shape, ..}` or `strict {name: shape, ..}`.
+// Parses what a variant holds: nothing, a value, `(shape, ..)`, `{name: shape, ..}` or `strict {name: shape, ..}`.
 #[cycle(shape)]
 #[tactic(auto, using(crate::proofs::Found::steps), unfolding(crate::specs::Notation::kind))]
 fn kind(alloc: Global, cursor: &mut Cursor<'_>, levels: usize) -> Result<VariantKind>
@@ -61,7 +61,7 @@ fn kind(alloc: Global, cursor: &mut Cursor<'_>, levels: usize) -> Result<Variant
     held(alloc, cursor, levels)
 }
 
-// What a variant holds in parentheses: a tuple, or a value, which has no comma after it.
+// Parses what a variant holds in parentheses: a tuple, or a value, which has no comma after it.
 #[cycle(shape)]
 #[tactic(auto, using(crate::proofs::Found::steps), unfolding(crate::specs::Notation::held))]
 fn held(alloc: Global, cursor: &mut Cursor<'_>, levels: usize) -> Result<VariantKind>

@@ -29,7 +29,7 @@ pub(crate) fn scalar(word: &[u8]) -> Option<Shape>
     }
 }
 
-// The shape of a number that the word names.
+// Returns the shape of a number that the word names.
 fn integer(word: &[u8]) -> Option<Shape>
     ensures { option_map shape_of result ≡ integer s.Shape.unsigned s.Shape.signed word.now }
 {
@@ -68,7 +68,7 @@ pub(crate) fn scalar_key(word: &[u8]) -> Option<KeyShape>
     }
 }
 
-// The shape of a key that is a number.
+// Returns the shape of a key that is a number.
 fn integer_key(word: &[u8]) -> Option<KeyShape>
     ensures { option_map key_shape_of result ≡ integer s.KeyShape.unsigned s.KeyShape.signed word.now }
 {

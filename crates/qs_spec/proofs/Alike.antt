@@ -51,7 +51,7 @@ alike form depth a b p ps (q ∷ qs) g i h = alike_by form depth a b p q ps qs g
     (λ path. sym (permitted_bare (p ∷ ps) path) ∙ permitted_reordered (bare (p ∷ ps)) (bare (q ∷ qs)) h path ∙ permitted_bare (q ∷ qs) path)
     (sym (node_bare (p ∷ ps)) ∙ node_reordered (bare (p ∷ ps)) (bare (q ∷ qs)) h ∙ node_bare (q ∷ qs))
 
--- the same by places
+-- the same by indices
 pub alike_by_places : (form : Bool) (depth : ℕ) (a b : List ℕ) (p : Pair) (ps qs : List Pair) → ArePairs depth (tokens form a) (p ∷ ps) → ArePairs depth (tokens form b) qs → AreReordered (p ∷ ps) qs → AreAlike form depth a b
 alike_by_places form depth a b p ps qs g i h = alike form depth a b p ps qs g i (by_places overlap (bare (p ∷ ps)) (bare qs) h)
 

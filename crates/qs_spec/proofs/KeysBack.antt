@@ -104,7 +104,7 @@ index_of_numeral (b ∷ s) n e f l = ap₂ (λ x y. x && y) e (below (number (b 
     below : (m : ℕ) → m ≤ 4294967295 → nat_le m 4294967295 ≡ true
     below m l = grind (arith, nat_tests)
 
--- a place is read as itself
+-- an index is read as itself
 pub place_back : (form : Bool) (n : ℕ) → n ≤ 4294967295 → segment_of (encoded form (decimal n)) ≡ Int n
 place_back form n l =
     let d = digits_of_number n (omega arith) in

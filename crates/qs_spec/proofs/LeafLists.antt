@@ -24,7 +24,7 @@ use Rattle.qs_spec.proofs.Branches.{pairs}
 use Rattle.qs_spec.proofs.GoodParts.{AreBytes}
 use Rattle.qs_spec.proofs.IsBack.{IsValued}
 
--- how the elements of a list stand: by their places, or as leaves, pushed or side by side
+-- how the elements of a list stand: by their indices, or as leaves, pushed or side by side
 pub data ListForm (fm : ArrayFormat) (ds : Values) : Type 0 where
   places : value_parts fm ds ≡ branches (value_branches fm 0 ds) → ListForm fm ds
   leaves : (push : Bool) → value_parts fm ds ≡ list_parts push ds → are_scalars ds ≡ true → (push ≡ false → is_one_empty ds ≡ false) → ListForm fm ds

@@ -1,10 +1,10 @@
--- A permutation by places is one by recursion.
+-- A permutation by indices is one by recursion.
 use Rattle.std.proofs.Common.{◌≡◌, ℕ, zero, suc, pred, ◌<◌, Bool, true, false, List, [], ◌∷◌, ◌++◌, length, refl, sym, ap, ◌∙◌, subst, arith, Some, slice_get, IsFalse}
 use Rattle.std.specs.List.{AllByRecursion}
 use Rattle.std.proofs.lemmas.Option.{none-some, same_Some}
 use Rattle.qs_spec.specs.Permutation.{IsReordering, KeepsOrder}
 
--- the place in a list with one more at k, and back
+-- the index in a list with one more at k, and back
 abbrev skip : ℕ → ℕ → ℕ
 skip zero m = suc m
 skip (suc k) zero = zero
@@ -41,7 +41,7 @@ unskip_keeps (suc k) zero (suc y) n m l = omega arith
 unskip_keeps (suc k) (suc x) zero n m l = absurd (omega arith)
 unskip_keeps (suc k) (suc x) (suc y) n m l = let h : unskip k x < unskip k y = unskip_keeps k x y (λ e. n (ap suc e)) (λ e. m (ap suc e)) (omega arith) in omega arith
 
--- a list cut at a place
+-- a list cut at an index
 record CutAt {X : Type 0} (qs : List X) (k : ℕ) (p : X) : Type 0 where
   front : List X
   back : List X

@@ -119,7 +119,7 @@ module _ (form : Bool) where
   stable_text [] m e h = cc
   stable_text (b ∷ t) m e h = of_leaf h (ap unmarked_leaf (leaf_back form b t h))
 
-  -- the place is the key's number
+  -- the index is the key's number
   at_place : (i : ℕ) (k : Segment) → is_place i k ≡ true → Int i ≡ k
   at_place i (Int n) e = let h = and_both (n == i) (nat_lt n 4294967295) e in ap Int (same h.0)
     where

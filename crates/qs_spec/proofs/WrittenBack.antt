@@ -65,7 +65,7 @@ branches_paths (b ∷ bs) = by b.1 (branches_paths bs)
     by [] more = more
     by (p ∷ ps) more = (refl, by ps more)
 
--- a list at the root is written by places
+-- a list at the root is written by indices
 list_rooted : (fm : ArrayFormat) (ds : Values) → is_placed fm false ≡ true → IsRooted (value_parts fm ds)
 list_rooted indexed ds e = inl (branches_paths (value_branches indexed 0 ds))
 list_rooted empty_indexed ds e = cc
@@ -229,7 +229,7 @@ no_front form p q e = by (is_prefix p q) refl
     by true d = let w = sym e ∙ front_steps form p q d in cc
     by false d = d
 
--- with places written no part pushes
+-- with indices written no part pushes
 abbrev NonePush : List Part → Type 0
 NonePush ps = AllByRecursion (λ (p : Part). p.push ≡ false) ps
 

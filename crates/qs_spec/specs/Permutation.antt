@@ -2,7 +2,7 @@
 use Rattle.std.specs.Prelude.{◌≡◌, ℕ, ◌<◌, Bool, IsTrue, IsFalse, List, [], ◌∷◌, ◌++◌, Some, slice_get}
 use Rattle.std.specs.List.{AllByRecursion}
 
--- By indices: each element of the first list has a place of its own in the second, each place of the second is one's, and of two of
+-- By indices: each element of the first list has an index of its own in the second, each index of the second is one's, and of two of
 -- which one depends on the other, the one that was before still is.
 pub record KeepsOrder {X : Type 0} (depend : X → X → Bool) (xs ys : List X) : Type 0 where
   pub to : ℕ → ℕ

@@ -47,7 +47,7 @@ is_same_path (s ∷ p) (t ∷ q) = bytes_eq s t && is_same_path p q
 abbrev pub have_one_path : Entry → Entry → Bool
 have_one_path e f = is_same_path e.path f.path
 
--- permutations that keep entries with one path in order, by recursion and by places
+-- permutations that keep entries with one path in order, by recursion and by indices
 abbrev pub KeepsPaths : List Entry → List Entry → Type 0
 KeepsPaths = IsReordering have_one_path
 

@@ -16,14 +16,14 @@
 -- | | null | some of what the part reads from no value |
 -- | | any other | some of what the part reads |
 -- | Newtype | any | what the part reads |
--- | Seq | with items, each at its place | what the part reads from every item |
--- | Tuple | with as many items at their places, or more | what each part reads from its item |
+-- | Seq | with items, each at its index | what the part reads from every item |
+-- | Tuple | with as many items at their indices, or more | what each part reads from its item |
 -- | Map | null, no value | no pairs |
 -- | | a text | the one pair of the empty key and the text |
 -- | | a map | what the key shape and the part read from each pair, in order |
 -- | Struct, StrictStruct | null, no value | its fields in a map without keys |
 -- | | a map whose keys are allowed | what each field reads from the one value of its name; without one it is left out, or none |
--- | | a sequence | what each field reads from the item at its place; without one it is left out |
+-- | | a sequence | what each field reads from the item at its index; without one it is left out |
 -- | Enum | a map | what the variant that the first key names reads from its value |
 -- | | a text | the unit variant of that name |
 -- | Any | null | the empty text |
@@ -121,7 +121,7 @@ mutual
     pairs_more : {k : KeyShape} {s : Shape} {key : Segment} {mark : Bool} {n : Tree} {es : Entries} {a d : Data} {ps : Pairs} → key_data k (segment_text key) ≡ Some a → Reads reject_duplicates s n d → ReadsPairs reject_duplicates k s es ps
         → ReadsPairs reject_duplicates k s (Entries.entry key mark n es) (one_pair a d ps)
 
-  -- the fields of a node: by their names in a map, whose keys are allowed, by their places in a sequence
+  -- the fields of a node: by their names in a map, whose keys are allowed, by their indices in a sequence
   pub data ReadsStruct (reject_duplicates : Bool) : UnknownKeys → Fields → Tree → Members → Type 0 where
     fields_of_null : {u : UnknownKeys} {fs : Fields} {ms : Members} → ReadsNames reject_duplicates fs Entries.no_entries ms → ReadsStruct reject_duplicates u fs (Tree.leaf Null) ms
     fields_of_no_value : {u : UnknownKeys} {fs : Fields} {ms : Members} → ReadsNames reject_duplicates fs Entries.no_entries ms → ReadsStruct reject_duplicates u fs (Tree.leaf NoValue) ms
@@ -137,7 +137,7 @@ mutual
     name_as_none : {name : List ℕ} {s : Shape} {fs : Fields} {es : Entries} {ms : Members} → found name es ≡ [] → ReadsNames reject_duplicates fs es ms
         → ReadsNames reject_duplicates (one_field name (Shape.option s) false fs) es (one_member name Data.none ms)
 
-  -- A field at whose place there is an item is read; beyond the end it is left out if it is optional.
+  -- A field at whose index there is an item is read; beyond the end it is left out if it is optional.
   pub data ReadsPlaces (reject_duplicates : Bool) : Fields → Items → Members → Type 0 where
     places_end : {xs : Items} → ReadsPlaces reject_duplicates no_fields xs no_members
     place_found : {name : List ℕ} {s : Shape} {optional : Bool} {fs : Fields} {n : Tree} {xs : Items} {d : Data} {ms : Members} → Reads reject_duplicates s n d → ReadsPlaces reject_duplicates fs xs ms

@@ -80,7 +80,7 @@ pub fn last_of_several()
     ensures one_where_rejected { IsRead (record default { duplicates = reject }) (field (codes "f") Shape.text) (codes "f[]=a") (Some (struct_with (codes "f") (Data.text (codes "a")))) }
 {}
 
-/// Items have the places 0, 1, 2 and so on, as far as they are read.
+/// Items have the indices 0, 1, 2 and so on, as far as they are read.
 pub fn items_by_place()
     ensures gap { IsRead default (field (codes "v") (Shape.sequence (Shape.unsigned 8))) (codes "v[0]=1&v[2]=2") None }
     ensures after_the_first { IsRead default (field (codes "v") (Shape.tuple (one_shape (Shape.unsigned 8) no_shapes))) (codes "v[0]=1&v[2]=2") (Some (struct_with (codes "v") (Data.tuple (values_of (Data.unsigned 1 ∷ []))))) }

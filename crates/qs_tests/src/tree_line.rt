@@ -1,6 +1,6 @@
 //! Trees written as one line, for tests and for golden cases.
 //!
-//! A map is `{key:value,..}`, a sequence `[value,..]`, and keys that are numbers stand bare. Other values are `NoValue`, `Null` and
+//! A map is `{key:value,..}`, a sequence `[value,..]`, and integer keys stand bare. Other values are `NoValue`, `Null` and
 //! `Uninit`. After a text or a key, `*` says that its bytes are its own, and not borrowed from the input.
 #![tactic(auto)]
 

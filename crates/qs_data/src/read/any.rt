@@ -15,7 +15,7 @@ use std::alloc::Global;
 use std::mem;
 
 /// Reads whatever is there: a text as a text, and an empty one where nothing follows `=`. A sequence is a list, and so is a map
-/// whose keys are all numbers; another map keeps its keys as texts.
+/// whose keys are all integers; another map keeps its keys as texts.
 ///
 /// Iterative: it takes constant stack at any depth, and keeps the lists and maps around on the heap.
 #[inline(always)]

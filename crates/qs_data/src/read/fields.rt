@@ -22,7 +22,7 @@ use crate::read::unknown::UnknownKeys;
 use crate::shape::Field;
 use qs_tree::ParsedValue;
 
-/// Reads the fields of a node: by their names among keys, and by their indexes among items.
+/// Reads the fields of a node: by their names among keys, and by their indices among items.
 #[cycle(read)]
 #[tactic(auto, unfolding(qs_spec::specs::internal::ReadFunction::struct_members))]
 #[inline(always)]
@@ -121,7 +121,7 @@ fn read_field(reader: Reader, field: &Field, entries: Entries<'_, '_>) -> Result
     }
 }
 
-// Reads the fields by their indexes.
+// Reads the fields by their indices.
 #[cycle(read)]
 #[tactic(auto, unfolding(qs_spec::specs::internal::ReadFunction::reads))]
 fn read_places(

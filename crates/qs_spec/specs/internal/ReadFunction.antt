@@ -63,7 +63,7 @@ read_field optional is_opt r [] = cond optional (Some None) (cond is_opt (Some (
 read_field optional is_opt r (t ∷ []) = option_map Some (r t)
 read_field optional is_opt r (t ∷ u ∷ ts) = None
 
--- a field by its place
+-- a field by its index
 abbrev pub read_place : Bool → Reader → Items → Option (Option Data)
 read_place optional r no_items = cond optional (Some None) None
 read_place optional r (item t xs) = option_map Some (r t)
@@ -77,7 +77,7 @@ with_field name None rest = rest
 with_field name (Some d) rest = with_front (name, d) rest
 
 -- The fields of a node: by their names in a map, whose keys are all allowed, and in Null and NoValue, which have no keys; by their
--- places in a sequence.
+-- indices in a sequence.
 unfoldable pub struct_members : (Entries → Bool) → (Entries → Option (List Named)) → (Items → Option (List Named)) → Tree → Option (List Named)
 struct_members allowed names places (leaf NoValue) = names no_entries
 struct_members allowed names places (leaf Null) = names no_entries
@@ -165,7 +165,7 @@ unfoldable mutual
   reads_names reject_duplicates (one_field name s optional fs) es =
       option_and_then (λ d. with_field name d (reads_names reject_duplicates fs es)) (read_field optional (is_option s) (reads reject_duplicates s) (found name es))
 
-  -- the fields in their order, each by its place
+  -- the fields in their order, each by its index
   pub reads_places : Bool → Fields → Items → Option (List Named)
   reads_places reject_duplicates no_fields xs = Some []
   reads_places reject_duplicates (one_field name s optional fs) xs =

@@ -1,4 +1,4 @@
-//! Keys that are numbers, escaped keys, and how a key is kept.
+//! Integer keys, escaped keys, and how a key is kept.
 
 use super::{Config, Fail, accept, repeated, tree};
 

@@ -62,7 +62,7 @@ is_list (sequence xs) = true
 is_list (mapping es) = true
 is_list _ = false
 
--- a sequence, or a map whose keys are numbers
+-- a sequence, or a map whose keys are integers
 pub any_list : (t : Tree) (xs : List (Option Tree)) → is_list t ≡ true → items t ≡ Some xs → any_data t ≡ option_map (λ ds. Data.sequence (values_of ds)) (read_each any_data xs)
 unfolding any_data
 any_list (leaf l) xs w h = absurd cc

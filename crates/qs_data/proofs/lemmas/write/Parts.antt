@@ -31,7 +31,7 @@ part_stops e a b x y p = record { config = p.config; writes = λ path at. stops_
 pub part_nothing : (a : Writer) → WritesPart (Ok tt) a a (λ config path. nothing)
 part_nothing a = record { config = refl; writes = λ path at. (refl, adds_nothing a.config.form (state_of a), at) }
 
--- no memory at once
+-- an allocation failed at once
 pub part_without_memory : (a : Writer) (x : Part) → WritesPart (Err OutOfMemory) a a x
 part_without_memory a x = record { config = refl; writes = λ path at. some_none a.config.form (state_of a) (x a.config path).entries }
 

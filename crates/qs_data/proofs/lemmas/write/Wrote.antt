@@ -132,7 +132,7 @@ stops_early BadKey config a b x y p = subst (Stops BadKey config a b) (sym (foll
 stops_early Io config a b x y p = part_follow config.form a b x.entries x.refusal y p
 stops_early OutOfMemory config a b x y p = some_more config.form a b x.entries x.refusal y p
 
--- no memory at once
+-- an allocation failed at once
 pub some_none : (form : Bool) (t : StreamState) (es : List Entry) → AddsSome form t t es
 some_none form t es = record { front = []; rest = es; parts = refl; adds = adds_nothing form t }
 

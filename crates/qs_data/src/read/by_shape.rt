@@ -29,7 +29,12 @@ use crate::shape::{Field, KeyShape, Shape, Width};
 use qs_tree::{Error, ParsedValue};
 use std::alloc::Global;
 
-/// How a tree is read, node by node.
+/// How a tree is read, node by node. Its methods are for types that read themselves.
+///
+/// ```
+/// let reader = Reader::new(alloc, Config::new());
+/// let data = reader.read(&Shape::U8, node)?;
+/// ```
 #[derive(Clone, Copy)]
 pub struct Reader {
     /// Where memory comes from.

@@ -16,6 +16,16 @@ use qs_tree::{Error, Key, ParsedMap, ParsedValue};
 use std::alloc::Global;
 
 /// The items of a node.
+///
+/// ```
+/// let items = reader.items(node)?;
+/// for i in 0..items.len() {
+///     let Some(item) = items.get(reader, i)? else {
+///         break;
+///     };
+///     values.push(T::from_node(reader, item)?)?;
+/// }
+/// ```
 #[derive(Clone, Copy)]
 pub enum Items<'t, 'qs> {
     /// None.

@@ -26,6 +26,18 @@ use std::str;
 use std::str::Utf8Error;
 
 /// Keys with their values, of which the fields of a struct and the pairs of a map are read.
+///
+/// ```
+/// let entries = reader.entries(node)?;
+/// if let Err(broken) = entries.test() {
+///     return Err(broken.into_error(alloc));
+/// }
+/// match entries.find("age") {
+///     Found::One(node) => u8::from_node(reader, node),
+///     Found::Missing => Err(reader.missing_field("age")),
+///     Found::Several => Err(reader.duplicate_field("age")),
+/// }
+/// ```
 #[derive(Clone, Copy)]
 pub enum Entries<'t, 'qs> {
     /// None.
@@ -200,7 +212,7 @@ fn begins_with_a_digit(text: &[u8]) -> bool
     }
 }
 
-/// A key that isn't a text.
+/// A key that isn't UTF-8, which [`Entries::test`] returns.
 #[derive(Clone, Copy)]
 pub struct BrokenKey<'t> {
     text: &'t [u8],
@@ -215,7 +227,8 @@ impl BrokenKey<'_> {
         key_error(alloc, self.text, ReadError::Utf8(self.cause))
     }
 
-    /// Returns the error that says so: `Utf8`, or `Custom` with a hint where the key holds a bracket.
+    /// Returns the error that says so: [`Utf8`](qs_tree::Error::Utf8), or [`Custom`](qs_tree::Error::Custom) with a hint where the key holds a
+    /// bracket. It allocates for the hint.
     pub fn into_error(self, alloc: Global) -> Error
         ensures { OnlyCustomUtf8OrOutOfMemory {X = Unit {0}} (Err result) }
     {

@@ -46,6 +46,10 @@ pub trait Sink {
 }
 
 /// The sink of a writer: each put is one `write`, which is never repeated.
+///
+/// ```
+/// let serializer = Serializer::over(ByWrite::new(Vec::new(alloc)), Config::new());
+/// ```
 #[derive(Drop)]
 pub struct ByWrite<W: Write + Drop> {
     writer: W,

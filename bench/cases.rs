@@ -277,69 +277,57 @@ fn encoded(len: usize) -> Vec<Case> {
 
 /// Long texts of letters, of words, of spaces, of the escapes of letters, and of a byte that is always escaped.
 fn texts(len: usize) -> Vec<Case> {
-    let letters = Generator::new().letters(len);
-    let escapes = inputs::escapes(len);
-    let escaped = Generator::new().letters(len / 3);
-    let ampersands = "&".repeat(len);
-    let words = inputs::words(len);
-    let pluses = "+".repeat(len);
+    let mut cases = parsed_texts(len);
+    cases.extend(decoded_texts(len));
+    cases.extend(written_texts(len));
+    cases
+}
+
+fn parsed_texts(len: usize) -> Vec<Case> {
     let value = Keys { root: 1, first: 0 };
-    let written = |bytes: &[u8]| Call::Write(Sample::Bytes(bytes.to_vec()));
+    let parsed = |kind: &str, text: String| {
+        Case::new(
+            format!("parse one value of {kind}"),
+            format!("a={text}"),
+            Call::Parse(value),
+        )
+    };
     vec![
+        parsed("letters", Generator::new().letters(len)),
+        parsed("escapes", inputs::escapes(len)),
+        parsed("words", inputs::words(len).replace(' ', "+")),
+        parsed("spaces", "+".repeat(len)),
+    ]
+}
+
+fn decoded_texts(len: usize) -> Vec<Case> {
+    let letters = Generator::new().letters(len);
+    let escaped = Generator::new().letters(len / 3);
+    let words = inputs::words(len);
+    let decoded = |kind: &str, input: String, text: String| {
+        Case::new(format!("decode {kind}"), input, Call::Decode(text.into()))
+    };
+    vec![
+        decoded("spaces", "+".repeat(len), " ".repeat(len)),
+        decoded("words", words.replace(' ', "+"), words),
+        decoded("letters", letters.clone(), letters),
+        decoded("escapes", inputs::escapes(len), escaped),
+    ]
+}
+
+fn written_texts(len: usize) -> Vec<Case> {
+    let letters = Generator::new().letters(len);
+    let words = inputs::words(len);
+    let written = |kind: &str, text: String, bytes: &[u8]| {
         Case::new(
-            "parse one value of letters",
-            format!("a={letters}"),
-            Call::Parse(value),
-        ),
-        Case::new(
-            "parse one value of escapes",
-            format!("a={escapes}"),
-            Call::Parse(value),
-        ),
-        Case::new(
-            "parse one value of words",
-            format!("a={}", words.replace(' ', "+")),
-            Call::Parse(value),
-        ),
-        Case::new(
-            "parse one value of spaces",
-            format!("a={pluses}"),
-            Call::Parse(value),
-        ),
-        Case::new(
-            "decode spaces",
-            pluses,
-            Call::Decode(" ".repeat(len).into()),
-        ),
-        Case::new(
-            "decode words",
-            words.replace(' ', "+"),
-            Call::Decode(words.clone().into()),
-        ),
-        Case::new(
-            "decode letters",
-            letters.clone(),
-            Call::Decode(letters.clone().into()),
-        ),
-        Case::new(
-            "decode escapes",
-            escapes.clone(),
-            Call::Decode(escaped.into()),
-        ),
-        Case::new(
-            "write one value of letters",
-            format!("a={letters}"),
-            written(letters.as_bytes()),
-        ),
-        Case::new(
-            "write one value of words",
-            format!("a={}", words.replace(' ', "+")),
-            written(words.as_bytes()),
-        ),
-        Case::new(
-            "write one value of `&`",
-            format!("a={}", "%26".repeat(len / 3)),
-            written(&ampersands.as_bytes()[..len / 3]),
-        ),
+            format!("write one value of {kind}"),
+            format!("a={text}"),
+            Call::Write(Sample::Bytes(bytes.to_vec())),
+        )
+    };
+    vec![
+        written("letters", letters.clone(), letters.as_bytes()),
+        written("words", words.replace(' ', "+"), words.as_bytes()),
+        written("`&`", "%26".repeat(len / 3), "&".repeat(len / 3).as_bytes()),
     ]
 }

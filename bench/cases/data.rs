@@ -10,18 +10,6 @@ pub(super) const RECORD: &str = "id=42&name=Acme&phone=12345&address[city]=Carro
 
 /// A struct, the record, maps, a list, a nested text and long texts.
 pub(super) fn read(counts: &[usize], many: usize, len: usize) -> Vec<Case> {
-    let case = |kind: &str, input: String, shape: Shape, size: usize| {
-        Case::new(format!("read {kind}"), input, Call::Read(shape, size))
-    };
-    let map = |count: usize, order: Order| {
-        let kind = format!("{} into a map, {}", counted(count, "pair"), order.name());
-        case(
-            &kind,
-            inputs::pairs(count, order, "key", ""),
-            Shape::Map,
-            17 * count,
-        )
-    };
     let record = "AcmeCarrot CitySpecial-Street* No. 1112345".len();
     let mut cases = vec![
         case(
@@ -37,9 +25,9 @@ pub(super) fn read(counts: &[usize], many: usize, len: usize) -> Vec<Case> {
             record,
         ),
     ];
-    cases.extend(series(counts, |count| map(count, Order::InOrder)));
+    cases.extend(series(counts, |count| read_map(count, Order::InOrder)));
     cases.extend([
-        map(many, Order::Shuffled),
+        read_map(many, Order::Shuffled),
         case(
             &format!("{} elements by number", grouped(many)),
             (0..many)
@@ -55,26 +43,34 @@ pub(super) fn read(counts: &[usize], many: usize, len: usize) -> Vec<Case> {
             Shape::Nested,
             4,
         ),
-        case(
-            "one value of letters",
-            format!("a={}", Generator::new().letters(len)),
-            Shape::Text,
-            len,
-        ),
-        case(
-            "one value of escapes",
-            format!("a={}", inputs::escapes(len)),
-            Shape::Text,
-            len / 3,
-        ),
-        case(
-            "one value of spaces",
-            format!("a={}", "+".repeat(len)),
-            Shape::Text,
-            len,
-        ),
     ]);
+    cases.extend(read_texts(len));
     cases
+}
+
+fn case(kind: &str, input: String, shape: Shape, size: usize) -> Case {
+    Case::new(format!("read {kind}"), input, Call::Read(shape, size))
+}
+
+fn read_map(count: usize, order: Order) -> Case {
+    case(
+        &format!("{} into a map, {}", counted(count, "pair"), order.name()),
+        inputs::pairs(count, order, "key", ""),
+        Shape::Map,
+        17 * count,
+    )
+}
+
+fn read_texts(len: usize) -> Vec<Case> {
+    let text = |kind: &str, text: String, size: usize| {
+        let input = format!("a={text}");
+        case(&format!("one value of {kind}"), input, Shape::Text, size)
+    };
+    vec![
+        text("letters", Generator::new().letters(len), len),
+        text("escapes", inputs::escapes(len), len / 3),
+        text("spaces", "+".repeat(len), len),
+    ]
 }
 
 /// The record, structs and a list. The structs grow.

@@ -3,7 +3,7 @@
 use super::written::written_data;
 use serde_qs::helpers::{comma_separated, generic_delimiter, pipe_delimited, space_delimited};
 use serde_qs::web::{QsForm, QsQuery};
-use serde_qs::{Data, Error, Result};
+use serde_qs::{Config, Data, Error, Result};
 use std::alloc::Global;
 use std::str;
 
@@ -51,6 +51,21 @@ fn wrapped(alloc: Global, input: &[u8]) -> Result<String> {
     Ok(format!(in alloc; "{query} {form}")?)
 }
 
+// Returns whether a map of the items between commas can be read back, and whether a struct of them can.
+fn plainness(alloc: Global, input: &[u8]) -> Result<String> {
+    let items = Data::Text(owned_text(alloc, input)?);
+    let names: Vec<String> = comma_separated::deserialize(alloc, items)?;
+    let mut pairs = Vec::new(alloc);
+    let mut members = Vec::new(alloc);
+    for name in names {
+        pairs.push((Data::Text(name.clone()?), Data::Unit))?;
+        members.push((name, Data::Unit))?;
+    }
+    let map = Data::Map(pairs).is_plain(Config::new());
+    let structure = Data::Struct(members).is_plain(Config::new());
+    Ok(format!(in alloc; "{map} {structure}")?)
+}
+
 /// Returns what the call of this name makes of the input, if there is one.
 ///
 /// | name | line |
@@ -59,6 +74,7 @@ fn wrapped(alloc: Global, input: &[u8]) -> Result<String> {
 /// | `from_utf8`, `parse_int` | the input, or the error that std's error becomes |
 /// | `helpers` | the items between commas, after they were written and read with each other delimiter |
 /// | `web` | the texts of copies of a query and a form |
+/// | `plain` | whether a map and a struct are plain whose keys and names are the items between commas |
 /// | `data` | data with a character, bytes, and a key that isn't written, as the text of their entries |
 pub fn answer(alloc: Global, name: &str, input: &[u8]) -> Option<Result<String>> {
     match name {
@@ -67,6 +83,7 @@ pub fn answer(alloc: Global, name: &str, input: &[u8]) -> Option<Result<String>>
         "parse_int" => Some(number(alloc, input)),
         "helpers" => Some(relisted(alloc, input)),
         "web" => Some(wrapped(alloc, input)),
+        "plain" => Some(plainness(alloc, input)),
         "data" => Some(written_data(alloc)),
         _ => None,
     }

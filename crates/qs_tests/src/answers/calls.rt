@@ -51,18 +51,30 @@ fn wrapped(alloc: Global, input: &[u8]) -> Result<String> {
     Ok(format!(in alloc; "{query} {form}")?)
 }
 
-// Returns whether a map of the items between commas can be read back, and whether a struct of them can.
+// Returns a map with these keys.
+fn map_of(alloc: Global, keys: &[String]) -> Result<Data> {
+    let mut pairs = Vec::with_capacity(alloc, keys.len())?;
+    for key in keys {
+        pairs.push((Data::Text(key.clone()?), Data::Unit))?;
+    }
+    Ok(Data::Map(pairs))
+}
+
+// Returns a struct of fields with these names.
+fn struct_of(alloc: Global, names: Vec<String>) -> Result<Data> {
+    let mut members = Vec::with_capacity(alloc, names.len())?;
+    for name in names {
+        members.push((name, Data::Unit))?;
+    }
+    Ok(Data::Struct(members))
+}
+
+// Returns whether a map and a struct are plain whose keys and names are the items between commas.
 fn plainness(alloc: Global, input: &[u8]) -> Result<String> {
     let items = Data::Text(owned_text(alloc, input)?);
     let names: Vec<String> = comma_separated::deserialize(alloc, items)?;
-    let mut pairs = Vec::new(alloc);
-    let mut members = Vec::new(alloc);
-    for name in names {
-        pairs.push((Data::Text(name.clone()?), Data::Unit))?;
-        members.push((name, Data::Unit))?;
-    }
-    let map = Data::Map(pairs).is_plain(Config::new());
-    let structure = Data::Struct(members).is_plain(Config::new());
+    let map = map_of(alloc, &names)?.is_plain(Config::new());
+    let structure = struct_of(alloc, names)?.is_plain(Config::new());
     Ok(format!(in alloc; "{map} {structure}")?)
 }
 

@@ -137,7 +137,10 @@ fail_each "$order" 0 "$text&name=Ac and then: write zero" order serialize_twice 
 fail_each "v=$long&w=1" 0 "v=${long:0:2998} and then: broken pipe" map to_writer 3000
 fail_each "v=$long&w=1" 0 "v=$long&w=1" map serialize_to_writer 30000
 
-# Calls without a user's type: data of every kind, errors that callers make, lists in one text, wrappers.
+# Calls without a user's type: maps and structs whose keys and names are put into a set to compare them, data of every kind, errors that callers make,
+# lists in one text, wrappers.
+fail_each "$(seq -s, 20)" 0 'true true' plain
+fail_each "$(seq -s, 20),7" 0 'false false' plain
 fail_each '' 0 'c=%C3%A4&b=%FF+%26 and then: unsupported type for serialization' data
 fail_each 'no such page' 1 'error: no such page' custom
 fail_each 'no digit' 1 "error: parsing failed with error: 'no digit' at position: 7" parse_err

@@ -1,6 +1,7 @@
 #!/usr/bin/env bash
 # Inputs of 300,000 pairs, read by users' types and written again: a map, lists and structs in each order, keys that no field has, and a
-# list in one text. Inputs as long that aren't read, for what their last pair is or for a pair that is missing, and why.
+# list in one text. Inputs as long that aren't read, for what their last pair is or for a pair that is missing, and why. Maps and structs of
+# as many keys and names that are asked whether they can be read back.
 crate=qs_tests
 source "$(dirname "${BASH_SOURCE[0]}")/support/loads.sh"
 measure=map
@@ -88,5 +89,18 @@ explained "a map of $((count / 2)) structs whose last field is wrong" pairs=$cou
 explained "a list of $((count / 2)) structs whose last field is wrong" pairs=$count ranges "b[$((count / 2 - 1))][to]: expected u32, found the text \"x\""
 { printf 'x=1'; times 1000000 '&a[+'; } >"$room/input"
 explained '4 MB of unclosed keys' plain map "parsing failed with error: 'unexpected end of input while parsing nested key' at position: $(($(wc -c <"$room/input") + 1))"
+
+# plain NAME LINE: whether a map and a struct are plain whose keys and names are these items.
+plain() {
+    printf '%s\n' "$2" >"$room/wanted"
+    load "$1" 0 pairs=$count plain
+}
+
+for order in 'in order' reversed shuffled; do
+    numbers $count "$order" | sed 's/^/k/' | joined , >"$room/input"
+    plain "a map and a struct of $count that differ, $order" 'true true'
+done
+printf ',k000000' >>"$room/input"
+plain "a map and a struct of $count, and one of them again" 'false false'
 
 report_loads

@@ -9,8 +9,8 @@ mod text;
 mod walk;
 mod writer;
 
+pub(crate) use scalar::Room;
 pub use scalar::Scalar;
-pub(crate) use scalar::word;
 pub use serializer::Serializer;
 pub use sink::{ByWrite, Sink};
 pub use stop::{Stop, WriteResult};

@@ -5,6 +5,7 @@ mod cases;
 mod entries;
 mod formats;
 mod losses;
+mod many;
 mod orders;
 mod premises;
 mod random;

@@ -2,3 +2,4 @@
 pub mod Equality
 pub mod EqualityLaws
 pub mod Weight
+pub mod Texts

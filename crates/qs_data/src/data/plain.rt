@@ -1,19 +1,22 @@
 //! Data that can be read back.
 
-ghost use Rattle.std.specs.Prelude.{◌≡◌, ◌&&◌, Some};
+ghost use Rattle.std.specs.Prelude.{ℕ, ◌≡◌, ◌&&◌, ◌||◌, not, List, Some, IfOk, OnOk};
 ghost use Rattle.std.specs.List.{list_any};
 ghost use Rattle.std.specs.Str.{bytes_eq};
-ghost use Rattle.qs_spec.specs.Plain.{is_plain, are_plain, are_plain_pairs, are_plain_members, is_optional, is_plain_name, is_plain_key, is_text_of, is_written_key, is_member_name, written_keys_differ, member_names_differ, has_members, has_values, are_few};
-ghost use Rattle.qs_spec.specs.Entry.{key_text};
+ghost use Rattle.qs_spec.specs.Plain.{is_plain, are_plain, are_plain_pairs, are_plain_members, is_optional, is_plain_name, is_plain_key, is_written_key, is_member_name, written_keys_differ, member_names_differ, has_members, has_values, are_few};
 ghost use Rattle.qs_spec.specs.Scalar.{is_numeral};
 ghost use Rattle.qs_spec.specs.Token.{is_bracket};
 ghost use Rattle.qs_data.specs.data.Views.{data_of, values_in, pairs_in, members_in};
-ghost use Rattle.qs_data.specs.write.Scalars.{scalar_text};
+ghost use Rattle.qs_data.specs.data.internal.Texts.{holds_text};
 
 use crate::data::Data;
-use crate::write::{Scalar, word};
-use itoa::Buffer;
+use crate::write::{Room, Scalar};
 use qs_tree::Config;
+use std::alloc::{AllocError, Global};
+use std::collections::BTreeSet;
+
+/// How many keys of a map, or names of a struct, are compared two by two.
+const FEW: usize = 16;
 
 impl Data {
     /// Whether these data can be read back: written in the indexed format, within the depth limit, they are read by each shape
@@ -27,8 +30,9 @@ impl Data {
     /// - a unit variant has a name;
     /// - a list has at most 4,294,967,295 elements.
     ///
-    /// Of the configuration only the encoding matters. The keys of a map are compared two by two, as are the names of a struct;
-    /// all else takes time with the size of the data, and stack with their depth. It doesn't allocate.
+    /// Of the configuration only the encoding matters. It takes time with the size of the data, and with the logarithm of how many
+    /// keys a map has, and stack with their depth. More than 16 keys of a map, or names of a struct, are put into a sorted set,
+    /// which allocates; where an allocation fails they are compared two by two.
     ///
     /// ```
     /// if !data.is_plain(config) {
@@ -197,97 +201,100 @@ fn is_plain_key(key: &Data, form: bool) -> bool
     match key {
         Data::Bytes(_) => false,
         _ => match Scalar::of(key) {
-            Some(key) => is_plain_text(key, form),
+            Some(key) => is_plain_name(key.text(&mut Room::new()), form),
             None => false,
         },
     }
 }
 
-// Whether the text of a key is read back.
-fn is_plain_text(key: Scalar<'_>, form: bool) -> bool
-    ensures { result ≡ is_plain_name form (scalar_text key.entry) }
+// Whether the keys of a map are written differently.
+fn written_keys_differ(pairs: &Vec<(Data, Data)>) -> bool
+    ensures { result ≡ written_keys_differ (pairs_in pairs.now.items) }
 {
-    match key {
-        Scalar::Bytes(bytes) => is_plain_name(bytes, form),
-        Scalar::Bool(value) => is_plain_name(word(value).as_bytes(), form),
-        Scalar::Unsigned(n) => is_plain_name(Buffer::new().format(n).as_bytes(), form),
-        Scalar::Signed(n) => is_plain_name(Buffer::new().format(n).as_bytes(), form),
-        Scalar::Char(c) => is_plain_name(c.encode_utf8(&mut [0; 4]).as_bytes(), form),
+    if pairs.len() > FEW {
+        if let Ok(differ) = many_keys_differ(pairs, *pairs.allocator()) {
+            return differ;
+        }
     }
+    few_keys_differ(pairs)
 }
 
-// Whether the keys of a map are written differently.
-fn written_keys_differ(pairs: &[(Data, Data)]) -> bool
+// The same by a sorted set of the texts. Returns an error only where an allocation failed.
+fn many_keys_differ(pairs: &[(Data, Data)], alloc: Global) -> Result<bool, AllocError>
+    ensures { IfOk result (λ differ. differ ≡ written_keys_differ (pairs_in pairs.now)) }
+{
+    let mut texts = BTreeSet::new(alloc);
+    let mut differ = true;
+    for i in (0..pairs.len()).rev() {
+        if let Some(key) = Scalar::of(&pairs[i].0) {
+            differ &= add_text(key.text(&mut Room::new()), alloc, &mut texts)?;
+        }
+    }
+    Ok(differ)
+}
+
+// The same by comparing each with those after it.
+fn few_keys_differ(pairs: &[(Data, Data)]) -> bool
     ensures { result ≡ written_keys_differ (pairs_in pairs.now) }
 {
     for (i, pair) in pairs.iter().enumerate() {
-        if is_among(&pair.0, &pairs[i + 1..]) {
-            return false;
+        if let Some(key) = Scalar::of(&pair.0) {
+            if is_written_key(key.text(&mut Room::new()), &pairs[i + 1..]) {
+                return false;
+            }
         }
     }
     true
 }
 
-// Whether a key is written as one of the others.
-fn is_among(key: &Data, others: &[(Data, Data)]) -> bool
-    ensures { result ≡ is_written_key (key_text (data_of key.now)) (pairs_in others.now) }
-{
-    match Scalar::of(key) {
-        Some(key) => is_written_key(key, others),
-        None => false,
-    }
-}
-
-// Whether one of the keys has the text of this one.
-fn is_written_key(key: Scalar<'_>, pairs: &[(Data, Data)]) -> bool
-    ensures { result ≡ is_written_key (Some (scalar_text key.entry)) (pairs_in pairs.now) }
+// Whether one of the keys has this text.
+fn is_written_key(text: &[u8], pairs: &[(Data, Data)]) -> bool
+    ensures { result ≡ is_written_key (Some text.now) (pairs_in pairs.now) }
 {
     for pair in pairs {
-        if is_key_text(&pair.0, key) {
-            return true;
+        if let Some(key) = Scalar::of(&pair.0) {
+            if key.text(&mut Room::new()) == text {
+                return true;
+            }
         }
     }
     false
 }
 
-// Whether a key has this text.
-fn is_key_text(key: &Data, text: Scalar<'_>) -> bool
-    ensures { result ≡ is_text_of (scalar_text text.entry) (key_text (data_of key.now)) }
+// Adds a text to a set, and returns whether it wasn't there.
+fn add_text(text: &[u8], alloc: Global, texts: &mut BTreeSet<Vec<u8>>) -> Result<bool, AllocError>
+    ensures added { IfOk result (λ added. added ≡ not (holds_text texts.old text.now)) }
+    ensures set { OnOk result ((t : List ℕ) → holds_text texts.new t ≡ (bytes_eq text.now t || holds_text texts.old t)) }
 {
-    match Scalar::of(key) {
-        Some(key) => are_same(key, text),
-        None => false,
-    }
-}
-
-// Whether two scalars have the same text.
-fn are_same(a: Scalar<'_>, b: Scalar<'_>) -> bool
-    ensures { result ≡ bytes_eq (scalar_text a.entry) (scalar_text b.entry) }
-{
-    match b {
-        Scalar::Bytes(bytes) => has_text(a, bytes),
-        Scalar::Bool(value) => has_text(a, word(value).as_bytes()),
-        Scalar::Unsigned(n) => has_text(a, Buffer::new().format(n).as_bytes()),
-        Scalar::Signed(n) => has_text(a, Buffer::new().format(n).as_bytes()),
-        Scalar::Char(c) => has_text(a, c.encode_utf8(&mut [0; 4]).as_bytes()),
-    }
-}
-
-// Whether this is the text of a scalar.
-fn has_text(scalar: Scalar<'_>, text: &[u8]) -> bool
-    ensures { result ≡ bytes_eq (scalar_text scalar.entry) text.now }
-{
-    match scalar {
-        Scalar::Bytes(bytes) => bytes == text,
-        Scalar::Bool(value) => word(value).as_bytes() == text,
-        Scalar::Unsigned(n) => Buffer::new().format(n).as_bytes() == text,
-        Scalar::Signed(n) => Buffer::new().format(n).as_bytes() == text,
-        Scalar::Char(c) => c.encode_utf8(&mut [0; 4]).as_bytes() == text,
-    }
+    Ok(texts.insert(Vec::from_slice(alloc, text)?)?)
 }
 
 // Whether the names of fields differ.
-fn member_names_differ(members: &[(String, Data)]) -> bool
+fn member_names_differ(members: &Vec<(String, Data)>) -> bool
+    ensures { result ≡ member_names_differ (members_in members.now.items) }
+{
+    if members.len() > FEW {
+        if let Ok(differ) = many_names_differ(members, *members.allocator()) {
+            return differ;
+        }
+    }
+    few_names_differ(members)
+}
+
+// The same by a sorted set of the names. Returns an error only where an allocation failed.
+fn many_names_differ(members: &[(String, Data)], alloc: Global) -> Result<bool, AllocError>
+    ensures { IfOk result (λ differ. differ ≡ member_names_differ (members_in members.now)) }
+{
+    let mut names = BTreeSet::new(alloc);
+    let mut differ = true;
+    for i in (0..members.len()).rev() {
+        differ &= add_text(members[i].0.as_bytes(), alloc, &mut names)?;
+    }
+    Ok(differ)
+}
+
+// The same by comparing each with those after it.
+fn few_names_differ(members: &[(String, Data)]) -> bool
     ensures { result ≡ member_names_differ (members_in members.now) }
 {
     for (i, member) in members.iter().enumerate() {

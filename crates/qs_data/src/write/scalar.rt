@@ -31,6 +31,23 @@ pub enum Scalar<'a> {
     Char(char),
 }
 
+/// Room for the text of a number or a character.
+#[derive(Drop)]
+pub(crate) struct Room {
+    digits: Buffer,
+    character: [u8; 4],
+}
+
+impl Room {
+    /// Room that is unused.
+    pub(crate) fn new() -> Room {
+        Room {
+            digits: Buffer::new(),
+            character: [0; 4],
+        }
+    }
+}
+
 impl<'a> Scalar<'a> {
     /// Returns the scalar that the data are, where they are one.
     #[tactic(auto, using(crate::proofs::lemmas::data::Levels::levels))]
@@ -50,6 +67,21 @@ impl<'a> Scalar<'a> {
             Data::NewtypeVariant(_, _) | Data::TupleVariant(_, _) | Data::StructVariant(_, _) => {
                 None
             }
+        }
+    }
+
+    /// Returns its text. That of a number or a character is put into the room.
+    pub(crate) fn text<'t>(self, room: &'t mut Room) -> &'t [u8]
+    where
+        'a: 't,
+        ensures { result.now ≡ scalar_text self.entry }
+    {
+        match self {
+            Scalar::Bytes(bytes) => bytes,
+            Scalar::Bool(value) => word(value).as_bytes(),
+            Scalar::Unsigned(n) => room.digits.format(n).as_bytes(),
+            Scalar::Signed(n) => room.digits.format(n).as_bytes(),
+            Scalar::Char(c) => c.encode_utf8(&mut room.character).as_bytes(),
         }
     }
 

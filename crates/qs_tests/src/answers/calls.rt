@@ -3,7 +3,7 @@
 use super::written::written_data;
 use serde_qs::helpers::{comma_separated, generic_delimiter, pipe_delimited, space_delimited};
 use serde_qs::web::{QsForm, QsQuery};
-use serde_qs::{Data, Error, Result};
+use serde_qs::{Config, Data, Error, Result};
 use std::alloc::Global;
 use std::str;
 
@@ -51,6 +51,33 @@ fn wrapped(alloc: Global, input: &[u8]) -> Result<String> {
     Ok(format!(in alloc; "{query} {form}")?)
 }
 
+// Returns a map with these keys.
+fn map_of(alloc: Global, keys: &[String]) -> Result<Data> {
+    let mut pairs = Vec::with_capacity(alloc, keys.len())?;
+    for key in keys {
+        pairs.push((Data::Text(key.clone()?), Data::Unit))?;
+    }
+    Ok(Data::Map(pairs))
+}
+
+// Returns a struct of fields with these names.
+fn struct_of(alloc: Global, names: Vec<String>) -> Result<Data> {
+    let mut members = Vec::with_capacity(alloc, names.len())?;
+    for name in names {
+        members.push((name, Data::Unit))?;
+    }
+    Ok(Data::Struct(members))
+}
+
+// Returns whether a map and a struct are plain whose keys and names are the items between commas.
+fn plainness(alloc: Global, input: &[u8]) -> Result<String> {
+    let items = Data::Text(owned_text(alloc, input)?);
+    let names: Vec<String> = comma_separated::deserialize(alloc, items)?;
+    let map = map_of(alloc, &names)?.is_plain(Config::new());
+    let structure = struct_of(alloc, names)?.is_plain(Config::new());
+    Ok(format!(in alloc; "{map} {structure}")?)
+}
+
 /// Returns what the call of this name makes of the input, if there is one.
 ///
 /// | name | line |
@@ -59,6 +86,7 @@ fn wrapped(alloc: Global, input: &[u8]) -> Result<String> {
 /// | `from_utf8`, `parse_int` | the input, or the error that std's error becomes |
 /// | `helpers` | the items between commas, after they were written and read with each other delimiter |
 /// | `web` | the texts of copies of a query and a form |
+/// | `plain` | whether a map and a struct are plain whose keys and names are the items between commas |
 /// | `data` | data with a character, bytes, and a key that isn't written, as the text of their entries |
 pub fn answer(alloc: Global, name: &str, input: &[u8]) -> Option<Result<String>> {
     match name {
@@ -67,6 +95,7 @@ pub fn answer(alloc: Global, name: &str, input: &[u8]) -> Option<Result<String>>
         "parse_int" => Some(number(alloc, input)),
         "helpers" => Some(relisted(alloc, input)),
         "web" => Some(wrapped(alloc, input)),
+        "plain" => Some(plainness(alloc, input)),
         "data" => Some(written_data(alloc)),
         _ => None,
     }

@@ -1,8 +1,7 @@
 use Rattle.std.proofs.Common.{◌≡◌, drop, Some}
 use Rattle.qs_spec.specs.Plain.{is_written_key}
 use Rattle.qs_data.specs.data.Views.{pairs_in}
-use Rattle.qs_data.specs.write.Scalars.{scalar_text}
 use Rattle.qs_data.proofs.data.plain.is_written_key.Given as goal
 
 abbrev pub invariant-loop-pair : goal.invariant-loop-pair
-invariant-loop-pair l = is_written_key (Some (scalar_text l.key)) (pairs_in l.pairs) ≡ is_written_key (Some (scalar_text l.key)) (pairs_in (drop l.pair-index l.pairs))
+invariant-loop-pair l = is_written_key (Some l.text) (pairs_in l.pairs) ≡ is_written_key (Some l.text) (pairs_in (drop l.pair-index l.pairs))

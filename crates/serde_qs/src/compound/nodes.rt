@@ -1,7 +1,7 @@
 //! The fields of a struct, read from a node.
 
 ghost use Rattle.std.specs.Prelude.{◌≡◌, true, map, option_and_then, option_map, Some, None};
-ghost use Rattle.qs_spec.specs.Node.{found};
+ghost use Rattle.qs_spec.specs.Node.{as_map, found};
 ghost use Rattle.qs_spec.specs.Shape.{field_names_differ, fields_of};
 ghost use Rattle.qs_spec.specs.internal.ReadFunction.{items_after, reads};
 ghost use Rattle.qs_tree.specs.tree.Views.{items_from, tree_of};
@@ -36,6 +36,23 @@ pub(crate) fn struct_of<F: Fields>(
         ParsedValue::Map(map) => read_entries(reader, names, Entries::Map(map)),
         ParsedValue::Sequence(items) => F::from_places(reader, names, items, items.len()),
         ParsedValue::String(_) | ParsedValue::Uninitialized => Err(reader.not_a_struct(node)),
+    }
+}
+
+// Returns the fields that a struct variant holds: those of a struct, where a text counts as a map from the empty key to it.
+#[tactic(auto, unfolding(qs_spec::specs::internal::ReadFunction::struct_members))]
+pub(crate) fn variant_of<F: Fields>(
+    reader: Reader,
+    names: &[&'static str],
+    node: &ParsedValue<'_>,
+) -> Result<F>
+    requires { field_names_differ (fields_of (F.table.form (texts names.now))) ≡ true }
+    ensures { Gives F.table.value (is_text (tree_of node.now)) result
+        (members_read reader.reject_duplicates (F.table.form (texts names.now)) (F.table.meaning (texts names.now)) (as_map (tree_of node.now))) }
+{
+    match node {
+        ParsedValue::String(_) => read_entries(reader, names, Entries::Leaf(node)),
+        _ => struct_of(reader, names, node),
     }
 }
 

@@ -4,8 +4,10 @@ ghost use Rattle.serde_qs.specs.PartTables.{strict_parts, strict_payload};
 
 use super::fields::Fields;
 use super::parts::{Parts, struct_fields};
+use super::nodes;
 use super::payloads::{Payload, variant_fields};
-use qs_data::{Data, Result, Shape, VariantKind};
+use qs_data::{Data, Reader, Result, Shape, VariantKind};
+use qs_tree::ParsedValue;
 use std::alloc::Global;
 
 /// The fields of a struct, or of a variant with named fields, as those of a [`Struct`](crate::Struct), where a map with a key that no
@@ -42,5 +44,14 @@ impl<F: Fields> Payload for StrictStruct<F> {
 
     fn from_data(alloc: Global, names: &[&'static str], datum: Data) -> Result<StrictStruct<F>> {
         Ok(StrictStruct(variant_fields(alloc, names, datum)?))
+    }
+
+    fn from_node(
+        reader: Reader,
+        names: &[&'static str],
+        held: Option<&ParsedValue<'_>>,
+    ) -> Result<StrictStruct<F>> {
+        let node = reader.struct_variant(held)?;
+        Ok(StrictStruct(nodes::variant_of(reader, names, node)?))
     }
 }

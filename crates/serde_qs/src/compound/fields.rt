@@ -1,7 +1,7 @@
 //! The fields of a struct, as nested pairs.
 
 ghost use Rattle.std.specs.Prelude.{◌≡◌, ◌++◌, map, IfOk, true};
-ghost use Rattle.qs_spec.specs.Shape.{field_names_differ, fields_of};
+ghost use Rattle.qs_spec.specs.Shape.{field_names_differ, fields_of, is_field_name};
 ghost use Rattle.qs_tree.specs.Error.{OnlyOutOfMemory};
 ghost use Rattle.qs_tree.specs.tree.Views.{items_from, tree_of};
 ghost use Rattle.qs_data.specs.read.Gives.{Gives};
@@ -16,9 +16,10 @@ ghost use Rattle.serde_qs.specs.Typed.{Means};
 use super::nodes;
 use super::own::{shape_of, value_of};
 use crate::traits::{RoundTrip, unexpected};
-use qs_data::{Data, Entries, Field, Reader, Result};
+use qs_data::{Data, Entries, Field, FieldNames, Reader, Result};
 use qs_tree::ParsedValue;
 use std::alloc::Global;
+use std::marker::PhantomData;
 
 /// The fields of a struct, each pair a field and those after it: `(A, (B, (C, ())))`.
 ///
@@ -31,6 +32,10 @@ pub trait Fields: Sized + Drop {
     /// Returns the names after those of the fields.
     fn skip<'a>(names: &'a [&'static str]) -> &'a [&'static str]
         ensures { texts result.now ≡ table.after (texts names.now) };
+
+    /// Returns whether one of the fields has this name.
+    fn has(names: &[&'static str], name: &[u8]) -> bool
+        ensures { result ≡ is_field_name name.now (fields_of (table.form (texts names.now))) };
 
     /// Returns these fields and after them what is read for the fields of these names.
     fn push_fields(alloc: Global, names: &[&'static str], fields: Vec<Field>) -> Result<Vec<Field>>
@@ -73,6 +78,10 @@ impl Fields for () {
 
     fn skip<'a>(names: &'a [&'static str]) -> &'a [&'static str] {
         names
+    }
+
+    fn has(_names: &[&'static str], _name: &[u8]) -> bool {
+        false
     }
 
     fn push_fields(
@@ -123,6 +132,11 @@ impl<T: RoundTrip + Drop, R: Fields> Fields for (T, R) {
         R::skip(rest)
     }
 
+    fn has(names: &[&'static str], name: &[u8]) -> bool {
+        let (first, rest) = split(names);
+        first.as_bytes() == name || R::has(rest, name)
+    }
+
     fn push_fields(
         alloc: Global,
         names: &[&'static str],
@@ -170,6 +184,33 @@ impl<T: RoundTrip + Drop, R: Fields> Fields for (T, R) {
         let first = nodes::by_place(reader, items, count)?;
         let others = R::from_places(reader, rest, nodes::after(items), count)?;
         Ok((first, others))
+    }
+}
+
+// The names of fields, which are the first of these.
+#[derive(Drop)]
+pub(crate) struct NamesOf<'a, F> {
+    names: &'a [&'static str],
+    fields: PhantomData<F>,
+}
+
+impl<'a, F: Fields> NamesOf<'a, F> {
+    // Returns the names of fields, from names of which they are the first.
+    pub(crate) fn new(names: &'a [&'static str]) -> NamesOf<'a, F>
+        ensures { result.names.now ≡ names.now }
+    {
+        NamesOf {
+            names,
+            fields: PhantomData,
+        }
+    }
+}
+
+impl<F: Fields> FieldNames for NamesOf<'_, F> {
+    ghost fields = { λ ns. fields_of (F.table.form (texts ns.names.now)) };
+
+    fn has(&self, name: &[u8]) -> bool {
+        F::has(self.names, name)
     }
 }
 

@@ -16,10 +16,9 @@ ghost use Rattle.serde_qs.specs.Typed.{Means};
 use super::nodes;
 use super::own::{shape_of, value_of};
 use crate::traits::{RoundTrip, unexpected};
-use qs_data::{Data, Entries, Field, FieldNames, Reader, Result};
+use qs_data::{Data, Entries, Field, Reader, Result};
 use qs_tree::ParsedValue;
 use std::alloc::Global;
-use std::marker::PhantomData;
 
 /// The fields of a struct, each pair a field and those after it: `(A, (B, (C, ())))`.
 ///
@@ -184,33 +183,6 @@ impl<T: RoundTrip + Drop, R: Fields> Fields for (T, R) {
         let first = nodes::by_place(reader, items, count)?;
         let others = R::from_places(reader, rest, nodes::after(items), count)?;
         Ok((first, others))
-    }
-}
-
-// The names of fields, which are the first of these.
-#[derive(Drop)]
-pub(crate) struct NamesOf<'a, F> {
-    names: &'a [&'static str],
-    fields: PhantomData<F>,
-}
-
-impl<'a, F: Fields> NamesOf<'a, F> {
-    // Returns the names of fields, from names of which they are the first.
-    pub(crate) fn new(names: &'a [&'static str]) -> NamesOf<'a, F>
-        ensures { result.names.now ≡ names.now }
-    {
-        NamesOf {
-            names,
-            fields: PhantomData,
-        }
-    }
-}
-
-impl<F: Fields> FieldNames for NamesOf<'_, F> {
-    ghost fields = { λ ns. fields_of (F.table.form (texts ns.names.now)) };
-
-    fn has(&self, name: &[u8]) -> bool {
-        F::has(self.names, name)
     }
 }
 

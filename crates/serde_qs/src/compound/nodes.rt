@@ -13,11 +13,12 @@ ghost use Rattle.serde_qs.specs.internal.NodeParts.{members_read, names_read, va
 ghost use Rattle.serde_qs.specs.Records.{texts};
 
 use super::defaulted::OrDefault;
-use super::fields::{Fields, NamesOf};
+use super::fields::Fields;
 use super::own;
 use crate::traits::RoundTrip;
-use qs_data::{Entries, Found, Reader, Result, UnknownKeys};
+use qs_data::{Entries, FieldNames, Found, Reader, Result, UnknownKeys};
 use qs_tree::ParsedValue;
+use std::marker::PhantomData;
 
 // Returns the fields that a node holds: by their names among keys, and by their places among items. A key that no field has is
 // ignored or rejected.
@@ -60,10 +61,29 @@ pub(crate) fn read_entries<F: Fields>(
 {
     let tested = entries.test();
     let fields = F::from_entries(reader, names, entries)?;
-    unknown.reject(reader, &NamesOf::<F>::new(names), entries)?;
+    let known = NamesOf::<F> {
+        names,
+        fields: PhantomData,
+    };
+    unknown.reject(reader, &known, entries)?;
     match tested {
         Ok(()) => Ok(fields),
         Err(key) => Err(key.into_error(reader.alloc)),
+    }
+}
+
+// The names of some fields, perhaps with further names after them.
+#[derive(Drop)]
+struct NamesOf<'a, F> {
+    names: &'a [&'static str],
+    fields: PhantomData<F>,
+}
+
+impl<F: Fields> FieldNames for NamesOf<'_, F> {
+    ghost fields = { λ known. fields_of (F.table.form (texts known.names.now)) };
+
+    fn has(&self, name: &[u8]) -> bool {
+        F::has(self.names, name)
     }
 }
 

@@ -40,10 +40,7 @@ fn which_error_comes_first(rt: HostRuntime) {
             "amount=x&method=Cash&tip=1",
             "invalid type: string, expected u32",
         ),
-        (
-            "amount=5&method=Coin&tip=1",
-            "unknown variant `Coin`",
-        ),
+        ("amount=5&method=Coin&tip=1", "unknown variant `Coin`"),
         ("amount=5&%FF=1", "missing field `method`"),
         // then the smallest key, integers before strings
         ("amount=5&method=Cash&tip=1&fee=2", "unknown field `fee`"),
@@ -97,12 +94,14 @@ fn one_in_another(rt: HostRuntime) {
 #[test]
 fn in_a_list(rt: HostRuntime) {
     let alloc = rt.alloc();
-    let input = "amount=5&method[0][amount]=1&method[0][method]=2&method[1][amount]=3&method[1][method]=4";
+    let input =
+        "amount=5&method[0][amount]=1&method[0][method]=2&method[1][amount]=3&method[1][method]=4";
     let payment: Payment<Vec<Payment<u8>>> = from_str(alloc, input).expect(&rt, "a payment");
     assert_eq!(rt; payment.method.len(), 2);
     let text = to_string(alloc, &payment).expect(&rt, "a text");
     assert_eq!(rt; text.as_str(), input);
-    let input = "amount=5&method[0][amount]=1&method[0][method]=2&method[1][amount]=3&method[1][method]=4&method[1][tip]=5";
+    let input =
+        "amount=5&method[0][amount]=1&method[0][method]=2&method[1][amount]=3&method[1][method]=4&method[1][tip]=5";
     let result: Result<Payment<Vec<Payment<u8>>>> = from_str(alloc, input);
     assert!(rt; is_custom(&result, "unknown field `tip`"));
 }

@@ -1,5 +1,5 @@
 -- The items of a tuple, read from those of a node.
-use Rattle.std.proofs.Common.{◌≡◌, ℕ, zero, suc, ◌+◌, ◌<◌, Bool, List, [], ◌∷◌, drop, length, Option, Some, None, refl, sym, ap, ◌∙◌, arith}
+use Rattle.std.proofs.Common.{◌≡◌, ℕ, ◌+◌, Bool, List, [], ◌∷◌, drop, Option, Some, None, refl, ap, ◌∙◌}
 use Rattle.std.specs.Option.{option_map, option_and_then}
 use Rattle.qs_spec.specs.Data as d
 use Rattle.qs_spec.specs.Data.{Data, Values, values_of}
@@ -12,13 +12,6 @@ use Rattle.qs_data.proofs.lemmas.read.Items.{first_some}
 use Rattle.serde_qs.specs.Held.{by_shapes}
 use Rattle.serde_qs.specs.Meaning.{both}
 use Rattle.serde_qs.specs.Tuples.{item_in, tuple_in}
-
--- an index at which there is an item is below their number
-pub in_reach : (i : ℕ) (xs : List (Option Tree)) (t : Tree) → first_item (drop i xs) ≡ Some (Some t) → i < length xs
-in_reach zero [] t h = absurd cc
-in_reach zero (x ∷ xs) t h = omega arith
-in_reach (suc i) [] t h = absurd cc
-in_reach (suc i) (x ∷ xs) t h = let rest : i < length xs = in_reach i xs t h in omega (arith, rest)
 
 no_pair : {A B : Type 0} (a : Option A) → None ≡ both {A} {B} a None
 no_pair None = refl

@@ -164,10 +164,10 @@ unfolding reads
 tuple_held m st form n None = refl
 tuple_held m st form n (Some t) = tuple_items (tuple_variant_in m) (d.tuple_variant n) m (λ ds. refl) st form (items t)
 
-pub struct_held : {V : Type 0} (m : Members → Option V) (st : Bool) (fs : List Field) (n : List ℕ) (o : Option Tree)
-    → option_and_then (struct_variant_in m) (kind_held st (struct_kind UnknownKeys.ignored (fields_of fs)) n o) ≡ option_and_then (λ t. members_read st fs m (as_map t)) o
+pub struct_held : {V : Type 0} (m : Members → Option V) (u : UnknownKeys) (st : Bool) (fs : List Field) (n : List ℕ) (o : Option Tree)
+    → option_and_then (struct_variant_in m) (kind_held st (struct_kind u (fields_of fs)) n o) ≡ option_and_then (λ t. members_read u st fs m (as_map t)) o
 unfolding reads
-struct_held m st fs n None = refl
-struct_held m st fs n (Some t) =
+struct_held m u st fs n None = refl
+struct_held m u st fs n (Some t) =
     inside (λ (ms : List Named). d.struct_variant n (members_of ms)) (struct_variant_in m) (λ ms. m (members_of ms)) (λ ms. refl)
-    (struct_members (keys_are_allowed UnknownKeys.ignored (fields_of fs)) (reads_names st (fields_of fs)) (reads_places st (fields_of fs)) (as_map t))
+    (struct_members (keys_are_allowed u (fields_of fs)) (reads_names st (fields_of fs)) (reads_places st (fields_of fs)) (as_map t))

@@ -19,7 +19,7 @@ use super::source::Source;
 use super::variants::{Variants, variant_of};
 use super::{nodes, own};
 use crate::traits::{RoundTrip, unexpected};
-use qs_data::{Data, Reader, Result, Shape};
+use qs_data::{Data, Reader, Result, Shape, UnknownKeys};
 use qs_tree::ParsedValue;
 use std::alloc::Global;
 
@@ -90,7 +90,8 @@ impl<F: Fields> Parts for Struct<F> {
         names: &[&'static str],
         node: &ParsedValue<'_>,
     ) -> Result<Struct<F>> {
-        Ok(Struct(nodes::struct_of(reader, names, node)?))
+        let unknown = UnknownKeys::Ignored;
+        Ok(Struct(nodes::struct_of(reader, unknown, names, node)?))
     }
 }
 

@@ -18,7 +18,7 @@ use super::fields::Fields;
 use super::items::Items;
 use super::{nodes, own};
 use crate::traits::{RoundTrip, unexpected};
-use qs_data::{Data, Reader, Result, VariantKind};
+use qs_data::{Data, Reader, Result, UnknownKeys, VariantKind};
 use qs_tree::ParsedValue;
 use std::alloc::Global;
 
@@ -146,7 +146,8 @@ impl<F: Fields> Payload for Struct<F> {
         held: Option<&ParsedValue<'_>>,
     ) -> Result<Struct<F>> {
         let node = reader.struct_variant(held)?;
-        Ok(Struct(nodes::variant_of(reader, names, node)?))
+        let unknown = UnknownKeys::Ignored;
+        Ok(Struct(nodes::variant_of(reader, unknown, names, node)?))
     }
 }
 

@@ -3,10 +3,10 @@
 ghost use Rattle.serde_qs.specs.PartTables.{strict_parts, strict_payload};
 
 use super::fields::Fields;
-use super::parts::{Parts, struct_fields};
 use super::nodes;
+use super::parts::{Parts, struct_fields};
 use super::payloads::{Payload, variant_fields};
-use qs_data::{Data, Reader, Result, Shape, VariantKind};
+use qs_data::{Data, Reader, Result, Shape, UnknownKeys, VariantKind};
 use qs_tree::ParsedValue;
 use std::alloc::Global;
 
@@ -27,6 +27,16 @@ impl<F: Fields> Parts for StrictStruct<F> {
 
     fn from_data(alloc: Global, names: &[&'static str], datum: Data) -> Result<StrictStruct<F>> {
         Ok(StrictStruct(struct_fields(alloc, names, datum)?))
+    }
+
+    #[inline(always)]
+    fn from_node(
+        reader: Reader,
+        names: &[&'static str],
+        node: &ParsedValue<'_>,
+    ) -> Result<StrictStruct<F>> {
+        let unknown = UnknownKeys::Rejected;
+        Ok(StrictStruct(nodes::struct_of(reader, unknown, names, node)?))
     }
 }
 
@@ -52,6 +62,7 @@ impl<F: Fields> Payload for StrictStruct<F> {
         held: Option<&ParsedValue<'_>>,
     ) -> Result<StrictStruct<F>> {
         let node = reader.struct_variant(held)?;
-        Ok(StrictStruct(nodes::variant_of(reader, names, node)?))
+        let unknown = UnknownKeys::Rejected;
+        Ok(StrictStruct(nodes::variant_of(reader, unknown, names, node)?))
     }
 }

@@ -108,10 +108,11 @@ impl<V: Payload> Variants for Last<V> {
         held: Option<&ParsedValue<'_>>,
     ) -> Result<Last<V>> {
         let (own_name, rest) = split(names);
-        if own_name.as_bytes() != name {
-            return Err(reader.unknown_variant(name));
+        if own_name.as_bytes() == name {
+            Ok(Last(V::from_node(reader, rest, held)?))
+        } else {
+            Err(reader.unknown_variant(name))
         }
-        Ok(Last(V::from_node(reader, rest, held)?))
     }
 }
 

@@ -13,7 +13,7 @@ use Rattle.serde_qs.specs.Held.{by_shapes}
 use Rattle.serde_qs.specs.Meaning.{both}
 use Rattle.serde_qs.specs.Tuples.{item_in, tuple_in}
 
-no_pair : {A B : Type 0} (a : Option A) → None ≡ both {A} {B} a None
+no_pair : {A B : Type 0} (a : Option A) → None ≡ both {A = A} {B = B} a None
 no_pair None = refl
 no_pair (Some x) = refl
 

@@ -2,15 +2,20 @@
 use Rattle.std.proofs.Common.{◌≡◌, ℕ, Bool, true, false, ◌&&◌, List, [], ◌∷◌, Option, Some, None, refl, sym, ap, ◌∙◌, inl, inr}
 use Rattle.std.specs.Prelude.{cond, if◌then◌else◌}
 use Rattle.std.specs.Option.{option_map, option_and_then}
-use Rattle.std.specs.Str.{bytes_eq}
+use Rattle.std.specs.Str.{bytes_eq, is_utf8}
 use Rattle.std.proofs.lemmas.Bool.{cases_Bool}
 use Rattle.std.proofs.lemmas.Slice.Eq.{bytes_eq-Decides}
 use Rattle.qs_spec.specs.Data as d
 use Rattle.qs_spec.specs.Data.{Data, Members, Values, Named, members_of, values_of}
 use Rattle.qs_spec.specs.Shape.{Shape, Field, Variant, VariantKind, Variants, no_variants, one_variant, unit_kind, newtype_kind, tuple_kind, struct_kind, UnknownKeys, fields_of, shapes_of, variants_of}
-use Rattle.qs_spec.specs.Tree.{Tree}
+use Rattle.qs_spec.specs.Segment.{Segment, segment_text}
+use Rattle.qs_spec.specs.Tree.{Tree, Entries}
+use Rattle.qs_spec.specs.Tree.Tree.{mapping}
+use Rattle.qs_spec.specs.Tree.Entries.{entry}
 use Rattle.qs_spec.specs.Node.{as_map, items, keys_are_allowed}
-use Rattle.qs_spec.specs.internal.ReadFunction.{reads, reads_kind, reads_names, reads_places, reads_tuple, struct_members}
+use Rattle.qs_spec.specs.internal.ReadFunction.{read_enum, reads, reads_names, reads_places, reads_tuple, reads_variant, struct_members}
+use Rattle.qs_data.specs.read.TreeText.{entries_are_text, is_text}
+use Rattle.qs_data.proofs.lemmas.read.Errors.{and_left}
 use Rattle.serde_qs.specs.Fits.{name_in}
 use Rattle.serde_qs.specs.Held.{by_shapes, kind_held, variant_held}
 use Rattle.serde_qs.specs.Records.{first_of, others_of}
@@ -73,10 +78,6 @@ tested (Some x) n m b is named f g = ap (λ c. if c then f x else g x) (ap (λ k
 mapped : {A B : Type 0} (f : A → B) (m : Data → Option A) (o : Option Data) → option_and_then (λ x. option_map f (m x)) o ≡ option_map f (option_and_then m o)
 mapped f m None = refl
 mapped f m (Some x) = refl
-
-nowhere : {A : Type 0} (o : Option Data) → option_and_then {B = A} (λ x. None) o ≡ None
-nowhere None = refl
-nowhere (Some x) = refl
 
 own_name : (n : List ℕ) → bytes_eq n n ≡ true
 own_name n = (bytes_eq-Decides n n).1 refl
@@ -171,3 +172,13 @@ struct_held m u st fs n None = refl
 struct_held m u st fs n (Some t) =
     inside (λ (ms : List Named). d.struct_variant n (members_of ms)) (struct_variant_in m) (λ ms. m (members_of ms)) (λ ms. refl)
     (struct_members (keys_are_allowed u (fields_of fs)) (reads_names st (fields_of fs)) (reads_places st (fields_of fs)) (as_map t))
+
+-- an enum, by the text of a node, and by the smallest key of a map
+
+module _ (st : Bool) (vs : Variants) where
+  pub enum_of_key : (es more : Entries) (k : Segment) (mark : Bool) (t : Tree) → es ≡ entry k mark t more → reads st (Shape.enumeration vs) (mapping es) ≡ reads_variant st vs (segment_text k) t
+  unfolding reads read_enum
+  enum_of_key es more k mark t least = ap (λ ys. reads st (Shape.enumeration vs) (mapping ys)) least
+
+pub key_not_text : (es more : Entries) (k : Segment) (mark : Bool) (t : Tree) → es ≡ entry k mark t more → (is_utf8 (segment_text k) && is_text t) ≡ false → entries_are_text es ≡ false
+key_not_text es more k mark t least f = ap entries_are_text least ∙ and_left (is_utf8 (segment_text k) && is_text t) (entries_are_text more) f

@@ -4,6 +4,8 @@
 #[cfg(test)]
 mod fields;
 #[cfg(test)]
+mod first_errors;
+#[cfg(test)]
 mod form_page;
 #[cfg(test)]
 mod guard;

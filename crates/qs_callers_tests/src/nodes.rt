@@ -1,8 +1,8 @@
 //! Nodes of a tree, each read by itself.
 
-use crate::values::is_custom;
+use crate::values::{is_custom, list, text};
 use qs_callers::Query;
-use qs_data::{Data, Entries, Error, Found, Reader, Result, Shape};
+use qs_data::{Data, Entries, Error, Field, FieldNames, Found, Reader, Result, Shape, UnknownKeys};
 use qs_tree::{Config, ParsedValue, parse};
 use serde_qs::Deserialize;
 use std::alloc::Global;
@@ -74,6 +74,28 @@ fn by_its_entries(rt: HostRuntime) {
             "invalid type: sequence, expected a map"
         )
     );
+}
+
+#[test]
+fn unknown_keys(rt: HostRuntime) {
+    let alloc = rt.alloc();
+    let tree = parse(alloc, b"b=2&a=1", Config::new()).expect(&rt, "a tree");
+    let reader = Reader::new(alloc, Config::new());
+    let entries = reader.entries(&tree).expect(&rt, "a map");
+    let a = Field {
+        name: text(&rt, alloc, "a"),
+        shape: Shape::U8,
+        optional: false,
+    };
+    let fields = list(&rt, alloc, [a]);
+    assert!(rt; fields.has(b"a") && !fields.has(b"b"));
+    assert!(rt;
+        UnknownKeys::Ignored
+            .reject(reader, &fields, entries)
+            .is_ok()
+    );
+    let rejected = UnknownKeys::Rejected.reject(reader, &fields, entries);
+    assert!(rt; is_custom(&rejected, "unknown field `b`"));
 }
 
 #[test]

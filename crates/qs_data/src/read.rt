@@ -23,3 +23,4 @@ pub use deserializer::Deserializer;
 pub use items::Items;
 pub use keys::{BrokenKey, Entries, Found};
 pub use node::{find_value, read_value};
+pub use unknown::{FieldNames, UnknownKeys};

@@ -2,7 +2,9 @@ pub mod Levels
 pub mod NodeEntries
 pub mod NodeFields
 pub mod NodeItems
+pub mod NodeTuples
 pub mod NodeValues
+pub mod NodeVariants
 pub mod NodesRead
 pub mod NumberItems
 pub mod OwnValue

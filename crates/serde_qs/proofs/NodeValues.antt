@@ -1,11 +1,11 @@
 -- What is returned of a node, and of the parts of a struct.
-use Rattle.std.proofs.Common.{◌≡◌, Bool, true, false, List, [], ◌∷◌, Option, Some, None, Result, Ok, Err, refl, sym, ap, ◌∙◌}
+use Rattle.std.proofs.Common.{◌≡◌, Bool, true, false, List, [], ◌∷◌, Option, Some, None, Result, Ok, Err, refl, sym, ap, ap₂, ◌∙◌}
 use Rattle.std.specs.Prelude.{cond, ◌&&◌, ◌||◌}
 use Rattle.std.specs.Option.{option_map, option_and_then}
 use Rattle.std.proofs.lemmas.Bool.{false≢true}
 use Rattle.qs_spec.specs.Data.{Data, Members, members_of, Named}
 use Rattle.qs_spec.specs.Data as d
-use Rattle.qs_spec.specs.Shape.{Shape, Field, UnknownKeys, fields_of}
+use Rattle.qs_spec.specs.Shape.{Shape, Field, UnknownKeys, are_ignored, fields_of}
 use Rattle.qs_spec.specs.Tree.{Tree, Entries}
 use Rattle.qs_spec.specs.Node.{keys_are_allowed, keys_are_names, keys_are_text}
 use Rattle.qs_spec.specs.internal.ReadFunction.{Reader, reads, reads_names, reads_places, struct_members}
@@ -15,7 +15,7 @@ use Rattle.qs_data.specs.read.Errors.{IsCustomOrOutOfMemory, OnlyCustomUtf8OrOut
 use Rattle.qs_data.specs.read.Gives.{Gives, Rejects}
 use Rattle.qs_data.specs.read.TreeText.{entries_are_text, is_text}
 use Rattle.qs_data.proofs.lemmas.read.Entries.{keys_bad}
-use Rattle.qs_data.proofs.lemmas.read.Errors.{custom, rejected}
+use Rattle.qs_data.proofs.lemmas.read.Errors.{and_left, custom, rejected}
 use Rattle.serde_qs.specs.Nodes.{by_names}
 use Rattle.serde_qs.specs.internal.NodeParts.{members_read, names_read, value_found}
 use Rattle.serde_qs.specs.Records.{struct_in}
@@ -51,43 +51,40 @@ some_read m (Some x) = refl
 
 -- the members of a node
 
-all_names : (fs : List Field) (es : Entries) → keys_are_text es ≡ keys_are_allowed UnknownKeys.ignored (fields_of fs) es
-all_names fs es = by (keys_are_text es) (keys_are_names (fields_of fs) es)
-  where
-    by : (a b : Bool) → a ≡ (a && (b || true))
-    by true true = refl
-    by true false = refl
-    by false b = refl
-
 tested_first : {Y : Type 0} (m : Members → Option Y) (a : Bool) (o : Option (List Named)) → cond a (option_and_then (λ ms. m (members_of ms)) o) None ≡ option_and_then (λ ms. m (members_of ms)) (option_and_then (λ ms. cond a (Some ms) None) o)
 tested_first m true None = refl
 tested_first m false None = refl
 tested_first m true (Some ms) = refl
 tested_first m false (Some ms) = refl
 
-pub names_are : {Y : Type 0} (st : Bool) (fs : List Field) (m : Members → Option Y) (es : Entries) → names_read st fs m es ≡ cond (keys_are_text es) (by_names st fs m es) None
-names_are st fs m es =
-    sym (tested_first m (keys_are_allowed UnknownKeys.ignored (fields_of fs) es) (reads_names st (fields_of fs) es)) ∙ sym (ap (λ a. cond a (by_names st fs m es) None) (all_names fs es))
+pub names_are : {Y : Type 0} (u : UnknownKeys) (st : Bool) (fs : List Field) (m : Members → Option Y) (es : Entries)
+    → names_read u st fs m es ≡ cond (keys_are_allowed u (fields_of fs) es) (by_names st fs m es) None
+names_are u st fs m es = sym (tested_first m (keys_are_allowed u (fields_of fs) es) (reads_names st (fields_of fs) es))
 
-pub names_ok : {Y : Type 0} (st : Bool) (fs : List Field) (m : Members → Option Y) (es : Entries) (y : Y) → keys_are_text es ≡ true → by_names st fs m es ≡ Some y → names_read st fs m es ≡ Some y
-names_ok st fs m es y h p = names_are st fs m es ∙ ap (λ a. cond a (by_names st fs m es) None) h ∙ p
+pub names_ok : {Y : Type 0} (u : UnknownKeys) (st : Bool) (fs : List Field) (m : Members → Option Y) (es : Entries) (y : Y) → keys_are_text es ≡ true → (keys_are_names (fields_of fs) es || are_ignored u) ≡ true
+    → by_names st fs m es ≡ Some y → names_read u st fs m es ≡ Some y
+names_ok u st fs m es y h k p = names_are u st fs m es ∙ ap₂ (λ a b. cond (a && b) (by_names st fs m es) None) h k ∙ p
 
 untested : {Y : Type 0} (b : Bool) (o : Option Y) → o ≡ None → cond b o None ≡ None
 untested true o p = p
 untested false o p = refl
 
-pub names_unread : {Y : Type 0} (st : Bool) (fs : List Field) (m : Members → Option Y) (es : Entries) → by_names st fs m es ≡ None → names_read st fs m es ≡ None
-names_unread st fs m es p = names_are st fs m es ∙ untested (keys_are_text es) (by_names st fs m es) p
+pub names_unread : {Y : Type 0} (u : UnknownKeys) (st : Bool) (fs : List Field) (m : Members → Option Y) (es : Entries) → by_names st fs m es ≡ None → names_read u st fs m es ≡ None
+names_unread u st fs m es p = names_are u st fs m es ∙ untested (keys_are_allowed u (fields_of fs) es) (by_names st fs m es) p
+
+-- a key that isn't allowed
+pub names_disallowed : {Y : Type 0} (u : UnknownKeys) (st : Bool) (fs : List Field) (m : Members → Option Y) (es : Entries) → keys_are_allowed u (fields_of fs) es ≡ false → names_read u st fs m es ≡ None
+names_disallowed u st fs m es h = names_are u st fs m es ∙ ap (λ a. cond a (by_names st fs m es) None) h
 
 -- a key that isn't text
-pub names_broken : {Y : Type 0} (st : Bool) (fs : List Field) (m : Members → Option Y) (es : Entries) (x : Error) → keys_are_text es ≡ false → OnlyCustomUtf8OrOutOfMemory {X = Unit {0}} (Err x)
-    → Rejects (entries_are_text es) x (names_read st fs m es)
-names_broken st fs m es x h p = by x p
+pub names_broken : {Y : Type 0} (u : UnknownKeys) (st : Bool) (fs : List Field) (m : Members → Option Y) (es : Entries) (x : Error) → keys_are_text es ≡ false → OnlyCustomUtf8OrOutOfMemory {X = Unit {0}} (Err x)
+    → Rejects (entries_are_text es) x (names_read u st fs m es)
+names_broken u st fs m es x h p = by x p
   where
-    none : names_read st fs m es ≡ None
-    none = names_are st fs m es ∙ ap (λ a. cond a (by_names st fs m es) None) h
+    none : names_read u st fs m es ≡ None
+    none = names_disallowed u st fs m es (and_left (keys_are_text es) (keys_are_names (fields_of fs) es || are_ignored u) h)
 
-    by : (x : Error) → OnlyCustomUtf8OrOutOfMemory {X = Unit {0}} (Err x) → Rejects (entries_are_text es) x (names_read st fs m es)
+    by : (x : Error) → OnlyCustomUtf8OrOutOfMemory {X = Unit {0}} (Err x) → Rejects (entries_are_text es) x (names_read u st fs m es)
     by (e.Custom message) p = none
     by (e.Utf8 cause) p = (none, keys_bad es h)
     by e.OutOfMemory p = tt
@@ -99,9 +96,9 @@ names_broken st fs m es x h p = by x p
     by (e.ParseInt cause) p = absurd p
     by e.Failed p = absurd p
 
-pub struct_read : {Y : Type 0} (st : Bool) (fs : List Field) (m : Members → Option Y) (t : Tree) → members_read st fs m t ≡ option_and_then (struct_in m) (reads st (Shape.struct UnknownKeys.ignored (fields_of fs)) t)
+pub struct_read : {Y : Type 0} (u : UnknownKeys) (st : Bool) (fs : List Field) (m : Members → Option Y) (t : Tree) → members_read u st fs m t ≡ option_and_then (struct_in m) (reads st (Shape.struct u (fields_of fs)) t)
 unfolding reads
-struct_read st fs m t = by (struct_members (keys_are_allowed UnknownKeys.ignored (fields_of fs)) (reads_names st (fields_of fs)) (reads_places st (fields_of fs)) t)
+struct_read u st fs m t = by (struct_members (keys_are_allowed u (fields_of fs)) (reads_names st (fields_of fs)) (reads_places st (fields_of fs)) t)
   where
     by : (o : Option (List Named)) → option_and_then (λ ms. m (members_of ms)) o ≡ option_and_then (struct_in m) (option_map (λ ms. d.struct (members_of ms)) o)
     by None = refl

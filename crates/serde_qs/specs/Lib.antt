@@ -15,6 +15,7 @@ pub mod Tables
 pub mod PartTables
 pub mod Typed
 pub mod Nodes
+pub mod Held
 pub mod Sources
 pub mod Exits
 pub mod WrittenText

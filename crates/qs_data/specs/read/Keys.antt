@@ -8,6 +8,8 @@ use Rattle.qs_spec.specs.Node.{under_empty}
 use Rattle.qs_tree.specs.tree.Views.{tree_of, entries_of_map}
 use Rattle.qs_data.specs.declared.read.keys.Entries.{Entries}
 use Rattle.qs_data.specs.declared.read.keys.Entries.TheVariants as e
+-- what becomes of unknown keys, and nothing more to return where a test is passed
+pub use Rattle.qs_data.specs.read.internal.Keys.{unknown_of, when}
 
 -- each key with its value; a leaf stands under the empty text
 abbrev pub entries_view : Entries → t.Entries

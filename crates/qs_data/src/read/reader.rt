@@ -1,6 +1,7 @@
 //! Reading a node without a shape, for types that read themselves: the errors, and the data of a part.
 
-ghost use Rattle.std.specs.Prelude.{◌≡◌, IfOk, None, true, false};
+ghost use Rattle.std.specs.Prelude.{◌≡◌, IfOk, None, true, false, option_and_then, option_map};
+ghost use Rattle.std.specs.Str.{is_utf8};
 ghost use Rattle.qs_spec.specs.Config.{are_rejected};
 ghost use Rattle.qs_spec.specs.Node.{items};
 ghost use Rattle.qs_spec.specs.Shape as s;
@@ -13,6 +14,7 @@ ghost use Rattle.qs_data.specs.read.Entries.{node_entries};
 ghost use Rattle.qs_data.specs.read.Keys.{entries_view};
 ghost use Rattle.qs_data.specs.read.Reads.{reads};
 ghost use Rattle.qs_data.specs.read.Gives.{Gives, Rejects};
+ghost use Rattle.qs_data.specs.read.Held.{held_is_text};
 ghost use Rattle.qs_data.specs.read.Errors.{IsCustomOrOutOfMemory};
 ghost use Rattle.qs_data.specs.read.Items.{are_text, items_view};
 ghost use Rattle.qs_data.specs.read.internal.ReadError.{ReadRejects};
@@ -22,7 +24,7 @@ use crate::read::by_shape::{Reader, read};
 use crate::read::error::ReadError;
 use crate::read::items::{Items, items_of};
 use crate::read::keys::Entries;
-use crate::read::message::{Expected, Message};
+use crate::read::message::{Expected, Message, Unexpected};
 use crate::read::scalar::{
     as_text, read_bool, read_char, read_signed, read_text, read_unit, read_unsigned,
 };
@@ -108,7 +110,19 @@ impl Reader {
         ensures exact { Gives items_view true result (items (tree_of node.now)) }
         ensures text { IfOk result (λ xs. are_text (items_view xs) ≡ false → is_text (tree_of node.now) ≡ false) }
     {
-        Ok(items_of(self.alloc, node, Expected::Sequence)?)
+        self.items_for(Expected::Sequence, node)
+    }
+
+    /// Returns the items of a node for a tuple of this size, as [`items`](Reader::items) does for a list.
+    pub fn tuple<'t, 'qs>(
+        self,
+        size: usize,
+        node: &'t ParsedValue<'qs>,
+    ) -> Result<Items<'t, 'qs>>
+        ensures exact { Gives items_view true result (items (tree_of node.now)) }
+        ensures text { IfOk result (λ xs. are_text (items_view xs) ≡ false → is_text (tree_of node.now) ≡ false) }
+    {
+        self.items_for(Expected::Tuple(size), node)
     }
 
     /// Returns the entries of a node, if it has a map of them: those of a map, none where there is no value or an empty one, and a text under
@@ -160,6 +174,80 @@ impl Reader {
         Error::from(Message::InvalidLength(count).error(self.alloc))
     }
 
+    /// Returns the node of a newtype variant, unless a text alone names the variant.
+    pub fn newtype_variant<'t, 'qs>(
+        self,
+        held: Option<&'t ParsedValue<'qs>>,
+    ) -> Result<&'t ParsedValue<'qs>>
+        ensures { Gives (λ v. tree_of v.now) true result (option_map (λ v. tree_of v.now) held.entry) }
+    {
+        match held {
+            Some(node) => Ok(node),
+            None => Err(self.no_unit_variant(Expected::NewtypeVariant)),
+        }
+    }
+
+    /// Returns the items of a tuple variant, unless a text alone names the variant.
+    pub fn tuple_variant<'t, 'qs>(
+        self,
+        held: Option<&'t ParsedValue<'qs>>,
+    ) -> Result<Items<'t, 'qs>>
+        ensures exact { Gives items_view true result (option_and_then items (option_map (λ v. tree_of v.now) held.entry)) }
+        ensures text { IfOk result (λ xs. are_text (items_view xs) ≡ false → held_is_text (option_map (λ v. tree_of v.now) held.entry) ≡ false) }
+    {
+        match held {
+            Some(node) => self.items_for(Expected::TupleVariant, node),
+            None => Err(self.no_unit_variant(Expected::TupleVariant)),
+        }
+    }
+
+    /// Returns the node of a struct variant, unless a text alone names the variant.
+    pub fn struct_variant<'t, 'qs>(
+        self,
+        held: Option<&'t ParsedValue<'qs>>,
+    ) -> Result<&'t ParsedValue<'qs>>
+        ensures { Gives (λ v. tree_of v.now) true result (option_map (λ v. tree_of v.now) held.entry) }
+    {
+        match held {
+            Some(node) => Ok(node),
+            None => Err(self.no_unit_variant(Expected::StructVariant)),
+        }
+    }
+
+    /// Returns the error of a node that names no variant.
+    pub fn not_an_enum(self, node: &ParsedValue<'_>) -> Error
+        ensures { IsCustomOrOutOfMemory result }
+    {
+        Error::from(Message::mismatch(self.alloc, node, Expected::Enum))
+    }
+
+    /// Returns the error of a name that no variant has.
+    pub fn unknown_variant(self, name: &[u8]) -> Error
+        ensures { Rejects {Y = Unit {0}} (is_utf8 name.now) result None }
+    {
+        Error::from(variant_error(self.alloc, name))
+    }
+
+    // Returns the items of a node, of which these are expected.
+    fn items_for<'t, 'qs>(
+        self,
+        expected: Expected,
+        node: &'t ParsedValue<'qs>,
+    ) -> Result<Items<'t, 'qs>>
+        ensures exact { Gives items_view true result (items (tree_of node.now)) }
+        ensures text { IfOk result (λ xs. are_text (items_view xs) ≡ false → is_text (tree_of node.now) ≡ false) }
+    {
+        Ok(items_of(self.alloc, node, expected)?)
+    }
+
+    // Returns the error of a variant that holds something, where a text alone names it.
+    fn no_unit_variant(self, expected: Expected) -> Error
+        ensures { IsCustomOrOutOfMemory result }
+    {
+        let found = Unexpected::UnitVariant;
+        Error::from(Message::InvalidType { found, expected }.error(self.alloc))
+    }
+
     /// Returns the error of a node that holds no struct.
     pub fn not_a_struct(self, node: &ParsedValue<'_>) -> Error
         ensures { Rejects {Y = Unit {0}} (is_text (tree_of node.now)) result None }
@@ -178,4 +266,14 @@ fn struct_error(alloc: Global, node: &ParsedValue<'_>) -> ReadError
         }
     }
     Message::mismatch(alloc, node, Expected::Struct)
+}
+
+// The error of a name that no variant has: of one that isn't UTF-8 it says so.
+fn variant_error(alloc: Global, name: &[u8]) -> ReadError
+    ensures { ReadRejects {Y = Unit {0}} (is_utf8 name.now) result None }
+{
+    match as_text(name) {
+        Ok(name) => Message::UnknownVariant(name).error(alloc),
+        Err(error) => error,
+    }
 }

@@ -1,93 +1,141 @@
 //! Keys that no field of a struct has.
 
-ghost use Rattle.std.specs.Prelude.{◌||◌};
+ghost use Rattle.std.specs.Prelude.{◌≡◌, ◌||◌, None};
 ghost use Rattle.std.specs.Str.{is_utf8};
 ghost use Rattle.qs_spec.specs.Segment.{segment_text};
-ghost use Rattle.qs_spec.specs.Shape.{are_ignored, is_field_name};
+ghost use Rattle.qs_spec.specs.Shape.{Fields, are_ignored, is_field_name};
 ghost use Rattle.qs_spec.specs.Node.{keys_are_names};
 ghost use Rattle.qs_tree.specs.tree.Views.{entries_of_map, segment_of_key};
 ghost use Rattle.qs_data.specs.shape.Views.{fields_in};
+ghost use Rattle.qs_data.specs.read.Gives.{Gives};
 ghost use Rattle.qs_data.specs.read.TreeText.{entries_are_text};
-ghost use Rattle.qs_data.specs.read.internal.Keys.{when};
-ghost use Rattle.qs_data.specs.read.internal.ReadError.{ReadGives};
-ghost use Rattle.qs_data.specs.read.Keys.{entries_view};
-ghost use Rattle.qs_data.specs.read.internal.Keys.{unknown_of};
+ghost use Rattle.qs_data.specs.read.internal.ReadError.{ReadGives, ReadRejects};
+ghost use Rattle.qs_data.specs.read.Keys.{entries_view, unknown_of, when};
 
-use crate::read::error::Result;
+use crate::read::by_shape::Reader;
+use crate::read::error::{ReadError, Result};
 use crate::read::keys::Entries;
 use crate::read::message::{Message, key_error};
 use crate::read::scalar::as_text;
 use crate::shape::{Field, is_field_name};
 use itoa::Buffer;
-use qs_tree::{Key, ParsedMap};
+use qs_tree::{Error, Key, ParsedMap};
 use std::alloc::Global;
 
 /// What becomes of a key that no field has.
 #[derive(Clone, Copy)]
-pub(crate) enum UnknownKeys {
+pub enum UnknownKeys {
+    /// It is ignored.
     Ignored,
+    /// It is rejected.
     Rejected,
 }
 
+/// The names of the fields of a struct.
+pub trait FieldNames {
+    // The fields.
+    ghost fields: { Self → Fields };
+
+    /// Returns whether one of the fields has this name.
+    fn has(&self, name: &[u8]) -> bool
+        ensures { result ≡ is_field_name name.now (fields self.now) };
+}
+
+impl FieldNames for Vec<Field> {
+    ghost fields = { λ fs. fields_in fs.items };
+
+    fn has(&self, name: &[u8]) -> bool {
+        is_field_name(self, name)
+    }
+}
+
 impl UnknownKeys {
-    /// Rejects the smallest key that no field has, where such keys are rejected.
+    /// Rejects the smallest key that no field has, where such keys are rejected. It allocates for the error alone.
     ///
-    /// Each key is compared with the fields' names up to its own, and none after the first that is unknown.
-    pub(crate) fn test(
+    /// The error is [`Custom`](qs_tree::Error::Custom), with a hint if the key holds a bracket, or [`Utf8`](qs_tree::Error::Utf8) if the key
+    /// isn't UTF-8 and holds none. Each key is compared with the fields' names up to its own, and none after the first that is unknown.
+    ///
+    /// ```
+    /// unknown.reject(reader, &names, entries)?;
+    /// ```
+    #[inline(always)]
+    pub fn reject<N: FieldNames>(
+        self,
+        reader: Reader,
+        names: &N,
+        entries: Entries<'_, '_>,
+    ) -> Result<(), Error>
+        ensures { let es = entries_view entries.entry in
+            Gives (λ _. tt) (entries_are_text es) result (when (keys_are_names (N.fields names.now) es || are_ignored (unknown_of self))) }
+    {
+        Ok(self.test(reader.alloc, names, entries)?)
+    }
+
+    /// The same, inside reading.
+    #[inline(always)]
+    pub(crate) fn test<N: FieldNames>(
         self,
         alloc: Global,
-        fields: &[Field],
+        names: &N,
         entries: Entries<'_, '_>,
     ) -> Result<()>
         ensures { let es = entries_view entries.entry in
-            ReadGives (λ _. tt) (entries_are_text es) result (when (keys_are_names (fields_in fields.now) es || are_ignored (unknown_of self))) }
+            ReadGives (λ _. tt) (entries_are_text es) result (when (keys_are_names (N.fields names.now) es || are_ignored (unknown_of self))) }
     {
         match (self, entries) {
             (UnknownKeys::Ignored, _) | (_, Entries::Empty) => Ok(()),
-            (UnknownKeys::Rejected, Entries::Leaf(_)) => test_name(alloc, fields, &[]),
-            (UnknownKeys::Rejected, Entries::Map(map)) => test_map(alloc, fields, map),
+            (UnknownKeys::Rejected, Entries::Leaf(_)) => test_name(alloc, names, &[]),
+            (UnknownKeys::Rejected, Entries::Map(map)) => test_map(alloc, names, map),
         }
     }
 }
 
 // Whether all keys of a map are names, or the error of the first that isn't.
-fn test_map(alloc: Global, fields: &[Field], map: &ParsedMap<'_>) -> Result<()>
+fn test_map<N: FieldNames>(alloc: Global, names: &N, map: &ParsedMap<'_>) -> Result<()>
     ensures { let es = entries_of_map map.now in
-        ReadGives (λ _. tt) (entries_are_text es) result (when (keys_are_names (fields_in fields.now) es)) }
+        ReadGives (λ _. tt) (entries_are_text es) result (when (keys_are_names (N.fields names.now) es)) }
 {
     for i in 0..map.len() {
         let Some((key, _)) = map.at(i) else {
             break;
         };
-        test_key(alloc, fields, key)?;
+        test_key(alloc, names, key)?;
     }
     Ok(())
 }
 
 // Whether the text of a key is a name.
-fn test_key(alloc: Global, fields: &[Field], key: &Key<'_>) -> Result<()>
+fn test_key<N: FieldNames>(alloc: Global, names: &N, key: &Key<'_>) -> Result<()>
     ensures { let name = segment_text (segment_of_key key.now) in
-        ReadGives (λ _. tt) (is_utf8 name) result (when (is_field_name name (fields_in fields.now))) }
+        ReadGives (λ _. tt) (is_utf8 name) result (when (is_field_name name (N.fields names.now))) }
 {
     match key {
         Key::Int(number) => {
             let mut buffer = Buffer::new();
-            test_name(alloc, fields, buffer.format(*number).as_bytes())
+            test_name(alloc, names, buffer.format(*number).as_bytes())
         }
-        Key::String(text) => test_name(alloc, fields, text.as_slice()),
+        Key::String(text) => test_name(alloc, names, text.as_slice()),
     }
 }
 
 // Whether a text is a name.
-fn test_name(alloc: Global, fields: &[Field], name: &[u8]) -> Result<()>
-    ensures { ReadGives (λ _. tt) (is_utf8 name.now) result (when (is_field_name name.now (fields_in fields.now))) }
+fn test_name<N: FieldNames>(alloc: Global, names: &N, name: &[u8]) -> Result<()>
+    ensures { ReadGives (λ _. tt) (is_utf8 name.now) result (when (is_field_name name.now (N.fields names.now))) }
 {
-    if is_field_name(fields, name) {
-        return Ok(());
+    if names.has(name) {
+        Ok(())
+    } else {
+        Err(unknown_key(alloc, name))
     }
-    let error = match as_text(name) {
+}
+
+// The error of a key that no field has.
+fn unknown_key(alloc: Global, key: &[u8]) -> ReadError
+    ensures { ReadRejects {Y = Unit {0}} (is_utf8 key.now) result None }
+{
+    let error = match as_text(key) {
         Ok(text) => Message::UnknownField(text).error(alloc),
         Err(error) => error,
     };
-    Err(key_error(alloc, name, error))
+    key_error(alloc, key, error)
 }

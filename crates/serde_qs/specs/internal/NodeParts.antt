@@ -7,17 +7,17 @@ use Rattle.qs_spec.specs.Shape.{Field, UnknownKeys, fields_of}
 use Rattle.qs_spec.specs.Tree.{Tree, Entries, Items}
 use Rattle.qs_spec.specs.Tree.Items.{no_items, item}
 
--- what fields mean that are read by their names, where every key is text
-abbrev pub names_read : {V : Type 0} → Bool → List Field → (Members → Option V) → Entries → Option V
-names_read reject_duplicates fields meaning es =
+-- what fields mean that are read by their names, where every key is allowed
+abbrev pub names_read : {V : Type 0} → UnknownKeys → Bool → List Field → (Members → Option V) → Entries → Option V
+names_read unknown reject_duplicates fields meaning es =
     option_and_then (λ ms. meaning (members_of ms))
-    (option_and_then (λ ms. cond (keys_are_allowed UnknownKeys.ignored (fields_of fields) es) (Some ms) None) (reads_names reject_duplicates (fields_of fields) es))
+    (option_and_then (λ ms. cond (keys_are_allowed unknown (fields_of fields) es) (Some ms) None) (reads_names reject_duplicates (fields_of fields) es))
 
 -- what fields mean that are read from a node
-abbrev pub members_read : {V : Type 0} → Bool → List Field → (Members → Option V) → Tree → Option V
-members_read reject_duplicates fields meaning t =
+abbrev pub members_read : {V : Type 0} → UnknownKeys → Bool → List Field → (Members → Option V) → Tree → Option V
+members_read unknown reject_duplicates fields meaning t =
     option_and_then (λ ms. meaning (members_of ms))
-    (struct_members (keys_are_allowed UnknownKeys.ignored (fields_of fields)) (reads_names reject_duplicates (fields_of fields)) (reads_places reject_duplicates (fields_of fields)) t)
+    (struct_members (keys_are_allowed unknown (fields_of fields)) (reads_names reject_duplicates (fields_of fields)) (reads_places reject_duplicates (fields_of fields)) t)
 
 -- The value of a field, by what its data mean and by what it is without them: of the values under its name, and of the item at its place.
 

@@ -50,6 +50,11 @@ impl<T: RoundTrip + OrDefault + Drop, R: Fields> Fields for Defaulted<T, R> {
         R::skip(rest)
     }
 
+    fn has(names: &[&'static str], name: &[u8]) -> bool {
+        let (first, rest) = split(names);
+        first.as_bytes() == name || R::has(rest, name)
+    }
+
     fn push_fields(
         alloc: Global,
         names: &[&'static str],

@@ -1,7 +1,7 @@
 //! The fields of a struct, as nested pairs.
 
 ghost use Rattle.std.specs.Prelude.{◌≡◌, ◌++◌, map, IfOk, true};
-ghost use Rattle.qs_spec.specs.Shape.{field_names_differ, fields_of};
+ghost use Rattle.qs_spec.specs.Shape.{field_names_differ, fields_of, is_field_name};
 ghost use Rattle.qs_tree.specs.Error.{OnlyOutOfMemory};
 ghost use Rattle.qs_tree.specs.tree.Views.{items_from, tree_of};
 ghost use Rattle.qs_data.specs.read.Gives.{Gives};
@@ -31,6 +31,10 @@ pub trait Fields: Sized + Drop {
     /// Returns the names after those of the fields.
     fn skip<'a>(names: &'a [&'static str]) -> &'a [&'static str]
         ensures { texts result.now ≡ table.after (texts names.now) };
+
+    /// Returns whether one of the fields has this name.
+    fn has(names: &[&'static str], name: &[u8]) -> bool
+        ensures { result ≡ is_field_name name.now (fields_of (table.form (texts names.now))) };
 
     /// Returns these fields and after them what is read for the fields of these names.
     fn push_fields(alloc: Global, names: &[&'static str], fields: Vec<Field>) -> Result<Vec<Field>>
@@ -73,6 +77,10 @@ impl Fields for () {
 
     fn skip<'a>(names: &'a [&'static str]) -> &'a [&'static str] {
         names
+    }
+
+    fn has(_names: &[&'static str], _name: &[u8]) -> bool {
+        false
     }
 
     fn push_fields(
@@ -121,6 +129,11 @@ impl<T: RoundTrip + Drop, R: Fields> Fields for (T, R) {
     fn skip<'a>(names: &'a [&'static str]) -> &'a [&'static str] {
         let (_name, rest) = split(names);
         R::skip(rest)
+    }
+
+    fn has(names: &[&'static str], name: &[u8]) -> bool {
+        let (first, rest) = split(names);
+        first.as_bytes() == name || R::has(rest, name)
     }
 
     fn push_fields(

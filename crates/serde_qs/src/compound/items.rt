@@ -1,16 +1,19 @@
 //! The items of a tuple, as nested pairs.
 
-ghost use Rattle.std.specs.Prelude.{◌≡◌, ◌++◌, map, IfOk};
+ghost use Rattle.std.specs.Prelude.{◌≡◌, ◌++◌, ◌-◌, ◌^◌, drop, length, map, min, IfOk};
 ghost use Rattle.qs_tree.specs.Error.{OnlyOutOfMemory};
 ghost use Rattle.qs_data.specs.data.Views.{data_of};
+ghost use Rattle.qs_data.specs.read.Gives.{Gives};
+ghost use Rattle.qs_data.specs.read.Items.{are_text, items_view};
 ghost use Rattle.qs_data.specs.shape.Views.{shape_of};
+ghost use Rattle.serde_qs.specs.Held.{by_shapes};
 ghost use Rattle.serde_qs.specs.PartTables.{ItemsTable, item, no_items};
 ghost use Rattle.serde_qs.specs.Tuples.{values_back};
 ghost use Rattle.serde_qs.specs.Typed.{Means};
 
 use super::own;
 use crate::traits::{RoundTrip, unexpected};
-use qs_data::{Data, Result, Shape};
+use qs_data::{Data, Items as NodeItems, Reader, Result, Shape};
 use std::alloc::Global;
 
 /// The items of a tuple, each pair an item and those after it: `(A, (B, (C, ())))`.
@@ -25,9 +28,18 @@ pub trait Items: Sized {
         ensures exact { IfOk result (λ all. map shape_of all.items ≡ map shape_of shapes.items ++ table.form) }
         ensures errors { OnlyOutOfMemory result };
 
+    /// Returns how many items there are. Of more than the largest number it returns that one.
+    fn count() -> usize
+        ensures { result ≡ min (length table.form) (2 ^ 64 - 1) };
+
     /// Returns the items that values mean, of which the last is the first item's.
     fn from_items(alloc: Global, values: Vec<Data>) -> Result<Self>
         ensures { Means table.value result (table.meaning (values_back values.items)) };
+
+    /// Returns the items that are read from those of a node, from an index on.
+    fn from_places(reader: Reader, items: NodeItems<'_, '_>, place: usize) -> Result<Self>
+        ensures { Gives table.value (are_text (items_view items.entry)) result
+            (by_shapes reader.reject_duplicates table.form table.meaning (drop place (items_view items.entry))) };
 }
 
 impl Items for () {
@@ -37,11 +49,20 @@ impl Items for () {
         Ok(shapes)
     }
 
+    fn count() -> usize {
+        0
+    }
+
     fn from_items(alloc: Global, mut values: Vec<Data>) -> Result<()> {
         match values.pop() {
             None => Ok(()),
             Some(_) => Err(unexpected(alloc, "no further item")),
         }
+    }
+
+    #[tactic(auto, unfolding(qs_spec::specs::internal::ReadFunction::reads))]
+    fn from_places(_reader: Reader, _items: NodeItems<'_, '_>, _place: usize) -> Result<()> {
+        Ok(())
     }
 }
 
@@ -53,12 +74,26 @@ impl<T: RoundTrip + Drop, R: Items> Items for (T, R) {
         R::push_shapes(alloc, shapes)
     }
 
+    fn count() -> usize {
+        R::count().saturating_add(1)
+    }
+
     fn from_items(alloc: Global, mut values: Vec<Data>) -> Result<(T, R)> {
         let Some(datum) = values.pop() else {
             return Err(unexpected(alloc, "an item"));
         };
         let first = own::value_of(alloc, datum)?;
         let others = R::from_items(alloc, values)?;
+        Ok((first, others))
+    }
+
+    fn from_places(reader: Reader, items: NodeItems<'_, '_>, place: usize) -> Result<(T, R)> {
+        let count = items.len();
+        let Some(item) = items.get(reader, place)? else {
+            return Err(reader.missing_item(count));
+        };
+        let first = own::from_node(reader, item)?;
+        let others = R::from_places(reader, items, place + 1)?;
         Ok((first, others))
     }
 }

@@ -1,13 +1,13 @@
 //! The fields of a struct, read from a node.
 
 ghost use Rattle.std.specs.Prelude.{◌≡◌, true, map, option_and_then, option_map, Some, None};
-ghost use Rattle.qs_spec.specs.Node.{found};
+ghost use Rattle.qs_spec.specs.Node.{as_map, found};
 ghost use Rattle.qs_spec.specs.Shape.{field_names_differ, fields_of};
 ghost use Rattle.qs_spec.specs.internal.ReadFunction.{items_after, reads};
 ghost use Rattle.qs_tree.specs.tree.Views.{items_from, tree_of};
 ghost use Rattle.qs_data.specs.read.Gives.{Gives};
 ghost use Rattle.qs_data.specs.read.TreeText.{entries_are_text, is_text, items_are_text};
-ghost use Rattle.qs_data.specs.read.Keys.{NumbersFit, entries_view};
+ghost use Rattle.qs_data.specs.read.Keys.{NumbersFit, entries_view, unknown_of};
 ghost use Rattle.serde_qs.specs.Nodes.{missing_data};
 ghost use Rattle.serde_qs.specs.internal.NodeParts.{members_read, names_read, value_found, value_placed};
 ghost use Rattle.serde_qs.specs.Records.{texts};
@@ -16,45 +16,92 @@ use super::defaulted::OrDefault;
 use super::fields::Fields;
 use super::own;
 use crate::traits::RoundTrip;
-use qs_data::{Entries, Found, Reader, Result};
+use qs_data::{Entries, FieldNames, Found, Reader, Result, UnknownKeys};
 use qs_tree::ParsedValue;
+use std::marker::PhantomData;
 
-// Returns the fields that a node holds: by their names among keys, and by their places among items.
+// Returns the fields that a node holds: by their names among keys, and by their places among items. A key that no field has is
+// ignored or rejected.
 #[tactic(auto, unfolding(qs_spec::specs::internal::ReadFunction::struct_members))]
 #[inline(always)]
 pub(crate) fn struct_of<F: Fields>(
     reader: Reader,
+    unknown: UnknownKeys,
     names: &[&'static str],
     node: &ParsedValue<'_>,
 ) -> Result<F>
     requires { field_names_differ (fields_of (F.table.form (texts names.now))) ≡ true }
     ensures { Gives F.table.value (is_text (tree_of node.now)) result
-        (members_read reader.reject_duplicates (F.table.form (texts names.now)) (F.table.meaning (texts names.now)) (tree_of node.now)) }
+        (members_read (unknown_of unknown) reader.reject_duplicates (F.table.form (texts names.now)) (F.table.meaning (texts names.now)) (tree_of node.now)) }
 {
     match node {
-        ParsedValue::NoValue | ParsedValue::Null => read_entries(reader, names, Entries::Empty),
-        ParsedValue::Map(map) => read_entries(reader, names, Entries::Map(map)),
+        ParsedValue::NoValue | ParsedValue::Null => read_entries(
+            reader,
+            unknown,
+            names,
+            Entries::Empty,
+        ),
+        ParsedValue::Map(map) => read_entries(reader, unknown, names, Entries::Map(map)),
         ParsedValue::Sequence(items) => F::from_places(reader, names, items, items.len()),
         ParsedValue::String(_) | ParsedValue::Uninitialized => Err(reader.not_a_struct(node)),
     }
 }
 
-// Returns the fields that are read by their names. All keys must be texts.
+// Returns the fields that a struct variant holds: those of a struct, where a text counts as a map from the empty key to it.
+#[tactic(auto, unfolding(qs_spec::specs::internal::ReadFunction::struct_members))]
+pub(crate) fn variant_of<F: Fields>(
+    reader: Reader,
+    unknown: UnknownKeys,
+    names: &[&'static str],
+    node: &ParsedValue<'_>,
+) -> Result<F>
+    requires { field_names_differ (fields_of (F.table.form (texts names.now))) ≡ true }
+    ensures { Gives F.table.value (is_text (tree_of node.now)) result
+        (members_read (unknown_of unknown) reader.reject_duplicates (F.table.form (texts names.now)) (F.table.meaning (texts names.now)) (as_map (tree_of node.now))) }
+{
+    match node {
+        ParsedValue::String(_) => read_entries(reader, unknown, names, Entries::Leaf(node)),
+        _ => struct_of(reader, unknown, names, node),
+    }
+}
+
+// Returns the fields that are read by their names. All keys must be texts, and where others are rejected, names of fields.
 #[inline(always)]
 fn read_entries<F: Fields>(
     reader: Reader,
+    unknown: UnknownKeys,
     names: &[&'static str],
     entries: Entries<'_, '_>,
 ) -> Result<F>
     requires { field_names_differ (fields_of (F.table.form (texts names.now))) ≡ true }
     ensures { Gives F.table.value (entries_are_text (entries_view entries.entry)) result
-        (names_read reader.reject_duplicates (F.table.form (texts names.now)) (F.table.meaning (texts names.now)) (entries_view entries.entry)) }
+        (names_read (unknown_of unknown) reader.reject_duplicates (F.table.form (texts names.now)) (F.table.meaning (texts names.now)) (entries_view entries.entry)) }
 {
     let tested = entries.test();
     let fields = F::from_entries(reader, names, entries)?;
+    let known = NamesOf::<F> {
+        names,
+        fields: PhantomData,
+    };
+    unknown.reject(reader, &known, entries)?;
     match tested {
         Ok(()) => Ok(fields),
         Err(key) => Err(key.into_error(reader.alloc)),
+    }
+}
+
+// The names of some fields, perhaps with further names after them.
+#[derive(Drop)]
+struct NamesOf<'a, F> {
+    names: &'a [&'static str],
+    fields: PhantomData<F>,
+}
+
+impl<F: Fields> FieldNames for NamesOf<'_, F> {
+    ghost fields = { λ known. fields_of (F.table.form (texts known.names.now)) };
+
+    fn has(&self, name: &[u8]) -> bool {
+        F::has(self.names, name)
     }
 }
 

@@ -25,6 +25,11 @@ impl<T: RoundTrip + Drop, R: Fields> Fields for Optional<T, R> {
         R::skip(rest)
     }
 
+    fn has(names: &[&'static str], name: &[u8]) -> bool {
+        let (first, rest) = split(names);
+        first.as_bytes() == name || R::has(rest, name)
+    }
+
     fn push_fields(
         alloc: Global,
         names: &[&'static str],

@@ -16,10 +16,10 @@ use super::fields::Fields;
 use super::items::Items;
 use super::payloads::{Newtype, Struct, Tuple};
 use super::source::Source;
-use super::variants::Variants;
+use super::variants::{Variants, variant_of};
 use super::{nodes, own};
 use crate::traits::{RoundTrip, unexpected};
-use qs_data::{Data, Reader, Result, Shape};
+use qs_data::{Data, Reader, Result, Shape, UnknownKeys};
 use qs_tree::ParsedValue;
 use std::alloc::Global;
 
@@ -90,7 +90,8 @@ impl<F: Fields> Parts for Struct<F> {
         names: &[&'static str],
         node: &ParsedValue<'_>,
     ) -> Result<Struct<F>> {
-        Ok(Struct(nodes::struct_of(reader, names, node)?))
+        let unknown = UnknownKeys::Ignored;
+        Ok(Struct(nodes::struct_of(reader, unknown, names, node)?))
     }
 }
 
@@ -121,6 +122,14 @@ impl<V: Variants> Parts for Enum<V> {
 
     fn from_data(alloc: Global, names: &[&'static str], datum: Data) -> Result<Enum<V>> {
         Ok(Enum(V::from_variant(alloc, names, datum)?))
+    }
+
+    fn from_node(
+        reader: Reader,
+        names: &[&'static str],
+        node: &ParsedValue<'_>,
+    ) -> Result<Enum<V>> {
+        Ok(Enum(variant_of(reader, names, node)?))
     }
 }
 
@@ -162,5 +171,14 @@ impl<I: Items> Parts for Tuple<I> {
         };
         values.reverse();
         Ok(Tuple(I::from_items(alloc, values)?))
+    }
+
+    fn from_node(
+        reader: Reader,
+        _names: &[&'static str],
+        node: &ParsedValue<'_>,
+    ) -> Result<Tuple<I>> {
+        let items = reader.tuple(I::count(), node)?;
+        Ok(Tuple(I::from_places(reader, items, 0)?))
     }
 }

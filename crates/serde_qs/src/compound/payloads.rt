@@ -1,9 +1,14 @@
 //! What a variant of an enum holds.
 
-ghost use Rattle.std.specs.Prelude.{◌≡◌, IfOk};
+ghost use Rattle.std.specs.Prelude.{◌≡◌, ℕ, List, option_and_then, option_map, true, IfOk};
+ghost use Rattle.qs_spec.specs.Shape.{is_distinct_kind};
 ghost use Rattle.qs_tree.specs.Error.{OnlyOutOfMemory};
+ghost use Rattle.qs_tree.specs.tree.Views.{tree_of};
 ghost use Rattle.qs_data.specs.data.Views.{data_of};
+ghost use Rattle.qs_data.specs.read.Gives.{Gives};
+ghost use Rattle.qs_data.specs.read.Held.{held_is_text};
 ghost use Rattle.qs_data.specs.shape.Views.{kind_of};
+ghost use Rattle.serde_qs.specs.Held.{kind_held};
 ghost use Rattle.serde_qs.specs.PartTables.{PayloadTable, newtype_payload, struct_payload, tuple_payload, unit_payload};
 ghost use Rattle.serde_qs.specs.Records.{texts};
 ghost use Rattle.serde_qs.specs.Typed.{Means};
@@ -11,9 +16,10 @@ ghost use Rattle.serde_qs.specs.Variants.{struct_variant_in};
 
 use super::fields::Fields;
 use super::items::Items;
-use super::own;
+use super::{nodes, own};
 use crate::traits::{RoundTrip, unexpected};
-use qs_data::{Data, Result, VariantKind};
+use qs_data::{Data, Reader, Result, UnknownKeys, VariantKind};
+use qs_tree::ParsedValue;
 use std::alloc::Global;
 
 /// What a variant of one value holds, or a struct round one value, which is read and written as that value.
@@ -47,6 +53,16 @@ pub trait Payload: Sized {
     /// Returns what data of such a variant mean.
     fn from_data(alloc: Global, names: &[&'static str], datum: Data) -> Result<Self>
         ensures { Means table.value result (table.meaning (texts names.now) (data_of datum)) };
+
+    /// Returns what is read from the value that such a variant holds. Where a text alone names the variant, it holds none.
+    fn from_node(
+        reader: Reader,
+        names: &[&'static str],
+        held: Option<&ParsedValue<'_>>,
+    ) -> Result<Self>
+        requires { is_distinct_kind (table.form (texts names.now)) ≡ true }
+        ensures { let t = option_map (λ v. tree_of v.now) held.entry in (name : List ℕ) →
+            Gives table.value (held_is_text t) result (option_and_then (table.meaning (texts names.now)) (kind_held reader.reject_duplicates (table.form (texts names.now)) name t)) };
 }
 
 impl Payload for () {
@@ -66,6 +82,14 @@ impl Payload for () {
             Data::UnitVariant(_) => Ok(()),
             _ => Err(unexpected(alloc, "a unit variant")),
         }
+    }
+
+    fn from_node(
+        _reader: Reader,
+        _names: &[&'static str],
+        _held: Option<&ParsedValue<'_>>,
+    ) -> Result<()> {
+        Ok(())
     }
 }
 
@@ -90,6 +114,15 @@ impl<T: RoundTrip> Payload for Newtype<T> {
             _ => Err(unexpected(alloc, "a newtype variant")),
         }
     }
+
+    fn from_node(
+        reader: Reader,
+        _names: &[&'static str],
+        held: Option<&ParsedValue<'_>>,
+    ) -> Result<Newtype<T>> {
+        let node = reader.newtype_variant(held)?;
+        Ok(Newtype(own::from_node(reader, node)?))
+    }
 }
 
 impl<F: Fields> Payload for Struct<F> {
@@ -105,6 +138,16 @@ impl<F: Fields> Payload for Struct<F> {
 
     fn from_data(alloc: Global, names: &[&'static str], datum: Data) -> Result<Struct<F>> {
         Ok(Struct(variant_fields(alloc, names, datum)?))
+    }
+
+    fn from_node(
+        reader: Reader,
+        names: &[&'static str],
+        held: Option<&ParsedValue<'_>>,
+    ) -> Result<Struct<F>> {
+        let node = reader.struct_variant(held)?;
+        let unknown = UnknownKeys::Ignored;
+        Ok(Struct(nodes::variant_of(reader, unknown, names, node)?))
     }
 }
 
@@ -126,6 +169,15 @@ impl<I: Items> Payload for Tuple<I> {
         };
         values.reverse();
         Ok(Tuple(I::from_items(alloc, values)?))
+    }
+
+    fn from_node(
+        reader: Reader,
+        _names: &[&'static str],
+        held: Option<&ParsedValue<'_>>,
+    ) -> Result<Tuple<I>> {
+        let items = reader.tuple_variant(held)?;
+        Ok(Tuple(I::from_places(reader, items, 0)?))
     }
 }
 

@@ -3,9 +3,11 @@
 ghost use Rattle.serde_qs.specs.PartTables.{strict_parts, strict_payload};
 
 use super::fields::Fields;
+use super::nodes;
 use super::parts::{Parts, struct_fields};
 use super::payloads::{Payload, variant_fields};
-use qs_data::{Data, Result, Shape, VariantKind};
+use qs_data::{Data, Reader, Result, Shape, UnknownKeys, VariantKind};
+use qs_tree::ParsedValue;
 use std::alloc::Global;
 
 /// The fields of a struct, or of a variant with named fields, as those of a [`Struct`](crate::Struct), where a map with a key that no
@@ -26,6 +28,16 @@ impl<F: Fields> Parts for StrictStruct<F> {
     fn from_data(alloc: Global, names: &[&'static str], datum: Data) -> Result<StrictStruct<F>> {
         Ok(StrictStruct(struct_fields(alloc, names, datum)?))
     }
+
+    #[inline(always)]
+    fn from_node(
+        reader: Reader,
+        names: &[&'static str],
+        node: &ParsedValue<'_>,
+    ) -> Result<StrictStruct<F>> {
+        let unknown = UnknownKeys::Rejected;
+        Ok(StrictStruct(nodes::struct_of(reader, unknown, names, node)?))
+    }
 }
 
 impl<F: Fields> Payload for StrictStruct<F> {
@@ -42,5 +54,15 @@ impl<F: Fields> Payload for StrictStruct<F> {
 
     fn from_data(alloc: Global, names: &[&'static str], datum: Data) -> Result<StrictStruct<F>> {
         Ok(StrictStruct(variant_fields(alloc, names, datum)?))
+    }
+
+    fn from_node(
+        reader: Reader,
+        names: &[&'static str],
+        held: Option<&ParsedValue<'_>>,
+    ) -> Result<StrictStruct<F>> {
+        let node = reader.struct_variant(held)?;
+        let unknown = UnknownKeys::Rejected;
+        Ok(StrictStruct(nodes::variant_of(reader, unknown, names, node)?))
     }
 }

@@ -4,7 +4,6 @@ use Rattle.qs_spec.specs.Segment.{segment_text}
 use Rattle.qs_spec.specs.Shape.{is_field_name}
 use Rattle.qs_spec.specs.Node.{keys_are_names}
 use Rattle.qs_tree.specs.tree.Views.{entries_of_map, step_of_key, tree_of}
-use Rattle.qs_data.specs.shape.Views.{fields_in}
 use Rattle.qs_data.specs.read.TreeText.{entries_are_text}
 use Rattle.qs_data.specs.read.internal.Keys.{when}
 use Rattle.qs_data.proofs.lemmas.read.Pairs.{key_bad}
@@ -14,9 +13,9 @@ use Rattle.qs_data.proofs.read.unknown.test_map.Goals as goal
 use Rattle.qs_data.proofs.read.unknown.test_map.Goals.{else-loop-i-test, then-loop-i-test+in_default}
 
 pub returns-in_err-test_key : goal.returns-in_err-test_key
-returns-in_err-test_key c =
+returns-in_err-test_key g c =
     let es = entries_of_map c.args.map.now in
-    let fs = fields_in c.args.fields.now in
+    let fs = g.N.FieldNames.fields c.args.names.now in
     let key = step_of_key c.in-Some.key.now in
     let t = tree_of c.in-Some.field-0-1.now in
     let name = segment_text key.seg in
@@ -26,17 +25,17 @@ returns-in_err-test_key c =
     (key_bad c.loop-i.i es (key, t) (sym c.in-Some.ensures))
 
 pub loop-i-preserved : goal.loop-i-preserved
-loop-i-preserved c =
+loop-i-preserved g c =
     let es = entries_of_map c.args.map.now in
-    let fs = fields_in c.args.fields.now in
+    let fs = g.N.FieldNames.fields c.args.names.now in
     let key = step_of_key c.in-Some.key.now in
     let t = tree_of c.in-Some.field-0-1.now in
     c.loop-i.invariant ∙ name_more fs es c.loop-i.i (key, t) (sym c.in-Some.ensures) (passes (is_field_name (segment_text key.seg) fs) c.in_ok-test_key.ensures)
 
 pub returns : goal.returns
-returns c =
+returns g c =
     let es = entries_of_map c.args.map.now in
-    let fs = fields_in c.args.fields.now in
+    let fs = g.N.FieldNames.fields c.args.names.now in
     elim c.loop-i-test.branch [
       | else-loop-i-test w ↦ ap when (c.loop-i.invariant ∙ names_all fs es c.loop-i.i (omega (arith, c.len-i-end.ensures, w.loop-i-test.false)))
       | then-loop-i-test+in_default w ↦ ap when (c.loop-i.invariant ∙ names_end fs es c.loop-i.i (sym w.in_default.ensures))

@@ -1,30 +1,51 @@
+use Rattle.std.proofs.Common.{◌≡◌, false}
+use Rattle.std.specs.Prelude.{◌||◌}
+use Rattle.qs_spec.specs.Node.{keys_are_names, keys_are_text}
+use Rattle.qs_spec.specs.Shape.{are_ignored, fields_of}
 use Rattle.qs_data.specs.read.TreeText.{entries_are_text}
-use Rattle.qs_data.specs.read.Keys.{entries_view}
-use Rattle.qs_data.proofs.lemmas.read.Errors.{gives_exit}
+use Rattle.qs_data.specs.read.Keys.{entries_view, unknown_of, when}
+use Rattle.qs_data.proofs.lemmas.read.Errors.{and_right, gives_exit}
+use Rattle.qs_data.proofs.lemmas.read.Unknown.{fails, passes}
 use Rattle.serde_qs.specs.Nodes.{by_names}
 use Rattle.serde_qs.specs.internal.NodeParts.{names_read}
 use Rattle.serde_qs.specs.Records.{texts}
-use Rattle.serde_qs.proofs.NodeValues.{names_broken, names_ok, names_unread}
+use Rattle.serde_qs.proofs.NodeValues.{names_broken, names_disallowed, names_ok, names_unread}
 use Rattle.serde_qs.proofs.compound.nodes.read_entries.Goals as goal
 
 pub returns-in_err-fields : goal.returns-in_err-fields
 returns-in_err-fields g c =
     let t = g.F.Fields.table in
     let es = entries_view c.args.entries in
+    let u = unknown_of c.args.unknown in
     let st = c.args.reader.reject_duplicates in
     let fs = t.form (texts c.args.names.now) in
     let m = t.meaning (texts c.args.names.now) in
-    gives_exit t.value (entries_are_text es) (entries_are_text es) c.from_residual.result c.in_err-fields.field-0.0 (by_names st fs m es) (names_read st fs m es)
-    c.from_residual.ensures.1 c.in_err-fields.ensures (names_unread st fs m es) (λ f. f)
+    gives_exit t.value (entries_are_text es) (entries_are_text es) c.from_residual.result c.in_err-fields.field-0.0 (by_names st fs m es) (names_read u st fs m es)
+    c.from_residual.ensures.1 c.in_err-fields.ensures (names_unread u st fs m es) (λ f. f)
+
+pub returns-in_err-reject : goal.returns-in_err-reject
+returns-in_err-reject g c =
+    let t = g.F.Fields.table in
+    let es = entries_view c.args.entries in
+    let u = unknown_of c.args.unknown in
+    let st = c.args.reader.reject_duplicates in
+    let fs = t.form (texts c.args.names.now) in
+    let m = t.meaning (texts c.args.names.now) in
+    let known = keys_are_names (fields_of fs) es || are_ignored u in
+    gives_exit t.value (entries_are_text es) (entries_are_text es) c.from_residual-in_err-reject.result c.in_err-reject.field-0.0 (when known) (names_read u st fs m es)
+    c.from_residual-in_err-reject.ensures.1 c.in_err-reject.ensures (λ none. names_disallowed u st fs m es (and_right (keys_are_text es) known (fails known none))) (λ f. f)
 
 pub returns-in-Ok : goal.returns-in-Ok
 returns-in-Ok g c =
     let t = g.F.Fields.table in
     let es = entries_view c.args.entries in
-    names_ok c.args.reader.reject_duplicates (t.form (texts c.args.names.now)) (t.meaning (texts c.args.names.now)) es (t.value c.in_ok-fields.fields) c.in-Ok.ensures.text c.in_ok-fields.ensures
+    let u = unknown_of c.args.unknown in
+    let fs = t.form (texts c.args.names.now) in
+    names_ok u c.args.reader.reject_duplicates fs (t.meaning (texts c.args.names.now)) es (t.value c.in_ok-fields.fields) c.in-Ok.ensures.text
+    (passes (keys_are_names (fields_of fs) es || are_ignored u) c.in_ok-reject.ensures) c.in_ok-fields.ensures
 
 pub returns-in-Err : goal.returns-in-Err
 returns-in-Err g c =
     let t = g.F.Fields.table in
     let es = entries_view c.args.entries in
-    names_broken c.args.reader.reject_duplicates (t.form (texts c.args.names.now)) (t.meaning (texts c.args.names.now)) es c.into_error.result c.in-Err.ensures.text c.into_error.ensures
+    names_broken (unknown_of c.args.unknown) c.args.reader.reject_duplicates (t.form (texts c.args.names.now)) (t.meaning (texts c.args.names.now)) es c.into_error.result c.in-Err.ensures.text c.into_error.ensures

@@ -1,7 +1,7 @@
 use Rattle.qs_tree.specs.tree.Views.{tree_of}
 use Rattle.qs_data.specs.read.Items.{items_view}
 use Rattle.qs_data.proofs.lemmas.read.Items.{items_bad}
-use Rattle.qs_data.proofs.read.by_shape.Reader.items.Goals as goal
+use Rattle.qs_data.proofs.read.by_shape.Reader.items_for.Goals as goal
 
 pub returns-clause-text : goal.returns-clause-text
 returns-clause-text c = items_bad (tree_of c.args.node.now) (items_view c.in_ok-items_of.field-0) c.in_ok-items_of.ensures

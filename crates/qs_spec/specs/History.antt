@@ -23,8 +23,9 @@ event p = event_of p.path p.push p.leaf
 abbrev pub under : Segment → List Pair → List Pair
 under k [] = []
 under k (p ∷ ps) = elim p.path [
-    [] ↦ under k ps
-    | (s ∷ path) ↦ if is_same_segment k s.seg then record p { path = path } ∷ under k ps else under k ps ]
+  | [] ↦ under k ps
+  | (s ∷ path) ↦ if is_same_segment k s.seg then record p { path = path } ∷ under k ps else under k ps
+]
 
 -- the pairs whose path begins with a path, without it
 abbrev pub at : List Segment → List Pair → List Pair

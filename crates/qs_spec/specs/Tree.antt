@@ -79,8 +79,9 @@ heads (p ∷ ps) = put_head p.path (heads ps)
 abbrev pub head_mark : Segment → List Pair → Bool
 head_mark k [] = false
 head_mark k (p ∷ ps) = elim p.path [
-    [] ↦ head_mark k ps
-    | (s ∷ path) ↦ if is_same_segment k s.seg then s.mark else head_mark k ps ]
+  | [] ↦ head_mark k ps
+  | (s ∷ path) ↦ if is_same_segment k s.seg then s.mark else head_mark k ps
+]
 
 -- the entries of these keys, each with its mark and its node
 abbrev pub entries_of : (Segment → Bool) → (Segment → Tree) → List Segment → Entries

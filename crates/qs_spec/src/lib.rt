@@ -41,7 +41,7 @@ pub use relation::{one_data, reads_is_the_relation};
 pub use scalars::written_scalars_are_parsed;
 pub use shapes::{
     anything, distinct_shapes, fields_by_name, flags, items_by_place, kinds_of_variants,
-    last_of_several, smallest_key_names_the_variant, maps, numbers_in_range, options, small_shapes,
+    last_of_several, maps, numbers_in_range, options, small_shapes, smallest_key_names_the_variant,
     unknown_keys,
 };
 pub use texts::{

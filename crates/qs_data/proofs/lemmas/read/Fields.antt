@@ -42,19 +42,13 @@ reads_field st d es = read_field (field_of d).2 (is_option (field_of d).1) (read
 
 -- one more field by its name
 module _ (st : Bool) (fs : List Field) (i : ℕ) (d : Field) (es : Entries) (ws : List Named) (here : i < length fs) (is : d ≡ get_or fs i d) where
-  pub names_at : before ws (reads_names st (fields_in (drop i fs)) es)
-      ≡ before ws (option_and_then (λ y. with_field (field_of d).0 y (reads_names st (fields_in (drop (i + 1) fs)) es)) (reads_field st d es))
-  unfolding reads
-  names_at =
-      let split : drop i fs ≡ d ∷ drop (i + 1) fs = drop_more fs i d here ∙ ap (λ y. y ∷ drop (i + 1) fs) (sym is) in
-      ap (λ ys. before ws (reads_names st (fields_in ys) es)) split
-
   pub names_more : (o : Option Data) → reads_field st d es ≡ Some o
       → before ws (reads_names st (fields_in (drop i fs)) es) ≡ before ws (with_field (field_of d).0 o (reads_names st (fields_in (drop (i + 1) fs)) es))
-  names_more o r = names_at ∙ ap (λ x. before ws (option_and_then (λ y. with_field (field_of d).0 y (reads_names st (fields_in (drop (i + 1) fs)) es)) x)) r
-
-  pub names_none : reads_field st d es ≡ None → before ws (reads_names st (fields_in (drop i fs)) es) ≡ None
-  names_none r = names_at ∙ ap (λ x. before ws (option_and_then (λ y. with_field (field_of d).0 y (reads_names st (fields_in (drop (i + 1) fs)) es)) x)) r
+  unfolding reads
+  names_more o r =
+      let split : drop i fs ≡ d ∷ drop (i + 1) fs = drop_more fs i d here ∙ ap (λ y. y ∷ drop (i + 1) fs) (sym is) in
+      ap (λ ys. before ws (reads_names st (fields_in ys) es)) split
+      ∙ ap (λ x. before ws (option_and_then (λ y. with_field (field_of d).0 y (reads_names st (fields_in (drop (i + 1) fs)) es)) x)) r
 
 -- the items after the first
 pub items_behind : (i : ℕ) (ts : List ParsedValue) → items_after (items_from (map tree_of (drop i ts))) ≡ items_from (map tree_of (drop (i + 1) ts))
@@ -90,20 +84,14 @@ module _ (st : Bool) (fs : List Field) (i : ℕ) (d : Field) (ts : List ParsedVa
   abbrev rest : Option (List Named)
   rest = reads_places st (fields_in (drop (i + 1) fs)) (items_from (map tree_of (drop (i + 1) ts)))
 
-  pub places_at : before ws (reads_places st (fields_in (drop i fs)) (items_from (map tree_of (drop i ts))))
-      ≡ before ws (option_and_then (λ y. with_field (field_of d).0 y rest) (reads_place st d (drop i ts)))
+  pub places_more : (o : Option Data) → reads_place st d (drop i ts) ≡ Some o
+      → before ws (reads_places st (fields_in (drop i fs)) (items_from (map tree_of (drop i ts)))) ≡ before ws (with_field (field_of d).0 o rest)
   unfolding reads
-  places_at =
+  places_more o r =
       let split : drop i fs ≡ d ∷ drop (i + 1) fs = drop_more fs i d here ∙ ap (λ y. y ∷ drop (i + 1) fs) (sym is) in
       ap (λ ys. before ws (reads_places st (fields_in ys) (items_from (map tree_of (drop i ts))))) split
       ∙ ap (λ zs. before ws (option_and_then (λ y. with_field (field_of d).0 y (reads_places st (fields_in (drop (i + 1) fs)) zs)) (reads_place st d (drop i ts)))) (items_behind i ts)
-
-  pub places_more : (o : Option Data) → reads_place st d (drop i ts) ≡ Some o
-      → before ws (reads_places st (fields_in (drop i fs)) (items_from (map tree_of (drop i ts)))) ≡ before ws (with_field (field_of d).0 o rest)
-  places_more o r = places_at ∙ ap (λ x. before ws (option_and_then (λ y. with_field (field_of d).0 y rest) x)) r
-
-  pub places_none : reads_place st d (drop i ts) ≡ None → before ws (reads_places st (fields_in (drop i fs)) (items_from (map tree_of (drop i ts)))) ≡ None
-  places_none r = places_at ∙ ap (λ x. before ws (option_and_then (λ y. with_field (field_of d).0 y rest) x)) r
+      ∙ ap (λ x. before ws (option_and_then (λ y. with_field (field_of d).0 y rest) x)) r
 
 pub field_name : (d : Field) → (field_of d).0 ≡ string_bytes (out-Field d).name
 field_name d = search (rules, f.the_lemmas)

@@ -169,11 +169,6 @@ first_end [] h = refl
 first_end (None ∷ xs) h = absurd cc
 first_end (Some t ∷ xs) h = absurd cc
 
-first_bad : (r : Reader) (xs : List (Option Tree)) → first_item xs ≡ None → read_each r xs ≡ None
-first_bad r [] h = absurd cc
-first_bad r (None ∷ xs) h = refl
-first_bad r (Some t ∷ xs) h = absurd cc
-
 module _ (r : Reader) (xs : List (Option Tree)) (i : ℕ) (ws : List Data) where
   pub each_more : (t : Tree) (d : Data) → first_item (drop i xs) ≡ Some (Some t) → r t ≡ Some d → before ws (read_each r (drop i xs)) ≡ before (ws ++ d ∷ []) (read_each r (drop (i + 1) xs))
   each_more t d h g =
@@ -185,9 +180,6 @@ module _ (r : Reader) (xs : List (Option Tree)) (i : ℕ) (ws : List Data) where
   each_unread t h g =
       ap (λ ys. before ws (read_each r ys)) (first_some xs i t h)
       ∙ ap (λ o. before ws (option_and_then (λ x. with_front x (read_each r (drop (i + 1) xs))) o)) g
-
-  pub each_rejected : first_item (drop i xs) ≡ None → before ws (read_each r (drop i xs)) ≡ None
-  each_rejected h = ap (before ws) (first_bad r (drop i xs) h)
 
   pub each_end : first_item (drop i xs) ≡ Some None → before ws (read_each r (drop i xs)) ≡ Some ws
   each_end h = ap (λ ys. before ws (read_each r ys)) (first_end (drop i xs) h) ∙ ap Some (append-nil ws)

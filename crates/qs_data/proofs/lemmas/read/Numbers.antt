@@ -45,12 +45,6 @@ numeral_within most ds h le = let e = numeral_is ds h in let v = value_is ds h i
 pub numeral_past : (most : ℕ) (ds : List ℕ) → IsNumeral 10 ds → most < digits_value 10 ds → numeral_up_to most ds ≡ None
 numeral_past most ds h lt = let e = numeral_is ds h in let v = value_is ds h in grind (arith, nat_tests)
 
-pub numeral_none : (most : ℕ) (ds : List ℕ) → ¬ (IsNumeral 10 ds) → numeral_up_to most ds ≡ None
-numeral_none most ds h = elim (cases_Bool (is_numeral ds)) [
-  | inl is ↦ absurd (h (numeral_holds ds is))
-  | inr not ↦ rw not
-]
-
 pub unsigned_is : (bits : ℕ) (bs : List ℕ) → unsigned_number bits bs ≡ numeral_up_to (2 ^ bits - 1) (without_leading_plus bs)
 unsigned_is bits [] = refl
 unsigned_is bits (b ∷ bs) = elim (cases_Bool (eqb b 43)) [

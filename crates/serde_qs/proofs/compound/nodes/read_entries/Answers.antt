@@ -1,4 +1,3 @@
-use Rattle.std.proofs.Common.{◌≡◌, false}
 use Rattle.std.specs.Prelude.{◌||◌}
 use Rattle.qs_spec.specs.Node.{keys_are_names, keys_are_text}
 use Rattle.qs_spec.specs.Shape.{are_ignored, fields_of}

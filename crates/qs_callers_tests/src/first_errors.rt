@@ -51,6 +51,10 @@ fn of_a_tuple(rt: HostRuntime) {
             "a[0]=x&a[k]=1&b=Fast",
             "invalid type: map, expected a tuple of size 2",
         ),
+        (
+            "a[0]=1&a[1]=2&a[k]=3&b=At",
+            "invalid type: map, expected a tuple of size 2",
+        ),
         ("b=Fast", "missing field `a`"),
         // then item by item its index and its reading, and whether one is missing
         ("a&b=Fast", "invalid length 0"),
@@ -61,7 +65,6 @@ fn of_a_tuple(rt: HostRuntime) {
         ("a[0]=1&a[2]=x&b=Fast", "missing index, expected: 1 got 2"),
         ("a[0]=x&a[2]=1&b=Fast", "invalid type: string, expected u32"),
         // and then the next field
-        ("a[0]=1&a[1]=2&a[k]=3&b=At", "invalid type: map, expected a tuple of size 2"),
         (
             "a[0]=1&a[1]=2&a[3]=x&b=At",
             "invalid type: unit variant, expected tuple variant",
@@ -121,8 +124,18 @@ fn of_names_that_are_not_utf8(rt: HostRuntime) {
     // what a unit variant holds isn't read
     let result: Result<Pair<Sort, Span>> = from_str(alloc, "a[Relevance]=%FF&b=1&b=2");
     let pair = result.expect(&rt, "a pair");
-    assert!(rt; pair == Pair { a: Sort::Relevance, b: Span(1, 2) });
+    assert!(rt;
+        pair == Pair {
+            a: Sort::Relevance,
+            b: Span(1, 2)
+        }
+    );
     let result: Result<Pair<Sort, Span>> = from_str(alloc, "a[Between]=1&a[Between]=2&b[]=3&b[]=4");
     let pair = result.expect(&rt, "a pair");
-    assert!(rt; pair == Pair { a: Sort::Between { from: 1, to: 2 }, b: Span(3, 4) });
+    assert!(rt;
+        pair == Pair {
+            a: Sort::Between { from: 1, to: 2 },
+            b: Span(3, 4)
+        }
+    );
 }

@@ -99,6 +99,38 @@ fn unknown_keys(rt: HostRuntime) {
 }
 
 #[test]
+fn what_a_variant_holds(rt: HostRuntime) {
+    let alloc = rt.alloc();
+    let reader = Reader::new(alloc, Config::new());
+    let tree = parse(alloc, b"0=7&1=8", Config::new()).expect(&rt, "a tree");
+    let items = reader.tuple(2, &tree).expect(&rt, "items");
+    assert_eq!(rt; items.len(), 2);
+    let items = reader.tuple_variant(Some(&tree)).expect(&rt, "items");
+    assert_eq!(rt; items.len(), 2);
+    assert!(rt; matches!(reader.newtype_variant(Some(&tree)), Ok(ParsedValue::Map(_))));
+    assert!(rt; matches!(reader.struct_variant(Some(&tree)), Ok(ParsedValue::Map(_))));
+    let rows = [
+        (
+            reader.newtype_variant(None),
+            "invalid type: unit variant, expected newtype variant",
+        ),
+        (
+            reader.struct_variant(None),
+            "invalid type: unit variant, expected struct variant",
+        ),
+    ];
+    for (result, wanted) in rows {
+        assert!(rt; is_custom(&result, wanted), "{wanted}");
+    }
+    assert!(rt;
+        is_custom(
+            &reader.tuple_variant(None),
+            "invalid type: unit variant, expected tuple variant"
+        )
+    );
+}
+
+#[test]
 fn errors(rt: HostRuntime) {
     let alloc = rt.alloc();
     let reader = Reader::new(alloc, Config::new());
@@ -114,6 +146,11 @@ fn errors(rt: HostRuntime) {
             reader.not_a_struct(&ParsedValue::NoValue),
             "invalid type: unit value, expected a struct",
         ),
+        (
+            reader.not_an_enum(&ParsedValue::NoValue),
+            "invalid type: unit value, expected an enum",
+        ),
+        (reader.unknown_variant(b"Fast"), "unknown variant `Fast`"),
     ];
     for (error, wanted) in rows {
         let result: Result<()> = Err(error);

@@ -75,8 +75,8 @@ pub trait Deserialize: Sized {
 
     /// Returns the shape that is read for a value. The one error is [`OutOfMemory`](Error::OutOfMemory).
     ///
-    /// It allocates for names and nested shapes. A service that reads many inputs keeps it for
-    /// [`read_by`](crate::read_by).
+    /// It allocates for names and nested shapes. A typed call makes it for a type without a [`from_node`](Deserialize::from_node) of its own;
+    /// a service that reads many of such a type keeps it for [`read_by`](crate::read_by).
     fn shape(alloc: Global) -> Result<Shape>
         ensures exact { IfOk result (λ s. shape_of s ≡ form) }
         ensures errors { OnlyOutOfMemory result };
@@ -93,8 +93,8 @@ pub trait Deserialize: Sized {
     /// this function.
     ///
     /// The errors are those of reading by the shape, and of [`from_data`](Deserialize::from_data). Unless a type has a function of its own, this
-    /// makes the shape and the data. The unit, booleans, numbers, characters, strings, options, lists, maps, newtypes and structs read the
-    /// node itself.
+    /// makes the shape and the data. The unit, booleans, numbers, characters, strings, options, lists, maps, and the structs and enums of
+    /// [`Compound`](crate::Compound) read the node itself.
     fn from_node(reader: Reader, node: &ParsedValue<'_>) -> Result<Self>
         ensures node { ReadsNode value form meaning reader.reject_duplicates (tree_of node.now) result }
     {

@@ -114,11 +114,7 @@ impl Reader {
     }
 
     /// Returns the items of a node for a tuple of this size, as [`items`](Reader::items) does for a list.
-    pub fn tuple<'t, 'qs>(
-        self,
-        size: usize,
-        node: &'t ParsedValue<'qs>,
-    ) -> Result<Items<'t, 'qs>>
+    pub fn tuple<'t, 'qs>(self, size: usize, node: &'t ParsedValue<'qs>) -> Result<Items<'t, 'qs>>
         ensures exact { Gives items_view true result (items (tree_of node.now)) }
         ensures text { IfOk result (λ xs. are_text (items_view xs) ≡ false → is_text (tree_of node.now) ≡ false) }
     {

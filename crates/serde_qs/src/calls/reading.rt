@@ -61,8 +61,9 @@ pub fn from_str<T: Deserialize>(alloc: Global, input: &str) -> Result<T>
 /// let query: Query = read_by(alloc, Config::new(), &shape, body)?; // for each request
 /// ```
 ///
-/// The errors are those of [`from_str`], with this configuration in place of the default one. It allocates, and takes time, as that
-/// call does, but for the shape.
+/// The errors are those of [`from_str`], with this configuration in place of the default one. It reads data by the shape, and the value
+/// from them. That saves the shape of a type that is written by hand, or has such parts, where they have no
+/// [`from_node`](Deserialize::from_node) of their own. Any other type is read without a shape by [`from_str`], which is faster.
 pub fn read_by<T: Deserialize>(
     alloc: Global,
     config: Config,

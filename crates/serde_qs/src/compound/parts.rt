@@ -44,16 +44,10 @@ pub trait Parts: Sized {
     fn from_data(alloc: Global, names: &[&'static str], datum: Data) -> Result<Self>
         ensures { Means table.value result (table.meaning (texts names.now) (data_of datum)) };
 
-    /// Returns the parts that are read from a node of a tree. Unless the parts have a function of their own, this makes the shape and the
-    /// data.
+    /// Returns the parts that are read from a node of a tree, without a shape or data in between.
     fn from_node(reader: Reader, names: &[&'static str], node: &ParsedValue<'_>) -> Result<Self>
         requires { is_distinct (table.form (texts names.now)) ≡ true }
-        ensures node { ReadsNode table.value (table.form (texts names.now)) (table.meaning (texts names.now)) reader.reject_duplicates (tree_of node.now) result }
-    {
-        let shape = Self::shape(reader.alloc, names)?;
-        let datum = reader.read(&shape, node)?;
-        Self::from_data(reader.alloc, names, datum)
-    }
+        ensures node { ReadsNode table.value (table.form (texts names.now)) (table.meaning (texts names.now)) reader.reject_duplicates (tree_of node.now) result };
 
     /// Returns the parts that come from data or from a node.
     ///

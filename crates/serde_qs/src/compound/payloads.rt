@@ -146,8 +146,8 @@ impl<F: Fields> Payload for Struct<F> {
         held: Option<&ParsedValue<'_>>,
     ) -> Result<Struct<F>> {
         let node = reader.struct_variant(held)?;
-        let unknown = UnknownKeys::Ignored;
-        Ok(Struct(nodes::variant_of(reader, unknown, names, node)?))
+        let ignored = UnknownKeys::Ignored;
+        Ok(Struct(nodes::variant_of(reader, ignored, names, node)?))
     }
 }
 

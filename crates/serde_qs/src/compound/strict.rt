@@ -62,7 +62,7 @@ impl<F: Fields> Payload for StrictStruct<F> {
         held: Option<&ParsedValue<'_>>,
     ) -> Result<StrictStruct<F>> {
         let node = reader.struct_variant(held)?;
-        let unknown = UnknownKeys::Rejected;
-        Ok(StrictStruct(nodes::variant_of(reader, unknown, names, node)?))
+        let rejected = UnknownKeys::Rejected;
+        Ok(StrictStruct(nodes::variant_of(reader, rejected, names, node)?))
     }
 }

@@ -4,4 +4,4 @@ use Rattle.serde_qs.proofs.NodeVariants.{unit_held}
 use Rattle.serde_qs.proofs.compound.payloads.UnitPayload.from_node.Goals as goal
 
 pub returns : goal.returns
-returns g c = λ name. unit_held c.args.reader.reject_duplicates name (option_map (λ v. tree_of v.now) c.args.held)
+returns c = λ name. unit_held c.args._reader.reject_duplicates name (option_map (λ v. tree_of v.now) c.args._held)

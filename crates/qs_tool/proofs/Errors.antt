@@ -1,29 +1,12 @@
 -- Which error reports what.
-use Rattle.std.proofs.Common.{◌≡◌, ℕ, false, Option, Some, Result, Ok, Err, refl}
+use Rattle.std.proofs.Common.{◌≡◌, false, Result, Ok, Err}
 use Rattle.qs_spec.specs.Shape.{Shape}
 use Rattle.qs_spec.specs.Relation.{ReadsNothing}
-use Rattle.qs_spec.specs.Entry.{Refusal, too_deep, bad_key}
 use Rattle.qs_tree.specs.declared.error.Error.{Error}
 use Rattle.qs_tree.specs.declared.error.Error.TheVariants.{Custom, MaxSerializationDepthExceeded, Parse, Unsupported, FromUtf8, Io, ParseInt, Utf8, OutOfMemory, Failed}
-use Rattle.qs_tree.specs.Error.{IsFailed, IsTooDeep, IsUnsupported, OnlyOutOfMemory}
-use Rattle.qs_data.specs.write.Errors.{IsWriteError}
+use Rattle.qs_tree.specs.Error.{OnlyOutOfMemory}
 use Rattle.qs_data.specs.read.Parsed.{Parsed, ReturnsData}
 use Rattle.qs_tool.specs.InputError.{is_memory, IfInputError}
-
--- a serializer that hadn't failed reports an error of the data, or that an allocation failed
-pub write_error : (e : Error) (depth : ℕ) (r : Option Refusal) → IsWriteError {T = Unit {0}} (Err e) → (IsFailed {T = Unit {0}} (Err e) → ⊥)
-    → ((n : ℕ) → IsTooDeep {T = Unit {0}} (Err e) n → (n ≡ depth) × (r ≡ Some too_deep)) → (IsUnsupported {T = Unit {0}} (Err e) → r ≡ Some bad_key)
-    → is_memory e ≡ false → (refusal : Refusal) × (r ≡ Some refusal)
-write_error (Custom message) depth r report fresh deep key other = absurd report
-write_error (MaxSerializationDepthExceeded n) depth r report fresh deep key other = (too_deep, (deep n refl).1)
-write_error (Parse message position) depth r report fresh deep key other = absurd report
-write_error Unsupported depth r report fresh deep key other = (bad_key, key tt)
-write_error (FromUtf8 cause) depth r report fresh deep key other = absurd report
-write_error (Io cause) depth r report fresh deep key other = cc
-write_error (ParseInt cause) depth r report fresh deep key other = absurd report
-write_error (Utf8 cause) depth r report fresh deep key other = absurd report
-write_error OutOfMemory depth r report fresh deep key other = cc
-write_error Failed depth r report fresh deep key other = absurd (fresh tt)
 
 -- a reader that returned an error reads nothing, or an allocation failed
 pub nothing_read : (parsed : Parsed) (shape : Shape) (e : Error) → ReturnsData parsed shape (Err e) → is_memory e ≡ false → ReadsNothing parsed.config shape parsed.tree

@@ -1,7 +1,9 @@
-pub mod Distinct
 pub mod Lines
 pub mod Numbers
 pub mod Options
 pub mod Pieces
 pub mod Errors
 pub mod Taken
+pub mod Exact
+pub mod Rewriting
+pub mod Forms

@@ -3,6 +3,7 @@ use Rattle.std.specs.Prelude.{◌≡◌, ℕ, ◌-◌, ◌<◌, ◌==◌, List, 
 use Rattle.std.specs.Io.KnownBytes.{IsAtEnd}
 use Rattle.qs_spec.specs.Config.{Config}
 use Rattle.qs_spec.specs.Data.{Data}
+use Rattle.qs_spec.specs.Shape.{Shape}
 use Rattle.qs_spec.specs.Tree.{Tree, IsTree, IsRefused}
 use Rattle.qs_spec.specs.Relation.{ReadsBy, ReadsNothing}
 use Rattle.qs_spec.specs.Entry.{Refusal, entries}
@@ -51,22 +52,27 @@ printed Flat config value = rewritten config value
 printed Params config value = rewritten config value
 printed Any config value = Some (shown value)
 
--- the input has a tree, from which the command's shape reads data, which are printed as the text
-pub record IsPrinted (request : Request) (input text : List ℕ) : Type 0 where
+-- the input has a tree, from which the shape reads data, which are printed as the text
+pub record IsPrintedBy (config : Config) (shape : Shape) (print : Data → Option (List ℕ)) (input text : List ℕ) : Type 0 where
   pub tree : Tree
   pub value : Data
-  pub has_tree : IsTree request.config.form request.config.max_depth input tree
-  pub is_read : ReadsBy request.config (shape_for request.command request.strict) tree value
-  pub is_text : printed request.command request.config value ≡ Some text
+  pub has_tree : IsTree config.form config.max_depth input tree
+  pub is_read : ReadsBy config shape tree value
+  pub is_text : print value ≡ Some text
 
--- the input has no tree, or the command's shape reads nothing from it, or what it reads isn't printed
-pub data IsFaulty (request : Request) (input : List ℕ) : Type 0 where
-  no_tree : IsRefused request.config.form request.config.max_depth input → IsFaulty request input
-  not_read : (tree : Tree) → IsTree request.config.form request.config.max_depth input tree
-      → ReadsNothing request.config (shape_for request.command request.strict) tree → IsFaulty request input
-  not_printed : (tree : Tree) (value : Data) → IsTree request.config.form request.config.max_depth input tree
-      → ReadsBy request.config (shape_for request.command request.strict) tree value
-      → printed request.command request.config value ≡ None → IsFaulty request input
+-- the input has no tree, or the shape reads nothing from it, or what it reads isn't printed
+pub data IsFaultyBy (config : Config) (shape : Shape) (print : Data → Option (List ℕ)) (input : List ℕ) : Type 0 where
+  no_tree : IsRefused config.form config.max_depth input → IsFaultyBy config shape print input
+  not_read : (tree : Tree) → IsTree config.form config.max_depth input tree → ReadsNothing config shape tree → IsFaultyBy config shape print input
+  not_printed : (tree : Tree) (value : Data) → IsTree config.form config.max_depth input tree → ReadsBy config shape tree value → print value ≡ None
+      → IsFaultyBy config shape print input
+
+-- the same by the command's shape, and printed as the command does
+abbrev pub IsPrinted : Request → List ℕ → List ℕ → Type 0
+IsPrinted request input text = IsPrintedBy request.config (shape_for request.command request.strict) (printed request.command request.config) input text
+
+abbrev pub IsFaulty : Request → List ℕ → Type 0
+IsFaulty request input = IsFaultyBy request.config (shape_for request.command request.strict) (printed request.command request.config) input
 
 -- what is printed, with status 0, or an error, with status 1
 abbrev pub IsAnswer : Request → List ℕ → List ℕ → ℕ → Type 0

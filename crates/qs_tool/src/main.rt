@@ -3,13 +3,15 @@
 
 mod answer;
 mod arguments;
+mod flat;
 mod information;
 mod misuse;
+mod params;
 mod printing;
 mod program;
-mod shapes;
 mod showing;
 mod streams;
+mod strict;
 #[cfg(test)]
 mod tests;
 

@@ -1,21 +1,23 @@
 //! What a command prints of the input that it reads.
 
-ghost use Rattle.std.specs.Prelude.{◌≡◌, Some, None, IfOk, true};
-ghost use Rattle.qs_spec.specs.Shape.{is_distinct};
+ghost use Rattle.std.specs.Prelude.{◌≡◌, Some, IfOk};
+ghost use Rattle.qs_spec.specs.Shape as s;
 ghost use Rattle.qs_spec.specs.Tree.{IsTree, IsRefused};
 ghost use Rattle.qs_tree.specs.Error.{IsParse, OnlyOutOfMemory, OnlyParseOrOutOfMemory};
 ghost use Rattle.qs_data.specs.read.Errors.{OnlyCustomUtf8OrOutOfMemory};
 ghost use Rattle.qs_data.specs.read.Parsed.{ReturnsData, parsed_of};
 ghost use Rattle.qs_data.specs.data.Views.{data_of};
-ghost use Rattle.qs_data.specs.shape.Views.{shape_of};
 ghost use Rattle.qs_tool.specs.InputError.{IfInputError};
-ghost use Rattle.qs_tool.specs.Line.{IsFaulty, IsPrinted, printed, rewritten};
+ghost use Rattle.qs_tool.specs.Line.{IsFaulty, IsFaultyBy, IsPrinted, IsPrintedBy, rewritten};
 ghost use Rattle.qs_tool.specs.Shown.{shown};
+ghost use Rattle.qs_tool.specs.internal.Exact.{IsExact};
 
 use crate::arguments::{Command, Request};
-use crate::shapes::shape_for;
+use crate::flat::Flat;
+use crate::params::{Address, Params};
 use crate::showing::show;
-use serde_qs::{Config, Data, Deserializer, Result, Serializer, Shape};
+use crate::strict::Strict;
+use serde_qs::{Config, ConfigExt, Data, Deserializer, Result, RoundTrip, Shape};
 use std::alloc::Global;
 
 /// What is printed of the input, or why it is rejected.
@@ -23,12 +25,40 @@ pub fn printed(alloc: Global, request: Request, input: &[u8]) -> Result<Vec<u8>>
     ensures text { IfOk result (λ text. IsPrinted request input.now text.items) }
     ensures fault { IfInputError result (IsFaulty request input.now) }
 {
-    let shape = shape_for(alloc, request.command, request.strict)?;
-    let deserializer = parsed(alloc, request.config, input)?;
-    let value = read_data(alloc, deserializer, &shape)?;
-    let text = text_of(alloc, request, &value);
+    let config = request.config;
+    match (request.command, request.strict) {
+        (Command::Flat, false) => rewritten::<Flat>(alloc, config, input),
+        (Command::Flat, true) => rewritten::<Strict<Flat>>(alloc, config, input),
+        (Command::Params, false) => rewritten::<Params<Address>>(alloc, config, input),
+        (Command::Params, true) => {
+            rewritten::<Strict<Params<Strict<Address>>>>(alloc, config, input)
+        }
+        (Command::Any, _) => shown(alloc, config, input),
+    }
+}
+
+// The querystring that the value is written as which is read from the input.
+fn rewritten<T: RoundTrip + Drop>(alloc: Global, config: Config, input: &[u8]) -> Result<Vec<u8>>
+    requires { IsExact T.value T.datum T.form T.meaning }
+    ensures text { IfOk result (λ text. IsPrintedBy config T.form (rewritten config) input.now text.items) }
+    ensures fault { IfInputError result (IsFaultyBy config T.form (rewritten config) input.now) }
+{
+    let value: T = config.deserialize_bytes(alloc, input)?;
+    Ok(config.serialize_string(alloc, &value)?.into_bytes())
+}
+
+// The data as they are shown that are read from the input.
+fn shown(alloc: Global, config: Config, input: &[u8]) -> Result<Vec<u8>>
+    ensures text { IfOk result (λ text. IsPrintedBy config s.Shape.any (λ d. Some (shown d)) input.now text.items) }
+    ensures fault { IfInputError result (IsFaultyBy config s.Shape.any (λ d. Some (shown d)) input.now) }
+{
+    let deserializer = parsed(alloc, config, input)?;
+    let value = read_data(alloc, deserializer)?;
+    let mut text = Vec::new(alloc);
+    let shown = show(alloc, &mut text, &value);
     value.discard();
-    text
+    shown?;
+    Ok(text)
 }
 
 // The querystring, parsed, with what is asked of that here.
@@ -41,42 +71,10 @@ fn parsed<'qs>(alloc: Global, config: Config, input: &'qs [u8]) -> Result<Deseri
     Deserializer::with_config(alloc, config, input)
 }
 
-// The data that a shape reads, with what is asked of that here.
-fn read_data(alloc: Global, deserializer: Deserializer<'_>, shape: &Shape) -> Result<Data>
-    requires { is_distinct (shape_of shape.now) ≡ true }
-    ensures exact { ReturnsData (parsed_of deserializer.entry) (shape_of shape.now) result }
+// The data that are read whatever is there, with what is asked of that here.
+fn read_data(alloc: Global, deserializer: Deserializer<'_>) -> Result<Data>
+    ensures exact { ReturnsData (parsed_of deserializer.entry) s.Shape.any result }
     ensures errors { OnlyCustomUtf8OrOutOfMemory result }
 {
-    deserializer.read(alloc, shape)
-}
-
-// The text of the data: `any` shows them, the other commands write them as a querystring.
-fn text_of(alloc: Global, request: Request, value: &Data) -> Result<Vec<u8>>
-    ensures text { IfOk result (λ text. printed request.command request.config (data_of value.now) ≡ Some text.items) }
-    ensures fault { IfInputError result (printed request.command request.config (data_of value.now) ≡ None) }
-{
-    match request.command {
-        Command::Flat | Command::Params => rewritten(alloc, request.config, value),
-        Command::Any => shown(alloc, value),
-    }
-}
-
-// The querystring that the data are written as.
-fn rewritten(alloc: Global, config: Config, value: &Data) -> Result<Vec<u8>>
-    ensures text { IfOk result (λ text. rewritten config (data_of value.now) ≡ Some text.items) }
-    ensures fault { IfInputError result (rewritten config (data_of value.now) ≡ None) }
-{
-    let mut serializer = Serializer::new(Vec::new(alloc), config);
-    serializer.serialize(alloc, value)?;
-    Ok(serializer.into_sink().into_writer())
-}
-
-// The data as they are shown.
-fn shown(alloc: Global, value: &Data) -> Result<Vec<u8>>
-    ensures text { IfOk result (λ text. text.items ≡ shown (data_of value.now)) }
-    ensures errors { OnlyOutOfMemory result }
-{
-    let mut text = Vec::new(alloc);
-    show(alloc, &mut text, value)?;
-    Ok(text)
+    deserializer.read(alloc, &Shape::Any)
 }

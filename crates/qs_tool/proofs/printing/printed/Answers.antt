@@ -1,46 +1,57 @@
-use Rattle.std.proofs.Common.{subst}
-use Rattle.std.proofs.lemmas.Result.{err_from_is_err_and, IfOk-weaker}
-use Rattle.qs_spec.specs.Config.{Config}
-use Rattle.qs_spec.specs.Shape.{Shape}
-use Rattle.qs_spec.specs.Relation.{ReadsBy, ReadsNothing}
-use Rattle.qs_data.specs.data.Views.{data_of}
-use Rattle.qs_data.specs.shape.Views.{shape_of}
-use Rattle.qs_data.specs.read.Parsed.{parsed_of}
-use Rattle.qs_tool.specs.Line.{IsPrinted}
-use Rattle.qs_tool.specs.Line.IsFaulty.{not_read, not_printed}
-use Rattle.qs_tool.proofs.Errors.{nothing_read, input_error_is}
+use Rattle.std.proofs.Common.{true, false, refl}
+use Rattle.qs_spec.specs.Shape.UnknownKeys.{ignored, rejected}
+use Rattle.serde_qs.specs.Compound.{data_by}
+use Rattle.qs_tool.specs.declared.arguments.Command.TheVariants.{Flat as TheFlat, Params as TheParams, Any}
+use Rattle.qs_tool.specs.declared.flat.Flat.{Flat}
+use Rattle.qs_tool.specs.declared.params.Address.{Address}
+use Rattle.qs_tool.specs.declared.params.Params.{Params}
+use Rattle.qs_tool.specs.declared.strict.Strict.{Strict}
+use Rattle.qs_tool.proofs.Forms.{flat, address, params}
+use Rattle.qs_tool.proofs.Rewriting.{as_faulty, as_printed}
 use Rattle.qs_tool.proofs.printing.printed.Goals as goal
 
-pub returns-in_err-value-clause-fault : goal.returns-in_err-value-clause-fault
-returns-in_err-value-clause-fault c =
-    let p = err_from_is_err_and c.from_residual-in_err-value.result c.from_residual-in_err-value.ensures.1 in
-    let parsed = parsed_of c.in_ok-deserializer.deserializer in
-    let shape = shape_of c.in_ok-shape.shape in
-    let made = c.in_ok-deserializer.ensures in
-    let P : Config → Type 0 = λ config. ReadsNothing config shape parsed.tree in
-    let Q : Shape → Type 0 = λ s. ReadsNothing c.args.request.config s parsed.tree in
-    rw (p.1, p.2) (λ other. not_read parsed.tree made.tree
-    (subst Q c.in_ok-shape.ensures (subst P made.config (nothing_read parsed shape c.in_err-value.field-0.0 c.in_err-value.ensures.exact other))))
+pub rewritten-requires : goal.rewritten-requires
+unfolding data_by
+rewritten-requires c = (flat rejected (λ (x : Strict Flat). x.0)).exact
 
-pub returns-clause-text : goal.returns-clause-text
-returns-clause-text c =
-    let parsed = parsed_of c.in_ok-deserializer.deserializer in
-    let value = data_of c.in_ok-value.value in
-    let made = c.in_ok-deserializer.ensures in
-    let P : Config → Type 0 = λ config. ReadsBy config (shape_of c.in_ok-shape.shape) parsed.tree value in
-    let Q : Shape → Type 0 = λ s. ReadsBy c.args.request.config s parsed.tree value in
-    let read = subst Q c.in_ok-shape.ensures (subst P made.config c.in_ok-value.ensures.exact) in
-    IfOk-weaker c.text_of-text.result _ (λ text. IsPrinted c.args.request c.args.input.now text.items)
-    (λ text is. record { tree = parsed.tree; value = value; has_tree = made.tree; is_read = read; is_text = is }) c.text_of-text.ensures.text
+pub rewritten-requires-in-Flat-false : goal.rewritten-requires-in-Flat-false
+unfolding data_by
+rewritten-requires-in-Flat-false c = (flat ignored (λ (x : Flat). x)).exact
 
-pub returns-clause-fault : goal.returns-clause-fault
-returns-clause-fault c =
-    let parsed = parsed_of c.in_ok-deserializer.deserializer in
-    let shape = shape_of c.in_ok-shape.shape in
-    let value = data_of c.in_ok-value.value in
-    let made = c.in_ok-deserializer.ensures in
-    let P : Config → Type 0 = λ config. ReadsBy config shape parsed.tree value in
-    let Q : Shape → Type 0 = λ s. ReadsBy c.args.request.config s parsed.tree value in
-    input_error_is c.text_of-text.result
-    (λ report. not_printed parsed.tree value made.tree (subst Q c.in_ok-shape.ensures (subst P made.config c.in_ok-value.ensures.exact)) report)
-    c.text_of-text.ensures.fault
+pub rewritten-requires-in-Params-true : goal.rewritten-requires-in-Params-true
+unfolding data_by
+rewritten-requires-in-Params-true c = (params (address rejected (λ (x : Strict Address). x.0)) rejected (λ (x : Strict (Params (Strict Address))). x.0)).exact
+
+pub rewritten-requires-in-Params-false : goal.rewritten-requires-in-Params-false
+unfolding data_by
+rewritten-requires-in-Params-false c = (params (address ignored (λ (x : Address). x)) ignored (λ (x : Params Address). x)).exact
+
+pub returns-in-Flat-true-clause-text : goal.returns-in-Flat-true-clause-text
+returns-in-Flat-true-clause-text c = as_printed c.args.request TheFlat true c.in-Flat-true.is-0 c.in-Flat-true.is-1 c.args.input.now c.rewritten.result c.rewritten.ensures.text
+
+pub returns-in-Flat-true-clause-fault : goal.returns-in-Flat-true-clause-fault
+returns-in-Flat-true-clause-fault c = as_faulty c.args.request TheFlat true c.in-Flat-true.is-0 c.in-Flat-true.is-1 c.args.input.now c.rewritten.result c.rewritten.ensures.fault
+
+pub returns-in-Flat-false-clause-text : goal.returns-in-Flat-false-clause-text
+returns-in-Flat-false-clause-text c = as_printed c.args.request TheFlat false c.in-Flat-false.is-0 c.in-Flat-false.is-1 c.args.input.now c.rewritten-in-Flat-false.result c.rewritten-in-Flat-false.ensures.text
+
+pub returns-in-Flat-false-clause-fault : goal.returns-in-Flat-false-clause-fault
+returns-in-Flat-false-clause-fault c = as_faulty c.args.request TheFlat false c.in-Flat-false.is-0 c.in-Flat-false.is-1 c.args.input.now c.rewritten-in-Flat-false.result c.rewritten-in-Flat-false.ensures.fault
+
+pub returns-in-Params-true-clause-text : goal.returns-in-Params-true-clause-text
+returns-in-Params-true-clause-text c = as_printed c.args.request TheParams true c.in-Params-true.is-0 c.in-Params-true.is-1 c.args.input.now c.rewritten-in-Params-true.result c.rewritten-in-Params-true.ensures.text
+
+pub returns-in-Params-true-clause-fault : goal.returns-in-Params-true-clause-fault
+returns-in-Params-true-clause-fault c = as_faulty c.args.request TheParams true c.in-Params-true.is-0 c.in-Params-true.is-1 c.args.input.now c.rewritten-in-Params-true.result c.rewritten-in-Params-true.ensures.fault
+
+pub returns-in-Params-false-clause-text : goal.returns-in-Params-false-clause-text
+returns-in-Params-false-clause-text c = as_printed c.args.request TheParams false c.in-Params-false.is-0 c.in-Params-false.is-1 c.args.input.now c.rewritten-in-Params-false.result c.rewritten-in-Params-false.ensures.text
+
+pub returns-in-Params-false-clause-fault : goal.returns-in-Params-false-clause-fault
+returns-in-Params-false-clause-fault c = as_faulty c.args.request TheParams false c.in-Params-false.is-0 c.in-Params-false.is-1 c.args.input.now c.rewritten-in-Params-false.result c.rewritten-in-Params-false.ensures.fault
+
+pub returns-in-Any-default-clause-text : goal.returns-in-Any-default-clause-text
+returns-in-Any-default-clause-text c = as_printed c.args.request Any c.args.request.strict c.in-Any-default.is-0 refl c.args.input.now c.shown.result c.shown.ensures.text
+
+pub returns-in-Any-default-clause-fault : goal.returns-in-Any-default-clause-fault
+returns-in-Any-default-clause-fault c = as_faulty c.args.request Any c.args.request.strict c.in-Any-default.is-0 refl c.args.input.now c.shown.result c.shown.ensures.fault

@@ -1,0 +1,74 @@
+//! What the command `flat` reads and writes.
+
+ghost use Rattle.qs_tool.specs.declared.flat.TheConstants.{NAMES};
+ghost use Rattle.serde_qs.specs.PartTables.{made_of};
+
+use crate::strict::Strict;
+use serde_qs::{
+    Compound, Data, Optional, Out, Parts, Result, Shape, Source, StrictStruct, Struct, fields,
+};
+use std::alloc::Global;
+
+/// Five fields, none of them nested.
+#[derive(Debug, Drop)]
+pub struct Flat {
+    pub name: String,
+    pub age: u8,
+    pub occupation: String,
+    pub active: Option<bool>,
+    pub note: Option<String>,
+}
+
+type FlatFields = (String, (u8, (String, Optional<bool, (Option<String>, ())>)));
+
+const NAMES: &[&str] = &["name", "age", "occupation", "active", "note"];
+
+impl Compound for Flat {
+    ghost table = { made_of ⟦<Struct<FlatFields> as Parts>⟧.table NAMES.now (λ flat. record { 0 = (flat.name, (flat.age, (flat.occupation, record { 0 = flat.active; 1 = (flat.note, tt) }))) }) _ };
+
+    fn form(alloc: Global) -> Result<Shape> {
+        Struct::<FlatFields>::shape(alloc, NAMES)
+    }
+
+    fn read(source: Source) -> Result<Flat> {
+        let Struct(fields!(name, age, occupation, active?, note)) = Struct::<FlatFields>::read(
+            source, NAMES,
+        )?;
+        Ok(Flat {
+            name,
+            age,
+            occupation,
+            active,
+            note,
+        })
+    }
+
+    fn written(&self, out: Out) -> Result<Data> {
+        out.fields(NAMES, fields!(self; name, age, occupation, active?, note))
+    }
+}
+
+impl Compound for Strict<Flat> {
+    ghost table = { made_of ⟦<StrictStruct<FlatFields> as Parts>⟧.table NAMES.now (λ strict. record { 0 = (strict.0.name, (strict.0.age, (strict.0.occupation, record { 0 = strict.0.active; 1 = (strict.0.note, tt) }))) }) _ };
+
+    fn form(alloc: Global) -> Result<Shape> {
+        StrictStruct::<FlatFields>::shape(alloc, NAMES)
+    }
+
+    fn read(source: Source) -> Result<Strict<Flat>> {
+        let StrictStruct(fields!(name, age, occupation, active?, note)) = StrictStruct::<
+            FlatFields,
+        >::read(source, NAMES)?;
+        Ok(Strict(Flat {
+            name,
+            age,
+            occupation,
+            active,
+            note,
+        }))
+    }
+
+    fn written(&self, out: Out) -> Result<Data> {
+        self.0.written(out)
+    }
+}

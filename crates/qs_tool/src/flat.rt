@@ -31,9 +31,8 @@ impl Compound for Flat {
     }
 
     fn read(source: Source) -> Result<Flat> {
-        let Struct(fields!(name, age, occupation, active?, note)) = Struct::<FlatFields>::read(
-            source, NAMES,
-        )?;
+        let Struct(flat) = Struct::<FlatFields>::read(source, NAMES)?;
+        let fields!(name, age, occupation, active?, note) = flat;
         Ok(Flat {
             name,
             age,
@@ -56,9 +55,8 @@ impl Compound for Strict<Flat> {
     }
 
     fn read(source: Source) -> Result<Strict<Flat>> {
-        let StrictStruct(fields!(name, age, occupation, active?, note)) = StrictStruct::<
-            FlatFields,
-        >::read(source, NAMES)?;
+        let StrictStruct(strict) = StrictStruct::<FlatFields>::read(source, NAMES)?;
+        let fields!(name, age, occupation, active?, note) = strict;
         Ok(Strict(Flat {
             name,
             age,

@@ -29,9 +29,8 @@ impl Compound for Address {
     }
 
     fn read(source: Source) -> Result<Address> {
-        let Struct(fields!(city, street, postcode)) = Struct::<AddressFields>::read(
-            source, ADDRESS,
-        )?;
+        let Struct(address) = Struct::<AddressFields>::read(source, ADDRESS)?;
+        let fields!(city, street, postcode) = address;
         Ok(Address {
             city,
             street,
@@ -52,9 +51,8 @@ impl Compound for Strict<Address> {
     }
 
     fn read(source: Source) -> Result<Strict<Address>> {
-        let StrictStruct(fields!(city, street, postcode)) = StrictStruct::<AddressFields>::read(
-            source, ADDRESS,
-        )?;
+        let StrictStruct(strict) = StrictStruct::<AddressFields>::read(source, ADDRESS)?;
+        let fields!(city, street, postcode) = strict;
         Ok(Strict(Address {
             city,
             street,
@@ -89,9 +87,8 @@ impl<A: RoundTrip + Drop> Compound for Params<A> {
     }
 
     fn read(source: Source) -> Result<Params<A>> {
-        let Struct(fields!(id, name, phone, address, user_ids)) = Struct::<ParamsFields<A>>::read(
-            source, PARAMS,
-        )?;
+        let Struct(params) = Struct::<ParamsFields<A>>::read(source, PARAMS)?;
+        let fields!(id, name, phone, address, user_ids) = params;
         Ok(Params {
             id,
             name,
@@ -114,9 +111,8 @@ impl<A: RoundTrip + Drop> Compound for Strict<Params<A>> {
     }
 
     fn read(source: Source) -> Result<Strict<Params<A>>> {
-        let StrictStruct(fields!(id, name, phone, address, user_ids)) = StrictStruct::<
-            ParamsFields<A>,
-        >::read(source, PARAMS)?;
+        let StrictStruct(strict) = StrictStruct::<ParamsFields<A>>::read(source, PARAMS)?;
+        let fields!(id, name, phone, address, user_ids) = strict;
         Ok(Strict(Params {
             id,
             name,

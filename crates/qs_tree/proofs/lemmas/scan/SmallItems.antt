@@ -112,10 +112,6 @@ small_read : (rest : List ℕ) (tree : TreeBuilder) → StaysSmall rest tree →
 small_read rest tree (inl h) = subst TakesNoMemory (sym h.0) refl
 small_read rest tree (inr h) = h.0
 
-pub small_flat : (rest : List ℕ) (tree : TreeBuilder) → StaysSmall rest tree → IsFlat tree
-small_flat rest tree (inl h) = h.1
-small_flat rest tree (inr h) = subst IsFlat (sym h.1) (subst IsNoMap (sym built_tree-fresh) tt)
-
 pub small_goes : (rest : List ℕ) (tree : TreeBuilder) (o : Result item.Item parse_error.ParseError) (new : cursor.Cursor) (p : code_pair.Pair) → StaysSmall rest tree → (TakesNoMemory rest → ParsesSmall o new p) → ParsesSmall o new p
 small_goes rest tree o new p h f = f (small_read rest tree h)
 

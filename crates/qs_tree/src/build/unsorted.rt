@@ -36,6 +36,7 @@ impl<'qs> Unsorted<'qs> {
     }
 
     /// Adds a leaf at a key.
+    #[tactic(auto, using(crate::proofs::lemmas::build::Unsorted::added_flat, crate::proofs::lemmas::build::Unsorted::added_here))]
     pub fn push(&mut self, key: Key<'qs>, leaf: Leaf<'qs>) -> Result<(), AllocError>
         ensures flat { OnOk result (update (step_of_key key.entry) (add_flat false (leaf_of leaf.entry)) (unsorted_entries self.old) ≡ Some (unsorted_entries self.new)) }
         ensures here { OnOk result (update (step_of_key key.entry) (add_here false (leaf_of leaf.entry)) (unsorted_entries self.old) ≡ Some (unsorted_entries self.new)) }

@@ -133,6 +133,7 @@ impl<K: Ord, V> Entries<K, V> {
     }
 
     /// Removes the last entry, and returns it.
+    #[tactic(auto, using(crate::proofs::lemmas::tree::Places::sorted_front))]
     pub fn pop(&mut self) -> Option<(K, V)>
         ensures all { self.old ≡ self.new ++ option_to_list result }
         ensures none { IfNone result (self.new ≡ []) }

@@ -74,7 +74,7 @@ fn unescaped(alloc: Global, bytes: &[u8], front: usize) -> Result<Vec<u8>, Alloc
     requires plain { decoded bytes.now ≡ take front bytes.now ++ decoded (drop front bytes.now) }
     ensures { IfOk result (λ text. text.items ≡ decoded bytes.now) }
 {
-    let mut text = Vec::new(alloc);
+    let mut text = Vec::with_capacity(alloc, bytes.len())?;
     text.resize(bytes.len(), 0)?;
     let len = fill(bytes, front, &mut text);
     text.truncate(len);

@@ -208,5 +208,9 @@ pub(crate) fn reserve_one<T>(items: &mut Vec<T>) -> Result<(), AllocError>
     if len < items.capacity() {
         return Ok(());
     }
-    items.reserve_exact(if len < MANY { FIRST_ROOM + len } else { len / 3 })
+    items.reserve_exact(if len < MANY {
+        FIRST_ROOM + len
+    } else {
+        len / 3
+    })
 }

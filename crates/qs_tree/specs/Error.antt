@@ -17,11 +17,6 @@ error_text (Utf8 cause) = None
 error_text OutOfMemory = Some (codes "out of memory")
 error_text Failed = Some (codes "serializer has failed")
 
--- the call returned that the tree can't be read by the shape
-abbrev pub IsCustom : {T : Type 0} → Result T Error → Type 0
-IsCustom (Err (Custom message)) = ⊤
-IsCustom _ = ⊥
-
 -- the call returned that a value nests deeper than this number
 abbrev pub IsTooDeep : {T : Type 0} → Result T Error → ℕ → Type 0
 IsTooDeep (Err (MaxSerializationDepthExceeded depth)) n = depth ≡ n
@@ -46,11 +41,6 @@ IsUnsupported _ = ⊥
 abbrev pub IsIo : {T : Type 0} → Result T Error → Type 0
 IsIo (Err (Io cause)) = ⊤
 IsIo _ = ⊥
-
--- the call returned that bytes aren't UTF-8
-abbrev pub IsNotUtf8 : {T : Type 0} → Result T Error → Type 0
-IsNotUtf8 (Err (Utf8 cause)) = ⊤
-IsNotUtf8 _ = ⊥
 
 -- the call returned that an allocation failed
 abbrev pub IsOutOfMemory : {T : Type 0} → Result T Error → Type 0

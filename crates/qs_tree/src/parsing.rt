@@ -134,6 +134,7 @@ fn scan<'qs>(
 }
 
 // Adds one pair to the tree.
+#[inline(always)]
 fn add<'qs>(
     alloc: Global,
     tree: &mut TreeBuilder<'qs>,

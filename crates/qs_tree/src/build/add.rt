@@ -34,6 +34,7 @@ const LEVELS: usize = 64;
 ///
 /// Returns an error where a node is in conflict with the pair, or where an allocation failed. The tree isn't used after that.
 /// Adding a plain leaf with an empty path to an empty tree doesn't allocate.
+#[inline(always)]
 pub(crate) fn add_pair<'qs>(
     alloc: Global,
     tree: &mut TreeBuilder<'qs>,
@@ -47,6 +48,7 @@ pub(crate) fn add_pair<'qs>(
 
 // Adds a pair to the node at a level of its path.
 #[cycle(adding)]
+#[inline(always)]
 fn add_along<'qs>(
     alloc: Global,
     node: &mut TreeBuilder<'qs>,

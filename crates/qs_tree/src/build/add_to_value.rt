@@ -28,6 +28,7 @@ use std::mem;
 /// Returns `false`, and changes nothing, where a key would be inserted before the end of a map with many entries. Returns an error
 /// where a node is in conflict with the pair, or where an allocation failed. The node isn't used after that.
 #[cycle(add_to_value)]
+#[inline(always)]
 pub(crate) fn add_to_value<'qs>(
     alloc: Global,
     value: &mut ParsedValue<'qs>,
@@ -44,10 +45,25 @@ pub(crate) fn add_to_value<'qs>(
             Err(error) => Err(error),
         };
     }
+    add_below(alloc, value, pair, level)
+}
+
+// Adds a pair to a node at a level above the end of its path.
+#[cycle(add_to_value)]
+fn add_below<'qs>(
+    alloc: Global,
+    value: &mut ParsedValue<'qs>,
+    pair: &mut Pair<'qs>,
+    level: usize,
+) -> Result<bool, AddError>
+    requires { level < length pair.old.path }
+    ensures { let path = path_of (drop level pair.old.path) in let old = tree_of value.old in
+        Adds (add path (is_push pair.old.manner) (leaf_of pair.old.leaf) old) old (tree_of value.new) pair.old pair.new result }
+{
     match value {
         ParsedValue::Map(map) => add_in_map(alloc, map, pair, level),
         ParsedValue::Uninitialized => {
-            *value = value_of(alloc, pair, level)?;
+            *value = chain_of(alloc, pair, level)?;
             Ok(true)
         }
         ParsedValue::Sequence(_) => Err(AddError::below(alloc, level, value)),
@@ -94,7 +110,7 @@ fn add_in_entries<'qs>(
                 return Ok(false);
             }
             let key = pair.take_key(level);
-            let value = value_of(alloc, pair, level + 1)?;
+            let value = chain_of(alloc, pair, level + 1)?;
             entries.insert_at(at, key, value)?;
             Ok(true)
         }
@@ -102,23 +118,6 @@ fn add_in_entries<'qs>(
 }
 
 // A node with a pair alone, which is at a level of its path. The keys that are left and the leaf are taken out of the pair.
-#[inline(always)]
-fn value_of<'qs>(
-    alloc: Global,
-    pair: &mut Pair<'qs>,
-    level: usize,
-) -> Result<ParsedValue<'qs>, AllocError>
-    requires { level ≤ length pair.old.path }
-    ensures { let path = path_of (drop level pair.old.path) in
-        IfOk result (λ value. add path (is_push pair.old.manner) (leaf_of pair.old.leaf) uninitialized ≡ Some (tree_of value)) }
-{
-    if level == pair.path.len() {
-        return Ok(value_at_end(alloc, pair)?);
-    }
-    chain_of(alloc, pair, level)
-}
-
-// The same, by a loop.
 #[inline(always)]
 fn chain_of<'qs>(
     alloc: Global,

@@ -237,6 +237,7 @@ fn take_at<'qs>(
 
 /// The index of a key among sorted entries, or as `Err` the index at which to insert it. Compares with the last key first, since
 /// keys often come in order.
+#[inline(always)]
 pub(crate) fn place_among<'qs, V>(entries: &[(Key<'qs>, V)], key: &Key<'qs>) -> Result<usize, usize>
     requires { IsStrictlySortedBy key_cmp (keys_of entries.now) }
     ensures { IsPlaced key_cmp key.now entries.now result }

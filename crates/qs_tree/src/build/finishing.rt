@@ -88,6 +88,7 @@ fn open_level<'qs>(alloc: Global, map: MapBuilder<'qs>) -> Result<Level<'qs>, Al
 
 impl<'qs> Level<'qs> {
     // Finishes the entries before the next map, and takes out that map with its key.
+    #[tactic(auto, using(crate::proofs::lemmas::build::Levels::may_push))]
     fn next_map(&mut self, alloc: Global) -> Result<Option<(Key<'qs>, MapBuilder<'qs>)>, AllocError>
         requires { IsStrictlySortedBy key_cmp (keys_of (level_pairs self.old)) }
         ensures pairs { IfOk result (λ found. key_trees self.new.done ++ from_map found self.new ≡ level_pairs self.old) }

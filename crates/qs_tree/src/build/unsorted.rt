@@ -9,7 +9,7 @@ ghost use Rattle.qs_tree.specs.internal.build.Unsorted.{AreLeaves, entries_of_le
 
 use crate::build::add_to_value::add_leaf_at;
 use crate::scan::pair::Leaf;
-use crate::tree::entries::Entries;
+use crate::tree::entries::{Entries, reserve_one};
 use crate::tree::key::Key;
 use crate::tree::map::ParsedMap;
 use crate::tree::value::ParsedValue;
@@ -36,11 +36,14 @@ impl<'qs> Unsorted<'qs> {
     }
 
     /// Adds a leaf at a key.
+    #[tactic(auto, using(crate::proofs::lemmas::build::Unsorted::added_flat, crate::proofs::lemmas::build::Unsorted::added_here))]
     pub fn push(&mut self, key: Key<'qs>, leaf: Leaf<'qs>) -> Result<(), AllocError>
         ensures flat { OnOk result (update (step_of_key key.entry) (add_flat false (leaf_of leaf.entry)) (unsorted_entries self.old) ≡ Some (unsorted_entries self.new)) }
         ensures here { OnOk result (update (step_of_key key.entry) (add_here false (leaf_of leaf.entry)) (unsorted_entries self.old) ≡ Some (unsorted_entries self.new)) }
     {
-        Ok(self.leaves.push((key, leaf.into_value()))?)
+        reserve_one(&mut self.leaves)?;
+        self.leaves.push_reserved((key, leaf.into_value()));
+        Ok(())
     }
 
     /// The finished entries. Sorts the leaves in their vector, and allocates another one only where a key has several.

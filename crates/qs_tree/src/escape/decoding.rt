@@ -42,14 +42,15 @@ pub(crate) fn unescape(alloc: Global, bytes: &[u8]) -> Result<CowSlice<'_, u8>, 
     ensures owned { IfOk result (λ text. is_owned text ≡ is_marked bytes.now) }
     ensures no_memory { is_marked bytes.now ≡ false → IsOk result }
 {
-    if find_escape(bytes).is_none() {
-        return Ok(CowSlice::Borrowed(bytes));
+    match find_escape(bytes) {
+        Some(front) => Ok(CowSlice::Owned(unescaped(alloc, bytes, front)?)),
+        None => Ok(CowSlice::Borrowed(bytes)),
     }
-    Ok(CowSlice::Owned(unescaped(alloc, bytes)?))
 }
 
 /// Percent-decodes bytes as [`decode`] does. Doesn't look for `+` and `%` where it is known that there are none (`plain`).
 #[inline(always)]
+#[tactic(auto, using(crate::proofs::lemmas::escape::DecodedFronts::decoded_unmarked))]
 pub(crate) fn unescape_unless(
     plain: bool,
     alloc: Global,
@@ -66,25 +67,40 @@ pub(crate) fn unescape_unless(
     unescape(alloc, bytes)
 }
 
-// Percent-decodes bytes into a vector.
+// Percent-decodes bytes into a vector. So many bytes at the front are without `+` and `%`.
 #[inline(never)]
-fn unescaped(alloc: Global, bytes: &[u8]) -> Result<Vec<u8>, AllocError>
+fn unescaped(alloc: Global, bytes: &[u8], front: usize) -> Result<Vec<u8>, AllocError>
+    requires within { front ≤ length bytes.now }
+    requires plain { decoded bytes.now ≡ take front bytes.now ++ decoded (drop front bytes.now) }
     ensures { IfOk result (λ text. text.items ≡ decoded bytes.now) }
 {
-    let mut text = Vec::new(alloc);
+    let mut text = Vec::with_capacity(alloc, bytes.len())?;
     text.resize(bytes.len(), 0)?;
-    let len = fill(bytes, &mut text);
+    let len = fill(bytes, front, &mut text);
     text.truncate(len);
     Ok(text)
 }
 
 // Writes the decoded bytes to the front of `room`, and returns how many they are.
-fn fill(bytes: &[u8], room: &mut [u8]) -> usize
-    requires { length bytes.now ≤ length room.old }
+#[inline(always)]
+fn fill(bytes: &[u8], front: usize, room: &mut [u8]) -> usize
+    requires within { front ≤ length bytes.now }
+    requires plain { decoded bytes.now ≡ take front bytes.now ++ decoded (drop front bytes.now) }
+    requires room { length bytes.now ≤ length room.old }
     ensures { take result room.new ≡ decoded bytes.now }
 {
+    let _ = put_raw(bytes, front, room, 0);
+    fill_after(&bytes[front..], room, front)
+}
+
+// Writes the decoded bytes to `room` from `begin` on, and returns where they end.
+#[inline(always)]
+fn fill_after(bytes: &[u8], room: &mut [u8], begin: usize) -> usize
+    requires { begin + length bytes.now ≤ length room.old }
+    ensures { take result room.new ≡ take begin room.old ++ decoded bytes.now }
+{
     let mut rest = bytes;
-    let mut at = 0;
+    let mut at = begin;
     while !rest.is_empty() {
         let (read, written) = put_front(rest, room, at);
         rest = &rest[read..];
@@ -121,7 +137,7 @@ fn put_front(bytes: &[u8], room: &mut [u8], at: usize) -> (usize, usize)
     }
 }
 
-// Copies so many bytes of an invalid escape.
+// Copies so many bytes as they are.
 fn put_raw(bytes: &[u8], len: usize, room: &mut [u8], at: usize) -> (usize, usize)
     requires within { len ≤ length bytes.now }
     requires room { at + len ≤ length room.old }

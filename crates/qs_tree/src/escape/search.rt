@@ -24,6 +24,7 @@ use self::marks::Escape;
 /// ```
 /// find_escape(b"a+b") // Some(1)
 /// ```
+#[tactic(auto, using(crate::proofs::lemmas::escape::FirstPlace::is_found))]
 pub fn find_escape(bytes: &[u8]) -> Option<usize>
     ensures first { result ≡ position is_escape bytes.now }
     ensures within { IfSome result (λ at. at < length bytes.now) }

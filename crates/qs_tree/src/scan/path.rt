@@ -6,6 +6,9 @@ use std::alloc::{AllocError, Global};
 use std::marker::Model;
 use std::mem;
 
+/// How many keys after the first are allocated at once: as many as a path has at the default depth limit.
+const FURTHER: usize = 6;
+
 /// The keys of a pair. Contracts see their list. The first is stored in place, so a path of one key doesn't allocate.
 #[derive(Debug, Drop)]
 pub(crate) struct Path<'qs> {
@@ -62,6 +65,9 @@ impl<'qs> Path<'qs> {
         if self.len == 0 {
             self.first = key;
         } else {
+            if self.rest.is_empty() {
+                self.rest.reserve(FURTHER)?;
+            }
             self.rest.push(key)?;
         }
         self.len = self.rest.len() + 1;

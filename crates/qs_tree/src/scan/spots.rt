@@ -11,8 +11,8 @@ pub(crate) struct Spot {
     pub to_come: usize,
 }
 
-/// How many positions are stored in place.
-const NEAR: usize = 4;
+/// How many positions are stored in place: as many as a pair has at the default depth limit.
+const NEAR: usize = 7;
 
 /// The positions of the levels of a path. The first are stored in place, so a short path doesn't allocate for them.
 #[derive(Drop)]

@@ -39,6 +39,7 @@ fn compare_words(left: &[u8], right: &[u8]) -> Ordering
 
 // The first eight bytes as a big-endian integer.
 #[inline(always)]
+#[tactic(auto, using(crate::proofs::lemmas::tree::ByteOrder::eight_bytes))]
 fn word(bytes: &[u8]) -> u64
     requires { 8 ≤ length bytes.now }
     ensures { result ≡ big_endian 0 (take 8 bytes.now) }

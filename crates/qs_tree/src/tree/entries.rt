@@ -5,6 +5,7 @@ ghost use Rattle.std.specs.Option.{option_to_list};
 ghost use Rattle.std.specs.List.Sorted.{IsStrictlySortedBy};
 ghost use Rattle.std.specs.Map.{keys_of};
 ghost use Rattle.std.specs.BTreeMap.{insert_entry};
+ghost use Rattle.std.specs.Vec.{vec_len, vec_capacity};
 ghost use Rattle.qs_tree.specs.internal.tree.Places.{IsGap, IsPlaced, put_value};
 
 use std::alloc::{AllocError, Global};
@@ -14,8 +15,8 @@ use std::mem;
 /// How many entries the first allocation has room for.
 const FIRST_ROOM: usize = 4;
 
-/// How many the next one has room for, where the entries came in order.
-const SECOND_ROOM: usize = 12;
+/// Vectors with fewer entries than these grow to more than twice their length, and longer ones by a third.
+const MANY: usize = 1000;
 
 /// A sorted vector of entries with distinct keys. Contracts see the list of entries.
 #[derive(Debug, Drop)]
@@ -43,6 +44,7 @@ impl<K: Ord, V> Entries<K, V> {
     ghost use Rattle.qs_tree.specs.internal.tree.Lending.{LendsValue};
 
     /// No entries. Doesn't allocate.
+    #[tactic(auto, using(crate::proofs::lemmas::tree::Places::sorted_none))]
     pub fn new(alloc: Global) -> Self
         ensures { result ≡ [] }
     {
@@ -52,6 +54,7 @@ impl<K: Ord, V> Entries<K, V> {
     }
 
     /// No entries, with capacity for so many. Returns an error only where the allocation failed.
+    #[tactic(auto, using(crate::proofs::lemmas::tree::Places::sorted_none))]
     pub fn with_capacity(alloc: Global, capacity: usize) -> Result<Self, AllocError>
         ensures { IfOk result (λ entries. entries ≡ []) }
     {
@@ -130,6 +133,7 @@ impl<K: Ord, V> Entries<K, V> {
     }
 
     /// Removes the last entry, and returns it.
+    #[tactic(auto, using(crate::proofs::lemmas::tree::Places::sorted_front))]
     pub fn pop(&mut self) -> Option<(K, V)>
         ensures all { self.old ≡ self.new ++ option_to_list result }
         ensures none { IfNone result (self.new ≡ []) }
@@ -147,6 +151,8 @@ impl<K: Ord, V> Entries<K, V> {
 
 impl<K: Ord + Drop, V: Drop> Entries<K, V> {
     /// One entry. Returns an error only where the allocation failed.
+    #[inline(always)]
+    #[tactic(auto, using(crate::proofs::lemmas::tree::Places::sorted_one))]
     pub fn of(alloc: Global, key: K, value: V) -> Result<Self, AllocError>
         ensures { IfOk result (λ entries. entries ≡ (key, value) ∷ []) }
     {
@@ -165,6 +171,7 @@ impl<K: Ord + Drop, V: Drop> Entries<K, V> {
         if at == self.len() {
             return self.push(key, value);
         }
+        reserve_one(&mut self.items)?;
         Ok(self.items.insert(at, (key, value))?)
     }
 
@@ -175,9 +182,7 @@ impl<K: Ord + Drop, V: Drop> Entries<K, V> {
         ensures ok { OnOk result (self.new ≡ self.old ++ (key, value) ∷ []) }
         ensures err { OnErr result (self.new ≡ self.old) }
     {
-        let is_full = self.items.len() == FIRST_ROOM && self.items.capacity() == FIRST_ROOM;
-        self.items
-            .reserve(if is_full { SECOND_ROOM - FIRST_ROOM } else { 1 })?;
+        reserve_one(&mut self.items)?;
         self.items.push_reserved((key, value));
         Ok(())
     }
@@ -190,4 +195,22 @@ impl<K: Ord + Drop, V: Drop> Entries<K, V> {
     {
         self.items.remove(at)
     }
+}
+
+/// Makes room for one more entry, so that a vector has little room that it doesn't need. Returns an error only where the allocation
+/// failed.
+#[inline(always)]
+pub(crate) fn reserve_one<T>(items: &mut Vec<T>) -> Result<(), AllocError>
+    ensures items { items.new.items ≡ items.old.items }
+    ensures room { OnOk result (vec_len items.new < vec_capacity items.new) }
+{
+    let len = items.len();
+    if len < items.capacity() {
+        return Ok(());
+    }
+    items.reserve_exact(if len < MANY {
+        FIRST_ROOM + len
+    } else {
+        len / 3
+    })
 }

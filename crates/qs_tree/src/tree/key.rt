@@ -32,6 +32,7 @@ pub enum Key<'a> {
 
 impl<'a> Key<'a> {
     /// Compares two keys, which may have different lifetimes.
+    #[inline(always)]
     pub(crate) fn compare<'b>(&self, other: &Key<'b>) -> Ordering
         ensures { result ≡ compare_segments (segment_of_key self.now) (segment_of_key other.now) }
     {

@@ -49,6 +49,7 @@ impl<'qs> ParsedMap<'qs> {
     }
 
     /// A map with one entry. Returns an error only where the allocation failed.
+    #[inline(always)]
     pub(crate) fn of(
         alloc: Global,
         key: Key<'qs>,

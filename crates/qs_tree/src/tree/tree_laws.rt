@@ -22,6 +22,7 @@ pub fn equality_of_keys()
 {}
 
 /// Two values are equal exactly where their trees are, ignoring ownership.
+#[tactic(auto, using(crate::proofs::lemmas::tree::Equality::equal_values))]
 pub fn equality_of_values()
     ensures { (a b : ParsedValue) → IsTrue (value_eq a b) ↔ unmarked (tree_of a) ≡ unmarked (tree_of b) }
 {}

@@ -30,6 +30,7 @@ pub enum ParsedValue<'qs> {
 
 impl<'qs> ParsedValue<'qs> {
     /// Whether it is neither a map nor a sequence, and not empty.
+    #[tactic(auto, using(crate::proofs::lemmas::Views::views))]
     pub(crate) fn is_leaf(&self) -> bool
         ensures { IsTrue result → IsTrue (is_leaf (tree_of self.now)) }
     {

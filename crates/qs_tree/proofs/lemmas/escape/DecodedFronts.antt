@@ -1,5 +1,5 @@
 -- What `decoded` is up to a `%`.
-use Rattle.qs_tree.proofs.Common.{◌≡◌, ℕ, zero, suc, ◌≤◌, false, ◌||◌, ◌==◌, List, [], ◌∷◌, ◌++◌, map, length, take, drop, refl, ap, ◌∙◌, arith, cond-false, or_both, decoded, is_marked, unplus, NoneBetween, swapped}
+use Rattle.qs_tree.proofs.Common.{◌≡◌, ℕ, zero, suc, ◌≤◌, false, ◌||◌, ◌==◌, List, [], ◌∷◌, ◌++◌, map, length, take, drop, refl, ap, ◌∙◌, arith, cond-false, or_both, decoded, is_escape, is_marked, unplus, NoneBetween, swapped}
 
 -- any other byte is one
 decoded_plain : (b : ℕ) (bs : List ℕ) → (b == 37) ≡ false → decoded (b ∷ bs) ≡ unplus b ∷ decoded bs
@@ -15,6 +15,15 @@ decoded_run (suc n) [] within plain = absurd (omega arith)
 decoded_run (suc n) (b ∷ bs) within plain =
     decoded_plain b bs (plain 0 (omega arith) (omega arith))
     ∙ ap (λ x. unplus b ∷ x) (decoded_run n bs (omega arith) (λ k from to. plain (suc k) (omega arith) (omega arith)))
+
+-- bytes up to a `+` or `%`
+pub decoded_front : (n : ℕ) (bs : List ℕ) → n ≤ length bs → NoneBetween is_escape bs 0 n → decoded bs ≡ take n bs ++ decoded (drop n bs)
+decoded_front zero bs within plain = refl
+decoded_front (suc n) [] within plain = absurd (omega arith)
+decoded_front (suc n) (b ∷ bs) within plain =
+    let first = or_both (b == 43) (b == 37) (plain 0 (omega arith) (omega arith)) in
+    decoded_plain b bs first.1 ∙ ap (λ x. x ∷ decoded bs) (cond-false _ _ _ first.0)
+    ∙ ap (λ x. b ∷ x) (decoded_front n bs (omega arith) (λ k from to. plain (suc k) (omega arith) (omega arith)))
 
 pub decoded_unmarked : (bs : List ℕ) → is_marked bs ≡ false → decoded bs ≡ bs
 decoded_unmarked [] unmarked = refl

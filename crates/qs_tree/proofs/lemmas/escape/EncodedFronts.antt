@@ -48,13 +48,13 @@ encoded_escape form [] some is = absurd (omega arith)
 encoded_escape form (b ∷ bs) some is = ap (λ x. x ++ encoded form bs) (spelling_escape form b is)
 
 -- an escape takes two bytes more
-pub length-encoded : (form : Bool) (bs : List ℕ) → length (encoded form bs) ≡ length bs + 2 * count_by (is_escaped form) bs
-length-encoded form [] = refl
-length-encoded form (b ∷ bs) =
+pub length_encoded : (form : Bool) (bs : List ℕ) → length (encoded form bs) ≡ length bs + 2 * count_by (is_escaped form) bs
+length_encoded form [] = refl
+length_encoded form (b ∷ bs) =
     let counted = sum_by-cons (λ x. cond (is_escaped form x) 1 0) b bs in
     elim (cases_Bool (is_escaped form b)) [
-      | inl escaped ↦ omega (arith, length-append (spelling form b) (encoded form bs), ap length (spelling_escape form b escaped), length-encoded form bs, cond-true {A = ℕ} (is_escaped form b) 1 0 escaped)
-      | inr plain ↦ omega (arith, length-append (spelling form b) (encoded form bs), ap length (spelling_plain form b plain), length-encoded form bs, cond-false {A = ℕ} (is_escaped form b) 1 0 plain)
+      | inl escaped ↦ omega (arith, length-append (spelling form b) (encoded form bs), ap length (spelling_escape form b escaped), length_encoded form bs, cond-true {A = ℕ} (is_escaped form b) 1 0 escaped)
+      | inr plain ↦ omega (arith, length-append (spelling form b) (encoded form bs), ap length (spelling_plain form b plain), length_encoded form bs, cond-false {A = ℕ} (is_escaped form b) 1 0 plain)
     ]
 
 -- each byte takes at most three

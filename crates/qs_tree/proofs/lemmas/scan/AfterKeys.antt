@@ -62,10 +62,6 @@ last_found path bracket raw t ts stop other e s =
     ap (λ x. in_last x path bracket t ts) other ∙ ap₂ (λ r u. with_leaf (direct (longer path r)) (parsed_value u)) (sym e) s
 
 -- after a bracket: the end, a push, or a segment
-pub end_found : (room : ℕ) (path : List Step) (bracket : List ℕ) → parsed_brackets room path bracket [] ≡ None
-end_found zero path bracket = refl
-end_found (suc room) path bracket = refl
-
 pub push_found : (room : ℕ) (path : List Step) (bracket : List ℕ) (t : Token) (ts : List Token) → is_close t.kind ≡ true → parsed_brackets room path bracket (t ∷ ts) ≡ with_leaf (pushed path) (parsed_value ts)
 push_found zero path bracket t ts e = ap (λ x. in_last x path bracket t ts) e
 push_found (suc room) path bracket t ts e = ap (λ x. in_segment x (parsed_brackets room) path t ts) e

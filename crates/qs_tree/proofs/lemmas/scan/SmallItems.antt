@@ -1,11 +1,10 @@
 -- Items of inputs for which nothing is allocated.
-use Rattle.qs_tree.proofs.Common.{◌≡◌, ℕ, zero, suc, Bool, true, false, cond, ◌&&◌, ◌||◌, ◌==◌, List, [], ◌∷◌, ◌++◌, length, refl, sym, ap, ap₂, ◌∙◌, subst, Option, Some, None, Result, eqb-true, ◌<◌, arith, inl, inr, list_all-append, Kind, Token, tokens, byte_token, byte_kind, raw_of, Amp, Equals, Open, Close, is_amp, is_equals, is_open, ends_root, cut, cut_at, and_both, TreeBuilder, IsNoMap, IsFlat, fresh, is_ampersand, kind_of_token, token_of, raw_from_token, from_token, is_nothing, is_ampersands, is_plain, is_plain_value, TakesNoMemory, IsEqualsStop, ParsesSmall, StaysSmall}
+use Rattle.qs_tree.proofs.Common.{◌≡◌, ℕ, zero, suc, Bool, true, false, cond, ◌&&◌, ◌||◌, ◌==◌, List, [], ◌∷◌, ◌++◌, length, refl, sym, ap, ap₂, ◌∙◌, subst, Option, Some, None, Result, eqb-true, ◌<◌, arith, inl, inr, list_all-append, Kind, Token, tokens, byte_token, byte_kind, raw_of, Amp, Equals, Open, Close, is_amp, is_equals, is_open, ends_root, cut, cut_at, and_both, TreeBuilder, IsFlat, fresh, is_ampersand, kind_of_token, token_of, raw_from_token, from_token, is_nothing, is_ampersands, is_plain, is_plain_value, TakesNoMemory, IsEqualsStop, ParsesSmall, StaysSmall}
 use Rattle.qs_tree.specs.declared.scan.cursor.Token as code
 use Rattle.qs_tree.specs.declared.scan.cursor.Cursor as cursor
 use Rattle.qs_tree.specs.declared.scan.pair.Pair as code_pair
 use Rattle.qs_tree.specs.declared.scan.parser.Item as item
 use Rattle.qs_tree.specs.declared.scan.parser.ParseError as parse_error
-use Rattle.qs_tree.proofs.lemmas.Views.{built_tree-fresh}
 
 -- a byte other than `%` is a token by itself
 alone : (form : Bool) (b : ℕ) (rest : List ℕ) → (b == 37) ≡ false → tokens form (b ∷ rest) ≡ byte_token b ∷ tokens form rest
@@ -111,10 +110,6 @@ small_end rest tree none flat = inl (none, flat)
 small_read : (rest : List ℕ) (tree : TreeBuilder) → StaysSmall rest tree → TakesNoMemory rest
 small_read rest tree (inl h) = subst TakesNoMemory (sym h.0) refl
 small_read rest tree (inr h) = h.0
-
-pub small_flat : (rest : List ℕ) (tree : TreeBuilder) → StaysSmall rest tree → IsFlat tree
-small_flat rest tree (inl h) = h.1
-small_flat rest tree (inr h) = subst IsFlat (sym h.1) (subst IsNoMap (sym built_tree-fresh) tt)
 
 pub small_goes : (rest : List ℕ) (tree : TreeBuilder) (o : Result item.Item parse_error.ParseError) (new : cursor.Cursor) (p : code_pair.Pair) → StaysSmall rest tree → (TakesNoMemory rest → ParsesSmall o new p) → ParsesSmall o new p
 small_goes rest tree o new p h f = f (small_read rest tree h)

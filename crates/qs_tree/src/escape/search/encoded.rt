@@ -41,6 +41,7 @@ pub(crate) struct Escaped {
 impl Escaped {
     /// What a byte is written as that isn't escaped.
     #[inline(always)]
+    #[tactic(auto, using(crate::proofs::lemmas::escape::Tables::form_plain, crate::proofs::lemmas::escape::Tables::query_plain))]
     pub(crate) fn plain(self, byte: u8) -> u8
         requires { is_escaped self.form byte ≡ false }
         ensures { result ≡ swapped 32 43 byte }
@@ -66,6 +67,7 @@ impl Class for Escaped {
     }
 
     #[inline(always)]
+    #[tactic(auto, using(crate::proofs::lemmas::escape::Tables::form_marks, crate::proofs::lemmas::escape::Tables::query_marks))]
     fn has(self, byte: u8) -> bool {
         if self.form {
             FORM[byte as usize] == b'%'

@@ -1,4 +1,4 @@
-use Rattle.qs_tree.proofs.Common.{◌≡◌, ◌+◌, drop, sym, ◌∙◌, arith, tree_of, is_push, leaf_of, path_of}
+use Rattle.qs_tree.proofs.Common.{◌≡◌, ◌+◌, drop, sym, ◌∙◌, tree_of, is_push, leaf_of, path_of}
 use Rattle.qs_tree.proofs.lemmas.Views.{below-String, below-Null, below-NoValue, below-Sequence}
 use Rattle.qs_tree.proofs.lemmas.build.Chains.{added_below, added_new, barred, same_head}
 use Rattle.qs_tree.proofs.build.add_to_value.+add_to_value.Goals as goal
@@ -22,22 +22,22 @@ add_in_entries-returns-in_ok-insert_at-in-Err t c =
     (added_new c.take_key-key.result c.args.entries.now c.as_slice.ensures.sorted c.in-Err.at (path_of (drop (c.args.level + 1) taken.path)) (is_push pair.manner) (leaf_of pair.leaf)
     gap c.in_ok-value-in-Err.value alone)
 
-pub add_to_value-returns-in-Sequence : goal.add_to_value-returns-in-Sequence
-add_to_value-returns-in-Sequence t c =
+pub add_below-returns-in-Sequence : goal.add_below-returns-in-Sequence
+add_below-returns-in-Sequence t c =
     let pair = c.args.pair.now in
-    λ other. barred pair.path c.args.level (omega (arith, c.requires, c.if-level-len.false, c.len.ensures)) (is_push pair.manner) (leaf_of pair.leaf) (tree_of c.args.value.now) (rw c.in-Sequence.is (below-Sequence _))
+    λ other. barred pair.path c.args.level c.requires (is_push pair.manner) (leaf_of pair.leaf) (tree_of c.args.value.now) (rw c.in-Sequence.is (below-Sequence _))
 
-pub add_to_value-returns-in-String : goal.add_to_value-returns-in-String
-add_to_value-returns-in-String t c =
+pub add_below-returns-in-String : goal.add_below-returns-in-String
+add_below-returns-in-String t c =
     let pair = c.args.pair.now in
-    λ other. barred pair.path c.args.level (omega (arith, c.requires, c.if-level-len.false, c.len.ensures)) (is_push pair.manner) (leaf_of pair.leaf) (tree_of c.args.value.now) (rw c.in-String.is (below-String _))
+    λ other. barred pair.path c.args.level c.requires (is_push pair.manner) (leaf_of pair.leaf) (tree_of c.args.value.now) (rw c.in-String.is (below-String _))
 
-pub add_to_value-returns-in-Null : goal.add_to_value-returns-in-Null
-add_to_value-returns-in-Null t c =
+pub add_below-returns-in-Null : goal.add_below-returns-in-Null
+add_below-returns-in-Null t c =
     let pair = c.args.pair.now in
-    λ other. barred pair.path c.args.level (omega (arith, c.requires, c.if-level-len.false, c.len.ensures)) (is_push pair.manner) (leaf_of pair.leaf) (tree_of c.args.value.now) (rw c.in-Null.is below-Null)
+    λ other. barred pair.path c.args.level c.requires (is_push pair.manner) (leaf_of pair.leaf) (tree_of c.args.value.now) (rw c.in-Null.is below-Null)
 
-pub add_to_value-returns-in-NoValue : goal.add_to_value-returns-in-NoValue
-add_to_value-returns-in-NoValue t c =
+pub add_below-returns-in-NoValue : goal.add_below-returns-in-NoValue
+add_below-returns-in-NoValue t c =
     let pair = c.args.pair.now in
-    λ other. barred pair.path c.args.level (omega (arith, c.requires, c.if-level-len.false, c.len.ensures)) (is_push pair.manner) (leaf_of pair.leaf) (tree_of c.args.value.now) (rw c.in-NoValue.is below-NoValue)
+    λ other. barred pair.path c.args.level c.requires (is_push pair.manner) (leaf_of pair.leaf) (tree_of c.args.value.now) (rw c.in-NoValue.is below-NoValue)

@@ -1,10 +1,10 @@
 use Rattle.qs_tree.proofs.Common.{◌+◌, ◌++◌, ◌∙◌, ap, sym, arith, length, take, drop, map, get_or, length-map, length-take-le, encoded, escape, swapped}
 use Rattle.std.proofs.lemmas.List.{append_assoc, length-append}
-use Rattle.qs_tree.proofs.lemmas.escape.EncodedFronts.{encoded_run, encoded_escape, escape_is, length-encoded}
+use Rattle.qs_tree.proofs.lemmas.escape.EncodedFronts.{encoded_run, encoded_escape, escape_is, length_encoded}
 use Rattle.qs_tree.proofs.escape.encoding.put_front.Goals as goal
 
 pub copy_run-len-requires-clause-room : goal.copy_run-len-requires-clause-room
-copy_run-len-requires-clause-room c = omega (arith, c.requires.room, length-encoded c.args.form c.args.bytes.now)
+copy_run-len-requires-clause-room c = omega (arith, c.requires.room, length_encoded c.args.form c.args.bytes.now)
 
 pub put-requires : goal.put-requires
 put-requires c =

@@ -20,7 +20,7 @@ use crate::strict::Strict;
 use serde_qs::{Config, ConfigExt, Data, Deserializer, Result, RoundTrip, Shape};
 use std::alloc::Global;
 
-/// What is printed of the input, or why it is rejected.
+/// Returns what is printed of the input, or why it is rejected.
 pub fn printed(alloc: Global, request: Request, input: &[u8]) -> Result<Vec<u8>>
     ensures text { IfOk result (λ text. IsPrinted request input.now text.items) }
     ensures fault { IfInputError result (IsFaulty request input.now) }
@@ -37,7 +37,7 @@ pub fn printed(alloc: Global, request: Request, input: &[u8]) -> Result<Vec<u8>>
     }
 }
 
-// The querystring that the value is written as which is read from the input.
+// Reads a value from the input, and returns the querystring that it is written as.
 fn rewritten<T: RoundTrip + Drop>(alloc: Global, config: Config, input: &[u8]) -> Result<Vec<u8>>
     requires { IsExact T.value T.datum T.form T.meaning }
     ensures text { IfOk result (λ text. IsPrintedBy config T.form (rewritten config) input.now text.items) }
@@ -47,7 +47,7 @@ fn rewritten<T: RoundTrip + Drop>(alloc: Global, config: Config, input: &[u8]) -
     Ok(config.serialize_string(alloc, &value)?.into_bytes())
 }
 
-// The data as they are shown that are read from the input.
+// Returns the data that are read from the input, as they are shown.
 fn shown(alloc: Global, config: Config, input: &[u8]) -> Result<Vec<u8>>
     ensures text { IfOk result (λ text. IsPrintedBy config s.Shape.any (λ d. Some (shown d)) input.now text.items) }
     ensures fault { IfInputError result (IsFaultyBy config s.Shape.any (λ d. Some (shown d)) input.now) }
@@ -61,7 +61,7 @@ fn shown(alloc: Global, config: Config, input: &[u8]) -> Result<Vec<u8>>
     Ok(text)
 }
 
-// The querystring, parsed, with what is asked of that here.
+// Parses the input as a querystring, with the clauses that are needed here.
 fn parsed<'qs>(alloc: Global, config: Config, input: &'qs [u8]) -> Result<Deserializer<'qs>>
     ensures config { IfOk result (λ d. (parsed_of d).config ≡ config) }
     ensures tree { IfOk result (λ d. IsTree config.form config.max_depth input.now (parsed_of d).tree) }
@@ -71,7 +71,7 @@ fn parsed<'qs>(alloc: Global, config: Config, input: &'qs [u8]) -> Result<Deseri
     Deserializer::with_config(alloc, config, input)
 }
 
-// The data that are read whatever is there, with what is asked of that here.
+// Reads the data of a querystring, whatever they are, with the clauses that are needed here.
 fn read_data(alloc: Global, deserializer: Deserializer<'_>) -> Result<Data>
     ensures exact { ReturnsData (parsed_of deserializer.entry) s.Shape.any result }
     ensures errors { OnlyCustomUtf8OrOutOfMemory result }

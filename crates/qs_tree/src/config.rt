@@ -74,7 +74,7 @@ impl Model for Config {
 }
 
 impl Config {
-    /// The default: `max_depth` 5, query encoding, `ArrayFormat::Indexed` and `DuplicateKeyBehavior::TakeLast`.
+    /// Returns the default: `max_depth` 5, query encoding, `ArrayFormat::Indexed` and `DuplicateKeyBehavior::TakeLast`.
     pub fn new() -> Config
         ensures { result ≡ default }
     {
@@ -118,28 +118,28 @@ impl Config {
         Config { duplicates, ..self }
     }
 
-    /// How many levels of brackets are parsed and written.
+    /// Returns how many levels of brackets are parsed and written.
     pub fn get_max_depth(&self) -> usize
         ensures { result ≡ self.now.max_depth }
     {
         self.max_depth
     }
 
-    /// Whether form encoding is used.
+    /// Returns whether form encoding is used.
     pub fn get_form(&self) -> bool
         ensures { result ≡ self.now.form }
     {
         self.form
     }
 
-    /// How the index of a list's element is written.
+    /// Returns how the index of a list's element is written.
     pub fn get_array_format(&self) -> ArrayFormat
         ensures { array_format_of result ≡ self.now.array_format }
     {
         self.array_format
     }
 
-    /// What happens to repeated values where one value is read.
+    /// Returns what happens to repeated values where one value is read.
     pub fn get_duplicates(&self) -> DuplicateKeyBehavior
         ensures { duplicates_of result ≡ self.now.duplicates }
     {

@@ -40,7 +40,7 @@ impl Error {
     ghost use Rattle.std.specs.Prelude.{◌++◌, Some, codes};
     ghost use Rattle.qs_tree.specs.Error.{IsCustomSaying, IsParseSaying};
 
-    /// A [`Custom`](Error::Custom) error for a kind of value that can't be read at the top level.
+    /// Returns a [`Custom`](Error::Custom) error for a kind of value that can't be read at the top level.
     ///
     /// Allocates the message, and takes time with its length. Returns [`OutOfMemory`](Error::OutOfMemory) where that failed.
     ///
@@ -60,7 +60,7 @@ impl Error {
         )
     }
 
-    /// A [`Parse`](Error::Parse) error with a message and a position.
+    /// Returns a [`Parse`](Error::Parse) error with a message and a position.
     ///
     /// Allocates the message, and takes time with its length. Returns [`OutOfMemory`](Error::OutOfMemory) where that failed, or where
     /// `msg.fmt` fails.
@@ -77,7 +77,7 @@ impl Error {
         }
     }
 
-    /// A [`Custom`](Error::Custom) error with a message. The last argument isn't used.
+    /// Returns a [`Custom`](Error::Custom) error with a message. The last argument isn't used.
     ///
     /// Allocates the message, and takes time with its length. Returns [`OutOfMemory`](Error::OutOfMemory) where that failed, or where
     /// `msg.fmt` fails.

@@ -25,7 +25,7 @@ impl Model for Steps {
 }
 
 impl Steps {
-    /// No steps. Costs nothing at run time.
+    /// Returns zero steps. Costs nothing at run time.
     pub fn new() -> Steps
         ensures { result ≡ 0 }
     {
@@ -39,7 +39,7 @@ impl Steps {
         *self = Steps::after(self, &taken);
     }
 
-    // The steps `_before` and `_taken` together.
+    // Returns the steps `_before` and `_taken` together.
     fn after(_before: &Steps, _taken: &usize) -> Steps
         ensures { result ≡ _before.now + _taken.now }
     {

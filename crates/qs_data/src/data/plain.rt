@@ -19,7 +19,7 @@ use std::collections::BTreeSet;
 const FEW: usize = 16;
 
 impl Data {
-    /// Whether these data can be read back: written in the indexed format, within the depth limit, they are read by each shape
+    /// Returns whether these data can be read back: written in the indexed format, within the depth limit, they are read by each shape
     /// that they [fit](Shape::fits) from their entries in any order.
     ///
     /// That takes all of these, at every depth:
@@ -46,7 +46,7 @@ impl Data {
     }
 }
 
-// Whether data can be read back, at form encoding or without it.
+// Returns whether data can be read back, at form encoding or without it.
 #[cycle(plain)]
 #[tactic(auto, using(crate::proofs::lemmas::data::Levels::levels))]
 fn is_plain(datum: &Data, form: bool) -> bool
@@ -73,7 +73,7 @@ fn is_plain(datum: &Data, form: bool) -> bool
     }
 }
 
-// The elements of a list.
+// Returns whether the elements of a list can be read back, and there is an index for each.
 #[cycle(plain)]
 fn are_plain_items(items: &Vec<Data>, form: bool) -> bool
     ensures { let ds = values_in items.now.items in result ≡ (are_few ds && are_plain form ds) }
@@ -81,7 +81,7 @@ fn are_plain_items(items: &Vec<Data>, form: bool) -> bool
     are_few(items) && are_plain(items, form)
 }
 
-// Whether each item can be read back.
+// Returns whether each item can be read back.
 #[cycle(plain)]
 fn are_plain(items: &Vec<Data>, form: bool) -> bool
     ensures { result ≡ are_plain form (values_in items.now.items) }
@@ -94,7 +94,7 @@ fn are_plain(items: &Vec<Data>, form: bool) -> bool
     true
 }
 
-// The keys and values of a map.
+// Returns whether each key of a map and its value can be read back.
 #[cycle(plain)]
 fn are_plain_pairs(pairs: &Vec<(Data, Data)>, form: bool) -> bool
     ensures { result ≡ are_plain_pairs form (pairs_in pairs.now.items) }
@@ -107,7 +107,7 @@ fn are_plain_pairs(pairs: &Vec<(Data, Data)>, form: bool) -> bool
     true
 }
 
-// The fields of a struct or of a struct variant: some, with names that differ.
+// Returns whether a struct or a struct variant has fields, their names differ, and each can be read back.
 #[cycle(plain)]
 fn are_plain_fields(members: &Vec<(String, Data)>, form: bool) -> bool
     ensures { let ms = members_in members.now.items in
@@ -116,7 +116,7 @@ fn are_plain_fields(members: &Vec<(String, Data)>, form: bool) -> bool
     has_members(members) && (member_names_differ(members) && are_plain_members(members, form))
 }
 
-// Whether each name and its value can be read back.
+// Returns whether each name and its value can be read back.
 #[cycle(plain)]
 fn are_plain_members(members: &Vec<(String, Data)>, form: bool) -> bool
     ensures { result ≡ are_plain_members form (members_in members.now.items) }
@@ -129,21 +129,21 @@ fn are_plain_members(members: &Vec<(String, Data)>, form: bool) -> bool
     true
 }
 
-// Whether there is an item.
+// Returns whether there is an item.
 fn has_values(items: &[Data]) -> bool
     ensures { result ≡ has_values (values_in items.now) }
 {
     !items.is_empty()
 }
 
-// Whether there is a field.
+// Returns whether there is a field.
 fn has_members(members: &[(String, Data)]) -> bool
     ensures { result ≡ has_members (members_in members.now) }
 {
     !members.is_empty()
 }
 
-// Whether the data are an option, also within newtypes.
+// Returns whether the data are an option, also within newtypes.
 fn is_optional(datum: &Data) -> bool
     ensures { result ≡ is_optional (data_of datum.now) }
 {
@@ -154,14 +154,14 @@ fn is_optional(datum: &Data) -> bool
     }
 }
 
-// Whether there is an index for each element.
+// Returns whether there is an index for each element.
 fn are_few(items: &[Data]) -> bool
     ensures { result ≡ are_few (values_in items.now) }
 {
     items.len() <= u32::MAX as usize
 }
 
-// Whether a name or the text of a key is read back.
+// Returns whether a name or the text of a key is read back.
 fn is_plain_name(name: &[u8], form: bool) -> bool
     ensures { result ≡ is_plain_name form name.now }
 {
@@ -170,7 +170,7 @@ fn is_plain_name(name: &[u8], form: bool) -> bool
         && !(form && holds_bracket(name))
 }
 
-// Whether these are digits.
+// Returns whether these are digits, at least one.
 fn is_numeral(bytes: &[u8]) -> bool
     ensures { result ≡ is_numeral bytes.now }
 {
@@ -182,7 +182,7 @@ fn is_numeral(bytes: &[u8]) -> bool
     !bytes.is_empty()
 }
 
-// Whether one of the bytes is a bracket.
+// Returns whether one of the bytes is a bracket.
 fn holds_bracket(bytes: &[u8]) -> bool
     ensures { result ≡ list_any is_bracket bytes.now }
 {
@@ -194,7 +194,7 @@ fn holds_bracket(bytes: &[u8]) -> bool
     false
 }
 
-// Whether the key of a map is read back.
+// Returns whether the key of a map is read back.
 fn is_plain_key(key: &Data, form: bool) -> bool
     ensures { result ≡ is_plain_key form (data_of key.now) }
 {
@@ -207,7 +207,7 @@ fn is_plain_key(key: &Data, form: bool) -> bool
     }
 }
 
-// Whether the keys of a map are written differently.
+// Returns whether the keys of a map are written differently.
 fn written_keys_differ(pairs: &Vec<(Data, Data)>) -> bool
     ensures { result ≡ written_keys_differ (pairs_in pairs.now.items) }
 {
@@ -219,7 +219,7 @@ fn written_keys_differ(pairs: &Vec<(Data, Data)>) -> bool
     few_keys_differ(pairs)
 }
 
-// The same by a sorted set of the texts. Returns an error only where an allocation failed.
+// Returns whether keys are written differently, by a sorted set of their texts. Returns an error only where an allocation failed.
 fn many_keys_differ(pairs: &[(Data, Data)], alloc: Global) -> Result<bool, AllocError>
     ensures { IfOk result (λ differ. differ ≡ written_keys_differ (pairs_in pairs.now)) }
 {
@@ -233,7 +233,7 @@ fn many_keys_differ(pairs: &[(Data, Data)], alloc: Global) -> Result<bool, Alloc
     Ok(differ)
 }
 
-// The same by comparing each with those after it.
+// Returns whether keys are written differently, by comparing each with those after it.
 fn few_keys_differ(pairs: &[(Data, Data)]) -> bool
     ensures { result ≡ written_keys_differ (pairs_in pairs.now) }
 {
@@ -247,7 +247,7 @@ fn few_keys_differ(pairs: &[(Data, Data)]) -> bool
     true
 }
 
-// Whether one of the keys has this text.
+// Returns whether one of the keys has this text.
 fn is_written_key(text: &[u8], pairs: &[(Data, Data)]) -> bool
     ensures { result ≡ is_written_key (Some text.now) (pairs_in pairs.now) }
 {
@@ -269,7 +269,7 @@ fn add_text(text: &[u8], alloc: Global, texts: &mut BTreeSet<Vec<u8>>) -> Result
     Ok(texts.insert(Vec::from_slice(alloc, text)?)?)
 }
 
-// Whether the names of fields differ.
+// Returns whether the names of fields differ.
 fn member_names_differ(members: &Vec<(String, Data)>) -> bool
     ensures { result ≡ member_names_differ (members_in members.now.items) }
 {
@@ -281,7 +281,7 @@ fn member_names_differ(members: &Vec<(String, Data)>) -> bool
     few_names_differ(members)
 }
 
-// The same by a sorted set of the names. Returns an error only where an allocation failed.
+// Returns whether the names of fields differ, by a sorted set of them. Returns an error only where an allocation failed.
 fn many_names_differ(members: &[(String, Data)], alloc: Global) -> Result<bool, AllocError>
     ensures { IfOk result (λ differ. differ ≡ member_names_differ (members_in members.now)) }
 {
@@ -293,7 +293,7 @@ fn many_names_differ(members: &[(String, Data)], alloc: Global) -> Result<bool, 
     Ok(differ)
 }
 
-// The same by comparing each with those after it.
+// Returns whether the names of fields differ, by comparing each with those after it.
 fn few_names_differ(members: &[(String, Data)]) -> bool
     ensures { result ≡ member_names_differ (members_in members.now) }
 {
@@ -305,7 +305,7 @@ fn few_names_differ(members: &[(String, Data)]) -> bool
     true
 }
 
-// Whether one of the fields has this name.
+// Returns whether one of the fields has this name.
 fn is_member_name(members: &[(String, Data)], name: &str) -> bool
     ensures { result ≡ is_member_name name.now (members_in members.now) }
 {

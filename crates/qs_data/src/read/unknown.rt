@@ -71,7 +71,7 @@ impl UnknownKeys {
         Ok(self.test(reader.alloc, names, entries)?)
     }
 
-    /// The same, inside reading.
+    /// Rejects the smallest key that no field has as [`reject`](UnknownKeys::reject) does, with the error that is used inside reading.
     #[inline(always)]
     pub(crate) fn test<N: FieldNames>(
         self,
@@ -90,7 +90,7 @@ impl UnknownKeys {
     }
 }
 
-// Whether all keys of a map are names, or the error of the first that isn't.
+// Tests whether all keys of a map are names, and returns the error of the first that isn't.
 fn test_map<N: FieldNames>(alloc: Global, names: &N, map: &ParsedMap<'_>) -> Result<()>
     ensures { let es = entries_of_map map.now in
         ReadGives (λ _. tt) (entries_are_text es) result (when (keys_are_names (N.fields names.now) es)) }
@@ -104,7 +104,7 @@ fn test_map<N: FieldNames>(alloc: Global, names: &N, map: &ParsedMap<'_>) -> Res
     Ok(())
 }
 
-// Whether the text of a key is a name.
+// Tests whether the text of a key is a name, and returns an error where it isn't.
 fn test_key<N: FieldNames>(alloc: Global, names: &N, key: &Key<'_>) -> Result<()>
     ensures { let name = segment_text (segment_of_key key.now) in
         ReadGives (λ _. tt) (is_utf8 name) result (when (is_field_name name (N.fields names.now))) }
@@ -118,7 +118,7 @@ fn test_key<N: FieldNames>(alloc: Global, names: &N, key: &Key<'_>) -> Result<()
     }
 }
 
-// Whether a text is a name.
+// Tests whether a text is a name, and returns an error where it isn't.
 fn test_name<N: FieldNames>(alloc: Global, names: &N, name: &[u8]) -> Result<()>
     ensures { ReadGives (λ _. tt) (is_utf8 name.now) result (when (is_field_name name.now (N.fields names.now))) }
 {
@@ -129,7 +129,7 @@ fn test_name<N: FieldNames>(alloc: Global, names: &N, name: &[u8]) -> Result<()>
     }
 }
 
-// The error of a key that no field has.
+// Returns the error of a key that no field has.
 fn unknown_key(alloc: Global, key: &[u8]) -> ReadError
     ensures { ReadRejects {Y = Unit {0}} (is_utf8 key.now) result None }
 {

@@ -39,7 +39,7 @@ pub(crate) struct Room {
 }
 
 impl Room {
-    /// Room that is unused.
+    /// Returns room that is unused.
     pub(crate) fn new() -> Room {
         Room {
             digits: Buffer::new(),
@@ -126,7 +126,7 @@ impl<'a> Scalar<'a> {
     }
 }
 
-/// The word for a boolean.
+/// Returns the word for a boolean.
 pub(crate) fn word(value: bool) -> &'static str
     ensures { result.now ≡ boolean_text value }
 {

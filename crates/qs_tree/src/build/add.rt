@@ -304,7 +304,7 @@ impl<'qs> MapBuilder<'qs> {
         Ok(())
     }
 
-    // The conflict of a leaf with this map, whose entries are dropped.
+    // Returns the conflict of a leaf with this map, or `OutOfMemory` where an allocation failed. Drops the map's entries.
     #[inline(never)]
     fn conflict(&mut self, alloc: Global, level: usize) -> AddError {
         let map = mem::replace(self, MapBuilder::new(alloc));

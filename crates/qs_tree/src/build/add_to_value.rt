@@ -117,7 +117,7 @@ fn add_in_entries<'qs>(
     }
 }
 
-// A node with a pair alone, which is at a level of its path. The keys that are left and the leaf are taken out of the pair.
+// Returns a node with a pair alone, at a level of the pair's path. Takes the keys that are left and the leaf out of the pair.
 #[inline(always)]
 fn chain_of<'qs>(
     alloc: Global,
@@ -137,7 +137,7 @@ fn chain_of<'qs>(
     Ok(value)
 }
 
-// A node with a pair's leaf alone.
+// Returns a node with a pair's leaf alone, which is taken out of the pair.
 #[inline(always)]
 fn value_at_end<'qs>(alloc: Global, pair: &mut Pair<'qs>) -> Result<ParsedValue<'qs>, AllocError>
     ensures value { IfOk result (λ value. add_flat (is_push pair.old.manner) (leaf_of pair.old.leaf) uninitialized ≡ Some (tree_of value)) }
@@ -215,7 +215,7 @@ pub(crate) fn add_plain<'qs>(
     }
 }
 
-// A sequence of a node and a leaf takes the place of the node.
+// Replaces a node by a sequence of the node and a leaf.
 #[tactic(auto, using(crate::proofs::lemmas::Views::views))]
 fn add_second<'qs>(
     alloc: Global,
@@ -280,7 +280,7 @@ pub(crate) fn add_leaf_at<'qs>(
     }
 }
 
-// The conflict of a leaf with a map.
+// Returns the conflict of a leaf with a map, or `OutOfMemory` where an allocation failed.
 #[inline(never)]
 fn conflict(alloc: Global, map: &ParsedMap<'_>, level: usize) -> AddError {
     match key_list(alloc, map.map.as_slice()) {

@@ -52,14 +52,14 @@ pub(crate) enum MapBuilder<'qs> {
 const FEW: usize = 16;
 
 impl<'qs> TreeBuilder<'qs> {
-    /// A node without a pair.
+    /// Returns a node without a pair.
     pub fn fresh() -> Self
         ensures { result ≡ fresh }
     {
         TreeBuilder::Value(ParsedValue::Uninitialized)
     }
 
-    /// The finished node, or the map that is to be finished. Allocates for a map of leaves in no order alone.
+    /// Returns the finished node, or as `Err` the map that is to be finished. Allocates only for a map of leaves in no order.
     #[tactic(auto, using(crate::proofs::lemmas::Views::views))]
     pub fn into_value(
         self,
@@ -78,7 +78,7 @@ impl<'qs> TreeBuilder<'qs> {
         }
     }
 
-    /// A finished map of leaves alone as one to which leaves are added in any order. Other nodes stay the same.
+    /// Returns a finished map of leaves alone as one to which leaves are added in any order, and any other node as it is.
     #[tactic(auto, using(crate::proofs::lemmas::Views::views))]
     pub fn unsorted(self) -> Self
         ensures { built_tree result ≡ built_tree self.entry }
@@ -91,14 +91,14 @@ impl<'qs> TreeBuilder<'qs> {
 }
 
 impl<'qs> MapBuilder<'qs> {
-    /// A map without entries. Doesn't allocate.
+    /// Returns a map without entries. Doesn't allocate.
     pub fn new(alloc: Global) -> Self
         ensures { built_entries result ≡ no_entries }
     {
         MapBuilder::Vector(Entries::new(alloc))
     }
 
-    /// The entries of a finished map. Allocates a vector.
+    /// Returns a finished map as one that isn't finished. Allocates a vector.
     #[inline(never)]
     pub fn reopen(alloc: Global, map: ParsedMap<'qs>) -> Result<Self, AllocError>
         ensures { IfOk result (λ builder. built_entries builder ≡ entries_of_map map.entry) }
@@ -141,12 +141,12 @@ impl<'qs> MapBuilder<'qs> {
         }
     }
 
-    /// The keys as `Display` writes them, separated by `, `. Allocates the text.
+    /// Returns the keys as `Display` writes them, separated by `, `. Allocates the text, and a vector for a search tree.
     pub fn key_list(self, alloc: Global) -> Result<String, AllocError> {
         key_list(alloc, self.into_entries(alloc)?.as_slice())
     }
 
-    /// The map's vector, or its search tree. Doesn't allocate.
+    /// Returns the map's vector, or as `Err` its search tree. Doesn't allocate.
     pub fn into_form(
         self,
     ) -> Result<Entries<Key<'qs>, TreeBuilder<'qs>>, BTreeMap<Key<'qs>, TreeBuilder<'qs>>>
@@ -158,7 +158,7 @@ impl<'qs> MapBuilder<'qs> {
         }
     }
 
-    /// The entries in a sorted vector, which is allocated for a search tree.
+    /// Returns the entries in a sorted vector, which is allocated for a search tree.
     pub fn into_entries(
         self,
         alloc: Global,
@@ -179,7 +179,7 @@ impl<'qs> Drop for MapBuilder<'qs> {
     }
 }
 
-/// The keys of entries as `Display` writes them, separated by `, `. Allocates the text.
+/// Returns the keys of entries as `Display` writes them, separated by `, `. Allocates the text.
 pub(crate) fn key_list<'qs, V>(
     alloc: Global,
     entries: &[(Key<'qs>, V)],
@@ -196,7 +196,7 @@ pub(crate) fn key_list<'qs, V>(
     Ok(text)
 }
 
-// A finished map as a node, unsorted where it has leaves alone.
+// Returns a finished map as a node, unsorted where it has leaves alone.
 #[tactic(auto, using(crate::proofs::lemmas::Views::views))]
 fn unsorted_map<'qs>(map: ParsedMap<'qs>) -> TreeBuilder<'qs>
     ensures { built_tree result ≡ mapping (entries_of_map map.entry) }
@@ -208,7 +208,7 @@ fn unsorted_map<'qs>(map: ParsedMap<'qs>) -> TreeBuilder<'qs>
     }
 }
 
-// Entries with finished nodes as entries under construction.
+// Returns entries with finished nodes as entries under construction. Allocates a vector.
 fn as_builders<'qs>(
     alloc: Global,
     entries: Entries<Key<'qs>, ParsedValue<'qs>>,
@@ -235,8 +235,8 @@ fn take_at<'qs>(
     }
 }
 
-/// The index of a key among sorted entries, or as `Err` the index at which to insert it. Compares with the last key first, since
-/// keys often come in order.
+/// Returns the index of a key among sorted entries, or as `Err` the index at which to insert it. Compares with the last key first,
+/// since keys often come in order.
 #[inline(always)]
 pub(crate) fn place_among<'qs, V>(entries: &[(Key<'qs>, V)], key: &Key<'qs>) -> Result<usize, usize>
     requires { IsStrictlySortedBy key_cmp (keys_of entries.now) }
@@ -253,7 +253,7 @@ pub(crate) fn place_among<'qs, V>(entries: &[(Key<'qs>, V)], key: &Key<'qs>) -> 
     }
 }
 
-/// Whether a key would be inserted before the end of a vector with many entries.
+/// Returns whether a key would be inserted before the end of a vector with many entries.
 pub(crate) fn goes_between(place: Result<usize, usize>, len: usize) -> bool {
     match place {
         Ok(_) => false,
@@ -316,7 +316,7 @@ fn insert<'qs>(
     Ok(())
 }
 
-/// The entries of a vector as a search tree. Returns an error only where an allocation failed.
+/// Returns the entries of a vector as a search tree. Returns an error only where an allocation failed.
 #[inline(never)]
 pub(crate) fn into_tree<'qs>(
     alloc: Global,
@@ -331,7 +331,7 @@ pub(crate) fn into_tree<'qs>(
     Ok(map)
 }
 
-// The entries of a search tree as a vector.
+// Returns the entries of a search tree as a vector.
 #[inline(never)]
 fn into_vector<'qs>(
     alloc: Global,

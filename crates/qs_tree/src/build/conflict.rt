@@ -15,7 +15,8 @@ pub(crate) enum AddError {
 }
 
 impl AddError {
-    /// The conflict of a pair with the node at a level of its path. Allocates the box.
+    /// Returns the conflict of a pair with the node at a level of its path. Allocates the box, and returns `OutOfMemory` where that
+    /// failed.
     #[inline(never)]
     pub fn conflict(alloc: Global, level: usize, kind: ConflictKind) -> AddError {
         match Box::new(alloc, Conflict { level, kind }) {
@@ -24,7 +25,8 @@ impl AddError {
         }
     }
 
-    /// The conflict of a pair whose path leads through a node at a level that isn't a map. Allocates the box.
+    /// Returns the conflict of a pair whose path leads through a node at a level that isn't a map. Allocates the box, and returns
+    /// `OutOfMemory` where that failed.
     #[inline(never)]
     pub fn below(alloc: Global, level: usize, node: &ParsedValue<'_>) -> AddError {
         AddError::conflict(alloc, level, ConflictKind::below(node))
@@ -56,7 +58,7 @@ pub(crate) enum ConflictKind {
 }
 
 impl ConflictKind {
-    /// The conflict of a path through a node that isn't a map.
+    /// Returns the conflict of a path through a node that isn't a map.
     pub fn below(node: &ParsedValue<'_>) -> ConflictKind {
         match node {
             ParsedValue::Sequence(_) => ConflictKind::BelowSequence,
@@ -82,7 +84,7 @@ impl<T: Drop> From<AllocFailed<T>> for AddError {
     }
 }
 
-/// The first node on a path that can't have a child at the next key, with its level, or `None`. Doesn't allocate.
+/// Finds the first node on a path that can't have a child at the next key, and returns its level and why, or `None`. Doesn't allocate.
 pub(crate) fn conflict_below<'qs>(
     tree: &ParsedValue<'qs>,
     path: &Path<'qs>,
@@ -101,7 +103,7 @@ pub(crate) fn conflict_below<'qs>(
     None
 }
 
-// The child of a node at a key, or why the node can't have one.
+// Returns the child of a node at a key, or `None`, or as `Err` why the node can't have one.
 fn node_below<'t, 'qs>(
     node: &'t ParsedValue<'qs>,
     key: &Key<'qs>,

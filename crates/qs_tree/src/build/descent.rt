@@ -93,9 +93,10 @@ fn open<'qs>(
     Ok((Frame { map, key }, child))
 }
 
-/// The map that a node is, or that an empty node becomes.
+/// Returns the map that a node is, or that an empty node becomes.
 ///
-/// Returns a conflict for every other node. Allocates for that error, and for a finished map.
+/// Returns a conflict for every other node, or `OutOfMemory` where an allocation failed. Allocates for a conflict, for a finished map
+/// and for one of leaves in no order.
 pub(crate) fn map_of<'qs>(
     alloc: Global,
     node: TreeBuilder<'qs>,
@@ -113,7 +114,7 @@ pub(crate) fn map_of<'qs>(
     }
 }
 
-// The same of a finished node.
+// Returns the map that a finished node is, or that an empty node becomes, as `map_of` does.
 #[tactic(auto, using(crate::proofs::lemmas::Views::views))]
 fn map_of_value<'qs>(
     alloc: Global,

@@ -34,10 +34,10 @@ struct Frame<'qs> {
 }
 
 impl<'qs> TreeBuilder<'qs> {
-    /// The finished node.
+    /// Finishes the node, and returns it.
     ///
-    /// Returns an error only where an allocation failed. A node that is no map doesn't allocate, and a map without maps in it
-    /// allocates its own entries only. Takes constant stack: unfinished maps are kept in a vector.
+    /// Returns an error only where an allocation failed. A finished node needs no allocation, and a map without maps in it only those
+    /// for its own entries. Takes constant stack: unfinished maps are kept in a vector.
     pub fn finish(self, alloc: Global) -> Result<ParsedValue<'qs>, AllocError>
         ensures tree { IfOk result (λ value. tree_of value ≡ built_tree self.entry) }
         ensures flat { IsFlat self.entry → IsOk result }
@@ -74,7 +74,7 @@ fn finish_map<'qs>(alloc: Global, map: MapBuilder<'qs>) -> Result<ParsedMap<'qs>
     }
 }
 
-// A map without finished entries.
+// Returns the level of a map, none of whose entries is finished.
 fn open_level<'qs>(alloc: Global, map: MapBuilder<'qs>) -> Result<Level<'qs>, AllocError>
     ensures { IfOk result (IsOpened (built_entries map.entry)) }
 {

@@ -25,7 +25,7 @@ pub(crate) struct Unsorted<'qs> {
 impl<'qs> Unsorted<'qs> {
     ghost use Rattle.qs_tree.specs.internal.build.Builder.{entries_held, unsorted_entries};
 
-    /// A finished map of leaves alone. Doesn't allocate.
+    /// Returns a finished map of leaves alone as an unsorted one. Doesn't allocate.
     pub fn of(map: ParsedMap<'qs>) -> Self
         requires { AreLeaves map.map }
         ensures { unsorted_entries result ≡ entries_of_map map.entry }
@@ -46,7 +46,8 @@ impl<'qs> Unsorted<'qs> {
         Ok(())
     }
 
-    /// The finished entries. Sorts the leaves in their vector, and allocates another one only where a key has several.
+    /// Returns the finished entries. Sorts the leaves in their vector, which may allocate where there are many, and copies them to
+    /// another one only where a key has several.
     #[inline(never)]
     pub fn into_entries(
         self,
@@ -62,7 +63,7 @@ impl<'qs> Unsorted<'qs> {
         }
     }
 
-    // The entries of sorted leaves, of which those of one key make a sequence.
+    // Returns the entries of sorted leaves, of which those of one key make a sequence.
     #[inline(never)]
     fn merge(
         alloc: Global,
@@ -81,7 +82,7 @@ impl<'qs> Unsorted<'qs> {
     }
 }
 
-/// Whether all values are leaves.
+/// Returns whether all values are leaves.
 pub(crate) fn are_leaves<'qs>(entries: &[(Key<'qs>, ParsedValue<'qs>)]) -> bool
     ensures { IsTrue result → AreLeaves entries.now }
 {

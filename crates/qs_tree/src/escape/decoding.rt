@@ -148,7 +148,7 @@ fn put_raw(bytes: &[u8], len: usize, room: &mut [u8], at: usize) -> (usize, usiz
     (len, len)
 }
 
-// The value of a hexadecimal digit of either case.
+// Returns the value of a hexadecimal digit of either case, or `None`.
 fn hex_digit(byte: u8) -> Option<u8>
     ensures { SomeIff result (digit_value byte < 16) (digit_value byte) }
 {

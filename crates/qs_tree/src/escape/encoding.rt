@@ -97,7 +97,7 @@ fn put_byte(byte: u8, form: bool, room: &mut [u8], at: usize) -> usize
     1
 }
 
-// The length of the encoded bytes, or `usize::MAX` where it is greater.
+// Returns the length of the encoded bytes, or `usize::MAX` where it is greater.
 #[tactic(auto, using(crate::proofs::lemmas::escape::EncodedFronts::length_encoded))]
 fn encoded_len(bytes: &[u8], form: bool) -> usize
     ensures { result ≡ min (length (encoded form bytes.now)) usize.MAX }

@@ -17,7 +17,7 @@ pub(crate) use self::letter::is_letter;
 pub(crate) use self::marks::Byte;
 use self::marks::Escape;
 
-/// The index of the first `+` or `%`, or `None`.
+/// Returns the index of the first `+` or `%`, or `None`.
 ///
 /// Doesn't allocate. Tests 32 bytes at a time, each once.
 ///
@@ -33,7 +33,7 @@ pub fn find_escape(bytes: &[u8]) -> Option<usize>
     find(Escape, bytes)
 }
 
-/// The index of the first `&`, or `None`.
+/// Returns the index of the first `&`, or `None`.
 ///
 /// Doesn't allocate. Tests 32 bytes at a time, each once.
 ///
@@ -47,7 +47,7 @@ pub fn find_ampersand(bytes: &[u8]) -> Option<usize>
     find(Byte(b'&'), bytes)
 }
 
-/// The index of the first `&`, or the length, and whether it is known that `+` and `%` aren't before it.
+/// Returns the index of the first `&`, or the length, and whether it is known that `+` and `%` aren't before it.
 pub(crate) fn find_value_end(bytes: &[u8]) -> (usize, bool)
     ensures first { result.0 ≡ position_or_len is_ampersand bytes.now }
     ensures plain { IsTrue result.1 → is_marked (take result.0 bytes.now) ≡ false }
@@ -79,8 +79,8 @@ pub(crate) fn find_value_end(bytes: &[u8]) -> (usize, bool)
     (at, plain)
 }
 
-/// The index of the first byte that [`encode`](crate::encode) changes in form encoding (`form`) or query encoding, or `None`. A space
-/// is such a byte in both.
+/// Returns the index of the first byte that [`encode`](crate::encode) changes in form encoding (`form`) or query encoding, or `None`.
+/// A space is such a byte in both.
 ///
 /// Doesn't allocate. Tests 32 bytes at a time, each once.
 ///
@@ -94,7 +94,7 @@ pub fn find_encoded(bytes: &[u8], form: bool) -> Option<usize>
     find(Encoded { form }, bytes)
 }
 
-// The index of the first byte of a class: 32 bytes at a time, and the rest one by one.
+// Returns the index of the first byte of a class, or `None`. Tests 32 bytes at a time, and the rest one by one.
 fn find<C: Class>(class: C, bytes: &[u8]) -> Option<usize>
     ensures first { result ≡ position (C.contains class) bytes.now }
     ensures within { IfSome result (λ at. at < length bytes.now) }

@@ -33,7 +33,8 @@ impl<'qs> From<AllocError> for ScanError<'qs> {
     }
 }
 
-/// The error of a pair with a syntax error. A conflict with the tree before the syntax error is returned first.
+/// Returns the error of a pair with a syntax error. A conflict with the tree before the syntax error is returned in its place, and so
+/// is `OutOfMemory` where an allocation failed.
 #[inline(never)]
 pub(crate) fn syntax_error<'qs>(
     alloc: Global,
@@ -48,7 +49,7 @@ pub(crate) fn syntax_error<'qs>(
     }
 }
 
-/// The error of a pair that wasn't added.
+/// Returns the error of a pair that wasn't added.
 #[inline(never)]
 pub(crate) fn add_error<'qs>(error: AddError, cursor: &Cursor<'qs>) -> ScanError<'qs>
     ensures { error ≡ no_memory.OutOfMemory → result ≡ OutOfMemory }
@@ -62,7 +63,8 @@ pub(crate) fn add_error<'qs>(error: AddError, cursor: &Cursor<'qs>) -> ScanError
     }
 }
 
-// The conflict of a pair's keys before its syntax error, if there is one. The tree isn't used after that.
+// Tests whether a pair is in conflict with the tree before its syntax error, and returns that conflict as an error. The tree isn't
+// used after that.
 fn conflict_before<'qs>(
     alloc: Global,
     tree: &mut TreeBuilder<'qs>,
@@ -86,7 +88,7 @@ fn conflict_before<'qs>(
 }
 
 impl<'qs> ScanError<'qs> {
-    /// The error that is returned for an input that takes `all` steps. Allocates its text.
+    /// Returns the error of an input that takes `all` steps. Allocates its text.
     #[inline(never)]
     pub fn into_error(self, alloc: Global, all: usize) -> Error
         ensures { Reports self.entry all result }
@@ -104,7 +106,7 @@ impl<'qs> ScanError<'qs> {
     }
 }
 
-// The error of a conflict after these bytes of a pair.
+// Returns the error of a conflict after these bytes of a pair.
 fn conflict_error(alloc: Global, kind: ConflictKind, key: &[u8], position: usize) -> Error
     ensures { IsParseSaying result None position }
 {
@@ -122,7 +124,7 @@ fn conflict_error(alloc: Global, kind: ConflictKind, key: &[u8], position: usize
     Error::parse_err(alloc, text, position)
 }
 
-// The error of a leaf for a map with these keys.
+// Returns the error of a leaf for a map with these keys.
 fn leaf_on_map(alloc: Global, key: &[u8], keys: String, position: usize) -> Error
     ensures { IsParseSaying result None position }
 {

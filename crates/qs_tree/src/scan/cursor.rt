@@ -24,28 +24,28 @@ pub(crate) enum Kind {
 }
 
 impl Kind {
-    /// Whether it is `&`.
+    /// Returns whether it is `&`.
     pub fn is_ampersand(self) -> bool
         ensures { result ≡ is_amp (kind_of_token self) }
     {
         matches!(self, Kind::Ampersand)
     }
 
-    /// Whether it is `=`.
+    /// Returns whether it is `=`.
     pub fn is_equals(self) -> bool
         ensures { result ≡ is_equals (kind_of_token self) }
     {
         matches!(self, Kind::Equals)
     }
 
-    /// Whether it is an opening bracket.
+    /// Returns whether it is an opening bracket.
     pub fn is_open(self) -> bool
         ensures { result ≡ is_open (kind_of_token self) }
     {
         matches!(self, Kind::Open)
     }
 
-    /// Whether it is a closing bracket.
+    /// Returns whether it is a closing bracket.
     pub fn is_close(self) -> bool
         ensures { result ≡ is_close (kind_of_token self) }
     {
@@ -63,7 +63,7 @@ pub(crate) struct Token<'qs> {
 }
 
 impl Token<'_> {
-    /// Whether it is known to be without `+` and `%`.
+    /// Returns whether it is known to be without `+` and `%`.
     #[inline(always)]
     pub fn is_plain(&self) -> bool
         ensures { IsTrue result → is_marked self.now.raw.now ≡ false }
@@ -90,7 +90,7 @@ pub(crate) enum Until {
 }
 
 impl Until {
-    // Whether a token of this kind ends the run.
+    // Returns whether a token of this kind ends the run.
     fn is_at(self, kind: Kind) -> bool
         ensures { result ≡ ends_of self (kind_of_token kind) }
     {
@@ -103,7 +103,7 @@ impl Until {
     }
 }
 
-// The kind of the first token, and its length.
+// Returns the kind of the first token, and its length.
 fn first_token(bytes: &[u8], form: bool) -> (Kind, usize)
     requires { 0 < length bytes.now }
     ensures token { BeginsWith form bytes.now result.0 result.1 }
@@ -127,7 +127,7 @@ fn first_token(bytes: &[u8], form: bool) -> (Kind, usize)
     }
 }
 
-// The length of a run, without the token that ends it, and whether it is known to be without `+` and `%`.
+// Returns the length of a run, without the token that ends it, and whether it is known to be without `+` and `%`.
 #[inline(always)]
 fn run_len(bytes: &[u8], form: bool, until: Until) -> (usize, bool)
     ensures within { result.0 ≤ length bytes.now }
@@ -184,7 +184,7 @@ pub(crate) struct Site<'qs> {
 }
 
 impl<'qs> Cursor<'qs> {
-    /// A cursor at the start of an input, with the steps of earlier calls. Doesn't allocate.
+    /// Returns a cursor at the start of an input, with the steps of earlier calls. Doesn't allocate.
     pub fn new(alloc: Global, input: &'qs [u8], form: bool, steps: Steps) -> Self
         ensures rest { result.rest.now ≡ input.now }
         ensures form { result.form ≡ form }
@@ -205,35 +205,35 @@ impl<'qs> Cursor<'qs> {
         }
     }
 
-    /// The steps so far.
+    /// Returns the steps so far.
     pub fn into_steps(self) -> Steps
         ensures { result ≡ self.entry.steps }
     {
         self.steps
     }
 
-    /// Whether the end was reached. This isn't a step.
+    /// Returns whether the end was reached. This isn't a step.
     pub fn has_ended(&self) -> bool
         ensures { result ≡ self.now.ended }
     {
         self.ended
     }
 
-    /// Whether the last run or value is known to be without `+` and `%`.
+    /// Returns whether the last run or value is known to be without `+` and `%`.
     pub fn is_plain(&self) -> bool
         ensures { result ≡ self.now.plain }
     {
         self.plain
     }
 
-    /// The current position.
+    /// Returns the current position.
     pub fn place(&self) -> Place<'qs>
         ensures { result.rest.now ≡ self.now.rest.now }
     {
         Place { rest: self.rest }
     }
 
-    /// How many steps remain: one for each byte that is left, and one for the end unless it was reached.
+    /// Returns how many steps remain: one for each byte that is left, and one for the end unless it was reached.
     pub fn to_come(&self) -> usize
         ensures { result ≡ length self.now.rest.now + to_come self.now.ended }
     {
@@ -276,7 +276,8 @@ impl<'qs> Cursor<'qs> {
         self.keep_spot(bracket)
     }
 
-    /// The key and position of a conflict at a level of the pair's path: the current position where no bracket is stored for it.
+    /// Returns the key and position of a conflict at a level of the pair's path: the current position where no bracket is stored for
+    /// it.
     pub fn site(&self, level: usize) -> Site<'qs> {
         let Trail { start, spots } = &self.trail;
         match spots.get(level) {
@@ -291,7 +292,7 @@ impl<'qs> Cursor<'qs> {
         }
     }
 
-    /// The bytes that were taken since a position.
+    /// Returns the bytes that were taken since a position.
     pub fn since(&self, place: Place<'qs>) -> &'qs [u8]
         requires { length self.now.rest.now ≤ length place.rest.now }
         ensures { result.now ≡ taken place.entry.rest.now self.now.rest.now }

@@ -32,7 +32,7 @@ pub(crate) enum Manner {
 }
 
 impl Manner {
-    /// Whether the leaf isn't pushed.
+    /// Returns whether the leaf isn't pushed.
     pub fn is_plain(self) -> bool
         ensures { result ≡ not (is_push self) }
     {
@@ -49,7 +49,7 @@ pub(crate) struct Pair<'qs> {
 }
 
 impl<'qs> Pair<'qs> {
-    /// A pair with an empty path. Doesn't allocate.
+    /// Returns a pair with an empty path. Doesn't allocate.
     pub fn new(alloc: Global) -> Self {
         Pair {
             path: Path::new(alloc),
@@ -58,7 +58,7 @@ impl<'qs> Pair<'qs> {
         }
     }
 
-    /// The key of the path at a level.
+    /// Returns the key of the path at a level.
     pub fn key(&self, level: usize) -> &Key<'qs>
         requires { level < length self.now.path }
         ensures key { drop level self.now.path ≡ result.now ∷ drop (level + 1) self.now.path }
@@ -67,7 +67,7 @@ impl<'qs> Pair<'qs> {
         self.path.key(level)
     }
 
-    /// Whether the pair is a plain leaf at the child of a node at a level.
+    /// Returns whether only one key of the path is left at a level, and the leaf is plain.
     pub fn is_leaf_below(&self, level: usize) -> bool
         requires { level < length self.now.path }
         ensures one { IsTrue result → length self.now.path ≡ level + 1 }
@@ -98,7 +98,7 @@ impl<'qs> Pair<'qs> {
 }
 
 impl<'qs> Leaf<'qs> {
-    /// The leaf that a node is, or `NoValue` for another node.
+    /// Returns the leaf that a node is, or `NoValue` for another node.
     pub fn of(value: ParsedValue<'qs>) -> Leaf<'qs>
         ensures { leaf_of result ≡ leaf_held value.entry }
     {
@@ -116,7 +116,7 @@ impl<'qs> Leaf<'qs> {
         mem::replace(self, Leaf::NoValue)
     }
 
-    /// The leaf as a node of a tree.
+    /// Returns the leaf as a node of a tree.
     pub fn into_value(self) -> ParsedValue<'qs>
         ensures { tree_of result ≡ leaf (leaf_of self.entry) }
     {

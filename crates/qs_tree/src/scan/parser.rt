@@ -105,7 +105,7 @@ pub(crate) fn parse_item<'qs>(
     Ok(Item::Pair)
 }
 
-// Whether there is no pair: the root key is empty, and `&` or the end follows.
+// Returns whether there is no pair: the root key is empty, and `&` or the end follows.
 fn is_nothing(key: &[u8], stop: Option<Token<'_>>) -> bool
     ensures { result ≡ is_nothing key.now stop.entry }
 {
@@ -115,7 +115,7 @@ fn is_nothing(key: &[u8], stop: Option<Token<'_>>) -> bool
     }
 }
 
-// The tokens that end a root key: an opening bracket too, unless the depth limit is 0.
+// Returns the tokens that end a root key: an opening bracket too, unless the depth limit is 0.
 fn root_end(max_depth: usize) -> Until
     ensures { ends_of result ≡ ends_root max_depth }
 {

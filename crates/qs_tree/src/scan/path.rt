@@ -30,7 +30,7 @@ impl<'qs> Model for Path<'qs> {
 }
 
 impl<'qs> Path<'qs> {
-    /// No keys. Doesn't allocate.
+    /// Returns a path without keys. Doesn't allocate.
     pub fn new(alloc: Global) -> Self
         ensures { result ≡ [] }
     {
@@ -41,7 +41,7 @@ impl<'qs> Path<'qs> {
         }
     }
 
-    /// How many keys there are.
+    /// Returns how many keys there are.
     pub fn len(&self) -> usize
         ensures { result ≡ length self.now }
     {
@@ -74,7 +74,7 @@ impl<'qs> Path<'qs> {
         Ok(())
     }
 
-    /// The key at a level.
+    /// Returns the key at a level.
     #[inline(always)]
     pub fn key(&self, level: usize) -> &Key<'qs>
         requires { level < length self.now }

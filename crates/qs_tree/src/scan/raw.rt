@@ -13,10 +13,11 @@ use crate::scan::pair::Leaf;
 use crate::tree::key::Key;
 use std::alloc::{AllocError, Global};
 
-/// The key of a segment with these raw bytes. It is an integer key for digits alone whose value fits in 32 bits, and a string key
-/// with the decoded bytes otherwise.
+/// Returns the key of a segment with these raw bytes. It is an integer key for digits alone whose value fits in 32 bits, and a string
+/// key with the decoded bytes otherwise.
 ///
-/// Returns an error only where an allocation failed. Borrows a string without `+` and `%`. Where it is known that there are none (`plain`), they aren't looked for.
+/// Returns an error only where an allocation failed. Borrows a string without `+` and `%`. Where it is known that there are none
+/// (`plain`), they aren't looked for.
 #[inline(always)]
 pub(crate) fn parse_key(alloc: Global, raw: &[u8], plain: bool) -> Result<Key<'_>, AllocError>
     requires { IsTrue plain → is_marked raw.now ≡ false }
@@ -28,9 +29,10 @@ pub(crate) fn parse_key(alloc: Global, raw: &[u8], plain: bool) -> Result<Key<'_
     }
 }
 
-/// The leaf of a value with these raw bytes.
+/// Returns the leaf of a value with these raw bytes.
 ///
-/// Returns an error only where an allocation failed. Borrows a value without `+` and `%`. Where it is known that there are none (`plain`), they aren't looked for.
+/// Returns an error only where an allocation failed. Borrows a value without `+` and `%`. Where it is known that there are none
+/// (`plain`), they aren't looked for.
 pub(crate) fn parse_leaf(alloc: Global, raw: &[u8], plain: bool) -> Result<Leaf<'_>, AllocError>
     requires { IsTrue plain → is_marked raw.now ≡ false }
     ensures leaf { IfOk result (λ leaf. leaf_of leaf ≡ value_leaf raw.now) }
@@ -42,7 +44,7 @@ pub(crate) fn parse_leaf(alloc: Global, raw: &[u8], plain: bool) -> Result<Leaf<
     Ok(Leaf::Text(unescape_unless(plain, alloc, raw)?))
 }
 
-// The value of digits alone, at least one, where it fits in 32 bits.
+// Returns the value of digits alone, at least one, where it fits in 32 bits, or `None`.
 fn parse_index(raw: &[u8]) -> Option<u32>
     ensures { result ≡ index_of raw.now }
 {
@@ -52,7 +54,7 @@ fn parse_index(raw: &[u8]) -> Option<u32>
     parse_digits(raw)
 }
 
-// The value of digits alone where it fits in 32 bits: 0 for none.
+// Returns the value of digits alone where it fits in 32 bits, or `None`. Without digits it is 0.
 fn parse_digits(raw: &[u8]) -> Option<u32>
     ensures { result ≡ index_from 0 raw.now }
 {

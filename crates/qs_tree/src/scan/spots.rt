@@ -23,7 +23,7 @@ pub(crate) struct Spots {
 }
 
 impl Spots {
-    /// No positions. Doesn't allocate.
+    /// Returns an empty list of positions. Doesn't allocate.
     pub fn new(alloc: Global) -> Self {
         let none = Spot {
             key_len: 0,
@@ -60,7 +60,7 @@ impl Spots {
         Ok(self.far.push(spot)?)
     }
 
-    /// The position at a level, or `None`.
+    /// Returns the position at a level, or `None`.
     pub fn get(&self, level: usize) -> Option<&Spot> {
         if level < NEAR {
             self.near.as_slice().get(..self.near_len)?.get(level)

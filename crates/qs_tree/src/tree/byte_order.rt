@@ -37,7 +37,7 @@ fn compare_words(left: &[u8], right: &[u8]) -> Ordering
     word(left).cmp(&word(right))
 }
 
-// The first eight bytes as a big-endian integer.
+// Returns the first eight bytes as a big-endian integer.
 #[inline(always)]
 #[tactic(auto, using(crate::proofs::lemmas::tree::ByteOrder::eight_bytes))]
 fn word(bytes: &[u8]) -> u64

@@ -43,7 +43,7 @@ impl<K: Ord, V> Entries<K, V> {
     ghost use Rattle.std.specs.Borrow.{sem};
     ghost use Rattle.qs_tree.specs.internal.tree.Lending.{LendsValue};
 
-    /// No entries. Doesn't allocate.
+    /// Returns a vector without entries. Doesn't allocate.
     #[tactic(auto, using(crate::proofs::lemmas::tree::Places::sorted_none))]
     pub fn new(alloc: Global) -> Self
         ensures { result ≡ [] }
@@ -53,7 +53,7 @@ impl<K: Ord, V> Entries<K, V> {
         }
     }
 
-    /// No entries, with capacity for so many. Returns an error only where the allocation failed.
+    /// Returns a vector without entries, with capacity for so many. Returns an error only where the allocation failed.
     #[tactic(auto, using(crate::proofs::lemmas::tree::Places::sorted_none))]
     pub fn with_capacity(alloc: Global, capacity: usize) -> Result<Self, AllocError>
         ensures { IfOk result (λ entries. entries ≡ []) }
@@ -62,7 +62,7 @@ impl<K: Ord, V> Entries<K, V> {
         Ok(Entries { items })
     }
 
-    /// The entries of a vector whose keys are sorted and distinct. Returns any other vector.
+    /// Returns the entries of a vector whose keys are sorted and distinct, or as `Err` any other vector.
     pub fn of_sorted(items: Vec<(K, V)>) -> Result<Self, Vec<(K, V)>>
         ensures all { MatchResult result (λ entries. entries ≡ items.items) (λ others. others.items ≡ items.items) }
         ensures sorted { IfOk result (λ entries. IsStrictlySortedBy K.cmp (keys_of entries)) }
@@ -74,19 +74,19 @@ impl<K: Ord, V> Entries<K, V> {
         }
     }
 
-    /// How many entries there are.
+    /// Returns how many entries there are.
     pub fn len(&self) -> usize
         ensures { result ≡ length self.now }
     {
         self.items.len()
     }
 
-    /// The allocator of the entries.
+    /// Returns the allocator of the entries.
     pub fn allocator(&self) -> Global {
         *self.items.allocator()
     }
 
-    /// The entries as a sorted slice.
+    /// Returns the entries as a sorted slice.
     pub fn as_slice(&self) -> &[(K, V)]
         ensures all { result.now ≡ self.now }
         ensures sorted { IsStrictlySortedBy K.cmp (keys_of self.now) }
@@ -94,7 +94,7 @@ impl<K: Ord, V> Entries<K, V> {
         &self.items
     }
 
-    /// The entries as a sorted vector.
+    /// Returns the entries as a sorted vector.
     pub fn into_items(self) -> Vec<(K, V)>
         ensures all { result.items ≡ self }
         ensures sorted { IsStrictlySortedBy K.cmp (keys_of self) }
@@ -103,7 +103,7 @@ impl<K: Ord, V> Entries<K, V> {
         items
     }
 
-    /// The entry at an index, or `None`.
+    /// Returns the entry at an index, or `None`.
     pub fn at(&self, at: usize) -> Option<(&K, &V)>
         ensures { option_map (λ p. (p.0.now, p.1.now)) result ≡ slice_get self.now at }
     {
@@ -113,7 +113,7 @@ impl<K: Ord, V> Entries<K, V> {
         }
     }
 
-    /// The value at an index, mutable.
+    /// Returns a mutable reference to the value at an index.
     pub fn at_mut(&mut self, at: usize) -> &mut V
         requires { at < length self.old }
         ensures* writes_back { sem 𝓛 (LendsValue K.row V.row K.Ord.own K.PartialEq.own K.PartialOrd.own self.entry at result) }
@@ -150,7 +150,7 @@ impl<K: Ord, V> Entries<K, V> {
 }
 
 impl<K: Ord + Drop, V: Drop> Entries<K, V> {
-    /// One entry. Returns an error only where the allocation failed.
+    /// Returns a vector of one entry. Returns an error only where the allocation failed.
     #[inline(always)]
     #[tactic(auto, using(crate::proofs::lemmas::tree::Places::sorted_one))]
     pub fn of(alloc: Global, key: K, value: V) -> Result<Self, AllocError>

@@ -38,7 +38,7 @@ pub struct ParsedMap<'qs> {
 }
 
 impl<'qs> ParsedMap<'qs> {
-    /// An empty map. Doesn't allocate.
+    /// Returns an empty map. Doesn't allocate.
     #[must_use]
     pub fn new(alloc: Global) -> Self
         ensures { entries_of_map result ≡ no_entries }
@@ -48,7 +48,7 @@ impl<'qs> ParsedMap<'qs> {
         }
     }
 
-    /// A map with one entry. Returns an error only where the allocation failed.
+    /// Returns a map with one entry. Returns an error only where the allocation failed.
     #[inline(always)]
     pub(crate) fn of(
         alloc: Global,
@@ -62,7 +62,7 @@ impl<'qs> ParsedMap<'qs> {
         })
     }
 
-    /// The number of entries. Takes constant time, and doesn't allocate.
+    /// Returns the number of entries. Takes constant time, and doesn't allocate.
     #[must_use]
     pub fn len(&self) -> usize
         ensures { result ≡ length (map_pairs self.now) }
@@ -70,7 +70,7 @@ impl<'qs> ParsedMap<'qs> {
         self.map.len()
     }
 
-    /// Whether there are no entries. Takes constant time, and doesn't allocate.
+    /// Returns whether there are no entries. Takes constant time, and doesn't allocate.
     #[must_use]
     pub fn is_empty(&self) -> bool
         ensures { IsTrue result ↔ map_pairs self.now ≡ [] }
@@ -78,7 +78,7 @@ impl<'qs> ParsedMap<'qs> {
         self.len() == 0
     }
 
-    /// The value at a key, or `None`. Doesn't allocate, and takes logarithmic time, as [`get_with`](ParsedMap::get_with) does.
+    /// Returns the value at a key, or `None`. Doesn't allocate, and takes logarithmic time, as [`get_with`](ParsedMap::get_with) does.
     #[must_use]
     pub fn get<'k>(&self, key: &Key<'k>) -> Option<&ParsedValue<'qs>>
         ensures value { option_map (λ v. tree_of v.now) result ≡ view.find (segment_of_key key.now) (entries_of_map self.now) }
@@ -87,8 +87,8 @@ impl<'qs> ParsedMap<'qs> {
         self.get_with(key, &mut Steps::new())
     }
 
-    /// The value at a key, or `None`. Adds the number of comparisons to `steps`: at most as many as the length has binary digits,
-    /// and at least one for a map with entries. Doesn't allocate.
+    /// Returns the value at a key, or `None`. Adds the number of comparisons to `steps`: at most as many as the length has binary
+    /// digits, and at least one for a map with entries. Doesn't allocate.
     ///
     /// ```text
     /// map.get_with(&Key::from("name"), &mut steps)
@@ -104,7 +104,7 @@ impl<'qs> ParsedMap<'qs> {
         find(self.map.as_slice(), key, steps)
     }
 
-    /// The entry at an index, in the order of keys, or `None`. Takes constant time, and doesn't allocate.
+    /// Returns the entry at an index, in the order of keys, or `None`. Takes constant time, and doesn't allocate.
     ///
     /// ```text
     /// map.at(0) // the entry with the smallest key
@@ -140,14 +140,14 @@ impl<'qs> ParsedMap<'qs> {
         Some(self.map.remove_at(0))
     }
 
-    /// The map with these entries.
+    /// Returns the map with these entries.
     pub(crate) fn from_entries(map: Entries<Key<'qs>, ParsedValue<'qs>>) -> Self
         ensures { entries_of_map result ≡ entries_held map.entry }
     {
         ParsedMap { map }
     }
 
-    /// The map's entries.
+    /// Returns the map's entries.
     pub(crate) fn into_entries(self) -> Entries<Key<'qs>, ParsedValue<'qs>>
         ensures { result ≡ self.entry.map }
     {
@@ -155,7 +155,7 @@ impl<'qs> ParsedMap<'qs> {
         map
     }
 
-    // The entry at an index, or `None`.
+    // Returns the entry at an index, or `None`.
     fn entry_at(&self, at: usize) -> Option<(&Key<'qs>, &ParsedValue<'qs>)>
         ensures { option_map (λ p. (p.0.now, p.1.now)) result ≡ slice_get self.now.map at }
     {
@@ -181,7 +181,7 @@ impl<'qs> Drop for ParsedMap<'qs> {
     }
 }
 
-/// The value at a key among sorted entries, or `None`.
+/// Returns the value at a key among sorted entries, or `None`. Adds the number of comparisons to `steps`.
 pub(crate) fn find<'e, 'k, 'qs, V>(
     entries: &'e [(Key<'qs>, V)],
     key: &Key<'k>,
@@ -199,7 +199,8 @@ pub(crate) fn find<'e, 'k, 'qs, V>(
     }
 }
 
-/// The index of a key among sorted entries, or as `Err` the index at which to insert it, by binary search.
+/// Finds a key among sorted entries by binary search, and returns its index, or as `Err` the index at which to insert it. Adds the
+/// number of comparisons to `steps`.
 pub(crate) fn search<'k, 'qs, V>(
     entries: &[(Key<'qs>, V)],
     key: &Key<'k>,

@@ -9,7 +9,7 @@ ghost use Rattle.qs_tree.specs.tree.Views.{segment_of_key, tree_of, items_of, en
 use crate::tree::key::Key;
 use crate::tree::value::ParsedValue;
 
-/// Whether two nodes are equal, ignoring ownership. Recurses for each level, and doesn't allocate.
+/// Returns whether two nodes are equal, ignoring ownership. Recurses for each level, and doesn't allocate.
 #[cycle(sameness)]
 pub(crate) fn same_nodes<'qs>(left: &ParsedValue<'qs>, right: &ParsedValue<'qs>) -> bool
     ensures { result ≡ tree_same (tree_of left.now) (tree_of right.now) }
@@ -27,7 +27,7 @@ pub(crate) fn same_nodes<'qs>(left: &ParsedValue<'qs>, right: &ParsedValue<'qs>)
     }
 }
 
-/// Whether two maps have equal entries, ignoring ownership.
+/// Returns whether two maps have equal entries, ignoring ownership.
 #[cycle(sameness)]
 pub(crate) fn same_entries<'qs>(
     left: &[(Key<'qs>, ParsedValue<'qs>)],
@@ -47,7 +47,7 @@ pub(crate) fn same_entries<'qs>(
     true
 }
 
-// Whether two entries are equal.
+// Returns whether two entries are equal.
 #[cycle(sameness)]
 fn same_entry<'qs>(
     left: &(Key<'qs>, ParsedValue<'qs>),
@@ -58,7 +58,7 @@ fn same_entry<'qs>(
     left.0 == right.0 && same_nodes(&left.1, &right.1)
 }
 
-// Whether two sequences have equal items.
+// Returns whether two sequences have equal items.
 #[cycle(sameness)]
 fn same_items<'qs>(left: &[ParsedValue<'qs>], right: &[ParsedValue<'qs>]) -> bool
     ensures { result ≡ items_same (items_of left.now) (items_of right.now) }

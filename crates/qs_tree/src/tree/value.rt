@@ -29,7 +29,7 @@ pub enum ParsedValue<'qs> {
 }
 
 impl<'qs> ParsedValue<'qs> {
-    /// Whether it is neither a map nor a sequence, and not empty.
+    /// Returns whether it is a leaf: a string, `Null` or `NoValue`.
     #[tactic(auto, using(crate::proofs::lemmas::Views::views))]
     pub(crate) fn is_leaf(&self) -> bool
         ensures { IsTrue result → IsTrue (is_leaf (tree_of self.now)) }

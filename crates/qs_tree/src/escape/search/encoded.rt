@@ -39,7 +39,7 @@ pub(crate) struct Escaped {
 }
 
 impl Escaped {
-    /// What a byte is written as that isn't escaped.
+    /// Returns what is written for a byte that isn't escaped.
     #[inline(always)]
     #[tactic(auto, using(crate::proofs::lemmas::escape::Tables::form_plain, crate::proofs::lemmas::escape::Tables::query_plain))]
     pub(crate) fn plain(self, byte: u8) -> u8
@@ -100,7 +100,7 @@ impl Class for Encoded {
     }
 }
 
-// The mask of the bytes that form encoding escapes.
+// Returns the mask of the bytes that form encoding escapes, of the 32 from `at` on.
 #[inline(never)]
 fn form_mask(bytes: &[u8], at: usize) -> u64
     requires { at + LANES ≤ length bytes.now }
@@ -114,7 +114,7 @@ fn form_mask(bytes: &[u8], at: usize) -> u64
     (no_letter & no_digit & no_dash & no_mark).to_bitmask()
 }
 
-// The mask of the bytes that query encoding escapes.
+// Returns the mask of the bytes that query encoding escapes, of the 32 from `at` on.
 #[inline(never)]
 fn query_mask(bytes: &[u8], at: usize) -> u64
     requires { at + LANES ≤ length bytes.now }

@@ -15,7 +15,7 @@ static LETTERS: [u8; 256] = *b"\
     ................................\
     ................................";
 
-/// Whether the byte is a token of kind `Other` in both encodings, and not `+`.
+/// Returns whether the byte is a token of kind `Other` in both encodings, and not `+`.
 #[inline(always)]
 #[tactic(auto, using(crate::proofs::lemmas::escape::Letters::letter_alone))]
 pub(crate) fn is_letter(byte: u8) -> bool

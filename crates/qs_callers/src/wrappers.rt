@@ -8,56 +8,56 @@ use std::cmp::Ordering;
 use std::fmt::Display;
 use std::ops::{Deref, DerefMut};
 
-/// Whether two queries are equal.
+/// Returns whether two queries are equal.
 pub fn is_same_query<T: PartialEq>(a: &QsQuery<T>, b: &QsQuery<T>) -> bool
     ensures { result ≡ T.eq a.now.0 b.now.0 }
 {
     a == b
 }
 
-/// Whether two forms are equal.
+/// Returns whether two forms are equal.
 pub fn is_same_form<T: PartialEq>(a: &QsForm<T>, b: &QsForm<T>) -> bool
     ensures { result ≡ T.eq a.now.0 b.now.0 }
 {
     a == b
 }
 
-/// The order of two queries, where they have one.
+/// Returns the order of two queries, where they have one.
 pub fn partial_order_of_queries<T: PartialOrd>(a: &QsQuery<T>, b: &QsQuery<T>) -> Option<Ordering>
     ensures { result ≡ T.partial_cmp a.now.0 b.now.0 }
 {
     a.partial_cmp(b)
 }
 
-/// The order of two forms, where they have one.
+/// Returns the order of two forms, where they have one.
 pub fn partial_order_of_forms<T: PartialOrd>(a: &QsForm<T>, b: &QsForm<T>) -> Option<Ordering>
     ensures { result ≡ T.partial_cmp a.now.0 b.now.0 }
 {
     a.partial_cmp(b)
 }
 
-/// The order of two queries.
+/// Returns the order of two queries.
 pub fn order_of_queries<T: Ord>(a: &QsQuery<T>, b: &QsQuery<T>) -> Ordering
     ensures { result ≡ T.cmp a.now.0 b.now.0 }
 {
     a.cmp(b)
 }
 
-/// The order of two forms.
+/// Returns the order of two forms.
 pub fn order_of_forms<T: Ord>(a: &QsForm<T>, b: &QsForm<T>) -> Ordering
     ensures { result ≡ T.cmp a.now.0 b.now.0 }
 {
     a.cmp(b)
 }
 
-/// A query's copy, without its wrapper.
+/// Returns a query's copy, without its wrapper.
 pub fn copied_query<T: Clone>(query: &QsQuery<T>) -> Result<T, AllocError>
     ensures { IfOk result (T.is_clone query.now.0) }
 {
     Ok(query.clone()?.into_inner())
 }
 
-/// A form's copy, without its wrapper.
+/// Returns a form's copy, without its wrapper.
 pub fn copied_form<T: Clone>(form: &QsForm<T>) -> Result<T, AllocError>
     ensures { IfOk result (T.is_clone form.now.0) }
 {
@@ -78,28 +78,28 @@ pub fn set_form<T: Drop>(form: &mut QsForm<T>, value: T)
     *form.deref_mut() = value;
 }
 
-/// The value of a query.
+/// Returns the value of a query.
 pub fn query_inside<T>(query: &QsQuery<T>) -> &T
     ensures { result.now ≡ query.now.0 }
 {
     query.deref()
 }
 
-/// The value of a form.
+/// Returns the value of a form.
 pub fn form_inside<T>(form: &QsForm<T>) -> &T
     ensures { result.now ≡ form.now.0 }
 {
     form.deref()
 }
 
-/// The text of a query, as that of the value inside.
+/// Returns the text of a query, as that of the value inside.
 pub fn query_text<T: Display>(alloc: Global, query: &QsQuery<T>) -> Result<String, AllocError>
     ensures { IfOk result (λ text. IfSome (T.output query.now.0) (λ bytes. string_bytes text ≡ bytes)) }
 {
     query.to_string(alloc)
 }
 
-/// The text of a form, as that of the value inside.
+/// Returns the text of a form, as that of the value inside.
 pub fn form_text<T: Display>(alloc: Global, form: &QsForm<T>) -> Result<String, AllocError>
     ensures { IfOk result (λ text. IfSome (T.output form.now.0) (λ bytes. string_bytes text ≡ bytes)) }
 {

@@ -167,7 +167,7 @@ impl<C: Compound> RoundTrip for C {
 /// The nested pairs of a struct's fields: `fields!(self; x, y)` is `(&self.x, (&self.y, ()))`, and `fields!(x, y)` is `(x, (y, ()))`, as a
 /// pattern or a value.
 ///
-/// A field that is left out where it is None has a question mark behind it: `fields!(self; x, y?)` is `(&self.x, (SkipNone(&self.y), ()))`, and
+/// A field that is left out where it is None has a question mark after it: `fields!(self; x, y?)` is `(&self.x, (SkipNone(&self.y), ()))`, and
 /// `fields!(x, y?)` is `(x, Optional(y, ()))`.
 ///
 /// ```

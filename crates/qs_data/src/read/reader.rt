@@ -252,7 +252,7 @@ impl Reader {
     }
 }
 
-// The error of a node that holds no struct: of a text that isn't UTF-8 it says so.
+// Returns the error of a node that holds no struct: of a text that isn't UTF-8 it says so.
 fn struct_error(alloc: Global, node: &ParsedValue<'_>) -> ReadError
     ensures { ReadRejects {Y = Unit {0}} (is_text (tree_of node.now)) result None }
 {
@@ -264,7 +264,7 @@ fn struct_error(alloc: Global, node: &ParsedValue<'_>) -> ReadError
     Message::mismatch(alloc, node, Expected::Struct)
 }
 
-// The error of a name that no variant has: of one that isn't UTF-8 it says so.
+// Returns the error of a name that no variant has: of one that isn't UTF-8 it says so.
 fn variant_error(alloc: Global, name: &[u8]) -> ReadError
     ensures { ReadRejects {Y = Unit {0}} (is_utf8 name.now) result None }
 {

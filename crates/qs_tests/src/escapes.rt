@@ -130,7 +130,7 @@ pub fn decoded(alloc: Global, first: u8, second: u8) -> Result<Vec<u8>, AllocErr
 }
 
 #[test]
-fn every_two_bytes_behind_a_percent_sign(rt: HostRuntime) -> Result<(), Fail> {
+fn every_two_bytes_after_a_percent_sign(rt: HostRuntime) -> Result<(), Fail> {
     for first in 0..=u8::MAX {
         for second in 0..=u8::MAX {
             let bytes = [b'%', first, second];

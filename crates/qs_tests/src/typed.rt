@@ -75,7 +75,7 @@ fn broken_texts(rt: HostRuntime) {
 }
 
 #[test]
-fn every_two_bytes_behind_a_percent_sign(rt: HostRuntime) -> std::result::Result<(), Fail> {
+fn every_two_bytes_after_a_percent_sign(rt: HostRuntime) -> std::result::Result<(), Fail> {
     let alloc = rt.alloc();
     for first in 0..=u8::MAX {
         for second in 0..=u8::MAX {

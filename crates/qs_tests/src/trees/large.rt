@@ -22,20 +22,20 @@ fn shuffled(alloc: Global, before: &str, after: &str) -> Result<String, AllocErr
 }
 
 // Their map as a line, with the entries that stand before and after them.
-fn in_order(alloc: Global, before: &str, behind: &str) -> Result<String, AllocError> {
+fn in_order(alloc: Global, before: &str, end: &str) -> Result<String, AllocError> {
     let mut line = String::from_str(alloc, "{")?;
     line.push_str(before)?;
     for number in 0..KEYS {
         let comma = if number == KEYS - 1 { "" } else { "," };
         line.push_str(&format!(in alloc; "'key{number:04}':'val{number:04}'{comma}")?)?;
     }
-    line.push_str(behind)?;
+    line.push_str(end)?;
     line.push_str("}")?;
     Ok(line)
 }
 
 // The pairs, with these after them, have this tree.
-fn accept_behind(
+fn accept_followed(
     rt: &impl Abort,
     alloc: Global,
     config: Config,
@@ -76,7 +76,7 @@ fn keys_at_the_root(rt: HostRuntime) -> Result<(), Fail> {
     let alloc = rt.alloc();
     let wanted = in_order(alloc, "", "")?;
     let input = shuffled(alloc, "", "")?;
-    accept_behind(&rt, alloc, Config::new(), input, "", wanted.as_str())
+    accept_followed(&rt, alloc, Config::new(), input, "", wanted.as_str())
 }
 
 #[test]
@@ -85,9 +85,9 @@ fn keys_of_a_nested_map(rt: HostRuntime) -> Result<(), Fail> {
     let map = in_order(alloc, "", "")?;
     let wanted = format!(in alloc; "{{'a':{map}}}")?;
     let input = shuffled(alloc, "a[", "]")?;
-    accept_behind(&rt, alloc, Config::new(), input, "", wanted.as_str())?;
+    accept_followed(&rt, alloc, Config::new(), input, "", wanted.as_str())?;
     let input = shuffled(alloc, "a%5B", "%5D")?;
-    accept_behind(&rt, alloc, form(5), input, "", wanted.as_str())
+    accept_followed(&rt, alloc, form(5), input, "", wanted.as_str())
 }
 
 // The pairs at one key keep their order.
@@ -101,7 +101,7 @@ fn pairs_that_meet(rt: HostRuntime) -> Result<(), Fail> {
     )?;
     let more = "z=0&a[b]=1&b=2&c[]=4&a[d]=3&b=1&a=2&c[]=3";
     let input = shuffled(alloc, "", "")?;
-    accept_behind(&rt, alloc, Config::new(), input, more, wanted.as_str())
+    accept_followed(&rt, alloc, Config::new(), input, more, wanted.as_str())
 }
 
 // An escaped key is the same key.
@@ -110,7 +110,7 @@ fn an_escaped_key(rt: HostRuntime) -> Result<(), Fail> {
     let alloc = rt.alloc();
     let wanted = in_order(alloc, "'a':['1','2'],", "")?;
     let input = shuffled(alloc, "", "")?;
-    accept_behind(
+    accept_followed(
         &rt,
         alloc,
         Config::new(),

@@ -21,7 +21,7 @@ fn the_end(rt: HostRuntime) -> Result<(), Fail> {
 }
 
 #[test]
-fn behind_a_segment(rt: HostRuntime) -> Result<(), Fail> {
+fn after_a_segment(rt: HostRuntime) -> Result<(), Fail> {
     let rows = [(
         "a[b]c=1",
         5,
@@ -38,7 +38,7 @@ fn behind_a_segment(rt: HostRuntime) -> Result<(), Fail> {
 }
 
 #[test]
-fn behind_a_push(rt: HostRuntime) -> Result<(), Fail> {
+fn after_a_push(rt: HostRuntime) -> Result<(), Fail> {
     let rows = [
         ("a[][b]=1", 4, MAP_IN_SEQUENCE),
         ("a[]x=1", 4, MIXED_SEQUENCE),

@@ -44,14 +44,22 @@ impl Reader {
         }
     }
 
-    /// Reads a node by a shape, as [`read_value`](crate::read_value) does.
+    /// Reads a node by a shape, as [`read_value`](crate::read_value) does, with its errors.
+    ///
+    /// ```
+    /// let datum = reader.read(&shape, node)?;
+    /// ```
     pub fn read(self, shape: &Shape, node: &ParsedValue<'_>) -> Result<Data>
         ensures { Gives data_of (is_text (tree_of node.now)) result (reads self.reject_duplicates (shape_of shape.now) (tree_of node.now)) }
     {
         read(self, shape, node)
     }
 
-    /// Reads the unit, as by its shape.
+    /// Reads the unit, as by its shape. It allocates for an error alone.
+    ///
+    /// ```
+    /// let unit = reader.unit(node)?; // Data::Unit
+    /// ```
     #[inline(always)]
     #[tactic(auto, unfolding(qs_spec::specs::internal::ReadFunction::reads))]
     pub fn unit(self, node: &ParsedValue<'_>) -> Result<Data>
@@ -60,7 +68,11 @@ impl Reader {
         Ok(read_unit(self.alloc, node)?)
     }
 
-    /// Reads a boolean, as by its shape.
+    /// Reads a boolean, as by its shape. It allocates for an error alone.
+    ///
+    /// ```
+    /// let flag = reader.boolean(node)?; // Data::Bool(true)
+    /// ```
     #[inline(always)]
     #[tactic(auto, unfolding(qs_spec::specs::internal::ReadFunction::reads))]
     pub fn boolean(self, node: &ParsedValue<'_>) -> Result<Data>
@@ -69,7 +81,11 @@ impl Reader {
         Ok(read_bool(self, node)?)
     }
 
-    /// Reads an unsigned number of this width, as by its shape.
+    /// Reads an unsigned number of this width, as by its shape. It allocates for an error alone.
+    ///
+    /// ```
+    /// let age = reader.unsigned(Width::Bits8, node)?; // Data::Unsigned(24)
+    /// ```
     #[inline(always)]
     #[tactic(auto, unfolding(qs_spec::specs::internal::ReadFunction::reads))]
     pub fn unsigned(self, width: Width, node: &ParsedValue<'_>) -> Result<Data>
@@ -78,7 +94,11 @@ impl Reader {
         Ok(read_unsigned(self, width, node)?)
     }
 
-    /// Reads a signed number of this width, as by its shape.
+    /// Reads a signed number of this width, as by its shape. It allocates for an error alone.
+    ///
+    /// ```
+    /// let offset = reader.signed(Width::Bits16, node)?; // Data::Signed(-7)
+    /// ```
     #[inline(always)]
     #[tactic(auto, unfolding(qs_spec::specs::internal::ReadFunction::reads))]
     pub fn signed(self, width: Width, node: &ParsedValue<'_>) -> Result<Data>
@@ -87,7 +107,11 @@ impl Reader {
         Ok(read_signed(self, width, node)?)
     }
 
-    /// Reads a character, as by its shape.
+    /// Reads a character, as by its shape. It allocates for an error alone.
+    ///
+    /// ```
+    /// let initial = reader.character(node)?; // Data::Char('A')
+    /// ```
     #[inline(always)]
     #[tactic(auto, unfolding(qs_spec::specs::internal::ReadFunction::reads))]
     pub fn character(self, node: &ParsedValue<'_>) -> Result<Data>
@@ -96,7 +120,11 @@ impl Reader {
         Ok(read_char(self.alloc, node)?)
     }
 
-    /// Reads a text, as by its shape.
+    /// Reads a text, as by its shape. It allocates the text.
+    ///
+    /// ```
+    /// let name = reader.text(node)?; // Data::Text: Alice
+    /// ```
     #[inline(always)]
     #[tactic(auto, unfolding(qs_spec::specs::internal::ReadFunction::reads))]
     pub fn text(self, node: &ParsedValue<'_>) -> Result<Data>
@@ -105,7 +133,14 @@ impl Reader {
         Ok(read_text(self, node)?)
     }
 
-    /// Returns the items of a node, if it has a list of them. It doesn't allocate.
+    /// Returns the items of a node, if it has a list of them: none where there is no value or an empty one, a text alone, the elements of a
+    /// sequence, and the values of a map whose keys are all integers.
+    ///
+    /// For another map, and a node that holds nothing at all, the error is [`Custom`](qs_tree::Error::Custom). It allocates for an error alone.
+    ///
+    /// ```
+    /// let items = reader.items(node)?;
+    /// ```
     pub fn items<'t, 'qs>(self, node: &'t ParsedValue<'qs>) -> Result<Items<'t, 'qs>>
         ensures exact { Gives items_view true result (items (tree_of node.now)) }
         ensures text { IfOk result (λ xs. are_text (items_view xs) ≡ false → is_text (tree_of node.now) ≡ false) }
@@ -113,7 +148,12 @@ impl Reader {
         self.items_for(Expected::Sequence, node)
     }
 
-    /// Returns the items of a node for a tuple of this size, as [`items`](Reader::items) does for a list.
+    /// Returns the items of a node for a tuple of this size, as [`items`](Reader::items) does for a list. There may be more or fewer; the size is
+    /// named by the error.
+    ///
+    /// ```
+    /// let items = reader.tuple(2, node)?;
+    /// ```
     pub fn tuple<'t, 'qs>(self, size: usize, node: &'t ParsedValue<'qs>) -> Result<Items<'t, 'qs>>
         ensures exact { Gives items_view true result (items (tree_of node.now)) }
         ensures text { IfOk result (λ xs. are_text (items_view xs) ≡ false → is_text (tree_of node.now) ≡ false) }
@@ -170,7 +210,12 @@ impl Reader {
         Error::from(Message::InvalidLength(count).error(self.alloc))
     }
 
-    /// Returns the node of a newtype variant, unless a text alone names the variant.
+    /// Returns the node that a newtype variant holds. Where a text alone names the variant it holds none, and the error is
+    /// [`Custom`](qs_tree::Error::Custom), for which it allocates.
+    ///
+    /// ```
+    /// let node = reader.newtype_variant(held)?;
+    /// ```
     pub fn newtype_variant<'t, 'qs>(
         self,
         held: Option<&'t ParsedValue<'qs>>,
@@ -183,7 +228,12 @@ impl Reader {
         }
     }
 
-    /// Returns the items of a tuple variant, unless a text alone names the variant.
+    /// Returns the items that a tuple variant holds, as [`items`](Reader::items) does for a list. Where a text alone names the variant it holds
+    /// none, and the error is [`Custom`](qs_tree::Error::Custom), for which it allocates.
+    ///
+    /// ```
+    /// let items = reader.tuple_variant(held)?;
+    /// ```
     pub fn tuple_variant<'t, 'qs>(
         self,
         held: Option<&'t ParsedValue<'qs>>,
@@ -197,7 +247,12 @@ impl Reader {
         }
     }
 
-    /// Returns the node of a struct variant, unless a text alone names the variant.
+    /// Returns the node that a struct variant holds. Where a text alone names the variant it holds none, and the error is
+    /// [`Custom`](qs_tree::Error::Custom), for which it allocates.
+    ///
+    /// ```
+    /// let node = reader.struct_variant(held)?;
+    /// ```
     pub fn struct_variant<'t, 'qs>(
         self,
         held: Option<&'t ParsedValue<'qs>>,
@@ -210,14 +265,15 @@ impl Reader {
         }
     }
 
-    /// Returns the error of a node that names no variant.
+    /// Returns the error of a node that names no variant: [`Custom`](qs_tree::Error::Custom), for which it allocates.
     pub fn not_an_enum(self, node: &ParsedValue<'_>) -> Error
         ensures { IsCustomOrOutOfMemory result }
     {
         Error::from(Message::mismatch(self.alloc, node, Expected::Enum))
     }
 
-    /// Returns the error of a name that no variant has.
+    /// Returns the error of a name that no variant has: [`Custom`](qs_tree::Error::Custom), for which it allocates, or
+    /// [`Utf8`](qs_tree::Error::Utf8) where the name isn't UTF-8.
     pub fn unknown_variant(self, name: &[u8]) -> Error
         ensures { Rejects {Y = Unit {0}} (is_utf8 name.now) result None }
     {

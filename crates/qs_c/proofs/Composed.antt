@@ -6,7 +6,7 @@ use Rattle.qs_c.specs.Found.{found, fault, Parser, before}
 use Rattle.qs_c.specs.Notation as n
 use Rattle.qs_c.proofs.Found.{cond-false, cond-true, seen-fault, seen-found, then-fault, then-found}
 use Rattle.qs_c.proofs.Stopping.{before-fault}
-use Rattle.qs_c.proofs.Listing.{items-behind}
+use Rattle.qs_c.proofs.Listing.{items-after}
 
 module _ (inner : Parser Shape) (t : List ℕ) where
   -- a list: the shape of its items and a bracket
@@ -78,7 +78,7 @@ module _ (inner : Parser Shape) (t : List ℕ) where
 
   -- what a variant holds in parentheses: a value, or items after the first and a comma
   module _ (x : Shape) (a : List ℕ) (none : n.comes 41 t ≡ false) (first : inner t ≡ found x a) where
-    pub held-value : (b : List ℕ) → n.comes 41 a ≡ true → n.behind a ≡ b → n.held inner t ≡ found (newtype_kind x) b
+    pub held-value : (b : List ℕ) → n.comes 41 a ≡ true → n.after_sign a ≡ b → n.held inner t ≡ found (newtype_kind x) b
     unfolding n.held
     held-value b here rest = cond-false (n.comes 41 t) _ _ _ none (then-found _ _ _ x a first (cond-true (n.comes 41 a) _ _ _ here (ap (found (newtype_kind x)) rest)))
 
@@ -92,7 +92,7 @@ module _ (inner : Parser Shape) (t : List ℕ) where
         pub held-items : (xs : List Shape) (e : List ℕ) → before (x ∷ []) (n.items inner b) ≡ found xs e → n.held inner t ≡ found (tuple_kind (shapes_of xs)) e
         unfolding n.held
         held-items xs e parts =
-            cond-false (n.comes 41 t) _ _ _ none (then-found _ _ _ x a first (cond-false (n.comes 41 a) _ _ _ absent (then-found _ _ _ tt b comma (items-behind x (n.items inner b) xs e parts))))
+            cond-false (n.comes 41 t) _ _ _ none (then-found _ _ _ x a first (cond-false (n.comes 41 a) _ _ _ absent (then-found _ _ _ tt b comma (items-after x (n.items inner b) xs e parts))))
 
         pub held-item : (front : List Shape) (why r : List ℕ) → before front (n.items inner b) ≡ fault why r → n.held inner t ≡ fault why r
         unfolding n.held
@@ -101,7 +101,7 @@ module _ (inner : Parser Shape) (t : List ℕ) where
             (cond-false (n.comes 41 a) _ _ _ absent (then-found _ _ _ tt b comma (seen-fault _ _ why r (before-fault front (n.items inner b) why r e)))))
 
   -- fields, as what a variant holds and as a shape
-  pub kind-fields : (fs : List Field) (e : List ℕ) → n.comes 123 t ≡ true → n.fields inner (n.behind t) ≡ found fs e → n.kind inner t ≡ found (struct_kind UnknownKeys.ignored (fields_of fs)) e
+  pub kind-fields : (fs : List Field) (e : List ℕ) → n.comes 123 t ≡ true → n.fields inner (n.after_sign t) ≡ found fs e → n.kind inner t ≡ found (struct_kind UnknownKeys.ignored (fields_of fs)) e
   unfolding n.kind
   kind-fields fs e here h = cond-true (n.comes 123 t) _ _ _ here (seen-found _ _ fs e h)
 
@@ -114,11 +114,11 @@ module _ (inner : Parser Shape) (t : List ℕ) where
     unfolding n.kind
     kind-strict-fault why r h = cond-false (n.comes 123 t) _ _ _ absent (cond-true (bytes_eq (n.word t) (codes "strict")) _ _ _ here (then-found _ _ _ tt a opened (seen-fault _ _ why r h)))
 
-  pub base-fields : (fs : List Field) (e : List ℕ) → n.comes 91 t ≡ false → n.comes 123 t ≡ true → n.fields inner (n.behind t) ≡ found fs e → n.base inner t ≡ found (Shape.struct UnknownKeys.ignored (fields_of fs)) e
+  pub base-fields : (fs : List Field) (e : List ℕ) → n.comes 91 t ≡ false → n.comes 123 t ≡ true → n.fields inner (n.after_sign t) ≡ found fs e → n.base inner t ≡ found (Shape.struct UnknownKeys.ignored (fields_of fs)) e
   unfolding n.base
   base-fields fs e absent here h = cond-false (n.comes 91 t) _ _ _ absent (cond-true (n.comes 123 t) _ _ _ here (seen-found _ _ fs e h))
 
-  pub base-items : (ss : List Shape) (e : List ℕ) → n.comes 91 t ≡ false → n.comes 123 t ≡ false → n.comes 40 t ≡ true → n.items inner (n.behind t) ≡ found ss e → n.base inner t ≡ found (Shape.tuple (shapes_of ss)) e
+  pub base-items : (ss : List Shape) (e : List ℕ) → n.comes 91 t ≡ false → n.comes 123 t ≡ false → n.comes 40 t ≡ true → n.items inner (n.after_sign t) ≡ found ss e → n.base inner t ≡ found (Shape.tuple (shapes_of ss)) e
   unfolding n.base
   base-items ss e list absent here h = cond-false (n.comes 91 t) _ _ _ list (cond-false (n.comes 123 t) _ _ _ absent (cond-true (n.comes 40 t) _ _ _ here (seen-found _ _ ss e h)))
 

@@ -2,7 +2,7 @@
 use Rattle.std.proofs.Common.{◌≡◌, ℕ, zero, suc, ◌+◌, ◌-◌, ◌<◌, List, [], ◌∷◌, ◌++◌, true, false, cond, refl, ap, sym, ◌∙◌, append_assoc, append-nil, length, arith}
 use Rattle.qs_c.specs.Found.{Found, found, fault, Parser, and_then, seen, before}
 use Rattle.qs_spec.specs.Shape.{Shape, Field, one_shape, shapes_of, tuple_kind}
-use Rattle.qs_c.specs.Notation.{behind, comes, comma_or_brace, comma_or_parenthesis, field, fields, goes_on, is_empty, items, listed, options, base, shape}
+use Rattle.qs_c.specs.Notation.{after_sign, comes, comma_or_brace, comma_or_parenthesis, field, fields, goes_on, is_empty, items, listed, options, base, shape}
 use Rattle.qs_c.proofs.Found.{cond-false, cond-true, seen-found, then-found}
 
 pub before-nil : {A : Type 0} (r : Found (List A)) → r ≡ before [] r
@@ -63,12 +63,12 @@ pub turned-last : {A : Type 0} (one : Parser A) (sign : ℕ) (reason : List ℕ)
 turned-last one sign reason whole front next n t a r s e is k p g = e ∙ turn-last one sign reason front n t a r s k p g ∙ ap (λ xs. found xs s) (sym is)
 
 -- one more `?`
-pub options-more : (n m : ℕ) (s : Shape) (t : List ℕ) → m + 1 ≡ n → comes 63 t ≡ true → options n s t ≡ options m (Shape.option s) (behind t)
+pub options-more : (n m : ℕ) (s : Shape) (t : List ℕ) → m + 1 ≡ n → comes 63 t ≡ true → options n s t ≡ options m (Shape.option s) (after_sign t)
 unfolding options
 options-more zero m s t k e = let never : ⊥ = omega (arith, k) in absurd never
 options-more (suc n) m s t k e =
     let same : n ≡ m = omega (arith, k) in
-    ap (λ b. cond b (options n (Shape.option s) (behind t)) (found s t)) e ∙ ap (λ l. options l (Shape.option s) (behind t)) same
+    ap (λ b. cond b (options n (Shape.option s) (after_sign t)) (found s t)) e ∙ ap (λ l. options l (Shape.option s) (after_sign t)) same
 
 -- a shape below the limit
 pub shape-below : (n m : ℕ) (t : List ℕ) (s : Shape) (r : List ℕ) → m + 1 ≡ n → base (shape m) t ≡ found s r → shape n t ≡ options m s r
@@ -81,10 +81,10 @@ shape-below (suc n) m t s r k e =
     opened ∙ then-found (base (shape n) t) (options n) (options m s r) s r here (ap (λ l. options l s r) (sym same))
 
 -- after what was found, in front of a list that may be empty
-pub items-none : (inner : Parser Shape) (front : List Shape) (t : List ℕ) → comes 41 t ≡ true → before front (items inner t) ≡ found front (behind t)
+pub items-none : (inner : Parser Shape) (front : List Shape) (t : List ℕ) → comes 41 t ≡ true → before front (items inner t) ≡ found front (after_sign t)
 unfolding items
 items-none inner front t e =
-    ap (before front) (cond-true (comes 41 t) _ _ _ e refl) ∙ seen-found _ (λ xs. front ++ xs) [] (behind t) refl ∙ ap (λ xs. found xs (behind t)) (append-nil front)
+    ap (before front) (cond-true (comes 41 t) _ _ _ e refl) ∙ seen-found _ (λ xs. front ++ xs) [] (after_sign t) refl ∙ ap (λ xs. found xs (after_sign t)) (append-nil front)
 
 pub items-some : (inner : Parser Shape) (t : List ℕ) → comes 41 t ≡ false → items inner t ≡ listed inner 41 comma_or_parenthesis (length t) t
 unfolding items
@@ -103,11 +103,11 @@ pub fields-whole : (inner : Parser Shape) (t taken : List ℕ) (r : Found (List 
 fields-whole inner t taken r absent same e = fields-some inner t absent ∙ ap (λ z. listed (field inner) 125 comma_or_brace (length z) z) (sym same) ∙ e
 
 -- a list after its first, as the parts of a variant
-pub items-behind : (x : Shape) (r : Found (List Shape)) (xs : List Shape) (rest : List ℕ) → before (x ∷ []) r ≡ found xs rest
+pub items-after : (x : Shape) (r : Found (List Shape)) (xs : List Shape) (rest : List ℕ) → before (x ∷ []) r ≡ found xs rest
     → seen (λ ss. tuple_kind (one_shape x (shapes_of ss))) r ≡ found (tuple_kind (shapes_of xs)) rest
 unfolding seen
-items-behind x (found ys s) xs rest e = ap (seen (λ ss. tuple_kind (shapes_of ss))) e
-items-behind x (fault why s) xs rest e = ap (seen (λ ss. tuple_kind (shapes_of ss))) e
+items-after x (found ys s) xs rest e = ap (seen (λ ss. tuple_kind (shapes_of ss))) e
+items-after x (fault why s) xs rest e = ap (seen (λ ss. tuple_kind (shapes_of ss))) e
 
 pub nothing-left : (t : List ℕ) → length t ≡ 0 → is_empty t ≡ true
 nothing-left [] h = refl

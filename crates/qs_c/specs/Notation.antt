@@ -28,12 +28,12 @@ abbrev pub comes : ℕ → List ℕ → Bool
 comes sign [] = false
 comes sign (b ∷ bs) = b == sign
 
-abbrev pub behind : List ℕ → List ℕ
-behind t = trimmed (drop 1 t)
+abbrev pub after_sign : List ℕ → List ℕ
+after_sign t = trimmed (drop 1 t)
 
 -- the sign has to come next
 abbrev pub wanted : ℕ → List ℕ → Parser (Unit {0})
-wanted sign reason t = cond (comes sign t) (found tt (behind t)) (fault reason t)
+wanted sign reason t = cond (comes sign t) (found tt (after_sign t)) (fault reason t)
 
 -- the word that comes next, which may be empty, and what follows it
 unfoldable pub word : List ℕ → List ℕ
@@ -65,7 +65,7 @@ name t = cond (comes 34 t) (quoted (drop 1 t)) (word_name t)
 
 -- after one of a list there is another, after a comma, or the sign that closes the list
 unfoldable pub goes_on : ℕ → List ℕ → Parser Bool
-goes_on sign reason t = cond (comes 44 t) (found true (behind t)) (and_then (wanted sign reason t) (λ u rest. found false rest))
+goes_on sign reason t = cond (comes 44 t) (found true (after_sign t)) (and_then (wanted sign reason t) (λ u rest. found false rest))
 
 -- a list of one and more, with no more of them than the number
 unfoldable pub listed : {A : Type 0} → Parser A → ℕ → List ℕ → ℕ → Parser (List A)
@@ -79,7 +79,7 @@ list_of one sign reason t = listed one sign reason (length t) t
 
 -- a list that may be empty
 abbrev pub maybe_list_of : {A : Type 0} → Parser A → ℕ → List ℕ → Parser (List A)
-maybe_list_of one sign reason t = cond (comes sign t) (found [] (behind t)) (list_of one sign reason t)
+maybe_list_of one sign reason t = cond (comes sign t) (found [] (after_sign t)) (list_of one sign reason t)
 
 -- an integer, by its bits
 abbrev pub integer : {A : Type 0} → (unsigned signed : ℕ → A) → List ℕ → Option A
@@ -130,7 +130,7 @@ key t =
 
 -- a field: its name, `?` if it may be left out, `:` and its shape
 abbrev pub optional_mark : List ℕ → List ℕ
-optional_mark t = cond (comes 63 t) (behind t) t
+optional_mark t = cond (comes 63 t) (after_sign t) t
 
 unfoldable pub field : Parser Shape → Parser Field
 field inner t =
@@ -147,16 +147,16 @@ items inner t = maybe_list_of inner 41 comma_or_parenthesis t
 -- what a variant holds in parentheses: no items, a value, or items, of which the first has a comma after it
 unfoldable pub held : Parser Shape → Parser VariantKind
 held inner t =
-    cond (comes 41 t) (found (tuple_kind no_shapes) (behind t))
-    (and_then (inner t) (λ s rest. cond (comes 41 rest) (found (newtype_kind s) (behind rest))
+    cond (comes 41 t) (found (tuple_kind no_shapes) (after_sign t))
+    (and_then (inner t) (λ s rest. cond (comes 41 rest) (found (newtype_kind s) (after_sign rest))
     (and_then (wanted 44 comma_or_parenthesis rest) (λ u more. seen (λ ss. tuple_kind (one_shape s (shapes_of ss))) (items inner more)))))
 
 -- what a variant holds: fields, what stands in parentheses, or nothing
 unfoldable pub kind : Parser Shape → Parser VariantKind
 kind inner t =
-    cond (comes 123 t) (seen (λ fs. struct_kind UnknownKeys.ignored (fields_of fs)) (fields inner (behind t)))
+    cond (comes 123 t) (seen (λ fs. struct_kind UnknownKeys.ignored (fields_of fs)) (fields inner (after_sign t)))
     (cond (bytes_eq (word t) (codes "strict")) (and_then (brace_wanted (after_word t)) (λ u rest. seen (λ fs. struct_kind UnknownKeys.rejected (fields_of fs)) (fields inner rest)))
-    (cond (comes 40 t) (held inner (behind t)) (found unit_kind t)))
+    (cond (comes 40 t) (held inner (after_sign t)) (found unit_kind t)))
 
 unfoldable pub variant : Parser Shape → Parser Variant
 variant inner t = and_then (name t) (λ n rest. seen (λ k. (n, k)) (kind inner rest))
@@ -190,15 +190,15 @@ named inner w t =
 -- a shape without `?` after it
 unfoldable pub base : Parser Shape → Parser Shape
 base inner t =
-    cond (comes 91 t) (list inner (behind t))
-    (cond (comes 123 t) (seen (λ fs. Shape.struct UnknownKeys.ignored (fields_of fs)) (fields inner (behind t)))
-    (cond (comes 40 t) (seen (λ ss. Shape.tuple (shapes_of ss)) (items inner (behind t)))
+    cond (comes 91 t) (list inner (after_sign t))
+    (cond (comes 123 t) (seen (λ fs. Shape.struct UnknownKeys.ignored (fields_of fs)) (fields inner (after_sign t)))
+    (cond (comes 40 t) (seen (λ ss. Shape.tuple (shapes_of ss)) (items inner (after_sign t)))
     (named inner (word t) (after_word t))))
 
 -- the shape with an option round it for each `?` that follows, of which there are so many at most
 unfoldable pub options : ℕ → Shape → Parser Shape
 options zero s t = found s t
-options (suc n) s t = cond (comes 63 t) (options n (Shape.option s) (behind t)) (found s t)
+options (suc n) s t = cond (comes 63 t) (options n (Shape.option s) (after_sign t)) (found s t)
 
 abbrev pub too_deep : Parser Shape
 too_deep t = fault (codes "the shape nests more than 32 levels") t

@@ -1,7 +1,7 @@
 //! Words, names and signs of a shape's text.
 
 ghost use Rattle.std.specs.Prelude.{◌≡◌, ℕ, List, IsTrue, IsFalse, length, string_bytes};
-ghost use Rattle.qs_c.specs.Notation.{after_word, behind, comes, goes_on, name, name_of, quoted, trimmed, wanted, word, word as word_of, word_name};
+ghost use Rattle.qs_c.specs.Notation.{after_word, after_sign, comes, goes_on, name, name_of, quoted, trimmed, wanted, word, word as word_of, word_name};
 ghost use Rattle.std.specs.Str.{bytes_eq};
 ghost use Rattle.qs_c.specs.internal.Parses.{Parses};
 
@@ -35,7 +35,7 @@ impl<'t> Cursor<'t> {
     /// Takes the sign, if it comes next.
     pub(crate) fn take(&mut self, sign: u8) -> bool
         ensures comes { result ≡ comes sign self.old.rest.now }
-        ensures taken { IsTrue result → self.new.rest.now ≡ behind self.old.rest.now }
+        ensures taken { IsTrue result → self.new.rest.now ≡ after_sign self.old.rest.now }
         ensures left { IsFalse result → self.new.rest.now ≡ self.old.rest.now }
     {
         match self.rest {

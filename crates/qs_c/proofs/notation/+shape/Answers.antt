@@ -59,7 +59,7 @@ pub shapes::items-returns-then-take : goal.shapes::items-returns-then-take
 shapes::items-returns-then-take t c =
     let start = c.args.cursor.now.rest.now in
     let comes : n.comes 41 start ≡ true = grind arith in
-    let rest : n.behind start ≡ c.take.new.self.rest.now = grind arith in
+    let rest : n.after_sign start ≡ c.take.new.self.rest.now = grind arith in
     items-none (n.shape c.args.levels) (map shape_of c.args.items.items) start comes ∙ ap (found (map shape_of c.args.items.items)) rest
 
 pub shapes::items-returns-then-not-branch : goal.shapes::items-returns-then-not-branch
@@ -162,9 +162,9 @@ shapes::base-returns-then-take-3 t c =
     let inner = n.shape c.args.levels in
     let e = c.items.new.cursor.rest.now in
     let xs = c.in_ok-items.field-0 in
-    let rest : c.take-3.new.self.rest.now ≡ n.behind start = grind arith in
+    let rest : c.take-3.new.self.rest.now ≡ n.after_sign start = grind arith in
     let empty : map shape_of c.new.result.items ≡ [] = grind (arith, common_steps) in
-    let parsed : n.items inner (n.behind start) ≡ found (map shape_of xs.items) e =
+    let parsed : n.items inner (n.after_sign start) ≡ found (map shape_of xs.items) e =
     ap (n.items inner) (sym rest) ∙ before-nil (n.items inner c.take-3.new.self.rest.now) ∙ ap (λ ys. before ys (n.items inner c.take-3.new.self.rest.now)) (sym empty) ∙ c.in_ok-items.ensures in
     let seen : shape_of (r.Tuple xs) ≡ s.Shape.tuple (s.shapes_of (map shape_of xs.items)) = search (rules, r.the_lemmas) in
     base-items inner start (map shape_of xs.items) e (grind arith) (grind arith) (grind arith) parsed ∙ ap (λ y. found y e) (sym seen)

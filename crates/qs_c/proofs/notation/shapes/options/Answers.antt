@@ -13,7 +13,7 @@ loop-at-preserved c =
     let seen : shape_of (r.Option c.in_ok-new.field-0) ≡ s.Shape.option (shape_of c.in_ok-new.field-0.value) = search (rules, r.the_lemmas) in
     let held : c.in_ok-new.field-0.value ≡ l.shape = grind arith in
     let comes : n.comes 63 t ≡ true = grind arith in
-    let rest : c.take.new.self.rest.now ≡ n.behind t = grind arith in
+    let rest : c.take.new.self.rest.now ≡ n.after_sign t = grind arith in
     l.invariant ∙ options-more (c.args.most - l.at) (c.args.most - (l.at + 1)) (shape_of l.shape) t (omega arith) comes
-    ∙ ap (λ x. n.options (c.args.most - (l.at + 1)) x (n.behind t)) (sym (seen ∙ ap (λ x. s.Shape.option (shape_of x)) held))
+    ∙ ap (λ x. n.options (c.args.most - (l.at + 1)) x (n.after_sign t)) (sym (seen ∙ ap (λ x. s.Shape.option (shape_of x)) held))
     ∙ ap (n.options (c.args.most - (l.at + 1)) (shape_of (r.Option c.in_ok-new.field-0))) (sym rest)

@@ -58,9 +58,9 @@ in_front : (c : Child) (cs ds : List Child) → IsChild c cs → IsChild c (cs +
 in_front c _ ds IsChild.first = IsChild.first
 in_front c _ ds (IsChild.later w) = IsChild.later (in_front c _ ds w)
 
-behind : (c : Child) (cs ds : List Child) → IsChild c ds → IsChild c (cs ++ ds)
-behind c [] ds w = w
-behind c (d ∷ cs) ds w = IsChild.later (behind c cs ds w)
+after_others : (c : Child) (cs ds : List Child) → IsChild c ds → IsChild c (cs ++ ds)
+after_others c [] ds w = w
+after_others c (d ∷ cs) ds w = IsChild.later (after_others c cs ds w)
 
 both_read : (rd : Bool) (cs ds : List Child) → AreRead rd cs → AreRead rd ds → AreRead rd (cs ++ ds)
 both_read rd [] ds a b = b
@@ -72,7 +72,7 @@ fails_in_front rd cs ds m f = record { key = f.key; part = f.part; node = f.node
 -- what is found among the others is found among all, where the first are read
 pub among_more : {E : Type 0} (rd : Bool) (cs ds : List Child) (r : Result (Option Mismatch) E) → AreRead rd cs → FindsAmong rd ds r → FindsAmong rd (cs ++ ds) r
 among_more rd cs ds (Ok None) all f = both_read rd cs ds all f
-among_more rd cs ds (Ok (Some m)) all f = record { key = f.key; part = f.part; node = f.node; child = behind (f.key, f.part, f.node) cs ds f.child; below = f.below }
+among_more rd cs ds (Ok (Some m)) all f = record { key = f.key; part = f.part; node = f.node; child = after_others (f.key, f.part, f.node) cs ds f.child; below = f.below }
 among_more rd cs ds (Err e) all f = tt
 
 abbrev items_after : List (Option Tree) → List (Option Tree)

@@ -9,8 +9,6 @@ use Rattle.qs_spec.specs.Tree.{Tree, Entries}
 use Rattle.qs_spec.specs.Tree.Tree.{mapping}
 use Rattle.qs_spec.specs.Tree.Entries.{no_entries, entry}
 use Rattle.qs_data.specs.shape.Variants.{variant_named}
-use Rattle.qs_explain.specs.declared.keys.UnknownKeys as declared
-use Rattle.qs_explain.specs.declared.keys.UnknownKeys.TheVariants as u
 
 -- the first key whose text isn't as the test asks
 abbrev pub first_other : (List ℕ → Bool) → Entries → Option Segment
@@ -41,7 +39,3 @@ unexpected_among _ es = None
 abbrev pub unexpected_key : Shape → Tree → Option Segment
 unexpected_key s (mapping es) = unexpected_among s es
 unexpected_key s _ = None
-
-abbrev pub unknown_of : declared.UnknownKeys → UnknownKeys
-unknown_of u.Ignored = UnknownKeys.ignored
-unknown_of u.Rejected = UnknownKeys.rejected

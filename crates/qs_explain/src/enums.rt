@@ -6,22 +6,22 @@ ghost use Rattle.qs_spec.specs.Shape as s;
 ghost use Rattle.qs_spec.specs.Tree.Tree.{mapping};
 ghost use Rattle.qs_spec.specs.internal.ReadFunction.{reads, reads_kind};
 ghost use Rattle.qs_tree.specs.tree.Views.{tree_of, entries_of_map, segment_of_key};
+ghost use Rattle.qs_data.specs.read.Keys.{unknown_of};
 ghost use Rattle.qs_data.specs.shape.Views.{fields_in, kind_of, shapes_in, variants_in};
 ghost use Rattle.qs_explain.specs.Children.{enum_children, held_children, held_fields, is_text_leaf};
 ghost use Rattle.qs_explain.specs.Explains.{IsMismatch, path_of};
 ghost use Rattle.qs_explain.specs.internal.Finding.{FindsAmong};
-ghost use Rattle.qs_explain.specs.Unexpected.{unknown_of};
 
 use crate::children::find_under;
 use crate::expected::Expected;
 use crate::explanation::Mismatch;
 use crate::fields::find_in_struct;
 use crate::items::find_in_tuple;
-use crate::keys::{UnknownKeys, find_unknown_key};
+use crate::keys::find_unknown_key;
 use crate::segment::Segment;
 use crate::variants::find_variant;
 use crate::walk::mismatch_here;
-use qs_data::{Config, Field, Shape, Variant, VariantKind};
+use qs_data::{Config, Field, Shape, UnknownKeys, Variant, VariantKind};
 use qs_tree::{Key, ParsedMap, ParsedValue};
 use std::alloc::{AllocError, Global};
 

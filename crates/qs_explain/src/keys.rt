@@ -12,27 +12,21 @@ ghost use Rattle.qs_spec.specs.Shape as s;
 ghost use Rattle.qs_spec.specs.Shape.{are_ignored, is_field_name};
 ghost use Rattle.qs_spec.specs.Tree.Tree.{leaf};
 ghost use Rattle.qs_tree.specs.tree.Views.{tree_of, entries_of_map, segment_of_key};
+ghost use Rattle.qs_data.specs.read.Keys.{unknown_of};
 ghost use Rattle.qs_data.specs.shape.Views.{fields_in, key_shape_of, shape_of, variants_in};
 ghost use Rattle.qs_explain.specs.Explains.{segment_of};
 ghost use Rattle.qs_explain.specs.internal.Finding.{Tests};
-ghost use Rattle.qs_explain.specs.Unexpected.{first_entry, first_other, is_allowed, is_key, is_variant, unexpected_among, unexpected_key, unknown_of};
+ghost use Rattle.qs_explain.specs.Unexpected.{first_entry, first_other, is_allowed, is_key, is_variant, unexpected_among, unexpected_key};
 
 use crate::segment::Segment;
 use crate::variants::find_variant;
 use crate::walk::is_read;
 use itoa::Buffer;
-use qs_data::{Config, Field, KeyShape, Shape, Variant};
+use qs_data::{Config, Field, KeyShape, Shape, UnknownKeys, Variant};
 use qs_tree::{Key, ParsedMap, ParsedValue};
 use std::alloc::{AllocError, Global};
 use std::borrow::CowSlice;
 use std::str;
-
-/// What becomes of a key that no field has.
-#[derive(Clone, Copy)]
-pub(crate) enum UnknownKeys {
-    Ignored,
-    Rejected,
-}
 
 /// Finds the first key of a map that a shape doesn't allow.
 pub(crate) fn find_unexpected_key(

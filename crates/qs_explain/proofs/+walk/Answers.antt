@@ -16,7 +16,8 @@ use Rattle.qs_data.specs.shape.Views.{field_of, fields_in, key_shape_of, kind_of
 use Rattle.qs_spec.specs.internal.ReadFunction.{reads, reads_kind}
 use Rattle.qs_data.proofs.lemmas.read.Fields.{field_name, field_optional, field_shape}
 use Rattle.qs_explain.specs.Children.{or_missing, item_children, tuple_children, name_child, map_children, held_children, is_text_leaf, listed}
-use Rattle.qs_explain.specs.Unexpected.{unexpected_key, unknown_of}
+use Rattle.qs_data.specs.read.Keys.{unknown_of}
+use Rattle.qs_explain.specs.Unexpected.{unexpected_key}
 use Rattle.qs_explain.specs.Explains.{segment_of}
 use Rattle.qs_explain.specs.internal.Finding.{FindsMismatch, FindsAmong, FindsBelow, FindsInside, Tests, keys_of, node_of}
 use Rattle.qs_explain.proofs.Parts.{below, among_as, among_is, full_as, mismatch_at, newtype_found, null_found, full_found, text_full}

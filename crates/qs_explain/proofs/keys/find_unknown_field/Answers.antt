@@ -3,7 +3,8 @@ use Rattle.qs_spec.specs.Segment.{Step}
 use Rattle.qs_spec.specs.Tree.{Tree}
 use Rattle.qs_tree.specs.tree.Views.{tree_of, entries_of_map, step_of_key}
 use Rattle.qs_data.specs.shape.Views.{fields_in}
-use Rattle.qs_explain.specs.Unexpected.{is_allowed, unknown_of}
+use Rattle.qs_data.specs.read.Keys.{unknown_of}
+use Rattle.qs_explain.specs.Unexpected.{is_allowed}
 use Rattle.qs_explain.proofs.KeysAllowed.{other_here, other_later, other_none, other_end}
 use Rattle.qs_explain.proofs.keys.find_unknown_field.Goals as goal
 use Rattle.qs_explain.proofs.keys.find_unknown_field.Goals.{else-loop-i-test, then-loop-i-test+in_default}

@@ -2,7 +2,8 @@ use Rattle.std.proofs.Common.{◌≡◌}
 use Rattle.qs_tree.specs.tree.Views.{entries_of_map}
 use Rattle.qs_data.specs.read.internal.Keys.{entries_after}
 use Rattle.qs_data.specs.shape.Views.{fields_in}
-use Rattle.qs_explain.specs.Unexpected.{first_other, is_allowed, unknown_of}
+use Rattle.qs_data.specs.read.Keys.{unknown_of}
+use Rattle.qs_explain.specs.Unexpected.{first_other, is_allowed}
 use Rattle.qs_explain.proofs.keys.find_unknown_field.Given as goal
 
 abbrev pub invariant-loop-i : goal.invariant-loop-i

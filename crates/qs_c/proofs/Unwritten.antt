@@ -10,7 +10,7 @@ use Rattle.qs_tree.specs.declared.error.Error.{Error}
 use Rattle.qs_tree.specs.declared.error.Error.TheVariants.{Custom, MaxSerializationDepthExceeded, Parse, Unsupported, FromUtf8, Io, ParseInt, Utf8, OutOfMemory, Failed}
 use Rattle.qs_tree.specs.Error.{IsTooDeep, IsUnsupported, IsFailed}
 use Rattle.qs_data.specs.write.Errors.{IsWriteError}
-use Rattle.qs_c.specs.Faults.{kind_of}
+use Rattle.qs_c.specs.Errors.{kind_of}
 use Rattle.qs_c.specs.Outcomes.{WhyUnwritten}
 
 why : (e : Error) (n : ℕ) (config : Config) (x : Data) → IsWriteError {T = Unit {0}} (Err e)

@@ -2,7 +2,7 @@
 -- of proofs. `Outcomes` says what each call returns, `Notation` which shape a text is, `Shown` and `Taken` which JSON data are.
 pub mod Answer
 pub mod Classes
-pub mod Faults
+pub mod Errors
 pub mod Found
 pub mod Notation
 pub mod Outcomes

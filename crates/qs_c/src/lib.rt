@@ -5,9 +5,9 @@
 #![tactic(auto)]
 
 mod answer;
+mod errors;
 pub mod escaping;
 mod failure;
-mod faults;
 mod notation;
 pub mod reading;
 mod settings;

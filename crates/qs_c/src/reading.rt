@@ -6,7 +6,7 @@ ghost use Rattle.qs_spec.specs.Shape.Shape.{any};
 ghost use Rattle.qs_data.specs.data.Views.{data_of};
 ghost use Rattle.qs_data.specs.shape.Views.{shape_of};
 ghost use Rattle.qs_c.specs.Answer.{IsHandedOut, IsLaidOut};
-ghost use Rattle.qs_c.specs.Faults.{kind_of, position_of};
+ghost use Rattle.qs_c.specs.Errors.{kind_of, position_of};
 ghost use Rattle.qs_c.specs.Notation.{IsNoNotation};
 ghost use Rattle.qs_c.specs.Outcomes.{IsRead, IsReadBy, IsReadByText, WhyNotParsed, WhyNotRead, WhyUnread};
 ghost use Rattle.qs_c.specs.Settings.{config_of, AreNone};
@@ -15,8 +15,8 @@ ghost use Rattle.qs_c.specs.declared.failure.FailureKind.{FailureKind};
 ghost use Rattle.qs_c.specs.declared.failure.FailureKind.TheVariants as kind;
 
 use crate::answer::{Answer, fail, give};
+use crate::errors::failure_of;
 use crate::failure::Failure;
-use crate::faults::failure_of;
 use crate::notation::shape_of_text;
 use crate::settings::Settings;
 use crate::showing::shown;

@@ -25,14 +25,14 @@ pub(crate) fn taken(alloc: Global, text: &[u8]) -> Result<Data, Failure>
         Ok(value) => Ok(take(alloc, &value)?),
         Err(json::Error::OutOfMemory) => Err(Failure::out_of_memory()),
         Err(_) => {
-            let position = fault_in(alloc, text)?;
+            let position = error_position(alloc, text)?;
             Err(failure_at(alloc, FailureKind::Json, "the JSON is invalid", position))
         }
     }
 }
 
 // Returns where the JSON can't be read on, which is read once more.
-fn fault_in(alloc: Global, text: &str) -> Result<usize, AllocError> {
+fn error_position(alloc: Global, text: &str) -> Result<usize, AllocError> {
     let mut scratch = Scratch::new(alloc);
     let mut reader = Reader::new(text, &mut scratch)?;
     match Value::read(alloc, &mut reader, MAX_DEPTH) {

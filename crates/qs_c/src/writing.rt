@@ -5,15 +5,15 @@ ghost use Rattle.qs_spec.specs.Entry.{entries};
 ghost use Rattle.qs_spec.specs.Written.{written};
 ghost use Rattle.qs_data.specs.data.Views.{data_of};
 ghost use Rattle.qs_c.specs.Answer.{IsHandedOut, IsLaidOut};
-ghost use Rattle.qs_c.specs.Faults.{kind_of};
+ghost use Rattle.qs_c.specs.Errors.{kind_of};
 ghost use Rattle.qs_c.specs.Outcomes.{IsWritten, WhyNotWritten, WhyUnwritten};
 ghost use Rattle.qs_c.specs.Settings.{config_of, AreNone};
 ghost use Rattle.qs_c.specs.Status.{code_of, IsDone, IsStoppedEarly};
 ghost use Rattle.qs_c.specs.declared.failure.FailureKind.{FailureKind};
 
 use crate::answer::{Answer, fail, give};
+use crate::errors::failure_of;
 use crate::failure::Failure;
-use crate::faults::failure_of;
 use crate::settings::Settings;
 use crate::taking::taken;
 use qs_data::{Config, Data, Serializer};

@@ -1,7 +1,7 @@
 //! The errors of the other crates, as failures.
 
 ghost use Rattle.std.specs.Prelude.{◌≡◌};
-ghost use Rattle.qs_c.specs.Faults.{kind_of, position_of, IsFailureOf};
+ghost use Rattle.qs_c.specs.Errors.{kind_of, position_of, IsFailureOf};
 
 use crate::failure::{Failure, FailureKind};
 use qs_data::Error;

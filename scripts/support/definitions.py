@@ -187,7 +187,7 @@ CASES = {"trees": tree_case, "program": program_case, "strict": program_case, "r
 def wrong_row(kind, rows):
     """A row whose result is not the one that is wanted."""
     if kind == "trees":
-        return ["0", "0", "", "refused", ""]
+        return ["0", "0", "", "rejected", ""]
     if kind in ("program", "strict"):
         accepted = next(row for row in rows if row[2] == "0")
         return [*accepted[:2], "1", accepted[3]]

@@ -1,7 +1,7 @@
 //! Tests that cross crates, and a program for scripts: the trees of a table's cases, and what public calls return and write.
 //!
 //! Without a word each line of standard input is a case: form mode (0 or 1), the depth limit, and the input in hexadecimal, with
-//! tabs between. A line is printed for each: `ok` and the tree, or `refused`, the position, and the error's text in hexadecimal.
+//! tabs between. A line is printed for each: `ok` and the tree, or `rejected`, the position, and the error's text in hexadecimal.
 //!
 //! With the name of a type all of standard input is one querystring. It is read by that type, and the querystring of its value is
 //! printed. `Question::from_words` has the words that ask for something else after the name, as `explained` for which part isn't

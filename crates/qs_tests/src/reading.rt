@@ -3,9 +3,9 @@
 mod any;
 mod broken;
 mod enums;
-mod faults;
 mod lists;
 mod maps;
+mod no_tree;
 mod nothing;
 mod numbers;
 mod options;

@@ -35,7 +35,7 @@ impl Case {
             }
             Err(Error::Parse(text, position)) => {
                 let text = hex::encode(alloc, text.as_bytes())?;
-                format!(in alloc; "refused\t{position}\t{text}")
+                format!(in alloc; "rejected\t{position}\t{text}")
             }
             Err(_) => Err(AllocError),
         }

@@ -42,7 +42,7 @@ fn in_a_field(rt: HostRuntime) {
 }
 
 #[test]
-fn faults_of_lists(rt: HostRuntime) {
+fn errors_of_lists(rt: HostRuntime) {
     let t = Rows::new(&rt, rt.alloc());
     let b = &t.build;
     let shape = b.field("v", b.seq(Shape::U8));
@@ -72,7 +72,7 @@ fn tuples(rt: HostRuntime) {
 }
 
 #[test]
-fn faults_of_tuples(rt: HostRuntime) {
+fn errors_of_tuples(rt: HostRuntime) {
     let t = Rows::new(&rt, rt.alloc());
     let b = &t.build;
     let shape = b.field("v", b.tuple([Shape::U8]));

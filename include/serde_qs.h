@@ -33,7 +33,7 @@ enum {
     QS_TOO_DEEP = 9     /* a value nests deeper than `max_depth` */
 };
 
-/* How the place of a list's element is written. */
+/* How the index of a list's element is written. */
 enum {
     QS_INDEXED = 0,       /* a[0]=x&a[1]=y */
     QS_EMPTY_INDEXED = 1, /* a[]=x&a[]=y */

@@ -15,7 +15,7 @@ import pathlib
 
 __all__ = ["QuerystringError", "parse", "read", "write", "encode", "decode", "INDEXED", "EMPTY_INDEXED", "UNINDEXED"]
 
-# How the place of a list's element is written: a[0]=x, a[]=x or a=x.
+# How the index of a list's element is written: a[0]=x, a[]=x or a=x.
 INDEXED, EMPTY_INDEXED, UNINDEXED = range(3)
 
 OK, TOO_SMALL = 0, 1

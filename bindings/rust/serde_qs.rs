@@ -6,7 +6,7 @@
 
 use std::fmt;
 
-/// How the place of a list's element is written.
+/// How the index of a list's element is written.
 #[repr(u8)]
 #[derive(Clone, Copy, Debug, Default, PartialEq, Eq)]
 pub enum ArrayFormat {
@@ -27,7 +27,7 @@ pub struct Settings {
     pub max_depth: usize,
     /// Form mode, where brackets may be encoded; else query mode.
     pub form: bool,
-    /// How the places of elements are written.
+    /// How the indices of elements are written.
     pub array_format: ArrayFormat,
     /// Whether several values where one is asked for are an error; else the last is taken.
     pub reject_duplicates: bool,

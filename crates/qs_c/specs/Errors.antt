@@ -19,6 +19,6 @@ abbrev pub position_of : Error → ℕ
 position_of (e.Parse message position) = position
 position_of _ = 0
 
--- it is the error's, unless there was no memory for the error's text
+-- it is the error's, unless an allocation for the error's text failed
 abbrev pub IsFailureOf : Failure → Error → Type 0
 IsFailureOf failure error = (failure.kind ≡ OutOfMemory) ⊎ ((failure.kind ≡ kind_of error) × (failure.position ≡ position_of error))

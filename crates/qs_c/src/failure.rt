@@ -70,7 +70,7 @@ impl Failure {
         }
     }
 
-    /// Returns the error of this kind, with this text, at this place.
+    /// Returns the error of this kind, with this text and position.
     pub(crate) fn new(kind: FailureKind, text: String, position: usize) -> Failure
         ensures kind { result.kind ≡ kind }
         ensures position { result.position ≡ position }
@@ -84,7 +84,7 @@ impl Failure {
     }
 }
 
-/// Returns the error of this kind, with this text, at this place, or that there was no memory for the text.
+/// Returns the error of this kind, with this text and position, or that an allocation for the text failed.
 pub(crate) fn failure_at(alloc: Global, kind: FailureKind, text: &str, position: usize) -> Failure
     ensures { (result.kind ≡ OutOfMemory) ⊎ ((result.kind ≡ kind) × (result.position ≡ position) × (text_of result ≡ text.now)) }
 {

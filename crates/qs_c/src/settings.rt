@@ -20,7 +20,7 @@ pub struct Settings {
     pub max_depth: usize,
     /// Form mode, or else query mode.
     pub form: bool,
-    /// How the place of a list's element is written: 0 by its number, 1 by empty brackets, 2 not at all.
+    /// How the index of a list's element is written: 0 by its number, 1 by empty brackets, 2 not at all.
     pub array_format: u8,
     /// Whether several values where one is asked for are an error; else the last one is taken.
     pub reject_duplicates: bool,

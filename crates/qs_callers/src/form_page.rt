@@ -37,7 +37,7 @@ pub fn submitted<T: Deserialize>(
     Ok(Err(with_hint(alloc, config, form, wrong)?))
 }
 
-// Of a part that isn't read.
+// Returns the error of a part that isn't read.
 fn of_mismatch(alloc: Global, mismatch: &Mismatch) -> Result<FieldError> {
     let mut field = String::new(alloc);
     for (i, segment) in mismatch.path.iter().enumerate() {
@@ -54,7 +54,7 @@ fn of_mismatch(alloc: Global, mismatch: &Mismatch) -> Result<FieldError> {
     Ok(FieldError { field, message })
 }
 
-// Of a key that can't be parsed, or that is in the way of another.
+// Returns the error of a key that can't be parsed, or that is in conflict with an earlier one.
 fn of_syntax(alloc: Global, config: Config, form: &[u8], error: &Error) -> Result<FieldError> {
     let mut field = String::new(alloc);
     if let Error::Parse(_, position) = error {
@@ -65,7 +65,7 @@ fn of_syntax(alloc: Global, config: Config, form: &[u8], error: &Error) -> Resul
     Ok(FieldError { field, message })
 }
 
-// With what is probably meant, where a bracket stands escaped.
+// Adds what is probably meant, where a bracket is escaped.
 fn with_hint(alloc: Global, config: Config, form: &[u8], wrong: FieldError) -> Result<FieldError> {
     let Some(hint) = find_hint(config, form) else {
         return Ok(wrong);

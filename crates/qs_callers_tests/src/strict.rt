@@ -69,7 +69,7 @@ fn keys_that_are_hard_to_read(rt: HostRuntime) {
 #[test]
 fn one_in_another(rt: HostRuntime) {
     let alloc = rt.alloc();
-    // by their places, where further ones are ignored
+    // by their indices, where further ones are ignored
     let input = "amount=5&method[]=1&method[]=2&method[]=3";
     let payment: Payment<Payment<u8>> = from_str(alloc, input).expect(&rt, "a payment");
     assert!(rt; payment.method.amount == 1 && payment.method.method == 2);

@@ -132,7 +132,7 @@ fn item_at<'t, 'qs>(node: &'t ParsedValue<'qs>, index: usize) -> Option<&'t Pars
     }
 }
 
-// Returns the value under an integer key, which stands at its place among the keys.
+// Returns the value under an integer key, which stands at that index among the keys.
 fn value_at<'t, 'qs>(map: &'t ParsedMap<'qs>, index: usize) -> Option<&'t ParsedValue<'qs>>
     ensures { node_of result ≡ first_there (drop index (placed 0 (entries_of_map map.now))) }
 {

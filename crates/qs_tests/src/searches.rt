@@ -1,4 +1,4 @@
-//! Searches held against a plain loop, at every length up to 100 and every place.
+//! Searches held against a plain loop, at every length up to 100 and every index.
 
 use qs_tree::{encode, find_ampersand, find_encoded, find_escape};
 use std::process::Abort;
@@ -31,9 +31,9 @@ impl Class {
 
     // What the plain loop returns.
     fn find_plainly(self, bytes: &[u8]) -> Option<usize> {
-        for (place, byte) in bytes.iter().enumerate() {
+        for (index, byte) in bytes.iter().enumerate() {
             if self.has(*byte) {
-                return Some(place);
+                return Some(index);
             }
         }
         None
@@ -68,18 +68,18 @@ fn agree<R: Abort>(rt: &R, bytes: &[u8]) {
 }
 
 #[test]
-fn each_place(rt: HostRuntime) -> Result<(), Fail> {
+fn each_index(rt: HostRuntime) -> Result<(), Fail> {
     let mut bytes = Vec::new(rt.alloc());
     for len in 0..=100usize {
         for class in CLASSES {
             assert_eq!(rt; class.find(&bytes), None, "{class:?} in {len}");
         }
-        for place in 0..bytes.len() {
+        for index in 0..bytes.len() {
             for byte in [b'+', b'%', b'&', b'[', b' '] {
-                bytes[place] = byte;
+                bytes[index] = byte;
                 agree(&rt, &bytes);
             }
-            bytes[place] = b'a';
+            bytes[index] = b'a';
         }
         bytes.push(b'a')?;
     }

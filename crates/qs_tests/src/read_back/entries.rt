@@ -56,17 +56,17 @@ fn data<R: Abort>(b: &Build<'_, R>) -> Data {
     ])
 }
 
-/// The places of the entries, in order.
+/// The indices of the entries, in order.
 const IN_ORDER: [usize; 10] = [0, 1, 2, 3, 4, 5, 6, 7, 8, 9];
 
-// The entries at these places, with `&` between them.
-fn text<R: Abort>(b: &Build<'_, R>, places: &[usize]) -> String {
+// The entries at these indices, with `&` between them.
+fn text<R: Abort>(b: &Build<'_, R>, indices: &[usize]) -> String {
     let mut text = String::new(b.alloc);
-    for place in places {
+    for index in indices {
         if !text.is_empty() {
             text.push('&').expect(b.rt, "memory");
         }
-        let entry = ENTRIES.get(*place).expect(b.rt, "an entry");
+        let entry = ENTRIES.get(*index).expect(b.rt, "an entry");
         text.push_str(entry).expect(b.rt, "memory");
     }
     text
@@ -85,20 +85,20 @@ fn written(rt: HostRuntime) {
     assert_eq!(&rt; written.as_slice(), text(b, &IN_ORDER).as_bytes());
 }
 
-// The places with the first one last.
-fn rotated_once(mut places: [usize; 10]) -> [usize; 10] {
-    places.rotate_left(1);
-    places
+// The indices with the first one last.
+fn rotated_once(mut indices: [usize; 10]) -> [usize; 10] {
+    indices.rotate_left(1);
+    indices
 }
 
 #[test]
 fn rotated(rt: HostRuntime) {
     let t = Rows::new(&rt, rt.alloc());
     let b = &t.build;
-    let mut places = IN_ORDER;
+    let mut indices = IN_ORDER;
     for _ in 0..10 {
-        places = rotated_once(places);
-        t.reads(&text(b, &places), &shape(b), data(b));
+        indices = rotated_once(indices);
+        t.reads(&text(b, &indices), &shape(b), data(b));
     }
 }
 
@@ -106,22 +106,22 @@ fn rotated(rt: HostRuntime) {
 fn reversed(rt: HostRuntime) {
     let t = Rows::new(&rt, rt.alloc());
     let b = &t.build;
-    let places = [9, 8, 7, 6, 5, 4, 3, 2, 1, 0];
-    t.reads(&text(b, &places), &shape(b), data(b));
+    let indices = [9, 8, 7, 6, 5, 4, 3, 2, 1, 0];
+    t.reads(&text(b, &indices), &shape(b), data(b));
 }
 
-// The places in an order by pseudo-random numbers.
+// The indices in an order by pseudo-random numbers.
 fn shuffle(seed: u64) -> [usize; 10] {
-    let mut places = IN_ORDER;
+    let mut indices = IN_ORDER;
     let mut state = seed;
-    for place in 0..places.len() {
+    for index in 0..indices.len() {
         state = state
             .wrapping_mul(6_364_136_223_846_793_005)
             .wrapping_add(1_442_695_040_888_963_407);
-        let other = (state >> 33) as usize % places.len();
-        places.swap(place, other);
+        let other = (state >> 33) as usize % indices.len();
+        indices.swap(index, other);
     }
-    places
+    indices
 }
 
 #[test]

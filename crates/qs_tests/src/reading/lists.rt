@@ -47,7 +47,7 @@ fn errors_of_lists(rt: HostRuntime) {
     let b = &t.build;
     let shape = b.field("v", b.seq(Shape::U8));
     t.says("v[a]=1", &shape, "invalid type: map, expected a sequence");
-    // the kind first, then item by item its place and its value
+    // the kind first, then item by item its index and its value
     let said = "invalid type: map, expected a sequence";
     t.says("v[1]=x&v[a]=y", &shape, said);
     t.says("v[1]=x", &shape, "missing index, expected: 0 got 1");

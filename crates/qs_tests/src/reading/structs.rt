@@ -1,4 +1,4 @@
-//! Structs: fields by their names, by their places, and keys that aren't read.
+//! Structs: fields by their names, by their indices, and keys that aren't read.
 
 use crate::build::Build;
 use crate::rows::Rows;
@@ -71,13 +71,13 @@ fn fields_in_any_order(rt: HostRuntime) {
 }
 
 #[test]
-fn fields_by_place(rt: HostRuntime) {
+fn fields_by_index(rt: HostRuntime) {
     let t = Rows::new(&rt, rt.alloc());
     let b = &t.build;
     let shape = b.field("a", three(b));
     t.reads("a[]=1&a[]=x", &shape, b.one("a", two(b)));
     t.says("a[]=1", &shape, "invalid length 1");
-    // a map, whose keys are no places
+    // a map, whose keys are no indices
     t.says("a[0]=1&a[1]=x", &shape, "missing field `u`");
     let shape = b.field("p", b.field("x", Shape::U8));
     let first = b.one("p", b.one("x", Data::Unsigned(1)));

@@ -76,7 +76,7 @@ fn pipes(rt: HostRuntime) {
 }
 
 #[test]
-fn spaces(rt: HostRuntime) {
+fn words_between_spaces(rt: HostRuntime) {
     let t = Rows::new(&rt, rt.alloc());
     let b = &t.build;
     let text = text_of(b, "tags=foo|bar|baz&words=hello+world", "words");
@@ -85,6 +85,12 @@ fn spaces(rt: HostRuntime) {
     for (word, wanted) in read.iter().zip(["hello", "world"]) {
         assert_eq!(&rt; word.as_str(), wanted);
     }
+}
+
+#[test]
+fn numbers_between_spaces(rt: HostRuntime) {
+    let t = Rows::new(&rt, rt.alloc());
+    let b = &t.build;
     let rows = [
         ("values=1%202%203", "values=1+2+3", [1u8, 2, 3].as_slice()),
         ("values=", "values=", &[]),

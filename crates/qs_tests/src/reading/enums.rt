@@ -82,7 +82,7 @@ fn a_list_held(rt: HostRuntime) {
 }
 
 #[test]
-fn the_least_key(rt: HostRuntime) {
+fn the_smallest_key(rt: HostRuntime) {
     let t = Rows::new(&rt, rt.alloc());
     let b = &t.build;
     let both = [

@@ -58,7 +58,7 @@ fn the_greatest_unsigned(rt: HostRuntime) {
 }
 
 #[test]
-fn the_least_signed(rt: HostRuntime) {
+fn the_smallest_signed(rt: HostRuntime) {
     let t = Rows::new(&rt, rt.alloc());
     let b = &t.build;
     let shape = b.field("x", Shape::I8);

@@ -33,7 +33,7 @@ fn brackets_in_keys(rt: HostRuntime) -> Result<(), Fail> {
 
 // A map keeps the key of the pair that brought it.
 #[test]
-fn the_first_spelling_is_kept(rt: HostRuntime) -> Result<(), Fail> {
+fn the_first_encoding_is_kept(rt: HostRuntime) -> Result<(), Fail> {
     let rows = [
         ("a=1&%61=2", "{'a':['1','2']}"),
         ("%61=1&a=2", "{'a'*:['1','2']}"),

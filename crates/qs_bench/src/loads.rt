@@ -48,6 +48,7 @@ fn record(alloc: Global) -> Result<Shape, AllocError>
     Ok(Shape::Struct(fields))
 }
 
+// Returns the shape of an address.
 fn address(alloc: Global) -> Result<Shape, AllocError>
     ensures { IfOk result (λ shape. shape_of shape ≡ spec.address) }
 {
@@ -95,6 +96,7 @@ fn only(alloc: Global, name: &str, shape: Shape) -> Result<Shape, AllocError>
     Ok(Shape::Struct(fields))
 }
 
+// Returns a field that must be there.
 fn field(alloc: Global, name: &str, shape: Shape) -> Result<Field, AllocError>
     ensures { IfOk result (λ field. field_of field ≡ (name.now, shape_of shape, false)) }
 {
@@ -114,6 +116,7 @@ impl Load {
     }
 }
 
+// Returns how much the data are.
 #[cycle(size)]
 #[tactic(auto, using(qs_data::proofs::lemmas::data::Levels::levels))]
 fn size_of(datum: &Data, each: usize) -> Option<usize>
@@ -129,6 +132,7 @@ fn size_of(datum: &Data, each: usize) -> Option<usize>
     }
 }
 
+// Returns how much the items are together.
 #[cycle(size)]
 fn size_of_items(items: &Vec<Data>, each: usize) -> Option<usize>
     ensures { IfSome result (λ size. size ≡ size_of_values each (values_in items.now.items)) }
@@ -140,6 +144,7 @@ fn size_of_items(items: &Vec<Data>, each: usize) -> Option<usize>
     Some(size)
 }
 
+// Returns how much the keys and values are together.
 #[cycle(size)]
 fn size_of_pairs(pairs: &Vec<(Data, Data)>, each: usize) -> Option<usize>
     ensures { IfSome result (λ size. size ≡ size_of_pairs each (pairs_in pairs.now.items)) }
@@ -152,6 +157,7 @@ fn size_of_pairs(pairs: &Vec<(Data, Data)>, each: usize) -> Option<usize>
     Some(size)
 }
 
+// Returns how much the values of the fields are together.
 #[cycle(size)]
 fn size_of_members(members: &Vec<(String, Data)>, each: usize) -> Option<usize>
     ensures { IfSome result (λ size. size ≡ size_of_members each (members_in members.now.items)) }

@@ -33,6 +33,7 @@ pub extern "C" fn qs_bench_parse(alloc: Global, input: &[u8], keys: &mut Keys) -
     true
 }
 
+// Counts the keys at the root, and those below the first of them.
 fn count(tree: &ParsedValue<'_>) -> Keys
     ensures root { result.root ≡ root_keys (tree_of tree.now) }
     ensures first { result.first ≡ first_keys (tree_of tree.now) }

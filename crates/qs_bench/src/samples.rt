@@ -27,6 +27,7 @@ pub(crate) fn record(alloc: Global) -> Result<Data, AllocError>
     Ok(Data::Struct(fields))
 }
 
+// Returns an address.
 fn address(alloc: Global) -> Result<Data, AllocError>
     ensures { IfOk result (λ d. data_of d ≡ spec.address) }
 {
@@ -49,6 +50,7 @@ pub(crate) fn fields_below(alloc: Global, keys: usize, count: usize) -> Result<D
     Ok(datum)
 }
 
+// Returns so many fields.
 fn fields(alloc: Global, count: usize) -> Result<Vec<(String, Data)>, AllocError>
     ensures { IfOk result (λ fields. map (named data_of) fields.items ≡ map spec.numbered (range_with_len 0 count)) }
 {
@@ -59,6 +61,7 @@ fn fields(alloc: Global, count: usize) -> Result<Vec<(String, Data)>, AllocError
     Ok(fields)
 }
 
+// Returns a field whose name and text have this number.
 fn numbered(alloc: Global, number: usize) -> Result<(String, Data), AllocError>
     ensures { IfOk result (λ field. named data_of field ≡ spec.numbered number) }
 {
@@ -85,6 +88,7 @@ pub(crate) fn held(alloc: Global, content: &[u8]) -> Result<Data, AllocError>
     only(alloc, Data::Bytes(Vec::from_slice(alloc, content)?))
 }
 
+// Returns a struct of one field.
 fn only(alloc: Global, datum: Data) -> Result<Data, AllocError>
     ensures { IfOk result (λ d. data_of d ≡ spec.only (data_of datum)) }
 {
@@ -93,12 +97,14 @@ fn only(alloc: Global, datum: Data) -> Result<Data, AllocError>
     Ok(Data::Struct(fields))
 }
 
+// Returns a field with a text.
 fn text_field(alloc: Global, name: &str, content: &str) -> Result<(String, Data), AllocError>
     ensures { IfOk result (λ field. named data_of field ≡ (name.now, text content.now)) }
 {
     field(alloc, name, Data::Text(String::from_str(alloc, content)?))
 }
 
+// Returns a field with this name.
 fn field(alloc: Global, name: &str, datum: Data) -> Result<(String, Data), AllocError>
     ensures { IfOk result (λ field. named data_of field ≡ (name.now, data_of datum)) }
 {

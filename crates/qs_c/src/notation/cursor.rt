@@ -17,6 +17,7 @@ pub(crate) struct Cursor<'t> {
 }
 
 impl<'t> Cursor<'t> {
+    /// Returns a cursor at the front of the text.
     pub(crate) fn new(text: &'t [u8]) -> Cursor<'t>
         ensures { result.rest.now ≡ trimmed text.now }
     {

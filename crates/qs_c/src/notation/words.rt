@@ -7,6 +7,7 @@ ghost use Rattle.qs_c.specs.Notation.{integer, scalar, scalar_key};
 
 use qs_data::{KeyShape, Shape};
 
+/// Returns the shape of a scalar that the word is, or `None`.
 pub(crate) fn scalar(word: &[u8]) -> Option<Shape>
     ensures { option_map shape_of result ≡ scalar word.now }
 {
@@ -54,6 +55,7 @@ fn integer(word: &[u8]) -> Option<Shape>
     }
 }
 
+/// Returns the shape of a map's key that the word is, or `None`.
 pub(crate) fn scalar_key(word: &[u8]) -> Option<KeyShape>
     ensures { option_map key_shape_of result ≡ scalar_key word.now }
 {

@@ -59,6 +59,7 @@ fn address(alloc: Global) -> Result<Shape, AllocError>
     Ok(Shape::Struct(fields))
 }
 
+// Returns the shape of a person.
 fn person(alloc: Global) -> Result<Shape, AllocError>
     ensures { IfOk result (λ shape. shape_of shape ≡ spec.person) }
 {

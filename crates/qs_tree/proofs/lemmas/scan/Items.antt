@@ -17,10 +17,7 @@ not_empty t more h e = let w = eqb-true (length (t.raw ++ more)) 0 e in absurd (
 amp_ends : (depth : ℕ) (k : Kind) → is_amp k ≡ true → ends_root depth k ≡ true
 amp_ends zero Amp e = refl
 amp_ends (suc depth) Amp e = refl
-amp_ends depth Equals e = cc
-amp_ends depth Open e = cc
-amp_ends depth Close e = cc
-amp_ends depth Other e = cc
+amp_ends depth k e = cc
 
 module _ (depth : ℕ) where
   -- where the root key is empty and `&` or the end follows, nothing else was there

@@ -65,15 +65,8 @@ undecided Greater o h = absurd (true≢false h)
 pub eight_bytes : (xs : List ℕ) → 8 ≤ length xs
     → slice_index xs 0 * 72057594037927936 + slice_index xs 1 * 281474976710656 + slice_index xs 2 * 1099511627776 + slice_index xs 3 * 4294967296
     + slice_index xs 4 * 16777216 + slice_index xs 5 * 65536 + slice_index xs 6 * 256 + slice_index xs 7 ≡ big_endian 0 (take 8 xs)
-eight_bytes [] h = absurd (omega arith)
-eight_bytes (a ∷ []) h = absurd (omega arith)
-eight_bytes (a ∷ b ∷ []) h = absurd (omega arith)
-eight_bytes (a ∷ b ∷ c ∷ []) h = absurd (omega arith)
-eight_bytes (a ∷ b ∷ c ∷ d ∷ []) h = absurd (omega arith)
-eight_bytes (a ∷ b ∷ c ∷ d ∷ e ∷ []) h = absurd (omega arith)
-eight_bytes (a ∷ b ∷ c ∷ d ∷ e ∷ f ∷ []) h = absurd (omega arith)
-eight_bytes (a ∷ b ∷ c ∷ d ∷ e ∷ f ∷ g ∷ []) h = absurd (omega arith)
 eight_bytes (a ∷ b ∷ c ∷ d ∷ e ∷ f ∷ g ∷ i ∷ xs) h = omega arith
+eight_bytes xs h = absurd (omega arith)
 
 -- what is found first, or else later
 module _ (found later all : Ordering) (is : all ≡ ordering_then found later) where

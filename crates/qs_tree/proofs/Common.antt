@@ -8,13 +8,9 @@ pub use Rattle.qs_spec.specs.Grammar.{ArePairs, Pair, direct, ends_last, ends_ro
 pub use Rattle.qs_spec.specs.Leaf.{Leaf}
 pub use Rattle.qs_spec.specs.Marks.{entries_marks, items_marks, key_marks, marks}
 pub use Rattle.qs_spec.specs.Order.{AreAlike, AreReordered, unmarked}
-pub use Rattle.qs_spec.specs.Segment.{Segment, Step, compare_segments, is_index, is_same_segment, number, segment_of, step_of}
-pub use Rattle.qs_spec.specs.Segment.Segment.{Int, Str}
-pub use Rattle.qs_spec.specs.Token.{Kind, Token, byte_kind, byte_token, is_escaped_bracket, raw_of, tokens}
-pub use Rattle.qs_spec.specs.Token.Kind.{Amp, Close, Equals, Open, Other}
-pub use Rattle.qs_spec.specs.Tree.{Entries, IsRefused, IsTree, Tree, empty_step, entries_of, flat, head_mark, heads, node_within}
-pub use Rattle.qs_spec.specs.Tree.Entries.{entry, no_entries}
-pub use Rattle.qs_spec.specs.Tree.Tree.{leaf, mapping, sequence, uninitialized}
+pub use Rattle.qs_spec.specs.Segment.{Segment, Step, compare_segments, is_index, is_same_segment, number, segment_of, step_of, Int, Str}
+pub use Rattle.qs_spec.specs.Token.{Kind, Token, byte_kind, byte_token, is_escaped_bracket, raw_of, tokens, Amp, Close, Equals, Open, Other}
+pub use Rattle.qs_spec.specs.Tree.{Entries, IsRefused, IsTree, Tree, empty_step, entries_of, flat, head_mark, heads, node_within, entry, no_entries, leaf, mapping, sequence, uninitialized}
 pub use Rattle.qs_spec.specs.internal.InPlace.{add, add_all, add_below, add_flat, add_here, push_item, update, update_by}
 pub use Rattle.qs_spec.specs.internal.Parsing.{Rest, after_close, after_close_at, after_root, after_root_at, after_run, and_pairs, cut, cut_at, in_last, in_segment, named, parsed_brackets, parsed_pairs, parsed_value, value_at, with_leaf}
 pub use Rattle.qs_tree.specs.Error.{IfParse, IsOutOfMemory, IsParse, OnlyOutOfMemory, OnlyParseOrOutOfMemory}
@@ -24,7 +20,7 @@ pub use Rattle.qs_tree.specs.declared.build.builder.TreeBuilder.{TreeBuilder, Va
 pub use Rattle.qs_tree.specs.declared.build.conflict.AddError.{AddError}
 pub use Rattle.qs_tree.specs.declared.build.finishing.Frame.{Frame}
 pub use Rattle.qs_tree.specs.declared.error.Error.{Error}
-pub use Rattle.qs_tree.specs.declared.error.Error.TheVariants.{Custom, Failed, FromUtf8, Io, MaxSerializationDepthExceeded, OutOfMemory, Parse, ParseInt, Unsupported, Utf8}
+pub use Rattle.qs_tree.specs.declared.error.Error.TheVariants.{OutOfMemory, Parse}
 pub use Rattle.qs_tree.specs.declared.tree.key.Key.{Key}
 pub use Rattle.qs_tree.specs.declared.tree.map.ParsedMap.{ParsedMap}
 pub use Rattle.qs_tree.specs.declared.tree.value.ParsedValue.{Map, NoValue, Null, ParsedValue, Sequence, Uninitialized, ind-ParsedValue, the_lemmas}
@@ -32,7 +28,7 @@ pub use Rattle.qs_tree.specs.declared.tree.value.ParsedValue.TheViews.{roll-Pars
 pub use Rattle.qs_tree.specs.escape.Classes.{is_ampersand, is_encoded, is_escape}
 pub use Rattle.qs_tree.specs.internal.Parsing.{Returns, grown}
 pub use Rattle.qs_tree.specs.internal.build.Adding.{Adds, Gives, IsRejected, entries_below, second}
-pub use Rattle.qs_tree.specs.internal.build.Builder.{IsFlat, IsNoMap, Takes, as_builders, built_entries, built_tree, child, entries_held, entries_seen, fresh, unsorted_entries}
+pub use Rattle.qs_tree.specs.internal.build.Builder.{IsFlat, Takes, as_builders, built_entries, built_tree, child, entries_held, entries_seen, fresh, unsorted_entries}
 pub use Rattle.qs_tree.specs.internal.build.Descent.{IsBarred, IsOpen, Leads, put_all_back, put_back}
 pub use Rattle.qs_tree.specs.internal.build.Finishing.{IsOpened, built_pairs, entries_map_count, left_pairs, level_pairs, maps_left, with_node}
 pub use Rattle.qs_tree.specs.internal.build.Unsorted.{AreLeaves, entries_of_leaves, is_leaf, leaf_held, leaf_pairs}
@@ -54,11 +50,11 @@ pub use Rattle.qs_tree.specs.tree.Owned.{entries_own, items_own, key_owns, map_o
 pub use Rattle.qs_tree.specs.tree.Views.{entries_from, entries_of_map, entry_list, find, items_of, key_mark, map_pairs, segment_of_key, step_of_key, take_out, tree_of}
 pub use Rattle.std.proofs.Math.ListN.{drop_of_length-le}
 pub use Rattle.std.proofs.Math.Seq.{take-add, take-append-add, take-append_seam, take-length}
-pub use Rattle.std.proofs.lemmas.Bool.{agree_below, agree_below_at, both_ways, cases_Bool, cases_lt, cond-false, cond-true, le-leb, le-ltb, leb-false, leb-true, lt-leb, lt-ltb, ltb-false, ltb-true, not-false, not-true}
+pub use Rattle.std.proofs.lemmas.Bool.{agree_below, agree_below_at, cases_Bool, cases_lt, cond-false, cond-true, le-leb, le-ltb, leb-false, leb-true, lt-leb, lt-ltb, ltb-false, not-false, not-true}
 pub use Rattle.std.proofs.lemmas.List.{drop-append-le, drop_all, drop_at, drop_more, length-map, length-take-le, map-append, map-id, take-append-drop, take-map, take-take, take_all}
 pub use Rattle.std.proofs.lemmas.List.Elements.{All-from_get_or, filter_agree}
 pub use Rattle.std.proofs.lemmas.List.Folds.{list_all-append, list_any_none}
-pub use Rattle.std.proofs.lemmas.List.Sums.{count_by-le-length, fails_before_first, passes_at_first, position_or_len_is, sum_by-append, sum_by-cons}
+pub use Rattle.std.proofs.lemmas.List.Sums.{count_by-le-length, fails_before_first, position_or_len_is, sum_by-append, sum_by-cons}
 pub use Rattle.std.proofs.lemmas.Option.{none-some, same_Some, slice_get-get_or}
 pub use Rattle.std.proofs.lemmas.Result.{IfOk-weaker}
 pub use Rattle.std.proofs.lemmas.Simd.{bitmask_splat, chunk-fits, first_set_mask_l, length-chunk, map-map, mask_l-lt, mask_l-mod, ones-mask_l, run_in_chunk_fails, run_in_chunk_le, run_in_chunk_stops, splat_is_map, take_more_put_chunk, tops_compared, zip2_of_maps, zip2_splat}

@@ -1,4 +1,7 @@
 //! Errors.
+ghost use Rattle.std.specs.Prelude.{◌≡◌, ◌++◌, Some, codes};
+ghost use Rattle.qs_tree.specs.Error.{IsCustomSaying, IsParseSaying, error_text};
+ghost use Rattle.qs_tree.specs.declared.error.Error.TheVariants.{FromUtf8, Io, OutOfMemory, ParseInt, Utf8};
 
 use std::alloc::{AllocError, AllocFailed, Global};
 use std::fmt::Display;
@@ -37,9 +40,6 @@ pub enum Error {
 }
 
 impl Error {
-    ghost use Rattle.std.specs.Prelude.{◌++◌, Some, codes};
-    ghost use Rattle.qs_tree.specs.Error.{IsCustomSaying, IsParseSaying};
-
     /// Returns a [`Custom`](Error::Custom) error for a kind of value that can't be read at the top level.
     ///
     /// Allocates the message, and takes time with its length. Returns [`OutOfMemory`](Error::OutOfMemory) where that failed.
@@ -96,8 +96,6 @@ impl Error {
 }
 
 impl Display for Error {
-    ghost use Rattle.qs_tree.specs.Error.{error_text};
-
     ghost output = { λ e. error_text e };
 
     fn fmt<W: fmt::Write>(&self, f: &mut fmt::Formatter<W>) -> fmt::Result {
@@ -124,9 +122,6 @@ impl Display for Error {
 }
 
 impl From<string::FromUtf8Error> for Error {
-    ghost use Rattle.std.specs.Prelude.{◌≡◌};
-    ghost use Rattle.qs_tree.specs.declared.error.Error.TheVariants.{FromUtf8};
-
     ghost from_gives = { λ cause e. e ≡ FromUtf8 cause };
 
     fn from(cause: string::FromUtf8Error) -> Error {
@@ -135,9 +130,6 @@ impl From<string::FromUtf8Error> for Error {
 }
 
 impl From<io::Error> for Error {
-    ghost use Rattle.std.specs.Prelude.{◌≡◌};
-    ghost use Rattle.qs_tree.specs.declared.error.Error.TheVariants.{Io};
-
     ghost from_gives = { λ cause e. e ≡ Io cause };
 
     fn from(cause: io::Error) -> Error {
@@ -146,9 +138,6 @@ impl From<io::Error> for Error {
 }
 
 impl From<num::ParseIntError> for Error {
-    ghost use Rattle.std.specs.Prelude.{◌≡◌};
-    ghost use Rattle.qs_tree.specs.declared.error.Error.TheVariants.{ParseInt};
-
     ghost from_gives = { λ cause e. e ≡ ParseInt cause };
 
     fn from(cause: num::ParseIntError) -> Error {
@@ -157,9 +146,6 @@ impl From<num::ParseIntError> for Error {
 }
 
 impl From<str::Utf8Error> for Error {
-    ghost use Rattle.std.specs.Prelude.{◌≡◌};
-    ghost use Rattle.qs_tree.specs.declared.error.Error.TheVariants.{Utf8};
-
     ghost from_gives = { λ cause e. e ≡ Utf8 cause };
 
     fn from(cause: str::Utf8Error) -> Error {
@@ -168,9 +154,6 @@ impl From<str::Utf8Error> for Error {
 }
 
 impl From<AllocError> for Error {
-    ghost use Rattle.std.specs.Prelude.{◌≡◌};
-    ghost use Rattle.qs_tree.specs.declared.error.Error.TheVariants.{OutOfMemory};
-
     ghost from_gives = { λ _ e. e ≡ OutOfMemory };
 
     fn from(_: AllocError) -> Error {
@@ -179,9 +162,6 @@ impl From<AllocError> for Error {
 }
 
 impl<T: Drop> From<AllocFailed<T>> for Error {
-    ghost use Rattle.std.specs.Prelude.{◌≡◌};
-    ghost use Rattle.qs_tree.specs.declared.error.Error.TheVariants.{OutOfMemory};
-
     ghost from_gives = { λ _ e. e ≡ OutOfMemory };
 
     fn from(_: AllocFailed<T>) -> Error {

@@ -1,5 +1,5 @@
 -- What the pairs of an input make of a tree, item by item.
-use Rattle.qs_tree.proofs.Common.{◌≡◌, ℕ, ◌==◌, Bool, false, IfOk, List, [], ◌∷◌, length, refl, sym, ap, ◌∙◌, subst, Option, Some, None, option_map, option_and_then, Result, Ok, Err, none-some, Token, tokens, Pair, Tree, IsTree, IsRefused, uninitialized, parsed_pairs, add, add_all, Error, Custom, MaxSerializationDepthExceeded, Parse, Unsupported, FromUtf8, Io, ParseInt, Utf8, OutOfMemory, Failed, ParsedValue, tree_of, IsParse, grown, Returns}
+use Rattle.qs_tree.proofs.Common.{◌≡◌, ℕ, ◌==◌, Bool, false, IfOk, List, [], ◌∷◌, length, refl, sym, ap, ◌∙◌, subst, Option, Some, None, option_map, option_and_then, Result, Ok, Err, none-some, Token, tokens, Pair, Tree, IsTree, IsRefused, uninitialized, parsed_pairs, add, add_all, Error, Parse, ParsedValue, tree_of, IsParse, grown, Returns}
 use Rattle.qs_spec.proofs.RelatedIsRead.{found_pairs, are_pairs}
 use Rattle.qs_spec.proofs.Scan.{in_place}
 
@@ -43,18 +43,9 @@ module _ (form : Bool) (depth : ℕ) (bytes : List ℕ) (some : (length bytes ==
   result_tree (Err f) h = tt
 
   pub result_rejected : (r : Result ParsedValue Error) → Returns tree_of (grown limit ts uninitialized) bound r → IsParse r → IsRefused form depth bytes
-  result_rejected (Ok v) h p = absurd p
   result_rejected (Err (Parse message at)) h p = by bytes some (about (Err (Parse message at)) h).0
     where
       by : (bytes : List ℕ) → (length bytes == 0) ≡ false → grown depth (tokens form bytes) uninitialized ≡ None → IsRefused form depth bytes
       by [] n a = cc
       by (b ∷ bytes) n a = grown_refusal form depth b bytes a
-  result_rejected (Err OutOfMemory) h p = absurd p
-  result_rejected (Err (Custom message)) h p = absurd p
-  result_rejected (Err (MaxSerializationDepthExceeded d)) h p = absurd p
-  result_rejected (Err Unsupported) h p = absurd p
-  result_rejected (Err (FromUtf8 cause)) h p = absurd p
-  result_rejected (Err (Io cause)) h p = absurd p
-  result_rejected (Err (ParseInt cause)) h p = absurd p
-  result_rejected (Err (Utf8 cause)) h p = absurd p
-  result_rejected (Err Failed) h p = absurd p
+  result_rejected r h p = absurd p

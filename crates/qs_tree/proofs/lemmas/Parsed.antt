@@ -1,5 +1,5 @@
 -- From the tree of a result to all that `Parses` promises of it.
-use Rattle.qs_tree.proofs.Common.{Global, ◌≡◌, ◌≢◌, ℕ, ◌+◌, ◌≤◌, ◌⊎◌, inl, inr, Bool, List, [], ◌∷◌, length, refl, sym, ap, ◌∙◌, IfOk, Option, Result, Ok, Err, ◌==◌, true, eqb-true, arith, rules, IfOk-weaker, Tree, IsTree, IsRefused, Pair, ArePairs, tokens, AreReordered, AreAlike, marks, one_tree, Error, Custom, MaxSerializationDepthExceeded, Parse, Unsupported, FromUtf8, Io, ParseInt, Utf8, OutOfMemory, Failed, ParsedValue, NoValue, the_lemmas, tree_of, IsParse, IfParse, IsOutOfMemory, OnlyOutOfMemory, OnlyParseOrOutOfMemory, owns, Returns, HoldsOf}
+use Rattle.qs_tree.proofs.Common.{Global, ◌≡◌, ◌≢◌, ℕ, ◌+◌, ◌≤◌, ◌⊎◌, inl, inr, Bool, List, [], ◌∷◌, length, refl, sym, ap, ◌∙◌, IfOk, Option, Result, Ok, Err, ◌==◌, true, eqb-true, arith, rules, IfOk-weaker, Tree, IsTree, IsRefused, Pair, ArePairs, tokens, AreReordered, AreAlike, marks, one_tree, Error, Parse, OutOfMemory, ParsedValue, NoValue, the_lemmas, tree_of, IsParse, IfParse, IsOutOfMemory, OnlyOutOfMemory, OnlyParseOrOutOfMemory, owns, Returns, HoldsOf}
 use Rattle.std.specs.declared.string.String.{String}
 use Rattle.qs_spec.specs.Holds.{IsSound, leaf_count, nesting}
 use Rattle.qs_spec.specs.Input.{HasPairs, IsReordered}
@@ -40,14 +40,7 @@ module _ (form : Bool) (depth : ℕ) (bytes : List ℕ) (expected : Option Tree)
   only P value parse memory (Ok v) outcome = value v
   only P value parse memory (Err (Parse message at)) outcome = parse message at outcome.1
   only P value parse memory (Err OutOfMemory) outcome = memory
-  only P value parse memory (Err (Custom message)) outcome = absurd outcome
-  only P value parse memory (Err (MaxSerializationDepthExceeded d)) outcome = absurd outcome
-  only P value parse memory (Err Unsupported) outcome = absurd outcome
-  only P value parse memory (Err (FromUtf8 cause)) outcome = absurd outcome
-  only P value parse memory (Err (Io cause)) outcome = absurd outcome
-  only P value parse memory (Err (ParseInt cause)) outcome = absurd outcome
-  only P value parse memory (Err (Utf8 cause)) outcome = absurd outcome
-  only P value parse memory (Err Failed) outcome = absurd outcome
+  only P value parse memory (Err error) outcome = absurd outcome
 
   pub accepted : (r : Result ParsedValue Error) → Returns tree_of expected bound r → (IsParse r → IsRefused form depth bytes) → (t : Tree) → IsTree form depth bytes t → OnlyOutOfMemory r
   accepted r outcome refused t h =
@@ -68,15 +61,7 @@ module _ (form : Bool) (depth : ℕ) (bytes : List ℕ) where
       → (other : List ℕ) → IsReordered form depth bytes other → HoldsOf form depth other r
   reordered (Ok v) tree refused other h = (alike form depth bytes other h).there (tree_of v) tree
   reordered (Err (Parse message at)) tree refused other h = λ u g. let was = (alike form depth bytes other h).back u g in refused tt was.0 was.1
-  reordered (Err OutOfMemory) tree refused other h = tt
-  reordered (Err (Custom message)) tree refused other h = tt
-  reordered (Err (MaxSerializationDepthExceeded d)) tree refused other h = tt
-  reordered (Err Unsupported) tree refused other h = tt
-  reordered (Err (FromUtf8 cause)) tree refused other h = tt
-  reordered (Err (Io cause)) tree refused other h = tt
-  reordered (Err (ParseInt cause)) tree refused other h = tt
-  reordered (Err (Utf8 cause)) tree refused other h = tt
-  reordered (Err Failed) tree refused other h = tt
+  reordered (Err error) tree refused other h = tt
 
 -- the empty input
 pub empty_tree : (form : Bool) (depth : ℕ) (bytes : List ℕ) → (length bytes == 0) ≡ true → IsTree form depth bytes (tree_of NoValue)

@@ -1,5 +1,5 @@
 -- A value of the code, level by level, beside the tree that it is.
-use Rattle.qs_tree.proofs.Common.{◌≡◌, List, [], ◌∷◌, ◌++◌, Vec, Global, ℕ, true, false, None, refl, ap, ◌∙◌, rules, CowSlice, Borrowed, Owned, Leaf, Tree, leaf, sequence, mapping, uninitialized, add_flat, add_here, push_item, ParsedValue, Map, Sequence, Null, NoValue, Uninitialized, the_lemmas, ParsedMap, MapBuilder, built_tree, built_entries, fresh, second, entries_below, IsTrue, is_leaf, unsorted_entries, tree_of, entries_of_map, items_of}
+use Rattle.qs_tree.proofs.Common.{◌≡◌, List, [], ◌∷◌, ◌++◌, Vec, Global, ℕ, true, false, None, refl, ap, ◌∙◌, rules, CowSlice, Borrowed, Owned, Leaf, Tree, leaf, sequence, mapping, uninitialized, add_flat, add_here, push_item, ParsedValue, Map, Sequence, Null, NoValue, Uninitialized, the_lemmas, ParsedMap, MapBuilder, built_tree, built_entries, fresh, second, entries_below, unsorted_entries, tree_of, entries_of_map, items_of}
 use Rattle.qs_spec.specs.Leaf.Leaf.{Text, Null as leaf_null, NoValue as leaf_none}
 use Rattle.qs_spec.specs.Tree.Items.{item}
 use Rattle.qs_tree.specs.declared.tree.value.ParsedValue.{String}
@@ -41,17 +41,6 @@ pub below-String : (s : CowSlice ℕ Global) → entries_below (tree_of (String 
 below-String (Borrowed r) = let is : tree_of (String (Borrowed r)) ≡ leaf (Text r.now false) = search (rules, the_lemmas) in rw is
 below-String (Owned v) = let is : tree_of (String (Owned v)) ≡ leaf (Text v.items true) = search (rules, the_lemmas) in rw is
 
--- a string is a leaf
-pub leaf-String : (s : CowSlice ℕ Global) → IsTrue (is_leaf (tree_of (String s)))
-leaf-String (Borrowed r) = let is : tree_of (String (Borrowed r)) ≡ leaf (Text r.now false) = search (rules, the_lemmas) in rw is
-leaf-String (Owned v) = let is : tree_of (String (Owned v)) ≡ leaf (Text v.items true) = search (rules, the_lemmas) in rw is
-
-pub leaf-Null : IsTrue (is_leaf (tree_of Null))
-leaf-Null = let is : tree_of Null ≡ leaf leaf_null = search (rules, the_lemmas) in rw is
-
-pub leaf-NoValue : IsTrue (is_leaf (tree_of NoValue))
-leaf-NoValue = let is : tree_of NoValue ≡ leaf leaf_none = search (rules, the_lemmas) in rw is
-
 pub below-Null : entries_below (tree_of Null) ≡ None
 below-Null = let is : tree_of Null ≡ leaf leaf_null = search (rules, the_lemmas) in rw is
 
@@ -63,9 +52,7 @@ below-Sequence v = rw (tree_of-Sequence v)
 
 pub here-push : (l : Leaf) (t : Tree) → add_here true l t ≡ add_flat true l t
 here-push l (leaf o) = refl
-here-push l (sequence xs) = refl
-here-push l (mapping es) = refl
-here-push l uninitialized = refl
+here-push l t = refl
 
 pub built_tree-Value : (v : ParsedValue) → built_tree (builder.Value v) ≡ tree_of v
 built_tree-Value v = search (rules, builder_lemmas)
@@ -79,4 +66,4 @@ built_tree-Map m = search (rules, builder_lemmas)
 pub built_tree-Unsorted : (u : Unsorted) → built_tree (builder.Unsorted u) ≡ mapping (unsorted_entries u)
 built_tree-Unsorted u = search (rules, builder_lemmas)
 
-pub ruleset views = (tree_of-Uninitialized, tree_of-Sequence, tree_of-Map, items_of-push, built_tree-Value, built_tree-Map, built_tree-Unsorted, second-String, second-Null, second-NoValue, here-String, below-String, below-Null, below-NoValue)
+pub ruleset views = (tree_of-Uninitialized, tree_of-Sequence, tree_of-Map, items_of-push, built_tree-Value, built_tree-Map, built_tree-Unsorted, second-String, second-Null, second-NoValue, here-String, below-String, below-Null, below-NoValue, below-Sequence, here-push)

@@ -1,7 +1,6 @@
 -- The settings of the definitions as those of a `Config`, and back.
 use Rattle.std.specs.Prelude.{◌≡◌, refl}
-use Rattle.qs_spec.specs.Config.{Duplicates, take_last, reject, indexed, empty_indexed, unindexed}
-use Rattle.qs_spec.specs.Config.{ArrayFormat as Places}
+use Rattle.qs_spec.specs.Config.{Duplicates, take_last, reject, indexed, empty_indexed, unindexed, ArrayFormat as Places}
 use Rattle.qs_tree.specs.declared.config.ArrayFormat.{ArrayFormat}
 use Rattle.qs_tree.specs.declared.config.ArrayFormat.TheVariants.{Indexed, EmptyIndexed, Unindexed}
 use Rattle.qs_tree.specs.declared.config.DuplicateKeyBehavior.{DuplicateKeyBehavior}

@@ -2,8 +2,7 @@
 use Rattle.std.specs.Prelude.{◌≡◌, ⊤}
 use Rattle.std.specs.declared.cmp.Ordering.TheVariants.{Less}
 use Rattle.qs_spec.specs.Segment.{Segment, compare_segments}
-use Rattle.qs_spec.specs.Tree.{Entries}
-use Rattle.qs_spec.specs.Tree.Entries.{no_entries, entry}
+use Rattle.qs_spec.specs.Tree.{Entries, no_entries, entry}
 
 -- the segment is less than the keys of the entries
 abbrev pub IsBefore : Segment → Entries → Type 0

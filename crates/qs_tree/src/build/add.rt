@@ -1,7 +1,6 @@
 //! Adding a pair to a tree, in place.
 ghost use Rattle.std.specs.Prelude.{◌≡◌, ◌+◌, ◌^◌, ◌<◌, ◌≤◌, [], ◌∷◌, length, drop, true, false, IsOkAnd, Some, None};
-ghost use Rattle.qs_spec.specs.Tree.{empty_step};
-ghost use Rattle.qs_spec.specs.Tree.Tree.{mapping};
+ghost use Rattle.qs_spec.specs.Tree.{empty_step, mapping};
 ghost use Rattle.qs_spec.specs.internal.InPlace as in_place;
 ghost use Rattle.qs_spec.specs.internal.InPlace.{add, add_flat, update};
 ghost use Rattle.qs_tree.specs.declared.scan.pair.Manner.TheVariants.{Plain};

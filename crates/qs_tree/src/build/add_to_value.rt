@@ -2,8 +2,7 @@
 ghost use Rattle.std.specs.Prelude.{◌≡◌, ◌<◌, ◌≤◌, true, false, length, drop, IfOk, IsOkAnd, Some};
 ghost use Rattle.std.specs.List.Sorted.{IsStrictlySortedBy};
 ghost use Rattle.std.specs.Map.{keys_of};
-ghost use Rattle.qs_spec.specs.Tree.{empty_step};
-ghost use Rattle.qs_spec.specs.Tree.Tree.{mapping, uninitialized};
+ghost use Rattle.qs_spec.specs.Tree.{empty_step, mapping, uninitialized};
 ghost use Rattle.qs_spec.specs.internal.InPlace as in_place;
 ghost use Rattle.qs_spec.specs.internal.InPlace.{add, add_flat, update};
 ghost use Rattle.qs_tree.specs.declared.scan.pair.Manner.TheVariants.{Plain};
@@ -50,6 +49,7 @@ pub(crate) fn add_to_value<'qs>(
 
 // Adds a pair to a node at a level above the end of its path.
 #[cycle(add_to_value)]
+#[tactic(auto, using(crate::proofs::lemmas::build::Chains::barred, crate::proofs::lemmas::Views::views))]
 fn add_below<'qs>(
     alloc: Global,
     value: &mut ParsedValue<'qs>,
@@ -154,6 +154,7 @@ fn value_at_end<'qs>(alloc: Global, pair: &mut Pair<'qs>) -> Result<ParsedValue<
 ///
 /// Returns an error where the node is in conflict with it, or where an allocation failed. The node isn't used after that.
 #[inline(always)]
+#[tactic(auto, using(crate::proofs::lemmas::Views::views))]
 pub(crate) fn add_at_end<'qs>(
     alloc: Global,
     value: &mut ParsedValue<'qs>,

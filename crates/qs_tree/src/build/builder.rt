@@ -6,8 +6,7 @@ ghost use Rattle.std.specs.Prelude.{◌≡◌, true, Some, IfOk, IsOk, OnOk, Mat
 ghost use Rattle.std.specs.List.Sorted.{IsStrictlySortedBy};
 ghost use Rattle.std.specs.Map.{keys_of};
 ghost use Rattle.std.specs.BTreeMap.{insert_entry};
-ghost use Rattle.qs_spec.specs.Tree.Tree.{mapping};
-ghost use Rattle.qs_spec.specs.Tree.Entries.{no_entries};
+ghost use Rattle.qs_spec.specs.Tree.{mapping, no_entries};
 ghost use Rattle.qs_spec.specs.internal.InPlace.{update};
 ghost use Rattle.qs_tree.specs.declared.tree.key.Key.{Key};
 ghost use Rattle.qs_tree.specs.tree.Views.{segment_of_key, step_of_key, tree_of, entries_of_map};

@@ -37,6 +37,7 @@ pub fn decode(alloc: Global, bytes: &[u8]) -> Result<CowSlice<'_, u8>>
 }
 
 /// Percent-decodes bytes as [`decode`] does.
+#[tactic(auto, using(crate::proofs::lemmas::escape::DecodedFronts::decoded_unmarked))]
 pub(crate) fn unescape(alloc: Global, bytes: &[u8]) -> Result<CowSlice<'_, u8>, AllocError>
     ensures value { IfOk result (λ text. cow_slice_items text ≡ decoded bytes.now) }
     ensures owned { IfOk result (λ text. is_owned text ≡ is_marked bytes.now) }

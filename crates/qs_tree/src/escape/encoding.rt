@@ -26,6 +26,7 @@ use std::alloc::AllocError;
 /// encode(b"100% a+b", false, &mut out)?; // appends `100%25+a%2Bb`
 /// encode(b"100% a+b", true, &mut out)?; // appends `100%25%20a%2Bb`
 /// ```
+#[tactic(auto, using(crate::proofs::lemmas::escape::EncodedFronts::encoded_few, crate::proofs::lemmas::escape::EncodedFronts::comes_back))]
 pub fn encode(bytes: &[u8], form: bool, out: &mut Vec<u8>) -> Result<()>
     ensures ok { OnOk result (out.new.items ≡ out.old.items ++ encoded form bytes.now) }
     ensures err { OnErr result (out.new.items ≡ out.old.items) }

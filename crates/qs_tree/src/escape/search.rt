@@ -48,6 +48,7 @@ pub fn find_ampersand(bytes: &[u8]) -> Option<usize>
 }
 
 /// Returns the index of the first `&`, or the length, and whether it is known that `+` and `%` aren't before it.
+#[tactic(auto, using(crate::proofs::lemmas::escape::FirstPlace::none_in_front))]
 pub(crate) fn find_value_end(bytes: &[u8]) -> (usize, bool)
     ensures first { result.0 ≡ position_or_len is_ampersand bytes.now }
     ensures plain { IsTrue result.1 → is_marked (take result.0 bytes.now) ≡ false }

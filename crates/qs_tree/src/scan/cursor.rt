@@ -129,6 +129,7 @@ fn first_token(bytes: &[u8], form: bool) -> (Kind, usize)
 
 // Returns the length of a run, without the token that ends it, and whether it is known to be without `+` and `%`.
 #[inline(always)]
+#[tactic(auto, using(crate::proofs::lemmas::escape::FirstPlace::none_in_front))]
 fn run_len(bytes: &[u8], form: bool, until: Until) -> (usize, bool)
     ensures within { result.0 ≤ length bytes.now }
     ensures run { take result.0 bytes.now ≡ raw_of (cut (ends_of until) (tokens form bytes.now)).0 }

@@ -9,6 +9,7 @@ ghost use Rattle.qs_tree.specs.internal.scan.Pairs.{path_of};
 ghost use Rattle.qs_tree.specs.internal.scan.Cursor.{ends_of, left, from_token, taken, GoesOn, IsLeft, KnowsEnd};
 ghost use Rattle.qs_tree.specs.internal.scan.Parser.{IsRootStop, IsClosing, Follows, FollowsStop, IsEnd, IsMore, ParsesItem, ParsesLeaf, ParsesPair, is_nothing, root_path, from_root};
 ghost use Rattle.qs_tree.specs.Parsing.{is_plain, TakesNoMemory};
+ghost use Rattle.qs_tree.specs.declared.scan.parser.ParseError.TheVariants.{OutOfMemory};
 ghost use Rattle.qs_tree.specs.internal.scan.Small.{IsEqualsStop, ParsesBare, ParsesSmall};
 
 use crate::scan::cursor::{Cursor, Kind, Token, Until};
@@ -51,9 +52,6 @@ pub(crate) enum SyntaxError {
 }
 
 impl From<AllocError> for ParseError {
-    ghost use Rattle.std.specs.Prelude.{◌≡◌};
-    ghost use Rattle.qs_tree.specs.declared.scan.parser.ParseError.TheVariants.{OutOfMemory};
-
     ghost from_gives = { λ _ error. error ≡ OutOfMemory };
 
     fn from(_: AllocError) -> ParseError {
@@ -62,9 +60,6 @@ impl From<AllocError> for ParseError {
 }
 
 impl<T: Drop> From<AllocFailed<T>> for ParseError {
-    ghost use Rattle.std.specs.Prelude.{◌≡◌};
-    ghost use Rattle.qs_tree.specs.declared.scan.parser.ParseError.TheVariants.{OutOfMemory};
-
     ghost from_gives = { λ _ error. error ≡ OutOfMemory };
 
     fn from(_: AllocFailed<T>) -> ParseError {

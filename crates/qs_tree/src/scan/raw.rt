@@ -19,6 +19,7 @@ use std::alloc::{AllocError, Global};
 /// Returns an error only where an allocation failed. Borrows a string without `+` and `%`. Where it is known that there are none
 /// (`plain`), they aren't looked for.
 #[inline(always)]
+#[tactic(auto, using(crate::proofs::lemmas::scan::Indexes::text_key))]
 pub(crate) fn parse_key(alloc: Global, raw: &[u8], plain: bool) -> Result<Key<'_>, AllocError>
     requires { IsTrue plain → is_marked raw.now ≡ false }
     ensures key { IfOk result (λ key. step_of_key key ≡ step_of raw.now) }

@@ -1,9 +1,8 @@
 //! Keys of maps.
 ghost use Rattle.std.specs.Prelude.{◌≡◌, false, Some};
 ghost use mathlib.Core.Path.{refl};
-ghost use Rattle.qs_spec.specs.Segment.Segment.{Int, Str};
+ghost use Rattle.qs_spec.specs.Segment.{Int, Str, compare_segments, is_same_segment};
 ghost use Rattle.std.specs.Cmp.{on_per, on_equiv, on_po, on_total, partial_equiv_from_equiv, eq_by_cmp_equiv, partial_order_from_agreeing_total};
-ghost use Rattle.qs_spec.specs.Segment.{compare_segments, is_same_segment};
 ghost use Rattle.qs_spec.proofs.Order.{segments_total};
 ghost use Rattle.std.specs.Fmt.{WritesOnOk};
 ghost use Rattle.std.specs.Str.Lossy.{utf8_lossy};

@@ -64,6 +64,7 @@ impl<'qs> ParsedMap<'qs> {
 
     /// Returns the number of entries. Takes constant time, and doesn't allocate.
     #[must_use]
+    #[tactic(auto, using(crate::proofs::lemmas::tree::Keys::lengths))]
     pub fn len(&self) -> usize
         ensures { result ≡ length (map_pairs self.now) }
     {
@@ -113,7 +114,7 @@ impl<'qs> ParsedMap<'qs> {
     pub fn at(&self, at: usize) -> Option<(&Key<'qs>, &ParsedValue<'qs>)>
         ensures { option_map (λ p. (step_of_key p.0.now, tree_of p.1.now)) result ≡ slice_get (map_pairs self.now) at }
     {
-        self.entry_at(at)
+        self.map.at(at)
     }
 
     /// Removes a key, and returns its value. Returns `None` for a missing key, and changes nothing.
@@ -153,13 +154,6 @@ impl<'qs> ParsedMap<'qs> {
     {
         let ParsedMap { map } = self;
         map
-    }
-
-    // Returns the entry at an index, or `None`.
-    fn entry_at(&self, at: usize) -> Option<(&Key<'qs>, &ParsedValue<'qs>)>
-        ensures { option_map (λ p. (p.0.now, p.1.now)) result ≡ slice_get self.now.map at }
-    {
-        self.map.at(at)
     }
 }
 

@@ -29,6 +29,7 @@ pub(crate) fn same_nodes<'qs>(left: &ParsedValue<'qs>, right: &ParsedValue<'qs>)
 
 /// Returns whether two maps have equal entries, ignoring ownership.
 #[cycle(sameness)]
+#[tactic(auto, using(crate::proofs::lemmas::tree::NodeCounts::entry_at_within))]
 pub(crate) fn same_entries<'qs>(
     left: &[(Key<'qs>, ParsedValue<'qs>)],
     right: &[(Key<'qs>, ParsedValue<'qs>)],
@@ -60,6 +61,7 @@ fn same_entry<'qs>(
 
 // Returns whether two sequences have equal items.
 #[cycle(sameness)]
+#[tactic(auto, using(crate::proofs::lemmas::tree::Lengths::other_items, crate::proofs::lemmas::tree::NodeCounts::item_at_within))]
 fn same_items<'qs>(left: &[ParsedValue<'qs>], right: &[ParsedValue<'qs>]) -> bool
     ensures { result ≡ items_same (items_of left.now) (items_of right.now) }
 {

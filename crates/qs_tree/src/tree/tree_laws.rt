@@ -10,12 +10,14 @@ ghost use Rattle.qs_tree.specs.tree.Keys.{key_cmp, key_eq, value_eq};
 ghost use Rattle.qs_tree.specs.tree.Views.{segment_of_key, tree_of};
 
 /// The order of keys is that of their segments, which ignores ownership, and is total.
+#[tactic(auto, using(crate::proofs::lemmas::tree::Equality::order))]
 pub fn order_of_keys()
     ensures segments { (a b : Key) → key_cmp a b ≡ compare_segments (segment_of_key a) (segment_of_key b) }
     ensures total { IsTotalOrder key_cmp }
 {}
 
 /// Two keys are equal exactly where their segments are, which ignores ownership, and where they compare as `Equal`.
+#[tactic(auto, using(crate::proofs::lemmas::tree::Equality::equal_keys, crate::proofs::lemmas::tree::Equality::equal_in_order))]
 pub fn equality_of_keys()
     ensures segments { (a b : Key) → IsTrue (key_eq a b) ↔ segment_of_key a ≡ segment_of_key b }
     ensures order { (a b : Key) → IsTrue (key_eq a b) ↔ key_cmp a b ≡ Equal }

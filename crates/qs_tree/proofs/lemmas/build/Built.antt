@@ -1,5 +1,6 @@
 -- What a map under construction holds after a step.
 use Rattle.qs_tree.proofs.Common.{◌≡◌, ℕ, List, [], ◌∷◌, ◌++◌, length, slice_get, Option, Some, None, option_map, unwrap_or, Result, Ok, Err, Ordering, Less, Equal, Greater, refl, sym, ap, ◌∙◌, arith, rules, Global, AllByRecursion, IsStrictlySortedBy, keys_of, lookup, set_value, ordering_reverse, is_at, insert_entry, BTreeMap, Tree, Entries, uninitialized, compare_segments, update, Key, TreeBuilder, AddError, key_cmp, Gives, IsHit, IsGap, put_value, segment_of_key, step_of_key, find, built_tree, built_entries, entries_seen, entries_held, as_builders, fresh, child, Takes}
+use Rattle.qs_spec.proofs.GoodParts.{all_to}
 use Rattle.qs_tree.specs.declared.build.builder.MapBuilder.{the_lemmas}
 use Rattle.qs_tree.specs.declared.build.builder.MapBuilder.TheVariants as form
 use Rattle.qs_tree.specs.contracts.tree.key.KeyOrd.TheImpl.Laws.{total-law}
@@ -31,14 +32,12 @@ module _ {X : Type 0} (seen : X → Tree) (k : Key) where
     where
       by : update (step_of_key k) (λ _. Some (seen v)) (seen_view seen es) ≡ Some (seen_view seen (insert_entry key_cmp es k v)) → (o : Ordering) → key_cmp k e.0 ≡ o
           → update (step_of_key k) (λ _. Some (seen v)) (seen_view seen (e ∷ es)) ≡ Some (seen_view seen (insert_entry key_cmp (e ∷ es) k v))
-      by more Less d = rw (← key_cmp-segments k e.0, d)
-      by more Equal d = rw (← key_cmp-segments k e.0, d)
       by more Greater d = rw (← key_cmp-segments k e.0, d, more)
+      by more o d = rw (← key_cmp-segments k e.0, d)
 
   -- no key is this one
   all_above : (l : Key) (ks : List Key) → key_cmp k l ≡ Less → AllByRecursion (λ y. key_cmp l y ≡ Less) ks → AllByRecursion (λ y. key_cmp k y ≡ Less) ks
-  all_above l [] less h = tt
-  all_above l (y ∷ ks) less h = (total-law.trans k l y less h.0, all_above l ks less h.1)
+  all_above l ks less h = all_to _ _ (λ y. total-law.trans k l y less) ks h
 
   none_set : (es : List (Key × X)) (w : X) → AllByRecursion (λ y. key_cmp k y ≡ Less) (keys_of es) → set_value (is_at (key_cmp k)) es w ≡ es
   none_set [] w h = refl

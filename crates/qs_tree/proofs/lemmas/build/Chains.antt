@@ -1,5 +1,5 @@
 -- A node with one pair alone, and what a finished map holds after a step.
-use Rattle.qs_tree.proofs.Common.{◌≡◌, ℕ, zero, suc, ◌≤◌, ◌<◌, Bool, true, false, List, [], ◌∷◌, ◌++◌, length, drop, slice_get, Some, None, option_map, unwrap_or, Result, Ok, Err, refl, sym, ap, ◌∙◌, arith, drop-append-le, same_Some, IsStrictlySortedBy, keys_of, insert_entry, Step, Leaf, Tree, mapping, uninitialized, entry, no_entries, add_flat, add, Key, ParsedValue, Uninitialized, AddError, key_cmp, segment_of_key, key_mark, step_of_key, tree_of, path_of, IsHit, IsGap, put_value, entries_held, Adds, entries_below}
+use Rattle.qs_tree.proofs.Common.{map-append, ◌≡◌, ℕ, zero, suc, ◌≤◌, ◌<◌, Bool, true, false, List, [], ◌∷◌, ◌++◌, length, drop, slice_get, Some, None, option_map, unwrap_or, Result, Ok, Err, refl, sym, ap, ◌∙◌, arith, drop-append-le, same_Some, IsStrictlySortedBy, keys_of, insert_entry, Step, Leaf, Tree, mapping, uninitialized, entry, no_entries, add_flat, add, Key, ParsedValue, Uninitialized, AddError, key_cmp, segment_of_key, key_mark, step_of_key, tree_of, path_of, IsHit, IsGap, put_value, entries_held, Adds, entries_below}
 use Rattle.qs_tree.specs.declared.scan.pair.Pair.{Pair}
 use Rattle.qs_tree.proofs.lemmas.Views.{tree_of-Uninitialized}
 use Rattle.qs_tree.proofs.lemmas.tree.Keys.{Held}
@@ -17,15 +17,11 @@ chain-last : (path : List Step) (s : Step) (t : Tree) → chain (path ++ s ∷ [
 chain-last [] s t = refl
 chain-last (r ∷ path) s t = ap (λ u. mapping (entry r.seg r.mark u no_entries)) (chain-last path s t)
 
-path-last : (ks : List Key) (k : Key) → path_of (ks ++ k ∷ []) ≡ path_of ks ++ step_of_key k ∷ []
-path-last [] k = refl
-path-last (j ∷ ks) k = ap (λ l. step_of_key j ∷ l) (path-last ks k)
-
 pub shorter : (level : ℕ) (old new : List Key) (k : Key) (t : Tree) → old ≡ new ++ k ∷ [] → level ≤ length new
     → chain (path_of (drop level old)) t ≡ chain (path_of (drop level new)) (mapping (entry (segment_of_key k) (key_mark k) t no_entries))
 shorter level old new k t is le =
     ap (λ l. chain (path_of l) t) (ap (drop level) is ∙ drop-append-le level new (k ∷ []) le)
-    ∙ ap (λ l. chain l t) (path-last (drop level new) k)
+    ∙ ap (λ l. chain l t) (map-append step_of_key (drop level new) (k ∷ []))
     ∙ chain-last (path_of (drop level new)) (step_of_key k) t
 
 pub alone : (path : List Step) (push : Bool) (l : Leaf) (t : Tree) → add_flat push l uninitialized ≡ Some t → add path push l uninitialized ≡ Some (chain path t)

@@ -1,5 +1,5 @@
 -- What a step of a zipper leaves.
-use Rattle.qs_tree.proofs.Common.{◌≡◌, Bool, List, [], ◌∷◌, ◌++◌, Option, Some, None, option_map, option_and_then, refl, sym, ap, subst, ◌∙◌, append-nil, Step, Leaf, Tree, Entries, leaf, sequence, mapping, uninitialized, update, add_below, add, AddError, step_of_key, built_entries, Takes, IsRejected, entries_below, put_back, put_all_back, IsOpen, Leads, IsBarred}
+use Rattle.qs_tree.proofs.Common.{◌≡◌, Bool, List, [], ◌∷◌, ◌++◌, Option, Some, None, option_map, option_and_then, refl, sym, ap, subst, ◌∙◌, append-nil, Step, Leaf, Tree, Entries, mapping, uninitialized, update, add_below, add, AddError, step_of_key, built_entries, Takes, IsRejected, entries_below, put_back, put_all_back, IsOpen, Leads, IsBarred}
 use Rattle.qs_tree.specs.declared.build.descent.Frame.{Frame}
 use Rattle.qs_tree.proofs.lemmas.build.Turns.{rejected_too, updated, one_below}
 
@@ -35,10 +35,9 @@ pub begins : (path : List Step) (node : Tree) → Leads path node [] path node
 begins path node tail push l = sym (itself (add (path ++ tail) push l node))
 
 pub nothing_below : (s : Step) (f : Tree → Option Tree) (t : Tree) → entries_below t ≡ None → add_below s f t ≡ None
-nothing_below s f (leaf l) none = refl
-nothing_below s f (sequence xs) none = refl
 nothing_below s f (mapping es) none = cc
 nothing_below s f uninitialized none = cc
+nothing_below s f t none = refl
 
 module _ (path : List Step) (node : Tree) (ms : List Frame) (s : Step) (rest : List Step) (end : Tree) (way : Leads path node ms (s ∷ rest) end) where
   -- and goes on below one map more

@@ -1,16 +1,15 @@
 -- The finished entries, those in frames and those that are left make the whole tree.
-use Rattle.qs_tree.proofs.Common.{◌≡◌, ℕ, ◌+◌, List, [], ◌∷◌, ◌++◌, refl, sym, ap, ◌∙◌, arith, IsStrictlySortedBy, keys_of, into_iter_items, Tree, Entries, mapping, Key, ParsedValue, TreeBuilder, Frame, key_cmp, tree_of, entries_from, entries_seen, built_pairs, level_pairs, with_node, entries_map_count, maps_left, IsOpened, key_trees}
+use Rattle.qs_tree.proofs.Common.{built_tree, ◌≡◌, ℕ, ◌+◌, List, [], ◌∷◌, ◌++◌, refl, sym, ap, ◌∙◌, arith, IsStrictlySortedBy, keys_of, into_iter_items, Tree, Entries, mapping, Key, ParsedValue, TreeBuilder, Frame, key_cmp, tree_of, entries_from, entries_seen, built_pairs, level_pairs, with_node, entries_map_count, maps_left, IsOpened, key_trees}
+use Rattle.std.proofs.lemmas.Map.Made.{keys_of-map_values}
 use Rattle.qs_tree.specs.declared.build.finishing.Level.{Level}
-use Rattle.qs_tree.proofs.lemmas.tree.Places.{sorted_upto}
+use Rattle.qs_tree.proofs.lemmas.tree.Places.{sorted_upto, keys-append}
 use Rattle.qs_tree.proofs.lemmas.tree.Keys.{Held}
 
 keys-key_trees : (es : Held) (ps : List (Key × Tree)) → keys_of (key_trees es ++ ps) ≡ keys_of es ++ keys_of ps
-keys-key_trees [] ps = refl
-keys-key_trees (e ∷ es) ps = ap (λ l. e.0 ∷ l) (keys-key_trees es ps)
+keys-key_trees es ps = keys-append (key_trees es) ps ∙ ap (λ ks. ks ++ keys_of ps) (keys_of-map_values tree_of es)
 
 pub keys-built_pairs : (es : List (Key × TreeBuilder)) → keys_of (built_pairs es) ≡ keys_of es
-keys-built_pairs [] = refl
-keys-built_pairs (e ∷ es) = ap (λ l. e.0 ∷ l) (keys-built_pairs es)
+keys-built_pairs es = keys_of-map_values built_tree es
 
 -- the keys of entries in order are, up to one of them
 pub may_push : (es : Held) (k : Key) (t : Tree) (ps : List (Key × Tree)) → IsStrictlySortedBy key_cmp (keys_of (key_trees es ++ (k, t) ∷ ps)) → IsStrictlySortedBy key_cmp (keys_of es ++ k ∷ [])

@@ -1,5 +1,6 @@
 -- What a step of adding a pair leaves.
-use Rattle.qs_tree.proofs.Common.{◌≡◌, Bool, false, List, ◌∷◌, Option, Some, None, option_map, option_and_then, Result, Ok, Err, Ordering, Less, Equal, Greater, refl, sym, ap, subst, ◌∙◌, same_Some, IsErrAnd, Segment, Step, compare_segments, Leaf, Tree, Entries, empty_step, leaf, sequence, mapping, uninitialized, no_entries, entry, update, update_by, add_below, add_flat, add_here, add, segments_total, AddError, find, IsBefore, AreOrdered, child, Gives, IsRejected, entries_below}
+use Rattle.qs_tree.proofs.Common.{◌≡◌, Bool, false, List, ◌∷◌, Option, Some, None, option_map, option_and_then, Result, Ok, Err, Ordering, Less, Equal, Greater, refl, sym, ap, subst, ◌∙◌, same_Some, IsErrAnd, Segment, Step, compare_segments, Leaf, Tree, Entries, empty_step, mapping, uninitialized, no_entries, entry, update, update_by, add_below, add_flat, add_here, add, segments_total, AddError, find, IsBefore, AreOrdered, child, Gives, IsRejected, entries_below}
+use Rattle.qs_tree.proofs.lemmas.tree.Keys.{mapped_twice}
 
 pub gives_err : {A B : Type 0} (view : A → B) (expected : Option B) (r : Result A AddError) (e : AddError) (Q : AddError → Type 0)
     → IsErrAnd r Q → ((y : AddError) → Q y → y ≡ e) → IsRejected expected e → Gives view expected r
@@ -44,15 +45,10 @@ module _ (s : Step) (f : Tree → Option Tree) where
     rejected_there step = updated es ordered ∙ ap (λ t. option_and_then (put_back es) (f t)) (sym there) ∙ ap (option_and_then (put_back es)) step
 
 -- one level down from a node that is a map or becomes one
-fresh_below : (s : Step) (o : Option Tree) → option_map (λ u. mapping (entry s.seg s.mark u no_entries)) o ≡ option_map mapping (option_map (λ u. entry s.seg s.mark u no_entries) o)
-fresh_below s None = refl
-fresh_below s (Some u) = refl
-
 pub one_below : (s : Step) (f : Tree → Option Tree) (t : Tree) (es : Entries) → entries_below t ≡ Some es → add_below s f t ≡ option_map mapping (update s f es)
-one_below s f (leaf l) es is = cc
-one_below s f (sequence xs) es is = cc
 one_below s f (mapping ms) es is = rw (same_Some ms es is)
-one_below s f uninitialized es is = rw (← same_Some no_entries es is) (fresh_below s (f uninitialized))
+one_below s f uninitialized es is = rw (← same_Some no_entries es is) (mapped_twice (λ u. entry s.seg s.mark u no_entries) mapping (f uninitialized))
+one_below s f t es is = cc
 
 -- what is done below a map
 pub below_map : (s : Step) (rest : List Step) (push : Bool) (l : Leaf) (es new : Entries) (r : Result (Unit {0}) AddError)

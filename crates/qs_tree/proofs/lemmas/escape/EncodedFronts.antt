@@ -1,7 +1,6 @@
 -- How many bytes `encoded` has, and what it is up to an escape, and after one.
-use Rattle.qs_tree.proofs.Common.{◌≡◌, ℕ, zero, suc, ◌+◌, ◌*◌, ◌/◌, ◌%◌, ◌<◌, ◌≤◌, true, false, Bool, List, [], ◌∷◌, ◌++◌, map, length, get_or, take, drop, refl, sym, ap, ◌∙◌, arith, ◌||◌, ◌==◌, inl, inr, Fits, w8, cond, count_by, AllByRecursion, digit_glyph, sum_by-cons, cond-true, cond-false, not-true, not-false, cases_Bool, or_both, encoded, spelling, escape, is_kept_in_query, is_escaped, NoneBetween, swapped}
-use Rattle.std.proofs.lemmas.List.{length-append}
-use Rattle.std.proofs.lemmas.Bool.{eqb-true}
+use Rattle.qs_tree.proofs.Common.{◌≡◌, ℕ, zero, suc, ◌+◌, ◌*◌, ◌/◌, ◌%◌, ◌<◌, ◌≤◌, true, false, Bool, List, [], ◌∷◌, ◌++◌, map, length, get_or, take, drop, refl, sym, ap, ◌∙◌, arith, ◌||◌, ◌==◌, inl, inr, Fits, w8, cond, count_by, AllByRecursion, digit_glyph, sum_by-cons, cond-true, cond-false, not-true, not-false, cases_Bool, or_both, decoded, encoded, spelling, escape, is_kept_in_query, is_escaped, NoneBetween, swapped, length-append, eqb-true}
+use Rattle.qs_spec.proofs.Unescaped.{decoded-encoded}
 use Rattle.percent_encoding.specs.Percent.{percent_encode_byte}
 
 pub escape_is : (b : ℕ) → b < 256 → percent_encode_byte b ≡ escape b
@@ -66,6 +65,10 @@ encoded_few form (b ∷ bs) =
       | inr plain ↦ omega (arith, length-append (spelling form b) (encoded form bs), ap length (spelling_plain form b plain), encoded_few form bs)
     ]
 
-pub all_bytes : (bs : List ℕ) → ((k : ℕ) → Fits w8 (get_or bs k 0)) → AllByRecursion (λ b. b < 256) bs
+all_bytes : (bs : List ℕ) → ((k : ℕ) → Fits w8 (get_or bs k 0)) → AllByRecursion (λ b. b < 256) bs
 all_bytes [] fits = tt
 all_bytes (b ∷ bs) fits = ((fits 0).fits, all_bytes bs (λ k. fits (suc k)))
+
+-- what is encoded is decoded to itself
+pub comes_back : (form : Bool) (bs : List ℕ) → ((k : ℕ) → Fits w8 (get_or bs k 0)) → decoded (encoded form bs) ≡ bs
+comes_back form bs fits = decoded-encoded form bs (all_bytes bs fits)

@@ -1,12 +1,5 @@
 -- From the lanes of one load to the mask of a class of bytes.
-use Rattle.qs_tree.proofs.Common.{◌≡◌, ℕ, ◌+◌, ◌%◌, ◌^◌, ◌≤◌, Bool, true, List, [], ◌∷◌, map, length, get_or, replicate, Fits, w8, refl, sym, ap, ◌∙◌, arith, agree_below, agree_below_at, map-map, mask_l-mod, length-chunk, chunk-fits, zip2_of_maps, splat_is_map, zip2_splat, length-map, map-id, Each1, chunk, zip2, mask_l, top, class_mask}
-
--- an operation on two vectors that were computed lane by lane from v
-pub joined : (h : ℕ → ℕ → ℕ) (f g : ℕ → ℕ) (v : List ℕ) {a b : List ℕ} → a ≡ map f v → b ≡ map g v → zip2 h a b ≡ map (λ x. h (f x) (g x)) v
-joined h f g v p q = zip2_of_maps h f g v p q
-
-pub splatted : (h : ℕ → ℕ → ℕ) (v : List ℕ) (n y : ℕ) → length v ≡ n → zip2 h v (replicate n y) ≡ map (λ x. h x y) v
-splatted h v n y long = zip2_splat h v n y long
+use Rattle.qs_tree.proofs.Common.{◌≡◌, ℕ, ◌+◌, ◌%◌, ◌^◌, ◌≤◌, Bool, true, List, [], ◌∷◌, map, length, get_or, replicate, Fits, w8, refl, ap, ◌∙◌, arith, agree_below, agree_below_at, map-map, mask_l-mod, length-chunk, chunk-fits, zip2_of_maps, splat_is_map, length-map, Each1, chunk, zip2, mask_l, top, class_mask}
 
 -- an operation with a splat on a vector that was computed lane by lane from v
 pub after_splat : (h : ℕ → ℕ → ℕ) (f : ℕ → ℕ) (v : List ℕ) (n y : ℕ) → length v ≡ n → {a : List ℕ} → a ≡ map f v → zip2 h a (replicate n y) ≡ map (λ x. h (f x) y) v
@@ -15,9 +8,6 @@ after_splat h f v n y long is = zip2_of_maps h f (λ _. y) v is (splat_is_map v 
 -- the same with the splat first, as `simd_gt` and `simd_ge` compare
 pub before_splat : (h : ℕ → ℕ → ℕ) (f : ℕ → ℕ) (v : List ℕ) (n y : ℕ) → length v ≡ n → {a : List ℕ} → a ≡ map f v → zip2 h (replicate n y) a ≡ map (λ x. h y (f x)) v
 before_splat h f v n y long is = zip2_of_maps h (λ _. y) f v (splat_is_map v n y long) is
-
-pub itself : (v : List ℕ) → v ≡ map (λ x. x) v
-itself v = sym (map-id v)
 
 agree_at_each : (p q : ℕ → Bool) → agree_below p q 256 ≡ true → (xs : List ℕ) → Each1 (Fits w8) xs → map p xs ≡ map q xs
 agree_at_each p q all [] fits = refl

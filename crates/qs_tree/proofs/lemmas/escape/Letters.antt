@@ -10,10 +10,5 @@ letter_alone b small is = by (b == 37) (b == 38) (b == 43) (b == 61) (b == 91) (
   where
     by : (p a s e o c : Bool) → not (p || a || s || e || o || c) ≡ true
         → ((p ≡ false) × (cond a Amp (cond e Equals (cond o Open (cond c Close Other))) ≡ Other)) × ((s || p) ≡ false)
-    by true a s e o c is = cc
-    by false true s e o c is = cc
-    by false false true e o c is = cc
-    by false false false true o c is = cc
-    by false false false false true c is = cc
-    by false false false false false true is = cc
     by false false false false false false is = ((refl, refl), refl)
+    by p a s e o c is = cc

@@ -1,6 +1,5 @@
 -- What query mode doesn't write as itself is a space, or written by an escape.
-use Rattle.qs_tree.proofs.Common.{◌≡◌, ℕ, ◌+◌, Bool, true, false, not, ◌||◌, ◌==◌, cond, List, [], ◌∷◌, map, refl, ap, arith, mask_l, is_kept_in_query, is_encoded, is_escaped}
-use Rattle.std.proofs.lemmas.Bool.{eqb-true}
+use Rattle.qs_tree.proofs.Common.{◌≡◌, ℕ, ◌+◌, Bool, true, false, not, ◌||◌, ◌==◌, cond, List, [], ◌∷◌, map, refl, ap, arith, mask_l, is_kept_in_query, is_encoded, is_escaped, eqb-true}
 
 one_bit : (space kept : Bool) → (space ≡ true → kept ≡ false) → cond space 1 0 + cond (not (kept || space)) 1 0 ≡ cond (not kept) 1 0
 one_bit true true apart = let is = apart refl in absurd (cc)

@@ -1,6 +1,5 @@
 -- The tables have `%` for the bytes that a mode escapes, and for the others what they are written as.
-use Rattle.qs_tree.proofs.Common.{◌≡◌, ◌∙◌, ℕ, ◌<◌, ◌==◌, ◌||◌, true, false, get_or, refl, sym, ap, agree_below_at, swapped, is_escaped}
-use Rattle.std.proofs.lemmas.Bool.{eqb-true}
+use Rattle.qs_tree.proofs.Common.{◌≡◌, ◌∙◌, ℕ, ◌<◌, ◌==◌, ◌||◌, true, false, get_or, refl, sym, ap, agree_below_at, swapped, is_escaped, eqb-true}
 use Rattle.qs_tree.specs.declared.escape.search.encoded.TheConstants.{QUERY, FORM}
 
 pub form_marks : (b : ℕ) → b < 256 → (get_or FORM b 0 == 37) ≡ is_escaped true b

@@ -50,10 +50,7 @@ no_value_token stop t c e closing other = subst (λ s. NoValueAt s c) (sym e) (b
   where
     by : (k : Kind) → kind_of_token t.kind ≡ k → ends_last k ≡ true → is_equals k ≡ false → NoValueAt (Some t) c
     by Amp d closing other = (token_of t ∷ left c, ap (λ k. value_at k (token_of t) (left c)) d, (d, refl))
-    by Equals d closing other = cc
-    by Open d closing other = cc
-    by Close d closing other = cc
-    by Other d closing other = cc
+    by k d closing other = cc
 
 -- the last key: the bracket, a token, and a run
 pub last_found : (path : List Step) (bracket raw : List ℕ) (t : Token) (ts stop : List Token) → is_close t.kind ≡ false → raw ≡ (bracket ++ t.raw) ++ raw_of (cut ends_last ts).0 → (cut ends_last ts).1 ≡ stop
@@ -90,9 +87,7 @@ module _ (room : ℕ) (path : List Step) (t : code.Token) (rest : List Token) wh
   pub next_closing : (k : Kind) → kind_of_token t.kind ≡ k → ends_last k ≡ true → after_close (parsed_brackets room) path (token_of t ∷ rest) ≡ with_leaf (direct path) (parsed_value (token_of t ∷ rest))
   next_closing Amp d h = ap (λ k. after_close_at k (parsed_brackets room) path (token_of t) rest) d ∙ sym (ap (λ k. with_leaf (direct path) (value_at k (token_of t) rest)) d)
   next_closing Equals d h = ap (λ k. after_close_at k (parsed_brackets room) path (token_of t) rest) d ∙ sym (ap (λ k. with_leaf (direct path) (value_at k (token_of t) rest)) d)
-  next_closing Open d h = cc
-  next_closing Close d h = cc
-  next_closing Other d h = cc
+  next_closing k d h = cc
 
   pub next_open : kind_of_token t.kind ≡ Open → after_close (parsed_brackets room) path (token_of t ∷ rest) ≡ parsed_brackets room path t.raw.now rest
   next_open d = ap (λ k. after_close_at k (parsed_brackets room) path (token_of t) rest) d
@@ -115,10 +110,7 @@ root_open depth key stop t ts us path is opens same p =
   where
     by : (k : Kind) → is_open k ≡ true → from_root_at k depth (root_path key) (token_of t) us ≡ parsed_brackets depth (root_path key) t.raw.now us
     by Open e = refl
-    by Amp e = cc
-    by Equals e = cc
-    by Close e = cc
-    by Other e = cc
+    by k e = cc
 
 pub closes : (k : kind.Kind) → (k ≡ kind.TheVariants.Ampersand) ⊎ (k ≡ kind.TheVariants.Equals) → ends_last (kind_of_token k) ≡ true
 closes k h = ⊎_elim (λ e. ap (λ k. ends_last (kind_of_token k)) e) (λ e. ap (λ k. ends_last (kind_of_token k)) e) h

@@ -1,7 +1,5 @@
 -- The number of a raw segment, read from left to right.
-use Rattle.qs_tree.proofs.Common.{◌≡◌, ◌≢◌, ℕ, ◌+◌, ◌-◌, ◌*◌, ◌≤◌, ◌==◌, Bool, true, false, cond, ◌&&◌, ◌||◌, nat_le, List, [], ◌∷◌, refl, sym, ap, ap₂, ◌∙◌, arith, Some, None, fold, list_all, le-leb, lt-leb, leb-true, leb-false, is_between, is_marked, decoded, is_index, number, segment_of, step_of, Int, Str, and_both, same_Some, CowSlice, Borrowed, Owned, segment_of_key, key_mark, step_of_key, index_of, index_from}
-use Rattle.std.proofs.lemmas.Bool.{eqb-true}
-use Rattle.std.specs.declared.alloc.Global.{Global}
+use Rattle.qs_tree.proofs.Common.{◌≡◌, ◌≢◌, ℕ, ◌+◌, ◌-◌, ◌*◌, ◌≤◌, ◌==◌, Bool, true, false, cond, ◌&&◌, ◌||◌, nat_le, List, [], ◌∷◌, refl, sym, ap, ap₂, ◌∙◌, arith, Some, None, fold, list_all, le-leb, lt-leb, leb-true, leb-false, is_between, is_marked, decoded, is_index, number, segment_of, step_of, Int, Str, and_both, same_Some, CowSlice, Borrowed, Owned, segment_of_key, key_mark, step_of_key, index_of, index_from, eqb-true, Global}
 use Rattle.std.specs.Cow.{cow_slice_items}
 use Rattle.qs_tree.specs.declared.tree.key.Key.TheVariants as variant
 use Rattle.qs_tree.specs.escape.Copies.{is_owned}

@@ -1,5 +1,5 @@
 -- One item of what is left, and the pairs after it.
-use Rattle.qs_tree.proofs.Common.{◌≡◌, ℕ, zero, suc, Bool, true, false, ◌&&◌, ◌==◌, List, [], ◌∷◌, ◌++◌, length, refl, sym, ap, ◌∙◌, subst, arith, Option, Some, None, Result, Ok, Err, option_map, eqb-true, length-append, IsErrAnd, Kind, Token, tokens, raw_of, Amp, Equals, Open, Close, Other, step_of, Pair, direct, root, is_amp, ends_root, Rest, cut, cut_at, with_leaf, value_at, parsed_brackets, after_root, after_root_at, named, parsed_pairs, and_pairs, and_both, pair_of, kind_of_token, token_of, from_token, left, IsPast, is_nothing, IsParseError, ParsesPair, ParsesItem, root_path, from_root, from_root_at}
+use Rattle.qs_tree.proofs.Common.{◌≡◌, ℕ, zero, suc, Bool, true, false, ◌&&◌, ◌==◌, List, [], ◌∷◌, ◌++◌, length, refl, sym, ap, ◌∙◌, subst, arith, Option, Some, None, Result, Ok, Err, option_map, eqb-true, length-append, IsErrAnd, Kind, Token, tokens, raw_of, Amp, Equals, Open, step_of, Pair, direct, root, is_amp, ends_root, Rest, cut, cut_at, with_leaf, value_at, parsed_brackets, after_root, after_root_at, named, parsed_pairs, and_pairs, and_both, pair_of, kind_of_token, token_of, from_token, left, IsPast, is_nothing, IsParseError, ParsesPair, ParsesItem, root_path, from_root, from_root_at}
 use Rattle.qs_spec.specs.Leaf.{NoValue}
 use Rattle.qs_spec.proofs.ReadOn.{after_ampersand, after_pair}
 use Rattle.qs_tree.specs.declared.scan.cursor.Token as code
@@ -17,10 +17,7 @@ not_empty t more h e = let w = eqb-true (length (t.raw ++ more)) 0 e in absurd (
 amp_ends : (depth : ℕ) (k : Kind) → is_amp k ≡ true → ends_root depth k ≡ true
 amp_ends zero Amp e = refl
 amp_ends (suc depth) Amp e = refl
-amp_ends depth Equals e = cc
-amp_ends depth Open e = cc
-amp_ends depth Close e = cc
-amp_ends depth Other e = cc
+amp_ends depth k e = cc
 
 module _ (depth : ℕ) where
   -- where the root key is empty and `&` or the end follows, nothing else was there
@@ -75,8 +72,7 @@ module _ (depth : ℕ) where
       by Amp d key h e = named_is key h (sym (ap (λ k. length (raw_of key) == 0 && is_amp k) d) ∙ e) ∙ sym (ap (λ k. with_leaf (direct (root_path (raw_of key))) (value_at k (token_of u) rest)) d)
       by Equals d key h e = ap (λ p. with_leaf (direct p) (value_at Equals (token_of u) rest)) (root_is key h) ∙ sym (ap (λ k. with_leaf (direct (root_path (raw_of key))) (value_at k (token_of u) rest)) d)
       by Open d key h e = ap (λ p. parsed_brackets depth p u.raw.now rest) (root_is key h)
-      by Close d key h e = refl
-      by Other d key h e = refl
+      by k d key h e = refl
 
   pub pair_pairs : (ts : List Token) (stop : Option code.Token) (rest : List Token) → HasBytes ts → (cut (ends_root depth) ts).1 ≡ from_token stop rest
       → is_nothing (raw_of (cut (ends_root depth) ts).0) stop ≡ false → parsed_pairs depth ts ≡ and_pairs depth (from_root depth (raw_of (cut (ends_root depth) ts).0) (from_token stop rest))

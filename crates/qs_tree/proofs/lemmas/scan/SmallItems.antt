@@ -47,12 +47,6 @@ module _ (depth : ℕ) (form : Bool) where
           let all : b ∷ more ≡ b ∷ after = w ∙ ap (λ r. r ++ after) (sym raw) in
           record { empty = n; token = u; is = refl; kind = sym (ap (λ (v : Token). v.kind) same); left = cc }
 
-  amp_byte : (b : ℕ) → (b == 38) ≡ true → byte_kind b ≡ Amp
-  amp_byte b e = ap byte_kind (eqb-true b 38 e)
-
-  equals_byte : (b : ℕ) → (b == 61) ≡ true → byte_kind b ≡ Equals
-  equals_byte b e = ap byte_kind (eqb-true b 61 e)
-
   module _ (key : List ℕ) (stop : Option code.Token) (rest : List Token) (after : List ℕ) where
     -- an `&` with nothing before it
     pub small_nothing : (bytes : List ℕ) (t : code.Token) → key ≡ raw_of (cut (ends_root depth) (tokens form bytes)).0 → (cut (ends_root depth) (tokens form bytes)).1 ≡ from_token stop rest → bytes ≡ key ++ raw_from_token stop after
@@ -63,7 +57,7 @@ module _ (depth : ℕ) (form : Bool) where
         value [] e run token whole = cc
         value (b ∷ v) e run token whole =
             let parts = and_both (b == 61) (is_plain v) e in
-            let k = equals_byte b parts.0 in
+            let k : byte_kind b ≡ Equals = ap byte_kind (eqb-true b 61 parts.0) in
             let h = begins b v key stop rest after run token whole (other_than b 61 parts.0 refl) (ap (λ k. is_amp k || is_equals k) k) in
             let amp = and_both _ (is_amp (kind_of_token h.token.kind)) (sym (ap (is_nothing key) h.is) ∙ nothing) in
             let w : is_amp Equals ≡ true = sym (ap is_amp (h.kind ∙ k)) ∙ amp.1 in cc
@@ -89,14 +83,14 @@ module _ (depth : ℕ) (form : Bool) where
         by : (x : Bool) → is_ampersands (b ∷ v) ≡ x → (x || is_plain_value (b ∷ v)) ≡ true → (key ≡ []) × IsEqualsStop stop × (is_plain after ≡ true)
         by true e s =
             let parts = and_both (b == 38) (is_ampersands v) e in
-            let k = amp_byte b parts.0 in
+            let k : byte_kind b ≡ Amp = ap byte_kind (eqb-true b 38 parts.0) in
             let h = begins b v key stop rest after run token whole (other_than b 38 parts.0 refl) (ap (λ k. is_amp k || is_equals k) k) in
             let w : is_nothing [] (Some h.token) ≡ false = sym (ap₂ is_nothing h.empty h.is) ∙ some in
             let amp : is_amp (kind_of_token h.token.kind) ≡ true = ap is_amp (h.kind ∙ k) in
             absurd (cc)
         by false e s =
             let parts = and_both (b == 61) (is_plain v) s in
-            let k = equals_byte b parts.0 in
+            let k : byte_kind b ≡ Equals = ap byte_kind (eqb-true b 61 parts.0) in
             let h = begins b v key stop rest after run token whole (other_than b 61 parts.0 refl) (ap (λ k. is_amp k || is_equals k) k) in
             (h.empty, subst IsEqualsStop (sym h.is) (ap is_equals (h.kind ∙ k)), ap is_plain h.left ∙ parts.1)
 

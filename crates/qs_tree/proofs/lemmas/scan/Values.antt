@@ -17,11 +17,8 @@ amp_of_byte : (b : ℕ) → is_amp (byte_kind b) ≡ (b == 38)
 amp_of_byte b = by (b == 38) (b == 61) (b == 91) (b == 93)
   where
     by : (x y z w : Bool) → is_amp (cond x Amp (cond y Equals (cond z Open (cond w Close Other)))) ≡ x
-    by true y z w = refl
-    by false true z w = refl
-    by false false true w = refl
-    by false false false true = refl
     by false false false false = refl
+    by x y z w = refl
 
 -- a byte that is a token by itself, before bytes whose value is cut so
 byte_before : (form : Bool) (b : ℕ) (bytes : List ℕ) → ((b == 38) ≡ true → tokens form (b ∷ bytes) ≡ byte_token b ∷ tokens form bytes) → IsValueCut form bytes (tokens form bytes) → IsValueCut form (b ∷ bytes) (byte_token b ∷ tokens form bytes)
@@ -101,10 +98,7 @@ stop_ends ends (u ∷ ts) t rest e = by (ends u.kind) refl e (stop_ends ends ts 
 
 pub is_amp_of : (k : Kind) → is_amp k ≡ true → k ≡ Amp
 is_amp_of Amp e = refl
-is_amp_of Equals e = cc
-is_amp_of Open e = cc
-is_amp_of Close e = cc
-is_amp_of Other e = cc
+is_amp_of k e = cc
 
 -- past a value is past its `&`, or past the end
 pub value_past : (ts : List Token) (found : Option code.Token) (new : cursor.Cursor) → (cut is_amp ts).1 ≡ from_token found (left new) → IfNone found (new.rest.now ≡ []) → IsPast (cut is_amp ts).1 new
@@ -118,10 +112,8 @@ plain_parts b bytes e =
     by (b == 38) (b == 43) (b == 37) parts.0 parts.1
   where
     by : (x y z : Bool) → not (x || y || z) ≡ true → is_plain bytes ≡ true → (x ≡ false) × ((y || z) ≡ false) × (is_plain bytes ≡ true)
-    by true y z e h = cc
-    by false true z e h = cc
-    by false false true e h = cc
     by false false false e h = (refl, refl, h)
+    by x y z e h = cc
 
 plain_end : (bytes : List ℕ) → is_plain bytes ≡ true → value_end bytes ≡ length bytes
 plain_end [] e = refl

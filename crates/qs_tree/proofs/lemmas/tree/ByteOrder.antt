@@ -18,11 +18,10 @@ level x = sym (nat_cmp_is x x Equal refl)
 
 rises : (n a b : ℕ) (us vs : List ℕ) → n ≤ length us → n ≤ length vs → AreBytes us → a < b → big_endian a (take n us) < big_endian b (take n vs)
 rises zero a b us vs p q small l = l
-rises (suc n) a b [] vs p q small l = absurd (omega arith)
-rises (suc n) a b (u ∷ us) [] p q small l = absurd (omega arith)
 rises (suc n) a b (u ∷ us) (v ∷ vs) p q small l =
     let fits : u < 256 = (small 0).fits in
     rises n (a * 256 + u) (b * 256 + v) us vs (omega arith) (omega arith) (λ k. small (suc k)) (omega arith)
+rises n a b us vs p q small l = absurd (omega arith)
 
 -- the first n bytes compare as the numbers that they write after a, and where those are equal, what follows does
 pub as_numbers : (n a : ℕ) (us vs : List ℕ) → n ≤ length us → n ≤ length vs → AreBytes us → AreBytes vs
@@ -52,28 +51,19 @@ as_numbers (suc n) a (u ∷ us) (v ∷ vs) p q small less =
 
 -- an order that isn't equality decides
 decided : (r o : Ordering) → is_ne r ≡ true → ordering_then r o ≡ r
-decided Less o h = refl
 decided Equal o h = absurd (true≢false (sym h))
-decided Greater o h = refl
+decided r o h = refl
 
 undecided : (r o : Ordering) → is_ne r ≡ false → ordering_then r o ≡ o
-undecided Less o h = absurd (true≢false h)
 undecided Equal o h = refl
-undecided Greater o h = absurd (true≢false h)
+undecided r o h = absurd (true≢false h)
 
 -- the first eight of some bytes, as they are read one by one
 pub eight_bytes : (xs : List ℕ) → 8 ≤ length xs
     → slice_index xs 0 * 72057594037927936 + slice_index xs 1 * 281474976710656 + slice_index xs 2 * 1099511627776 + slice_index xs 3 * 4294967296
     + slice_index xs 4 * 16777216 + slice_index xs 5 * 65536 + slice_index xs 6 * 256 + slice_index xs 7 ≡ big_endian 0 (take 8 xs)
-eight_bytes [] h = absurd (omega arith)
-eight_bytes (a ∷ []) h = absurd (omega arith)
-eight_bytes (a ∷ b ∷ []) h = absurd (omega arith)
-eight_bytes (a ∷ b ∷ c ∷ []) h = absurd (omega arith)
-eight_bytes (a ∷ b ∷ c ∷ d ∷ []) h = absurd (omega arith)
-eight_bytes (a ∷ b ∷ c ∷ d ∷ e ∷ []) h = absurd (omega arith)
-eight_bytes (a ∷ b ∷ c ∷ d ∷ e ∷ f ∷ []) h = absurd (omega arith)
-eight_bytes (a ∷ b ∷ c ∷ d ∷ e ∷ f ∷ g ∷ []) h = absurd (omega arith)
 eight_bytes (a ∷ b ∷ c ∷ d ∷ e ∷ f ∷ g ∷ i ∷ xs) h = omega arith
+eight_bytes xs h = absurd (omega arith)
 
 -- what is found first, or else later
 module _ (found later all : Ordering) (is : all ≡ ordering_then found later) where

@@ -1,6 +1,6 @@
 -- When two keys and two values are equal: where their segments and their trees are, marks aside.
-use Rattle.qs_tree.proofs.Common.{◌≡◌, IsTrue, ◌↔◌, ap, sym, ◌∙◌, is_eq, is_same_segment, unmarked, is_itself, same_segment, Key, ParsedValue, key_eq, value_eq, segment_of_key, tree_of}
-use Rattle.qs_tree.specs.contracts.tree.key.KeyOrd.TheImpl.Laws.{matches_eq-law}
+use Rattle.qs_tree.proofs.Common.{◌≡◌, IsTrue, ◌↔◌, ap, sym, ◌∙◌, is_eq, is_same_segment, unmarked, is_itself, same_segment, Key, ParsedValue, Equal, Equal-is, key_cmp, key_eq, value_eq, segment_of_key, tree_of}
+use Rattle.qs_tree.specs.contracts.tree.key.KeyOrd.TheImpl.Laws.{matches_eq-law, total-law}
 use Rattle.qs_tree.specs.internal.tree.EqualityLaws.{same_trees}
 use Rattle.qs_tree.proofs.lemmas.tree.Keys.{key_cmp-segments}
 
@@ -12,3 +12,8 @@ equal_keys a b = (λ e. same_segment _ _ (sym (key_eq-segments a b) ∙ e), λ e
 
 pub equal_values : (a b : ParsedValue) → IsTrue (value_eq a b) ↔ unmarked (tree_of a) ≡ unmarked (tree_of b)
 equal_values a b = same_trees (tree_of a) (tree_of b)
+
+pub equal_in_order : (a b : Key) → IsTrue (key_eq a b) ↔ key_cmp a b ≡ Equal
+equal_in_order a b = (λ e. (Equal-is (key_cmp a b)).0 (sym (matches_eq-law a b) ∙ e), λ e. matches_eq-law a b ∙ (Equal-is (key_cmp a b)).1 e)
+
+pub ruleset order = (key_cmp-segments, total-law)

@@ -36,9 +36,9 @@ view-remove_entry k (e ∷ es) =
       | inr other ↦ rw (other, view-remove_entry k es)
     ])
 
-pub option_map-copied : {A B : Type 0} (f : A → B) (r : Option (Bor A)) → option_map (λ v. f v.now) r ≡ option_map f (option_map (λ v. v.now) r)
-option_map-copied f None = refl
-option_map-copied f (Some x) = refl
+pub mapped_twice : {A B C : Type 0} (f : A → B) (g : B → C) (o : Option A) → option_map (λ a. g (f a)) o ≡ option_map g (option_map f o)
+mapped_twice f g None = refl
+mapped_twice f g (Some a) = refl
 
 abbrev pub pairs_view : Held → List (Step × Tree)
 pairs_view es = entry_list (entries_view es)
@@ -50,6 +50,8 @@ pub length-pairs_view : (es : Held) → length (pairs_view es) ≡ length es
 length-pairs_view [] = refl
 length-pairs_view (e ∷ es) = ap suc (length-pairs_view es)
 
+pub ruleset lengths = (map_pairs-map, length-pairs_view)
+
 abbrev Shown : Type 0
 Shown = Bor Key × Bor ParsedValue
 
@@ -59,17 +61,10 @@ pair_seen p = (step_of_key p.0, tree_of p.1)
 abbrev deref : Shown → Key × ParsedValue
 deref p = (p.0.now, p.1.now)
 
-abbrev shown_seen : Shown → Step × Tree
-shown_seen p = (step_of_key p.0.now, tree_of p.1.now)
-
-seen_twice : (q : Option Shown) → option_map shown_seen q ≡ option_map pair_seen (option_map deref q)
-seen_twice None = refl
-seen_twice (Some p) = refl
-
 pub slice_get-pairs_view : (xs : Held) (k : ℕ) → slice_get (pairs_view xs) k ≡ option_map pair_seen (slice_get xs k)
 slice_get-pairs_view [] k = refl
 slice_get-pairs_view (e ∷ xs) zero = refl
 slice_get-pairs_view (e ∷ xs) (suc k) = slice_get-pairs_view xs k
 
-pub pair_at : (r : Option Shown) (es : Held) (i : ℕ) → option_map deref r ≡ slice_get es i → option_map shown_seen r ≡ slice_get (pairs_view es) i
-pair_at r es i h = seen_twice r ∙ ap (option_map pair_seen) h ∙ sym (slice_get-pairs_view es i)
+pub pair_at : (r : Option Shown) (es : Held) (i : ℕ) → option_map deref r ≡ slice_get es i → option_map (λ p. pair_seen (deref p)) r ≡ slice_get (pairs_view es) i
+pair_at r es i h = mapped_twice deref pair_seen r ∙ ap (option_map pair_seen) h ∙ sym (slice_get-pairs_view es i)

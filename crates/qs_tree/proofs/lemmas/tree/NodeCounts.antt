@@ -1,6 +1,6 @@
 -- How many nodes a value has, when a child is changed or taken out.
-use Rattle.qs_tree.proofs.Common.{◌≡◌, ℕ, zero, suc, ◌+◌, ◌<◌, ◌≤◌, List, [], ◌∷◌, ◌++◌, length, get_or, slice_get, slice_set, Some, option_map, Vec, Global, ap, ◌∙◌, arith, none-some, same_Some, Key, ParsedValue, Map, Sequence, ParsedMap, node_count, items_node_count, entries_node_count, put_value, tree_of, items_of}
-use Rattle.qs_tree.proofs.lemmas.tree.Keys.{Held, entries_view, entries_of_map-map}
+use Rattle.qs_tree.proofs.Common.{◌≡◌, ℕ, zero, suc, ◌+◌, ◌<◌, ◌≤◌, List, [], ◌∷◌, ◌++◌, length, get_or, slice_get, slice_set, Some, option_map, Vec, Global, ap, ◌∙◌, arith, none-some, same_Some, Tree, Key, ParsedValue, Map, Sequence, ParsedMap, node_count, items_node_count, entries_node_count, put_value, tree_of, items_of}
+use Rattle.qs_tree.proofs.lemmas.tree.Keys.{Held, seen_view, entries_view, entries_of_map-map}
 use Rattle.qs_tree.proofs.lemmas.Views.{tree_of-Map, tree_of-Sequence}
 
 abbrev pub nodes : ParsedValue → ℕ
@@ -18,26 +18,34 @@ map_nodes m = ap node_count (tree_of-Map m) ∙ ap (λ es. 2 + entries_node_coun
 pub sequence_nodes : (v : Vec ParsedValue Global) → nodes (Sequence v) ≡ 2 + item_nodes v.items
 sequence_nodes v = ap node_count (tree_of-Sequence v)
 
--- the value of an entry, and another one in its place
-pub entry_put : (es : Held) (i : ℕ) (old new : ParsedValue) → option_map (λ e. e.1) (slice_get es i) ≡ Some old → entry_nodes (put_value es i new) + nodes old ≡ entry_nodes es + nodes new
-entry_put [] i old new h = absurd (none-some _ h)
-entry_put (e ∷ es) zero old new h = omega (arith, ap nodes (same_Some _ _ h))
-entry_put (e ∷ es) (suc i) old new h = omega (arith, entry_put es i old new h)
+-- entries whose values are seen as trees
+module _ {X : Type 0} (seen : X → Tree) where
+  abbrev count : X → ℕ
+  count v = node_count (seen v)
 
-pub entry_within : (es : Held) (i : ℕ) (old : ParsedValue) → option_map (λ e. e.1) (slice_get es i) ≡ Some old → nodes old ≤ entry_nodes es
-entry_within [] i old h = absurd (none-some _ h)
-entry_within (e ∷ es) zero old h = omega (arith, ap nodes (same_Some _ _ h))
-entry_within (e ∷ es) (suc i) old h = omega (arith, entry_within es i old h)
+  abbrev counts : List (Key × X) → ℕ
+  counts es = entries_node_count (seen_view seen es)
 
--- the same of an entry that was read
+  -- the value of an entry, and another one in its place
+  pub entry_put : (es : List (Key × X)) (i : ℕ) (old new : X) → option_map (λ e. e.1) (slice_get es i) ≡ Some old → counts (put_value es i new) + count old ≡ counts es + count new
+  entry_put [] i old new h = absurd (none-some _ h)
+  entry_put (e ∷ es) zero old new h = omega (arith, ap count (same_Some _ _ h))
+  entry_put (e ∷ es) (suc i) old new h = omega (arith, entry_put es i old new h)
+
+  pub entry_within : (es : List (Key × X)) (i : ℕ) (old : X) → option_map (λ e. e.1) (slice_get es i) ≡ Some old → count old ≤ counts es
+  entry_within [] i old h = absurd (none-some _ h)
+  entry_within (e ∷ es) zero old h = omega (arith, ap count (same_Some _ _ h))
+  entry_within (e ∷ es) (suc i) old h = omega (arith, entry_within es i old h)
+
+  pub entry_last : (es : List (Key × X)) (k : Key) (v : X) → counts (es ++ (k, v) ∷ []) ≡ counts es + count v
+  entry_last [] k v = omega arith
+  entry_last (e ∷ es) k v = omega (arith, entry_last es k v)
+
+-- an entry that was read
 pub entry_at_within : (es : Held) (i : ℕ) (e : Key × ParsedValue) → i < length es → e ≡ get_or es i e → nodes e.1 ≤ entry_nodes es
 entry_at_within [] i e lt is = absurd (omega arith)
 entry_at_within (f ∷ es) zero e lt is = omega (arith, ap (λ (p : Key × ParsedValue). nodes p.1) is)
 entry_at_within (f ∷ es) (suc i) e lt is = omega (arith, entry_at_within es i e (omega arith) is)
-
-pub entry_last : (es : Held) (k : Key) (v : ParsedValue) → entry_nodes (es ++ (k, v) ∷ []) ≡ entry_nodes es + nodes v
-entry_last [] k v = omega arith
-entry_last (e ∷ es) k v = omega (arith, entry_last es k v)
 
 -- the same of items
 pub item_put : (vs : List ParsedValue) (i : ℕ) (d new : ParsedValue) → i < length vs → item_nodes (slice_set vs i new) + nodes (get_or vs i d) ≡ item_nodes vs + nodes new

@@ -34,10 +34,7 @@ layer_marked : (y : ParsedValue-F ((v : ParsedValue) × IsMarked v) ((m : Parsed
 layer_marked (ParsedValue-F.Map m) = search (rules, the_lemmas, m.1)
 layer_marked (ParsedValue-F.Sequence v) = search (rules, the_lemmas, items_marked v.items)
 layer_marked (ParsedValue-F.String (Borrowed t)) = search (rules, the_lemmas)
-layer_marked (ParsedValue-F.String (Owned t)) = search (rules, the_lemmas)
-layer_marked ParsedValue-F.Null = search (rules, the_lemmas)
-layer_marked ParsedValue-F.NoValue = search (rules, the_lemmas)
-layer_marked ParsedValue-F.Uninitialized = search (rules, the_lemmas)
+layer_marked y = search (rules, the_lemmas)
 
 map_marked : (y : ParsedMap-F ((v : ParsedValue) × IsMarked v) ((m : ParsedMap) × AreMarked m)) → AreMarked (roll-ParsedMap (map-ParsedMap _ _ ParsedValue ParsedMap (λ e. e.0) (λ e. e.0) y))
 map_marked y =

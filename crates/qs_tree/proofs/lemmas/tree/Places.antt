@@ -1,23 +1,11 @@
 -- What a binary search finds among entries in order, and what an edit at its place does.
-use Rattle.qs_tree.proofs.Common.{◌≡◌, ℕ, zero, suc, ◌+◌, ◌<◌, ◌≤◌, ◌/◌, List, [], ◌∷◌, ◌++◌, length, get_or, slice_get, slice_set, Some, None, unwrap_or, option_map, Ordering, Less, Equal, Greater, refl, sym, ap, subst, ◌∙◌, inl, inr, ◌⊎◌, arith, IsTotalOrder, insert, remove, AllByRecursion, IsStrictlySortedBy, keys_of, lookup, set_value, remove_entry, is_at, insert_entry, ordering_reverse, against, IsHit, IsGap, put_value, binary_digits, true, true≢false, is_lt}
-use native.Mathlib.Numerals.{unary_clauses}
+use Rattle.qs_tree.proofs.Common.{map-append, ◌≡◌, ℕ, zero, suc, ◌+◌, ◌<◌, ◌≤◌, ◌/◌, List, [], ◌∷◌, ◌++◌, length, get_or, slice_get, slice_set, Some, None, unwrap_or, option_map, Ordering, Less, Equal, Greater, refl, sym, ap, subst, ◌∙◌, inl, inr, cases_lt, arith, IsTotalOrder, insert, remove, AllByRecursion, IsStrictlySortedBy, keys_of, lookup, set_value, remove_entry, is_at, insert_entry, ordering_reverse, against, IsHit, IsGap, put_value, binary_digits, true, is_lt}
 use Rattle.std.specs.List.{AllAdjacentBelow}
 use Rattle.std.proofs.lemmas.Int.Digits.{length-digits_of_step}
-use Rattle.std.proofs.lemmas.Map.Keys.{Less-from_sorted}
+use Rattle.std.proofs.lemmas.Map.Keys.{Less-from_sorted, sorted_from_all_adjacent, sorted_head, sorted_tail}
 use Rattle.std.proofs.lemmas.Map.Entries.{length-keys_of}
+use Rattle.std.proofs.Math.ListN.{get_or-map}
 use Rattle.std.proofs.lemmas.List.Edits.{insert_end}
-
-below_or_at : (j m : ℕ) → j < m + 1 → (j < m) ⊎ (j ≡ m)
-below_or_at zero zero lt = inr refl
-below_or_at zero (suc m) lt = inl (omega arith)
-below_or_at (suc j) zero lt = absurd (omega arith)
-below_or_at (suc j) (suc m) lt = elim (below_or_at j m (omega arith)) [ inl a ↦ inl (omega arith) | inr e ↦ inr (ap suc e) ]
-
-above_or_at : (m j : ℕ) → m ≤ j → (m < j) ⊎ (m ≡ j)
-above_or_at zero zero le = inr refl
-above_or_at zero (suc j) le = inl (omega arith)
-above_or_at (suc m) zero le = absurd (omega arith)
-above_or_at (suc m) (suc j) le = elim (above_or_at m j (omega arith)) [ inl a ↦ inl (omega arith) | inr e ↦ inr (ap suc e) ]
 
 -- the key of an entry that was read
 pub key_at : {K X : Type 0} (es : List (K × X)) (m : ℕ) (x : K × X) (k : K) → m < length es → x ≡ get_or es m x → get_or (keys_of es) m k ≡ x.0
@@ -33,15 +21,15 @@ module _ {K X : Type 0} {cmp : K → K → Ordering} (total : IsTotalOrder cmp) 
   rises i j lt in_range = Less-from_sorted cmp (keys_of es) i j k sorted lt (omega (arith, in_range, length-keys_of es))
 
   pub before_middle : (m : ℕ) → m < length es → against cmp k es m ≡ Greater → (j : ℕ) → j < m + 1 → against cmp k es j ≡ Greater
-  before_middle m in_range more j lt = elim (below_or_at j m lt) [
+  before_middle m in_range more j lt = elim (cases_lt j m) [
     | inl below ↦ total.antisymm k (key j) ∙ ap ordering_reverse (total.trans (key j) (key m) k (rises j m below in_range) (total.antisymm (key m) k ∙ ap ordering_reverse more))
-    | inr e ↦ subst (λ i. against cmp k es i ≡ Greater) (sym e) more
+    | inr le ↦ let same : m ≡ j = omega arith in subst (λ i. against cmp k es i ≡ Greater) same more
   ]
 
   pub after_middle : (m : ℕ) → against cmp k es m ≡ Less → (j : ℕ) → m ≤ j → j < length es → against cmp k es j ≡ Less
-  after_middle m less j le in_range = elim (above_or_at m j le) [
+  after_middle m less j le in_range = elim (cases_lt m j) [
     | inl above ↦ total.trans k (key m) (key j) less (rises m j above in_range)
-    | inr e ↦ subst (λ i. against cmp k es i ≡ Less) e less
+    | inr ge ↦ let same : m ≡ j = omega arith in subst (λ i. against cmp k es i ≡ Less) same less
   ]
 
   pub hit : (m : ℕ) → m < length es → against cmp k es m ≡ Equal → IsHit cmp k es m
@@ -118,14 +106,6 @@ module _ {K : Type 0} (cmp : K → K → Ordering) where
   unfolding IsStrictlySortedBy
   sorted_none = tt
 
-  pub sorted_tail : (k : K) (ks : List K) → IsStrictlySortedBy cmp (k ∷ ks) → IsStrictlySortedBy cmp ks
-  unfolding IsStrictlySortedBy
-  sorted_tail k ks s = s.1
-
-  sorted_head : (k : K) (ks : List K) → IsStrictlySortedBy cmp (k ∷ ks) → AllByRecursion (λ y. cmp k y ≡ Less) ks
-  unfolding IsStrictlySortedBy
-  sorted_head k ks s = s.0
-
   sorted_cons : (k : K) (ks : List K) → AllByRecursion (λ y. cmp k y ≡ Less) ks → IsStrictlySortedBy cmp ks → IsStrictlySortedBy cmp (k ∷ ks)
   unfolding IsStrictlySortedBy
   sorted_cons k ks a s = (a, s)
@@ -139,7 +119,7 @@ module _ {K : Type 0} (cmp : K → K → Ordering) where
 
   pub sorted_upto : (ks : List K) (k : K) (ls : List K) → IsStrictlySortedBy cmp (ks ++ k ∷ ls) → IsStrictlySortedBy cmp (ks ++ k ∷ [])
   sorted_upto [] k ls s = sorted_cons k [] tt sorted_none
-  sorted_upto (x ∷ ks) k ls s = sorted_cons x (ks ++ k ∷ []) (all_upto (λ y. cmp x y ≡ Less) ks k ls (sorted_head x (ks ++ k ∷ ls) s)) (sorted_upto ks k ls (sorted_tail x (ks ++ k ∷ ls) s))
+  sorted_upto (x ∷ ks) k ls s = sorted_cons x (ks ++ k ∷ []) (all_upto (λ y. cmp x y ≡ Less) ks k ls (sorted_head cmp x (ks ++ k ∷ ls) s)) (sorted_upto ks k ls (sorted_tail cmp x (ks ++ k ∷ ls) s))
 
   module _ {X : Type 0} where
     all_after : (k : K) (es : List (K × X)) → IsGap cmp k es 0 → AllByRecursion (λ y. cmp k y ≡ Less) (keys_of es)
@@ -158,8 +138,8 @@ module _ {K : Type 0} (cmp : K → K → Ordering) where
     sorted_insert total k v (e ∷ es) zero h s = sorted_cons k (keys_of (e ∷ es)) (all_after k (e ∷ es) h) s
     sorted_insert total k v (e ∷ es) (suc i) h s =
         sorted_cons e.0 (keys_of (insert es i (k, v)))
-        (all_insert (λ y. cmp e.0 y ≡ Less) es i (k, v) (sorted_head e.0 (keys_of es) s) (total.antisymm e.0 k ∙ ap ordering_reverse (h.before 0 (omega arith))))
-        (sorted_insert total k v es i (gap_tail cmp k e es i h) (sorted_tail e.0 (keys_of es) s))
+        (all_insert (λ y. cmp e.0 y ≡ Less) es i (k, v) (sorted_head cmp e.0 (keys_of es) s) (total.antisymm e.0 k ∙ ap ordering_reverse (h.before 0 (omega arith))))
+        (sorted_insert total k v es i (gap_tail cmp k e es i h) (sorted_tail cmp e.0 (keys_of es) s))
 
     all_remove : (P : K → Type 0) (es : List (K × X)) (i : ℕ) → AllByRecursion P (keys_of es) → AllByRecursion P (keys_of (remove es i))
     all_remove P [] zero a = tt
@@ -170,8 +150,8 @@ module _ {K : Type 0} (cmp : K → K → Ordering) where
     pub sorted_remove : (es : List (K × X)) (i : ℕ) → IsStrictlySortedBy cmp (keys_of es) → IsStrictlySortedBy cmp (keys_of (remove es i))
     sorted_remove [] zero s = s
     sorted_remove [] (suc i) s = s
-    sorted_remove (e ∷ es) zero s = sorted_tail e.0 (keys_of es) s
-    sorted_remove (e ∷ es) (suc i) s = sorted_cons e.0 (keys_of (remove es i)) (all_remove (λ y. cmp e.0 y ≡ Less) es i (sorted_head e.0 (keys_of es) s)) (sorted_remove es i (sorted_tail e.0 (keys_of es) s))
+    sorted_remove (e ∷ es) zero s = sorted_tail cmp e.0 (keys_of es) s
+    sorted_remove (e ∷ es) (suc i) s = sorted_cons e.0 (keys_of (remove es i)) (all_remove (λ y. cmp e.0 y ≡ Less) es i (sorted_head cmp e.0 (keys_of es) s)) (sorted_remove es i (sorted_tail cmp e.0 (keys_of es) s))
 
     all_front : (P : K → Type 0) (es fs : List (K × X)) → AllByRecursion P (keys_of (es ++ fs)) → AllByRecursion P (keys_of es)
     all_front P [] fs a = tt
@@ -179,22 +159,19 @@ module _ {K : Type 0} (cmp : K → K → Ordering) where
 
     pub sorted_front : (es fs : List (K × X)) → IsStrictlySortedBy cmp (keys_of (es ++ fs)) → IsStrictlySortedBy cmp (keys_of es)
     sorted_front [] fs s = sorted_none
-    sorted_front (e ∷ es) fs s = sorted_cons e.0 (keys_of es) (all_front (λ y. cmp e.0 y ≡ Less) es fs (sorted_head e.0 (keys_of (es ++ fs)) s)) (sorted_front es fs (sorted_tail e.0 (keys_of (es ++ fs)) s))
+    sorted_front (e ∷ es) fs s = sorted_cons e.0 (keys_of es) (all_front (λ y. cmp e.0 y ≡ Less) es fs (sorted_head cmp e.0 (keys_of (es ++ fs)) s)) (sorted_front es fs (sorted_tail cmp e.0 (keys_of (es ++ fs)) s))
 
 -- each key is below the next
 pub sorted_adjacent : {K X : Type 0} {cmp : K → K → Ordering} → IsTotalOrder cmp → (es : List (K × X)) → AllAdjacentBelow (λ x y. true ≡ is_lt (cmp x.0 y.0)) es (length es) → IsStrictlySortedBy cmp (keys_of es)
 sorted_adjacent {K} {X} {cmp} total [] adjacent = sorted_none cmp
-sorted_adjacent {K} {X} {cmp} total (e ∷ []) adjacent = sorted_one cmp e.0
-sorted_adjacent {K} {X} {cmp} total (e ∷ f ∷ es) adjacent =
-    let rest : IsStrictlySortedBy cmp (keys_of (f ∷ es)) = sorted_adjacent total (f ∷ es) (λ k d lt. simp unary_clauses (simp unary_clauses at adjacent (suc k) d (omega (arith, lt)))) in
-    let less : cmp e.0 f.0 ≡ Less = less_from (cmp e.0 f.0) (adjacent 0 e (omega arith)) in
-    let gap : IsGap cmp e.0 (f ∷ es) 0 = record { in_range = omega arith; before = λ j lt. absurd (omega (arith, lt)); after = after_middle total e.0 (f ∷ es) rest 0 less } in
-    sorted_insert cmp total e.0 e.1 (f ∷ es) 0 gap rest
+sorted_adjacent {K} {X} {cmp} total (e ∷ es) adjacent =
+    sorted_from_all_adjacent total (keys_of (e ∷ es)) e.0 (λ k lt.
+    let near : k + 1 < length (e ∷ es) = omega (arith, lt, length-keys_of (e ∷ es)) in
+    rw (get_or-map (λ (p : K × X). p.0) (e ∷ es) k e, get_or-map (λ (p : K × X). p.0) (e ∷ es) (k + 1) e) (less_from _ (adjacent k e near)))
   where
     less_from : (o : Ordering) → true ≡ is_lt o → o ≡ Less
     less_from Less is = refl
-    less_from Equal is = absurd (true≢false is)
-    less_from Greater is = absurd (true≢false is)
+    less_from o is = cc
 
 -- a binary search
 digits_grow : (fuel m n : ℕ) → n ≤ fuel → m ≤ n → binary_digits m ≤ binary_digits n
@@ -208,8 +185,7 @@ pub halved : (s t : ℕ) → 0 < s → t ≤ s / 2 → binary_digits t + 1 ≤ b
 halved s t some half = omega (arith, length-digits_of_step 2 s (omega arith) some, digits_grow (s / 2) t (s / 2) (omega arith) half)
 
 pub keys-append : {K X : Type 0} (es fs : List (K × X)) → keys_of (es ++ fs) ≡ keys_of es ++ keys_of fs
-keys-append [] fs = refl
-keys-append (e ∷ es) fs = ap (λ l. e.0 ∷ l) (keys-append es fs)
+keys-append es fs = map-append (λ e. e.0) es fs
 
 -- a key whose place is the end
 pub sorted_push : {K X : Type 0} (cmp : K → K → Ordering) → IsTotalOrder cmp → (k : K) (v : X) (es : List (K × X)) (i : ℕ) → IsGap cmp k es i → i ≡ length es → IsStrictlySortedBy cmp (keys_of es) → IsStrictlySortedBy cmp (keys_of es ++ k ∷ [])

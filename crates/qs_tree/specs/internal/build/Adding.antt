@@ -1,13 +1,10 @@
 -- What the functions that add a pair return.
 use Rattle.std.specs.Prelude.{◌≡◌, ◌≢◌, Bool, true, false, Option, Some, None, Result, Ok, Err}
 use Rattle.qs_spec.specs.Leaf.{Leaf}
-use Rattle.qs_spec.specs.Tree.{Tree, Entries}
-use Rattle.qs_spec.specs.Tree.Items.{item, no_items}
-use Rattle.qs_spec.specs.Tree.Tree.{leaf, sequence, mapping, uninitialized}
-use Rattle.qs_spec.specs.Tree.Entries.{no_entries}
+use Rattle.qs_spec.specs.Tree.{Tree, Entries, item, no_items, leaf, sequence, mapping, uninitialized, no_entries}
 use Rattle.qs_tree.specs.declared.build.conflict.AddError.{AddError}
-use Rattle.qs_tree.specs.declared.scan.pair.Pair.{Pair}
 use Rattle.qs_tree.specs.declared.build.conflict.AddError.TheVariants.{OutOfMemory}
+use Rattle.qs_tree.specs.declared.scan.pair.Pair.{Pair}
 
 -- nothing is expected, unless an allocation failed
 abbrev pub IsRejected : {B : Type 0} → Option B → AddError → Type 0
@@ -37,5 +34,4 @@ second t l = Some (sequence (item t (item (leaf l) no_items)))
 abbrev pub entries_below : Tree → Option Entries
 entries_below (mapping es) = Some es
 entries_below uninitialized = Some no_entries
-entries_below (leaf l) = None
-entries_below (sequence xs) = None
+entries_below t = None

@@ -1,8 +1,7 @@
 -- From a tree under construction to a tree of the definitions.
 use Rattle.std.specs.Prelude.{◌≡◌, List, map, Some, unwrap_or}
 use Rattle.qs_spec.specs.Segment.{Segment}
-use Rattle.qs_spec.specs.Tree.{Tree, Entries}
-use Rattle.qs_spec.specs.Tree.Tree.{leaf, sequence, mapping, uninitialized}
+use Rattle.qs_spec.specs.Tree.{Tree, Entries, leaf, sequence, mapping, uninitialized}
 use Rattle.qs_tree.specs.declared.build.builder.TreeBuilder.{TreeBuilder, fold-TreeBuilder}
 use Rattle.qs_tree.specs.declared.build.builder.TreeBuilder.TheVariants.{Value}
 use Rattle.qs_tree.specs.declared.build.builder.MapBuilder.TheOpen.{TreeBuilder-F, MapBuilder-F}
@@ -66,9 +65,7 @@ pub record Takes (k : Key) (old : Entries) (taken : Tree) (new : Entries) : Type
 -- the node is no map
 abbrev pub IsNoMap : Tree → Type 0
 IsNoMap (mapping es) = ⊥
-IsNoMap (leaf l) = Unit {0}
-IsNoMap (sequence xs) = Unit {0}
-IsNoMap uninitialized = Unit {0}
+IsNoMap t = Unit {0}
 
 abbrev pub IsFlat : TreeBuilder → Type 0
 IsFlat node = IsNoMap (built_tree node)

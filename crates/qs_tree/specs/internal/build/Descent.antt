@@ -2,8 +2,7 @@
 use Rattle.std.specs.Prelude.{◌≡◌, Bool, List, [], ◌∷◌, ◌++◌, Option, Some, option_map, option_and_then}
 use Rattle.qs_spec.specs.Segment.{Step}
 use Rattle.qs_spec.specs.Leaf.{Leaf}
-use Rattle.qs_spec.specs.Tree.{Tree}
-use Rattle.qs_spec.specs.Tree.Tree.{mapping}
+use Rattle.qs_spec.specs.Tree.{Tree, mapping}
 use Rattle.qs_spec.specs.internal.InPlace.{update, add_below, add}
 use Rattle.qs_tree.specs.declared.build.descent.Frame.{Frame}
 use Rattle.qs_tree.specs.declared.build.conflict.AddError.{AddError}

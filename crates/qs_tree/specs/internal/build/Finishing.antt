@@ -3,9 +3,7 @@ use Rattle.std.specs.Prelude.{◌≡◌, ℕ, suc, ◌+◌, List, [], ◌∷◌,
 use Rattle.std.specs.List.Sorted.{IsStrictlySortedBy}
 use Rattle.std.specs.Map.{keys_of}
 use Rattle.std.specs.Vec.Iter.{into_iter_items}
-use Rattle.qs_spec.specs.Tree.{Tree, Entries}
-use Rattle.qs_spec.specs.Tree.Tree.{leaf, sequence, mapping, uninitialized}
-use Rattle.qs_spec.specs.Tree.Entries.{no_entries, entry}
+use Rattle.qs_spec.specs.Tree.{Tree, Entries, leaf, sequence, mapping, uninitialized, no_entries, entry}
 use Rattle.qs_tree.specs.declared.tree.key.Key.{Key}
 use Rattle.qs_tree.specs.declared.build.builder.TreeBuilder.{TreeBuilder}
 use Rattle.qs_tree.specs.declared.build.builder.MapBuilder.{MapBuilder}
@@ -40,10 +38,8 @@ with_node w t = key_trees w.level.done ++ (w.key, t) ∷ left_pairs w.level
 -- how many maps there are
 abbrev mutual
   pub map_count : Tree → ℕ
-  map_count (leaf l) = 0
-  map_count (sequence xs) = 0
   map_count (mapping es) = suc (entries_map_count es)
-  map_count uninitialized = 0
+  map_count t = 0
 
   pub entries_map_count : Entries → ℕ
   entries_map_count no_entries = 0

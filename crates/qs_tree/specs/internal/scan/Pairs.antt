@@ -4,8 +4,7 @@ use Rattle.std.specs.declared.borrow.CowSlice.TheVariants.{Borrowed, Owned}
 use Rattle.qs_spec.specs.Segment.{Step}
 use Rattle.qs_spec.specs.Leaf.{Leaf, NoValue, Null, Text}
 use Rattle.qs_spec.specs.Grammar as grammar
-use Rattle.qs_spec.specs.Tree.{Tree}
-use Rattle.qs_spec.specs.Tree.Tree.{leaf, sequence, mapping, uninitialized}
+use Rattle.qs_spec.specs.Tree.{Tree, leaf, sequence, mapping, uninitialized}
 use Rattle.qs_tree.specs.declared.tree.key.Key.{Key}
 use Rattle.qs_tree.specs.declared.scan.pair.Leaf as code
 use Rattle.qs_tree.specs.declared.scan.pair.Leaf.TheVariants as variant
@@ -24,9 +23,7 @@ leaf_of (variant.Text (Owned v)) = Text v.items true
 -- the leaf that a node is
 abbrev pub leaf_in : Tree → Option Leaf
 leaf_in (leaf l) = Some l
-leaf_in (sequence xs) = None
-leaf_in (mapping es) = None
-leaf_in uninitialized = None
+leaf_in t = None
 
 abbrev pub is_push : Manner → Bool
 is_push Plain = false

@@ -1,7 +1,6 @@
 -- What the functions that parse a pair return.
 use Rattle.std.specs.Prelude.{◌≡◌, ℕ, List, [], ◌∷◌, ◌++◌, Option, Some, None, Result, Ok, Err, option_map, IsTrue, Bool, true, false, ◌&&◌, ◌==◌, length}
-use Rattle.qs_spec.specs.Token.{Kind, Token}
-use Rattle.qs_spec.specs.Token.Kind.{Amp, Equals, Open, Close, Other}
+use Rattle.qs_spec.specs.Token.{Kind, Token, Amp, Equals, Open, Close, Other}
 use Rattle.qs_spec.specs.Segment.{Step, step_of}
 use Rattle.qs_spec.specs.Leaf.{Leaf}
 use Rattle.qs_spec.specs.Grammar.{Pair, is_amp, direct, ends_last, ends_root}
@@ -60,15 +59,12 @@ ParsesItem depth ts (Err f) new p = IsParseError (parsed_pairs depth ts) f
 -- the end was reached
 abbrev pub IsEnd : Result item.Item parse_error.ParseError → Type 0
 IsEnd (Ok item.TheVariants.End) = Unit {0}
-IsEnd (Ok item.TheVariants.Ampersand) = ⊥
-IsEnd (Ok item.TheVariants.Pair) = ⊥
-IsEnd (Err e) = ⊥
+IsEnd o = ⊥
 
 -- something was parsed
 abbrev pub IsMore : Result item.Item parse_error.ParseError → Type 0
 IsMore (Ok item.TheVariants.End) = ⊥
-IsMore (Ok item.TheVariants.Ampersand) = Unit {0}
-IsMore (Ok item.TheVariants.Pair) = Unit {0}
+IsMore (Ok i) = Unit {0}
 IsMore (Err e) = ⊥
 
 -- an empty root key before `&` or the end

@@ -1,6 +1,5 @@
-use Rattle.qs_tree.proofs.Common.{◌≡◌, ◌+◌, drop, sym, ◌∙◌, tree_of, is_push, leaf_of, path_of}
-use Rattle.qs_tree.proofs.lemmas.Views.{below-String, below-Null, below-NoValue, below-Sequence}
-use Rattle.qs_tree.proofs.lemmas.build.Chains.{added_below, added_new, barred, same_head}
+use Rattle.qs_tree.proofs.Common.{◌≡◌, ◌+◌, drop, sym, ◌∙◌, is_push, leaf_of, path_of}
+use Rattle.qs_tree.proofs.lemmas.build.Chains.{added_below, added_new, same_head}
 use Rattle.qs_tree.proofs.build.add_to_value.+add_to_value.Goals as goal
 
 pub add_in_entries-returns-in-Ok : goal.add_in_entries-returns-in-Ok
@@ -21,23 +20,3 @@ add_in_entries-returns-in_ok-insert_at-in-Err t c =
     rw (c.take_key-key.ensures.key, c.in_ok-insert_at-in-Err.ensures.ok)
     (added_new c.take_key-key.result c.args.entries.now c.as_slice.ensures.sorted c.in-Err.at (path_of (drop (c.args.level + 1) taken.path)) (is_push pair.manner) (leaf_of pair.leaf)
     gap c.in_ok-value-in-Err.value alone)
-
-pub add_below-returns-in-Sequence : goal.add_below-returns-in-Sequence
-add_below-returns-in-Sequence t c =
-    let pair = c.args.pair.now in
-    λ other. barred pair.path c.args.level c.requires (is_push pair.manner) (leaf_of pair.leaf) (tree_of c.args.value.now) (rw c.in-Sequence.is (below-Sequence _))
-
-pub add_below-returns-in-String : goal.add_below-returns-in-String
-add_below-returns-in-String t c =
-    let pair = c.args.pair.now in
-    λ other. barred pair.path c.args.level c.requires (is_push pair.manner) (leaf_of pair.leaf) (tree_of c.args.value.now) (rw c.in-String.is (below-String _))
-
-pub add_below-returns-in-Null : goal.add_below-returns-in-Null
-add_below-returns-in-Null t c =
-    let pair = c.args.pair.now in
-    λ other. barred pair.path c.args.level c.requires (is_push pair.manner) (leaf_of pair.leaf) (tree_of c.args.value.now) (rw c.in-Null.is below-Null)
-
-pub add_below-returns-in-NoValue : goal.add_below-returns-in-NoValue
-add_below-returns-in-NoValue t c =
-    let pair = c.args.pair.now in
-    λ other. barred pair.path c.args.level c.requires (is_push pair.manner) (leaf_of pair.leaf) (tree_of c.args.value.now) (rw c.in-NoValue.is below-NoValue)

@@ -1,5 +1,4 @@
-use Rattle.qs_tree.proofs.Common.{◌++◌, ◌∙◌, ap, sym, take, drop, decoded}
-use Rattle.std.proofs.lemmas.List.{append_assoc}
+use Rattle.qs_tree.proofs.Common.{◌++◌, ◌∙◌, ap, sym, take, drop, decoded, append_assoc}
 use Rattle.qs_tree.proofs.lemmas.escape.DecodedFronts.{decoded_run}
 use Rattle.qs_tree.proofs.escape.decoding.put_front.Goals as goal
 

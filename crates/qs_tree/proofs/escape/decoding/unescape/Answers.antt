@@ -1,12 +1,9 @@
-use Rattle.qs_tree.proofs.Common.{◌∙◌, sym, ap, arith, is_some, is_escape}
+use Rattle.qs_tree.proofs.Common.{◌∙◌, sym, arith, is_escape}
 use Rattle.std.proofs.lemmas.List.Quantifiers.{position-Some}
-use Rattle.qs_tree.proofs.lemmas.escape.DecodedFronts.{decoded_front, decoded_unmarked}
+use Rattle.qs_tree.proofs.lemmas.escape.DecodedFronts.{decoded_front}
 use Rattle.qs_tree.proofs.escape.decoding.unescape.Goals as goal
 
 pub unescaped-requires-clause-plain : goal.unescaped-requires-clause-plain
 unescaped-requires-clause-plain c =
     let found = position-Some is_escape c.args.bytes.now c.in-Some.front 0 (sym c.find_escape.ensures.first ∙ c.in-Some.is) in
     decoded_front c.in-Some.front c.args.bytes.now (omega (arith, found.0)) (λ k from to. found.2 k to)
-
-pub returns-in-None-clause-value : goal.returns-in-None-clause-value
-returns-in-None-clause-value c = sym (decoded_unmarked c.args.bytes.now (sym c.find_escape.ensures.found ∙ ap is_some c.in-None.is))

@@ -29,13 +29,7 @@ returns-after-loop-at-2-clause-first c =
     let front = c.loop-at-2.invariant in
     sym (position_or_len_is is_ampersand c.args.bytes.now c.loop-at-2.at 0 front.0 (λ k below. front.1 k (omega arith) below) (λ lt. absurd (omega (arith, lt, c.loop-at-2-test.false))))
 
-pub returns-after-loop-at-2-clause-plain : goal.returns-after-loop-at-2-clause-plain
-returns-after-loop-at-2-clause-plain c = λ plain. none_in_front is_escape c.args.bytes.now c.loop-at-2.at c.loop-at-2.invariant.0 (c.loop-at-2.invariant.2 plain)
-
 pub returns-then-byte-eq38-clause-first : goal.returns-then-byte-eq38-clause-first
 returns-then-byte-eq38-clause-first c =
     let front = c.loop-at-2.invariant in
     sym (position_or_len_is is_ampersand c.args.bytes.now c.loop-at-2.at 0 front.0 (λ k below. front.1 k (omega arith) below) (λ _. ap is_ampersand c.if-byte-eq38.true))
-
-pub returns-then-byte-eq38-clause-plain : goal.returns-then-byte-eq38-clause-plain
-returns-then-byte-eq38-clause-plain c = λ plain. none_in_front is_escape c.args.bytes.now c.loop-at-2.at c.loop-at-2.invariant.0 (c.loop-at-2.invariant.2 plain)

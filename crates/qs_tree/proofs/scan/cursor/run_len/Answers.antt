@@ -1,6 +1,4 @@
-use Rattle.qs_tree.proofs.Common.{◌≡◌, false, refl, sym, ap, ◌∙◌, arith, inl, inr, cases_lt, is_escape, Other, ends_of, kind_of_token}
-use Rattle.std.specs.Prelude.{slice_index}
-use Rattle.qs_tree.proofs.lemmas.escape.FirstPlace.{none_in_front}
+use Rattle.qs_tree.proofs.Common.{◌≡◌, false, refl, sym, ap, ◌∙◌, arith, inl, inr, cases_lt, is_escape, Other, ends_of, kind_of_token, slice_index}
 use Rattle.qs_tree.specs.declared.scan.cursor.Until as until
 use Rattle.qs_tree.proofs.lemmas.scan.Runs.{token_on, letter_on}
 use Rattle.qs_tree.proofs.scan.cursor.run_len.Goals as goal
@@ -25,9 +23,3 @@ loop-at-preserved c = (
       c.first_token-kind.ensures.within c.first_token-kind.ensures.token (sym c.is_at.ensures ∙ c.if-is_at.false),
   λ is. absurd (cc),
 )
-
-pub returns-then-is_at-clause-plain : goal.returns-then-is_at-clause-plain
-returns-then-is_at-clause-plain c = λ plain. none_in_front is_escape c.args.bytes.now c.loop-at.at c.loop-at.invariant.0.some (c.loop-at.invariant.1 plain)
-
-pub returns-after-loop-at-clause-plain : goal.returns-after-loop-at-clause-plain
-returns-after-loop-at-clause-plain c = λ plain. none_in_front is_escape c.args.bytes.now c.loop-at.at c.loop-at.invariant.0.some (c.loop-at.invariant.1 plain)

@@ -1,4 +1,4 @@
-use Rattle.qs_tree.proofs.Common.{◌≡◌, ◌+◌, ◌<◌, length, ap, ◌∙◌, arith, Map, roll-ParsedMap}
+use Rattle.qs_tree.proofs.Common.{◌≡◌, ◌+◌, ◌<◌, length, ap, ◌∙◌, arith, Map, roll-ParsedMap, tree_of}
 use Rattle.std.specs.Vec.{with_item}
 use Rattle.qs_tree.proofs.lemmas.tree.NodeCounts.{nodes, entry_nodes, item_nodes, map_nodes, sequence_nodes, entry_put, entry_within, item_put, item_within}
 use Rattle.qs_tree.proofs.tree.dropping.drop_first_leaf.Goals as goal
@@ -8,7 +8,7 @@ loop-tree-smaller-in-Map c =
     let m = c.in-Map.map in
     let before : nodes c.loop-tree.tree ≡ 2 + entry_nodes m.map = ap nodes c.in-Map.is ∙ map_nodes m in
     let old = rw c.into_entries-entries.ensures at c.replace-tree.ensures.old in
-    omega (arith, before, entry_within m.map 0 c.replace-tree.result old)
+    omega (arith, before, entry_within tree_of m.map 0 c.replace-tree.result old)
 
 pub loop-tree-preserved-in-Map : goal.loop-tree-preserved-in-Map
 loop-tree-preserved-in-Map c =
@@ -18,7 +18,7 @@ loop-tree-preserved-in-Map c =
     let after : nodes (Map (roll-ParsedMap (record { map = es }))) ≡ 2 + entry_nodes es = map_nodes (roll-ParsedMap (record { map = es })) in
     let old = rw c.into_entries-entries.ensures at c.replace-tree.ensures.old in
     let new = rw c.into_entries-entries.ensures at c.replace-tree.ensures.new in
-    omega (arith, c.loop-tree.invariant, before, after, ap entry_nodes new, entry_put m.map 0 c.replace-tree.result c.loop-tree.above old)
+    omega (arith, c.loop-tree.invariant, before, after, ap entry_nodes new, entry_put tree_of m.map 0 c.replace-tree.result c.loop-tree.above old)
 
 pub loop-tree-smaller : goal.loop-tree-smaller
 loop-tree-smaller c =

@@ -1,23 +1,11 @@
-use Rattle.qs_tree.proofs.Common.{◌≡◌, ◌&&◌, true, false, arith, sym, ap, ap₂, ◌∙◌, is_same_segment, tree_same, segment_of_key, tree_of}
+use Rattle.qs_tree.proofs.Common.{◌≡◌, ◌&&◌, true, false, sym, ap, ap₂, ◌∙◌, is_same_segment, tree_same, segment_of_key, tree_of}
 use Rattle.qs_tree.proofs.lemmas.tree.Equality.{key_eq-segments}
 use Rattle.qs_tree.proofs.lemmas.tree.Nodes.{node_with}
-use Rattle.qs_tree.proofs.lemmas.tree.NodeCounts.{entry_at_within, item_at_within}
-use Rattle.qs_tree.proofs.lemmas.tree.Lengths.{other_items, other_entries}
+use Rattle.qs_tree.proofs.lemmas.tree.Lengths.{other_entries}
 use Rattle.qs_tree.proofs.tree.sameness.+sameness.Goals as goal
 
 pub same_entries-returns-then-left-right : goal.same_entries-returns-then-left-right
 same_entries-returns-then-left-right t c = sym (other_entries c.args.left.now c.args.right.now c.if-left-right.true)
-
-pub same_items-returns-then-left-right : goal.same_items-returns-then-left-right
-same_items-returns-then-left-right t c = sym (other_items c.args.left.now c.args.right.now c.if-left-right.true)
-
-pub same_items-same_nodes-requires : goal.same_items-same_nodes-requires
-same_items-same_nodes-requires t c =
-    (omega (arith, c.decreases, item_at_within c.args.left.now c.loop-at.at c.index-left-at.result c.loop-at-test.true c.index-left-at.is), tt)
-
-pub same_entries-same_entry-requires : goal.same_entries-same_entry-requires
-same_entries-same_entry-requires t c =
-    (omega (arith, c.decreases, entry_at_within c.args.left.now c.loop-at.at c.index-left-at.result c.loop-at-test.true c.index-left-at.is), tt)
 
 pub same_nodes-returns-in-Map-Map : goal.same_nodes-returns-in-Map-Map
 same_nodes-returns-in-Map-Map t c =

@@ -16,6 +16,7 @@ use Rattle.std.specs.declared.cmp.PartialEq as eq
 use Rattle.std.specs.declared.cmp.PartialOrd as partial
 use Rattle.std.specs.List.Sorted.{IsStrictlySortedBy, IsStrictlySortedBy-prop}
 use Rattle.std.specs.Map.{keys_of, values_of}
+use Rattle.std.proofs.lemmas.Map.Made.{keys_of-map_values}
 use Rattle.std.specs.formers.vec.Vec as vec
 use Rattle.std.specs.declared.alloc.Global.{Global}
 use Rattle.std.specs.contracts.alloc.Global as heap
@@ -50,10 +51,6 @@ fields K = via (vec.the_former (entry this K) Global) (λ X. Inside K X) (λ X a
 abbrev on_value : {K X Y : Type 0} → (X → Y) → K × X → K × Y
 on_value h e = (e.0, h e.1)
 
-pub keys_on_values : {K X Y : Type 0} (h : X → Y) (es : List (K × X)) → keys_of (map (on_value h) es) ≡ keys_of es
-keys_on_values h [] = refl
-keys_on_values h (e ∷ es) = ap (λ l. e.0 ∷ l) (keys_on_values h es)
-
 module _ (K : RattleType) (G : ord.Ghosts K.Denot) (G' : eq.Ghosts K.Denot) (G'' : partial.Ghosts K.Denot) (R S : RattleType) (h : R.Denot → S.Denot) where
   pair_places : Alike R S h → Alike (Tuple (K ∷ R ∷ [])) (Tuple (K ∷ S ∷ [])) (on_value h)
   pair_places a = struct_places (tuple_type (K ∷ R ∷ [])) (tuple_type (K ∷ S ∷ [])) ((λ k. k), (h, tt)) (on_value h) (λ d. refl) refl (stays K, (laid _ _ _ a, tt))
@@ -61,7 +58,7 @@ module _ (K : RattleType) (G : ord.Ghosts K.Denot) (G' : eq.Ghosts K.Denot) (G''
   pub the_places : Alike R S h → Alike (C.the_row K R G G' G'') (C.the_row K S G G' G'') ((the_former this K.Denot).map R.Denot S.Denot h)
   the_places a = view_places (fields K.Denot) (the_former this K.Denot) (λ X. view K.Denot X G G' G'') (λ X Y k u. refl) (λ X u. refl) R.Denot S.Denot h (C.the_row K R G G' G'').coded (C.the_row K S G G' G'').coded
       (invariant K.Denot R.Denot G G' G'') (invariant K.Denot S.Denot G G' G'') (λ u. IsStrictlySortedBy-prop G.cmp _) (λ u. IsStrictlySortedBy-prop G.cmp _)
-      (λ u s. subst (IsStrictlySortedBy G.cmp) (sym (keys_on_values h u.items.items)) s) (λ u s. subst (IsStrictlySortedBy G.cmp) (keys_on_values h u.items.items) s)
+      (λ u s. subst (IsStrictlySortedBy G.cmp) (sym (keys_of-map_values h u.items.items)) s) (λ u s. subst (IsStrictlySortedBy G.cmp) (keys_of-map_values h u.items.items) s)
       (over (I.the_row K R G G' G'')) (over (I.the_row K S G G' G''))
       (struct_places (I.the_type K R G G' G'') (I.the_type K S G G' G'') (vec.mapped (on_value h), tt) _ (λ d. refl) refl (laid _ _ _ (vec.the_places heap.the_row ghosts (Tuple (K ∷ R ∷ [])) (Tuple (K ∷ S ∷ [])) (on_value h) (pair_places a)), tt))
 

@@ -1,5 +1,5 @@
-use Rattle.qs_tree.proofs.Common.{refl, arith, length-chunk, chunk, is_escape}
-use Rattle.qs_tree.proofs.lemmas.escape.LaneLemmas.{mask_is, joined, splatted}
+use Rattle.qs_tree.proofs.Common.{refl, arith, length-chunk, chunk, is_escape, zip2_of_maps, zip2_splat}
+use Rattle.qs_tree.proofs.lemmas.escape.LaneLemmas.{mask_is}
 use Rattle.qs_tree.proofs.escape.search.marks.EscapeClass.mask.Goals as goal
 
 pub returns : goal.returns
@@ -7,4 +7,4 @@ returns c =
     let v = chunk c.args.at 32 c.args.bytes.now in
     let long = length-chunk c.args.at 32 c.args.bytes.now c.requires in
     mask_is is_escape c.args.bytes.now c.args.at 32 c.requires (omega arith) c.type_inv.bytes _
-    (joined _ _ _ v (splatted _ v 32 43 long) (splatted _ v 32 37 long)) refl
+    (zip2_of_maps _ _ _ v (zip2_splat _ v 32 43 long) (zip2_splat _ v 32 37 long)) refl

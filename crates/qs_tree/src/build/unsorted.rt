@@ -83,7 +83,8 @@ impl<'qs> Unsorted<'qs> {
     }
 }
 
-// Sorts leaves by their keys, and keeps those of one key in their order. Takes memory in proportion to the leaves only where a key has several.
+// Sorts leaves by their keys, and keeps those of one key in their order. Takes a buffer as long as the leaves only where a key has
+// several.
 fn sort<'qs>(
     alloc: Global,
     leaves: &mut Vec<(Key<'qs>, ParsedValue<'qs>)>,
@@ -91,7 +92,9 @@ fn sort<'qs>(
     ensures same { OnOk result (entries_of_leaves leaves.new.items ≡ entries_of_leaves leaves.old.items) }
     ensures permutation { IsPermutation leaves.old.items leaves.new.items }
 {
-    if have_distinct_keys(alloc, leaves)? {
+    // Falling keys need no buffer either: they are turned round.
+    let is_falling = leaves.is_sorted_by(|left, right| left.0.compare(&right.0).is_gt());
+    if !is_falling && have_distinct_keys(alloc, leaves)? {
         leaves.sort_unstable_by(|left, right| left.0.compare(&right.0));
         return Ok(());
     }

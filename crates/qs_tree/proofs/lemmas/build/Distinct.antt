@@ -1,5 +1,5 @@
 -- Keys that are distinct.
-use Rattle.qs_tree.proofs.Common.{◌≡◌, ◌≤◌, ◌<◌, ℕ, Bool, true, false, cond, List, ◌∷◌, length, get_or, map, filter, refl, sym, ap, ◌∙◌, arith, true≢false, IsPermutation, Key, ParsedValue, segment_of_key}
+use Rattle.qs_tree.proofs.Common.{◌≡◌, ◌≤◌, ℕ, Bool, true, false, cond, List, ◌∷◌, length, get_or, map, filter, refl, sym, ap, ◌∙◌, arith, true≢false, IsPermutation, Key, ParsedValue, segment_of_key}
 use Rattle.std.proofs.lemmas.Cmp.{eq_by_cmp_equiv, nat_cmp_total}
 use Rattle.std.proofs.lemmas.List.{get_or-map, length-map}
 use Rattle.std.proofs.lemmas.List.Sorted.{IsPermutation-sym}

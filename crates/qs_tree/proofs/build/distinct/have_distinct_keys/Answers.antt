@@ -1,4 +1,4 @@
-use Rattle.qs_tree.proofs.Common.{◌≡◌, sym, map, rules, IsPermutation, segment_of_key}
+use Rattle.qs_tree.proofs.Common.{◌≡◌, sym, map, rules, segment_of_key}
 use Rattle.std.proofs.lemmas.Bool.{ltb-true}
 use Rattle.std.proofs.lemmas.Fn.{always_returns_same}
 use Rattle.std.specs.Prelude.{nat_lt}

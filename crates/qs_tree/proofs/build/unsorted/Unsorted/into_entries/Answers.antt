@@ -1,4 +1,4 @@
-use Rattle.qs_tree.proofs.Common.{◌≡◌, sym, ap, ◌∙◌, entries_held}
+use Rattle.qs_tree.proofs.Common.{sym, ap, ◌∙◌, entries_held}
 use Rattle.qs_tree.proofs.lemmas.build.Unsorted.{distinct_leaves, moved_leaves}
 use Rattle.qs_tree.proofs.build.unsorted.Unsorted.into_entries.Goals as goal
 

@@ -5,6 +5,7 @@ mod add_to_value;
 pub(crate) mod builder;
 pub(crate) mod conflict;
 mod descent;
+mod distinct;
 mod dropping;
 mod finishing;
 mod unsorted;

@@ -5,3 +5,4 @@ pub mod Built
 pub mod Chains
 pub mod Levels
 pub mod BuiltNodes
+pub mod Distinct

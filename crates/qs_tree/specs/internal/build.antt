@@ -3,3 +3,4 @@ pub mod Builder
 pub mod Adding
 pub mod Descent
 pub mod Finishing
+pub mod Distinct

@@ -2,12 +2,14 @@
 //!
 //! It is the map of their pairs. They are sorted once, when it is finished, so a leaf takes constant time until then.
 ghost use Rattle.std.specs.Prelude.{◌≡◌, Some, false, IfOk, IsTrue, OnOk};
+ghost use Rattle.std.specs.List.Sorted.{IsPermutation};
 ghost use Rattle.qs_spec.specs.internal.InPlace.{add_flat, add_here, update};
 ghost use Rattle.qs_tree.specs.tree.Views.{step_of_key, entries_of_map};
 ghost use Rattle.qs_tree.specs.internal.scan.Pairs.{leaf_of};
 ghost use Rattle.qs_tree.specs.internal.build.Unsorted.{AreLeaves, entries_of_leaves};
 
 use crate::build::add_to_value::add_leaf_at;
+use crate::build::distinct::have_distinct_keys;
 use crate::scan::pair::Leaf;
 use crate::tree::entries::{Entries, reserve_one};
 use crate::tree::key::Key;
@@ -46,8 +48,7 @@ impl<'qs> Unsorted<'qs> {
         Ok(())
     }
 
-    /// Returns the finished entries. Sorts the leaves in their vector, which may allocate where there are many, and copies them to
-    /// another one only where a key has several.
+    /// Returns the finished entries. Sorts the leaves in their vector, and copies them to another one only where a key has several.
     #[inline(never)]
     pub fn into_entries(
         self,
@@ -56,7 +57,7 @@ impl<'qs> Unsorted<'qs> {
         ensures { IfOk result (λ entries. entries_held entries ≡ unsorted_entries self.entry) }
     {
         let mut leaves = self.leaves;
-        leaves.sort_by(|left, right| left.0.compare(&right.0))?;
+        sort(alloc, &mut leaves)?;
         match Entries::of_sorted(leaves) {
             Ok(entries) => Ok(entries),
             Err(leaves) => Self::merge(alloc, leaves),
@@ -80,6 +81,24 @@ impl<'qs> Unsorted<'qs> {
         }
         Ok(entries)
     }
+}
+
+// Sorts leaves by their keys, and keeps those of one key in their order. Takes a buffer as long as the leaves only where a key has
+// several.
+fn sort<'qs>(
+    alloc: Global,
+    leaves: &mut Vec<(Key<'qs>, ParsedValue<'qs>)>,
+) -> Result<(), AllocError>
+    ensures same { OnOk result (entries_of_leaves leaves.new.items ≡ entries_of_leaves leaves.old.items) }
+    ensures permutation { IsPermutation leaves.old.items leaves.new.items }
+{
+    // Falling keys need no buffer either: they are turned round.
+    let is_falling = leaves.is_sorted_by(|left, right| left.0.compare(&right.0).is_gt());
+    if !is_falling && have_distinct_keys(alloc, leaves)? {
+        leaves.sort_unstable_by(|left, right| left.0.compare(&right.0));
+        return Ok(());
+    }
+    leaves.sort_by(|left, right| left.0.compare(&right.0))
 }
 
 /// Returns whether all values are leaves.

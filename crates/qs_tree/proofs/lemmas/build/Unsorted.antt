@@ -1,7 +1,9 @@
 -- Leaves in no order, and the entries that they make.
-use Rattle.qs_tree.proofs.Common.{◌≡◌, Bool, true, false, cond, not, ◌&&◌, List, [], ◌∷◌, ◌++◌, map, refl, sym, ap, ap₂, ◌∙◌, Option, Some, Ordering, Less, Equal, Greater, is_lt, filter, IsPermutation, IsStrictlySortedBy, IsStableBy, ties, keys_of, ordering_reverse, Borrowed, filter_agree, same_Some, none-some, Pair, Segment, is_same_segment, compare_segments, Int, Str, Tree, entries_of, flat, head_mark, heads, node_within, leaf, entry, add_flat, add_here, update, Key, ParsedValue, NoValue, None, entries_held, leaf_pairs, entries_of_leaves, AreLeaves, is_leaf, is_some, unwrap_or, true≢false, append-nil, append_assoc, leaf_held, leaf_in, key_cmp, segment_of_key, key_mark, step_of_key, tree_of}
+use Rattle.qs_tree.proofs.Common.{◌≡◌, ◌≢◌, ◌≤◌, ◌<◌, ℕ, arith, length, get_or, ⊎_elim, same_segment, Bool, true, false, cond, not, ◌&&◌, List, [], ◌∷◌, ◌++◌, map, refl, sym, ap, ap₂, ◌∙◌, Option, Some, Ordering, Less, Equal, Greater, is_lt, filter, IsPermutation, IsStrictlySortedBy, IsStableBy, ties, keys_of, ordering_reverse, Borrowed, filter_agree, same_Some, none-some, Pair, Segment, is_same_segment, compare_segments, Int, Str, Tree, entries_of, flat, head_mark, heads, node_within, leaf, entry, add_flat, add_here, update, Key, ParsedValue, NoValue, None, entries_held, leaf_pairs, entries_of_leaves, AreLeaves, is_leaf, is_some, unwrap_or, true≢false, append-nil, append_assoc, leaf_held, leaf_in, key_cmp, segment_of_key, key_mark, step_of_key, tree_of}
 use Rattle.std.proofs.Common.{is_eq}
-use Rattle.std.proofs.lemmas.Bool.{and_parts}
+use Rattle.std.proofs.lemmas.Bool.{and_parts, cases_lt}
+use Rattle.std.proofs.lemmas.List.Elements.{filter_passes}
+use Rattle.std.proofs.lemmas.List.Kept.{AllPairs-filter}
 use Rattle.std.proofs.lemmas.List.Sorted.{All-permutation}
 use Rattle.std.proofs.lemmas.List.Sums.{AllPass-from_list_all, list_all-from_AllPass}
 use Rattle.qs_spec.specs.History.{Event, event, under}
@@ -13,9 +15,11 @@ use Rattle.qs_spec.proofs.Permuted.{Perm-from, perm_map, perm_heads}
 use Rattle.qs_spec.proofs.Update.{entries_within, update_pairs}
 use Rattle.qs_tree.specs.contracts.tree.key.KeyOrd.TheImpl.Laws.{total-law}
 use Rattle.qs_tree.specs.declared.tree.key.Key.TheVariants as variant
+use Rattle.qs_tree.specs.internal.build.Distinct.{HaveDistinctKeys}
 use Rattle.qs_tree.proofs.lemmas.tree.Keys.{Held}
 use Rattle.qs_tree.proofs.lemmas.tree.Places.{keys-append}
 use Rattle.qs_tree.proofs.lemmas.build.Built.{above}
+use Rattle.qs_tree.proofs.lemmas.build.Distinct.{alone}
 
 -- the leaves of one key are direct
 directs : (k : Segment) (ls : Held) → AllDirect (map event (under k (leaf_pairs ls)))
@@ -107,15 +111,35 @@ ties_at k p =
     let turned : key_cmp p.0 (key_at k) ≡ ordering_reverse (key_cmp (key_at k) p.0) = total-law.antisymm p.0 (key_at k) in
     ap (λ (o : Ordering). not (is_lt (key_cmp (key_at k) p.0)) && not (is_lt o)) turned ∙ neither (key_cmp (key_at k) p.0) ∙ ap is_eq (at_itself k p.0)
 
--- leaves that were sorted stably make the same entries
-pub sorted_leaves : (xs ys : Held) → IsPermutation xs ys → IsStableBy is_before xs ys → entries_of_leaves ys ≡ entries_of_leaves xs
-sorted_leaves xs ys moved stable =
-    let same : (k : Segment) → filter (is_at_segment k) ys ≡ filter (is_at_segment k) xs = λ k. sym (filter_agree _ _ (ties_at k) ys) ∙ stable (key_at k, NoValue) ∙ filter_agree _ _ (ties_at k) xs in
+-- leaves in another order make the same entries where those of one key keep their order
+kept_leaves : (xs ys : Held) → IsPermutation xs ys → ((k : Segment) → filter (is_at_segment k) ys ≡ filter (is_at_segment k) xs) → entries_of_leaves ys ≡ entries_of_leaves xs
+kept_leaves xs ys moved same =
     entries_agree (λ k. head_mark k (leaf_pairs ys)) (λ k. head_mark k (leaf_pairs xs)) (λ k. node_within 0 (under k (leaf_pairs ys))) (λ k. node_within 0 (under k (leaf_pairs xs)))
     (λ k. mark_of_leaves k ys ∙ ap first_mark (same k) ∙ sym (mark_of_leaves k xs))
     (λ k. ap (node_within 0) (under_leaves k ys ∙ ap bare_pairs (same k) ∙ sym (under_leaves k xs)))
     (heads (leaf_pairs ys))
     ∙ ap (entries_of (λ k. head_mark k (leaf_pairs xs)) (λ k. node_within 0 (under k (leaf_pairs xs)))) (sym (perm_heads (perm_map _ (Perm-from xs ys moved))))
+
+-- leaves that were sorted stably
+pub sorted_leaves : (xs ys : Held) → IsPermutation xs ys → IsStableBy is_before xs ys → entries_of_leaves ys ≡ entries_of_leaves xs
+sorted_leaves xs ys moved stable = kept_leaves xs ys moved (λ k. sym (filter_agree _ _ (ties_at k) ys) ∙ stable (key_at k, NoValue) ∙ filter_agree _ _ (ties_at k) xs)
+
+-- no two leaves are at one segment
+at_most_one : (k : Segment) (es : Held) → HaveDistinctKeys es → length (filter (is_at_segment k) es) ≤ 1
+at_most_one k es distinct = ⊎_elim (λ several. absurd (apart several (sym (at 0 (omega (arith, several))) ∙ at 1 several))) (λ few. few) (cases_lt 1 (length (filter (is_at_segment k) es)))
+  where
+    no_leaf : Key × ParsedValue
+    no_leaf = (key_at k, NoValue)
+
+    at : (i : ℕ) → i < length (filter (is_at_segment k) es) → k ≡ segment_of_key (get_or (filter (is_at_segment k) es) i no_leaf).0
+    at i within = same_segment k _ (filter_passes (is_at_segment k) es i no_leaf within)
+
+    apart : 1 < length (filter (is_at_segment k) es) → segment_of_key (get_or (filter (is_at_segment k) es) 0 no_leaf).0 ≢ segment_of_key (get_or (filter (is_at_segment k) es) 1 no_leaf).0
+    apart several = AllPairs-filter (λ p q. segment_of_key p.0 ≢ segment_of_key q.0) (is_at_segment k) es distinct 0 1 no_leaf (omega arith) several
+
+-- leaves of distinct keys in any other order
+pub moved_distinct : (xs ys : Held) → IsPermutation xs ys → HaveDistinctKeys xs → entries_of_leaves ys ≡ entries_of_leaves xs
+moved_distinct xs ys moved distinct = kept_leaves xs ys moved (λ k. alone (is_at_segment k) (Perm-from xs ys moved) (at_most_one k xs distinct))
 
 -- a leaf at a key after all others
 pub at_end : (key : Key) (ks : List Key) (v : ParsedValue) (l : spec.Leaf) → leaf_in (tree_of v) ≡ Some l → (es : Held) → IsStrictlySortedBy key_cmp (keys_of es ++ key ∷ ks)

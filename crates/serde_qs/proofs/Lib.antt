@@ -13,5 +13,4 @@ pub mod PartsWritten
 pub mod Pieces
 pub mod Steps
 pub mod TextWritten
-pub mod TypedRead
 pub mod WrittenRead

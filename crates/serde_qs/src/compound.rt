@@ -149,6 +149,10 @@ impl<C: Compound> Deserialize for C {
     fn from_node(reader: Reader, node: &ParsedValue<'_>) -> Result<C> {
         C::read(Source::Node(reader, node))
     }
+
+    fn from_node_by(reader: Reader, _shape: &Shape, node: &ParsedValue<'_>) -> Result<C> {
+        Self::from_node(reader, node)
+    }
 }
 
 impl<C: Compound> RoundTrip for C {

@@ -103,6 +103,18 @@ pub trait Deserialize: Sized {
         Self::from_data(reader.alloc, datum)
     }
 
+    /// Returns the same value by a shape that the caller keeps: that of the type. [`read_by`](crate::read_by) reads by this function.
+    ///
+    /// The errors are those of [`from_node`](Deserialize::from_node). Unless a type has a function of its own, this makes the data. The structs
+    /// and enums of [`Compound`](crate::Compound) read the node itself, without the shape.
+    fn from_node_by(reader: Reader, shape: &Shape, node: &ParsedValue<'_>) -> Result<Self>
+        requires { shape_of shape.now ≡ form }
+        ensures node { ReadsNode value form meaning reader.reject_duplicates (tree_of node.now) result }
+    {
+        let datum = reader.read(shape, node)?;
+        Self::from_data(reader.alloc, datum)
+    }
+
     /// Returns the value of a field of this name that has no key. Unless the shape is an option, the error is
     /// [`Custom`](Error::Custom), ``missing field `name` ``; where an allocation failed, [`OutOfMemory`](Error::OutOfMemory).
     fn from_missing(reader: Reader, name: &str) -> Result<Self>

@@ -61,6 +61,7 @@ pub enum Found<'t, 'qs> {
 
 impl<'t, 'qs> Entries<'t, 'qs> {
     /// Looks up the value under a name. It doesn't allocate.
+    #[inline(always)]
     pub fn find(self, name: &str) -> Found<'t, 'qs>
         requires { NumbersFit (entries_view self) }
         ensures { Finds result (found name.now (entries_view self.entry)) }
@@ -74,6 +75,19 @@ impl<'t, 'qs> Entries<'t, 'qs> {
         ensures fit { NumbersFit (entries_view self.entry) }
     {
         test_keys(self)
+    }
+
+    /// Returns whether all keys are texts, as [`test`](Entries::test) does without the key that isn't. It doesn't allocate.
+    #[inline(always)]
+    pub fn keys_are_text(self) -> bool
+        ensures text { result ≡ keys_are_text (entries_view self.entry) }
+        ensures fit { NumbersFit (entries_view self.entry) }
+    {
+        match self {
+            Entries::Empty => true,
+            Entries::Leaf(_) => true,
+            Entries::Map(map) => keys_are_text(map),
+        }
     }
 
     /// Returns how many entries there are.
@@ -139,6 +153,7 @@ fn entry_at<'t, 'qs>(
 }
 
 /// Returns the value under a name.
+#[inline(always)]
 pub(crate) fn find<'t, 'qs>(entries: Entries<'t, 'qs>, name: &str) -> Found<'t, 'qs>
     requires { NumbersFit (entries_view entries) }
     ensures { Finds result (found name.now (entries_view entries.entry)) }
@@ -169,6 +184,7 @@ fn find_in_map<'t, 'qs>(map: &'t ParsedMap<'qs>, name: &str) -> Found<'t, 'qs>
 }
 
 // Returns the only one of two values.
+#[inline(always)]
 fn either<'t, 'qs>(
     a: Option<&'t ParsedValue<'qs>>,
     b: Option<&'t ParsedValue<'qs>>,
@@ -182,13 +198,23 @@ fn either<'t, 'qs>(
     }
 }
 
-// Returns the number that is written so.
+// Returns the number that is written so. Most names don't begin as numbers do, and aren't parsed.
+#[inline(always)]
 fn number_of(name: &str) -> Option<u32>
     ensures { ParsesNumber result name.now }
 {
-    if !begins_with_a_digit(name.as_bytes()) {
-        return None;
+    if begins_with_a_digit(name.as_bytes()) {
+        parsed_number(name)
+    } else {
+        None
     }
+}
+
+// Returns the number that is written so.
+#[inline(never)]
+fn parsed_number(name: &str) -> Option<u32>
+    ensures { ParsesNumber result name.now }
+{
     match name.parse::<u32>() {
         Ok(number) => {
             let mut buffer = Buffer::new();
@@ -203,6 +229,7 @@ fn number_of(name: &str) -> Option<u32>
 }
 
 // Returns whether a text begins as numbers do.
+#[inline(always)]
 fn begins_with_a_digit(text: &[u8]) -> bool
     ensures { (n : ℕ) → n < 2 ^ 32 → decimal n ≡ text.now → IsTrue result }
 {
@@ -261,6 +288,45 @@ fn test_map<'t>(map: &'t ParsedMap<'_>) -> Result<(), BrokenKey<'t>>
         tested = tested.and(test_key(key));
     }
     tested
+}
+
+// Returns whether the keys of a map are texts. All keys are looked at, as by `test_map`.
+fn keys_are_text(map: &ParsedMap<'_>) -> bool
+    ensures text { result ≡ keys_are_text (entries_of_map map.now) }
+    ensures fit { NumbersFit (entries_of_map map.now) }
+{
+    let mut passed = true;
+    for i in 0..map.len() {
+        let Some((key, _)) = map.at(i) else {
+            break;
+        };
+        passed &= is_text_key(key);
+    }
+    passed
+}
+
+// Returns whether a key is a text.
+#[inline(always)]
+fn is_text_key(key: &Key<'_>) -> bool
+    ensures text { result ≡ is_utf8 (segment_text (segment_of_key key.now)) }
+    ensures fit { KeyFits (segment_of_key key.now) }
+{
+    match key {
+        Key::Int(number) => {
+            let _fits = *number;
+            true
+        }
+        Key::String(text) => is_text(text.as_slice()),
+    }
+}
+
+// Returns whether bytes are a text, as `test_text` tests it.
+#[inline(always)]
+#[tactic(auto, using(crate::proofs::lemmas::read::Errors::utf8_tests, crate::proofs::lemmas::read::Numbers::ascii_text))]
+fn is_text(text: &[u8]) -> bool
+    ensures { result ≡ is_utf8 text.now }
+{
+    text.is_ascii() || str::from_utf8(text).is_ok()
 }
 
 // Tests whether a key is a text.

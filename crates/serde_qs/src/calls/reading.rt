@@ -1,19 +1,16 @@
 //! Typed calls that read.
 
-ghost use Rattle.std.specs.Prelude.{◌≡◌, true, IfOk};
+ghost use Rattle.std.specs.Prelude.{◌≡◌, IfOk};
 ghost use Rattle.qs_spec.specs.Config.{are_rejected, default};
-ghost use Rattle.qs_spec.specs.Shape.{is_distinct};
 ghost use Rattle.qs_spec.specs.Tree.{IsTree, IsRefused};
 ghost use Rattle.qs_tree.specs.Error.{IsParse, OnlyParseOrOutOfMemory};
-ghost use Rattle.qs_data.specs.read.Errors.{OnlyCustomUtf8OrOutOfMemory};
-ghost use Rattle.qs_data.specs.read.Parsed.{ReturnsData, parsed_of};
 ghost use Rattle.qs_data.specs.shape.Views.{shape_of};
 ghost use Rattle.qs_tree.specs.tree.Views.{tree_of};
 ghost use Rattle.serde_qs.specs.Nodes.{ReadsNode};
 ghost use Rattle.serde_qs.specs.Typed.{ReturnsValue, ReturnsWritten};
 
 use crate::traits::Deserialize;
-use qs_data::{Config, Data, Deserializer, Reader, Result, Shape};
+use qs_data::{Config, Reader, Result, Shape};
 use qs_tree::{ParsedValue, parse};
 use std::alloc::Global;
 
@@ -61,9 +58,10 @@ pub fn from_str<T: Deserialize>(alloc: Global, input: &str) -> Result<T>
 /// let query: Query = read_by(alloc, Config::new(), &shape, body)?; // for each request
 /// ```
 ///
-/// The errors are those of [`from_str`], with this configuration in place of the default one. It reads data by the shape, and the value
-/// from them. That saves the shape of a type that is written by hand, or has such parts, where they have no
-/// [`from_node`](Deserialize::from_node) of their own. Any other type is read without a shape by [`from_str`], which is faster.
+/// The errors are those of [`from_str`], with this configuration in place of the default one. It takes as long as that call for a struct or an
+/// enum of [`Compound`](crate::Compound), which reads itself. It saves the shape of a type that is written by hand without a
+/// [`from_node`](Deserialize::from_node) of its own, and of a list, a map or an option of such a type; it reads data of these by the shape, and the
+/// value from them.
 pub fn read_by<T: Deserialize>(
     alloc: Global,
     config: Config,
@@ -74,11 +72,11 @@ pub fn read_by<T: Deserialize>(
     ensures exact { ReturnsValue T.value config T.form T.meaning input.now result }
     ensures back { ReturnsWritten T.value config T.form T.meaning input.now result }
 {
-    read_with_shape(alloc, config, shape, input)
+    read_tree_by(alloc, config, shape, input)
 }
 
-// Returns the value that is read from a querystring by the shape of its type.
-fn read_with_shape<T: Deserialize>(
+// Returns the value that is read from the tree of a querystring by the shape of its type.
+fn read_tree_by<T: Deserialize>(
     alloc: Global,
     config: Config,
     shape: &Shape,
@@ -87,28 +85,21 @@ fn read_with_shape<T: Deserialize>(
     requires { shape_of shape.now ≡ T.form }
     ensures { ReturnsValue T.value config T.form T.meaning input.now result }
 {
-    let deserializer = parsed(alloc, config, input)?;
-    let datum = read_data(alloc, deserializer, shape)?;
-    T::from_data(alloc, datum)
+    let tree = tree(alloc, config, input)?;
+    read_root_by(alloc, config, shape, &tree)
 }
 
-// Returns the parsed querystring, by a contract in the words of a typed call.
-fn parsed<'qs>(alloc: Global, config: Config, input: &'qs [u8]) -> Result<Deserializer<'qs>>
-    ensures config { IfOk result (λ d. (parsed_of d).config ≡ config) }
-    ensures tree { IfOk result (λ d. IsTree config.form config.max_depth input.now (parsed_of d).tree) }
-    ensures no_tree { IsParse result → IsRefused config.form config.max_depth input.now }
-    ensures errors { OnlyParseOrOutOfMemory result }
+// Returns the value that is read from a tree under a configuration by the shape of its type.
+fn read_root_by<T: Deserialize>(
+    alloc: Global,
+    config: Config,
+    shape: &Shape,
+    tree: &ParsedValue<'_>,
+) -> Result<T>
+    requires { shape_of shape.now ≡ T.form }
+    ensures { ReadsNode T.value T.form T.meaning (are_rejected config.duplicates) (tree_of tree.now) result }
 {
-    Deserializer::with_config(alloc, config, input)
-}
-
-// Returns the data that a shape reads, by a contract in the words of a typed call.
-fn read_data(alloc: Global, deserializer: Deserializer<'_>, shape: &Shape) -> Result<Data>
-    requires { is_distinct (shape_of shape.now) ≡ true }
-    ensures exact { ReturnsData (parsed_of deserializer.entry) (shape_of shape.now) result }
-    ensures errors { OnlyCustomUtf8OrOutOfMemory result }
-{
-    deserializer.read(alloc, shape)
+    T::from_node_by(Reader::new(alloc, config), shape, tree)
 }
 
 // Returns the value that is read from a querystring under a configuration.

@@ -77,14 +77,17 @@ fn read_entries<F: Fields>(
     ensures { Gives F.table.value (entries_are_text (entries_view entries.entry)) result
         (names_read (unknown_of unknown) reader.reject_duplicates (F.table.form (texts names.now)) (F.table.meaning (texts names.now)) (entries_view entries.entry)) }
 {
-    let tested = entries.test();
+    let are_text = entries.keys_are_text();
     let fields = F::from_entries(reader, names, entries)?;
     let known = NamesOf::<F> {
         names,
         fields: PhantomData,
     };
     unknown.reject(reader, &known, entries)?;
-    match tested {
+    if are_text {
+        return Ok(fields);
+    }
+    match entries.test() {
         Ok(()) => Ok(fields),
         Err(key) => Err(key.into_error(reader.alloc)),
     }

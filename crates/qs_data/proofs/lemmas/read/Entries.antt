@@ -1,5 +1,5 @@
 -- The entries of a map, place by place.
-use Rattle.std.proofs.Common.{◌≡◌, ℕ, zero, suc, ◌+◌, ◌≤◌, Bool, false, cond, ◌&&◌, length, slice_get, Option, Some, None, Result, Ok, Err, refl, sym, ap, subst, ◌∙◌, arith, add-one, inl, inr}
+use Rattle.std.proofs.Common.{◌≡◌, ℕ, zero, suc, ◌+◌, ◌≤◌, Bool, true, false, cond, ◌&&◌, length, slice_get, Option, Some, None, Result, Ok, Err, refl, sym, ap, subst, ◌∙◌, arith, add-one, inl, inr}
 use Rattle.std.proofs.lemmas.Bool.{cases_Bool}
 use Rattle.std.specs.Result.{MatchResult, result_and}
 use Rattle.std.specs.Option.{option_and_then}
@@ -78,3 +78,25 @@ tested_more {E = E} es more k m t x y h g f = record {
   text (Ok u) (Ok v) a b = a ∙ rw b refl
   text (Ok u) (Err e) a b = a ∙ and_left (is_utf8 (segment_text k)) (keys_are_text more) b
   text (Err e) y a b = a
+
+-- whether the keys before some that are left are texts, and what is known of their numbers
+pub record Passed (es rest : Entries) (passed : Bool) : Type 0 where
+  pub text : keys_are_text es ≡ (passed && keys_are_text rest)
+  pub fit : NumbersFit rest → NumbersFit es
+
+pub passed_all : (es : Entries) → Passed es es true
+passed_all es = record { text = refl; fit = λ h. h }
+
+pub passed_done : (es rest : Entries) (p : Bool) → rest ≡ no_entries → Passed es rest p → p ≡ keys_are_text es
+passed_done es rest true h t = sym (t.text ∙ ap keys_are_text h)
+passed_done es rest false h t = sym t.text
+
+pub passed_fit : (es rest : Entries) (p : Bool) → rest ≡ no_entries → Passed es rest p → NumbersFit es
+passed_fit es rest p h t = t.fit (subst NumbersFit (sym h) tt)
+
+-- one more
+pub passed_more : (es more : Entries) (k : Segment) (m : Bool) (t : Tree) (p q : Bool) → Passed es (entry k m t more) p → q ≡ is_utf8 (segment_text k) → KeyFits k → Passed es more (p && q)
+passed_more es more k m t p q h is f = record { text = text p (h.text ∙ ap (λ b. p && (b && keys_are_text more)) (sym is)); fit = λ n. h.fit (f, n) } where
+  text : (p : Bool) → keys_are_text es ≡ (p && (q && keys_are_text more)) → keys_are_text es ≡ ((p && q) && keys_are_text more)
+  text true e = e
+  text false e = e

@@ -2,7 +2,7 @@ use Rattle.std.proofs.Common.{◌≡◌, Ok, decimal, sym, ap, ◌∙◌, arith}
 use Rattle.std.proofs.lemmas.Bool.{false≢true}
 use Rattle.std.proofs.lemmas.Fmt.{parse-decimal}
 use Rattle.qs_data.proofs.lemmas.read.Lookups.{bytes_eq_same}
-use Rattle.qs_data.proofs.read.keys.number_of.Goals as goal
+use Rattle.qs_data.proofs.read.keys.parsed_number.Goals as goal
 
 pub returns-else-eq : goal.returns-else-eq
 returns-else-eq c = λ n lt is.

@@ -1,0 +1,7 @@
+use Rattle.qs_tree.specs.tree.Views.{entries_of_map}
+use Rattle.qs_data.specs.read.internal.Keys.{entries_after}
+use Rattle.qs_data.proofs.lemmas.read.Entries.{Passed}
+use Rattle.qs_data.proofs.read.keys.keys_are_text.Given as goal
+
+abbrev pub invariant-loop-i : goal.invariant-loop-i
+invariant-loop-i l = Passed (entries_of_map l.map) (entries_after l.i (entries_of_map l.map)) l.passed

@@ -1,0 +1,8 @@
+use Rattle.qs_tree.specs.tree.Views.{tree_of}
+use Rattle.serde_qs.proofs.NodesRead.{returns_value}
+use Rattle.serde_qs.proofs.calls.reading.read_tree_by.Goals as goal
+
+pub returns : goal.returns
+returns g c =
+    returns_value g.T.Deserialize.value c.args.config g.T.Deserialize.form g.T.Deserialize.meaning c.args.input.now (tree_of c.in_ok-tree.tree)
+    g.met.T.Deserialize.distinct c.in_ok-tree.ensures.tree c.read_root_by.result c.read_root_by.ensures

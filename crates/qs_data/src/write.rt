@@ -1,6 +1,7 @@
 //! Writing: a serializer, the sink that it writes to, the walk over data, and a writer for types that write themselves.
 
 mod entry;
+mod kept;
 mod scalar;
 mod serializer;
 mod sink;

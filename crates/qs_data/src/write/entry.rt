@@ -17,7 +17,6 @@ use crate::write::stop::Stop;
 use crate::write::text::Text;
 use qs_tree::Config;
 use std::alloc::{AllocError, Global};
-use std::io;
 
 /// Where entries go: the sink, and whether an entry with a key was put to it.
 #[derive(Drop)]
@@ -35,8 +34,6 @@ pub(crate) struct Walk {
     depth: usize,
     /// Their text after an `&`. Going in appends, leaving truncates.
     text: Text,
-    /// Why the sink failed, where it did.
-    pub(crate) cause: io::Error,
 }
 
 impl Walk {
@@ -48,11 +45,11 @@ impl Walk {
             config,
             depth: 0,
             text: Text::new(alloc),
-            cause: io::Error::from(io::ErrorKind::WriteZero),
         }
     }
 
     /// Goes under one more segment, unless the path is as long as the limit allows. Returns how long the text was before.
+    #[inline(always)]
     pub(crate) fn enter(&mut self, segment: Scalar<'_>) -> Result<usize, Stop>
         ensures len { IfOk result (λ len. len ≡ length self.old.text) }
         ensures ok { OnOk result ((config : Settings) (path : Path) → IsAt config path self.old
@@ -88,22 +85,38 @@ fn append_segment(out: &mut Text, form: bool, segment: Scalar<'_>) -> Result<(),
         out.append(b"&")?;
         return segment.append(form, out);
     }
-    let (open, close) = brackets(form);
-    out.append(open.as_bytes())?;
+    open_bracket(form, out)?;
     segment.append(form, out)?;
-    out.append(close.as_bytes())?;
+    close_bracket(form, out)?;
     Ok(())
 }
 
-/// Returns how a bracket that opens, and one that closes, is written.
-fn brackets(form: bool) -> (&'static str, &'static str)
-    ensures open { result.0.now ≡ open_bytes form }
-    ensures close { result.1.now ≡ close_bytes form }
+/// Appends a bracket that opens, as it is written.
+#[inline(always)]
+fn open_bracket(form: bool, out: &mut Text) -> Result<(), AllocError>
+    ensures { OnOk result (out.new ≡ out.old ++ open_bytes form) }
 {
-    if form { ("%5B", "%5D") } else { ("[", "]") }
+    if form {
+        out.append(b"%5B")
+    } else {
+        out.append(b"[")
+    }
+}
+
+/// Appends a bracket that closes, as it is written.
+#[inline(always)]
+fn close_bracket(form: bool, out: &mut Text) -> Result<(), AllocError>
+    ensures { OnOk result (out.new ≡ out.old ++ close_bytes form) }
+{
+    if form {
+        out.append(b"%5D")
+    } else {
+        out.append(b"]")
+    }
 }
 
 /// Appends the value after `=`, where there is one. Of a long value `=` alone, and the value is returned.
+#[inline(always)]
 fn append_value<'a>(
     out: &mut Text,
     form: bool,
@@ -140,8 +153,8 @@ pub(crate) fn put<S: Sink>(
     let len = walk.text.len();
     let rest = append_value(&mut walk.text, form, value)?;
     let start = skipped(stream.started, len);
-    put_all(&mut stream.sink, walk.text.after(start), &mut walk.cause)?;
-    put_encoded(&mut stream.sink, rest, form, &mut walk.cause)?;
+    put_all(&mut stream.sink, walk.text.after(start))?;
+    put_encoded(&mut stream.sink, rest, form)?;
     walk.text.truncate(len);
     stream.started |= len != 0;
     Ok(())
@@ -156,7 +169,7 @@ pub(crate) fn put_empty<S: Sink>(stream: &mut Stream<S>, walk: &mut Walk) -> Res
     if walk.text.len() != 0 {
         return put(stream, walk, Some(Scalar::Bytes(&[])));
     }
-    put_all(&mut stream.sink, b"=", &mut walk.cause)?;
+    put_all(&mut stream.sink, b"=")?;
     Ok(())
 }
 

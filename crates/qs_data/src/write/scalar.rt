@@ -161,6 +161,7 @@ fn append_signed(n: i64, out: &mut Text) -> Result<(), AllocError>
 }
 
 /// Appends the bytes, encoded.
+#[inline(always)]
 fn append_encoded(bytes: &[u8], form: bool, out: &mut Text) -> Result<(), AllocError>
     ensures ok { OnOk result (out.new ≡ out.old ++ encoded form bytes.now) }
     ensures visible { All IsVisible (encoded form bytes.now) }

@@ -10,6 +10,7 @@ ghost use Rattle.qs_data.specs.data.Views.{data_of};
 
 use crate::data::Data;
 use crate::write::entry::{Stream, Walk};
+use crate::write::kept::Kept;
 use crate::write::sink::{ByWrite, Sink};
 use crate::write::stop::Stop;
 use crate::write::walk::write_all;
@@ -17,6 +18,7 @@ use qs_tree::{Config, Error, Result};
 use std::alloc::Global;
 use std::io::Write;
 use std::marker::Model;
+use std::{io, mem};
 
 /// Writes data as a querystring to a [`Sink`], value after value, until its first error.
 ///
@@ -28,7 +30,7 @@ use std::marker::Model;
 #[derive(Drop)]
 pub struct Serializer<S: Sink> {
     config: Config,
-    stream: Stream<S>,
+    stream: Stream<Kept<S>>,
     failed: bool,
 }
 
@@ -38,9 +40,9 @@ impl<S: Sink> Model for Serializer<S> {
 
     ghost Value = { State S };
 
-    ghost view = { λ s. record { config = s.config; sink = s.stream.sink; failed = s.failed; started = s.stream.started } };
+    ghost view = { λ s. record { config = s.config; sink = s.stream.sink.sink; failed = s.failed; started = s.stream.started } };
 
-    ghost invariant = { λ s. s.failed ≡ false → S.failed s.stream.sink ≡ false };
+    ghost invariant = { λ s. s.failed ≡ false → S.failed s.stream.sink.sink ≡ false };
 }
 
 impl<W: Write + Drop> Serializer<ByWrite<W>> {
@@ -77,7 +79,7 @@ impl<S: Sink> Serializer<S> {
         Serializer {
             config,
             stream: Stream {
-                sink,
+                sink: Kept::new(sink),
                 started: false,
             },
             failed: false,
@@ -94,7 +96,10 @@ impl<S: Sink> Serializer<S> {
     {
         let Serializer {
             config: _,
-            stream: Stream { sink, started: _ },
+            stream: Stream {
+                sink: Kept { sink, cause: _ },
+                started: _,
+            },
             failed: _,
         } = self;
         sink
@@ -158,7 +163,10 @@ impl<S: Sink> Serializer<S> {
                 self.config.get_max_depth(),
             )),
             Err(Stop::BadKey) => Err(Error::Unsupported),
-            Err(Stop::Io) => Err(Error::Io(walk.cause)),
+            Err(Stop::Io) => {
+                let unknown = io::Error::from(io::ErrorKind::WriteZero);
+                Err(Error::Io(mem::replace(&mut self.stream.sink.cause, unknown)))
+            }
             Err(Stop::OutOfMemory) => Err(Error::OutOfMemory),
         }
     }

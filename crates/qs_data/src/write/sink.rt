@@ -10,8 +10,8 @@ ghost use Rattle.qs_data.specs.declared.write.stop.Stop.TheVariants.{Io};
 
 use crate::write::stop::Stop;
 use qs_tree::encode_to;
-use std::io;
 use std::io::Write;
+use std::{io, mem};
 
 /// How many bytes of a value are put at once, encoded; a shorter value is put with its key.
 pub(crate) const PIECE: usize = 1024;
@@ -98,12 +98,8 @@ impl<W: Write + Drop> Sink for ByWrite<W> {
     }
 }
 
-/// Puts all of these bytes, one put after another, until one fails; `cause` then says why.
-pub(crate) fn put_all<S: Sink>(
-    sink: &mut S,
-    bytes: &[u8],
-    cause: &mut io::Error,
-) -> Result<(), Stop>
+/// Puts all of these bytes, one put after another, until one fails.
+pub(crate) fn put_all<S: Sink>(sink: &mut S, bytes: &[u8]) -> Result<(), Stop>
     ensures all { OnOk result (Appends (S.taken sink.old) (S.taken sink.new) bytes.now) }
     ensures part { IfErr result (λ stop. (stop ≡ Io) × (n : ℕ) × (n < length bytes.now)
         × Appends (S.taken sink.old) (S.taken sink.new) (take n bytes.now)) }
@@ -113,27 +109,16 @@ pub(crate) fn put_all<S: Sink>(
     let mut rest = bytes;
     while !rest.is_empty() {
         match sink.put(rest) {
-            Ok(0) => {
-                *cause = io::Error::from(io::ErrorKind::WriteZero);
-                return Err(Stop::Io);
-            }
+            Ok(0) => return Err(Stop::Io),
             Ok(count) => rest = &rest[count..],
-            Err(error) => {
-                *cause = error;
-                return Err(Stop::Io);
-            }
+            Err(_) => return Err(Stop::Io),
         }
     }
     Ok(())
 }
 
-/// Puts all of these bytes, encoded, piece by piece, until a put fails; `cause` then says why. It doesn't allocate.
-pub(crate) fn put_encoded<S: Sink>(
-    sink: &mut S,
-    bytes: &[u8],
-    form: bool,
-    cause: &mut io::Error,
-) -> Result<(), Stop>
+/// Puts all of these bytes, encoded, piece by piece, until a put fails. It doesn't allocate.
+pub(crate) fn put_encoded<S: Sink>(sink: &mut S, bytes: &[u8], form: bool) -> Result<(), Stop>
     ensures all { OnOk result (Appends (S.taken sink.old) (S.taken sink.new) (encoded form bytes.now)) }
     ensures part { IfErr result (λ stop. (stop ≡ Io) × (n : ℕ) × (n < length (encoded form bytes.now))
         × Appends (S.taken sink.old) (S.taken sink.new) (take n (encoded form bytes.now))) }
@@ -143,7 +128,7 @@ pub(crate) fn put_encoded<S: Sink>(
     let mut rest = bytes;
     while !rest.is_empty() {
         let (piece, tail) = rest.split_at(rest.len().min(PIECE));
-        put_piece(sink, piece, form, cause)?;
+        put_piece(sink, piece, form)?;
         rest = tail;
     }
     Ok(())
@@ -151,12 +136,7 @@ pub(crate) fn put_encoded<S: Sink>(
 
 /// Puts a piece of a text, encoded.
 #[inline(never)]
-fn put_piece<S: Sink>(
-    sink: &mut S,
-    bytes: &[u8],
-    form: bool,
-    cause: &mut io::Error,
-) -> Result<(), Stop>
+fn put_piece<S: Sink>(sink: &mut S, bytes: &[u8], form: bool) -> Result<(), Stop>
     requires { length bytes.now ≤ PIECE }
     ensures all { OnOk result (Appends (S.taken sink.old) (S.taken sink.new) (encoded form bytes.now)) }
     ensures part { IfErr result (λ stop. (stop ≡ Io) × (n : ℕ) × (n < length (encoded form bytes.now))
@@ -166,5 +146,5 @@ fn put_piece<S: Sink>(
 {
     let mut room = [0; 3 * PIECE];
     let len = encode_to(bytes, form, &mut room, 0);
-    put_all(sink, &room[..len], cause)
+    put_all(sink, &room[..len])
 }

@@ -1,11 +1,11 @@
 //! Percent-encoding.
 
 ghost use Rattle.std.specs.Prelude.{◌≡◌, ◌+◌, ◌<◌, ◌≤◌, ◌++◌, length, OnOk, OnErr, min, take, drop};
-ghost use Rattle.qs_spec.specs.Escape.{encoded, decoded, spelling};
+ghost use Rattle.qs_spec.specs.Escape.{encoded, decoded, escape, spelling};
 ghost use Rattle.qs_tree.specs.Error.{OnlyOutOfMemory};
 
 use crate::error::Result;
-use crate::escape::copying::{copy_run, put};
+use crate::escape::copying::copy_run;
 use crate::escape::search::{Class, Escaped, LANES, count};
 use percent_encoding::percent_encode_byte;
 use std::alloc::AllocError;
@@ -91,11 +91,24 @@ fn put_byte(byte: u8, form: bool, room: &mut [u8], at: usize) -> usize
 {
     let escaped = Escaped { form };
     if escaped.has(byte) {
-        put(percent_encode_byte(byte).as_bytes(), room, at);
+        put_escape(byte, room, at);
         return 3;
     }
     room[at] = escaped.plain(byte);
     1
+}
+
+// Writes the escape of a byte to `room` from `at` on, byte by byte: a copy would first test whether the two overlap.
+#[inline(always)]
+fn put_escape(byte: u8, room: &mut [u8], at: usize)
+    requires { at + 3 ≤ length room.old }
+    ensures { take (at + 3) room.new ≡ take at room.old ++ escape byte }
+{
+    let text = percent_encode_byte(byte).as_bytes();
+    let (percent, high, low) = (text[0], text[1], text[2]);
+    room[at] = percent;
+    room[at + 1] = high;
+    room[at + 2] = low;
 }
 
 // Returns the length of the encoded bytes, or `usize::MAX` where it is greater.
@@ -120,7 +133,7 @@ fn put_front(bytes: &[u8], form: bool, room: &mut [u8], at: usize) -> (usize, us
 {
     let escaped = Escaped { form };
     if escaped.has(bytes[0]) {
-        put(percent_encode_byte(bytes[0]).as_bytes(), room, at);
+        put_escape(bytes[0], room, at);
         return (1, 3);
     }
     let len = copy_run(escaped, bytes, b' ', b'+', room, at);

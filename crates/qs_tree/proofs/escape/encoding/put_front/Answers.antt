@@ -1,16 +1,15 @@
 use Rattle.qs_tree.proofs.Common.{◌+◌, ◌++◌, ◌∙◌, ap, sym, arith, length, take, drop, map, get_or, length-map, length-take-le, encoded, escape, swapped, append_assoc, length-append}
-use Rattle.qs_tree.proofs.lemmas.escape.EncodedFronts.{encoded_run, encoded_escape, escape_is, length_encoded}
+use Rattle.qs_tree.proofs.lemmas.escape.EncodedFronts.{encoded_run, encoded_escape, length_encoded}
 use Rattle.qs_tree.proofs.escape.encoding.put_front.Goals as goal
 
 pub copy_run-len-requires-clause-room : goal.copy_run-len-requires-clause-room
 copy_run-len-requires-clause-room c = omega (arith, c.requires.room, length_encoded c.args.form c.args.bytes.now)
 
-pub put-requires : goal.put-requires
-put-requires c =
+pub put_escape-requires : goal.put_escape-requires
+put_escape-requires c =
     let byte = get_or c.args.bytes.now 0 0 in
-    let text = c.as_bytes.ensures.value ∙ c.percent_encode_byte.ensures ∙ escape_is byte (c.type_inv.bytes 0).fits in
     let whole = encoded_escape c.args.form c.args.bytes.now c.requires.some (sym c.has.ensures ∙ c.if-has.true) in
-    omega (arith, ap length text, ap length whole, length-append (escape byte) (encoded c.args.form (drop 1 c.args.bytes.now)), c.requires.room)
+    omega (arith, ap length whole, length-append (escape byte) (encoded c.args.form (drop 1 c.args.bytes.now)), c.requires.room)
 
 pub returns-then-has-clause-room : goal.returns-then-has-clause-room
 returns-then-has-clause-room c =
@@ -21,12 +20,10 @@ returns-then-has-clause-room c =
 pub returns-then-has-clause-text : goal.returns-then-has-clause-text
 returns-then-has-clause-text c =
     let bytes = c.args.bytes.now in
-    let text = c.as_bytes.ensures.value ∙ c.percent_encode_byte.ensures ∙ escape_is (get_or bytes 0 0) (c.type_inv.bytes 0).fits in
     let whole = encoded_escape c.args.form bytes c.requires.some (sym c.has.ensures ∙ c.if-has.true) in
     let rest = encoded c.args.form (drop 1 bytes) in
     let front = take c.args.at c.args.room.now in
-    ap (λ k. take (c.args.at + k) c.put.new.room ++ rest) (sym (ap length text)) ∙ ap (λ x. x ++ rest) c.put.ensures ∙ append_assoc front _ rest
-    ∙ ap (λ x. front ++ x) (ap (λ x. x ++ rest) text ∙ sym whole)
+    ap (λ x. x ++ rest) c.put_escape.ensures ∙ append_assoc front _ rest ∙ ap (λ x. front ++ x) (sym whole)
 
 pub returns-clause-room : goal.returns-clause-room
 returns-clause-room c =

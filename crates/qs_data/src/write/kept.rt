@@ -1,0 +1,49 @@
+//! A sink that keeps why it failed.
+
+ghost use Rattle.std.specs.Prelude.{◌≡◌};
+
+use crate::write::sink::Sink;
+use std::io;
+
+/// A sink, and why it failed.
+#[derive(Drop)]
+pub(crate) struct Kept<S> {
+    pub(crate) sink: S,
+    /// Why a put failed: as long as none returned an error, that one took nothing.
+    pub(crate) cause: io::Error,
+}
+
+impl<S> Kept<S> {
+    /// Returns the sink, of which no put failed yet.
+    pub(crate) fn new(sink: S) -> Kept<S>
+        ensures { result.sink ≡ sink }
+    {
+        Kept {
+            sink,
+            cause: io::Error::from(io::ErrorKind::WriteZero),
+        }
+    }
+}
+
+impl<S: Sink> Sink for Kept<S> {
+    ghost taken = { λ s. S.taken s.sink };
+
+    ghost failed = { λ s. S.failed s.sink };
+
+    ghost writer_name = { λ s. S.writer_name s.sink };
+
+    #[inline(always)]
+    fn put(&mut self, bytes: &[u8]) -> io::Result<usize> {
+        match self.sink.put(bytes) {
+            Ok(count) => Ok(count),
+            Err(error) => {
+                self.cause = error;
+                Err(io::Error::from(io::ErrorKind::Other))
+            }
+        }
+    }
+
+    fn has_failed(&self) -> bool {
+        self.sink.has_failed()
+    }
+}

@@ -40,7 +40,7 @@ pub extern "C" fn qs_bench_person(
 ) -> bool
     ensures typed { IsTrue result → IsReadAndWritten ⟦<Person as Deserialize>⟧.value ⟦<Person as Deserialize>⟧.form ⟦<Person as Deserialize>⟧.meaning ⟦<Person as Serialize>⟧.datum
         input.now out.old out.new len.new }
-    ensures failed { IsFalse result → (out.new ≡ out.old) × (len.new ≡ len.old) }
+    ensures refused { IsFalse result → (out.new ≡ out.old) × (len.new ≡ len.old) }
 {
     let times = Times {
         reads,
@@ -63,7 +63,7 @@ pub extern "C" fn qs_bench_record(
 ) -> bool
     ensures typed { IsTrue result → IsReadAndWritten ⟦<Record as Deserialize>⟧.value ⟦<Record as Deserialize>⟧.form ⟦<Record as Deserialize>⟧.meaning ⟦<Record as Serialize>⟧.datum
         input.now out.old out.new len.new }
-    ensures failed { IsFalse result → (out.new ≡ out.old) × (len.new ≡ len.old) }
+    ensures refused { IsFalse result → (out.new ≡ out.old) × (len.new ≡ len.old) }
 {
     let times = Times {
         reads,
@@ -86,7 +86,7 @@ pub extern "C" fn qs_bench_ids(
 ) -> bool
     ensures typed { IsTrue result → IsReadAndWritten ⟦<Ids as Deserialize>⟧.value ⟦<Ids as Deserialize>⟧.form ⟦<Ids as Deserialize>⟧.meaning ⟦<Ids as Serialize>⟧.datum
         input.now out.old out.new len.new }
-    ensures failed { IsFalse result → (out.new ≡ out.old) × (len.new ≡ len.old) }
+    ensures refused { IsFalse result → (out.new ≡ out.old) × (len.new ≡ len.old) }
 {
     let times = Times {
         reads,
@@ -109,7 +109,7 @@ pub extern "C" fn qs_bench_map(
 ) -> bool
     ensures typed { IsTrue result → IsReadAndWritten ⟦<BTreeMap<String, String> as Deserialize>⟧.value ⟦<BTreeMap<String, String> as Deserialize>⟧.form ⟦<BTreeMap<String, String> as Deserialize>⟧.meaning ⟦<BTreeMap<String, String> as Serialize>⟧.datum
         input.now out.old out.new len.new }
-    ensures failed { IsFalse result → (out.new ≡ out.old) × (len.new ≡ len.old) }
+    ensures refused { IsFalse result → (out.new ≡ out.old) × (len.new ≡ len.old) }
 {
     let times = Times {
         reads,
@@ -132,7 +132,7 @@ pub extern "C" fn qs_bench_nested(
 ) -> bool
     ensures typed { IsTrue result → IsReadAndWritten ⟦<Nested as Deserialize>⟧.value ⟦<Nested as Deserialize>⟧.form ⟦<Nested as Deserialize>⟧.meaning ⟦<Nested as Serialize>⟧.datum
         input.now out.old out.new len.new }
-    ensures failed { IsFalse result → (out.new ≡ out.old) × (len.new ≡ len.old) }
+    ensures refused { IsFalse result → (out.new ≡ out.old) × (len.new ≡ len.old) }
 {
     let times = Times {
         reads,
@@ -151,7 +151,7 @@ fn read_and_write<T: RoundTrip + Drop>(
     len: &mut usize,
 ) -> bool
     ensures typed { IsTrue result → IsReadAndWritten T.value T.form T.meaning T.datum input.now out.old out.new len.new }
-    ensures failed { IsFalse result → (out.new ≡ out.old) × (len.new ≡ len.old) }
+    ensures refused { IsFalse result → (out.new ≡ out.old) × (len.new ≡ len.old) }
 {
     let Ok(value) = last_value::<T>(alloc, times, input) else {
         return false;

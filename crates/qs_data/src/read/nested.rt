@@ -144,7 +144,7 @@ impl<'t, 'qs> Frame<'t, 'qs> {
 }
 
 impl Drop for ListFrame<'_, '_> {
-    // What is dropped after an error may be nested deep.
+    // Drops each value by a loop: what was read before an error may be nested deep.
     fn drop(self) {
         for value in self.into_values() {
             value.discard();
@@ -153,6 +153,7 @@ impl Drop for ListFrame<'_, '_> {
 }
 
 impl Drop for MapFrame<'_, '_> {
+    // Drops each value by a loop, as a list's frame does.
     fn drop(self) {
         for (_key, value) in self.into_pairs() {
             value.discard();

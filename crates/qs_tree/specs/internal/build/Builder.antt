@@ -1,7 +1,7 @@
 -- From a tree under construction to a tree of the definitions.
 use Rattle.std.specs.Prelude.{◌≡◌, List, map, Some, unwrap_or}
 use Rattle.qs_spec.specs.Segment.{Segment}
-use Rattle.qs_spec.specs.Tree.{Tree, Entries, leaf, sequence, mapping, uninitialized}
+use Rattle.qs_spec.specs.Tree.{Tree, Entries, mapping, uninitialized}
 use Rattle.qs_tree.specs.declared.build.builder.TreeBuilder.{TreeBuilder, fold-TreeBuilder}
 use Rattle.qs_tree.specs.declared.build.builder.TreeBuilder.TheVariants.{Value}
 use Rattle.qs_tree.specs.declared.build.builder.MapBuilder.TheOpen.{TreeBuilder-F, MapBuilder-F}

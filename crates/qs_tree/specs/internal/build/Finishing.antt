@@ -3,7 +3,7 @@ use Rattle.std.specs.Prelude.{◌≡◌, ℕ, suc, ◌+◌, List, [], ◌∷◌,
 use Rattle.std.specs.List.Sorted.{IsStrictlySortedBy}
 use Rattle.std.specs.Map.{keys_of}
 use Rattle.std.specs.Vec.Iter.{into_iter_items}
-use Rattle.qs_spec.specs.Tree.{Tree, Entries, leaf, sequence, mapping, uninitialized, no_entries, entry}
+use Rattle.qs_spec.specs.Tree.{Tree, Entries, mapping, no_entries, entry}
 use Rattle.qs_tree.specs.declared.tree.key.Key.{Key}
 use Rattle.qs_tree.specs.declared.build.builder.TreeBuilder.{TreeBuilder}
 use Rattle.qs_tree.specs.declared.build.builder.MapBuilder.{MapBuilder}

@@ -4,7 +4,7 @@ use Rattle.std.specs.declared.borrow.CowSlice.TheVariants.{Borrowed, Owned}
 use Rattle.qs_spec.specs.Segment.{Step}
 use Rattle.qs_spec.specs.Leaf.{Leaf, NoValue, Null, Text}
 use Rattle.qs_spec.specs.Grammar as grammar
-use Rattle.qs_spec.specs.Tree.{Tree, leaf, sequence, mapping, uninitialized}
+use Rattle.qs_spec.specs.Tree.{Tree, leaf}
 use Rattle.qs_tree.specs.declared.tree.key.Key.{Key}
 use Rattle.qs_tree.specs.declared.scan.pair.Leaf as code
 use Rattle.qs_tree.specs.declared.scan.pair.Leaf.TheVariants as variant

@@ -1,9 +1,9 @@
 -- Equality of trees is that of the trees without their marks, and so an equivalence.
-use Rattle.std.proofs.Common.{◌≡◌, Bool, true, false, ◌&&◌, refl, sym, ap, ap₂, ◌∙◌}
+use Rattle.std.proofs.Common.{◌≡◌, Bool, false, ◌&&◌, refl, sym, ap, ap₂, ◌∙◌}
 use Rattle.std.specs.Bool.{Decides, one_answer}
 use Rattle.std.specs.Cmp.{IsPartialEquivalence}
 use Rattle.std.proofs.lemmas.Slice.Eq.{bytes_eq-Decides}
-use Rattle.qs_spec.specs.Segment.{Segment, is_same_segment}
+use Rattle.qs_spec.specs.Segment.{is_same_segment}
 use Rattle.qs_spec.specs.Leaf.{Leaf, NoValue, Null, Text}
 use Rattle.qs_spec.specs.Tree.{Tree, Items, Entries, leaf, sequence, mapping, uninitialized, no_items, item, no_entries, entry}
 use Rattle.qs_spec.specs.Order.{unmarked, unmarked_items, unmarked_entries, unmarked_leaf}

@@ -17,6 +17,9 @@ use crate::tree::map::ParsedMap;
 use crate::tree::value::ParsedValue;
 use std::alloc::{AllocError, Global};
 
+/// How many keys rise, or fall, one after another in runs that a stable sort takes as they are.
+const RUN: usize = 8;
+
 /// A map of leaves alone, in the order in which they came. Those of one key make a sequence.
 #[derive(Drop)]
 pub(crate) struct Unsorted<'qs> {
@@ -83,8 +86,8 @@ impl<'qs> Unsorted<'qs> {
     }
 }
 
-// Sorts leaves by their keys, and keeps those of one key in their order. Takes a buffer as long as the leaves only where a key has
-// several.
+// Sorts leaves by their keys, and keeps those of one key in their order. Takes a buffer as long as the leaves only where they are in runs,
+// or where a key has several.
 fn sort<'qs>(
     alloc: Global,
     leaves: &mut Vec<(Key<'qs>, ParsedValue<'qs>)>,
@@ -92,13 +95,21 @@ fn sort<'qs>(
     ensures same { OnOk result (entries_of_leaves leaves.new.items ≡ entries_of_leaves leaves.old.items) }
     ensures permutation { IsPermutation leaves.old.items leaves.new.items }
 {
-    // Falling keys need no buffer either: they are turned round.
-    let is_falling = leaves.is_sorted_by(|left, right| left.0.compare(&right.0).is_gt());
-    if !is_falling && have_distinct_keys(alloc, leaves)? {
+    if !are_runs(leaves) && have_distinct_keys(alloc, leaves)? {
         leaves.sort_unstable_by(|left, right| left.0.compare(&right.0));
         return Ok(());
     }
     leaves.sort_by(|left, right| left.0.compare(&right.0))
+}
+
+// Returns whether the keys rise nearly everywhere, or fall.
+fn are_runs<'qs>(leaves: &[(Key<'qs>, ParsedValue<'qs>)]) -> bool {
+    let falls = leaves
+        .iter()
+        .zip(leaves.iter().skip(1))
+        .filter(|(left, right)| left.0.compare(&right.0).is_gt())
+        .count();
+    falls.min(leaves.len().saturating_sub(falls)) <= leaves.len() / RUN
 }
 
 /// Returns whether all values are leaves.

@@ -7,7 +7,7 @@ use Rattle.qs_tree.proofs.lemmas.build.Unsorted.{is_before, moved_distinct, sort
 use Rattle.qs_tree.proofs.build.unsorted.sort.Goals as goal
 
 pub returns-then-branch-clause-same : goal.returns-then-branch-clause-same
-returns-then-branch-clause-same c = moved_distinct c.args.leaves.now.items _ c.sort_unstable_by.ensures.permutation (rw c.deref-then-not-is_falling.ensures.value at c.in_ok-have_distinct_keys.ensures c.if-branch.true)
+returns-then-branch-clause-same c = moved_distinct c.args.leaves.now.items _ c.sort_unstable_by.ensures.permutation (rw c.deref-then-not-are_runs.ensures.value at c.in_ok-have_distinct_keys.ensures c.if-branch.true)
 
 pub returns-clause-same : goal.returns-clause-same
 returns-clause-same c =

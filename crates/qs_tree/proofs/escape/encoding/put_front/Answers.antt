@@ -1,4 +1,4 @@
-use Rattle.qs_tree.proofs.Common.{◌+◌, ◌++◌, ◌∙◌, ap, sym, arith, length, take, drop, map, get_or, length-map, length-take-le, encoded, escape, swapped, append_assoc, length-append}
+use Rattle.qs_tree.proofs.Common.{◌++◌, ◌∙◌, ap, sym, arith, length, take, drop, map, get_or, length-map, length-take-le, encoded, escape, swapped, append_assoc, length-append}
 use Rattle.qs_tree.proofs.lemmas.escape.EncodedFronts.{encoded_run, encoded_escape, length_encoded}
 use Rattle.qs_tree.proofs.escape.encoding.put_front.Goals as goal
 

@@ -38,7 +38,7 @@ pub extern "C" fn qs_bench_person(
     out: &mut [u8],
     len: &mut usize,
 ) -> bool
-    ensures typed { IsTrue result → IsReadAndWritten ⟦<Person as Deserialize>⟧.value ⟦<Person as Deserialize>⟧.form ⟦<Person as Deserialize>⟧.meaning ⟦<Person as Serialize>⟧.datum
+    ensures typed { IsTrue result → IsReadAndWritten ⟦<Person as Deserialize>⟧.table.value ⟦<Person as Deserialize>⟧.table.form ⟦<Person as Deserialize>⟧.table.meaning ⟦<Person as Serialize>⟧.datum
         input.now out.old out.new len.new }
     ensures refused { IsFalse result → (out.new ≡ out.old) × (len.new ≡ len.old) }
 {
@@ -61,7 +61,7 @@ pub extern "C" fn qs_bench_record(
     out: &mut [u8],
     len: &mut usize,
 ) -> bool
-    ensures typed { IsTrue result → IsReadAndWritten ⟦<Record as Deserialize>⟧.value ⟦<Record as Deserialize>⟧.form ⟦<Record as Deserialize>⟧.meaning ⟦<Record as Serialize>⟧.datum
+    ensures typed { IsTrue result → IsReadAndWritten ⟦<Record as Deserialize>⟧.table.value ⟦<Record as Deserialize>⟧.table.form ⟦<Record as Deserialize>⟧.table.meaning ⟦<Record as Serialize>⟧.datum
         input.now out.old out.new len.new }
     ensures refused { IsFalse result → (out.new ≡ out.old) × (len.new ≡ len.old) }
 {
@@ -84,7 +84,7 @@ pub extern "C" fn qs_bench_ids(
     out: &mut [u8],
     len: &mut usize,
 ) -> bool
-    ensures typed { IsTrue result → IsReadAndWritten ⟦<Ids as Deserialize>⟧.value ⟦<Ids as Deserialize>⟧.form ⟦<Ids as Deserialize>⟧.meaning ⟦<Ids as Serialize>⟧.datum
+    ensures typed { IsTrue result → IsReadAndWritten ⟦<Ids as Deserialize>⟧.table.value ⟦<Ids as Deserialize>⟧.table.form ⟦<Ids as Deserialize>⟧.table.meaning ⟦<Ids as Serialize>⟧.datum
         input.now out.old out.new len.new }
     ensures refused { IsFalse result → (out.new ≡ out.old) × (len.new ≡ len.old) }
 {
@@ -107,7 +107,7 @@ pub extern "C" fn qs_bench_map(
     out: &mut [u8],
     len: &mut usize,
 ) -> bool
-    ensures typed { IsTrue result → IsReadAndWritten ⟦<BTreeMap<String, String> as Deserialize>⟧.value ⟦<BTreeMap<String, String> as Deserialize>⟧.form ⟦<BTreeMap<String, String> as Deserialize>⟧.meaning ⟦<BTreeMap<String, String> as Serialize>⟧.datum
+    ensures typed { IsTrue result → IsReadAndWritten ⟦<BTreeMap<String, String> as Deserialize>⟧.table.value ⟦<BTreeMap<String, String> as Deserialize>⟧.table.form ⟦<BTreeMap<String, String> as Deserialize>⟧.table.meaning ⟦<BTreeMap<String, String> as Serialize>⟧.datum
         input.now out.old out.new len.new }
     ensures refused { IsFalse result → (out.new ≡ out.old) × (len.new ≡ len.old) }
 {
@@ -130,7 +130,7 @@ pub extern "C" fn qs_bench_nested(
     out: &mut [u8],
     len: &mut usize,
 ) -> bool
-    ensures typed { IsTrue result → IsReadAndWritten ⟦<Nested as Deserialize>⟧.value ⟦<Nested as Deserialize>⟧.form ⟦<Nested as Deserialize>⟧.meaning ⟦<Nested as Serialize>⟧.datum
+    ensures typed { IsTrue result → IsReadAndWritten ⟦<Nested as Deserialize>⟧.table.value ⟦<Nested as Deserialize>⟧.table.form ⟦<Nested as Deserialize>⟧.table.meaning ⟦<Nested as Serialize>⟧.datum
         input.now out.old out.new len.new }
     ensures refused { IsFalse result → (out.new ≡ out.old) × (len.new ≡ len.old) }
 {
@@ -150,7 +150,7 @@ fn read_and_write<T: RoundTrip + Drop>(
     out: &mut [u8],
     len: &mut usize,
 ) -> bool
-    ensures typed { IsTrue result → IsReadAndWritten T.value T.form T.meaning T.datum input.now out.old out.new len.new }
+    ensures typed { IsTrue result → IsReadAndWritten T.table.value T.table.form T.table.meaning T.datum input.now out.old out.new len.new }
     ensures refused { IsFalse result → (out.new ≡ out.old) × (len.new ≡ len.old) }
 {
     let Ok(value) = last_value::<T>(alloc, times, input) else {
@@ -165,7 +165,7 @@ fn read_and_write<T: RoundTrip + Drop>(
 
 // Returns the value that is read the last of so many times.
 fn last_value<T: RoundTrip + Drop>(alloc: Global, times: Times, input: &[u8]) -> Result<T>
-    ensures { IfOk result (λ x. IsRead default T.form T.meaning input.now (T.value x)) }
+    ensures { IfOk result (λ x. IsRead default T.table.form T.table.meaning input.now (T.table.value x)) }
 {
     if times.kept {
         read_kept(alloc, times.reads, input)
@@ -176,7 +176,7 @@ fn last_value<T: RoundTrip + Drop>(alloc: Global, times: Times, input: &[u8]) ->
 
 // Returns the last value, read by a shape that is made once.
 fn read_kept<T: RoundTrip + Drop>(alloc: Global, times: usize, input: &[u8]) -> Result<T>
-    ensures { IfOk result (λ x. IsRead default T.form T.meaning input.now (T.value x)) }
+    ensures { IfOk result (λ x. IsRead default T.table.form T.table.meaning input.now (T.table.value x)) }
 {
     let shape = T::shape(alloc)?;
     read_by_shape(alloc, times, &shape, input)
@@ -189,8 +189,8 @@ fn read_by_shape<T: RoundTrip + Drop>(
     shape: &Shape,
     input: &[u8],
 ) -> Result<T>
-    requires { shape_of shape.now ≡ T.form }
-    ensures { IfOk result (λ x. IsRead default T.form T.meaning input.now (T.value x)) }
+    requires { shape_of shape.now ≡ T.table.form }
+    ensures { IfOk result (λ x. IsRead default T.table.form T.table.meaning input.now (T.table.value x)) }
 {
     for _ in 1..times {
         let _value: T = read_by(alloc, Config::new(), shape, input)?;
@@ -200,7 +200,7 @@ fn read_by_shape<T: RoundTrip + Drop>(
 
 // Returns the last value, read by a shape that is made each time.
 fn read_anew<T: RoundTrip + Drop>(alloc: Global, times: usize, input: &[u8]) -> Result<T>
-    ensures { IfOk result (λ x. IsRead default T.form T.meaning input.now (T.value x)) }
+    ensures { IfOk result (λ x. IsRead default T.table.form T.table.meaning input.now (T.table.value x)) }
 {
     for _ in 1..times {
         let _value: T = from_bytes(alloc, input)?;

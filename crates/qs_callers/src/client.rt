@@ -21,7 +21,7 @@ pub fn served<T: RoundTrip>(alloc: Global, target: &str) -> Result<T> {
 
 /// Returns what the server reads of the client's query: the client's value, where its data are plain and within the depth limit.
 pub fn exchanged<T: RoundTrip>(alloc: Global, value: &T) -> Result<T>
-    ensures { IsPlainFor default T.form (T.datum value.now) → IfOk result (λ read. T.value read ≡ T.value value.now) }
+    ensures { IsPlainFor default T.table.form (T.datum value.now) → IfOk result (λ read. T.table.value read ≡ T.table.value value.now) }
 {
     value.fits();
     let query = to_string(alloc, value)?;

@@ -1,10 +1,11 @@
 //! Numbers in one text: a field such as `values=1,2,3`.
 
-ghost use Rattle.std.specs.Prelude.{ℕ, List, map, decimal, refl};
+ghost use Rattle.std.specs.Prelude.{map, decimal, refl};
 ghost use Rattle.qs_spec.specs.Data as d;
 ghost use Rattle.qs_spec.specs.Scalar.{unsigned_number};
 ghost use Rattle.qs_spec.specs.Shape as s;
 ghost use Rattle.serde_qs.specs.Items.{joined, list_in};
+ghost use Rattle.serde_qs.specs.Tables.{only_read};
 
 use serde_qs::helpers::comma_separated;
 use serde_qs::{Data, Deserialize, Result, Serialize, Shape};
@@ -23,15 +24,7 @@ impl Serialize for Values {
 }
 
 impl Deserialize for Values {
-    ghost Value = { List ℕ };
-
-    ghost value = { λ values. map (λ n. n) values.0.items };
-
-    ghost form = { s.Shape.text };
-
-    ghost meaning = { λ x. list_in (unsigned_number 32) 44 x };
-
-    ghost distinct = { refl };
+    ghost table = { only_read (λ values. map (λ n. n) values.0.items) s.Shape.text (λ x. list_in (unsigned_number 32) 44 x) refl };
 
     fn shape(_alloc: Global) -> Result<Shape> {
         Ok(Shape::Text)

@@ -1,8 +1,7 @@
 //! A visit, which is only read: a struct without writing and without a round trip.
 
 ghost use Rattle.qs_callers.specs.declared.visit.TheConstants.{NAMES};
-ghost use Rattle.serde_qs.specs.PartTables.{names_in};
-ghost use Rattle.std.specs.Prelude.{refl};
+ghost use Rattle.serde_qs.specs.PartTables.{made_of};
 
 use serde_qs::{Data, Deserialize, Parts, Result, Shape, Struct};
 use std::alloc::Global;
@@ -21,15 +20,7 @@ type VisitParts = Struct<(String, (u32, (BTreeMap<String, String>, ())))>;
 const NAMES: &[&str] = &["path", "times", "labels"];
 
 impl Deserialize for Visit {
-    ghost Value = { ⟦<VisitParts as Parts>⟧.table.Value };
-
-    ghost value = { λ visit. ⟦<VisitParts as Parts>⟧.table.value (record { 0 = (visit.path, (visit.times, (visit.labels, tt))) }) };
-
-    ghost form = { ⟦<VisitParts as Parts>⟧.table.form (names_in NAMES.now) };
-
-    ghost meaning = { ⟦<VisitParts as Parts>⟧.table.meaning (names_in NAMES.now) };
-
-    ghost distinct = { refl };
+    ghost table = { made_of ⟦<VisitParts as Parts>⟧.table NAMES.now (λ visit. record { 0 = (visit.path, (visit.times, (visit.labels, tt))) }) _ };
 
     fn shape(alloc: Global) -> Result<Shape> {
         VisitParts::shape(alloc, NAMES)

@@ -19,8 +19,8 @@ use std::alloc::Global;
 /// The errors are those of [`from_bytes`](serde_qs::from_bytes) with this configuration. It allocates, and takes time, as that call
 /// does.
 pub fn form<T: Deserialize>(alloc: Global, body: &[u8], config: Config) -> Result<QsForm<T>>
-    ensures exact { ReturnsValue (λ form. T.value form.0) config T.form T.meaning body.now result }
-    ensures back { ReturnsWritten (λ form. T.value form.0) config T.form T.meaning body.now result }
+    ensures exact { ReturnsValue (λ form. T.table.value form.0) config T.table.form T.table.meaning body.now result }
+    ensures back { ReturnsWritten (λ form. T.table.value form.0) config T.table.form T.table.meaning body.now result }
 {
     config.deserialize_bytes(alloc, body).map(QsForm)
 }

@@ -25,8 +25,8 @@ use std::alloc::Global;
 /// The errors are those of [`from_str`](serde_qs::from_str) with this configuration. It allocates, and takes time, as that call does;
 /// the target is unchanged.
 pub fn query<T: Deserialize>(alloc: Global, uri: &Uri, config: Config) -> Result<QsQuery<T>>
-    ensures exact { ReturnsValue (λ query. T.value query.0) config T.form T.meaning (query_of uri.now) result }
-    ensures back { ReturnsWritten (λ query. T.value query.0) config T.form T.meaning (query_of uri.now) result }
+    ensures exact { ReturnsValue (λ query. T.table.value query.0) config T.table.form T.table.meaning (query_of uri.now) result }
+    ensures back { ReturnsWritten (λ query. T.table.value query.0) config T.table.form T.table.meaning (query_of uri.now) result }
 {
     config.deserialize_str(alloc, query_text(uri)).map(QsQuery)
 }

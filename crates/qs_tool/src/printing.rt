@@ -39,9 +39,9 @@ pub fn printed(alloc: Global, request: Request, input: &[u8]) -> Result<Vec<u8>>
 
 // Reads a value from the input, and returns the querystring that it is written as.
 fn rewritten<T: RoundTrip + Drop>(alloc: Global, config: Config, input: &[u8]) -> Result<Vec<u8>>
-    requires { IsExact T.value T.datum T.form T.meaning }
-    ensures text { IfOk result (λ text. IsPrintedBy config T.form (rewritten config) input.now text.items) }
-    ensures fault { IfInputError result (IsFaultyBy config T.form (rewritten config) input.now) }
+    requires { IsExact T.table.value T.datum T.table.form T.table.meaning }
+    ensures text { IfOk result (λ text. IsPrintedBy config T.table.form (rewritten config) input.now text.items) }
+    ensures fault { IfInputError result (IsFaultyBy config T.table.form (rewritten config) input.now) }
 {
     let value: T = config.deserialize_bytes(alloc, input)?;
     Ok(config.serialize_string(alloc, &value)?.into_bytes())

@@ -7,7 +7,7 @@ pub mod NodeValues
 pub mod NodeVariants
 pub mod NodesRead
 pub mod NumberItems
-pub mod OwnValue
+pub mod NumbersKept
 pub mod PairsPut
 pub mod PartsWritten
 pub mod Pieces

@@ -20,6 +20,7 @@ use Rattle.serde_qs.specs.internal.ComesBack.{option_back, sequence_back}
 use Rattle.serde_qs.specs.internal.Compound.{data_by_back}
 use Rattle.serde_qs.specs.internal.DelimitedComesBack.{list_comes_back}
 use Rattle.serde_qs.specs.internal.MapsComeBack.{mapping_back}
+use Rattle.serde_qs.specs.internal.OnlyRead.{misfit, nothing_back}
 
 -- What a value holds, its data, the shape that is read for it, and what data mean. No struct or enum in the shape has a name twice, and from data
 -- that are the same as those of a value which fit, comes that value.
@@ -40,6 +41,10 @@ table_of {A} {V} value datum form meaning distinct back =
 -- a table whose data unfold only where that is asked for
 abbrev pub closed : {A : Type 0} → Table A → Table A
 closed t = table_of t.value (data_by t.datum) t.form t.meaning t.distinct (data_by_back t.datum t.form t.meaning t.value t.comes_back)
+
+-- The table of a type that is only read. Data are written that fit no shape, so none of its values has to come back.
+abbrev pub only_read : {A V : Type 0} (value : A → V) (form : Shape) (meaning : Data → Option V) → is_distinct form ≡ true → Table A
+only_read value form meaning distinct = table_of value (λ _. misfit) form meaning distinct (nothing_back value form meaning)
 
 -- types of std that hold others
 
@@ -74,15 +79,7 @@ delimited_table n delimiter free =
     table_of (λ list. map n.value list.items.items) (λ list. list_data n.in_range n.printed delimiter list.items.items) Shape.text (list_in n.meaning delimiter) refl
     (λ list e h p. list_comes_back n.in_range n.meaning n.printed n.value n.come_back delimiter free list.items.items e h p)
 
--- A table holds what a type has itself: its shape, the data of each value, and what data mean, but for how the value is kept.
-pub record IsTableOf {A V : Type 0} (t : Table A) (value : A → V) (datum : A → Data) (form : Shape) (meaning : Data → Option V) : Type 0 where
-  pub same_form : t.form ≡ form
-  pub same_datum : (x : A) → t.datum x ≡ datum x
-  pub kept : V → t.Value
-  pub same_value : (x : A) → t.value x ≡ kept (value x)
-  pub same_meaning : (d : Data) → t.meaning d ≡ option_map kept (meaning d)
-
--- the same of whole numbers
+-- They are a type's own, but for how a value is kept.
 pub record AreNumbersOf {A V : Type 0} (n : Numbers A) (value : A → V) (in_range : A → Bool) (printed : A → List ℕ) (meaning : List ℕ → Option V) : Type 0 where
   pub same_range : (x : A) → n.in_range x ≡ in_range x
   pub same_printed : (x : A) → n.printed x ≡ printed x

@@ -8,6 +8,7 @@ pub mod MapsComeBack
 pub mod NodeEntries
 pub mod NodeParts
 pub mod NumberLists
+pub mod OnlyRead
 pub mod Optional
 pub mod OwnTables
 pub mod Pieces

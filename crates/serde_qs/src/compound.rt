@@ -16,14 +16,12 @@ mod strict;
 mod variants;
 mod written;
 
-ghost use Rattle.std.specs.Prelude.{◌≡◌, true, IfOk};
+ghost use Rattle.std.specs.Prelude.{◌≡◌, true, IfOk, refl};
 ghost use Rattle.qs_tree.specs.Error.{OnlyOutOfMemory};
 ghost use Rattle.qs_data.specs.data.Views.{data_of};
 ghost use Rattle.qs_data.specs.shape.Views.{shape_of};
 ghost use Rattle.qs_data.specs.write.Parts.{data_part};
 ghost use Rattle.serde_qs.specs.Compound.{data_by};
-ghost use Rattle.serde_qs.specs.internal.Compound.{data_by_back};
-ghost use Rattle.serde_qs.specs.internal.OwnTables.{itself};
 ghost use Rattle.serde_qs.specs.Exits.{PartsWritten};
 ghost use Rattle.serde_qs.specs.Fits.{fits};
 ghost use Rattle.serde_qs.specs.Tables.{Table, closed};
@@ -128,15 +126,7 @@ impl<C: Compound> Serialize for C {
 }
 
 impl<C: Compound> Deserialize for C {
-    ghost Value = { C.table.Value };
-
-    ghost value = { λ x. C.table.value x };
-
-    ghost form = { C.table.form };
-
-    ghost meaning = { λ d. C.table.meaning d };
-
-    ghost distinct = { C.table.distinct };
+    ghost table = { closed C.table };
 
     fn shape(alloc: Global) -> Result<Shape> {
         C::form(alloc)
@@ -156,11 +146,7 @@ impl<C: Compound> Deserialize for C {
 }
 
 impl<C: Compound> RoundTrip for C {
-    ghost table = { closed C.table };
-
-    ghost is_own = { itself C.table.value (data_by C.table.datum) C.table.form C.table.meaning C.table.distinct (data_by_back C.table.datum C.table.form C.table.meaning C.table.value C.table.comes_back) };
-
-    ghost comes_back = { λ x e h p. data_by_back C.table.datum C.table.form C.table.meaning C.table.value C.table.comes_back x e h p };
+    ghost same_datum = { λ _. refl };
 
     #[tactic(auto, unfolding(crate::specs::Compound::data_by))]
     fn fits(&self) {

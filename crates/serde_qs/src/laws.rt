@@ -15,8 +15,8 @@ use crate::traits::RoundTrip;
 ///
 /// It calls [`fits`](RoundTrip::fits) and does nothing else.
 pub fn value_comes_back<T: RoundTrip>(value: &T)
-    ensures { (config : Settings) (es : List Entry) → IsPlainFor config T.form (T.datum value.now) → IsOrder config (T.datum value.now) es
-        → IsRead config T.form T.meaning (written config.form false es) (T.value value.now) }
+    ensures { (config : Settings) (es : List Entry) → IsPlainFor config T.table.form (T.datum value.now) → IsOrder config (T.datum value.now) es
+        → IsRead config T.table.form T.table.meaning (written config.form false es) (T.table.value value.now) }
 {
     value.fits();
 }

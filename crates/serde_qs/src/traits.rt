@@ -1,18 +1,16 @@
 //! What a type is read by and written as.
 
-ghost use Rattle.std.specs.Prelude.{◌≡◌, true, IfOk, Option, option_and_then};
+ghost use Rattle.std.specs.Prelude.{◌≡◌, true, IfOk, option_and_then};
 ghost use Rattle.qs_spec.specs.Data.{Data as Datum};
-ghost use Rattle.qs_spec.specs.Shape.{Shape as Form, is_distinct};
 ghost use Rattle.qs_tree.specs.Error.{OnlyOutOfMemory};
 ghost use Rattle.qs_data.specs.read.Errors.{IsCustomOrOutOfMemory};
 ghost use Rattle.qs_data.specs.data.Views.{data_of};
 ghost use Rattle.qs_data.specs.write.Parts.{WritesPart, data_part};
 ghost use Rattle.qs_data.specs.shape.Views.{shape_of};
-ghost use Rattle.serde_qs.specs.ComesBack.{ComesBack};
 ghost use Rattle.qs_tree.specs.tree.Views.{tree_of};
 ghost use Rattle.serde_qs.specs.Fits.{fits};
 ghost use Rattle.serde_qs.specs.Nodes.{ReadsNode, missing_data};
-ghost use Rattle.serde_qs.specs.Tables.{IsTableOf, Table};
+ghost use Rattle.serde_qs.specs.Tables.{Table};
 ghost use Rattle.serde_qs.specs.Typed.{Means};
 
 use crate::parts::write_made;
@@ -62,23 +60,16 @@ pub trait Serialize {
 /// let query = Query::from_data(alloc, deserializer.read(alloc, &shape)?)?;
 /// ```
 pub trait Deserialize: Sized {
-    // What a value holds: of a string its bytes, of a list what its items hold. Data mean at most one.
-    ghost Value: { Type 0 };
-
-    ghost value: { Self → Value };
-
-    // The one shape that is read for a value.
-    ghost form: { Form };
-
-    // What the value holds that data mean, if they mean one.
-    ghost meaning: { Datum → Option Value };
+    // What a value holds, the one shape that is read for it, and what data mean. The table of a struct or an enum is made of those of its
+    // parts. A type that is only read has one by `only_read`.
+    ghost table: { Table Self };
 
     /// Returns the shape that is read for a value. The one error is [`OutOfMemory`](Error::OutOfMemory).
     ///
     /// It allocates for names and nested shapes. A typed call makes it for a type without a [`from_node`](Deserialize::from_node) of its own;
     /// a service that reads many of such a type keeps it for [`read_by`](crate::read_by).
     fn shape(alloc: Global) -> Result<Shape>
-        ensures exact { IfOk result (λ s. shape_of s ≡ form) }
+        ensures exact { IfOk result (λ s. shape_of s ≡ table.form) }
         ensures errors { OnlyOutOfMemory result };
 
     /// Returns the value that data mean.
@@ -87,7 +78,7 @@ pub trait Deserialize: Sized {
     /// [`OutOfMemory`](Error::OutOfMemory). There is no other error. Strings are moved, not copied;
     /// lists and maps are allocated anew. The time grows with the data.
     fn from_data(alloc: Global, datum: Data) -> Result<Self>
-        ensures exact { Means value result (meaning (data_of datum)) };
+        ensures exact { Means table.value result (table.meaning (data_of datum)) };
 
     /// Returns the value that is read from a node of a tree: the one that the data mean which the shape reads from it. Typed calls read by
     /// this function.
@@ -96,7 +87,7 @@ pub trait Deserialize: Sized {
     /// makes the shape and the data. The unit, booleans, numbers, characters, strings, options, lists, maps, and the structs and enums of
     /// [`Compound`](crate::Compound) read the node itself.
     fn from_node(reader: Reader, node: &ParsedValue<'_>) -> Result<Self>
-        ensures node { ReadsNode value form meaning reader.reject_duplicates (tree_of node.now) result }
+        ensures node { ReadsNode table.value table.form table.meaning reader.reject_duplicates (tree_of node.now) result }
     {
         let shape = Self::shape(reader.alloc)?;
         let datum = reader.read(&shape, node)?;
@@ -108,8 +99,8 @@ pub trait Deserialize: Sized {
     /// The errors are those of [`from_node`](Deserialize::from_node). Unless a type has a function of its own, this makes the data. The structs
     /// and enums of [`Compound`](crate::Compound) read the node itself, without the shape.
     fn from_node_by(reader: Reader, shape: &Shape, node: &ParsedValue<'_>) -> Result<Self>
-        requires { shape_of shape.now ≡ form }
-        ensures node { ReadsNode value form meaning reader.reject_duplicates (tree_of node.now) result }
+        requires { shape_of shape.now ≡ table.form }
+        ensures node { ReadsNode table.value table.form table.meaning reader.reject_duplicates (tree_of node.now) result }
     {
         let datum = reader.read(shape, node)?;
         Self::from_data(reader.alloc, datum)
@@ -118,7 +109,7 @@ pub trait Deserialize: Sized {
     /// Returns the value of a field of this name that has no key. Unless the shape is an option, the error is
     /// [`Custom`](Error::Custom), ``missing field `name` ``; where an allocation failed, [`OutOfMemory`](Error::OutOfMemory).
     fn from_missing(reader: Reader, name: &str) -> Result<Self>
-        ensures missing { Means value result (option_and_then meaning (missing_data form)) }
+        ensures missing { Means table.value result (option_and_then table.meaning (missing_data table.form)) }
     {
         let shape = Self::shape(reader.alloc)?;
         if shape.is_option() {
@@ -127,28 +118,18 @@ pub trait Deserialize: Sized {
             Err(reader.missing_field(name))
         }
     }
-
-    // No struct or enum in the shape has a name twice.
-    ghost distinct: { is_distinct form ≡ true };
 }
 
 /// A type whose values come back from what was written of them.
 ///
 /// [`value_comes_back`](crate::value_comes_back) is what follows from it.
 pub trait RoundTrip: Serialize + Deserialize {
-    // What a value is read by and written as, with the proofs that belong to it, as one value. The table of a struct or an enum with such
-    // a field is made of it.
-    ghost table: { Table Self };
-
     /// Shows that the data of this value fit the shape. It does nothing when it runs.
     fn fits(&self)
-        ensures { fits Self.form (Self.datum self.now) ≡ true };
+        ensures { fits Self.table.form (Self.datum self.now) ≡ true };
 
-    // The table holds the type's own shape, data and meaning.
-    ghost is_own: { IsTableOf table Self.value Self.datum Self.form Self.meaning };
-
-    // From data that are the same as those of a value, and fit, comes that value.
-    ghost comes_back: { ComesBack Self.datum Self.form Self.meaning Self.value };
+    // The data that are written are those of the table, from which the value comes back.
+    ghost same_datum: { (x : Self) → Self.table.datum x ≡ Self.datum x };
 }
 
 /// Returns the error of data that mean no value of a type: [`Custom`](Error::Custom) with the message `invalid type: data,

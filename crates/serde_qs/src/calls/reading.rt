@@ -22,8 +22,8 @@ use std::alloc::Global;
 ///
 /// The errors are those of [`from_str`]. It allocates, and takes time, as that call does.
 pub fn from_bytes<T: Deserialize>(alloc: Global, input: &[u8]) -> Result<T>
-    ensures exact { ReturnsValue T.value default T.form T.meaning input.now result }
-    ensures back { ReturnsWritten T.value default T.form T.meaning input.now result }
+    ensures exact { ReturnsValue T.table.value default T.table.form T.table.meaning input.now result }
+    ensures back { ReturnsWritten T.table.value default T.table.form T.table.meaning input.now result }
 {
     read_typed(alloc, Config::new(), input)
 }
@@ -45,8 +45,8 @@ pub fn from_bytes<T: Deserialize>(alloc: Global, input: &[u8]) -> Result<T>
 /// The first two are returned exactly in these cases, and there is no other error. It allocates for the tree and the value. The time
 /// grows with the input and the value.
 pub fn from_str<T: Deserialize>(alloc: Global, input: &str) -> Result<T>
-    ensures exact { ReturnsValue T.value default T.form T.meaning input.now result }
-    ensures back { ReturnsWritten T.value default T.form T.meaning input.now result }
+    ensures exact { ReturnsValue T.table.value default T.table.form T.table.meaning input.now result }
+    ensures back { ReturnsWritten T.table.value default T.table.form T.table.meaning input.now result }
 {
     read_typed(alloc, Config::new(), input.as_bytes())
 }
@@ -68,9 +68,9 @@ pub fn read_by<T: Deserialize>(
     shape: &Shape,
     input: &[u8],
 ) -> Result<T>
-    requires { shape_of shape.now ≡ T.form }
-    ensures exact { ReturnsValue T.value config T.form T.meaning input.now result }
-    ensures back { ReturnsWritten T.value config T.form T.meaning input.now result }
+    requires { shape_of shape.now ≡ T.table.form }
+    ensures exact { ReturnsValue T.table.value config T.table.form T.table.meaning input.now result }
+    ensures back { ReturnsWritten T.table.value config T.table.form T.table.meaning input.now result }
 {
     read_tree_by(alloc, config, shape, input)
 }
@@ -82,8 +82,8 @@ fn read_tree_by<T: Deserialize>(
     shape: &Shape,
     input: &[u8],
 ) -> Result<T>
-    requires { shape_of shape.now ≡ T.form }
-    ensures { ReturnsValue T.value config T.form T.meaning input.now result }
+    requires { shape_of shape.now ≡ T.table.form }
+    ensures { ReturnsValue T.table.value config T.table.form T.table.meaning input.now result }
 {
     let tree = tree(alloc, config, input)?;
     read_root_by(alloc, config, shape, &tree)
@@ -96,23 +96,23 @@ fn read_root_by<T: Deserialize>(
     shape: &Shape,
     tree: &ParsedValue<'_>,
 ) -> Result<T>
-    requires { shape_of shape.now ≡ T.form }
-    ensures { ReadsNode T.value T.form T.meaning (are_rejected config.duplicates) (tree_of tree.now) result }
+    requires { shape_of shape.now ≡ T.table.form }
+    ensures { ReadsNode T.table.value T.table.form T.table.meaning (are_rejected config.duplicates) (tree_of tree.now) result }
 {
     T::from_node_by(Reader::new(alloc, config), shape, tree)
 }
 
 // Returns the value that is read from a querystring under a configuration.
 pub(crate) fn read_typed<T: Deserialize>(alloc: Global, config: Config, input: &[u8]) -> Result<T>
-    ensures exact { ReturnsValue T.value config T.form T.meaning input.now result }
-    ensures back { ReturnsWritten T.value config T.form T.meaning input.now result }
+    ensures exact { ReturnsValue T.table.value config T.table.form T.table.meaning input.now result }
+    ensures back { ReturnsWritten T.table.value config T.table.form T.table.meaning input.now result }
 {
     read_tree(alloc, config, input)
 }
 
 // Returns the value that is read from the tree of a querystring.
 fn read_tree<T: Deserialize>(alloc: Global, config: Config, input: &[u8]) -> Result<T>
-    ensures { ReturnsValue T.value config T.form T.meaning input.now result }
+    ensures { ReturnsValue T.table.value config T.table.form T.table.meaning input.now result }
 {
     let tree = tree(alloc, config, input)?;
     read_root(alloc, config, &tree)
@@ -129,7 +129,7 @@ fn tree<'qs>(alloc: Global, config: Config, input: &'qs [u8]) -> Result<ParsedVa
 
 // Returns the value that is read from a tree under a configuration.
 fn read_root<T: Deserialize>(alloc: Global, config: Config, tree: &ParsedValue<'_>) -> Result<T>
-    ensures { ReadsNode T.value T.form T.meaning (are_rejected config.duplicates) (tree_of tree.now) result }
+    ensures { ReadsNode T.table.value T.table.form T.table.meaning (are_rejected config.duplicates) (tree_of tree.now) result }
 {
     T::from_node(Reader::new(alloc, config), tree)
 }

@@ -6,8 +6,7 @@ ghost use Rattle.serde_qs.specs.Typed.{Means};
 
 use super::fields::{Fields, push_field, split};
 use super::nodes;
-use super::own::{missing_of, value_of};
-use crate::traits::{Deserialize, RoundTrip};
+use crate::traits::Deserialize;
 use qs_data::{Data, Entries, Field, Reader, Result};
 use qs_tree::ParsedValue;
 use std::alloc::Global;
@@ -32,7 +31,7 @@ pub trait OrDefault: Deserialize {
     /// Returns the value of a missing field. Where an allocation failed, the error is
     /// [`OutOfMemory`](qs_data::Error::OutOfMemory).
     fn missing(alloc: Global) -> Result<Self>
-        ensures { Means Self.value result (Self.meaning default) };
+        ensures { Means Self.table.value result (Self.table.meaning default) };
 }
 
 /// A field that takes a default where its key is missing, and the fields after it: `(String, Defaulted<u32, ()>)` for a text and a number,
@@ -42,7 +41,7 @@ pub trait OrDefault: Deserialize {
 #[derive(Debug, PartialEq, Drop)]
 pub struct Defaulted<T, R>(pub T, pub R);
 
-impl<T: RoundTrip + OrDefault + Drop, R: Fields> Fields for Defaulted<T, R> {
+impl<T: OrDefault + Drop, R: Fields> Fields for Defaulted<T, R> {
     ghost table = { defaulted_field T.default T.table R.table };
 
     fn skip<'a>(names: &'a [&'static str]) -> &'a [&'static str] {
@@ -70,15 +69,15 @@ impl<T: RoundTrip + OrDefault + Drop, R: Fields> Fields for Defaulted<T, R> {
     ) -> Result<Defaulted<T, R>> {
         let (name, rest) = split(names);
         let Some((found, datum)) = members.pop() else {
-            let first = missing_of(alloc)?;
+            let first = T::missing(alloc)?;
             return Ok(Defaulted(first, R::from_members(alloc, rest, members)?));
         };
         if found.as_str() == name {
-            let first = value_of(alloc, datum)?;
+            let first = T::from_data(alloc, datum)?;
             Ok(Defaulted(first, R::from_members(alloc, rest, members)?))
         } else {
             members.push((found, datum))?;
-            let first = missing_of(alloc)?;
+            let first = T::missing(alloc)?;
             Ok(Defaulted(first, R::from_members(alloc, rest, members)?))
         }
     }

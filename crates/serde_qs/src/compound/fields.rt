@@ -14,8 +14,7 @@ ghost use Rattle.serde_qs.specs.Records.{field_form, first_of, members_back, oth
 ghost use Rattle.serde_qs.specs.Typed.{Means};
 
 use super::nodes;
-use super::own::{shape_of, value_of};
-use crate::traits::{RoundTrip, unexpected};
+use crate::traits::{Deserialize, unexpected};
 use qs_data::{Data, Entries, Field, Reader, Result};
 use qs_tree::ParsedValue;
 use std::alloc::Global;
@@ -123,7 +122,7 @@ impl Fields for () {
     }
 }
 
-impl<T: RoundTrip + Drop, R: Fields> Fields for (T, R) {
+impl<T: Deserialize + Drop, R: Fields> Fields for (T, R) {
     ghost table = { field T.table R.table };
 
     fn skip<'a>(names: &'a [&'static str]) -> &'a [&'static str] {
@@ -156,7 +155,7 @@ impl<T: RoundTrip + Drop, R: Fields> Fields for (T, R) {
         if found.as_str() != name {
             return Err(unexpected(alloc, "another field"));
         }
-        let first = value_of(alloc, datum)?;
+        let first = T::from_data(alloc, datum)?;
         let others = R::from_members(alloc, rest, members)?;
         Ok((first, others))
     }
@@ -187,7 +186,7 @@ impl<T: RoundTrip + Drop, R: Fields> Fields for (T, R) {
 }
 
 // Returns the fields, and after them what is read for a field of the first name and for the fields of the other names.
-pub(crate) fn push_field<T: RoundTrip, R: Fields>(
+pub(crate) fn push_field<T: Deserialize, R: Fields>(
     alloc: Global,
     names: &[&'static str],
     mut fields: Vec<Field>,
@@ -197,7 +196,7 @@ pub(crate) fn push_field<T: RoundTrip, R: Fields>(
     ensures errors { OnlyOutOfMemory result }
 {
     let (name, rest) = split(names);
-    let shape = shape_of::<T>(alloc)?;
+    let shape = T::shape(alloc)?;
     let name = String::from_str(alloc, name)?;
     fields.push(Field {
         name,

@@ -11,8 +11,7 @@ ghost use Rattle.serde_qs.specs.PartTables.{ItemsTable, item, no_items};
 ghost use Rattle.serde_qs.specs.Tuples.{values_back};
 ghost use Rattle.serde_qs.specs.Typed.{Means};
 
-use super::own;
-use crate::traits::{RoundTrip, unexpected};
+use crate::traits::{Deserialize, unexpected};
 use qs_data::{Data, Items as NodeItems, Reader, Result, Shape};
 use std::alloc::Global;
 
@@ -66,11 +65,11 @@ impl Items for () {
     }
 }
 
-impl<T: RoundTrip + Drop, R: Items> Items for (T, R) {
+impl<T: Deserialize + Drop, R: Items> Items for (T, R) {
     ghost table = { item T.table R.table };
 
     fn push_shapes(alloc: Global, mut shapes: Vec<Shape>) -> Result<Vec<Shape>> {
-        shapes.push(own::shape_of::<T>(alloc)?)?;
+        shapes.push(T::shape(alloc)?)?;
         R::push_shapes(alloc, shapes)
     }
 
@@ -82,7 +81,7 @@ impl<T: RoundTrip + Drop, R: Items> Items for (T, R) {
         let Some(datum) = values.pop() else {
             return Err(unexpected(alloc, "an item"));
         };
-        let first = own::value_of(alloc, datum)?;
+        let first = T::from_data(alloc, datum)?;
         let others = R::from_items(alloc, values)?;
         Ok((first, others))
     }
@@ -92,7 +91,7 @@ impl<T: RoundTrip + Drop, R: Items> Items for (T, R) {
         let Some(item) = items.get(reader, place)? else {
             return Err(reader.missing_item(count));
         };
-        let first = own::from_node(reader, item)?;
+        let first = T::from_node(reader, item)?;
         let others = R::from_places(reader, items, place + 1)?;
         Ok((first, others))
     }

@@ -14,8 +14,7 @@ ghost use Rattle.serde_qs.specs.Records.{texts};
 
 use super::defaulted::OrDefault;
 use super::fields::Fields;
-use super::own;
-use crate::traits::RoundTrip;
+use crate::traits::Deserialize;
 use qs_data::{Entries, FieldNames, Found, Reader, Result, UnknownKeys};
 use qs_tree::ParsedValue;
 use std::marker::PhantomData;
@@ -110,7 +109,7 @@ impl<F: Fields> FieldNames for NamesOf<'_, F> {
 
 // Returns the value of a field by its name.
 #[inline(always)]
-pub(crate) fn by_name<T: RoundTrip>(
+pub(crate) fn by_name<T: Deserialize>(
     reader: Reader,
     name: &str,
     entries: Entries<'_, '_>,
@@ -120,14 +119,14 @@ pub(crate) fn by_name<T: RoundTrip>(
         (value_found T.table.meaning (option_and_then T.table.meaning (missing_data T.table.form)) (reads reader.reject_duplicates T.table.form) (found name.now (entries_view entries.entry))) }
 {
     match entries.find(name) {
-        Found::Missing => own::from_missing(reader, name),
-        Found::One(node) => own::from_node(reader, node),
+        Found::Missing => T::from_missing(reader, name),
+        Found::One(node) => T::from_node(reader, node),
         Found::Several => Err(reader.duplicate_field(name)),
     }
 }
 
 // Returns the value of a field by its name, if it isn't left out.
-pub(crate) fn optional_by_name<T: RoundTrip>(
+pub(crate) fn optional_by_name<T: Deserialize>(
     reader: Reader,
     name: &str,
     entries: Entries<'_, '_>,
@@ -138,13 +137,13 @@ pub(crate) fn optional_by_name<T: RoundTrip>(
 {
     match entries.find(name) {
         Found::Missing => Ok(None),
-        Found::One(node) => Ok(Some(own::from_node(reader, node)?)),
+        Found::One(node) => Ok(Some(T::from_node(reader, node)?)),
         Found::Several => Err(reader.duplicate_field(name)),
     }
 }
 
 // Returns the value of a field by its name, or its default.
-pub(crate) fn defaulted_by_name<T: RoundTrip + OrDefault>(
+pub(crate) fn defaulted_by_name<T: OrDefault>(
     reader: Reader,
     name: &str,
     entries: Entries<'_, '_>,
@@ -154,15 +153,15 @@ pub(crate) fn defaulted_by_name<T: RoundTrip + OrDefault>(
         (value_found T.table.meaning (T.table.meaning T.default) (reads reader.reject_duplicates T.table.form) (found name.now (entries_view entries.entry))) }
 {
     match entries.find(name) {
-        Found::Missing => own::missing_of(reader.alloc),
-        Found::One(node) => own::from_node(reader, node),
+        Found::Missing => T::missing(reader.alloc),
+        Found::One(node) => T::from_node(reader, node),
         Found::Several => Err(reader.duplicate_field(name)),
     }
 }
 
 // Returns the value of a field by its place, the first of these items. There are so many items in all.
 #[inline(always)]
-pub(crate) fn by_place<T: RoundTrip>(
+pub(crate) fn by_place<T: Deserialize>(
     reader: Reader,
     items: &[ParsedValue<'_>],
     count: usize,
@@ -171,13 +170,13 @@ pub(crate) fn by_place<T: RoundTrip>(
         (value_placed T.table.meaning None (reads reader.reject_duplicates T.table.form) (items_from (map tree_of items.now))) }
 {
     match items {
-        [item, ..] => own::from_node(reader, item),
+        [item, ..] => T::from_node(reader, item),
         [] => Err(reader.missing_item(count)),
     }
 }
 
 // Returns the value of a field by its place, if it isn't left out.
-pub(crate) fn optional_by_place<T: RoundTrip>(
+pub(crate) fn optional_by_place<T: Deserialize>(
     reader: Reader,
     items: &[ParsedValue<'_>],
 ) -> Result<Option<T>>
@@ -185,13 +184,13 @@ pub(crate) fn optional_by_place<T: RoundTrip>(
         (value_placed (λ d. option_map Some (T.table.meaning d)) (Some None) (reads reader.reject_duplicates T.table.form) (items_from (map tree_of items.now))) }
 {
     match items {
-        [item, ..] => Ok(Some(own::from_node(reader, item)?)),
+        [item, ..] => Ok(Some(T::from_node(reader, item)?)),
         [] => Ok(None),
     }
 }
 
 // Returns the value of a field by its place, or its default.
-pub(crate) fn defaulted_by_place<T: RoundTrip + OrDefault>(
+pub(crate) fn defaulted_by_place<T: OrDefault>(
     reader: Reader,
     items: &[ParsedValue<'_>],
 ) -> Result<T>
@@ -199,8 +198,8 @@ pub(crate) fn defaulted_by_place<T: RoundTrip + OrDefault>(
         (value_placed T.table.meaning (T.table.meaning T.default) (reads reader.reject_duplicates T.table.form) (items_from (map tree_of items.now))) }
 {
     match items {
-        [item, ..] => own::from_node(reader, item),
-        [] => own::missing_of(reader.alloc),
+        [item, ..] => T::from_node(reader, item),
+        [] => T::missing(reader.alloc),
     }
 }
 

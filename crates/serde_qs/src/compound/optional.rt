@@ -4,8 +4,7 @@ ghost use Rattle.serde_qs.specs.PartTables.{optional_field};
 
 use super::fields::{Fields, push_field, split};
 use super::nodes;
-use super::own::value_of;
-use crate::traits::RoundTrip;
+use crate::traits::Deserialize;
 use qs_data::{Data, Entries, Field, Reader, Result};
 use qs_tree::ParsedValue;
 use std::alloc::Global;
@@ -17,7 +16,7 @@ use std::alloc::Global;
 #[derive(Debug, PartialEq, Drop)]
 pub struct Optional<T, R>(pub Option<T>, pub R);
 
-impl<T: RoundTrip + Drop, R: Fields> Fields for Optional<T, R> {
+impl<T: Deserialize + Drop, R: Fields> Fields for Optional<T, R> {
     ghost table = { optional_field T.table R.table };
 
     fn skip<'a>(names: &'a [&'static str]) -> &'a [&'static str] {
@@ -48,7 +47,7 @@ impl<T: RoundTrip + Drop, R: Fields> Fields for Optional<T, R> {
             return Ok(Optional(None, R::from_members(alloc, rest, members)?));
         };
         if found.as_str() == name {
-            let first = value_of(alloc, datum)?;
+            let first = T::from_data(alloc, datum)?;
             Ok(Optional(Some(first), R::from_members(alloc, rest, members)?))
         } else {
             members.push((found, datum))?;

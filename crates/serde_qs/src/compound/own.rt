@@ -1,4 +1,4 @@
-//! What a type's functions return, in the words of its table.
+//! How the parts of a value are written, in the words of their tables.
 
 ghost use Rattle.std.specs.Prelude.{◌≡◌, true, IfOk, option_and_then};
 ghost use Rattle.qs_spec.specs.Data.{members_of, values_of};
@@ -21,43 +21,6 @@ use crate::traits::{Deserialize, RoundTrip, Serialize};
 use qs_data::{Data, Reader, Result, Scalar, Shape, WriteResult, Writer};
 use qs_tree::ParsedValue;
 use std::alloc::Global;
-
-// Returns the shape that is read for a value.
-pub(crate) fn shape_of<T: RoundTrip>(alloc: Global) -> Result<Shape>
-    ensures exact { IfOk result (λ s. shape_of s ≡ T.table.form) }
-    ensures errors { OnlyOutOfMemory result }
-{
-    T::shape(alloc)
-}
-
-// Returns the value that data mean.
-pub(crate) fn value_of<T: RoundTrip>(alloc: Global, datum: Data) -> Result<T>
-    ensures { Means T.table.value result (T.table.meaning (data_of datum)) }
-{
-    T::from_data(alloc, datum)
-}
-
-// Returns the value that is read from a node.
-#[inline(always)]
-pub(crate) fn from_node<T: RoundTrip>(reader: Reader, node: &ParsedValue<'_>) -> Result<T>
-    ensures { ReadsNode T.table.value T.table.form T.table.meaning reader.reject_duplicates (tree_of node.now) result }
-{
-    T::from_node(reader, node)
-}
-
-// Returns the value of a field of this name that has no key.
-pub(crate) fn from_missing<T: RoundTrip>(reader: Reader, name: &str) -> Result<T>
-    ensures { Means T.table.value result (option_and_then T.table.meaning (missing_data T.table.form)) }
-{
-    T::from_missing(reader, name)
-}
-
-// Returns the value of a missing field.
-pub(crate) fn missing_of<T: RoundTrip + OrDefault>(alloc: Global) -> Result<T>
-    ensures { Means T.table.value result (T.table.meaning T.default) }
-{
-    T::missing(alloc)
-}
 
 // Returns the data of a value.
 pub(crate) fn datum_of<T: RoundTrip>(alloc: Global, value: &T) -> Result<Data>

@@ -14,11 +14,11 @@ ghost use Rattle.serde_qs.specs.Typed.{Means};
 
 use super::fields::Fields;
 use super::items::Items;
+use super::nodes;
 use super::payloads::{Newtype, Struct, Tuple};
 use super::source::Source;
 use super::variants::{Variants, variant_of};
-use super::{nodes, own};
-use crate::traits::{RoundTrip, unexpected};
+use crate::traits::{Deserialize, unexpected};
 use qs_data::{Data, Reader, Result, Shape, UnknownKeys};
 use qs_tree::ParsedValue;
 use std::alloc::Global;
@@ -127,16 +127,16 @@ impl<V: Variants> Parts for Enum<V> {
     }
 }
 
-impl<T: RoundTrip> Parts for Newtype<T> {
+impl<T: Deserialize> Parts for Newtype<T> {
     ghost table = { newtype_parts T.table };
 
     fn shape(alloc: Global, _names: &[&'static str]) -> Result<Shape> {
-        Ok(Shape::Newtype(Box::new(alloc, own::shape_of::<T>(alloc)?)?))
+        Ok(Shape::Newtype(Box::new(alloc, T::shape(alloc)?)?))
     }
 
     fn from_data(alloc: Global, _names: &[&'static str], datum: Data) -> Result<Newtype<T>> {
         match datum {
-            Data::Newtype(part) => Ok(Newtype(own::value_of(alloc, Box::into_inner(part))?)),
+            Data::Newtype(part) => Ok(Newtype(T::from_data(alloc, Box::into_inner(part))?)),
             _ => Err(unexpected(alloc, "a newtype")),
         }
     }
@@ -147,7 +147,7 @@ impl<T: RoundTrip> Parts for Newtype<T> {
         _names: &[&'static str],
         node: &ParsedValue<'_>,
     ) -> Result<Newtype<T>> {
-        Ok(Newtype(own::from_node(reader, node)?))
+        Ok(Newtype(T::from_node(reader, node)?))
     }
 }
 

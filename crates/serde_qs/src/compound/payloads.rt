@@ -16,8 +16,8 @@ ghost use Rattle.serde_qs.specs.Variants.{struct_variant_in};
 
 use super::fields::Fields;
 use super::items::Items;
-use super::{nodes, own};
-use crate::traits::{RoundTrip, unexpected};
+use super::nodes;
+use crate::traits::{Deserialize, unexpected};
 use qs_data::{Data, Reader, Result, UnknownKeys, VariantKind};
 use qs_tree::ParsedValue;
 use std::alloc::Global;
@@ -93,7 +93,7 @@ impl Payload for () {
     }
 }
 
-impl<T: RoundTrip> Payload for Newtype<T> {
+impl<T: Deserialize> Payload for Newtype<T> {
     ghost table = { newtype_payload T.table };
 
     fn skip<'a>(names: &'a [&'static str]) -> &'a [&'static str] {
@@ -101,13 +101,13 @@ impl<T: RoundTrip> Payload for Newtype<T> {
     }
 
     fn kind(alloc: Global, _names: &[&'static str]) -> Result<VariantKind> {
-        Ok(VariantKind::Newtype(Box::new(alloc, own::shape_of::<T>(alloc)?)?))
+        Ok(VariantKind::Newtype(Box::new(alloc, T::shape(alloc)?)?))
     }
 
     #[tactic(auto, using(crate::proofs::Levels::levels))]
     fn from_data(alloc: Global, _names: &[&'static str], datum: Data) -> Result<Newtype<T>> {
         match datum {
-            Data::NewtypeVariant(_, part) => Ok(Newtype(own::value_of(
+            Data::NewtypeVariant(_, part) => Ok(Newtype(T::from_data(
                 alloc,
                 Box::into_inner(part),
             )?)),
@@ -121,7 +121,7 @@ impl<T: RoundTrip> Payload for Newtype<T> {
         held: Option<&ParsedValue<'_>>,
     ) -> Result<Newtype<T>> {
         let node = reader.newtype_variant(held)?;
-        Ok(Newtype(own::from_node(reader, node)?))
+        Ok(Newtype(T::from_node(reader, node)?))
     }
 }
 

@@ -147,7 +147,7 @@ impl<'a, T: RoundTrip, R: FieldReferences + Drop> FieldReferences for (&'a T, R)
 
     ghost fit = { λ x. fits T.table.form (T.table.datum x.0.now) && R.fit x.1 };
 
-    ghost same = { λ names x. same_member (T.is_own.same_datum x.0.now) (λ ns. R.same ns x.1) names };
+    ghost same = { λ names x. same_member (T.same_datum x.0.now) (λ ns. R.same ns x.1) names };
 
     fn fit(&self) {
         let (field, others) = self;
@@ -161,7 +161,7 @@ impl<'a, T: RoundTrip, R: FieldReferences + Drop> FieldReferences for (SkipNone<
 
     ghost fit = { λ x. fits (s.Shape.option T.table.form) (option_data T.table.datum x.0.0.now) && R.fit x.1 };
 
-    ghost same = { λ names x. same_optional T.is_own.same_datum x.0.0.now (λ ns. R.same ns x.1) names };
+    ghost same = { λ names x. same_optional T.same_datum x.0.0.now (λ ns. R.same ns x.1) names };
 
     fn fit(&self) {
         let (SkipNone(field), others) = self;
@@ -233,7 +233,7 @@ impl<'a, T: RoundTrip, R: ListedReferences + Drop> ListedReferences for (&'a T, 
 
     ghost fit = { λ x. fits T.table.form (T.table.datum x.0.now) && R.fit x.1 };
 
-    ghost same = { λ x. same_item (T.is_own.same_datum x.0.now) (R.same x.1) };
+    ghost same = { λ x. same_item (T.same_datum x.0.now) (R.same x.1) };
 
     fn fit(&self) {
         let (item, others) = self;

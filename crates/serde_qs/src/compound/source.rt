@@ -34,7 +34,7 @@ impl Source<'_, '_> {
     ///
     /// The errors are those of [`from_data`](Deserialize::from_data), or of [`from_node`](Deserialize::from_node).
     pub fn value<T: Deserialize>(self) -> Result<T>
-        ensures { ReadsSource T.value T.form T.meaning self.entry result }
+        ensures { ReadsSource T.table.value T.table.form T.table.meaning self.entry result }
     {
         match self {
             Source::Data(alloc, datum) => T::from_data(alloc, datum),

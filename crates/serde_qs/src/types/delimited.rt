@@ -10,7 +10,9 @@ ghost use Rattle.serde_qs.specs.internal.DelimitedComesBack.{list_comes_back};
 ghost use Rattle.serde_qs.specs.Fits.{fits, is_signed};
 ghost use Rattle.serde_qs.specs.Items.{list_in};
 ghost use Rattle.serde_qs.specs.internal.NumberLists.{signed_items, unsigned_items};
-ghost use Rattle.serde_qs.specs.internal.OwnTables.{delimited_own, themselves};
+ghost use Rattle.serde_qs.specs.internal.OwnTables.{delimited_datum, themselves};
+ghost use Rattle.qs_data.specs.data.Views.{data_of};
+ghost use Rattle.serde_qs.specs.Typed.{Means};
 ghost use Rattle.serde_qs.specs.Tables.{AreNumbersOf, Numbers, delimited_table, numbers_of};
 
 use crate::helpers::{Item, generic_delimiter};
@@ -27,10 +29,10 @@ pub trait WholeNumber: Item + RoundTrip {
     ghost numbers: { Numbers Self };
 
     // They are the type's own.
-    ghost are_own: { AreNumbersOf numbers Self.Item.value (λ n. fits Self.form (Self.datum n)) Self.printed Self.Item.meaning };
+    ghost are_own: { AreNumbersOf numbers Self.Item.value (λ n. fits Self.table.form (Self.datum n)) Self.printed Self.Item.meaning };
 
     // The text of each has no delimiter in it, and is parsed as that number.
-    ghost items_come_back: { NumbersComeBack (λ n. fits Self.form (Self.datum n)) Self.Item.meaning Self.printed Self.Item.value };
+    ghost items_come_back: { NumbersComeBack (λ n. fits Self.table.form (Self.datum n)) Self.Item.meaning Self.printed Self.Item.value };
 }
 
 /// The character between the numbers of a [`Delimited`], which is neither a digit nor `-`.
@@ -97,7 +99,7 @@ impl<T, D> Delimited<T, D> {
 }
 
 impl<T: WholeNumber, D: Delimiter> Serialize for Delimited<T, D> {
-    ghost datum = { λ list. list_data (λ n. fits T.form (T.datum n)) T.printed D.delimiter list.items.items };
+    ghost datum = { λ list. list_data (λ n. fits T.table.form (T.datum n)) T.printed D.delimiter list.items.items };
 
     fn to_data(&self, alloc: Global) -> Result<Data> {
         items_fit(self.items.as_slice());
@@ -106,32 +108,27 @@ impl<T: WholeNumber, D: Delimiter> Serialize for Delimited<T, D> {
 }
 
 impl<T: WholeNumber + Drop, D: Delimiter> Deserialize for Delimited<T, D> {
-    ghost Value = { List T.Item.Value };
-
-    ghost value = { λ list. map T.Item.value list.items.items };
-
-    ghost form = { s.Shape.text };
-
-    ghost meaning = { λ d. list_in T.Item.meaning D.delimiter d };
-
-    ghost distinct = { refl };
+    ghost table = { delimited_table T.numbers D.delimiter D.is_free };
 
     fn shape(_alloc: Global) -> Result<Shape> {
         Ok(Shape::Text)
     }
 
     fn from_data(alloc: Global, datum: Data) -> Result<Delimited<T, D>> {
-        let items = generic_delimiter::deserialize(alloc, datum, D::delimiter())?;
+        let items = numbers_in(alloc, datum, D::delimiter())?;
         Ok(Delimited::new(items))
     }
 }
 
+// Returns the numbers in a text, in the words of their table.
+fn numbers_in<T: WholeNumber + Drop>(alloc: Global, datum: Data, delimiter: char) -> Result<Vec<T>>
+    ensures { Means (λ list. map T.numbers.value list.items) result (list_in T.numbers.meaning delimiter (data_of datum)) }
+{
+    generic_delimiter::deserialize(alloc, datum, delimiter)
+}
+
 impl<T: WholeNumber + Drop, D: Delimiter> RoundTrip for Delimited<T, D> {
-    ghost table = { delimited_table T.numbers D.delimiter D.is_free };
-
-    ghost is_own = { delimited_own T.numbers T.Item.value (λ n. fits T.form (T.datum n)) T.printed T.Item.meaning T.are_own D.delimiter D.is_free };
-
-    ghost comes_back = { λ list e h p. list_comes_back (λ n. fits T.form (T.datum n)) T.Item.meaning T.printed T.Item.value T.items_come_back D.delimiter D.is_free list.items.items e h p };
+    ghost same_datum = { λ list. delimited_datum T.numbers T.Item.value (λ n. fits T.table.form (T.datum n)) T.printed T.Item.meaning T.are_own D.delimiter list.items.items };
 
     fn fits(&self) {
         items_fit(self.items.as_slice());
@@ -140,7 +137,7 @@ impl<T: WholeNumber + Drop, D: Delimiter> RoundTrip for Delimited<T, D> {
 
 // Shows that each number fits its shape. It does nothing when it runs.
 fn items_fit<T: WholeNumber>(items: &[T])
-    ensures { list_all (λ n. fits T.form (T.datum n)) items.now ≡ true }
+    ensures { list_all (λ n. fits T.table.form (T.datum n)) items.now ≡ true }
 {
     for item in items {
         item.fits();

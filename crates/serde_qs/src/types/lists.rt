@@ -14,7 +14,7 @@ ghost use Rattle.serde_qs.specs.internal.NodeParts.{each_value};
 ghost use Rattle.serde_qs.specs.Typed.{Means};
 ghost use Rattle.serde_qs.specs.internal.ComesBack.{sequence_back};
 ghost use Rattle.serde_qs.specs.Meaning.{sequence_in, values_meant};
-ghost use Rattle.serde_qs.specs.internal.OwnTables.{sequence_own};
+ghost use Rattle.serde_qs.specs.internal.OwnTables.{sequence_datum};
 ghost use Rattle.serde_qs.specs.Tables.{sequence_table};
 
 use crate::parts::write_element;
@@ -53,15 +53,7 @@ fn write_elements<T: Serialize>(writer: &mut Writer, values: &Vec<T>) -> WriteRe
 }
 
 impl<T: Deserialize + Drop> Deserialize for Vec<T> {
-    ghost Value = { List T.Value };
-
-    ghost value = { λ xs. map T.value xs.items };
-
-    ghost form = { s.Shape.sequence T.form };
-
-    ghost meaning = { λ d. sequence_in T.meaning d };
-
-    ghost distinct = { T.distinct };
+    ghost table = { sequence_table T.table };
 
     fn shape(alloc: Global) -> Result<Shape> {
         Ok(Shape::Seq(Box::new(alloc, T::shape(alloc)?)?))
@@ -82,7 +74,7 @@ impl<T: Deserialize + Drop> Deserialize for Vec<T> {
 
 // Returns the values that these data mean, in order.
 fn items_of<T: Deserialize + Drop>(alloc: Global, parts: Vec<Data>) -> Result<Vec<T>>
-    ensures { Means (λ (xs : Vec T Global). map T.value xs.items) result (values_meant T.meaning (values_in parts.items)) }
+    ensures { Means (λ (xs : Vec T Global). map T.table.value xs.items) result (values_meant T.table.meaning (values_in parts.items)) }
 {
     let mut items = Vec::new(alloc);
     for part in parts {
@@ -93,8 +85,8 @@ fn items_of<T: Deserialize + Drop>(alloc: Global, parts: Vec<Data>) -> Result<Ve
 
 // Returns the values that are read from these items, in order.
 fn values_of<T: Deserialize + Drop>(reader: Reader, items: Items<'_, '_>) -> Result<Vec<T>>
-    ensures { Gives (λ (xs : Vec T Global). map T.value xs.items) (are_text (items_view items.entry)) result
-        (each_value (λ node. option_and_then T.meaning (reads reader.reject_duplicates T.form node)) (items_view items.entry)) }
+    ensures { Gives (λ (xs : Vec T Global). map T.table.value xs.items) (are_text (items_view items.entry)) result
+        (each_value (λ node. option_and_then T.table.meaning (reads reader.reject_duplicates T.table.form node)) (items_view items.entry)) }
 {
     let mut values = Vec::with_capacity(reader.alloc, items.len())?;
     for i in 0..items.len() {
@@ -107,11 +99,7 @@ fn values_of<T: Deserialize + Drop>(reader: Reader, items: Items<'_, '_>) -> Res
 }
 
 impl<T: RoundTrip + Drop> RoundTrip for Vec<T> {
-    ghost table = { sequence_table T.table };
-
-    ghost is_own = { sequence_own T.table T.value T.datum T.form T.meaning T.is_own };
-
-    ghost comes_back = { λ xs e h p. sequence_back T.datum T.form T.meaning T.value T.comes_back xs.items e h p };
+    ghost same_datum = { sequence_datum T.table T.datum T.same_datum };
 
     fn fits(&self) {
         for item in self {

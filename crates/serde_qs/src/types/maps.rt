@@ -13,7 +13,7 @@ ghost use Rattle.serde_qs.specs.internal.MapsComeBack.{mapping_back};
 ghost use Rattle.serde_qs.specs.internal.NodeEntries.{entries_onto};
 ghost use Rattle.serde_qs.specs.Typed.{Means};
 ghost use Rattle.serde_qs.specs.Maps.{entry_data, values_by_text, pair_onto, pairs_onto, mapping_in, nowhere};
-ghost use Rattle.serde_qs.specs.internal.OwnTables.{mapping_own};
+ghost use Rattle.serde_qs.specs.internal.OwnTables.{mapping_datum};
 ghost use Rattle.serde_qs.specs.Tables.{mapping_table};
 
 use crate::parts::write_under;
@@ -54,15 +54,7 @@ fn write_pairs<T: Serialize>(writer: &mut Writer, values: &BTreeMap<String, T>) 
 }
 
 impl<T: Deserialize + Drop> Deserialize for BTreeMap<String, T> {
-    ghost Value = { List ℕ → Option T.Value };
-
-    ghost value = { λ m. values_by_text T.value m };
-
-    ghost form = { s.Shape.mapping s.KeyShape.text T.form };
-
-    ghost meaning = { λ d. mapping_in T.meaning d };
-
-    ghost distinct = { T.distinct };
+    ghost table = { mapping_table T.table };
 
     fn shape(alloc: Global) -> Result<Shape> {
         Ok(Shape::Map(KeyShape::Text, Box::new(alloc, T::shape(alloc)?)?))
@@ -82,11 +74,7 @@ impl<T: Deserialize + Drop> Deserialize for BTreeMap<String, T> {
 }
 
 impl<T: RoundTrip + Drop> RoundTrip for BTreeMap<String, T> {
-    ghost table = { mapping_table T.table };
-
-    ghost is_own = { mapping_own T.table T.value T.datum T.form T.meaning T.is_own };
-
-    ghost comes_back = { λ m e h p. mapping_back T.datum T.form T.meaning T.value T.comes_back m e h p };
+    ghost same_datum = { mapping_datum T.table T.datum T.same_datum };
 
     fn fits(&self) {
         for (key, value) in self {
@@ -102,7 +90,7 @@ fn map_of<T: Deserialize + Drop>(
     alloc: Global,
     pairs: Vec<(Data, Data)>,
 ) -> Result<BTreeMap<String, T>>
-    ensures { Means (λ m. values_by_text T.value m) result (pairs_onto T.meaning nowhere (pairs_in pairs.items)) }
+    ensures { Means (λ m. values_by_text T.table.value m) result (pairs_onto T.table.meaning nowhere (pairs_in pairs.items)) }
 {
     let mut values = BTreeMap::new(alloc);
     for (key, datum) in pairs {
@@ -118,7 +106,7 @@ fn with_pair<T: Deserialize + Drop>(
     key: Data,
     datum: Data,
 ) -> Result<BTreeMap<String, T>>
-    ensures { Means (λ m. values_by_text T.value m) result (pair_onto T.meaning (values_by_text T.value values) (data_of key) (data_of datum)) }
+    ensures { Means (λ m. values_by_text T.table.value m) result (pair_onto T.table.meaning (values_by_text T.table.value values) (data_of key) (data_of datum)) }
 {
     match key {
         Data::Text(key) => {
@@ -136,8 +124,8 @@ fn entries_of<T: Deserialize + Drop>(
     reader: Reader,
     entries: Entries<'_, '_>,
 ) -> Result<BTreeMap<String, T>>
-    ensures { Gives (λ m. values_by_text T.value m) (entries_are_text (entries_view entries.entry)) result
-        (entries_onto (λ node. option_and_then T.meaning (reads reader.reject_duplicates T.form node)) nowhere (entries_view entries.entry)) }
+    ensures { Gives (λ m. values_by_text T.table.value m) (entries_are_text (entries_view entries.entry)) result
+        (entries_onto (λ node. option_and_then T.table.meaning (reads reader.reject_duplicates T.table.form node)) nowhere (entries_view entries.entry)) }
 {
     let mut values = BTreeMap::new(reader.alloc);
     for i in 0..entries.len() {

@@ -4,7 +4,7 @@ ghost use Rattle.std.specs.Prelude.{Option, option_map};
 ghost use Rattle.qs_spec.specs.Shape as s;
 ghost use Rattle.serde_qs.specs.internal.ComesBack.{option_back};
 ghost use Rattle.serde_qs.specs.Meaning.{option_in, option_data};
-ghost use Rattle.serde_qs.specs.internal.OwnTables.{option_own};
+ghost use Rattle.serde_qs.specs.internal.OwnTables.{option_datum};
 ghost use Rattle.serde_qs.specs.Tables.{option_table};
 
 use crate::traits::{Deserialize, RoundTrip, Serialize, unexpected};
@@ -32,15 +32,7 @@ impl<T: Serialize> Serialize for Option<T> {
 }
 
 impl<T: Deserialize + Drop> Deserialize for Option<T> {
-    ghost Value = { Option T.Value };
-
-    ghost value = { λ o. option_map T.value o };
-
-    ghost form = { s.Shape.option T.form };
-
-    ghost meaning = { λ d. option_in T.meaning d };
-
-    ghost distinct = { T.distinct };
+    ghost table = { option_table T.table };
 
     fn shape(alloc: Global) -> Result<Shape> {
         Ok(Shape::Option(Box::new(alloc, T::shape(alloc)?)?))
@@ -72,11 +64,7 @@ impl<T: Deserialize + Drop> Deserialize for Option<T> {
 }
 
 impl<T: RoundTrip + Drop> RoundTrip for Option<T> {
-    ghost table = { option_table T.table };
-
-    ghost is_own = { option_own T.table T.value T.datum T.form T.meaning T.is_own };
-
-    ghost comes_back = { option_back T.datum T.form T.meaning T.value T.comes_back };
+    ghost same_datum = { option_datum T.table T.datum T.same_datum };
 
     fn fits(&self) {
         if let Some(part) = self {

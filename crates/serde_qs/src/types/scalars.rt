@@ -7,7 +7,6 @@ ghost use Rattle.qs_spec.specs.Data as d;
 ghost use Rattle.qs_spec.specs.Shape as s;
 ghost use Rattle.serde_qs.specs.internal.ComesBack.{boolean_back, character_back, text_back, unit_back};
 ghost use Rattle.serde_qs.specs.Meaning.{boolean_in, character_in, text_in, unit_in};
-ghost use Rattle.serde_qs.specs.internal.OwnTables.{itself};
 ghost use Rattle.serde_qs.specs.Tables.{table_of};
 
 use crate::traits::{Deserialize, RoundTrip, Serialize, unexpected};
@@ -29,15 +28,7 @@ impl Serialize for () {
 }
 
 impl Deserialize for () {
-    ghost Value = { Unit {0} };
-
-    ghost value = { λ _. tt };
-
-    ghost form = { s.Shape.unit };
-
-    ghost meaning = { unit_in };
-
-    ghost distinct = { refl };
+    ghost table = { table_of (λ _. tt) (λ _. d.unit) s.Shape.unit unit_in refl (λ _ e h p. unit_back e h p) };
 
     fn shape(_alloc: Global) -> Result<Shape> {
         Ok(Shape::Unit)
@@ -57,11 +48,7 @@ impl Deserialize for () {
 }
 
 impl RoundTrip for () {
-    ghost table = { table_of (λ _. tt) (λ _. d.unit) s.Shape.unit unit_in refl (λ _ e h p. unit_back e h p) };
-
-    ghost is_own = { itself (λ _. tt) (λ _. d.unit) s.Shape.unit unit_in refl (λ _ e h p. unit_back e h p) };
-
-    ghost comes_back = { λ _ e h p. unit_back e h p };
+    ghost same_datum = { λ _. refl };
 
     fn fits(&self) {}
 }
@@ -80,15 +67,7 @@ impl Serialize for bool {
 }
 
 impl Deserialize for bool {
-    ghost Value = { Bool };
-
-    ghost value = { λ b. b };
-
-    ghost form = { s.Shape.boolean };
-
-    ghost meaning = { boolean_in };
-
-    ghost distinct = { refl };
+    ghost table = { table_of (λ b. b) d.boolean s.Shape.boolean boolean_in refl boolean_back };
 
     fn shape(_alloc: Global) -> Result<Shape> {
         Ok(Shape::Bool)
@@ -108,11 +87,7 @@ impl Deserialize for bool {
 }
 
 impl RoundTrip for bool {
-    ghost table = { table_of (λ b. b) d.boolean s.Shape.boolean boolean_in refl boolean_back };
-
-    ghost is_own = { itself (λ b. b) d.boolean s.Shape.boolean boolean_in refl boolean_back };
-
-    ghost comes_back = { boolean_back };
+    ghost same_datum = { λ _. refl };
 
     fn fits(&self) {}
 }
@@ -131,15 +106,7 @@ impl Serialize for char {
 }
 
 impl Deserialize for char {
-    ghost Value = { ℕ };
-
-    ghost value = { λ c. c };
-
-    ghost form = { s.Shape.character };
-
-    ghost meaning = { character_in };
-
-    ghost distinct = { refl };
+    ghost table = { table_of (λ c. c) d.character s.Shape.character character_in refl (character_back scalar) };
 
     fn shape(_alloc: Global) -> Result<Shape> {
         Ok(Shape::Char)
@@ -159,11 +126,7 @@ impl Deserialize for char {
 }
 
 impl RoundTrip for char {
-    ghost table = { table_of (λ c. c) d.character s.Shape.character character_in refl (character_back scalar) };
-
-    ghost is_own = { itself (λ c. c) d.character s.Shape.character character_in refl (character_back scalar) };
-
-    ghost comes_back = { character_back scalar };
+    ghost same_datum = { λ _. refl };
 
     fn fits(&self) {
         let _value = *self;
@@ -184,15 +147,7 @@ impl Serialize for String {
 }
 
 impl Deserialize for String {
-    ghost Value = { List ℕ };
-
-    ghost value = { λ text. string_bytes text };
-
-    ghost form = { s.Shape.text };
-
-    ghost meaning = { text_in };
-
-    ghost distinct = { refl };
+    ghost table = { table_of (λ text. string_bytes text) (λ text. d.text (string_bytes text)) s.Shape.text text_in refl (λ text e h p. text_back (is_utf8 (string_bytes text)) (string_bytes text) e h p) };
 
     fn shape(_alloc: Global) -> Result<Shape> {
         Ok(Shape::Text)
@@ -214,11 +169,7 @@ impl Deserialize for String {
 }
 
 impl RoundTrip for String {
-    ghost table = { table_of (λ text. string_bytes text) (λ text. d.text (string_bytes text)) s.Shape.text text_in refl (λ text e h p. text_back (is_utf8 (string_bytes text)) (string_bytes text) e h p) };
-
-    ghost is_own = { itself (λ text. string_bytes text) (λ text. d.text (string_bytes text)) s.Shape.text text_in refl (λ text e h p. text_back (is_utf8 (string_bytes text)) (string_bytes text) e h p) };
-
-    ghost comes_back = { λ text e h p. text_back (is_utf8 (string_bytes text)) (string_bytes text) e h p };
+    ghost same_datum = { λ _. refl };
 
     fn fits(&self) {
         let _text = self.as_str();

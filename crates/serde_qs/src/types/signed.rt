@@ -7,7 +7,6 @@ ghost use Rattle.qs_data.specs.data.Views.{data_of};
 ghost use Rattle.serde_qs.specs.internal.ComesBack.{signed_back};
 ghost use Rattle.serde_qs.specs.Fits.{is_signed};
 ghost use Rattle.serde_qs.specs.Meaning.{signed_between, signed_in};
-ghost use Rattle.serde_qs.specs.internal.OwnTables.{itself};
 ghost use Rattle.serde_qs.specs.Tables.{table_of};
 ghost use Rattle.serde_qs.specs.Typed.{Means};
 
@@ -48,15 +47,7 @@ impl Serialize for i8 {
 }
 
 impl Deserialize for i8 {
-    ghost Value = { ℤ };
-
-    ghost value = { λ n. n };
-
-    ghost form = { s.Shape.signed 8 };
-
-    ghost meaning = { signed_in 8 };
-
-    ghost distinct = { refl };
+    ghost table = { table_of (λ z. z) d.signed (s.Shape.signed 8) (signed_in 8) refl (signed_back 8) };
 
     fn shape(_alloc: Global) -> Result<Shape> {
         Ok(Shape::I8)
@@ -75,11 +66,7 @@ impl Deserialize for i8 {
 }
 
 impl RoundTrip for i8 {
-    ghost table = { table_of (λ z. z) d.signed (s.Shape.signed 8) (signed_in 8) refl (signed_back 8) };
-
-    ghost is_own = { itself (λ z. z) d.signed (s.Shape.signed 8) (signed_in 8) refl (signed_back 8) };
-
-    ghost comes_back = { signed_back 8 };
+    ghost same_datum = { λ _. refl };
 
     fn fits(&self) {
         let _value = *self;
@@ -100,15 +87,7 @@ impl Serialize for i16 {
 }
 
 impl Deserialize for i16 {
-    ghost Value = { ℤ };
-
-    ghost value = { λ n. n };
-
-    ghost form = { s.Shape.signed 16 };
-
-    ghost meaning = { signed_in 16 };
-
-    ghost distinct = { refl };
+    ghost table = { table_of (λ z. z) d.signed (s.Shape.signed 16) (signed_in 16) refl (signed_back 16) };
 
     fn shape(_alloc: Global) -> Result<Shape> {
         Ok(Shape::I16)
@@ -127,11 +106,7 @@ impl Deserialize for i16 {
 }
 
 impl RoundTrip for i16 {
-    ghost table = { table_of (λ z. z) d.signed (s.Shape.signed 16) (signed_in 16) refl (signed_back 16) };
-
-    ghost is_own = { itself (λ z. z) d.signed (s.Shape.signed 16) (signed_in 16) refl (signed_back 16) };
-
-    ghost comes_back = { signed_back 16 };
+    ghost same_datum = { λ _. refl };
 
     fn fits(&self) {
         let _value = *self;
@@ -152,15 +127,7 @@ impl Serialize for i32 {
 }
 
 impl Deserialize for i32 {
-    ghost Value = { ℤ };
-
-    ghost value = { λ n. n };
-
-    ghost form = { s.Shape.signed 32 };
-
-    ghost meaning = { signed_in 32 };
-
-    ghost distinct = { refl };
+    ghost table = { table_of (λ z. z) d.signed (s.Shape.signed 32) (signed_in 32) refl (signed_back 32) };
 
     fn shape(_alloc: Global) -> Result<Shape> {
         Ok(Shape::I32)
@@ -179,11 +146,7 @@ impl Deserialize for i32 {
 }
 
 impl RoundTrip for i32 {
-    ghost table = { table_of (λ z. z) d.signed (s.Shape.signed 32) (signed_in 32) refl (signed_back 32) };
-
-    ghost is_own = { itself (λ z. z) d.signed (s.Shape.signed 32) (signed_in 32) refl (signed_back 32) };
-
-    ghost comes_back = { signed_back 32 };
+    ghost same_datum = { λ _. refl };
 
     fn fits(&self) {
         let _value = *self;
@@ -204,15 +167,7 @@ impl Serialize for i64 {
 }
 
 impl Deserialize for i64 {
-    ghost Value = { ℤ };
-
-    ghost value = { λ n. n };
-
-    ghost form = { s.Shape.signed 64 };
-
-    ghost meaning = { signed_in 64 };
-
-    ghost distinct = { refl };
+    ghost table = { table_of (λ z. z) d.signed (s.Shape.signed 64) (signed_in 64) refl (signed_back 64) };
 
     fn shape(_alloc: Global) -> Result<Shape> {
         Ok(Shape::I64)
@@ -231,11 +186,7 @@ impl Deserialize for i64 {
 }
 
 impl RoundTrip for i64 {
-    ghost table = { table_of (λ z. z) d.signed (s.Shape.signed 64) (signed_in 64) refl (signed_back 64) };
-
-    ghost is_own = { itself (λ z. z) d.signed (s.Shape.signed 64) (signed_in 64) refl (signed_back 64) };
-
-    ghost comes_back = { signed_back 64 };
+    ghost same_datum = { λ _. refl };
 
     fn fits(&self) {
         let _value = *self;

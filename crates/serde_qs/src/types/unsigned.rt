@@ -6,7 +6,6 @@ ghost use Rattle.qs_spec.specs.Shape as s;
 ghost use Rattle.qs_data.specs.data.Views.{data_of};
 ghost use Rattle.serde_qs.specs.internal.ComesBack.{unsigned_back};
 ghost use Rattle.serde_qs.specs.Meaning.{unsigned_in};
-ghost use Rattle.serde_qs.specs.internal.OwnTables.{itself};
 ghost use Rattle.serde_qs.specs.Tables.{table_of};
 ghost use Rattle.serde_qs.specs.Typed.{Means};
 
@@ -47,15 +46,7 @@ impl Serialize for u8 {
 }
 
 impl Deserialize for u8 {
-    ghost Value = { ℕ };
-
-    ghost value = { λ n. n };
-
-    ghost form = { s.Shape.unsigned 8 };
-
-    ghost meaning = { unsigned_in 255 };
-
-    ghost distinct = { refl };
+    ghost table = { table_of (λ n. n) d.unsigned (s.Shape.unsigned 8) (unsigned_in 255) refl (unsigned_back 255) };
 
     fn shape(_alloc: Global) -> Result<Shape> {
         Ok(Shape::U8)
@@ -74,11 +65,7 @@ impl Deserialize for u8 {
 }
 
 impl RoundTrip for u8 {
-    ghost table = { table_of (λ n. n) d.unsigned (s.Shape.unsigned 8) (unsigned_in 255) refl (unsigned_back 255) };
-
-    ghost is_own = { itself (λ n. n) d.unsigned (s.Shape.unsigned 8) (unsigned_in 255) refl (unsigned_back 255) };
-
-    ghost comes_back = { unsigned_back 255 };
+    ghost same_datum = { λ _. refl };
 
     fn fits(&self) {
         let _value = *self;
@@ -99,15 +86,7 @@ impl Serialize for u16 {
 }
 
 impl Deserialize for u16 {
-    ghost Value = { ℕ };
-
-    ghost value = { λ n. n };
-
-    ghost form = { s.Shape.unsigned 16 };
-
-    ghost meaning = { unsigned_in 65535 };
-
-    ghost distinct = { refl };
+    ghost table = { table_of (λ n. n) d.unsigned (s.Shape.unsigned 16) (unsigned_in 65535) refl (unsigned_back 65535) };
 
     fn shape(_alloc: Global) -> Result<Shape> {
         Ok(Shape::U16)
@@ -126,11 +105,7 @@ impl Deserialize for u16 {
 }
 
 impl RoundTrip for u16 {
-    ghost table = { table_of (λ n. n) d.unsigned (s.Shape.unsigned 16) (unsigned_in 65535) refl (unsigned_back 65535) };
-
-    ghost is_own = { itself (λ n. n) d.unsigned (s.Shape.unsigned 16) (unsigned_in 65535) refl (unsigned_back 65535) };
-
-    ghost comes_back = { unsigned_back 65535 };
+    ghost same_datum = { λ _. refl };
 
     fn fits(&self) {
         let _value = *self;
@@ -151,15 +126,7 @@ impl Serialize for u32 {
 }
 
 impl Deserialize for u32 {
-    ghost Value = { ℕ };
-
-    ghost value = { λ n. n };
-
-    ghost form = { s.Shape.unsigned 32 };
-
-    ghost meaning = { unsigned_in 4294967295 };
-
-    ghost distinct = { refl };
+    ghost table = { table_of (λ n. n) d.unsigned (s.Shape.unsigned 32) (unsigned_in 4294967295) refl (unsigned_back 4294967295) };
 
     fn shape(_alloc: Global) -> Result<Shape> {
         Ok(Shape::U32)
@@ -178,11 +145,7 @@ impl Deserialize for u32 {
 }
 
 impl RoundTrip for u32 {
-    ghost table = { table_of (λ n. n) d.unsigned (s.Shape.unsigned 32) (unsigned_in 4294967295) refl (unsigned_back 4294967295) };
-
-    ghost is_own = { itself (λ n. n) d.unsigned (s.Shape.unsigned 32) (unsigned_in 4294967295) refl (unsigned_back 4294967295) };
-
-    ghost comes_back = { unsigned_back 4294967295 };
+    ghost same_datum = { λ _. refl };
 
     fn fits(&self) {
         let _value = *self;
@@ -203,15 +166,7 @@ impl Serialize for u64 {
 }
 
 impl Deserialize for u64 {
-    ghost Value = { ℕ };
-
-    ghost value = { λ n. n };
-
-    ghost form = { s.Shape.unsigned 64 };
-
-    ghost meaning = { unsigned_in 18446744073709551615 };
-
-    ghost distinct = { refl };
+    ghost table = { table_of (λ n. n) d.unsigned (s.Shape.unsigned 64) (unsigned_in 18446744073709551615) refl (unsigned_back 18446744073709551615) };
 
     fn shape(_alloc: Global) -> Result<Shape> {
         Ok(Shape::U64)
@@ -230,11 +185,7 @@ impl Deserialize for u64 {
 }
 
 impl RoundTrip for u64 {
-    ghost table = { table_of (λ n. n) d.unsigned (s.Shape.unsigned 64) (unsigned_in 18446744073709551615) refl (unsigned_back 18446744073709551615) };
-
-    ghost is_own = { itself (λ n. n) d.unsigned (s.Shape.unsigned 64) (unsigned_in 18446744073709551615) refl (unsigned_back 18446744073709551615) };
-
-    ghost comes_back = { unsigned_back 18446744073709551615 };
+    ghost same_datum = { λ _. refl };
 
     fn fits(&self) {
         let _value = *self;

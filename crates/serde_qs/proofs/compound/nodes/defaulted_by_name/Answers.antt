@@ -10,22 +10,22 @@ use Rattle.serde_qs.proofs.compound.nodes.defaulted_by_name.Goals as goal
 
 pub returns-in-Missing : goal.returns-in-Missing
 returns-in-Missing g c =
-    let t = g.T.RoundTrip.table in
+    let t = g.T.Deserialize.table in
     let es = entries_view c.args.entries in
-    found_never t.value (entries_are_text es) c.missing_of.result t.meaning (t.meaning g.T.OrDefault.default) (reads c.args.reader.reject_duplicates t.form) (found c.args.name.now es)
-    c.missing_of.ensures c.in-Missing.ensures
+    found_never t.value (entries_are_text es) c.missing.result t.meaning (t.meaning g.T.OrDefault.default) (reads c.args.reader.reject_duplicates t.form) (found c.args.name.now es)
+    c.missing.ensures c.in-Missing.ensures
 
 pub returns-in-One : goal.returns-in-One
 returns-in-One g c =
-    let t = g.T.RoundTrip.table in
+    let t = g.T.Deserialize.table in
     let es = entries_view c.args.entries in
     let n = tree_of c.in-One.node.now in
     found_once t.value (entries_are_text es) c.from_node.result t.meaning (t.meaning g.T.OrDefault.default) (reads c.args.reader.reject_duplicates t.form) (found c.args.name.now es) n
-    c.from_node.ensures c.in-One.ensures (found_bad c.args.name.now es n [] c.in-One.ensures)
+    c.from_node.ensures.node c.in-One.ensures (found_bad c.args.name.now es n [] c.in-One.ensures)
 
 pub returns-in-Several : goal.returns-in-Several
 returns-in-Several g c =
-    let t = g.T.RoundTrip.table in
+    let t = g.T.Deserialize.table in
     let es = entries_view c.args.entries in
     let two = c.in-Several.ensures in
     found_twice (entries_are_text es) c.duplicate_field.result t.meaning (t.meaning g.T.OrDefault.default) (reads c.args.reader.reject_duplicates t.form) (found c.args.name.now es) two.0 two.1 two.2

@@ -14,27 +14,27 @@ use Rattle.serde_qs.proofs.compound.nodes.optional_by_name.Goals as goal
 
 pub returns-in_err-from_node-in-One : goal.returns-in_err-from_node-in-One
 returns-in_err-from_node-in-One g c =
-    let t = g.T.RoundTrip.table in
+    let t = g.T.Deserialize.table in
     let es = entries_view c.args.entries in
     let n = tree_of c.in-One.node.now in
     let r = reads c.args.reader.reject_duplicates t.form in
     let m : Data → Option (Option t.Value) = λ d. option_map Some (t.meaning d) in
     gives_exit (option_map t.value) (is_text n) (entries_are_text es) c.from_residual.result c.in_err-from_node-in-One.field-0.0 (option_and_then t.meaning (r n)) (value_found m (Some None) r (found c.args.name.now es))
-    c.from_residual.ensures.1 c.in_err-from_node-in-One.ensures
+    c.from_residual.ensures.1 c.in_err-from_node-in-One.ensures.node
     (λ none. ap (value_found m (Some None) r) c.in-One.ensures ∙ sym (some_read t.meaning (r n)) ∙ ap (option_map Some) none) (found_bad c.args.name.now es n [] c.in-One.ensures)
 
 pub returns-in_ok-from_node-in-One : goal.returns-in_ok-from_node-in-One
 returns-in_ok-from_node-in-One g c =
-    let t = g.T.RoundTrip.table in
+    let t = g.T.Deserialize.table in
     let es = entries_view c.args.entries in
     let n = tree_of c.in-One.node.now in
     let r = reads c.args.reader.reject_duplicates t.form in
     let m : Data → Option (Option t.Value) = λ d. option_map Some (t.meaning d) in
-    ap (value_found m (Some None) r) c.in-One.ensures ∙ sym (some_read t.meaning (r n)) ∙ ap (option_map Some) c.in_ok-from_node-in-One.ensures
+    ap (value_found m (Some None) r) c.in-One.ensures ∙ sym (some_read t.meaning (r n)) ∙ ap (option_map Some) c.in_ok-from_node-in-One.ensures.node
 
 pub returns-in-Several : goal.returns-in-Several
 returns-in-Several g c =
-    let t = g.T.RoundTrip.table in
+    let t = g.T.Deserialize.table in
     let es = entries_view c.args.entries in
     let two = c.in-Several.ensures in
     let m : Data → Option (Option t.Value) = λ d. option_map Some (t.meaning d) in

@@ -7,6 +7,6 @@ use Rattle.serde_qs.proofs.types.lists.items_of.Given as goal
 
 abbrev pub invariant-loop-part : goal.invariant-loop-part
 invariant-loop-part g l =
-    let m = g.T.Deserialize.meaning in
-    (values_meant m (values_in l.fn.parts.items) ≡ before (map g.T.Deserialize.value l.items.items) (values_meant m (values_in (into_iter_items l.part-iterator))))
+    let m = g.T.Deserialize.table.meaning in
+    (values_meant m (values_in l.fn.parts.items) ≡ before (map g.T.Deserialize.table.value l.items.items) (values_meant m (values_in (into_iter_items l.part-iterator))))
     × (into_iter_len l.part-iterator ≡ length (into_iter_items l.part-iterator))

@@ -9,5 +9,5 @@ use Rattle.serde_qs.proofs.types.lists.values_of.Given as goal
 
 abbrev pub invariant-loop-i : goal.invariant-loop-i
 invariant-loop-i g l =
-    let r : Tree → Option g.T.Deserialize.Value = λ node. option_and_then g.T.Deserialize.meaning (reads l.fn.reader.reject_duplicates g.T.Deserialize.form node) in
-    each_value r (items_view l.fn.items) ≡ before (map g.T.Deserialize.value l.values.items) (each_value r (drop l.i (items_view l.fn.items)))
+    let r : Tree → Option g.T.Deserialize.table.Value = λ node. option_and_then g.T.Deserialize.table.meaning (reads l.fn.reader.reject_duplicates g.T.Deserialize.table.form node) in
+    each_value r (items_view l.fn.items) ≡ before (map g.T.Deserialize.table.value l.values.items) (each_value r (drop l.i (items_view l.fn.items)))

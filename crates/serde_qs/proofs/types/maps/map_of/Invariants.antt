@@ -6,6 +6,6 @@ use Rattle.serde_qs.proofs.types.maps.map_of.Given as goal
 
 abbrev pub invariant-loop-key : goal.invariant-loop-key
 invariant-loop-key g l =
-    let m = g.T.Deserialize.meaning in
-    (pairs_onto m nowhere (pairs_in l.fn.pairs.items) ≡ pairs_onto m (values_by_text g.T.Deserialize.value l.values) (pairs_in (into_iter_items l.key-iterator)))
+    let m = g.T.Deserialize.table.meaning in
+    (pairs_onto m nowhere (pairs_in l.fn.pairs.items) ≡ pairs_onto m (values_by_text g.T.Deserialize.table.value l.values) (pairs_in (into_iter_items l.key-iterator)))
     × (into_iter_len l.key-iterator ≡ length (into_iter_items l.key-iterator))

@@ -10,7 +10,7 @@ use Rattle.serde_qs.proofs.compound.defaulted.DefaultedFields.from_entries.Goals
 
 pub from_entries-requires-clause-differ : goal.from_entries-requires-clause-differ
 from_entries-requires-clause-differ g c =
-    let t = g.T.RoundTrip.table in
+    let t = g.T.Deserialize.table in
     let r = g.R.Fields.table in
     let st = c.args.reader.reject_duplicates in
     let names = texts c.args.names.now in
@@ -18,7 +18,7 @@ from_entries-requires-clause-differ g c =
 
 pub returns-in_err-first : goal.returns-in_err-first
 returns-in_err-first g c =
-    let t = g.T.RoundTrip.table in
+    let t = g.T.Deserialize.table in
     let r = g.R.Fields.table in
     let st = c.args.reader.reject_duplicates in
     let names = texts c.args.names.now in
@@ -29,7 +29,7 @@ returns-in_err-first g c =
 
 pub returns-in_err-others : goal.returns-in_err-others
 returns-in_err-others g c =
-    let t = g.T.RoundTrip.table in
+    let t = g.T.Deserialize.table in
     let r = g.R.Fields.table in
     let st = c.args.reader.reject_duplicates in
     let names = texts c.args.names.now in
@@ -40,7 +40,7 @@ returns-in_err-others g c =
 
 pub returns : goal.returns
 returns g c =
-    let t = g.T.RoundTrip.table in
+    let t = g.T.Deserialize.table in
     let r = g.R.Fields.table in
     let st = c.args.reader.reject_duplicates in
     let names = texts c.args.names.now in

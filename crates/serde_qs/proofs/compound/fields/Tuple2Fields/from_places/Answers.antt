@@ -11,7 +11,7 @@ use Rattle.serde_qs.proofs.compound.fields.Tuple2Fields.from_places.Goals as goa
 
 pub from_places-requires : goal.from_places-requires
 from_places-requires g c =
-    let t = g.T.RoundTrip.table in
+    let t = g.T.Deserialize.table in
     let r = g.R.Fields.table in
     let st = c.args.reader.reject_duplicates in
     let names = texts c.args.names.now in
@@ -19,7 +19,7 @@ from_places-requires g c =
 
 pub returns-in_err-first : goal.returns-in_err-first
 returns-in_err-first g c =
-    let t = g.T.RoundTrip.table in
+    let t = g.T.Deserialize.table in
     let r = g.R.Fields.table in
     let st = c.args.reader.reject_duplicates in
     let names = texts c.args.names.now in
@@ -30,7 +30,7 @@ returns-in_err-first g c =
 
 pub returns-in_err-others : goal.returns-in_err-others
 returns-in_err-others g c =
-    let t = g.T.RoundTrip.table in
+    let t = g.T.Deserialize.table in
     let r = g.R.Fields.table in
     let st = c.args.reader.reject_duplicates in
     let names = texts c.args.names.now in
@@ -45,7 +45,7 @@ returns-in_err-others g c =
 
 pub returns : goal.returns
 returns g c =
-    let t = g.T.RoundTrip.table in
+    let t = g.T.Deserialize.table in
     let r = g.R.Fields.table in
     let st = c.args.reader.reject_duplicates in
     let names = texts c.args.names.now in

@@ -14,7 +14,7 @@ use Rattle.serde_qs.proofs.compound.items.Tuple2Items.from_places.Goals as goal
 
 pub returns-in_err-item : goal.returns-in_err-item
 returns-in_err-item g c =
-    let t = g.T.RoundTrip.table in
+    let t = g.T.Deserialize.table in
     let r = g.R.Items.table in
     let xs = items_view c.args.items in
     let i = c.args.place in
@@ -23,7 +23,7 @@ returns-in_err-item g c =
 
 pub returns-in_default : goal.returns-in_default
 returns-in_default g c =
-    let t = g.T.RoundTrip.table in
+    let t = g.T.Deserialize.table in
     let r = g.R.Items.table in
     let xs = items_view c.args.items in
     let i = c.args.place in
@@ -32,7 +32,7 @@ returns-in_default g c =
 
 pub returns-in_err-first : goal.returns-in_err-first
 returns-in_err-first g c =
-    let t = g.T.RoundTrip.table in
+    let t = g.T.Deserialize.table in
     let r = g.R.Items.table in
     let st = c.args.reader.reject_duplicates in
     let xs = items_view c.args.items in
@@ -40,11 +40,11 @@ returns-in_err-first g c =
     let n = tree_of c.in-Some.item.now in
     let h : first_item (drop i xs) ≡ Some (Some n) = c.in_ok-item.ensures ∙ ap (λ o. Some (option_map (λ v. tree_of v.now) o)) c.in-Some.is in
     first_unread _ (is_text n) (are_text xs) c.from_residual-in_err-first.result c.in_err-first.field-0.0 _ (option_and_then t.meaning (reads st t.form n)) (by_shapes st r.form r.meaning (drop (i + 1) xs))
-    c.from_residual-in_err-first.ensures.1 c.in_err-first.ensures (item_read t.meaning r.meaning st t.form r.form xs i n h) (due_bad i xs n h)
+    c.from_residual-in_err-first.ensures.1 c.in_err-first.ensures.node (item_read t.meaning r.meaning st t.form r.form xs i n h) (due_bad i xs n h)
 
 pub returns-in_err-others : goal.returns-in_err-others
 returns-in_err-others g c =
-    let t = g.T.RoundTrip.table in
+    let t = g.T.Deserialize.table in
     let r = g.R.Items.table in
     let st = c.args.reader.reject_duplicates in
     let xs = items_view c.args.items in
@@ -56,10 +56,10 @@ returns-in_err-others g c =
 
 pub returns : goal.returns
 returns g c =
-    let t = g.T.RoundTrip.table in
+    let t = g.T.Deserialize.table in
     let r = g.R.Items.table in
     let xs = items_view c.args.items in
     let i = c.args.place in
     let n = tree_of c.in-Some.item.now in
     let h : first_item (drop i xs) ≡ Some (Some n) = c.in_ok-item.ensures ∙ ap (λ o. Some (option_map (λ v. tree_of v.now) o)) c.in-Some.is in
-    both_read _ _ _ _ _ (item_read t.meaning r.meaning c.args.reader.reject_duplicates t.form r.form xs i n h) c.in_ok-first.ensures c.in_ok-others.ensures
+    both_read _ _ _ _ _ (item_read t.meaning r.meaning c.args.reader.reject_duplicates t.form r.form xs i n h) c.in_ok-first.ensures.node c.in_ok-others.ensures

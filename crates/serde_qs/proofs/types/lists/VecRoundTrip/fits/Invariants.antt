@@ -5,5 +5,5 @@ use Rattle.serde_qs.proofs.types.lists.VecRoundTrip.fits.Given as goal
 
 abbrev pub invariant-loop-item : goal.invariant-loop-item
 invariant-loop-item g l =
-    let f = fits g.T.Deserialize.form in
+    let f = fits g.T.Deserialize.table.form in
     fit_each f (values_of (map g.T.Serialize.datum l.self.items)) ≡ fit_each f (values_of (map g.T.Serialize.datum (drop l.item-index l.item-items)))

@@ -7,5 +7,5 @@ use Rattle.serde_qs.proofs.types.maps.BTreeMapStringRoundTrip.fits.Given as goal
 
 abbrev pub invariant-loop-key : goal.invariant-loop-key
 invariant-loop-key g l =
-    let f = fits g.T.Deserialize.form in
+    let f = fits g.T.Deserialize.table.form in
     fit_pairs KeyShape.text f (pairs_of (map (entry_data g.T.Serialize.datum) l.self.entries)) ≡ fit_pairs KeyShape.text f (pairs_of (map (entry_data g.T.Serialize.datum) l.key-iterator))

@@ -2,7 +2,7 @@
 
 use crate::round_trips::comes_back;
 use crate::values::{is_custom, list, one, text};
-use qs_callers::{Listing, Report, Sort, Values, Visit};
+use qs_callers::{Day, Listing, Report, Sort, Values, Visit};
 use serde_qs::{Result, from_str, to_string};
 
 #[test]
@@ -16,6 +16,21 @@ fn only_read(rt: HostRuntime) {
     assert_eq!(rt; visit.labels.len(), 1);
     let result: Result<Visit> = from_str(alloc, "times=2&labels[lang]=en");
     assert!(rt; is_custom(&result, "missing field `path`"));
+}
+
+#[test]
+fn only_read_in_a_part(rt: HostRuntime) {
+    let alloc = rt.alloc();
+    let input = "hours=0,2&visits[0][path]=a&visits[0][times]=2&visits[0][labels][lang]=en";
+    let day: Day = from_str(alloc, input).expect(&rt, "a day");
+    assert_eq!(rt; day.visits.len(), 1);
+    assert_eq!(rt; day.visits[0].path.as_str(), "a");
+    assert_eq!(rt; day.visits[0].times, 2);
+    assert!(rt; day.hours.0 == list(&rt, alloc, [0, 2]));
+    let result: Result<Day> = from_str(alloc, "hours=0,x&visits=");
+    assert!(rt; is_custom(&result, "invalid item `x`"));
+    let result: Result<Day> = from_str(alloc, "hours=0&visits[0][path]=a");
+    assert!(rt; is_custom(&result, "missing field `times`"));
 }
 
 #[test]

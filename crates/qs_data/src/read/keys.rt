@@ -60,7 +60,17 @@ pub enum Found<'t, 'qs> {
 }
 
 impl<'t, 'qs> Entries<'t, 'qs> {
-    /// Looks up the value under a name. It doesn't allocate.
+    /// Looks up the value under a name: under the text, or under the integer that is written so. It makes two look-ups by binary
+    /// search at most, and doesn't allocate.
+    ///
+    /// The clause asks that the integer keys have 32 bits, as those of every tree have. [`test`](Entries::test) and
+    /// [`keys_are_text`](Entries::keys_are_text) show it, so one of them is called first.
+    ///
+    /// ```
+    /// if let Found::One(node) = entries.find("age") {
+    ///     age = u8::from_node(reader, node)?;
+    /// }
+    /// ```
     #[inline(always)]
     pub fn find(self, name: &str) -> Found<'t, 'qs>
         requires { NumbersFit (entries_view self) }
@@ -69,7 +79,11 @@ impl<'t, 'qs> Entries<'t, 'qs> {
         find(self, name)
     }
 
-    /// Tests whether all keys are texts. It returns the first that isn't, and doesn't allocate.
+    /// Tests whether all keys are UTF-8, and returns the first that isn't. It looks at each key once, and doesn't allocate.
+    ///
+    /// ```
+    /// entries.test().map_err(|broken| broken.into_error(alloc))?;
+    /// ```
     pub fn test(self) -> std::result::Result<(), BrokenKey<'t>>
         ensures text { PassesTest result (keys_are_text (entries_view self.entry)) }
         ensures fit { NumbersFit (entries_view self.entry) }
@@ -77,7 +91,13 @@ impl<'t, 'qs> Entries<'t, 'qs> {
         test_keys(self)
     }
 
-    /// Returns whether all keys are texts, as [`test`](Entries::test) does without the key that isn't. It doesn't allocate.
+    /// Returns whether all keys are UTF-8. It is [`test`](Entries::test) without the key that isn't, and takes less time.
+    ///
+    /// ```
+    /// if !entries.keys_are_text() {
+    ///     return Err(unexpected(alloc, "keys that are UTF-8"));
+    /// }
+    /// ```
     #[inline(always)]
     pub fn keys_are_text(self) -> bool
         ensures text { result ≡ keys_are_text (entries_view self.entry) }
@@ -90,7 +110,11 @@ impl<'t, 'qs> Entries<'t, 'qs> {
         }
     }
 
-    /// Returns how many entries there are.
+    /// Returns how many entries there are, in constant time.
+    ///
+    /// ```
+    /// let count = Entries::Map(&map).len();
+    /// ```
     pub fn len(self) -> usize
         ensures { result ≡ length (entry_list (entries_view self.entry)) }
     {
@@ -256,6 +280,12 @@ impl BrokenKey<'_> {
 
     /// Returns the error that says so: [`Utf8`](qs_tree::Error::Utf8), or [`Custom`](qs_tree::Error::Custom) with a hint where the key holds a
     /// bracket. It allocates for the hint.
+    ///
+    /// ```
+    /// if let Err(broken) = entries.test() {
+    ///     return Err(broken.into_error(alloc));
+    /// }
+    /// ```
     pub fn into_error(self, alloc: Global) -> Error
         ensures { OnlyCustomUtf8OrOutOfMemory {X = Unit {0}} (Err result) }
     {

@@ -58,6 +58,10 @@ pub struct ByWrite<W: Write + Drop> {
 
 impl<W: Write + Drop> ByWrite<W> {
     /// Returns the sink of this writer. Nothing is written yet, and nothing is allocated.
+    ///
+    /// ```
+    /// let sink = ByWrite::new(Vec::new(alloc));
+    /// ```
     pub fn new(writer: W) -> ByWrite<W>
         ensures writer { result.writer ≡ writer }
         ensures fresh { result.failed ≡ false }
@@ -69,6 +73,10 @@ impl<W: Write + Drop> ByWrite<W> {
     }
 
     /// Returns the writer, with all that was written to it. Doesn't allocate.
+    ///
+    /// ```
+    /// let bytes = serializer.into_sink().into_writer();
+    /// ```
     pub fn into_writer(self) -> W
         ensures { result ≡ self.writer }
     {

@@ -142,7 +142,7 @@ pub(crate) fn put_encoded<S: Sink>(sink: &mut S, bytes: &[u8], form: bool) -> Re
     Ok(())
 }
 
-/// Puts a piece of a text, encoded.
+// Puts a piece of a text, encoded.
 #[inline(never)]
 fn put_piece<S: Sink>(sink: &mut S, bytes: &[u8], form: bool) -> Result<(), Stop>
     requires { length bytes.now ≤ PIECE }

@@ -16,7 +16,7 @@ fn asked<T: Deserialize>(alloc: Global, target: &Uri) -> Result<T> {
     Ok(query::<T>(alloc, target, Config::new())?.into_inner())
 }
 
-/// Returns the value that is read from the query of a target under a configuration.
+// Returns the value that is read from the query of a target under a configuration.
 fn asked_by<R: Abort, T: Deserialize>(
     rt: &R,
     alloc: Global,

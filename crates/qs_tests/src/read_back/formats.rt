@@ -149,7 +149,7 @@ fn other_single_elements(rt: HostRuntime) {
     is_lost(&t, Data::None, "a", t.build.option(Shape::Text));
 }
 
-/// Whether the lists come back with empty brackets, and without brackets.
+// Whether the lists come back with empty brackets, and without brackets.
 // Whether data come back in each format is as wanted: with empty brackets, and with nothing after a name.
 fn listed<R: Abort>(b: &Build<'_, R>, data: Data, brackets: bool, nothing: bool) {
     let rt = b.rt;

@@ -186,7 +186,7 @@ impl<T: RoundTrip + Drop, R: Fields> Fields for (T, R) {
     }
 }
 
-// Returns the fields, and after them what is read for a field of the first name and for the fields of the other names.
+/// Returns the fields, and after them what is read for a field of the first name and for the fields of the other names.
 pub(crate) fn push_field<T: RoundTrip, R: Fields>(
     alloc: Global,
     names: &[&'static str],
@@ -207,7 +207,7 @@ pub(crate) fn push_field<T: RoundTrip, R: Fields>(
     R::push_fields(alloc, rest, fields)
 }
 
-// Returns the first name, which is empty where there is none, and the others.
+/// Returns the first name, which is empty where there is none, and the others.
 #[inline(always)]
 pub(crate) fn split<'a, 'n>(names: &'a [&'n str]) -> (&'n str, &'a [&'n str])
     ensures first { result.0.now ≡ first_of (texts names.now) }

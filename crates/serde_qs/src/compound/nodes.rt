@@ -20,8 +20,8 @@ use qs_data::{Entries, FieldNames, Found, Reader, Result, UnknownKeys};
 use qs_tree::ParsedValue;
 use std::marker::PhantomData;
 
-// Returns the fields that a node holds: by their names among keys, and by their places among items. A key that no field has is
-// ignored or rejected.
+/// Returns the fields that a node holds: by their names among keys, and by their places among items. A key that no field has is
+/// ignored or rejected.
 #[tactic(auto, unfolding(qs_spec::specs::internal::ReadFunction::struct_members))]
 #[inline(always)]
 pub(crate) fn struct_of<F: Fields>(
@@ -47,7 +47,7 @@ pub(crate) fn struct_of<F: Fields>(
     }
 }
 
-// Returns the fields that a struct variant holds: those of a struct, where a text counts as a map from the empty key to it.
+/// Returns the fields that a struct variant holds: those of a struct, where a text counts as a map from the empty key to it.
 #[tactic(auto, unfolding(qs_spec::specs::internal::ReadFunction::struct_members))]
 pub(crate) fn variant_of<F: Fields>(
     reader: Reader,
@@ -108,7 +108,7 @@ impl<F: Fields> FieldNames for NamesOf<'_, F> {
     }
 }
 
-// Returns the value of a field by its name.
+/// Returns the value of a field by its name.
 #[inline(always)]
 pub(crate) fn by_name<T: RoundTrip>(
     reader: Reader,
@@ -126,7 +126,7 @@ pub(crate) fn by_name<T: RoundTrip>(
     }
 }
 
-// Returns the value of a field by its name, if it isn't left out.
+/// Returns the value of a field by its name, if it isn't left out.
 pub(crate) fn optional_by_name<T: RoundTrip>(
     reader: Reader,
     name: &str,
@@ -143,7 +143,7 @@ pub(crate) fn optional_by_name<T: RoundTrip>(
     }
 }
 
-// Returns the value of a field by its name, or its default.
+/// Returns the value of a field by its name, or its default.
 pub(crate) fn defaulted_by_name<T: RoundTrip + OrDefault>(
     reader: Reader,
     name: &str,
@@ -160,7 +160,7 @@ pub(crate) fn defaulted_by_name<T: RoundTrip + OrDefault>(
     }
 }
 
-// Returns the value of a field by its place, the first of these items. There are so many items in all.
+/// Returns the value of a field by its place, the first of these items. There are so many items in all.
 #[inline(always)]
 pub(crate) fn by_place<T: RoundTrip>(
     reader: Reader,
@@ -176,7 +176,7 @@ pub(crate) fn by_place<T: RoundTrip>(
     }
 }
 
-// Returns the value of a field by its place, if it isn't left out.
+/// Returns the value of a field by its place, if it isn't left out.
 pub(crate) fn optional_by_place<T: RoundTrip>(
     reader: Reader,
     items: &[ParsedValue<'_>],
@@ -190,7 +190,7 @@ pub(crate) fn optional_by_place<T: RoundTrip>(
     }
 }
 
-// Returns the value of a field by its place, or its default.
+/// Returns the value of a field by its place, or its default.
 pub(crate) fn defaulted_by_place<T: RoundTrip + OrDefault>(
     reader: Reader,
     items: &[ParsedValue<'_>],
@@ -204,7 +204,7 @@ pub(crate) fn defaulted_by_place<T: RoundTrip + OrDefault>(
     }
 }
 
-// Returns the items after the first.
+/// Returns the items after the first.
 pub(crate) fn after<'a, 'qs>(items: &'a [ParsedValue<'qs>]) -> &'a [ParsedValue<'qs>]
     ensures { items_from (map tree_of result.now) ≡ items_after (items_from (map tree_of items.now)) }
 {

@@ -22,7 +22,7 @@ use qs_data::{Data, Reader, Result, Scalar, Shape, WriteResult, Writer};
 use qs_tree::ParsedValue;
 use std::alloc::Global;
 
-// Returns the shape that is read for a value.
+/// Returns the shape that is read for a value.
 pub(crate) fn shape_of<T: RoundTrip>(alloc: Global) -> Result<Shape>
     ensures exact { IfOk result (λ s. shape_of s ≡ T.table.form) }
     ensures errors { OnlyOutOfMemory result }
@@ -30,14 +30,14 @@ pub(crate) fn shape_of<T: RoundTrip>(alloc: Global) -> Result<Shape>
     T::shape(alloc)
 }
 
-// Returns the value that data mean.
+/// Returns the value that data mean.
 pub(crate) fn value_of<T: RoundTrip>(alloc: Global, datum: Data) -> Result<T>
     ensures { Means T.table.value result (T.table.meaning (data_of datum)) }
 {
     T::from_data(alloc, datum)
 }
 
-// Returns the value that is read from a node.
+/// Returns the value that is read from a node.
 #[inline(always)]
 pub(crate) fn from_node<T: RoundTrip>(reader: Reader, node: &ParsedValue<'_>) -> Result<T>
     ensures { ReadsNode T.table.value T.table.form T.table.meaning reader.reject_duplicates (tree_of node.now) result }
@@ -45,21 +45,21 @@ pub(crate) fn from_node<T: RoundTrip>(reader: Reader, node: &ParsedValue<'_>) ->
     T::from_node(reader, node)
 }
 
-// Returns the value of a field of this name that has no key.
+/// Returns the value of a field of this name that has no key.
 pub(crate) fn from_missing<T: RoundTrip>(reader: Reader, name: &str) -> Result<T>
     ensures { Means T.table.value result (option_and_then T.table.meaning (missing_data T.table.form)) }
 {
     T::from_missing(reader, name)
 }
 
-// Returns the value of a missing field.
+/// Returns the value of a missing field.
 pub(crate) fn missing_of<T: RoundTrip + OrDefault>(alloc: Global) -> Result<T>
     ensures { Means T.table.value result (T.table.meaning T.default) }
 {
     T::missing(alloc)
 }
 
-// Returns the data of a value.
+/// Returns the data of a value.
 pub(crate) fn datum_of<T: RoundTrip>(alloc: Global, value: &T) -> Result<Data>
     ensures exact { IfOk result (λ x. data_of x ≡ T.table.datum value.now) }
     ensures errors { OnlyOutOfMemory result }
@@ -67,21 +67,21 @@ pub(crate) fn datum_of<T: RoundTrip>(alloc: Global, value: &T) -> Result<Data>
     value.to_data(alloc)
 }
 
-// Writes a value where the writer is.
+/// Writes a value where the writer is.
 pub(crate) fn write_to<T: RoundTrip>(value: &T, writer: &mut Writer) -> WriteResult
     ensures { WritesPart result writer.old writer.new (data_part (T.table.datum value.now)) }
 {
     value.write_to(writer)
 }
 
-// Writes a value under a name.
+/// Writes a value under a name.
 pub(crate) fn write_under<T: RoundTrip>(writer: &mut Writer, name: &str, value: &T) -> WriteResult
     ensures { WritesPart result writer.old writer.new (under name.now (data_part (T.table.datum value.now))) }
 {
     parts::write_under(writer, Scalar::Bytes(name.as_bytes()), value)
 }
 
-// Writes the fields of a variant under its name.
+/// Writes the fields of a variant under its name.
 pub(crate) fn write_variant<R: FieldReferences + Drop>(
     writer: &mut Writer,
     name: &str,
@@ -96,14 +96,14 @@ pub(crate) fn write_variant<R: FieldReferences + Drop>(
     Ok(())
 }
 
-// Writes the tuple of these items where the writer is.
+/// Writes the tuple of these items where the writer is.
 pub(crate) fn write_tuple<R: ListedReferences + Drop>(writer: &mut Writer, items: R) -> WriteResult
     ensures { WritesPart result writer.old writer.new (data_part (d.tuple (values_of (R.own_data items)))) }
 {
     parts::write_made(writer, tuple_struct(writer.alloc, items))
 }
 
-// Writes the variant of this name with these items where the writer is.
+/// Writes the variant of this name with these items where the writer is.
 pub(crate) fn write_tuple_variant<R: ListedReferences + Drop>(
     writer: &mut Writer,
     name: &str,
@@ -114,7 +114,7 @@ pub(crate) fn write_tuple_variant<R: ListedReferences + Drop>(
     parts::write_made(writer, tuple_variant(writer.alloc, name, items))
 }
 
-// Shows that the data of a value fit its shape. It does nothing when it runs.
+/// Shows that the data of a value fit its shape. It does nothing when it runs.
 pub(crate) fn fit<T: RoundTrip>(value: &T)
     ensures { fits T.table.form (T.table.datum value.now) ≡ true }
 {

@@ -16,7 +16,7 @@ fn person<R: Abort>(b: &Build<'_, R>) -> Shape {
     ])
 }
 
-// Stops where the explanation of an input under the default configuration isn't this line, which is empty where it is read.
+// Asserts that an input is explained by this line under the default configuration: by the empty one where it is read.
 fn says<R: Abort>(b: &Build<'_, R>, shape: &Shape, input: &str, line: &str) {
     let explained = explain(b.alloc, Config::new(), shape, input.as_bytes()).expect(b.rt, "memory");
     let text = match explained {

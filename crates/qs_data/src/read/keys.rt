@@ -207,7 +207,7 @@ fn find_in_map<'t, 'qs>(map: &'t ParsedMap<'qs>, name: &str) -> Found<'t, 'qs>
     }
 }
 
-// Returns the only one of two values.
+// Returns the value that is there, of two that may be.
 #[inline(always)]
 fn either<'t, 'qs>(
     a: Option<&'t ParsedValue<'qs>>,
@@ -222,7 +222,7 @@ fn either<'t, 'qs>(
     }
 }
 
-// Returns the number that is written so. Most names don't begin as numbers do, and aren't parsed.
+// Returns the number whose digits the name is, if it is one's. Most names don't begin with a digit, and aren't parsed.
 #[inline(always)]
 fn number_of(name: &str) -> Option<u32>
     ensures { ParsesNumber result name.now }
@@ -234,7 +234,7 @@ fn number_of(name: &str) -> Option<u32>
     }
 }
 
-// Returns the number that is written so.
+// Returns the number whose digits the name is, if it is one's.
 #[inline(never)]
 fn parsed_number(name: &str) -> Option<u32>
     ensures { ParsesNumber result name.now }
@@ -252,7 +252,7 @@ fn parsed_number(name: &str) -> Option<u32>
     }
 }
 
-// Returns whether a text begins as numbers do.
+// Returns whether a text begins with a digit, as the digits of each number do.
 #[inline(always)]
 fn begins_with_a_digit(text: &[u8]) -> bool
     ensures { (n : ℕ) → n < 2 ^ 32 → decimal n ≡ text.now → IsTrue result }
@@ -293,7 +293,7 @@ impl BrokenKey<'_> {
     }
 }
 
-/// Tests whether all keys are texts, and returns the first that isn't.
+/// Tests whether all keys are UTF-8, and returns the first that isn't.
 pub(crate) fn test_keys<'t>(entries: Entries<'t, '_>) -> Result<(), BrokenKey<'t>>
     ensures text { PassesTest result (keys_are_text (entries_view entries.entry)) }
     ensures fit { NumbersFit (entries_view entries.entry) }
@@ -320,7 +320,7 @@ fn test_map<'t>(map: &'t ParsedMap<'_>) -> Result<(), BrokenKey<'t>>
     tested
 }
 
-// Returns whether the keys of a map are texts. All keys are looked at, as by `test_map`.
+// Returns whether the keys of a map are UTF-8. All keys are looked at, as by `test_map`.
 fn keys_are_text(map: &ParsedMap<'_>) -> bool
     ensures text { result ≡ keys_are_text (entries_of_map map.now) }
     ensures fit { NumbersFit (entries_of_map map.now) }
@@ -335,7 +335,7 @@ fn keys_are_text(map: &ParsedMap<'_>) -> bool
     passed
 }
 
-// Returns whether a key is a text.
+// Returns whether a key is UTF-8.
 #[inline(always)]
 fn is_text_key(key: &Key<'_>) -> bool
     ensures text { result ≡ is_utf8 (segment_text (segment_of_key key.now)) }
@@ -350,7 +350,7 @@ fn is_text_key(key: &Key<'_>) -> bool
     }
 }
 
-// Returns whether bytes are a text, as `test_text` tests it.
+// Returns whether bytes are UTF-8, as `test_text` tests it.
 #[inline(always)]
 #[tactic(auto, using(crate::proofs::lemmas::read::Errors::utf8_tests, crate::proofs::lemmas::read::Numbers::ascii_text))]
 fn is_text(text: &[u8]) -> bool
@@ -359,7 +359,7 @@ fn is_text(text: &[u8]) -> bool
     text.is_ascii() || str::from_utf8(text).is_ok()
 }
 
-// Tests whether a key is a text.
+// Tests whether a key is UTF-8.
 fn test_key<'t>(key: &'t Key<'_>) -> Result<(), BrokenKey<'t>>
     ensures text { PassesTest result (is_utf8 (segment_text (segment_of_key key.now))) }
     ensures fit { KeyFits (segment_of_key key.now) }
@@ -373,7 +373,7 @@ fn test_key<'t>(key: &'t Key<'_>) -> Result<(), BrokenKey<'t>>
     }
 }
 
-// Tests whether bytes are a text. Most are ASCII, for which the test is faster.
+// Tests whether bytes are UTF-8. Most are ASCII, for which the test is faster.
 #[tactic(auto, using(crate::proofs::lemmas::read::Errors::utf8_tests, crate::proofs::lemmas::read::Numbers::ascii_text))]
 fn test_text(text: &[u8]) -> Result<(), BrokenKey<'_>>
     ensures { PassesTest result (is_utf8 text.now) }

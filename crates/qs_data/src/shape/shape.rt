@@ -46,7 +46,7 @@ pub enum Shape {
     Tuple(Vec<Shape>),
     /// Keys and values.
     Map(KeyShape, Box<Shape>),
-    /// Fields, by their names or by their indexes.
+    /// Fields, by their names or by their indices.
     Struct(Vec<Field>),
     /// Fields as those of a [`Struct`](Shape::Struct), where a map's keys that no field has are rejected.
     StrictStruct(Vec<Field>),
@@ -92,7 +92,7 @@ pub enum VariantKind {
     Newtype(Box<Shape>),
     /// The first items of a list, each of its own shape.
     Tuple(Vec<Shape>),
-    /// Fields, by their names or by their indexes.
+    /// Fields, by their names or by their indices.
     Struct(Vec<Field>),
     /// Fields as those of a [`Struct`](VariantKind::Struct), where a map's keys that no field has are rejected.
     StrictStruct(Vec<Field>),

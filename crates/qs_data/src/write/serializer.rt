@@ -111,7 +111,7 @@ impl<S: Sink> Serializer<S> {
 
     /// Writes the entries of the data after what was written before.
     ///
-    /// Each scalar in the data is one entry, under the names, keys and indexes that lead to it; `&` precedes
+    /// Each scalar in the data is one entry, under the names, keys and indices that lead to it; `&` precedes
     /// each that has a key, but the first. What is written holds only bytes from 0x21 to 0x7E.
     ///
     /// The walk stops at the first error:

@@ -49,6 +49,14 @@ pub enum Entries<'t, 'qs> {
 }
 
 /// What is found under a name.
+///
+/// ```
+/// match find_value(&map, "age") {
+///     Found::One(node) => read_value(alloc, config, &Shape::U8, node),
+///     Found::Missing => Ok(Data::None),
+///     Found::Several => Err(Reader::new(alloc, config).duplicate_field("age")),
+/// }
+/// ```
 #[derive(Clone, Copy)]
 pub enum Found<'t, 'qs> {
     /// Nothing.
@@ -264,6 +272,10 @@ fn begins_with_a_digit(text: &[u8]) -> bool
 }
 
 /// A key that isn't UTF-8, which [`Entries::test`] returns.
+///
+/// ```
+/// let broken = entries.test(); // Err for %FF=1
+/// ```
 #[derive(Clone, Copy)]
 pub struct BrokenKey<'t> {
     text: &'t [u8],

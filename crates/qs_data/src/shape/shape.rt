@@ -61,6 +61,11 @@ pub enum Shape {
 }
 
 /// A field of a struct.
+///
+/// ```
+/// let age = Field { name: String::from_str(alloc, "age")?, shape: Shape::U8, optional: false };
+/// let person = Shape::Struct(vec![in alloc; age]?);
+/// ```
 #[cycle(shape)]
 #[derive(Debug, PartialEq, Eq, Drop)]
 pub struct Field {
@@ -73,6 +78,11 @@ pub struct Field {
 }
 
 /// A variant of an enum.
+///
+/// ```
+/// let new = Variant { name: String::from_str(alloc, "New")?, kind: VariantKind::Unit };
+/// let sort = Shape::Enum(vec![in alloc; new]?);
+/// ```
 #[cycle(shape)]
 #[derive(Debug, PartialEq, Eq, Drop)]
 pub struct Variant {
@@ -83,6 +93,10 @@ pub struct Variant {
 }
 
 /// What a variant holds.
+///
+/// ```
+/// let kind = VariantKind::Newtype(Box::new(alloc, Shape::U8)?); // reads v[By]=7
+/// ```
 #[cycle(shape)]
 #[derive(Debug, PartialEq, Eq, Drop)]
 pub enum VariantKind {
@@ -115,6 +129,10 @@ impl Shape {
 }
 
 /// How the text of a map's key is read.
+///
+/// ```
+/// let prices = Shape::Map(KeyShape::Text, Box::new(alloc, Shape::U32)?); // reads prices[tea]=250
+/// ```
 #[derive(Debug, PartialEq, Eq, Drop)]
 pub enum KeyShape {
     /// `true` or `false`.

@@ -17,6 +17,11 @@ use itoa::Buffer;
 use std::alloc::AllocError;
 
 /// A value of one text, or a segment of a path.
+///
+/// ```
+/// let len = writer.enter(Scalar::Bytes(b"age"))?;
+/// writer.scalar(Scalar::Unsigned(24))?; // age=24
+/// ```
 #[derive(Clone, Copy)]
 pub enum Scalar<'a> {
     /// A string or bytes.

@@ -20,6 +20,12 @@ pub(crate) const PIECE: usize = 1024;
 ///
 /// [`ByWrite`] makes a sink of any writer. A type of its own may be one too, such as a buffer with a
 /// limit; its [`put`](Sink::put) returns what a writer's `write` returns.
+///
+/// ```
+/// let mut serializer = Serializer::over(ByWrite::new(writer), Config::new());
+/// let result = serializer.serialize(alloc, &datum);
+/// let lost_bytes = serializer.into_sink().has_failed(); // then the result is an `Io` error
+/// ```
 pub trait Sink {
     // The bytes that it took so far, where the sink reports them.
     ghost taken: { Self → Option (List ℕ) };

@@ -8,13 +8,13 @@ use Rattle.qs_tree.specs.declared.scan.pair.Pair as code_pair
 use Rattle.qs_tree.specs.declared.scan.parser.ParseError as parse_error
 
 -- what is left after some bytes
-pub left_behind : (start front rest : List ℕ) → start ≡ front ++ rest → IsLeft start rest
-left_behind start front rest e =
+pub rest_left : (start front rest : List ℕ) → start ≡ front ++ rest → IsLeft start rest
+rest_left start front rest e =
     let n : length start - length rest ≡ length front = omega (arith, ap length e, length-append front rest) in
     sym (ap (λ k. drop k start) n ∙ ap (drop (length front)) e ∙ drop_at front rest (length front) refl)
 
-pub taken_behind : (start front rest : List ℕ) → start ≡ front ++ rest → taken start rest ≡ front
-taken_behind start front rest e =
+pub front_taken : (start front rest : List ℕ) → start ≡ front ++ rest → taken start rest ≡ front
+front_taken start front rest e =
     let n : length start - length rest ≡ length front = omega (arith, ap length e, length-append front rest) in
     ap (λ k. take k start) n ∙ ap (take (length front)) e ∙ take-append_seam front rest
 

@@ -60,7 +60,7 @@ pub trait Fields: Sized + Drop {
         ensures { Gives table.value (entries_are_text (entries_view entries.entry)) result
             (by_names reader.reject_duplicates (table.form (texts names.now)) (table.meaning (texts names.now)) (entries_view entries.entry)) };
 
-    /// Returns the fields that are read by their places, from the last of so many items.
+    /// Returns the fields that are read by their indices, from the last of so many items.
     fn from_places(
         reader: Reader,
         names: &[&'static str],

@@ -20,7 +20,7 @@ use qs_data::{Entries, FieldNames, Found, Reader, Result, UnknownKeys};
 use qs_tree::ParsedValue;
 use std::marker::PhantomData;
 
-/// Returns the fields that a node holds: by their names among keys, and by their places among items. A key that no field has is
+/// Returns the fields that a node holds: by their names among keys, and by their indices among items. A key that no field has is
 /// ignored or rejected.
 #[tactic(auto, unfolding(qs_spec::specs::internal::ReadFunction::struct_members))]
 #[inline(always)]
@@ -160,7 +160,7 @@ pub(crate) fn defaulted_by_name<T: RoundTrip + OrDefault>(
     }
 }
 
-/// Returns the value of a field by its place, the first of these items. There are so many items in all.
+/// Returns the value of a field by its index, that of the first of these items. There are so many items in all.
 #[inline(always)]
 pub(crate) fn by_place<T: RoundTrip>(
     reader: Reader,
@@ -176,7 +176,7 @@ pub(crate) fn by_place<T: RoundTrip>(
     }
 }
 
-/// Returns the value of a field by its place, if it isn't left out.
+/// Returns the value of a field by its index, if it isn't left out.
 pub(crate) fn optional_by_place<T: RoundTrip>(
     reader: Reader,
     items: &[ParsedValue<'_>],
@@ -190,7 +190,7 @@ pub(crate) fn optional_by_place<T: RoundTrip>(
     }
 }
 
-/// Returns the value of a field by its place, or its default.
+/// Returns the value of a field by its index, or its default.
 pub(crate) fn defaulted_by_place<T: RoundTrip + OrDefault>(
     reader: Reader,
     items: &[ParsedValue<'_>],

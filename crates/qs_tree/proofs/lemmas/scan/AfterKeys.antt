@@ -70,7 +70,7 @@ segment_found (suc room) path bracket t ts h e =
     let less : room ≡ suc room - 1 = omega arith in
     ap (λ x. in_segment x (parsed_brackets room) path t ts) e ∙ ap (λ n. after_run (parsed_brackets n) (longer path (raw_of (t ∷ (cut is_close ts).0))) (cut is_close ts).1) less
 
--- a token, and the bytes from its place on
+-- a token, and the bytes from its position on
 pub first_token : (place raw old new kept : List ℕ) → place ≡ old → old ≡ raw ++ new → kept ≡ new → place ≡ raw ++ kept
 first_token place raw old new kept at bytes same = at ∙ bytes ∙ ap (λ l. raw ++ l) (sym same)
 

@@ -11,7 +11,7 @@ brackets w = parsed_brackets w.loop-first.room (path_of w.loop-first.pair.path) 
 opened : (w : In_ok-keep_spot) → brackets w (left w.loop-first.cursor) ≡ brackets w (token_of w.in-Some.first ∷ left w.keep_spot.new.self)
 opened w = ap (brackets w) (w.in-Some.ensures.token ∙ ap (λ ts. token_of w.in-Some.first ∷ ts) (sym (ap₂ tokens w.in_ok-keep_spot.ensures.form w.in_ok-keep_spot.ensures.rest)))
 
--- the bracket and that token are what was taken since the bracket's place
+-- the bracket and that token are what was taken since the bracket's position
 whole : (w : In_ok-keep_spot) → w.loop-first.bracket.place.rest.now ≡ (w.loop-first.bracket.raw.now ++ (token_of w.in-Some.first).raw) ++ w.keep_spot.new.self.rest.now
 whole w =
     let bracket = w.loop-first.bracket.raw.now in

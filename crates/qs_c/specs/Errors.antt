@@ -15,6 +15,7 @@ kind_of (e.Io cause) = OutOfMemory
 kind_of e.OutOfMemory = OutOfMemory
 kind_of _ = Mismatch
 
+-- the position of a syntax error, and 0 for any other
 abbrev pub position_of : Error → ℕ
 position_of (e.Parse message position) = position
 position_of _ = 0

@@ -6,6 +6,7 @@ pub data Found (A : Type 0) : Type 0 where
   found : A → (rest : List ℕ) → Found A
   fault : (reason rest : List ℕ) → Found A
 
+-- from the front of a text
 abbrev pub Parser : Type 0 → Type 0
 Parser A = List ℕ → Found A
 
@@ -14,7 +15,7 @@ unfoldable pub and_then : {A B : Type 0} → Found A → (A → List ℕ → Fou
 and_then (found a rest) f = f a rest
 and_then (fault reason rest) f = fault reason rest
 
--- the same, seen by f
+-- the same, with `f` of what it is
 unfoldable pub seen : {A B : Type 0} → (A → B) → Found A → Found B
 seen f (found a rest) = found (f a) rest
 seen f (fault reason rest) = fault reason rest

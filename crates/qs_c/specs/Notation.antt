@@ -14,6 +14,7 @@ is_blank b = b == 32 || b == 9 || b == 10 || b == 13
 abbrev pub is_of_word : ℕ → Bool
 is_of_word b = is_between 97 122 b || is_between 65 90 b || is_between 48 57 b || b == 95 || b == 45 || nat_le 128 b
 
+-- any byte but `"`
 abbrev pub is_no_quote : ℕ → Bool
 is_no_quote b = not (b == 34)
 
@@ -23,11 +24,12 @@ trimmed t = drop (prefix_len is_blank t) t
 
 -- Blanks are free after each sign, word and name, and in front of the whole.
 
--- the sign comes next, and what follows it
+-- the sign comes next
 abbrev pub comes : ℕ → List ℕ → Bool
 comes sign [] = false
 comes sign (b ∷ bs) = b == sign
 
+-- what follows a sign
 abbrev pub after_sign : List ℕ → List ℕ
 after_sign t = trimmed (drop 1 t)
 
@@ -35,10 +37,11 @@ after_sign t = trimmed (drop 1 t)
 abbrev pub wanted : ℕ → List ℕ → Parser (Unit {0})
 wanted sign reason t = cond (comes sign t) (found tt (after_sign t)) (fault reason t)
 
--- the word that comes next, which may be empty, and what follows it
+-- the word that comes next, which may be empty
 unfoldable pub word : List ℕ → List ℕ
 word t = take (prefix_len is_of_word t) t
 
+-- what follows that word
 unfoldable pub after_word : List ℕ → List ℕ
 after_word t = trimmed (drop (prefix_len is_of_word t) t)
 
@@ -52,10 +55,12 @@ quoted t =
     let n = prefix_len is_no_quote t in
     and_then (wanted 34 (codes "a name has no closing quote") (drop n t)) (λ u rest. name_of (decoded (take n t)) rest)
 
+-- no byte is left
 abbrev pub is_empty : List ℕ → Bool
 is_empty [] = true
 is_empty (b ∷ bs) = false
 
+-- a word as a name
 abbrev pub word_name : Parser (List ℕ)
 word_name t = cond (is_empty (word t)) (fault (codes "a name is wanted") (after_word t)) (name_of (word t) (after_word t))
 
@@ -105,6 +110,7 @@ abbrev pub there : {A : Type 0} → List ℕ → List ℕ → Option A → Found
 there reason t (Some a) = found a t
 there reason t None = fault reason t
 
+-- a bracket that has to come next
 abbrev pub open_wanted : Parser (Unit {0})
 open_wanted t = wanted 40 (codes "`(` is wanted") t
 
@@ -128,10 +134,11 @@ key t =
 
 -- What follows has a parser for the shapes within.
 
--- a field: its name, `?` if it may be left out, `:` and its shape
+-- what follows a `?`, if there is one
 abbrev pub optional_mark : List ℕ → List ℕ
 optional_mark t = cond (comes 63 t) (after_sign t) t
 
+-- a field: its name, `?` if it may be left out, `:` and its shape
 unfoldable pub field : Parser Shape → Parser Field
 field inner t =
     and_then (name t) (λ n rest. and_then (wanted 58 (codes "`:` is wanted") (optional_mark rest)) (λ u value. seen (λ s. (n, s, comes 63 rest)) (inner value)))
@@ -158,6 +165,7 @@ kind inner t =
     (cond (bytes_eq (word t) (codes "strict")) (and_then (brace_wanted (after_word t)) (λ u rest. seen (λ fs. struct_kind UnknownKeys.rejected (fields_of fs)) (fields inner rest)))
     (cond (comes 40 t) (held inner (after_sign t)) (found unit_kind t)))
 
+-- a variant: its name, and what it holds
 unfoldable pub variant : Parser Shape → Parser Variant
 variant inner t = and_then (name t) (λ n rest. seen (λ k. (n, k)) (kind inner rest))
 
@@ -165,14 +173,16 @@ variant inner t = and_then (name t) (λ n rest. seen (λ k. (n, k)) (kind inner 
 unfoldable pub variants : Parser Shape → Parser (List Variant)
 variants inner t = list_of (variant inner) 41 comma_or_parenthesis t
 
+-- a list, after the bracket that opens it
 unfoldable pub list : Parser Shape → Parser Shape
 list inner t = and_then (inner t) (λ s rest. and_then (wanted 93 (codes "`]` is wanted") rest) (λ u rest. found (Shape.sequence s) rest))
 
+-- a newtype's value in parentheses
 unfoldable pub newtype : Parser Shape → Parser Shape
 newtype inner t =
     and_then (open_wanted t) (λ u rest. and_then (inner rest) (λ s rest. and_then (wanted 41 (codes "`)` is wanted") rest) (λ u rest. found (Shape.newtype s) rest)))
 
--- the key and the value of a map
+-- the key and the value of a map, in parentheses
 unfoldable pub map : Parser Shape → Parser Shape
 map inner t =
     and_then (open_wanted t) (λ u rest. and_then (key rest) (λ k rest. and_then (wanted 44 (codes "`,` is wanted") rest)
@@ -200,6 +210,7 @@ unfoldable pub options : ℕ → Shape → Parser Shape
 options zero s t = found s t
 options (suc n) s t = cond (comes 63 t) (options n (Shape.option s) (after_sign t)) (found s t)
 
+-- no level is left
 abbrev pub too_deep : Parser Shape
 too_deep t = fault (codes "the shape nests more than 32 levels") t
 

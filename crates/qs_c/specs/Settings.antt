@@ -11,10 +11,12 @@ most_levels = 100
 abbrev pub format_of : ℕ → ArrayFormat
 format_of n = cond (n == 0) indexed (cond (n == 1) empty_indexed unindexed)
 
+-- several values are rejected, or the last one is taken
 abbrev pub duplicates_of : Bool → Duplicates
 duplicates_of true = reject
 duplicates_of false = take_last
 
+-- the configuration of the settings
 abbrev pub config_of : Settings → Config
 config_of s = record {
   max_depth = s.max_depth;

@@ -10,6 +10,7 @@ use Rattle.json.specs.Print.{print}
 use Rattle.json.specs.Token.{Token}
 use Rattle.json.specs.Tree.{json_tokens}
 
+-- bytes as numbers
 abbrev pub byte_items : List ℕ → Items
 byte_items [] = no_items
 byte_items (b ∷ bs) = item (number (decimal b)) (byte_items bs)
@@ -28,6 +29,7 @@ key_of _ = []
 abbrev pub alone : List ℕ → Json → Json
 alone name j = object (member name j no_members)
 
+-- data as JSON, and their parts as items and members
 abbrev mutual
   pub json_of : d.Data → Json
   json_of d.unit = null
@@ -61,12 +63,13 @@ abbrev mutual
   json_members d.no_members = no_members
   json_members (d.one_member name x ms) = member name (json_of x) (json_members ms)
 
+-- the tokens of an array, and of an object
 abbrev pub array_tokens : Items → List Token
 array_tokens js = json_tokens (array js)
 
 abbrev pub object_tokens : Members → List Token
 object_tokens ms = json_tokens (object ms)
 
--- without blanks
+-- the text of data, without blanks
 abbrev pub json_text : d.Data → List ℕ
 json_text x = print (json_tokens (json_of x))

@@ -52,7 +52,7 @@ impl Settings {
         )
     }
 
-    // Returns the array format of its number.
+    // Returns the array format that the number says.
     fn elements(&self, alloc: Global) -> Result<ArrayFormat, Failure>
         ensures format { IfOk result (λ format. array_format_of format ≡ format_of self.now.array_format) }
         ensures sound { IfOk result (λ format. 2 < self.now.array_format → ⊥) }
@@ -71,7 +71,7 @@ impl Settings {
         }
     }
 
-    // Returns what repeated keys are.
+    // Returns what happens to repeated values where one value is read.
     fn duplicates(&self) -> DuplicateKeyBehavior
         ensures { behavior_of result ≡ duplicates_of self.now.reject_duplicates }
     {

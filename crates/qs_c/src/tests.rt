@@ -27,7 +27,7 @@ fn front(bytes: &[u8], len: usize) -> &[u8] {
     }
 }
 
-// Stops where the call doesn't return this status and, where one is wanted, this text.
+// Asserts that the call returns this status and, where one is wanted, this text.
 fn expect_read<R: Abort>(rt: &R, alloc: Global, shape: &str, input: &str, status: u32, text: &str) {
     let mut out = [0; 128];
     let mut answer = Answer {

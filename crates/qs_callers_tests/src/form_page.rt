@@ -4,7 +4,7 @@ use qs_callers::{FieldError, Order, Query, explained, submitted};
 use std::alloc::Global;
 use std::process::Abort;
 
-// What the page says of a form from which no order is read.
+// Returns what the page says of a form from which no order is read.
 fn rejected<R: Abort>(rt: &R, alloc: Global, form: &[u8]) -> FieldError {
     match submitted::<Order>(alloc, form) {
         Ok(Err(report)) => report,

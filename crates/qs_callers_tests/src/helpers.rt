@@ -11,12 +11,12 @@ use std::alloc::Global;
 use std::collections::BTreeMap;
 use std::process::Abort;
 
-// A text as data.
+// Returns a text as data.
 fn datum<R: Abort>(rt: &R, alloc: Global, written: &str) -> Data {
     Data::Text(text(rt, alloc, written))
 }
 
-// Whether this is the text that is wanted.
+// Returns whether this is the text that is wanted.
 fn is_text(outcome: &Result<Data>, wanted: &str) -> bool {
     match outcome {
         Ok(Data::Text(text)) => text.as_str() == wanted,
@@ -24,7 +24,7 @@ fn is_text(outcome: &Result<Data>, wanted: &str) -> bool {
     }
 }
 
-// What an item is printed as, and that it is parsed again.
+// Asserts that an item is printed as this text, and that the text is parsed as that item.
 fn comes_back<R: Abort, T: Item + PartialEq + Drop>(rt: &R, alloc: Global, item: &T, wanted: &str) {
     let mut out = text(rt, alloc, "x");
     item.print(&mut out).expect(rt, "memory");

@@ -34,7 +34,7 @@ fn by_its_parts(rt: HostRuntime) {
     assert!(rt; Shape::Option(Box::new(alloc, Shape::U8).expect(&rt, "memory")).is_option());
 }
 
-/// The second of `ids`.
+// Returns the second of `ids`.
 fn second_id(reader: Reader, tree: &ParsedValue<'_>) -> Result<Option<Data>> {
     let ParsedValue::Map(map) = tree else {
         return Ok(None);
@@ -160,7 +160,7 @@ fn errors(rt: HostRuntime) {
     assert!(rt; is_not_utf8(alloc, &tree));
 }
 
-/// The first key that isn't UTF-8 is reported.
+// Returns whether a map with a key that isn't UTF-8 gives the error that says so.
 fn is_not_utf8(alloc: Global, tree: &ParsedValue<'_>) -> bool {
     let ParsedValue::Map(map) = tree else {
         return false;

@@ -46,7 +46,7 @@ fn a_posted_form(rt: HostRuntime) {
     comes_back(&rt, alloc, &order);
 }
 
-// A link with two parameters, each under its name, in this order or the other.
+// Returns a link with two parameters, each under its name, in this order or the other.
 fn link(alloc: Global, is_page_first: bool) -> Result<String> {
     let link = Link::to(alloc, "/found")?;
     let words = String::from_str(alloc, "red & blue")?;
@@ -77,7 +77,7 @@ fn a_link(rt: HostRuntime) {
     }
 }
 
-// The server reads what the client wrote, and the value is written as before.
+// Asserts that the server reads what the client wrote, and the value is written as before.
 fn is_served<R: Abort>(rt: &R, alloc: Global, query: &Query, wanted: &str) {
     let sent = target(alloc, "/users", query).expect(rt, wanted);
     assert!(rt; sent.as_str() == wanted, "{sent}");

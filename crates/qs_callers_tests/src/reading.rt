@@ -11,7 +11,7 @@ use std::process::Abort;
 
 const TEXT: &str = "name=Alice&age=24&occupation=Student";
 
-// Whether the query is that of the text.
+// Returns whether the query is that of the text.
 fn is_alice(query: &Query) -> bool {
     query.name.as_str() == "Alice" && query.age == 24 && query.occupation.as_str() == "Student"
 }

@@ -7,7 +7,7 @@ use std::alloc::Global;
 use std::collections::BTreeMap;
 use std::process::Abort;
 
-/// The value comes back from what is written of it, in both modes.
+/// Asserts that the value comes back from what is written of it, in both modes.
 pub(crate) fn comes_back<R: Abort, T: RoundTrip + PartialEq + Drop>(
     rt: &R,
     alloc: Global,
@@ -17,7 +17,7 @@ pub(crate) fn comes_back<R: Abort, T: RoundTrip + PartialEq + Drop>(
     comes_back_by(rt, alloc, Config::new().use_form_encoding(true), value);
 }
 
-// The value comes back from what this configuration writes of it.
+// Asserts that the value comes back from what this configuration writes of it.
 fn comes_back_by<R: Abort, T: RoundTrip + PartialEq + Drop>(
     rt: &R,
     alloc: Global,

@@ -5,17 +5,17 @@ use std::alloc::Global;
 use std::collections::BTreeMap;
 use std::process::Abort;
 
-/// The string, in memory of its own.
+/// Returns the string, in memory of its own.
 pub fn text<R: Abort>(rt: &R, alloc: Global, text: &str) -> String {
     String::from_str(alloc, text).expect(rt, "memory")
 }
 
-/// The list of these.
+/// Returns the list of these.
 pub fn list<R: Abort, T: Drop, const N: usize>(rt: &R, alloc: Global, items: [T; N]) -> Vec<T> {
     Vec::from_array(alloc, items).expect(rt, "memory")
 }
 
-/// The map with one more entry.
+/// Returns the map with one more entry.
 pub fn with<R: Abort, T: Drop>(
     rt: &R,
     alloc: Global,
@@ -28,12 +28,12 @@ pub fn with<R: Abort, T: Drop>(
     map
 }
 
-/// The map with one entry.
+/// Returns the map with one entry.
 pub fn one<R: Abort, T: Drop>(rt: &R, alloc: Global, key: &str, value: T) -> BTreeMap<String, T> {
     with(rt, alloc, BTreeMap::new(alloc), key, value)
 }
 
-/// The message of a `Custom`.
+/// Returns the message of a `Custom`.
 pub fn is_custom<T>(outcome: &Result<T>, wanted: &str) -> bool {
     match outcome {
         Err(Error::Custom(message)) => message.as_str() == wanted,

@@ -1,4 +1,4 @@
--- The items of a node, place by place.
+-- The items of a node, index by index.
 use Rattle.std.proofs.Common.{◌≡◌, ℕ, Bool, cond, List, map, drop, slice_get, Option, Some, None, sym, ap, ◌∙◌}
 use Rattle.std.specs.Borrow.{Bor}
 use Rattle.std.specs.Slice.{IsItemAt}

@@ -19,6 +19,7 @@ abbrev pub first_there : List (Option Tree) → Option Tree
 first_there [] = None
 first_there (x ∷ xs) = x
 
+-- an item, or what stands for a missing one
 abbrev pub or_missing : Option Tree → Tree
 or_missing None = uninitialized
 or_missing (Some n) = n
@@ -42,10 +43,12 @@ name_child name s optional [] = cond (optional || is_option s) [] ((Str name, s,
 name_child name s optional (n ∷ []) = (Str name, s, n) ∷ []
 name_child name s optional (n ∷ o ∷ ns) = []
 
+-- the fields of a struct, among the keys of a map
 abbrev pub name_children : Fields → Entries → List Child
 name_children no_fields es = []
 name_children (one_field name s optional fs) es = name_child name s optional (found name es) ++ name_children fs es
 
+-- the same of a node: one without a value has no keys
 abbrev pub struct_children : Fields → Tree → List Child
 struct_children fs (leaf NoValue) = name_children fs no_entries
 struct_children fs (leaf Null) = name_children fs no_entries
@@ -59,11 +62,13 @@ abbrev pub pair_children : Shape → Entries → List Child
 pair_children s no_entries = []
 pair_children s (entry key mark n es) = (key, s, n) ∷ pair_children s es
 
+-- the same of a node: a text is the value of the empty key
 abbrev pub map_children : Shape → Tree → List Child
 map_children s (leaf (Text bytes mark)) = pair_children s (under_empty (leaf (Text bytes mark)))
 map_children s (mapping es) = pair_children s es
 map_children s _ = []
 
+-- the node is a text
 abbrev pub is_text_leaf : Tree → Bool
 is_text_leaf (leaf (Text bytes mark)) = true
 is_text_leaf _ = false
@@ -79,6 +84,7 @@ held_children key (newtype_kind s) n = (key, s, n) ∷ []
 held_children key (tuple_kind ss) n = (key, Shape.tuple ss, n) ∷ []
 held_children key (struct_kind u fs) n = held_fields key u fs n
 
+-- what a variant holds, if a variant has the name
 abbrev pub named_children : Segment → Option Variant → Tree → List Child
 named_children key None n = []
 named_children key (Some v) n = held_children key v.1 n
@@ -88,10 +94,12 @@ abbrev pub enum_children : Variants → Tree → List Child
 enum_children vs (mapping (entry key mark n es)) = named_children key (variant_named (segment_text key) vs) n
 enum_children vs _ = []
 
+-- the children of the items of a node, if it has a list of them
 abbrev pub listed : (List (Option Tree) → List Child) → Option (List (Option Tree)) → List Child
 listed children None = []
 listed children (Some xs) = children xs
 
+-- what stands below a node that is read by a shape
 abbrev pub children : Shape → Tree → List Child
 children (Shape.sequence s) n = listed (item_children 0 s) (items n)
 children (Shape.tuple ss) n = listed (tuple_children 0 ss) (items n)

@@ -21,6 +21,7 @@ use Rattle.qs_explain.specs.Expected.{expected_of, Stands}
 use Rattle.qs_explain.specs.Unexpected.{unexpected_key}
 use Rattle.qs_explain.specs.Parts.{ReadsSome, Part, IsPathTo}
 
+-- the segments of a path, as those of a tree
 abbrev pub segment_of : Segment → segments.Segment
 segment_of (Index i) = segments.Segment.Int i
 segment_of (Key bytes) = segments.Segment.Str bytes.items
@@ -35,6 +36,7 @@ Says None expected n (UnexpectedKey k) = ⊥
 Says (Some key) expected n (Unfit e found) = ⊥
 Says (Some key) expected n (UnexpectedKey k) = segment_of k ≡ key
 
+-- the problem is the one of this shape and this node
 abbrev pub IsProblem : Problem → Shape → Tree → Type 0
 IsProblem p s n = Says (unexpected_key s n) (expected_of s) n p
 

@@ -22,7 +22,7 @@ begins_after Last Ampersand = true
 begins_after Value Ampersand = true
 begins_after _ _ = false
 
--- the place after an opening bracket, if so many brackets may follow; else this
+-- the place after an opening bracket: in it, if there is room for another level, or else `full`
 abbrev pub opened : ℕ → Place → Place
 opened room full = if room == 0 then full else Inside (room - 1)
 

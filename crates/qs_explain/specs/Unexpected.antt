@@ -19,9 +19,11 @@ first_other test (entry key mark n es) = cond (test (segment_text key)) (first_o
 abbrev pub is_allowed : UnknownKeys → Fields → List ℕ → Bool
 is_allowed u fs name = is_utf8 name && (is_field_name name fs || are_ignored u)
 
+-- the key shape reads the text of the key
 abbrev pub is_key : KeyShape → List ℕ → Bool
 is_key k name = is_some (key_data k name)
 
+-- the key names a variant
 abbrev pub is_variant : Variants → List ℕ → Bool
 is_variant vs name = is_some (variant_named name vs)
 
@@ -30,6 +32,7 @@ abbrev pub first_entry : Entries → Entries
 first_entry no_entries = no_entries
 first_entry (entry key mark n es) = entry key mark n no_entries
 
+-- the first key that the shape doesn't allow: among entries, and of a node
 abbrev pub unexpected_among : Shape → Entries → Option Segment
 unexpected_among (Shape.mapping k s) es = first_other (is_key k) es
 unexpected_among (Shape.struct u fs) es = first_other (is_allowed u fs) es

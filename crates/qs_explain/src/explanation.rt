@@ -13,6 +13,14 @@ use std::fmt;
 use std::fmt::Write;
 
 /// Why an input isn't read.
+///
+/// ```
+/// match explain(alloc, Config::new(), &shape, input)? {
+///     Some(Explanation::Mismatch(mismatch)) => show(&mismatch.path, &mismatch.problem),
+///     Some(Explanation::Syntax(error)) => show_error(&error),
+///     None => accept(),
+/// }
+/// ```
 #[derive(Debug, Drop)]
 pub enum Explanation {
     /// It has no tree, by this error, which is [`Parse`](Error::Parse).
@@ -22,6 +30,10 @@ pub enum Explanation {
 }
 
 /// A part of a tree that its shape doesn't read.
+///
+/// ```
+/// let line = mismatch.to_string(alloc)?; // user[age]: expected u8, found the text "x"
+/// ```
 #[derive(Debug, Drop)]
 pub struct Mismatch {
     /// The path to the part: the segments of a key that leads to it. It is empty where the whole isn't read.
@@ -31,6 +43,10 @@ pub struct Mismatch {
 }
 
 /// What is wrong with a part.
+///
+/// ```
+/// let message = mismatch.problem.to_string(alloc)?; // expected u8, found the text "x"
+/// ```
 #[derive(Debug, Drop)]
 pub enum Problem {
     /// This is expected, and that stands there.

@@ -34,7 +34,7 @@ pub(crate) fn find_in_struct(
     }
 }
 
-// Finds it among the keys of a map, or among none.
+// Finds the first of these fields that is missing or whose value isn't read, among the keys of a map, or among none.
 #[cycle(walk)]
 fn find_in_fields(
     alloc: Global,

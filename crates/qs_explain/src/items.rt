@@ -31,7 +31,7 @@ pub(crate) fn find_in_list(
     }
 }
 
-// Finds it among so many items.
+// Finds the first of so many items that is missing or isn't read.
 #[cycle(walk)]
 fn find_in_items(
     alloc: Global,
@@ -67,7 +67,7 @@ pub(crate) fn find_in_tuple(
     }
 }
 
-// Finds it in a list.
+// Finds the first part of a tuple that is missing or isn't read, among the items of a node.
 #[cycle(walk)]
 fn find_in_parts(
     alloc: Global,
@@ -132,7 +132,7 @@ fn item_at<'t, 'qs>(node: &'t ParsedValue<'qs>, index: usize) -> Option<&'t Pars
     }
 }
 
-// Returns the value under an integer key, which stands at that index among the keys.
+// Returns the value at an index of a map, if its key is that index.
 fn value_at<'t, 'qs>(map: &'t ParsedMap<'qs>, index: usize) -> Option<&'t ParsedValue<'qs>>
     ensures { node_of result ≡ first_there (drop index (placed 0 (entries_of_map map.now))) }
 {
@@ -146,7 +146,7 @@ fn value_at<'t, 'qs>(map: &'t ParsedMap<'qs>, index: usize) -> Option<&'t Parsed
     }
 }
 
-// Returns whether a key is an index, of which there are 4,294,967,295 at most.
+// Returns whether a key is this index. No item has the index 4,294,967,295.
 fn is_index(key: &Key<'_>, index: usize) -> bool
     ensures { result ≡ is_place index (segment_of_key key.now) }
 {

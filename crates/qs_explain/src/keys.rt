@@ -66,7 +66,7 @@ pub(crate) fn find_unknown_key(
     }
 }
 
-// Finds it among the keys of a map.
+// Finds the first key of this map that a shape doesn't allow.
 fn find_among_keys(
     alloc: Global,
     config: Config,

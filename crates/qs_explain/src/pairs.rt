@@ -32,7 +32,7 @@ pub(crate) fn find_in_map(
     }
 }
 
-// Finds it among the pairs of a map.
+// Finds the first value of this map that isn't read, in the order of its keys.
 #[cycle(walk)]
 fn find_in_pairs(
     alloc: Global,

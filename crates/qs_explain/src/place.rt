@@ -113,7 +113,7 @@ fn next_place(max_depth: usize, place: Place, kind: Kind) -> Place
     }
 }
 
-// Returns where the byte after an opening bracket stands, if so many brackets may follow; else this.
+// Returns where the byte after an opening bracket stands: in it, if there is room for another level, or else `full`.
 fn opened(room: usize, full: Place) -> Place
     ensures { result ≡ opened room full }
 {

@@ -101,7 +101,7 @@ fn find_inside(
     }
 }
 
-// Finds it inside an option.
+// Finds the first part that isn't read inside an option.
 #[cycle(walk)]
 #[tactic(auto, using(crate::proofs::Parts::parts))]
 fn find_in_option(

@@ -17,7 +17,7 @@ use Rattle.qs_spec.specs.Relation.{Reads, ReadsEach, ReadsPairs}
 use Rattle.qs_spec.proofs.SomeAnswers.{mapped, chained, guarded}
 use Rattle.qs_spec.proofs.DataReadIsRelated.{text_related}
 
--- a map by what is related of its places and pairs
+-- a map by what is related of its items and of its pairs
 any_map_related : (st : Bool) (es : Entries) (d : Data) → ((ds : Values) → any_places 0 es ≡ Some ds → ReadsEach st Shape.any (placed 0 es) ds) → ((ps : Pairs) → any_pairs es ≡ Some ps → ReadsPairs st KeyShape.text Shape.any es ps)
     → (b : Bool) → are_ints es ≡ b → cond b (option_map Data.sequence (any_places 0 es)) (option_map Data.mapping (any_pairs es)) ≡ Some d → Reads st Shape.any (mapping es) d
 any_map_related st es d places pairs true i e =

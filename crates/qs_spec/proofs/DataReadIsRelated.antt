@@ -150,7 +150,7 @@ place_related st name s optional fs (item t xs) o ms h e more =
     let m = mapped Some (reads st s t) o e in
     subst (λ (o : Option Data). ReadsPlaces st (one_field name s optional fs) (item t xs) (with_member name o ms)) m.2 (ReadsPlaces.place_found (h t m.0 m.1) more)
 
--- the fields of a node, by what is related of names and places
+-- the fields of a node, by what is related of their names and of their indices
 pub struct_related : (st : Bool) (u : UnknownKeys) (fs : Fields) (n : Tree) (ms : List Named) → ((es : Entries) (ms : List Named) → reads_names st fs es ≡ Some ms → ReadsNames st fs es (members_of ms))
     → ((xs : Items) (ms : List Named) → reads_places st fs xs ≡ Some ms → ReadsPlaces st fs xs (members_of ms)) → struct_members (keys_are_allowed u fs) (reads_names st fs) (reads_places st fs) n ≡ Some ms → ReadsStruct st u fs n (members_of ms)
 unfolding struct_members

@@ -2,7 +2,7 @@
 use Rattle.std.proofs.Common.{◌≡◌, ℕ, Option, Some, None, ◌<◌, Bool, true, false, cond, not, ◌&&◌, ◌||◌, ◌==◌, List, [], ◌∷◌, ◌++◌, map, refl, sym, ap, ap₂, ◌∙◌, subst, append_assoc}
 use Rattle.std.specs.List.{list_all, AllByRecursion}
 use Rattle.std.proofs.lemmas.Bool.{agree_below_at}
-use Rattle.qs_spec.specs.Escape.{spelling, encoded}
+use Rattle.qs_spec.specs.Escape.{encoded_byte, encoded}
 use Rattle.qs_spec.specs.Leaf.{value_leaf}
 use Rattle.qs_spec.specs.Token.{tokens, byte_token, is_escaped_bracket, Token, Kind, byte_kind, raw_of, is_bracket}
 use Rattle.qs_spec.specs.Token.Kind.{Other}
@@ -43,14 +43,14 @@ is_fine form b (x ∷ []) = not (x == 37)
 is_fine form b (x ∷ y ∷ z ∷ []) = x == 37 && not (y == 37) && not (z == 37) && ((form && (b == 91 || b == 93)) || not (form && is_escaped_bracket x y z))
 is_fine form b _ = false
 
-fine : (form : Bool) (b : ℕ) → b < 256 → is_fine form b (spelling form b) ≡ true
-fine true b l = agree_below_at (λ b. is_fine true b (spelling true b)) (λ b. true) 256 b refl l
-fine false b l = agree_below_at (λ b. is_fine false b (spelling false b)) (λ b. true) 256 b refl l
+fine : (form : Bool) (b : ℕ) → b < 256 → is_fine form b (encoded_byte form b) ≡ true
+fine true b l = agree_below_at (λ b. is_fine true b (encoded_byte true b)) (λ b. true) 256 b refl l
+fine false b l = agree_below_at (λ b. is_fine false b (encoded_byte false b)) (λ b. true) 256 b refl l
 
 -- of each byte: no byte of its encoding is `&`, `=`, `[` or `]`
-other_kinds : (form : Bool) (b : ℕ) → b < 256 → list_all (λ x. is_other (byte_kind x)) (spelling form b) ≡ true
-other_kinds true b l = agree_below_at (λ b. list_all (λ x. is_other (byte_kind x)) (spelling true b)) (λ b. true) 256 b refl l
-other_kinds false b l = agree_below_at (λ b. list_all (λ x. is_other (byte_kind x)) (spelling false b)) (λ b. true) 256 b refl l
+other_kinds : (form : Bool) (b : ℕ) → b < 256 → list_all (λ x. is_other (byte_kind x)) (encoded_byte form b) ≡ true
+other_kinds true b l = agree_below_at (λ b. list_all (λ x. is_other (byte_kind x)) (encoded_byte true b)) (λ b. true) 256 b refl l
+other_kinds false b l = agree_below_at (λ b. list_all (λ x. is_other (byte_kind x)) (encoded_byte false b)) (λ b. true) 256 b refl l
 
 abbrev pub suits : Bool → Kind → Bool
 suits true k = is_other k
@@ -138,7 +138,7 @@ IsClear no_brackets form s = AllByRecursion (λ b. (no_brackets && (form && is_b
 pub encoded_tokens : (no_brackets form : Bool) (s rest : List ℕ) → AreBytes s → IsClear no_brackets form s → Tokens no_brackets form (encoded form s) rest
 encoded_tokens no_brackets form [] rest l n = record { toks = []; suit = refl; raw = refl; whole = refl }
 encoded_tokens no_brackets form (b ∷ s) rest l n =
-    joined no_brackets form (spelling form b) (encoded form s) rest (tokens_of no_brackets form b (spelling form b) (encoded form s ++ rest) (fine form b l.0) (other_kinds form b l.0) n.0) (encoded_tokens no_brackets form s rest l.1 n.1)
+    joined no_brackets form (encoded_byte form b) (encoded form s) rest (tokens_of no_brackets form b (encoded_byte form b) (encoded form s ++ rest) (fine form b l.0) (other_kinds form b l.0) n.0) (encoded_tokens no_brackets form s rest l.1 n.1)
 
 abbrev pub open_token : Bool → Token
 open_token form = record { kind = Kind.Open; raw = open_bytes form }
@@ -202,5 +202,5 @@ segment_tokens form (b ∷ s) rest h = by (t.toks) t.suit t.raw t.whole
     some_of (x ∷ xs) ys f e = cc
 
     by : (toks : List Token) → list_all (λ t. is_other t.kind) toks ≡ true → raw_of toks ≡ encoded form (b ∷ s) → tokens form (encoded form (b ∷ s) ++ rest) ≡ toks ++ tokens form rest → SegmentTokens form (b ∷ s) rest
-    by [] u r w = absurd (some_of (spelling form b) (encoded form s) (fine form b h.0.0) r)
+    by [] u r w = absurd (some_of (encoded_byte form b) (encoded form s) (fine form b h.0.0) r)
     by (first ∷ more) u r w = record { first = first; more = more; run = u; raw = r; whole = w }

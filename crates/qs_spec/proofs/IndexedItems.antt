@@ -14,7 +14,7 @@ use Rattle.qs_spec.specs.internal.Parts.{value_branches}
 use Rattle.qs_spec.proofs.Branches.{seg, keys}
 
 module _ (fm : ArrayFormat) (form : Bool) where
-  -- the keys of places
+  -- the keys of indices
   abbrev ints : ℕ → Values → List Segment
   ints i no_values = []
   ints i (one_value d ds) = Int i ∷ ints (i + 1) ds

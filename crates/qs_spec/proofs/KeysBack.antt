@@ -6,7 +6,7 @@ use Rattle.std.specs.Fmt.{decimal}
 use Rattle.std.proofs.lemmas.Bool.{agree_below_at}
 use Rattle.std.proofs.lemmas.Bool.Decides.{nat_tests}
 use Rattle.std.proofs.lemmas.List.Folds.{list_all-append}
-use Rattle.qs_spec.specs.Escape.{is_between, spelling, encoded, decoded, is_marked}
+use Rattle.qs_spec.specs.Escape.{is_between, encoded_byte, encoded, decoded, is_marked}
 use Rattle.qs_spec.specs.Segment.{number, is_index, segment_of, segment_text}
 use Rattle.qs_spec.specs.Segment.Segment.{Int, Str}
 use Rattle.qs_spec.specs.Leaf.{value_leaf, leaf_text}
@@ -25,24 +25,24 @@ abbrev AreBytes : List ℕ → Type 0
 AreBytes s = AllByRecursion (λ b. b < 256) s
 
 -- of each byte: its encoding is digits where it is one
-byte_digits_encoded : (form : Bool) (b : ℕ) → b < 256 → list_all is_digit_byte (spelling form b) ≡ is_digit_byte b
-byte_digits_encoded true b l = agree_below_at (λ b. list_all is_digit_byte (spelling true b)) is_digit_byte 256 b refl l
-byte_digits_encoded false b l = agree_below_at (λ b. list_all is_digit_byte (spelling false b)) is_digit_byte 256 b refl l
+byte_digits_encoded : (form : Bool) (b : ℕ) → b < 256 → list_all is_digit_byte (encoded_byte form b) ≡ is_digit_byte b
+byte_digits_encoded true b l = agree_below_at (λ b. list_all is_digit_byte (encoded_byte true b)) is_digit_byte 256 b refl l
+byte_digits_encoded false b l = agree_below_at (λ b. list_all is_digit_byte (encoded_byte false b)) is_digit_byte 256 b refl l
 
 -- of each byte: a digit is encoded as itself
 abbrev is_itself : Bool → ℕ → Bool
-is_itself form b = not (is_digit_byte b) || bytes_eq (spelling form b) (b ∷ [])
+is_itself form b = not (is_digit_byte b) || bytes_eq (encoded_byte form b) (b ∷ [])
 
 itself : (form : Bool) (b : ℕ) → b < 256 → is_itself form b ≡ true
 itself true b l = agree_below_at (is_itself true) (λ b. true) 256 b refl l
 itself false b l = agree_below_at (is_itself false) (λ b. true) 256 b refl l
 
-digit_kept : (form : Bool) (b : ℕ) → b < 256 → is_digit_byte b ≡ true → spelling form b ≡ b ∷ []
-digit_kept form b l e = bytes_equal (spelling form b) (b ∷ []) (sym (ap (λ x. not x || bytes_eq (spelling form b) (b ∷ [])) e) ∙ itself form b l)
+digit_kept : (form : Bool) (b : ℕ) → b < 256 → is_digit_byte b ≡ true → encoded_byte form b ≡ b ∷ []
+digit_kept form b l e = bytes_equal (encoded_byte form b) (b ∷ []) (sym (ap (λ x. not x || bytes_eq (encoded_byte form b) (b ∷ [])) e) ∙ itself form b l)
 
 digits_encoded : (form : Bool) (s : List ℕ) → AreBytes s → list_all is_digit_byte (encoded form s) ≡ list_all is_digit_byte s
 digits_encoded form [] l = refl
-digits_encoded form (b ∷ s) l = list_all-append is_digit_byte (spelling form b) (encoded form s) ∙ ap₂ (λ x y. x && y) (byte_digits_encoded form b l.0) (digits_encoded form s l.1)
+digits_encoded form (b ∷ s) l = list_all-append is_digit_byte (encoded_byte form b) (encoded form s) ∙ ap₂ (λ x y. x && y) (byte_digits_encoded form b l.0) (digits_encoded form s l.1)
 
 -- digits are written as themselves
 pub encoded_digits : (form : Bool) (s : List ℕ) → AreBytes s → AreDigits s → encoded form s ≡ s
@@ -113,9 +113,9 @@ place_back form n l =
     segment_back form (decimal n) (bytes_of_digits (decimal n) (digits_of_index (decimal n) i)) ∙ ap (λ b. cond b (Int (number (decimal n))) (Str (decimal n))) i ∙ ap Int m
 
 -- of each byte: its encoding begins with a byte
-byte_encoded_some : (form : Bool) (b : ℕ) → b < 256 → bytes_eq (spelling form b) [] ≡ false
-byte_encoded_some true b l = agree_below_at (λ b. bytes_eq (spelling true b) []) (λ b. false) 256 b refl l
-byte_encoded_some false b l = agree_below_at (λ b. bytes_eq (spelling false b) []) (λ b. false) 256 b refl l
+byte_encoded_some : (form : Bool) (b : ℕ) → b < 256 → bytes_eq (encoded_byte form b) [] ≡ false
+byte_encoded_some true b l = agree_below_at (λ b. bytes_eq (encoded_byte true b) []) (λ b. false) 256 b refl l
+byte_encoded_some false b l = agree_below_at (λ b. bytes_eq (encoded_byte false b) []) (λ b. false) 256 b refl l
 
 some_leaf : (raw rest : List ℕ) → bytes_eq raw [] ≡ false → value_leaf (raw ++ rest) ≡ Text (decoded (raw ++ rest)) (is_marked (raw ++ rest))
 some_leaf [] rest e = cc
@@ -123,7 +123,7 @@ some_leaf (b ∷ raw) rest e = refl
 
 -- bytes that are a value are read as themselves
 pub leaf_back : (form : Bool) (b : ℕ) (s : List ℕ) → AreBytes (b ∷ s) → value_leaf (encoded form (b ∷ s)) ≡ Text (b ∷ s) (is_marked (encoded form (b ∷ s)))
-leaf_back form b s l = some_leaf (spelling form b) (encoded form s) (byte_encoded_some form b l.0) ∙ ap (λ t. Text t (is_marked (encoded form (b ∷ s)))) (decoded-encoded form (b ∷ s) l)
+leaf_back form b s l = some_leaf (encoded_byte form b) (encoded form s) (byte_encoded_some form b l.0) ∙ ap (λ t. Text t (is_marked (encoded form (b ∷ s)))) (decoded-encoded form (b ∷ s) l)
 
 pub leaf_text_back : (form : Bool) (s : List ℕ) → AreBytes s → leaf_text (value_leaf (encoded form s)) ≡ s
 leaf_text_back form [] l = refl

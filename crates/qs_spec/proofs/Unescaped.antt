@@ -4,7 +4,7 @@ use Rattle.std.specs.List.{AllByRecursion}
 use Rattle.std.proofs.lemmas.Bool.{agree_below_at}
 use Rattle.std.proofs.lemmas.Bool.Decides.{nat_tests}
 use Rattle.std.specs.Char.{digit_value, is_digit}
-use Rattle.qs_spec.specs.Escape.{spelling, encoded, decoded, unplus}
+use Rattle.qs_spec.specs.Escape.{encoded_byte, encoded, decoded, unplus}
 use Rattle.qs_spec.proofs.Booleans.{and_both, not_of}
 
 -- what was encoded is decoded to itself
@@ -13,9 +13,9 @@ is_back b (x ∷ []) = not (x == 37) && unplus x == b
 is_back b (x ∷ y ∷ z ∷ []) = x == 37 && is_digit y 16 && is_digit z 16 && (16 * digit_value y + digit_value z) == b
 is_back b _ = false
 
-backs : (form : Bool) (b : ℕ) → b < 256 → is_back b (spelling form b) ≡ true
-backs true b l = agree_below_at (λ b. is_back b (spelling true b)) (λ b. true) 256 b refl l
-backs false b l = agree_below_at (λ b. is_back b (spelling false b)) (λ b. true) 256 b refl l
+backs : (form : Bool) (b : ℕ) → b < 256 → is_back b (encoded_byte form b) ≡ true
+backs true b l = agree_below_at (λ b. is_back b (encoded_byte true b)) (λ b. true) 256 b refl l
+backs false b l = agree_below_at (λ b. is_back b (encoded_byte false b)) (λ b. true) 256 b refl l
 
 decoded_plain : (x : ℕ) (rest : List ℕ) → (x == 37) ≡ false → decoded (x ∷ rest) ≡ unplus x ∷ decoded rest
 decoded_plain x [] e = refl
@@ -44,4 +44,4 @@ decoded_one b (x ∷ y ∷ z ∷ w ∷ xs) rest e = cc
 
 pub decoded-encoded : (form : Bool) (s : List ℕ) → AllByRecursion (λ b. b < 256) s → decoded (encoded form s) ≡ s
 decoded-encoded form [] l = refl
-decoded-encoded form (b ∷ s) l = decoded_one b (spelling form b) (encoded form s) (backs form b l.0) ∙ ap (λ r. b ∷ r) (decoded-encoded form s l.1)
+decoded-encoded form (b ∷ s) l = decoded_one b (encoded_byte form b) (encoded form s) (backs form b l.0) ∙ ap (λ r. b ∷ r) (decoded-encoded form s l.1)

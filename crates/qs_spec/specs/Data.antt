@@ -35,6 +35,7 @@ mutual
     no_members : Members
     one_member : (name : List ℕ) → Data → Members → Members
 
+-- lists of data, of pairs and of fields, as data hold them
 abbrev pub values_of : List Data → Values
 values_of [] = no_values
 values_of (d ∷ ds) = one_value d (values_of ds)

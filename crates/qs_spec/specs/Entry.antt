@@ -5,6 +5,7 @@ use Rattle.std.specs.Char.{encode_utf8}
 use Rattle.qs_spec.specs.Config.{Config, ArrayFormat, element_segment}
 use Rattle.qs_spec.specs.Data.{Data, Values, no_values, one_value, Pairs, no_pairs, one_pair, Members, no_members, one_member}
 
+-- the segments that lead to a value, as bytes
 abbrev pub Path : Type 0
 Path = List (List ℕ)
 
@@ -23,6 +24,7 @@ pub record Output : Type 0 where
   pub entries : List Entry
   pub refusal : Option Refusal
 
+-- no entry, an error, and one entry
 abbrev pub nothing : Output
 nothing = record { entries = []; refusal = None }
 
@@ -32,11 +34,12 @@ refused r = record { entries = []; refusal = Some r }
 abbrev pub one : Path → Option (List ℕ) → Output
 one path value = record { entries = record { path = path; value = value } ∷ []; refusal = None }
 
+-- entries and then an output, unless there is an error before it
 abbrev pub follow : List Entry → Option Refusal → Output → Output
 follow es None o = record { entries = es ++ o.entries; refusal = o.refusal }
 follow es (Some r) o = record { entries = es; refusal = Some r }
 
--- one output and then another, unless the first one is rejected
+-- one output and then another, unless the first one has an error
 abbrev pub and_then : Output → Output → Output
 and_then a b = follow a.entries a.refusal b
 
@@ -44,10 +47,12 @@ and_then a b = follow a.entries a.refusal b
 unfoldable pub deeper : ℕ → Path → List ℕ → (Path → Output) → Output
 deeper limit path segment part = cond (nat_lt limit (length path)) (refused too_deep) (part (path ++ segment ∷ []))
 
+-- a part under one more segment, if there is one
 abbrev pub maybe_deeper : ℕ → Path → Option (List ℕ) → (Path → Output) → Output
 maybe_deeper limit path None part = part path
 maybe_deeper limit path (Some segment) part = deeper limit path segment part
 
+-- the word for a boolean
 abbrev pub boolean_text : Bool → List ℕ
 boolean_text true = codes "true"
 boolean_text false = codes "false"

@@ -22,13 +22,13 @@ abbrev pub is_kept_in_query : ℕ → Bool
 is_kept_in_query b = is_between 33 126 b && not (b == 34 || b == 35 || b == 60 || b == 62 || b == 37 || b == 43 || b == 91 || b == 93 || b == 61 || b == 38)
 
 -- one byte encoded, in form mode or in query mode
-abbrev pub spelling : Bool → ℕ → List ℕ
-spelling true b = if is_kept_in_form b then b ∷ [] else escape b
-spelling false b = if is_kept_in_query b then b ∷ [] else (if b == 32 then 43 ∷ [] else escape b)
+abbrev pub encoded_byte : Bool → ℕ → List ℕ
+encoded_byte true b = if is_kept_in_form b then b ∷ [] else escape b
+encoded_byte false b = if is_kept_in_query b then b ∷ [] else (if b == 32 then 43 ∷ [] else escape b)
 
 -- encoded bytes: each byte after the other
 abbrev pub encoded : Bool → List ℕ → List ℕ
-encoded form bytes = flat_map (spelling form) bytes
+encoded form bytes = flat_map (encoded_byte form) bytes
 
 -- `+` is a space
 abbrev pub unplus : ℕ → ℕ

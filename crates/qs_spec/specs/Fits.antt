@@ -18,6 +18,7 @@ fits_signed bits (negsuc n) = nat_lt n (2 ^ (bits - 1)) && nat_lt (n + 1) (2 ^ 6
 abbrev pub is_scalar : ℕ → Bool
 is_scalar c = nat_lt c 55296 || (nat_le 57344 c && nat_lt c 1114112)
 
+-- below 256
 abbrev pub is_byte : ℕ → Bool
 is_byte b = nat_lt b 256
 
@@ -36,10 +37,12 @@ abbrev pub variant_kind : List ℕ → Variants → Option VariantKind
 variant_kind name no_variants = None
 variant_kind name (one_variant n k vs) = if bytes_eq n name then Some k else variant_kind name vs
 
+-- there is a variant, and it holds nothing
 abbrev pub is_unit : Option VariantKind → Bool
 is_unit (Some unit_kind) = true
 is_unit _ = false
 
+-- there is a variant, and it holds what passes a test: a value, the items of a tuple, or fields
 abbrev pub by_newtype : (Shape → Bool) → Option VariantKind → Bool
 by_newtype fits (Some (newtype_kind s)) = fits s
 by_newtype fits _ = false
@@ -52,6 +55,7 @@ abbrev pub by_struct : (Fields → Bool) → Option VariantKind → Bool
 by_struct fits (Some (struct_kind u fs)) = fits fs
 by_struct fits _ = false
 
+-- all fields are optional
 abbrev pub are_optional : Fields → Bool
 are_optional no_fields = true
 are_optional (one_field n s o fs) = o && are_optional fs

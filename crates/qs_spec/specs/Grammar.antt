@@ -13,12 +13,14 @@ pub record Pair : Type 0 where
   pub push : Bool
   pub leaf : Leaf
 
+-- the two kinds of pairs
 abbrev pub direct : List Step → Leaf → Pair
 direct path leaf = record { path = path; push = false; leaf = leaf }
 
 abbrev pub pushed : List Step → Leaf → Pair
 pushed path leaf = record { path = path; push = true; leaf = leaf }
 
+-- which token it is
 abbrev pub is_amp : Kind → Bool
 is_amp Amp = true
 is_amp _ = false
@@ -35,10 +37,11 @@ abbrev pub is_close : Kind → Bool
 is_close Close = true
 is_close _ = false
 
--- what ends the last key; a root key ends at a bracket too, where the depth is above 0
+-- what ends the last key
 abbrev pub ends_last : Kind → Bool
 ends_last k = is_amp k || is_equals k
 
+-- what ends a root key: a bracket too, where the depth limit is above 0
 abbrev pub ends_root : ℕ → Kind → Bool
 ends_root zero k = ends_last k
 ends_root (suc depth) k = ends_last k || is_open k

@@ -5,6 +5,7 @@ use Rattle.qs_spec.specs.Segment.{Segment, Step, is_same_segment}
 use Rattle.qs_spec.specs.Leaf.{Leaf}
 use Rattle.qs_spec.specs.Grammar.{Pair}
 
+-- a direct leaf, a pushed leaf, or a pair that goes on below
 pub data Event : Type 0 where
   direct : Leaf → Event
   push : Leaf → Event
@@ -16,6 +17,7 @@ event_of (s ∷ path) p leaf = below
 event_of [] true leaf = push leaf
 event_of [] false leaf = direct leaf
 
+-- what this pair does there
 abbrev pub event : Pair → Event
 event p = event_of p.path p.push p.leaf
 
@@ -36,6 +38,7 @@ at (k ∷ path) ps = at path (under k ps)
 abbrev pub events : List Pair → List Segment → List Event
 events ps path = map event (at path ps)
 
+-- which event it is
 abbrev pub is_below : Event → Bool
 is_below below = true
 is_below _ = false
@@ -44,6 +47,7 @@ abbrev pub is_push : Event → Bool
 is_push (push leaf) = true
 is_push _ = false
 
+-- how a history begins: with below, or with a direct leaf and then a push
 abbrev pub begins_below : List Event → Bool
 begins_below (below ∷ h) = true
 begins_below _ = false

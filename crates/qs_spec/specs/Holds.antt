@@ -39,6 +39,7 @@ abbrev mutual
   entries_nesting no_entries = 0
   entries_nesting (entry k mark t es) = max (nesting t) (entries_nesting es)
 
+-- the tree is a leaf, and each item is one
 abbrev pub IsLeaf : Tree → Type 0
 IsLeaf (leaf l) = ⊤
 IsLeaf (sequence xs) = ⊥
@@ -49,13 +50,14 @@ abbrev pub AreLeaves : Items → Type 0
 AreLeaves no_items = ⊤
 AreLeaves (item t xs) = IsLeaf t × AreLeaves xs
 
--- neither a map nor fresh
+-- a leaf or a sequence
 abbrev pub IsLow : Tree → Type 0
 IsLow (leaf l) = ⊤
 IsLow (sequence xs) = ⊤
 IsLow (mapping es) = ⊥
 IsLow uninitialized = ⊥
 
+-- the value of the empty key is such a node; any value of another key
 abbrev pub IsLowAtEmpty : Segment → Tree → Type 0
 IsLowAtEmpty (Int n) t = ⊤
 IsLowAtEmpty (Str []) t = IsLow t

@@ -1,4 +1,4 @@
--- Whole inputs: how many pairs they have, and which are orders of one another.
+-- Whole inputs: how many pairs they have, and which have the same pairs in another order.
 use Rattle.std.specs.Prelude.{◌≡◌, ◌≢◌, ℕ, Bool, List, [], length}
 use Rattle.qs_spec.specs.Token.{tokens}
 use Rattle.qs_spec.specs.Grammar.{Pair, ArePairs}

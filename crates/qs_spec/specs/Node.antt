@@ -45,10 +45,12 @@ abbrev pub is_place : ℕ → Segment → Bool
 is_place i (Int n) = n == i && nat_lt n 4294967295
 is_place i (Str bytes) = false
 
+-- whether a key is an integer
 abbrev pub is_int : Segment → Bool
 is_int (Int n) = true
 is_int (Str bytes) = false
 
+-- all keys are integers
 abbrev pub are_ints : Entries → Bool
 are_ints no_entries = true
 are_ints (entry k mark t es) = is_int k && are_ints es
@@ -58,6 +60,7 @@ abbrev pub placed : ℕ → Entries → List (Option Tree)
 placed i no_entries = []
 placed i (entry k mark t es) = cond (is_place i k) (Some t) None ∷ placed (i + 1) es
 
+-- the items of a sequence
 abbrev pub sequence_items : Items → List (Option Tree)
 sequence_items no_items = []
 sequence_items (item t xs) = Some t ∷ sequence_items xs
@@ -81,9 +84,11 @@ abbrev pub all_keys : (List ℕ → Bool) → Entries → Bool
 all_keys test no_entries = true
 all_keys test (entry k mark t es) = test (segment_text k) && all_keys test es
 
+-- every key is UTF-8
 abbrev pub keys_are_text : Entries → Bool
 keys_are_text = all_keys is_utf8
 
+-- every key is a field's name
 abbrev pub keys_are_names : Fields → Entries → Bool
 keys_are_names fs = all_keys (λ key. is_field_name key fs)
 

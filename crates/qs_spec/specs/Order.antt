@@ -1,4 +1,4 @@
--- Orders of pairs, and inputs with the same tree. Marks are no part of what is compared.
+-- Permutations of pairs, and inputs with the same tree. Marks are no part of what is compared.
 use Rattle.std.specs.Prelude.{◌≡◌, ℕ, Bool, true, false, ◌||◌, ◌&&◌, List, [], ◌∷◌, map}
 use Rattle.qs_spec.specs.Segment.{Step, is_same_segment}
 use Rattle.qs_spec.specs.Leaf.{Leaf}

@@ -7,6 +7,7 @@ use Rattle.qs_spec.specs.Scalar.{is_numeral, has_leading_zero}
 use Rattle.qs_spec.specs.Data.{Data, Values, no_values, one_value, Pairs, no_pairs, one_pair, Members, no_members, one_member}
 use Rattle.qs_spec.specs.Entry.{key_text}
 
+-- at least one byte
 abbrev pub has_bytes : List ℕ → Bool
 has_bytes [] = false
 has_bytes (b ∷ s) = true
@@ -22,11 +23,12 @@ is_optional (Data.some d) = true
 is_optional (Data.newtype d) = is_optional d
 is_optional _ = false
 
--- a key is a boolean, a whole number, a character, a text or a unit variant
+-- the text of a key, if it has one, is such a name
 abbrev pub is_plain_text : Bool → Option (List ℕ) → Bool
 is_plain_text form None = false
 is_plain_text form (Some t) = is_plain_name form t
 
+-- a key is a boolean, a whole number, a character, a text or a unit variant, with such a text
 abbrev pub is_plain_key : Bool → Data → Bool
 is_plain_key form (Data.bytes b) = false
 is_plain_key form k = is_plain_text form (key_text k)
@@ -42,26 +44,32 @@ is_written_key None ps = false
 is_written_key (Some t) no_pairs = false
 is_written_key (Some t) (one_pair k d ps) = is_text_of t (key_text k) || is_written_key (Some t) ps
 
+-- a field has this name
 abbrev pub is_member_name : List ℕ → Members → Bool
 is_member_name name no_members = false
 is_member_name name (one_member n d ms) = bytes_eq n name || is_member_name name ms
 
+-- no two keys have one text
 abbrev pub written_keys_differ : Pairs → Bool
 written_keys_differ no_pairs = true
 written_keys_differ (one_pair k d ps) = not (is_written_key (key_text k) ps) && written_keys_differ ps
 
+-- no two fields have one name
 abbrev pub member_names_differ : Members → Bool
 member_names_differ no_members = true
 member_names_differ (one_member n d ms) = not (is_member_name n ms) && member_names_differ ms
 
+-- at least one field
 abbrev pub has_members : Members → Bool
 has_members no_members = false
 has_members (one_member n d ms) = true
 
+-- at least one element
 abbrev pub has_values : Values → Bool
 has_values no_values = false
 has_values (one_value d ds) = true
 
+-- how many elements there are
 abbrev pub count : Values → ℕ
 count no_values = 0
 count (one_value d ds) = count ds + 1

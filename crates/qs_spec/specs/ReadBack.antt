@@ -38,6 +38,7 @@ abbrev pub ArePathsApart : List Entry → Type 0
 ArePathsApart [] = Unit {0}
 ArePathsApart (e ∷ es) = AllByRecursion (λ (f : Entry). (is_prefix e.path f.path || is_prefix f.path e.path) ≡ false) es × ArePathsApart es
 
+-- two paths are equal, and two entries have one path
 abbrev pub is_same_path : Path → Path → Bool
 is_same_path [] [] = true
 is_same_path [] (t ∷ q) = false

@@ -38,12 +38,14 @@ signed_number bits (b ∷ digits) =
 abbrev pub boolean_data : List ℕ → Option Data
 boolean_data t = if bytes_eq t (codes "true") then Some (Data.boolean true) else (if bytes_eq t (codes "false") then Some (Data.boolean false) else None)
 
+-- the data of such a number
 abbrev pub unsigned_data : ℕ → List ℕ → Option Data
 unsigned_data bits t = option_map Data.unsigned (unsigned_number bits t)
 
 abbrev pub signed_data : ℕ → List ℕ → Option Data
 signed_data bits t = option_map Data.signed (signed_number bits t)
 
+-- one character alone
 abbrev pub only_character : List ℕ → Option Data
 only_character [] = None
 only_character (c ∷ []) = Some (Data.character c)

@@ -7,6 +7,7 @@ use Rattle.std.specs.Ordering.{nat_cmp, is_eq}
 use Rattle.std.specs.Cmp.Lexicographic.{slice_cmp}
 use Rattle.qs_spec.specs.Escape.{is_between, decoded, is_marked}
 
+-- an integer key, or a string key by its bytes
 pub data Segment : Type 0 where
   Int : ℕ → Segment
   Str : List ℕ → Segment
@@ -29,6 +30,7 @@ is_index (b ∷ raw) = list_all (is_between 48 57) (b ∷ raw) && nat_le (number
 abbrev pub segment_of : List ℕ → Segment
 segment_of raw = if is_index raw then Int (number raw) else Str (decoded raw)
 
+-- the segment of raw bytes, with its mark
 abbrev pub step_of : List ℕ → Step
 step_of raw = record { seg = segment_of raw; mark = is_marked raw }
 
@@ -44,5 +46,6 @@ compare_segments (Int m) (Str b) = Less
 compare_segments (Str a) (Int n) = Greater
 compare_segments (Str a) (Str b) = slice_cmp nat_cmp a b
 
+-- neither segment is before the other
 abbrev pub is_same_segment : Segment → Segment → Bool
 is_same_segment k l = is_eq (compare_segments k l)

@@ -59,9 +59,11 @@ mutual
 abbrev pub Field : Type 0
 Field = List ℕ × Shape × Bool
 
+-- a variant's name, and what it holds
 abbrev pub Variant : Type 0
 Variant = List ℕ × VariantKind
 
+-- lists of shapes, of fields and of variants, as a shape holds them
 abbrev pub shapes_of : List Shape → Shapes
 shapes_of [] = no_shapes
 shapes_of (s ∷ ss) = one_shape s (shapes_of ss)
@@ -74,6 +76,7 @@ abbrev pub variants_of : List Variant → Variants
 variants_of [] = no_variants
 variants_of (v ∷ vs) = one_variant v.0 v.1 (variants_of vs)
 
+-- unknown keys are ignored
 abbrev pub are_ignored : UnknownKeys → Bool
 are_ignored UnknownKeys.ignored = true
 are_ignored UnknownKeys.rejected = false
@@ -82,14 +85,17 @@ abbrev pub is_option : Shape → Bool
 is_option (Shape.option s) = true
 is_option _ = false
 
+-- a field has this name
 abbrev pub is_field_name : List ℕ → Fields → Bool
 is_field_name name no_fields = false
 is_field_name name (one_field n s o fs) = bytes_eq n name || is_field_name name fs
 
+-- a variant has this name
 abbrev pub is_variant_name : List ℕ → Variants → Bool
 is_variant_name name no_variants = false
 is_variant_name name (one_variant n k vs) = bytes_eq n name || is_variant_name name vs
 
+-- no two fields, no two variants, and no two names of a key's shape are equal
 abbrev pub field_names_differ : Fields → Bool
 field_names_differ no_fields = true
 field_names_differ (one_field n s o fs) = not (is_field_name n fs) && field_names_differ fs

@@ -1,6 +1,7 @@
 -- The bytes of a querystring, cut into tokens.
 use Rattle.std.specs.Prelude.{ℕ, Bool, ◌&&◌, ◌||◌, ◌==◌, List, [], ◌∷◌, if◌then◌else◌, flat_map}
 
+-- `&`, `=`, an opening and a closing bracket, and any other byte
 pub data Kind : Type 0 where
   Amp : Kind
   Equals : Kind
@@ -8,14 +9,16 @@ pub data Kind : Type 0 where
   Close : Kind
   Other : Kind
 
+-- a kind, and the bytes that it is made of
 pub record Token : Type 0 where
   pub kind : Kind
   pub raw : List ℕ
 
--- a byte that is a token by itself: `&`, `=`, `[`, `]` or another
+-- the kind of a byte that is a token by itself
 abbrev pub byte_kind : ℕ → Kind
 byte_kind b = if b == 38 then Amp else (if b == 61 then Equals else (if b == 91 then Open else (if b == 93 then Close else Other)))
 
+-- that token
 abbrev pub byte_token : ℕ → Token
 byte_token b = record { kind = byte_kind b; raw = b ∷ [] }
 

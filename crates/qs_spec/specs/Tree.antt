@@ -33,10 +33,12 @@ leaf_in (direct l) = l ∷ []
 leaf_in (push l) = l ∷ []
 leaf_in below = []
 
+-- the leaves of a history, in order
 abbrev pub leaves_in : List Event → List Leaf
 leaves_in [] = []
 leaves_in (e ∷ h) = leaf_in e ++ leaves_in h
 
+-- leaves as the items of a sequence
 abbrev pub leaf_items : List Leaf → Items
 leaf_items [] = no_items
 leaf_items (l ∷ ls) = item (leaf l) (leaf_items ls)
@@ -51,11 +53,13 @@ flat h = sequence (leaf_items (leaves_in h))
 abbrev pub empty_step : Step
 empty_step = record { seg = Str []; mark = false }
 
+-- the path with this step, where it is empty and its leaf isn't pushed
 abbrev pub filled_path : List Step → (pushed : Bool) → List Step
 filled_path (s ∷ path) pushed = s ∷ path
 filled_path [] true = []
 filled_path [] false = empty_step ∷ []
 
+-- the pairs with such paths
 abbrev pub filled : List Pair → List Pair
 filled [] = []
 filled (p ∷ ps) = record p { path = filled_path p.path p.push } ∷ filled ps
@@ -110,10 +114,11 @@ pub record Splits (form : Bool) (depth : ℕ) (bytes : List ℕ) (pairs : List P
   pub grammar : ArePairs depth (tokens form bytes) pairs
   pub histories : (path : List Segment) → IsTrue (permitted (events pairs path))
 
--- the tree of an input; an input without a tree is rejected
+-- the tree of an input
 abbrev pub IsTree : Bool → ℕ → List ℕ → Tree → Type 0
 IsTree form depth [] tree = tree ≡ leaf NoValue
 IsTree form depth (b ∷ bytes) tree = (pairs : List Pair) × Splits form depth (b ∷ bytes) pairs × (tree ≡ node pairs)
 
+-- the input has no tree, and is rejected
 abbrev pub IsRefused : Bool → ℕ → List ℕ → Type 0
 IsRefused form depth bytes = (tree : Tree) → IsTree form depth bytes tree → ⊥

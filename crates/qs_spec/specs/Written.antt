@@ -20,10 +20,12 @@ unfoldable pub path_text : Bool → Path → List ℕ
 path_text form [] = []
 path_text form (s ∷ path) = encoded form s ++ brackets_text form path
 
+-- `=` and the value, if there is one
 abbrev pub value_text : Bool → Option (List ℕ) → List ℕ
 value_text form None = []
 value_text form (Some bytes) = 61 ∷ encoded form bytes
 
+-- the path isn't empty
 abbrev pub has_key : Path → Bool
 has_key [] = false
 has_key (s ∷ path) = true

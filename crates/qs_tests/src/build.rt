@@ -12,56 +12,57 @@ pub struct Build<'r, R: Abort> {
 }
 
 impl<'r, R: Abort> Build<'r, R> {
+    /// Returns a maker of shapes and data in this memory.
     pub fn new(rt: &'r R, alloc: Global) -> Self {
         Build { rt, alloc }
     }
 
-    // The data in a box.
+    // Returns the data in a box.
     fn boxed<T: Drop>(&self, value: T) -> Box<T> {
         Box::new(self.alloc, value).expect(self.rt, "memory")
     }
 
-    // The items as a vector.
+    // Returns the items as a vector.
     fn vec<T: Drop, const N: usize>(&self, values: [T; N]) -> Vec<T> {
         Vec::from_array(self.alloc, values).expect(self.rt, "memory")
     }
 
-    // The text as a string.
+    // Returns the text as a string.
     fn name(&self, name: &str) -> String {
         String::from_str(self.alloc, name).expect(self.rt, "memory")
     }
 
-    /// A member of a struct.
+    /// Returns a member of a struct.
     pub fn member(&self, name: &str, value: Data) -> (String, Data) {
         (self.name(name), value)
     }
 
-    /// The shape of a value that may be absent.
+    /// Returns the shape of a value that may be absent.
     pub fn option(&self, part: Shape) -> Shape {
         Shape::Option(self.boxed(part))
     }
 
-    /// The shape of a list.
+    /// Returns the shape of a list.
     pub fn seq(&self, part: Shape) -> Shape {
         Shape::Seq(self.boxed(part))
     }
 
-    /// The shape of a list of just these.
+    /// Returns the shape of a list of just these.
     pub fn tuple<const N: usize>(&self, parts: [Shape; N]) -> Shape {
         Shape::Tuple(self.vec(parts))
     }
 
-    /// The shape of keys with values.
+    /// Returns the shape of keys with values.
     pub fn map(&self, key: KeyShape, part: Shape) -> Shape {
         Shape::Map(key, self.boxed(part))
     }
 
-    /// The shape of a type round a value.
+    /// Returns the shape of a type round a value.
     pub fn newtype(&self, part: Shape) -> Shape {
         Shape::Newtype(self.boxed(part))
     }
 
-    /// A field that has to be there.
+    /// Returns a field that has to be there.
     pub fn required(&self, name: &str, shape: Shape) -> Field {
         let name = self.name(name);
         Field {
@@ -71,7 +72,7 @@ impl<'r, R: Abort> Build<'r, R> {
         }
     }
 
-    /// A field that may be left out.
+    /// Returns a field that may be left out.
     pub fn optional(&self, name: &str, shape: Shape) -> Field {
         let name = self.name(name);
         Field {
@@ -81,53 +82,53 @@ impl<'r, R: Abort> Build<'r, R> {
         }
     }
 
-    /// The shape of a struct with these fields.
+    /// Returns the shape of a struct with these fields.
     pub fn fields<const N: usize>(&self, fields: [Field; N]) -> Shape {
         Shape::Struct(self.vec(fields))
     }
 
-    /// The same, where unknown keys are rejected.
+    /// Returns the same, where unknown keys are rejected.
     pub fn strict<const N: usize>(&self, fields: [Field; N]) -> Shape {
         Shape::StrictStruct(self.vec(fields))
     }
 
-    /// The shape of a struct with this one field, which has to be there.
+    /// Returns the shape of a struct with this one field, which has to be there.
     pub fn field(&self, name: &str, shape: Shape) -> Shape {
         self.fields([self.required(name, shape)])
     }
 
-    /// The shape of one of these variants.
+    /// Returns the shape of one of these variants.
     pub fn variants<const N: usize>(&self, variants: [Variant; N]) -> Shape {
         Shape::Enum(self.vec(variants))
     }
 
-    /// A variant of this kind.
+    /// Returns a variant of this kind.
     pub fn variant(&self, name: &str, kind: VariantKind) -> Variant {
         let name = self.name(name);
         Variant { name, kind }
     }
 
-    /// A variant that holds a value.
+    /// Returns a variant that holds a value.
     pub fn newtype_variant(&self, name: &str, part: Shape) -> Variant {
         self.variant(name, VariantKind::Newtype(self.boxed(part)))
     }
 
-    /// A variant that holds a list of just these.
+    /// Returns a variant that holds a list of just these.
     pub fn tuple_variant<const N: usize>(&self, name: &str, parts: [Shape; N]) -> Variant {
         self.variant(name, VariantKind::Tuple(self.vec(parts)))
     }
 
-    /// A variant that holds these fields.
+    /// Returns a variant that holds these fields.
     pub fn struct_variant<const N: usize>(&self, name: &str, fields: [Field; N]) -> Variant {
         self.variant(name, VariantKind::Struct(self.vec(fields)))
     }
 
-    /// The same, where unknown keys are rejected.
+    /// Returns the same, where unknown keys are rejected.
     pub fn strict_variant<const N: usize>(&self, name: &str, fields: [Field; N]) -> Variant {
         self.variant(name, VariantKind::StrictStruct(self.vec(fields)))
     }
 
-    /// A key that is one of these names.
+    /// Returns a key that is one of these names.
     pub fn names(&self, names: &[&str]) -> KeyShape {
         let mut owned = Vec::new(self.alloc);
         for name in names {
@@ -136,67 +137,67 @@ impl<'r, R: Abort> Build<'r, R> {
         KeyShape::Variants(owned)
     }
 
-    /// A text.
+    /// Returns a text.
     pub fn text(&self, text: &str) -> Data {
         Data::Text(self.name(text))
     }
 
-    /// Bytes.
+    /// Returns bytes.
     pub fn bytes(&self, bytes: &[u8]) -> Data {
         Data::Bytes(Vec::from_slice(self.alloc, bytes).expect(self.rt, "memory"))
     }
 
-    /// A value that might have been absent.
+    /// Returns a value that might have been absent.
     pub fn some(&self, value: Data) -> Data {
         Data::Some(self.boxed(value))
     }
 
-    /// A list.
+    /// Returns a list.
     pub fn list<const N: usize>(&self, items: [Data; N]) -> Data {
         Data::Seq(self.vec(items))
     }
 
-    /// A list that has its length from its type.
+    /// Returns a list that has its length from its type.
     pub fn items<const N: usize>(&self, items: [Data; N]) -> Data {
         Data::Tuple(self.vec(items))
     }
 
-    /// Keys with their values.
+    /// Returns keys with their values.
     pub fn pairs<const N: usize>(&self, pairs: [(Data, Data); N]) -> Data {
         Data::Map(self.vec(pairs))
     }
 
-    /// A struct of these members.
+    /// Returns a struct of these members.
     pub fn record<const N: usize>(&self, members: [(String, Data); N]) -> Data {
         Data::Struct(self.vec(members))
     }
 
-    /// A struct of this one member.
+    /// Returns a struct of this one member.
     pub fn one(&self, name: &str, value: Data) -> Data {
         self.record([self.member(name, value)])
     }
 
-    /// A value in a type of its own.
+    /// Returns a value in a type of its own.
     pub fn wrapped(&self, value: Data) -> Data {
         Data::Newtype(self.boxed(value))
     }
 
-    /// A variant that holds nothing.
+    /// Returns a variant that holds nothing.
     pub fn bare(&self, name: &str) -> Data {
         Data::UnitVariant(self.name(name))
     }
 
-    /// A variant that holds a value.
+    /// Returns a variant that holds a value.
     pub fn holding(&self, name: &str, value: Data) -> Data {
         Data::NewtypeVariant(self.name(name), self.boxed(value))
     }
 
-    /// A variant that holds a list.
+    /// Returns a variant that holds a list.
     pub fn holding_items<const N: usize>(&self, name: &str, items: [Data; N]) -> Data {
         Data::TupleVariant(self.name(name), self.vec(items))
     }
 
-    /// A variant that holds members.
+    /// Returns a variant that holds members.
     pub fn holding_record<const N: usize>(&self, name: &str, members: [(String, Data); N]) -> Data {
         Data::StructVariant(self.name(name), self.vec(members))
     }

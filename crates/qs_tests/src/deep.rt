@@ -4,12 +4,13 @@ use crate::build::Build;
 use serde_qs::Data;
 use std::process::Abort;
 
-// What is compared is compared by calls, level by level.
+/// How deep data are that are compared, which takes a call for each level.
 const COMPARED: usize = 2_000;
 
+/// How deep data are that are discarded, which is a loop.
 const DISCARDED: usize = 200_000;
 
-// Each kind of data that holds others, in turn. A leaf stands before or after what goes on.
+// Returns data of the level's kind that hold these, with a leaf before or after them.
 fn deeper<R: Abort>(b: &Build<'_, R>, level: usize, inner: Data) -> Data {
     match level % 10 {
         0 => b.some(inner),
@@ -25,7 +26,7 @@ fn deeper<R: Abort>(b: &Build<'_, R>, level: usize, inner: Data) -> Data {
     }
 }
 
-// The data below as many levels, of each kind in turn.
+// Returns the data within so many levels, of each kind in turn.
 fn deep<R: Abort>(b: &Build<'_, R>, levels: usize, bottom: Data) -> Data {
     let mut datum = bottom;
     for level in 0..levels {
@@ -34,7 +35,7 @@ fn deep<R: Abort>(b: &Build<'_, R>, levels: usize, bottom: Data) -> Data {
     datum
 }
 
-// The data in as many options.
+// Returns the data in as many options.
 fn deep_option<R: Abort>(b: &Build<'_, R>, levels: usize, bottom: Data) -> Data {
     let mut datum = bottom;
     for _ in 0..levels {
@@ -43,7 +44,7 @@ fn deep_option<R: Abort>(b: &Build<'_, R>, levels: usize, bottom: Data) -> Data 
     datum
 }
 
-// The data as the first item of as many lists.
+// Returns the data as the first item of as many lists.
 fn deep_list<R: Abort>(b: &Build<'_, R>, levels: usize, bottom: Data) -> Data {
     let mut datum = bottom;
     for _ in 0..levels {
@@ -52,7 +53,7 @@ fn deep_list<R: Abort>(b: &Build<'_, R>, levels: usize, bottom: Data) -> Data {
     datum
 }
 
-// The first two are the same, and the third is another.
+// Asserts that the first two are the same, and the third is another.
 fn compared<R: Abort>(rt: &R, datum: Data, same: Data, other: Data) {
     assert!(rt; datum == same);
     assert!(rt; datum != other);

@@ -33,7 +33,7 @@ fn prints_texts(rt: HostRuntime) -> Result<(), Fail> {
     Ok(())
 }
 
-// The error prints this text, which isn't empty.
+// Asserts that the error prints this text, which isn't empty.
 fn prints<R: Abort>(rt: &R, alloc: Global, error: &Error, wanted: &str) -> Result<(), Fail> {
     assert!(rt; !wanted.is_empty());
     assert_eq!(rt; error.to_string(alloc)?.as_str(), wanted);

@@ -107,7 +107,7 @@ fn read_back(rt: HostRuntime) -> Result<(), Fail> {
     Ok(())
 }
 
-// The value of a hexadecimal digit.
+// Returns the value of a hexadecimal digit.
 fn hexadecimal_digit(byte: u8) -> Option<u8>
     ensures { IfSome result (λ digit. digit < 16) }
 {
@@ -119,7 +119,7 @@ fn hexadecimal_digit(byte: u8) -> Option<u8>
     }
 }
 
-/// What `%` and these two bytes are decoded to.
+/// Returns what `%` and these two bytes are decoded to.
 pub fn decoded(alloc: Global, first: u8, second: u8) -> Result<Vec<u8>, AllocError> {
     match (hexadecimal_digit(first), hexadecimal_digit(second)) {
         (Some(high), Some(low)) => Vec::from_slice(alloc, &[high * 16 + low]),

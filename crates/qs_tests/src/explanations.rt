@@ -7,7 +7,7 @@ use serde_qs::{KeyShape, Shape, VariantKind};
 use std::alloc::Global;
 use std::process::Abort;
 
-// A struct with a name, and an address that has a number.
+// Returns a struct with a name, and an address that has a number.
 fn person<R: Abort>(b: &Build<'_, R>) -> Shape {
     let address = b.field("number", b.option(Shape::U8));
     b.fields([
@@ -16,7 +16,7 @@ fn person<R: Abort>(b: &Build<'_, R>) -> Shape {
     ])
 }
 
-// Stops where the explanation of an input under the default configuration isn't this line, which is empty where it is read.
+// Asserts that an input is explained by this line under the default configuration: by the empty one where it is read.
 fn says<R: Abort>(b: &Build<'_, R>, shape: &Shape, input: &str, line: &str) {
     let explained = explain(b.alloc, Config::new(), shape, input.as_bytes()).expect(b.rt, "memory");
     let text = match explained {
@@ -26,7 +26,7 @@ fn says<R: Abort>(b: &Build<'_, R>, shape: &Shape, input: &str, line: &str) {
     assert!(b.rt; text.as_str() == line, "{input}: {text}");
 }
 
-// The same for each of these inputs.
+// Asserts that each of these inputs is explained by its line.
 fn says_each<R: Abort>(b: &Build<'_, R>, shape: &Shape, cases: &[(&str, &str)]) {
     for (input, line) in cases {
         says(b, shape, input, line);
@@ -277,7 +277,7 @@ fn hints_as_text(rt: HostRuntime) {
     );
 }
 
-// Where the pair of the error of an input without a tree stands: its start, the end of its key, and its end.
+// Returns where the pair of the error of an input without a tree stands: its start, the end of its key, and its end.
 fn wrong_pair<R: Abort>(rt: &R, alloc: Global, input: &[u8]) -> (usize, usize, usize) {
     let explained = explain(alloc, Config::new(), &Shape::Ignored, input).expect(rt, "memory");
     let Some(Explanation::Syntax(Error::Parse(_, position))) = &explained else {

@@ -7,7 +7,7 @@ use serde_qs::helpers::{comma_separated, pipe_delimited, space_delimited};
 use serde_qs::{Config, Data, Deserializer, Result, Shape};
 use std::process::Abort;
 
-// The text of this field, and no other field.
+// Returns the text of this field, and no other field.
 fn text_of<R: Abort>(b: &Build<'_, R>, input: &str, name: &str) -> Data {
     let shape = b.field(name, Shape::Text);
     assert!(b.rt; shape.is_distinct());
@@ -21,7 +21,7 @@ fn text_of<R: Abort>(b: &Build<'_, R>, input: &str, name: &str) -> Data {
     }
 }
 
-// The items that were read are these.
+// Asserts that the items that were read are these.
 fn are<R: Abort, T: PartialEq + Drop>(b: &Build<'_, R>, read: Result<Vec<T>>, wanted: &[T]) {
     let read = read.expect(b.rt, "a list");
     assert!(b.rt; read.as_slice() == wanted);

@@ -11,12 +11,12 @@ const DROPPED: usize = 100_000;
 // What is compared is compared by calls, level by level.
 const COMPARED: usize = 2_000;
 
-// A borrowed text.
+// Returns a borrowed text.
 fn text(bytes: &'static [u8]) -> ParsedValue<'static> {
     ParsedValue::String(CowSlice::Borrowed(bytes))
 }
 
-// An owned string key.
+// Returns an owned string key.
 fn owned<'a>(alloc: Global, bytes: &[u8]) -> Result<Key<'a>, AllocError> {
     Ok(Key::String(CowSlice::Owned(Vec::from_slice(alloc, bytes)?)))
 }
@@ -47,7 +47,7 @@ fn keys_are_ordered(rt: HostRuntime) -> Result<(), Fail> {
     Ok(())
 }
 
-// The map of this input.
+// Returns the map of this input.
 fn map_of(alloc: Global, input: &[u8]) -> Result<ParsedMap<'_>, Fail> {
     match parse(alloc, input, Config::new())? {
         ParsedValue::Map(map) => Ok(map),
@@ -86,7 +86,7 @@ fn a_map_is_taken_apart(rt: HostRuntime) -> Result<(), Fail> {
     Ok(())
 }
 
-// Nothing is left of the map.
+// Asserts that nothing is left of the map.
 fn is_spent<R: Abort>(rt: &R, alloc: Global, mut map: ParsedMap<'_>) {
     assert!(rt; map.is_empty());
     assert_eq!(rt; map, ParsedMap::new(alloc));
@@ -118,7 +118,7 @@ fn a_value_alone_is_borrowed(rt: HostRuntime) -> Result<(), Fail> {
     Ok(())
 }
 
-// An input of maps in one another, with a leaf at the bottom and one more in the outermost.
+// Returns an input of maps in one another, with a leaf at the bottom and one more in the outermost.
 fn nested(alloc: Global, levels: usize, end: &'static str) -> Result<Vec<u8>, AllocError> {
     let mut input = Vec::from_slice(alloc, b"a")?;
     for _ in 0..levels {
@@ -140,7 +140,7 @@ fn deep_maps_are_dropped(rt: HostRuntime) -> Result<(), Fail> {
     Ok(())
 }
 
-// Whether two inputs have one tree, ownership aside.
+// Returns whether two inputs have one tree, ownership aside.
 fn have_one_tree<'a>(alloc: Global, input: &'a [u8], other: &'a [u8]) -> Result<bool, Fail> {
     let config = Config::new().max_depth(COMPARED);
     let tree = parse(alloc, input, config)?;
@@ -159,7 +159,7 @@ fn deep_maps_are_compared(rt: HostRuntime) -> Result<(), Fail> {
     Ok(())
 }
 
-// Sequences in one another.
+// Returns sequences in one another.
 fn nested_items(
     alloc: Global,
     levels: usize,

@@ -22,7 +22,7 @@ pub struct Narrow {
 }
 
 impl Narrow {
-    /// Such a writer that holds nothing yet. No write allocates.
+    /// Returns such a writer that holds nothing yet. No write allocates.
     pub fn new(alloc: Global, step: usize, room: usize, stop: Stop) -> Result<Narrow, AllocError> {
         let held = Vec::with_capacity(alloc, room)?;
         Ok(Narrow {

@@ -8,28 +8,28 @@ use qs_tree::decode;
 use serde_qs::{Data, Field, KeyShape, Shape, Variant, VariantKind};
 use std::process::Abort;
 
-// What a text with escapes is decoded to.
+// Returns what a text with escapes is decoded to.
 fn bytes<R: Abort>(b: &Build<'_, R>, text: &str) -> Vec<u8> {
     let decoded = decode(b.alloc, text.as_bytes()).expect(b.rt, "memory");
     Vec::from_slice(b.alloc, decoded.as_slice()).expect(b.rt, "memory")
 }
 
-// The text of a word, decoded.
+// Returns the text of a word, decoded.
 fn string<R: Abort>(b: &Build<'_, R>, text: &str) -> String {
     String::from_utf8(bytes(b, text)).expect(b.rt, "UTF-8")
 }
 
-// The last one.
+// Removes the last part, and returns it.
 fn part<R: Abort, T: Drop>(b: &Build<'_, R>, parts: &mut Vec<T>) -> T {
     parts.pop().expect(b.rt, "a part")
 }
 
-// The last one in a box.
+// Removes the last part, and returns it in a box.
 fn boxed<R: Abort, T: Drop>(b: &Build<'_, R>, parts: &mut Vec<T>) -> Box<T> {
     Box::new(b.alloc, part(b, parts)).expect(b.rt, "memory")
 }
 
-// As many as the text says, from the last one on.
+// Returns as many parts as the text says, from the last one on.
 fn counted<R: Abort, T: Drop>(b: &Build<'_, R>, count: &str, parts: &mut Vec<T>) -> Vec<T> {
     let mut counted = Vec::new(b.alloc);
     for _ in 0..count.parse::<u32>().expect(b.rt, "a count") {
@@ -39,7 +39,7 @@ fn counted<R: Abort, T: Drop>(b: &Build<'_, R>, count: &str, parts: &mut Vec<T>)
     counted
 }
 
-// A field for each name, with the shapes from the last one on.
+// Returns a field for each name, with the shapes from the last one on.
 fn fields<R: Abort>(b: &Build<'_, R>, names: &str, shapes: &mut Vec<Shape>) -> Vec<Field> {
     let mut fields = Vec::new(b.alloc);
     for word in names.split(':').filter(|word| !word.is_empty()) {
@@ -53,7 +53,7 @@ fn fields<R: Abort>(b: &Build<'_, R>, names: &str, shapes: &mut Vec<Shape>) -> V
     fields
 }
 
-// The shape of a key of that name.
+// Returns the shape of a key of that name.
 fn key<R: Abort>(b: &Build<'_, R>, word: &str) -> KeyShape {
     match word {
         "Bool" => KeyShape::Bool,
@@ -78,7 +78,7 @@ fn key<R: Abort>(b: &Build<'_, R>, word: &str) -> KeyShape {
     }
 }
 
-// The kind of a variant, and its name.
+// Returns the kind of a variant, and its name.
 fn variant<R: Abort>(
     b: &Build<'_, R>,
     kind: &str,
@@ -96,7 +96,7 @@ fn variant<R: Abort>(
     Some(b.variant(string(b, name).as_str(), kind))
 }
 
-// The shape of a scalar.
+// Returns the shape of a scalar.
 fn scalar<R: Abort>(b: &Build<'_, R>, word: &str) -> Shape {
     match word {
         "Unit" => Shape::Unit,
@@ -116,7 +116,7 @@ fn scalar<R: Abort>(b: &Build<'_, R>, word: &str) -> Shape {
     }
 }
 
-/// The shape that these words are.
+/// Returns the shape that these words are.
 pub fn shape<R: Abort>(b: &Build<'_, R>, words: &str) -> Shape {
     let mut shapes = Vec::new(b.alloc);
     let mut variants = Vec::new(b.alloc);
@@ -132,7 +132,7 @@ pub fn shape<R: Abort>(b: &Build<'_, R>, words: &str) -> Shape {
     part(b, &mut shapes)
 }
 
-// The shape of this word, where those of the words after it were made.
+// Returns the shape of this word, where those of the words after it were made.
 fn next_shape<R: Abort>(
     b: &Build<'_, R>,
     (kind, rest): (&str, &str),
@@ -151,7 +151,7 @@ fn next_shape<R: Abort>(
     }
 }
 
-// A member for each name, with the data from the last one on.
+// Returns a member for each name, with the data from the last one on.
 fn members<R: Abort>(b: &Build<'_, R>, names: &str, data: &mut Vec<Data>) -> Vec<(String, Data)> {
     let mut members = Vec::new(b.alloc);
     for name in names.split(':').filter(|name| !name.is_empty()) {
@@ -161,7 +161,7 @@ fn members<R: Abort>(b: &Build<'_, R>, names: &str, data: &mut Vec<Data>) -> Vec
     members
 }
 
-// As many keys, each with its value, as the text says.
+// Returns as many keys, each with its value, as the text says.
 fn pairs<R: Abort>(b: &Build<'_, R>, count: &str, data: &mut Vec<Data>) -> Vec<(Data, Data)> {
     let mut pairs = Vec::new(b.alloc);
     for _ in 0..count.parse::<u32>().expect(b.rt, "a count") {
@@ -171,7 +171,7 @@ fn pairs<R: Abort>(b: &Build<'_, R>, count: &str, data: &mut Vec<Data>) -> Vec<(
     pairs
 }
 
-// A variant that holds something.
+// Returns a variant that holds something.
 fn holding<R: Abort>(b: &Build<'_, R>, kind: &str, rest: &str, data: &mut Vec<Data>) -> Data {
     let (name, parts) = rest.split_once(':').unwrap_or((rest, ""));
     let name = string(b, name);
@@ -183,7 +183,7 @@ fn holding<R: Abort>(b: &Build<'_, R>, kind: &str, rest: &str, data: &mut Vec<Da
     }
 }
 
-/// The data that these words are.
+/// Returns the data that these words are.
 pub fn data<R: Abort>(b: &Build<'_, R>, words: &str) -> Data {
     let mut data = Vec::new(b.alloc);
     for word in words.rsplit(' ') {
@@ -193,7 +193,7 @@ pub fn data<R: Abort>(b: &Build<'_, R>, words: &str) -> Data {
     part(b, &mut data)
 }
 
-// The data that begin with this word, where those of the words after it were made.
+// Returns the data that begin with this word, where those of the words after it were made.
 fn next_data<R: Abort>(b: &Build<'_, R>, word: &str, data: &mut Vec<Data>) -> Data {
     let (kind, rest) = word.split_once(':').unwrap_or((word, ""));
     match kind {

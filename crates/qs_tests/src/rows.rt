@@ -17,7 +17,7 @@ pub struct Rows<'r, R: Abort> {
 }
 
 impl<'r, R: Abort> Rows<'r, R> {
-    /// Rows under the default configuration.
+    /// Returns rows under the default configuration.
     pub fn new(rt: &'r R, alloc: Global) -> Self {
         Rows {
             build: Build { rt, alloc },
@@ -25,7 +25,7 @@ impl<'r, R: Abort> Rows<'r, R> {
         }
     }
 
-    // The same under another configuration.
+    // Returns the same under another configuration.
     fn with(&self, config: Config) -> Self {
         let rt = self.build.rt;
         let alloc = self.build.alloc;
@@ -35,19 +35,19 @@ impl<'r, R: Abort> Rows<'r, R> {
         }
     }
 
-    /// The same under another depth limit.
+    /// Returns the same under another depth limit.
     pub fn deep(&self, max_depth: usize) -> Self {
         let config = self.config.max_depth(max_depth);
         self.with(config)
     }
 
-    /// The same in form mode.
+    /// Returns the same in form mode.
     pub fn form(&self) -> Self {
         let config = self.config.use_form_encoding(true);
         self.with(config)
     }
 
-    /// The same where several values for one are rejected.
+    /// Returns the same where several values for one are rejected.
     pub fn reject_duplicates(&self) -> Self {
         let config = self
             .config
@@ -55,7 +55,7 @@ impl<'r, R: Abort> Rows<'r, R> {
         self.with(config)
     }
 
-    // What the shape reads from the input.
+    // Returns what the shape reads from the input.
     fn read(&self, input: &str, shape: &Shape) -> Result<Data> {
         let rt = self.build.rt;
         let alloc = self.build.alloc;
@@ -63,7 +63,7 @@ impl<'r, R: Abort> Rows<'r, R> {
         Deserializer::with_config(alloc, self.config, input.as_bytes())?.read(alloc, shape)
     }
 
-    /// The shape reads this from the input, and it can be copied.
+    /// Asserts that the shape reads these data from the input, and that they can be copied.
     pub fn reads(&self, input: &str, shape: &Shape, wanted: Data) {
         let rt = self.build.rt;
         let alloc = self.build.alloc;
@@ -77,7 +77,7 @@ impl<'r, R: Abort> Rows<'r, R> {
         }
     }
 
-    /// The shape reads nothing from the input, and this is said.
+    /// Asserts that the shape reads nothing from the input, and that this is said.
     pub fn says(&self, input: &str, shape: &Shape, wanted: &str) {
         let rt = self.build.rt;
         let alloc = self.build.alloc;
@@ -90,7 +90,7 @@ impl<'r, R: Abort> Rows<'r, R> {
         }
     }
 
-    /// The same, and then the hint.
+    /// Asserts that the shape reads nothing from the input, and that this is said, and then the hint.
     pub fn hints(&self, input: &str, shape: &Shape, wanted: &str) {
         let rt = self.build.rt;
         let alloc = self.build.alloc;
@@ -98,7 +98,7 @@ impl<'r, R: Abort> Rows<'r, R> {
         self.says(input, shape, &wanted);
     }
 
-    /// A text or a key that is read isn't UTF-8.
+    /// Asserts that the input is rejected since a text or a key that is read isn't UTF-8.
     pub fn breaks(&self, input: &str, shape: &Shape) {
         let rt = self.build.rt;
         match self.read(input, shape) {
@@ -108,7 +108,7 @@ impl<'r, R: Abort> Rows<'r, R> {
         }
     }
 
-    /// A key that holds a bracket isn't UTF-8, and the hint is given.
+    /// Asserts that the input is rejected since a key with a bracket isn't UTF-8, and that the hint is given.
     pub fn breaks_and_hints(&self, input: &str, shape: &Shape) {
         let rt = self.build.rt;
         match self.read(input, shape) {

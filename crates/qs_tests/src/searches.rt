@@ -20,7 +20,7 @@ const CLASSES: [Class; 4] = [
 ];
 
 impl Class {
-    // What the search returns.
+    // Returns what the search returns.
     fn find(self, bytes: &[u8]) -> Option<usize> {
         match self {
             Class::Escape => find_escape(bytes),
@@ -29,7 +29,7 @@ impl Class {
         }
     }
 
-    // What the plain loop returns.
+    // Returns what the plain loop returns.
     fn find_plainly(self, bytes: &[u8]) -> Option<usize> {
         for (index, byte) in bytes.iter().enumerate() {
             if self.has(*byte) {
@@ -39,7 +39,7 @@ impl Class {
         None
     }
 
-    // Whether the byte is of the class.
+    // Returns whether the byte is of the class.
     fn has(self, byte: u8) -> bool {
         match self {
             Class::Escape => byte == b'+' || byte == b'%',
@@ -56,7 +56,7 @@ impl Class {
     }
 }
 
-// The search for each class returns what the plain one does.
+// Asserts that the search for each class returns what the plain one does.
 fn agree<R: Abort>(rt: &R, bytes: &[u8]) {
     for class in CLASSES {
         assert_eq!(rt;

@@ -25,7 +25,7 @@ enum Pending<'t, 'qs> {
     Value(&'t ParsedValue<'qs>),
 }
 
-/// The tree as one line.
+/// Returns the tree as one line.
 ///
 /// Its time and memory grow with the tree. No tree is too deep.
 pub fn line(alloc: Global, tree: &ParsedValue<'_>, texts: Texts) -> Result<String, AllocError> {
@@ -66,7 +66,7 @@ fn push_value<'t, 'qs>(
     }
 }
 
-// What a sequence is written as, the last piece first.
+// Returns what a sequence is written as, the last piece first.
 fn stack_items<'t, 'qs>(
     rest: &mut Vec<Pending<'t, 'qs>>,
     items: &'t Vec<ParsedValue<'qs>>,
@@ -81,7 +81,7 @@ fn stack_items<'t, 'qs>(
     Ok(())
 }
 
-// What a map is written as, the last piece first.
+// Returns what a map is written as, the last piece first.
 fn stack_entries<'t, 'qs>(
     rest: &mut Vec<Pending<'t, 'qs>>,
     map: &'t ParsedMap<'qs>,
@@ -113,7 +113,7 @@ fn push_text(line: &mut String, text: &CowSlice<'_, u8>, texts: Texts) -> Result
     }
 }
 
-// The bytes between single quotes, where those beyond printable ASCII are escaped.
+// Returns the bytes between single quotes, where those beyond printable ASCII are escaped.
 fn push_quoted(line: &mut String, bytes: &[u8]) -> Result<(), AllocError> {
     line.push('\'')?;
     for byte in bytes {
@@ -128,7 +128,7 @@ fn push_quoted(line: &mut String, bytes: &[u8]) -> Result<(), AllocError> {
     line.push('\'')
 }
 
-// The bytes between double quotes, in hexadecimal digits.
+// Returns the bytes between double quotes, in hexadecimal digits.
 fn push_hexadecimal(line: &mut String, bytes: &[u8]) -> Result<(), AllocError> {
     line.push('"')?;
     for byte in bytes {
@@ -137,13 +137,13 @@ fn push_hexadecimal(line: &mut String, bytes: &[u8]) -> Result<(), AllocError> {
     line.push('"')
 }
 
-// Two hexadecimal digits.
+// Returns two hexadecimal digits.
 fn push_byte(line: &mut String, byte: u8) -> Result<(), AllocError> {
     line.push(digit(byte / 16))?;
     line.push(digit(byte % 16))
 }
 
-// A hexadecimal digit.
+// Returns a hexadecimal digit.
 fn digit(value: u8) -> char {
     char::from_digit(u32::from(value), 16).unwrap_or('?')
 }

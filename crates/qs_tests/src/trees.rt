@@ -40,17 +40,17 @@ const MAP_IN_SEQUENCE: &str = "unsupported: unable to parse nested maps of unind
 const MIXED_SEQUENCE: &str =
     "unsupported: cannot mix unindexed sequences `abc[]=...` with indexed sequences `abc[0]=...`";
 
-// Query mode with this limit of depth.
+// Returns query mode with this limit of depth.
 fn query(max_depth: usize) -> Config {
     Config::new().max_depth(max_depth)
 }
 
-// Form mode with this limit of depth.
+// Returns form mode with this limit of depth.
 fn form(max_depth: usize) -> Config {
     query(max_depth).use_form_encoding(true)
 }
 
-/// The text so many times.
+/// Returns the text so many times.
 pub fn repeated(alloc: Global, text: &str, times: usize) -> Result<String, AllocError> {
     let mut all = String::new(alloc);
     for _ in 0..times {
@@ -59,13 +59,13 @@ pub fn repeated(alloc: Global, text: &str, times: usize) -> Result<String, Alloc
     Ok(all)
 }
 
-// The tree of an input as a line, or its error.
+// Returns the tree of an input as a line, or its error.
 fn tree(alloc: Global, config: Config, input: &[u8]) -> Result<String, Error> {
     let tree = parse(alloc, input, config)?;
     Ok(line(alloc, &tree, Texts::Quoted)?)
 }
 
-// Where a typed call finds that an input has no tree.
+// Returns where a typed call finds that an input has no tree.
 fn typed_position(alloc: Global, config: Config, input: &[u8]) -> Option<usize> {
     let read: Result<BTreeMap<String, String>, Error> = config.deserialize_bytes(alloc, input);
     match read {
@@ -74,7 +74,7 @@ fn typed_position(alloc: Global, config: Config, input: &[u8]) -> Option<usize> 
     }
 }
 
-// Each input has its tree.
+// Asserts that each input has its tree.
 fn accept(
     rt: &impl Abort,
     alloc: Global,
@@ -93,7 +93,7 @@ fn accept(
     Ok(())
 }
 
-// Each input is rejected at its position with its text.
+// Asserts that each input is rejected at its position with its text.
 fn reject(
     rt: &impl Abort,
     alloc: Global,
@@ -106,7 +106,7 @@ fn reject(
     Ok(())
 }
 
-// The input is rejected at the position with the text.
+// Asserts that the input is rejected at the position with the text.
 fn reject_bytes(
     rt: &impl Abort,
     alloc: Global,

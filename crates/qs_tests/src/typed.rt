@@ -50,7 +50,7 @@ fn a_thousand_digits(rt: HostRuntime) -> std::result::Result<(), Fail> {
     Ok(())
 }
 
-// Each input has a text that is asked for and isn't UTF-8.
+// Asserts that each input has a text that is asked for and isn't UTF-8.
 fn breaks<R: Abort, T: Deserialize + Drop>(rt: &R, alloc: Global, inputs: &[&str]) {
     for input in inputs {
         let read: Result<T> = from_str(alloc, input);

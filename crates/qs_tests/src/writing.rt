@@ -11,17 +11,17 @@ use crate::build::Build;
 use serde_qs::{Config, Data, Error, Serializer};
 use std::process::Abort;
 
-// Query mode, with the defaults.
+// Returns query mode, with the defaults.
 fn query() -> Config {
     Config::new()
 }
 
-// Form mode.
+// Returns form mode.
 fn form() -> Config {
     Config::new().use_form_encoding(true)
 }
 
-/// The data are written as this text.
+/// Asserts that the data are written as this text.
 pub fn writes<R: Abort>(b: &Build<'_, R>, config: Config, datum: &Data, wanted: &str) {
     let mut serializer = Serializer::new(Vec::new(b.alloc), config);
     let result = serializer.serialize(b.alloc, datum);
@@ -30,7 +30,7 @@ pub fn writes<R: Abort>(b: &Build<'_, R>, config: Config, datum: &Data, wanted: 
     assert_eq!(b.rt; written.as_slice(), wanted.as_bytes(), "{wanted}");
 }
 
-// The error that the data cause. This text stands before it, and nothing is written after it.
+// Returns the error that the data cause. This text stands before it, and nothing is written after it.
 fn stops<R: Abort>(b: &Build<'_, R>, config: Config, datum: &Data, wanted: &str) -> Error {
     let mut serializer = Serializer::new(Vec::new(b.alloc), config);
     let error = serializer

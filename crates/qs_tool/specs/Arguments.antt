@@ -19,6 +19,7 @@ use Rattle.qs_tool.specs.declared.arguments.Request.{Request}
 abbrev pub Word : Type 0
 Word = List ℕ
 
+-- the command, the array format and the setting for repeated values that have a name
 abbrev pub command_named : Word → Option Command
 command_named w =
     cond (bytes_eq w (codes "flat")) (Some Flat) (cond (bytes_eq w (codes "params")) (Some Params) (cond (bytes_eq w (codes "any")) (Some Any) None))
@@ -34,6 +35,7 @@ duplicates_named w = cond (bytes_eq w (codes "last")) (Some TakeLast) (cond (byt
 abbrev pub flag_named : Word → Option Choice
 flag_named w = cond (bytes_eq w (codes "--form")) (Some Form) (cond (bytes_eq w (codes "--strict")) (Some Strict) None)
 
+-- an option that takes a value
 abbrev pub takes_value : Word → Bool
 takes_value w = bytes_eq w (codes "--depth") || (bytes_eq w (codes "--format") || bytes_eq w (codes "--duplicates"))
 
@@ -44,6 +46,7 @@ valued w value =
     (cond (bytes_eq w (codes "--format")) (option_map Format (format_named value))
     (cond (bytes_eq w (codes "--duplicates")) (option_map Duplicates (duplicates_named value)) None))
 
+-- an option, if it is one, and those after it
 abbrev pub followed : Option Choice → Option (List Choice) → Option (List Choice)
 followed None more = None
 followed (Some c) more = option_map (λ cs. c ∷ cs) more
@@ -64,9 +67,11 @@ abbrev mutual
   choices_with w [] = None
   choices_with w (value ∷ ws) = followed (valued w value) (choices_of ws)
 
+-- no option is given
 abbrev pub unchosen : Settings
 unchosen = record { form = false; strict = false; depth = None; format = None; duplicates = None }
 
+-- what follows, unless there is a value before
 abbrev pub unless_given : {A B : Type 0} → Option A → B → Option B
 unless_given None after = Some after
 unless_given (Some x) after = None
@@ -84,6 +89,7 @@ abbrev pub chosen : Settings → List Choice → Option Settings
 chosen s [] = Some s
 chosen s (c ∷ cs) = option_and_then (λ t. chosen t cs) (choose s c)
 
+-- the value, or else the first one
 abbrev pub or_else : {A : Type 0} → A → Option A → A
 or_else x None = x
 or_else x (Some y) = y

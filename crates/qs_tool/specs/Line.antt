@@ -21,9 +21,11 @@ use Rattle.qs_tool.specs.Shown.{shown}
 abbrev pub without_newline : List ℕ → List ℕ
 without_newline xs = if slice_index xs (length xs - 1) == 10 then take (length xs - 1) xs else xs
 
+-- a line of this text
 abbrev pub ended : List ℕ → List ℕ
 ended text = text ++ 10 ∷ []
 
+-- what is written where the arguments are wrong, and where an allocation failed
 abbrev pub usage_line : List ℕ
 usage_line = ended (codes "usage: qs_tool flat|params|any [--form] [--strict] [--depth N] [--format indexed|empty|unindexed] [--duplicates last|error]")
 
@@ -38,6 +40,7 @@ IsErrorLine line = (text : List ℕ) × (line ≡ ended (codes "error: " ++ text
 abbrev pub IsLineOfError : Error → List ℕ → Type 0
 IsLineOfError error line = IfSome (error_text error) (λ text. line ≡ ended (codes "error: " ++ text))
 
+-- the text, unless an entry is rejected
 abbrev pub unless_rejected : Option Refusal → List ℕ → Option (List ℕ)
 unless_rejected None text = Some text
 unless_rejected (Some refusal) text = None

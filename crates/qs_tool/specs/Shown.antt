@@ -13,6 +13,7 @@ listed [] = []
 listed (x ∷ []) = x
 listed (x ∷ y ∷ rest) = x ++ (codes "," ++ listed (y ∷ rest))
 
+-- texts in a list, and in a map
 abbrev pub in_brackets : List (List ℕ) → List ℕ
 in_brackets texts = codes "[" ++ (listed texts ++ codes "]")
 

@@ -63,7 +63,7 @@ impl Information {
         Information::named(word.as_str())
     }
 
-    // Returns the one of this name.
+    // Returns the information that the option of this name asks for.
     fn named(name: &str) -> Option<Information>
         ensures { result ≡ information_named name.now }
     {

@@ -21,7 +21,7 @@ fn words(alloc: Global, line: &str) -> Result<Vec<String>, AllocError> {
     Ok(words)
 }
 
-// Runs over memory write these lines and end with this status. A row is the arguments, the input and the line, with ` | ` between.
+// Asserts that runs over memory write these lines and end with this status. A row is the arguments, the input and the line, with ` | ` between.
 fn expect(rt: &impl Abort, alloc: Global, status: u8, rows: &[&str]) -> Result<(), Fail> {
     for row in rows {
         let mut parts = row.split(" | ");

@@ -3,7 +3,7 @@ pub use Rattle.std.proofs.Common.{Bool, Bor, Equal, Err, Fits, Global, Greater, 
 pub use Rattle.qs_spec.proofs.Booleans.{and_both, or_both}
 pub use Rattle.qs_spec.proofs.Order.{is_itself, segments_total}
 pub use Rattle.qs_spec.proofs.TreeOf.{one_tree, same_segment}
-pub use Rattle.qs_spec.specs.Escape.{decoded, encoded, escape, is_between, is_kept_in_query, is_marked, spelling, unplus}
+pub use Rattle.qs_spec.specs.Escape.{decoded, encoded, escape, is_between, is_kept_in_query, is_marked, encoded_byte, unplus}
 pub use Rattle.qs_spec.specs.Grammar.{ArePairs, Pair, direct, ends_last, ends_root, is_amp, is_close, is_equals, is_open, longer, pushed, root}
 pub use Rattle.qs_spec.specs.Leaf.{Leaf}
 pub use Rattle.qs_spec.specs.Marks.{entries_marks, items_marks, key_marks, marks}

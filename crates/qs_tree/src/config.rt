@@ -75,6 +75,10 @@ impl Model for Config {
 
 impl Config {
     /// Returns the default: `max_depth` 5, query encoding, `ArrayFormat::Indexed` and `DuplicateKeyBehavior::TakeLast`.
+    ///
+    /// ```
+    /// parse(alloc, b"a[b]=1", Config::new())
+    /// ```
     pub fn new() -> Config
         ensures { result ≡ default }
     {
@@ -88,6 +92,10 @@ impl Config {
 
     /// Sets how many levels of brackets are parsed and written. Deeper brackets are part of the last key when parsed, and an
     /// error when written.
+    ///
+    /// ```
+    /// parse(alloc, b"a[b][c]=1", Config::new().max_depth(1)) // the keys `a`, `b` and `[c]`
+    /// ```
     pub fn max_depth(self, max_depth: usize) -> Config
         ensures { result ≡ record self { max_depth = max_depth } }
     {
@@ -95,6 +103,10 @@ impl Config {
     }
 
     /// Sets form encoding (`true`), which parses escaped brackets too and writes a space as `%20`, or query encoding (`false`).
+    ///
+    /// ```
+    /// parse(alloc, b"a%5Bb%5D=1", Config::new().use_form_encoding(true)) // the keys `a` and `b`
+    /// ```
     pub fn use_form_encoding(self, form: bool) -> Config
         ensures { result ≡ record self { form = form } }
     {
@@ -102,6 +114,10 @@ impl Config {
     }
 
     /// Sets how the index of a list's element is written.
+    ///
+    /// ```
+    /// let config = Config::new().array_format(ArrayFormat::EmptyIndexed); // writes a[]=x&a[]=y
+    /// ```
     pub fn array_format(self, array_format: ArrayFormat) -> Config
         ensures { result ≡ record self { array_format = array_format_of array_format } }
     {
@@ -112,6 +128,10 @@ impl Config {
     }
 
     /// Sets what happens to repeated values where one value is read.
+    ///
+    /// ```
+    /// let config = Config::new().duplicate_key_behavior(DuplicateKeyBehavior::Error); // rejects a=1&a=2 for one value
+    /// ```
     pub fn duplicate_key_behavior(self, duplicates: DuplicateKeyBehavior) -> Config
         ensures { result ≡ record self { duplicates = duplicates_of duplicates } }
     {

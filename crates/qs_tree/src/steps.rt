@@ -26,6 +26,10 @@ impl Model for Steps {
 
 impl Steps {
     /// Returns zero steps. Costs nothing at run time.
+    ///
+    /// ```
+    /// let mut steps = Steps::new();
+    /// ```
     pub fn new() -> Steps
         ensures { result ≡ 0 }
     {

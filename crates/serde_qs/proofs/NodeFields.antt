@@ -1,4 +1,4 @@
--- The fields of a struct, read from a node: by their names among keys, and by their places among items.
+-- The fields of a struct, read from a node: by their names among keys, and by their indices among items.
 use Rattle.std.proofs.Common.{◌≡◌, Bool, true, false, List, [], ◌∷◌, Option, Some, None, Result, refl, sym, ap, ap₂, ◌∙◌}
 use Rattle.std.specs.Result.{IsErrAnd}
 use Rattle.std.specs.Prelude.{ℕ, if◌then◌else◌, not, cond}

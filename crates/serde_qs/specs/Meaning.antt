@@ -3,6 +3,7 @@ use Rattle.std.specs.Prelude.{ℕ, ◌-◌, ◌^◌, ℤ, pos, neg_ℤ, int_le, 
 use Rattle.qs_spec.specs.Data.{Data, Values, no_values, one_value}
 use Rattle.qs_spec.specs.Data.Data.{unit, none, some, boolean, unsigned, signed, character, text, sequence, newtype}
 
+-- no value, a boolean
 abbrev pub unit_in : Data → Option (Unit {0})
 unit_in unit = Some tt
 unit_in _ = None
@@ -25,6 +26,7 @@ signed_between low high _ = None
 abbrev pub signed_in : ℕ → Data → Option ℤ
 signed_in bits x = signed_between (neg_ℤ (pos (2 ^ (bits - 1)))) (pos (2 ^ (bits - 1) - 1)) x
 
+-- a character, a text
 abbrev pub character_in : Data → Option ℕ
 character_in (character c) = Some c
 character_in _ = None
@@ -33,6 +35,7 @@ abbrev pub text_in : Data → Option (List ℕ)
 text_in (text t) = Some t
 text_in _ = None
 
+-- an option, by its value
 abbrev pub option_data : {A : Type 0} → (A → Data) → Option A → Data
 option_data datum None = none
 option_data datum (Some x) = some (datum x)
@@ -42,6 +45,7 @@ option_in m none = Some None
 option_in m (some d) = option_map Some (m d)
 option_in m _ = None
 
+-- a list, by its values
 abbrev pub values_meant : {A : Type 0} → (Data → Option A) → Values → Option (List A)
 values_meant m no_values = Some []
 values_meant m (one_value d ds) = option_and_then (λ x. option_map (λ xs. x ∷ xs) (values_meant m ds)) (m d)
@@ -50,9 +54,11 @@ abbrev pub sequence_in : {A : Type 0} → (Data → Option A) → Data → Optio
 sequence_in m (sequence ds) = values_meant m ds
 sequence_in m _ = None
 
+-- a newtype, by its value
 abbrev pub newtype_in : {A : Type 0} → (Data → Option A) → Data → Option A
 newtype_in m (newtype d) = m d
 newtype_in m _ = None
 
+-- two values, if both are there
 abbrev pub both : {A B : Type 0} → Option A → Option B → Option (A × B)
 both a b = option_and_then (λ x. option_map (λ y. (x, y)) b) a

@@ -21,6 +21,6 @@ missing_data s = cond (is_option s) (Some Data.none) None
 abbrev pub by_names : {V : Type 0} → Bool → List Field → (Members → Option V) → Entries → Option V
 by_names reject_duplicates fields meaning es = option_and_then (λ ms. meaning (members_of ms)) (reads_names reject_duplicates (fields_of fields) es)
 
--- what the members mean that fields read by their places
+-- what the members mean that fields read by their indices
 abbrev pub by_places : {V : Type 0} → Bool → List Field → (Members → Option V) → Items → Option V
 by_places reject_duplicates fields meaning xs = option_and_then (λ ms. meaning (members_of ms)) (reads_places reject_duplicates (fields_of fields) xs)

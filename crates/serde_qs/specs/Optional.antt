@@ -11,6 +11,7 @@ abbrev pub some_data : {A : Type 0} → (A → Data) → List ℕ → Option A �
 some_data datum n None rest = rest
 some_data datum n (Some x) rest = (n, datum x) ∷ rest
 
+-- the same under the first name, in front of the others by theirs
 abbrev pub optional_data : {A : Type 0} → (A → Data) → Option A → (List (List ℕ) → List Named) → List (List ℕ) → List Named
 optional_data datum x rest names = some_data datum (first_of names) x (rest (others_of names))
 
@@ -25,5 +26,6 @@ abbrev pub is_first_named : Fields → Members → Bool
 is_first_named fs no_members = true
 is_first_named fs (one_member k d ms) = is_field_name k fs
 
+-- what is written begins with a field
 abbrev pub FieldsAreNamed : {A : Type 0} → (List (List ℕ) → List Field) → (List (List ℕ) → A → List Named) → Type 0
 FieldsAreNamed {A} form written = (names : List (List ℕ)) (x : A) → is_first_named (fields_of (form names)) (members_of (written names x)) ≡ true

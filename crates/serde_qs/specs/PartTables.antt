@@ -43,6 +43,7 @@ pub record FieldsTable (A : Type 0) : Type 1 where
   pub come_back : FieldsComeBack form written meaning value
   pub are_distinct : (names : List (List ℕ)) → are_distinct_fields (fields_of (form names)) ≡ true
 
+-- a struct without fields
 abbrev pub no_fields : FieldsTable (Unit {0})
 no_fields = record {
   Value = Unit {0};
@@ -57,6 +58,7 @@ no_fields = record {
   are_distinct = λ names. refl;
 }
 
+-- a field, and the fields after it
 abbrev pub field : {A B : Type 0} → Table A → FieldsTable B → FieldsTable (A × B)
 field t r = record {
   Value = t.Value × r.Value;
@@ -71,6 +73,7 @@ field t r = record {
   are_distinct = λ names. both_true t.distinct (r.are_distinct (others_of names));
 }
 
+-- a field that may be left out, and the fields after it
 abbrev pub optional_field : {A B : Type 0} → Table A → FieldsTable B → FieldsTable (Optional A B)
 optional_field t r = record {
   Value = Option t.Value × r.Value;
@@ -110,6 +113,7 @@ pub record ItemsTable (A : Type 0) : Type 1 where
   pub come_back : ItemsComeBack form written meaning value
   pub distinct : are_distinct (shapes_of form) ≡ true
 
+-- a tuple without items
 abbrev pub no_items : ItemsTable (Unit {0})
 no_items = record {
   Value = Unit {0};
@@ -121,6 +125,7 @@ no_items = record {
   distinct = refl;
 }
 
+-- an item, and the items after it
 abbrev pub item : {A B : Type 0} → Table A → ItemsTable B → ItemsTable (A × B)
 item t r = record {
   Value = t.Value × r.Value;
@@ -146,6 +151,7 @@ pub record PayloadTable (A : Type 0) : Type 1 where
   pub comes_back : KindComesBack form written meaning value
   pub is_distinct : KindIsDistinct form
 
+-- a variant that holds nothing
 abbrev pub unit_payload : PayloadTable (Unit {0})
 unit_payload = record {
   Value = Unit {0};
@@ -160,6 +166,7 @@ unit_payload = record {
   is_distinct = λ names k. refl;
 }
 
+-- a variant that holds one value
 abbrev pub newtype_payload : {A : Type 0} → Table A → PayloadTable (Newtype A)
 newtype_payload t = record {
   Value = t.Value;
@@ -174,6 +181,7 @@ newtype_payload t = record {
   is_distinct = λ names k. t.distinct;
 }
 
+-- a variant that holds items
 abbrev pub tuple_payload : {A : Type 0} → ItemsTable A → PayloadTable (Tuple A)
 tuple_payload t = record {
   Value = t.Value;
@@ -188,6 +196,7 @@ tuple_payload t = record {
   is_distinct = λ names k. t.distinct;
 }
 
+-- a variant that holds fields
 abbrev pub struct_payload : {A : Type 0} → FieldsTable A → PayloadTable (Struct A)
 struct_payload t = record {
   Value = t.Value;
@@ -202,6 +211,7 @@ struct_payload t = record {
   is_distinct = λ names k. both_true k (t.are_distinct names);
 }
 
+-- a variant that holds fields and rejects unknown keys
 abbrev pub strict_payload : {A : Type 0} → FieldsTable A → PayloadTable (StrictStruct A)
 strict_payload t = record {
   Value = t.Value;
@@ -228,6 +238,7 @@ pub record VariantsTable (A : Type 0) : Type 1 where
   pub come_back : VariantsComeBack form written meaning value
   pub are_distinct : AreDistinct form
 
+-- the last variant
 abbrev pub last_variant : {A : Type 0} → PayloadTable A → VariantsTable (Last A)
 last_variant t = record {
   Value = t.Value;
@@ -241,6 +252,7 @@ last_variant t = record {
   are_distinct = λ names k. last_distinct t.form t.is_distinct names k;
 }
 
+-- a variant, and the variants after it
 abbrev pub one_variant : {A B : Type 0} → PayloadTable A → VariantsTable B → VariantsTable (OneOf A B)
 one_variant t r = record {
   Value = OneOf t.Value r.Value;
@@ -265,6 +277,7 @@ pub record PartsTable (A : Type 0) : Type 1 where
   pub come_back : PartsComeBack are_named form written meaning value
   pub distinct : (names : List (List ℕ)) → are_named names ≡ true → is_distinct (form names) ≡ true
 
+-- a struct
 abbrev pub struct_parts : {A : Type 0} → FieldsTable A → PartsTable (Struct A)
 struct_parts t = record {
   Value = t.Value;
@@ -277,6 +290,7 @@ struct_parts t = record {
   distinct = λ names k. differ UnknownKeys.ignored names t.count (t.form names) k (t.are_distinct names);
 }
 
+-- a struct that rejects unknown keys
 abbrev pub strict_parts : {A : Type 0} → FieldsTable A → PartsTable (StrictStruct A)
 strict_parts t = record {
   Value = t.Value;
@@ -289,6 +303,7 @@ strict_parts t = record {
   distinct = λ names k. differ UnknownKeys.rejected names t.count (t.form names) k (t.are_distinct names);
 }
 
+-- an enum
 abbrev pub enum_parts : {A : Type 0} → VariantsTable A → PartsTable (Enum A)
 enum_parts t = record {
   Value = t.Value;
@@ -301,6 +316,7 @@ enum_parts t = record {
   distinct = λ names k. enum_distinct t.count t.form t.are_distinct names k;
 }
 
+-- a newtype
 abbrev pub newtype_parts : {A : Type 0} → Table A → PartsTable (Newtype A)
 newtype_parts t = record {
   Value = t.Value;
@@ -313,6 +329,7 @@ newtype_parts t = record {
   distinct = λ names k. t.distinct;
 }
 
+-- a tuple
 abbrev pub tuple_parts : {A : Type 0} → ItemsTable A → PartsTable (Tuple A)
 tuple_parts t = record {
   Value = t.Value;

@@ -11,10 +11,11 @@ use Rattle.qs_data.specs.data.Views.{named, data_of}
 use Rattle.qs_data.specs.declared.data.data.Data.{Data}
 use Rattle.serde_qs.specs.Meaning.{both}
 
+-- names of a program as bytes
 abbrev pub texts : List (Bor (List ℕ)) → List (List ℕ)
 texts names = map (λ (n : Bor (List ℕ)). n.now) names
 
--- members of which the last is the first
+-- members in reverse order
 abbrev pub members_back : List (String Global × Data) → Members
 members_back ms = members_of (map (named data_of) (reverse ms))
 
@@ -27,7 +28,7 @@ abbrev pub others_of : List (List ℕ) → List (List ℕ)
 others_of [] = []
 others_of (n ∷ names) = names
 
--- the first field by the first name, in front of the others by theirs
+-- the first field and its data by the first name, in front of the others by theirs
 abbrev pub field_form : Shape → Bool → (List (List ℕ) → List Field) → List (List ℕ) → List Field
 field_form s optional rest names = (first_of names, s, optional) ∷ rest (others_of names)
 
@@ -38,6 +39,7 @@ member_data x rest names = (first_of names, x) ∷ rest (others_of names)
 abbrev pub are_names : List (List ℕ) → ℕ → List Field → Bool
 are_names names count fields = (length names == count) && field_names_differ (fields_of fields)
 
+-- no field, where no member is left
 abbrev pub nothing_in : Members → Option (Unit {0})
 nothing_in no_members = Some tt
 nothing_in _ = None
@@ -47,6 +49,7 @@ abbrev pub member_in : {A B : Type 0} → (v.Data → Option A) → (List (List 
 member_in m rest names no_members = None
 member_in m rest names (one_member k d ms) = if bytes_eq k (first_of names) then both (m d) (rest (others_of names) ms) else None
 
+-- the fields of a struct
 abbrev pub struct_in : {A : Type 0} → (Members → Option A) → v.Data → Option A
 struct_in m (v.struct ms) = m ms
 struct_in m _ = None

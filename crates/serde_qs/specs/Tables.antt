@@ -33,6 +33,7 @@ pub record Table (A : Type 0) : Type 1 where
   pub distinct : is_distinct form ≡ true
   pub comes_back : ComesBack datum form meaning value
 
+-- a table of these
 abbrev pub table_of : {A V : Type 0} (value : A → V) (datum : A → Data) (form : Shape) (meaning : Data → Option V) → is_distinct form ≡ true
     → ComesBack datum form meaning value → Table A
 table_of {A} {V} value datum form meaning distinct back =
@@ -71,9 +72,11 @@ pub record Numbers (A : Type 0) : Type 1 where
   pub meaning : List ℕ → Option Value
   pub come_back : NumbersComeBack in_range meaning printed value
 
+-- whole numbers of these
 abbrev pub numbers_of : {A V : Type 0} (value : A → V) (in_range : A → Bool) (printed : A → List ℕ) (meaning : List ℕ → Option V) → NumbersComeBack in_range meaning printed value → Numbers A
 numbers_of {A} {V} value in_range printed meaning back = record { Value = V; value = value; in_range = in_range; printed = printed; meaning = meaning; come_back = back }
 
+-- a list of them in one text
 abbrev pub delimited_table : {A D : Type 0} → Numbers A → (delimiter : ℕ) → is_number_delimiter delimiter ≡ true → Table (Delimited A D)
 delimited_table n delimiter free =
     table_of (λ list. map n.value list.items.items) (λ list. list_data n.in_range n.printed delimiter list.items.items) Shape.text (list_in n.meaning delimiter) refl

@@ -9,10 +9,11 @@ use Rattle.qs_data.specs.declared.data.data.Data.{Data}
 use Rattle.serde_qs.specs.Fits.{fit_parts}
 use Rattle.serde_qs.specs.Meaning.{both}
 
--- values of which the last is the first
+-- values in reverse order
 abbrev pub values_back : List Data → Values
 values_back xs = values_of (map data_of (reverse xs))
 
+-- no item, where no value is left
 abbrev pub no_item_in : Values → Option (Unit {0})
 no_item_in no_values = Some tt
 no_item_in _ = None
@@ -22,6 +23,7 @@ abbrev pub item_in : {A B : Type 0} → (v.Data → Option A) → (Values → Op
 item_in m rest no_values = None
 item_in m rest (one_value d ds) = both (m d) (rest ds)
 
+-- the items of a tuple, and of a variant
 abbrev pub tuple_in : {A : Type 0} → (Values → Option A) → v.Data → Option A
 tuple_in m (v.tuple ds) = m ds
 tuple_in m _ = None

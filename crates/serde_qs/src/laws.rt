@@ -14,6 +14,10 @@ use crate::traits::RoundTrip;
 /// any order, and where lists hold scalars, in every format, in an order that keeps entries with one path in order.
 ///
 /// It calls [`fits`](RoundTrip::fits) and does nothing else.
+///
+/// ```
+/// value_comes_back(&query); // from here on a proof knows what is read from the text of `query`
+/// ```
 pub fn value_comes_back<T: RoundTrip>(value: &T)
     ensures { (config : Settings) (es : List Entry) → IsPlainFor config T.table.form (T.datum value.now) → IsOrder config (T.datum value.now) es
         → IsRead config T.table.form T.table.meaning (written config.form false es) (T.table.value value.now) }

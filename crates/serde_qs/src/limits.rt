@@ -36,6 +36,10 @@ pub enum LimitError {
 
 impl Limits {
     /// Returns no limits.
+    ///
+    /// ```
+    /// Limits::new().check(input) // Ok, whatever the input
+    /// ```
     #[must_use]
     pub fn new() -> Self
         ensures { result ≡ lifted }
@@ -47,6 +51,10 @@ impl Limits {
     }
 
     /// Returns these limits with another greatest length in bytes.
+    ///
+    /// ```
+    /// Limits::new().max_length(3).check(b"a=12") // Err(LimitError::TooLong(4))
+    /// ```
     #[must_use]
     pub fn max_length(self, max_length: usize) -> Self
         ensures length { result.max_length ≡ max_length }
@@ -56,6 +64,10 @@ impl Limits {
     }
 
     /// Returns these limits with another greatest number of pairs.
+    ///
+    /// ```
+    /// Limits::new().max_pairs(1).check(b"a=1&b=2") // Err(LimitError::TooManyPairs(4))
+    /// ```
     #[must_use]
     pub fn max_pairs(self, max_pairs: usize) -> Self
         ensures length { result.max_length ≡ self.max_length }

@@ -9,7 +9,7 @@ ghost use Rattle.qs_data.specs.write.Scalars.{scalar_text};
 use crate::traits::Serialize;
 use qs_data::{ArrayFormat, Data, Result, Scalar, Stop, WriteResult, Writer};
 
-// Writes data, if they were made.
+/// Writes data, if they were made.
 pub(crate) fn write_made(writer: &mut Writer, made: Result<Data>) -> WriteResult
     ensures { (x : Datum) → IfOk made (λ d. data_of d ≡ x) → WritesPart result writer.old writer.new (data_part x) }
 {
@@ -19,7 +19,7 @@ pub(crate) fn write_made(writer: &mut Writer, made: Result<Data>) -> WriteResult
     }
 }
 
-// Writes a value under one more segment.
+/// Writes a value under one more segment.
 pub(crate) fn write_under<T: Serialize>(
     writer: &mut Writer,
     segment: Scalar<'_>,
@@ -33,7 +33,7 @@ pub(crate) fn write_under<T: Serialize>(
     Ok(())
 }
 
-// Writes a value as the element of this index.
+/// Writes a value as the element of this index.
 pub(crate) fn write_element<T: Serialize>(
     writer: &mut Writer,
     place: usize,

@@ -1,4 +1,4 @@
--- The data of the specification that data of a program are.
+-- The data of the definitions that data of a program are.
 use Rattle.std.specs.Prelude.{ℕ, List, map, string_bytes}
 use Rattle.std.specs.declared.string.String.{String}
 use Rattle.std.specs.declared.alloc.Global.{Global}
@@ -12,6 +12,7 @@ named view x = (string_bytes x.0, view x.1)
 abbrev pub unchanged : d.Data → d.Data
 unchanged x = x
 
+-- one level of data, with what is inside already seen as data of the definitions
 abbrev pub data_layer : Data-F d.Data → d.Data
 data_layer Data-F.Unit = d.unit
 data_layer Data-F.None = d.none
@@ -36,7 +37,7 @@ data_layer (Data-F.StructVariant name ms) = d.struct_variant (string_bytes name)
 abbrev pub data_of : Data → d.Data
 data_of = fold-Data d.Data data_layer
 
--- lists of them
+-- lists of them, and the members of a struct
 abbrev pub values_in : List Data → d.Values
 values_in xs = d.values_of (map data_of xs)
 
@@ -47,5 +48,6 @@ members_in ms = d.members_of (map (named data_of) ms)
 abbrev pub pair_of : Data × Data → d.Data × d.Data
 pair_of p = (data_of p.0, data_of p.1)
 
+-- the pairs of a map
 abbrev pub pairs_in : List (Data × Data) → d.Pairs
 pairs_in ps = d.pairs_of (map pair_of ps)

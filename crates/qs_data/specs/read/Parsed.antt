@@ -18,6 +18,7 @@ pub record Parsed : Type 0 where
   pub config : Config
   pub tree : Tree
 
+-- what a deserializer holds
 abbrev pub parsed_of : Deserializer → Parsed
 parsed_of d = record { config = d.config; tree = tree_of d.tree }
 

@@ -1,4 +1,4 @@
--- The shapes of the specification that shapes of a program are.
+-- The shapes of the definitions that shapes of a program are.
 use Rattle.std.specs.Prelude.{List, map, string_bytes}
 use Rattle.qs_spec.specs.Shape as s
 use Rattle.qs_data.specs.declared.shape.shape.Shape.{Shape, Shape-F, fold-Shape}
@@ -8,6 +8,7 @@ use Rattle.qs_data.specs.declared.shape.shape.VariantKind.{VariantKind, VariantK
 use Rattle.qs_data.specs.declared.shape.shape.KeyShape.{KeyShape}
 use Rattle.qs_data.specs.declared.shape.shape.KeyShape.TheVariants as k
 
+-- the shape of a key
 abbrev pub key_shape_of : KeyShape → s.KeyShape
 key_shape_of k.Bool = s.KeyShape.boolean
 key_shape_of k.U8 = s.KeyShape.unsigned 8
@@ -22,6 +23,7 @@ key_shape_of k.Char = s.KeyShape.character
 key_shape_of k.Text = s.KeyShape.text
 key_shape_of (k.Variants names) = s.KeyShape.variants (map string_bytes names.items)
 
+-- one level of a shape, of a field, of a variant and of what it holds, with what is inside already seen as shapes of the definitions
 abbrev pub shape_layer : Shape-F s.Shape s.VariantKind s.Field s.Variant → s.Shape
 shape_layer Shape-F.Shape::Unit = s.Shape.unit
 shape_layer Shape-F.Bool = s.Shape.boolean
@@ -60,7 +62,7 @@ kind_layer (VariantKind-F.VariantKind::Tuple xs) = s.tuple_kind (s.shapes_of xs.
 kind_layer (VariantKind-F.VariantKind::Struct fs) = s.struct_kind s.UnknownKeys.ignored (s.fields_of fs.items)
 kind_layer (VariantKind-F.VariantKind::StrictStruct fs) = s.struct_kind s.UnknownKeys.rejected (s.fields_of fs.items)
 
--- the shape that a value is
+-- the shape, the field, the variant, and what a variant holds
 abbrev pub shape_of : Shape → s.Shape
 shape_of = fold-Shape s.Shape s.VariantKind s.Field s.Variant shape_layer kind_layer field_layer variant_layer
 
@@ -73,6 +75,7 @@ variant_of = fold-Variant s.Shape s.VariantKind s.Field s.Variant shape_layer ki
 abbrev pub kind_of : VariantKind → s.VariantKind
 kind_of = fold-VariantKind s.Shape s.VariantKind s.Field s.Variant shape_layer kind_layer field_layer variant_layer
 
+-- lists of them
 abbrev pub shapes_in : List Shape → s.Shapes
 shapes_in ss = s.shapes_of (map shape_of ss)
 

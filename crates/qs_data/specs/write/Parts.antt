@@ -34,7 +34,7 @@ under segment part config path = deeper config.max_depth path segment (part conf
 abbrev pub element : ℕ → Part → Part
 element i part config path = maybe_deeper config.max_depth path (element_segment config.array_format i) (part config)
 
--- one part and then another, unless the first one is rejected
+-- one part and then another, unless the first one has an error
 abbrev pub both : Part → Part → Part
 both a b config path = and_then (a config path) (b config path)
 

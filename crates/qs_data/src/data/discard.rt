@@ -7,7 +7,7 @@ ghost use Rattle.qs_data.specs.data.internal.Weight.{weight, is_leaf, parts_weig
 use crate::data::Data;
 use std::alloc::Global;
 
-/// The data that were in data.
+/// What data held.
 enum Parts {
     /// One.
     One(Box<Data>),
@@ -57,7 +57,7 @@ impl Data {
         }
     }
 
-    // Returns the data in it, and their allocator. A leaf is dropped.
+    // Returns the data that these data hold, and their allocator. A leaf is dropped.
     #[tactic(auto, using(crate::proofs::lemmas::data::Weights::weights))]
     fn into_parts(self) -> Option<(Global, Parts)>
         ensures { MatchOption result (weight self ≡ 1) (λ p. parts_weight p.1 + 1 ≡ weight self) }
@@ -84,7 +84,7 @@ impl Data {
         }
     }
 
-    // Puts it on the stack. A leaf is dropped at once, and so are data for which an allocation fails.
+    // Puts these data on the stack. A leaf is dropped at once, and so are data for which an allocation fails.
     fn put_on(self, stack: &mut Vec<Data>)
         ensures leaf { is_leaf self ≡ true → stack.new.items ≡ stack.old.items }
         ensures weight { sum_by weight stack.new.items ≤ sum_by weight stack.old.items + weight self }
@@ -98,7 +98,7 @@ impl Data {
 }
 
 impl Parts {
-    // Puts each on the stack.
+    // Puts each of the data on the stack.
     fn put_on(self, stack: &mut Vec<Data>)
         ensures { sum_by weight stack.new.items ≤ sum_by weight stack.old.items + parts_weight self }
     {

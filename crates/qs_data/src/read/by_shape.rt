@@ -149,7 +149,7 @@ fn newtype_data(reader: Reader, part: &Shape, value: &ParsedValue<'_>) -> Result
     Ok(Data::Newtype(Box::new(reader.alloc, held)?))
 }
 
-// Reads a value that may be absent: it is where there is no value, and an empty one is read as none.
+// Reads a value that may be absent: `None` where there is no value. An empty value is `Some` of what the shape reads from no value.
 #[cycle(read)]
 fn read_option(reader: Reader, part: &Shape, value: &ParsedValue<'_>) -> Result<Data>
     ensures { ReadGives data_of (is_text (tree_of value.now)) result (read_option (reads reader.reject_duplicates (shape_of part.now)) (tree_of value.now)) }

@@ -38,6 +38,10 @@ impl<'qs> Deserializer<'qs> {
     /// Returns the querystring, parsed with the default configuration.
     ///
     /// The errors are those of [`with_config`](Deserializer::with_config). It allocates, and takes time, as that call does.
+    ///
+    /// ```
+    /// let deserializer = Deserializer::new(alloc, b"age=24&name=Alice")?;
+    /// ```
     pub fn new(alloc: Global, input: &'qs [u8]) -> Result<Deserializer<'qs>>
         ensures config { IfOk result (λ d. (parsed_of d).config ≡ default) }
         ensures tree { IfOk result (λ d. IsTree default.form default.max_depth input.now (parsed_of d).tree) }
@@ -58,6 +62,11 @@ impl<'qs> Deserializer<'qs> {
     ///
     /// The clauses are those of [`parse`](qs_tree::parse) about the tree. Pairs in another order that keeps those with overlapping
     /// paths have the same tree, or are rejected too (`alike`). Steps aren't counted: [`parse_with`](qs_tree::parse_with) counts them.
+    ///
+    /// ```
+    /// let config = Config::new().use_form_encoding(true);
+    /// let deserializer = Deserializer::with_config(alloc, config, b"user%5Bname%5D=Alice")?;
+    /// ```
     pub fn with_config(alloc: Global, config: Config, input: &'qs [u8]) -> Result<Deserializer<'qs>>
         ensures config { IfOk result (λ d. (parsed_of d).config ≡ config) }
         ensures tree { IfOk result (λ d. IsTree config.form config.max_depth input.now (parsed_of d).tree) }
@@ -97,6 +106,11 @@ impl<'qs> Deserializer<'qs> {
     /// Memory is allocated for what the data keep, for a struct with room for each field of its shape, and for an error's message. A
     /// unit, a boolean, a number or a character is read without an allocation. The time grows with the tree and the data: a field is
     /// found by two look-ups at most.
+    ///
+    /// ```
+    /// let numbers = Shape::Seq(Box::new(alloc, Shape::U8)?);
+    /// let datum = Deserializer::new(alloc, b"0=7&1=8")?.read(alloc, &numbers)?; // the list of 7 and 8
+    /// ```
     pub fn read(self, alloc: Global, shape: &Shape) -> Result<Data>
         requires { is_distinct (shape_of shape.now) ≡ true }
         ensures exact { ReturnsData (parsed_of self.entry) (shape_of shape.now) result }

@@ -77,7 +77,11 @@ pub(crate) fn are_integers(map: &ParsedMap<'_>) -> bool
 }
 
 impl<'t, 'qs> Items<'t, 'qs> {
-    /// Returns how many items there are.
+    /// Returns how many items there are, in constant time.
+    ///
+    /// ```
+    /// let count = reader.items(&ParsedValue::Null)?.len(); // 0
+    /// ```
     pub fn len(self) -> usize
         ensures { result ≡ length (items_view self.entry) }
     {
@@ -109,7 +113,13 @@ impl<'t, 'qs> Items<'t, 'qs> {
     }
 
     /// Returns the item at an index, if there are so many. Where a map has another key there, the error is
-    /// [`Custom`](qs_tree::Error::Custom).
+    /// [`Custom`](qs_tree::Error::Custom), for which it allocates. It takes constant time.
+    ///
+    /// ```
+    /// let Some(first) = items.get(reader, 0)? else {
+    ///     return Err(reader.missing_item(0));
+    /// };
+    /// ```
     #[inline(always)]
     pub fn get(
         self,
@@ -137,7 +147,7 @@ fn value_at<'t, 'qs>(
     Ok(Some(value))
 }
 
-// Tests whether a key is the index that is due, of which there are 4,294,967,295 at most.
+// Tests whether a key is the index that is due. No item has the index 4,294,967,295.
 fn test_place(alloc: Global, key: &Key<'_>, due: usize) -> Result<()>
     ensures { ReadGives (λ _. true) true result (passed (is_place due (segment_of_key key.now))) }
 {

@@ -49,6 +49,14 @@ pub enum Entries<'t, 'qs> {
 }
 
 /// What is found under a name.
+///
+/// ```
+/// match find_value(&map, "age") {
+///     Found::One(node) => read_value(alloc, config, &Shape::U8, node),
+///     Found::Missing => Ok(Data::None),
+///     Found::Several => Err(Reader::new(alloc, config).duplicate_field("age")),
+/// }
+/// ```
 #[derive(Clone, Copy)]
 pub enum Found<'t, 'qs> {
     /// Nothing.
@@ -60,7 +68,17 @@ pub enum Found<'t, 'qs> {
 }
 
 impl<'t, 'qs> Entries<'t, 'qs> {
-    /// Looks up the value under a name. It doesn't allocate.
+    /// Looks up the value under a name: under the text, or under the integer that is written so. It makes two look-ups by binary
+    /// search at most, and doesn't allocate.
+    ///
+    /// The clause asks that the integer keys have 32 bits, as those of every tree have. [`test`](Entries::test) and
+    /// [`keys_are_text`](Entries::keys_are_text) show it, so one of them is called first.
+    ///
+    /// ```
+    /// if let Found::One(node) = entries.find("age") {
+    ///     age = u8::from_node(reader, node)?;
+    /// }
+    /// ```
     #[inline(always)]
     pub fn find(self, name: &str) -> Found<'t, 'qs>
         requires { NumbersFit (entries_view self) }
@@ -69,7 +87,11 @@ impl<'t, 'qs> Entries<'t, 'qs> {
         find(self, name)
     }
 
-    /// Tests whether all keys are texts. It returns the first that isn't, and doesn't allocate.
+    /// Tests whether all keys are UTF-8, and returns the first that isn't. It looks at each key once, and doesn't allocate.
+    ///
+    /// ```
+    /// entries.test().map_err(|broken| broken.into_error(alloc))?;
+    /// ```
     pub fn test(self) -> std::result::Result<(), BrokenKey<'t>>
         ensures text { PassesTest result (keys_are_text (entries_view self.entry)) }
         ensures fit { NumbersFit (entries_view self.entry) }
@@ -77,7 +99,13 @@ impl<'t, 'qs> Entries<'t, 'qs> {
         test_keys(self)
     }
 
-    /// Returns whether all keys are texts, as [`test`](Entries::test) does without the key that isn't. It doesn't allocate.
+    /// Returns whether all keys are UTF-8. It is [`test`](Entries::test) without the key that isn't, and takes less time.
+    ///
+    /// ```
+    /// if !entries.keys_are_text() {
+    ///     return Err(unexpected(alloc, "keys that are UTF-8"));
+    /// }
+    /// ```
     #[inline(always)]
     pub fn keys_are_text(self) -> bool
         ensures text { result ≡ keys_are_text (entries_view self.entry) }
@@ -90,7 +118,11 @@ impl<'t, 'qs> Entries<'t, 'qs> {
         }
     }
 
-    /// Returns how many entries there are.
+    /// Returns how many entries there are, in constant time.
+    ///
+    /// ```
+    /// let count = Entries::Map(&map).len();
+    /// ```
     pub fn len(self) -> usize
         ensures { result ≡ length (entry_list (entries_view self.entry)) }
     {
@@ -183,7 +215,7 @@ fn find_in_map<'t, 'qs>(map: &'t ParsedMap<'qs>, name: &str) -> Found<'t, 'qs>
     }
 }
 
-// Returns the only one of two values.
+// Returns the value that is there, of two that may be.
 #[inline(always)]
 fn either<'t, 'qs>(
     a: Option<&'t ParsedValue<'qs>>,
@@ -198,7 +230,7 @@ fn either<'t, 'qs>(
     }
 }
 
-// Returns the number that is written so. Most names don't begin as numbers do, and aren't parsed.
+// Returns the number whose digits the name is, if it is one's. Most names don't begin with a digit, and aren't parsed.
 #[inline(always)]
 fn number_of(name: &str) -> Option<u32>
     ensures { ParsesNumber result name.now }
@@ -210,7 +242,7 @@ fn number_of(name: &str) -> Option<u32>
     }
 }
 
-// Returns the number that is written so.
+// Returns the number whose digits the name is, if it is one's.
 #[inline(never)]
 fn parsed_number(name: &str) -> Option<u32>
     ensures { ParsesNumber result name.now }
@@ -228,7 +260,7 @@ fn parsed_number(name: &str) -> Option<u32>
     }
 }
 
-// Returns whether a text begins as numbers do.
+// Returns whether a text begins with a digit, as the digits of each number do.
 #[inline(always)]
 fn begins_with_a_digit(text: &[u8]) -> bool
     ensures { (n : ℕ) → n < 2 ^ 32 → decimal n ≡ text.now → IsTrue result }
@@ -240,6 +272,10 @@ fn begins_with_a_digit(text: &[u8]) -> bool
 }
 
 /// A key that isn't UTF-8, which [`Entries::test`] returns.
+///
+/// ```
+/// let broken = entries.test(); // Err for %FF=1
+/// ```
 #[derive(Clone, Copy)]
 pub struct BrokenKey<'t> {
     text: &'t [u8],
@@ -256,6 +292,12 @@ impl BrokenKey<'_> {
 
     /// Returns the error that says so: [`Utf8`](qs_tree::Error::Utf8), or [`Custom`](qs_tree::Error::Custom) with a hint where the key holds a
     /// bracket. It allocates for the hint.
+    ///
+    /// ```
+    /// if let Err(broken) = entries.test() {
+    ///     return Err(broken.into_error(alloc));
+    /// }
+    /// ```
     pub fn into_error(self, alloc: Global) -> Error
         ensures { OnlyCustomUtf8OrOutOfMemory {X = Unit {0}} (Err result) }
     {
@@ -263,7 +305,7 @@ impl BrokenKey<'_> {
     }
 }
 
-/// Tests whether all keys are texts, and returns the first that isn't.
+/// Tests whether all keys are UTF-8, and returns the first that isn't.
 pub(crate) fn test_keys<'t>(entries: Entries<'t, '_>) -> Result<(), BrokenKey<'t>>
     ensures text { PassesTest result (keys_are_text (entries_view entries.entry)) }
     ensures fit { NumbersFit (entries_view entries.entry) }
@@ -290,7 +332,7 @@ fn test_map<'t>(map: &'t ParsedMap<'_>) -> Result<(), BrokenKey<'t>>
     tested
 }
 
-// Returns whether the keys of a map are texts. All keys are looked at, as by `test_map`.
+// Returns whether the keys of a map are UTF-8. All keys are looked at, as by `test_map`.
 fn keys_are_text(map: &ParsedMap<'_>) -> bool
     ensures text { result ≡ keys_are_text (entries_of_map map.now) }
     ensures fit { NumbersFit (entries_of_map map.now) }
@@ -305,7 +347,7 @@ fn keys_are_text(map: &ParsedMap<'_>) -> bool
     passed
 }
 
-// Returns whether a key is a text.
+// Returns whether a key is UTF-8.
 #[inline(always)]
 fn is_text_key(key: &Key<'_>) -> bool
     ensures text { result ≡ is_utf8 (segment_text (segment_of_key key.now)) }
@@ -320,7 +362,7 @@ fn is_text_key(key: &Key<'_>) -> bool
     }
 }
 
-// Returns whether bytes are a text, as `test_text` tests it.
+// Returns whether bytes are UTF-8, as `test_text` tests it.
 #[inline(always)]
 #[tactic(auto, using(crate::proofs::lemmas::read::Errors::utf8_tests, crate::proofs::lemmas::read::Numbers::ascii_text))]
 fn is_text(text: &[u8]) -> bool
@@ -329,7 +371,7 @@ fn is_text(text: &[u8]) -> bool
     text.is_ascii() || str::from_utf8(text).is_ok()
 }
 
-// Tests whether a key is a text.
+// Tests whether a key is UTF-8.
 fn test_key<'t>(key: &'t Key<'_>) -> Result<(), BrokenKey<'t>>
     ensures text { PassesTest result (is_utf8 (segment_text (segment_of_key key.now))) }
     ensures fit { KeyFits (segment_of_key key.now) }
@@ -343,7 +385,7 @@ fn test_key<'t>(key: &'t Key<'_>) -> Result<(), BrokenKey<'t>>
     }
 }
 
-// Tests whether bytes are a text. Most are ASCII, for which the test is faster.
+// Tests whether bytes are UTF-8. Most are ASCII, for which the test is faster.
 #[tactic(auto, using(crate::proofs::lemmas::read::Errors::utf8_tests, crate::proofs::lemmas::read::Numbers::ascii_text))]
 fn test_text(text: &[u8]) -> Result<(), BrokenKey<'_>>
     ensures { PassesTest result (is_utf8 text.now) }

@@ -19,7 +19,7 @@ pub(crate) enum Message<'a> {
         due: usize,
         index: u32,
     },
-    /// More items than there are indexes.
+    /// More items than there are indices.
     TooManyElements,
     /// Several values where one is asked for.
     SeveralValues,

@@ -33,7 +33,11 @@ use qs_tree::{Config, DuplicateKeyBehavior, Error, ParsedValue, Result};
 use std::alloc::Global;
 
 impl Reader {
-    /// Returns how a configuration reads.
+    /// Returns how a configuration reads. It doesn't allocate.
+    ///
+    /// ```
+    /// let reader = Reader::new(alloc, Config::new());
+    /// ```
     pub fn new(alloc: Global, config: Config) -> Reader
         ensures { result.reject_duplicates ≡ are_rejected config.duplicates }
     {
@@ -182,28 +186,44 @@ impl Reader {
         }
     }
 
-    /// Returns the error of a node that holds nothing at all.
+    /// Returns the error of a node that holds nothing at all: [`Custom`](qs_tree::Error::Custom), for which it allocates.
+    ///
+    /// ```
+    /// ParsedValue::Uninitialized => Err(reader.nothing()),
+    /// ```
     pub fn nothing(self) -> Error
         ensures { IsCustomOrOutOfMemory result }
     {
         Error::from(Message::Uninitialized.error(self.alloc))
     }
 
-    /// Returns the error of a field whose key is missing.
+    /// Returns the error of a field whose key is missing: [`Custom`](qs_tree::Error::Custom), for which it allocates.
+    ///
+    /// ```
+    /// Found::Missing => Err(reader.missing_field("age")), // missing field `age`
+    /// ```
     pub fn missing_field(self, name: &str) -> Error
         ensures { IsCustomOrOutOfMemory result }
     {
         Error::from(Message::MissingField(name).error(self.alloc))
     }
 
-    /// Returns the error of a field with two keys.
+    /// Returns the error of a field with two keys: [`Custom`](qs_tree::Error::Custom), for which it allocates.
+    ///
+    /// ```
+    /// Found::Several => Err(reader.duplicate_field("1")), // duplicate field `1`
+    /// ```
     pub fn duplicate_field(self, name: &str) -> Error
         ensures { IsCustomOrOutOfMemory result }
     {
         Error::from(Message::DuplicateField(name).error(self.alloc))
     }
 
-    /// Returns the error of a list with too few items: there are so many.
+    /// Returns the error of a list with too few items, namely so many: [`Custom`](qs_tree::Error::Custom), for which it allocates.
+    ///
+    /// ```
+    /// None => Err(reader.missing_item(1)), // invalid length 1
+    /// ```
     pub fn missing_item(self, count: usize) -> Error
         ensures { IsCustomOrOutOfMemory result }
     {
@@ -266,6 +286,10 @@ impl Reader {
     }
 
     /// Returns the error of a node that names no variant: [`Custom`](qs_tree::Error::Custom), for which it allocates.
+    ///
+    /// ```
+    /// ParsedValue::Sequence(_) => Err(reader.not_an_enum(node)),
+    /// ```
     pub fn not_an_enum(self, node: &ParsedValue<'_>) -> Error
         ensures { IsCustomOrOutOfMemory result }
     {
@@ -274,6 +298,10 @@ impl Reader {
 
     /// Returns the error of a name that no variant has: [`Custom`](qs_tree::Error::Custom), for which it allocates, or
     /// [`Utf8`](qs_tree::Error::Utf8) where the name isn't UTF-8.
+    ///
+    /// ```
+    /// _ => Err(reader.unknown_variant(b"Price")), // unknown variant `Price`
+    /// ```
     pub fn unknown_variant(self, name: &[u8]) -> Error
         ensures { Rejects {Y = Unit {0}} (is_utf8 name.now) result None }
     {
@@ -300,7 +328,12 @@ impl Reader {
         Error::from(Message::InvalidType { found, expected }.error(self.alloc))
     }
 
-    /// Returns the error of a node that holds no struct.
+    /// Returns the error of a node that holds no struct: [`Custom`](qs_tree::Error::Custom), for which it allocates, or
+    /// [`Utf8`](qs_tree::Error::Utf8) where the node is a text that isn't UTF-8.
+    ///
+    /// ```
+    /// ParsedValue::String(_) => Err(reader.not_a_struct(node)),
+    /// ```
     pub fn not_a_struct(self, node: &ParsedValue<'_>) -> Error
         ensures { Rejects {Y = Unit {0}} (is_text (tree_of node.now)) result None }
     {

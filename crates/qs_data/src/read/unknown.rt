@@ -23,6 +23,10 @@ use qs_tree::{Error, Key, ParsedMap};
 use std::alloc::Global;
 
 /// What becomes of a key that no field has.
+///
+/// ```
+/// UnknownKeys::Rejected.reject(reader, &fields, entries)?; // an error for age=24&x=1 where only `age` is a field
+/// ```
 #[derive(Clone, Copy)]
 pub enum UnknownKeys {
     /// It is ignored.
@@ -32,6 +36,11 @@ pub enum UnknownKeys {
 }
 
 /// The names of the fields of a struct.
+///
+/// ```
+/// let fields = vec![in alloc; age]?; // of the type Field
+/// let known = fields.has(b"age"); // true
+/// ```
 pub trait FieldNames {
     // The fields.
     ghost fields: { Self → Fields };

@@ -46,7 +46,7 @@ pub enum Shape {
     Tuple(Vec<Shape>),
     /// Keys and values.
     Map(KeyShape, Box<Shape>),
-    /// Fields, by their names or by their indexes.
+    /// Fields, by their names or by their indices.
     Struct(Vec<Field>),
     /// Fields as those of a [`Struct`](Shape::Struct), where a map's keys that no field has are rejected.
     StrictStruct(Vec<Field>),
@@ -61,6 +61,11 @@ pub enum Shape {
 }
 
 /// A field of a struct.
+///
+/// ```
+/// let age = Field { name: String::from_str(alloc, "age")?, shape: Shape::U8, optional: false };
+/// let person = Shape::Struct(vec![in alloc; age]?);
+/// ```
 #[cycle(shape)]
 #[derive(Debug, PartialEq, Eq, Drop)]
 pub struct Field {
@@ -73,6 +78,11 @@ pub struct Field {
 }
 
 /// A variant of an enum.
+///
+/// ```
+/// let new = Variant { name: String::from_str(alloc, "New")?, kind: VariantKind::Unit };
+/// let sort = Shape::Enum(vec![in alloc; new]?);
+/// ```
 #[cycle(shape)]
 #[derive(Debug, PartialEq, Eq, Drop)]
 pub struct Variant {
@@ -83,6 +93,10 @@ pub struct Variant {
 }
 
 /// What a variant holds.
+///
+/// ```
+/// let kind = VariantKind::Newtype(Box::new(alloc, Shape::U8)?); // reads v[By]=7
+/// ```
 #[cycle(shape)]
 #[derive(Debug, PartialEq, Eq, Drop)]
 pub enum VariantKind {
@@ -92,7 +106,7 @@ pub enum VariantKind {
     Newtype(Box<Shape>),
     /// The first items of a list, each of its own shape.
     Tuple(Vec<Shape>),
-    /// Fields, by their names or by their indexes.
+    /// Fields, by their names or by their indices.
     Struct(Vec<Field>),
     /// Fields as those of a [`Struct`](VariantKind::Struct), where a map's keys that no field has are rejected.
     StrictStruct(Vec<Field>),
@@ -115,6 +129,10 @@ impl Shape {
 }
 
 /// How the text of a map's key is read.
+///
+/// ```
+/// let prices = Shape::Map(KeyShape::Text, Box::new(alloc, Shape::U32)?); // reads prices[tea]=250
+/// ```
 #[derive(Debug, PartialEq, Eq, Drop)]
 pub enum KeyShape {
     /// `true` or `false`.

@@ -6,6 +6,10 @@ ghost use Rattle.qs_data.specs.shape.Widths.{bits_of};
 use std::fmt;
 
 /// The width of a number.
+///
+/// ```
+/// let age = reader.unsigned(Width::Bits8, node)?; // as Shape::U8 reads it
+/// ```
 #[derive(Clone, Copy)]
 pub enum Width {
     Bits8,

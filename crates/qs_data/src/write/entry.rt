@@ -76,7 +76,7 @@ impl Walk {
     }
 }
 
-/// Appends one more segment: the first after an `&`, and the others in brackets.
+// Appends one more segment: the first after an `&`, and the others in brackets.
 fn append_segment(out: &mut Text, form: bool, segment: Scalar<'_>) -> Result<(), AllocError>
     ensures ok { OnOk result (out.new ≡ grown form out.old (scalar_text segment.entry)) }
     ensures visible { All IsVisible out.old → OnOk result (All IsVisible out.new) }
@@ -91,7 +91,7 @@ fn append_segment(out: &mut Text, form: bool, segment: Scalar<'_>) -> Result<(),
     Ok(())
 }
 
-/// Appends a bracket that opens, as it is written.
+// Appends a bracket that opens, as it is written.
 #[inline(always)]
 fn open_bracket(form: bool, out: &mut Text) -> Result<(), AllocError>
     ensures { OnOk result (out.new ≡ out.old ++ open_bytes form) }
@@ -103,7 +103,7 @@ fn open_bracket(form: bool, out: &mut Text) -> Result<(), AllocError>
     }
 }
 
-/// Appends a bracket that closes, as it is written.
+// Appends a bracket that closes, as it is written.
 #[inline(always)]
 fn close_bracket(form: bool, out: &mut Text) -> Result<(), AllocError>
     ensures { OnOk result (out.new ≡ out.old ++ close_bytes form) }
@@ -115,7 +115,7 @@ fn close_bracket(form: bool, out: &mut Text) -> Result<(), AllocError>
     }
 }
 
-/// Appends the value after `=`, where there is one. Of a long value `=` alone, and the value is returned.
+// Appends the value after `=`, where there is one. Of a long value `=` alone, and the value is returned.
 #[inline(always)]
 fn append_value<'a>(
     out: &mut Text,
@@ -173,7 +173,7 @@ pub(crate) fn put_empty<S: Sink>(stream: &mut Stream<S>, walk: &mut Walk) -> Res
     Ok(())
 }
 
-/// Returns how much of the text is left out: the `&` where no entry with a key was put before.
+// Returns how much of the text is left out: the `&` where no entry with a key was put before.
 fn skipped(started: bool, len: usize) -> usize
     ensures skips { result ≡ cond (started || len == 0) 0 1 }
     ensures within { result ≤ len }

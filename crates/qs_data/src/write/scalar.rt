@@ -17,6 +17,11 @@ use itoa::Buffer;
 use std::alloc::AllocError;
 
 /// A value of one text, or a segment of a path.
+///
+/// ```
+/// let len = writer.enter(Scalar::Bytes(b"age"))?;
+/// writer.scalar(Scalar::Unsigned(24))?; // age=24
+/// ```
 #[derive(Clone, Copy)]
 pub enum Scalar<'a> {
     /// A string or bytes.
@@ -133,7 +138,7 @@ pub(crate) fn word(value: bool) -> &'static str
     if value { "true" } else { "false" }
 }
 
-/// Returns the bytes, where they are too many to be copied before they are put, or none.
+// Returns the bytes, where they are too many to be copied before they are put, or none.
 fn long(bytes: &[u8]) -> &[u8]
     ensures which { (length result.now ≡ 0) ⊎ (result.now ≡ bytes.now) }
     ensures visible { (form : Bool) → All IsVisible (encoded form result.now) }
@@ -144,7 +149,7 @@ fn long(bytes: &[u8]) -> &[u8]
     bytes
 }
 
-/// Appends the digits of the number.
+// Appends the digits of the number.
 fn append_unsigned(n: u64, out: &mut Text) -> Result<(), AllocError>
     ensures ok { (form : Bool) → OnOk result (out.new ≡ out.old ++ encoded form (decimal n)) }
     ensures visible { (form : Bool) → All IsVisible (encoded form (decimal n)) }
@@ -152,7 +157,7 @@ fn append_unsigned(n: u64, out: &mut Text) -> Result<(), AllocError>
     out.append(Buffer::new().format(n).as_bytes())
 }
 
-/// Appends the digits of the number, after `-` where it is negative.
+// Appends the digits of the number, after `-` where it is negative.
 fn append_signed(n: i64, out: &mut Text) -> Result<(), AllocError>
     ensures ok { (form : Bool) → OnOk result (out.new ≡ out.old ++ encoded form (signed_decimal n)) }
     ensures visible { (form : Bool) → All IsVisible (encoded form (signed_decimal n)) }
@@ -160,7 +165,7 @@ fn append_signed(n: i64, out: &mut Text) -> Result<(), AllocError>
     out.append(Buffer::new().format(n).as_bytes())
 }
 
-/// Appends the bytes, encoded.
+// Appends the bytes, encoded.
 #[inline(always)]
 fn append_encoded(bytes: &[u8], form: bool, out: &mut Text) -> Result<(), AllocError>
     ensures ok { OnOk result (out.new ≡ out.old ++ encoded form bytes.now) }

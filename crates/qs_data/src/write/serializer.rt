@@ -48,6 +48,10 @@ impl<S: Sink> Model for Serializer<S> {
 impl<W: Write + Drop> Serializer<ByWrite<W>> {
     /// Returns a serializer that writes to this writer, one `write` for each put. Nothing is written yet, and nothing is
     /// allocated.
+    ///
+    /// ```
+    /// let serializer = Serializer::new(Vec::new(alloc), Config::new());
+    /// ```
     pub fn new(writer: W, config: Config) -> Serializer<ByWrite<W>>
         ensures config { result.config ≡ config }
         ensures writer { result.sink.writer ≡ writer }
@@ -107,7 +111,7 @@ impl<S: Sink> Serializer<S> {
 
     /// Writes the entries of the data after what was written before.
     ///
-    /// Each scalar in the data is one entry, under the names, keys and indexes that lead to it; `&` precedes
+    /// Each scalar in the data is one entry, under the names, keys and indices that lead to it; `&` precedes
     /// each that has a key, but the first. What is written holds only bytes from 0x21 to 0x7E.
     ///
     /// The walk stops at the first error:
@@ -122,6 +126,11 @@ impl<S: Sink> Serializer<S> {
     ///
     /// It allocates for the path and for values of up to 1,024 bytes; longer ones are put in pieces. It doesn't allocate
     /// for `Unit` or `None` alone (also within `Some` or `Newtype`). Its time grows with the data and the length of what is written.
+    ///
+    /// ```
+    /// let age = (String::from_str(alloc, "age")?, Data::Unsigned(24));
+    /// serializer.serialize(alloc, &Data::Struct(vec![in alloc; age]?))?; // age=24
+    /// ```
     pub fn serialize(&mut self, alloc: Global, datum: &Data) -> Result<()>
         ensures whole { OnOk result ((output_of self.old (data_of datum.now)).refusal ≡ None) }
         ensures text { OnOk result (Appends (S.taken self.old.sink) (S.taken self.new.sink) (text_of self.old (data_of datum.now))) }

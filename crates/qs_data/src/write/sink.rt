@@ -20,6 +20,12 @@ pub(crate) const PIECE: usize = 1024;
 ///
 /// [`ByWrite`] makes a sink of any writer. A type of its own may be one too, such as a buffer with a
 /// limit; its [`put`](Sink::put) returns what a writer's `write` returns.
+///
+/// ```
+/// let mut serializer = Serializer::over(ByWrite::new(writer), Config::new());
+/// let result = serializer.serialize(alloc, &datum);
+/// let lost_bytes = serializer.into_sink().has_failed(); // then the result is an `Io` error
+/// ```
 pub trait Sink {
     // The bytes that it took so far, where the sink reports them.
     ghost taken: { Self → Option (List ℕ) };
@@ -58,6 +64,10 @@ pub struct ByWrite<W: Write + Drop> {
 
 impl<W: Write + Drop> ByWrite<W> {
     /// Returns the sink of this writer. Nothing is written yet, and nothing is allocated.
+    ///
+    /// ```
+    /// let sink = ByWrite::new(Vec::new(alloc));
+    /// ```
     pub fn new(writer: W) -> ByWrite<W>
         ensures writer { result.writer ≡ writer }
         ensures fresh { result.failed ≡ false }
@@ -69,6 +79,10 @@ impl<W: Write + Drop> ByWrite<W> {
     }
 
     /// Returns the writer, with all that was written to it. Doesn't allocate.
+    ///
+    /// ```
+    /// let bytes = serializer.into_sink().into_writer();
+    /// ```
     pub fn into_writer(self) -> W
         ensures { result ≡ self.writer }
     {
@@ -134,7 +148,7 @@ pub(crate) fn put_encoded<S: Sink>(sink: &mut S, bytes: &[u8], form: bool) -> Re
     Ok(())
 }
 
-/// Puts a piece of a text, encoded.
+// Puts a piece of a text, encoded.
 #[inline(never)]
 fn put_piece<S: Sink>(sink: &mut S, bytes: &[u8], form: bool) -> Result<(), Stop>
     requires { length bytes.now ≤ PIECE }

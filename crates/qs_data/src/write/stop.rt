@@ -6,13 +6,17 @@ use qs_tree::{Config, Error};
 use std::alloc::AllocError;
 
 /// Why the writing of a value, or of a part of it, stopped before its end.
+///
+/// ```
+/// let stop = writer.data(&datum); // Err(Stop::TooDeep) where a path is longer than is allowed
+/// ```
 #[derive(Drop)]
 pub enum Stop {
     /// A path is longer than the configuration allows.
     TooDeep,
     /// A map's key is no scalar.
     BadKey,
-    /// The sink failed, which is text in memory where a [`Writer`](crate::Writer) writes.
+    /// The sink failed. That of a [`Writer`](crate::Writer) is text in memory, and fails where an allocation fails.
     Io,
     /// An allocation failed.
     OutOfMemory,

@@ -83,7 +83,7 @@ impl Text {
     }
 }
 
-/// Makes room for so many bytes after the first `len`.
+// Makes room for so many bytes after the first `len`.
 #[inline(always)]
 fn make_room(room: &mut Vec<u8>, len: usize, more: usize) -> Result<(), AllocError>
     requires { len ≤ length room.old.items }
@@ -97,7 +97,7 @@ fn make_room(room: &mut Vec<u8>, len: usize, more: usize) -> Result<(), AllocErr
     grow(room, len, more)
 }
 
-/// Makes room where there is less: for at least twice the bytes, so that growing is rare.
+// Makes room where there is less: for at least twice the bytes, so that growing is rare.
 #[inline(never)]
 fn grow(room: &mut Vec<u8>, len: usize, more: usize) -> Result<(), AllocError>
     requires { len ≤ length room.old.items }

@@ -76,7 +76,7 @@ pub(crate) fn write_data<'a, S: Sink>(
     }
 }
 
-/// Writes the elements of a list, in order.
+// Writes the elements of a list, in order.
 #[cycle(write)]
 fn write_elements<'a, S: Sink>(
     stream: &mut Stream<S>,
@@ -91,7 +91,7 @@ fn write_elements<'a, S: Sink>(
     Ok(())
 }
 
-/// Writes the element at this index of its list.
+// Writes the element at this index of its list.
 #[cycle(write)]
 fn write_element<'a, S: Sink>(
     stream: &mut Stream<S>,
@@ -108,7 +108,7 @@ fn write_element<'a, S: Sink>(
     }
 }
 
-/// Writes the pairs of a map, in order. A key is tested before the path is.
+// Writes the pairs of a map, in order. A key is tested before the path is.
 #[cycle(write)]
 fn write_pairs<'a, S: Sink>(
     stream: &mut Stream<S>,
@@ -126,7 +126,7 @@ fn write_pairs<'a, S: Sink>(
     Ok(())
 }
 
-/// Writes the members of a struct, in order.
+// Writes the members of a struct, in order.
 #[cycle(write)]
 fn write_members<'a, S: Sink>(
     stream: &mut Stream<S>,
@@ -141,7 +141,7 @@ fn write_members<'a, S: Sink>(
     Ok(())
 }
 
-/// Writes the elements of a variant under its name.
+// Writes the elements of a variant under its name.
 #[cycle(write)]
 fn write_tuple_variant<'a, S: Sink>(
     stream: &mut Stream<S>,
@@ -157,7 +157,7 @@ fn write_tuple_variant<'a, S: Sink>(
     Ok(())
 }
 
-/// Writes the members of a variant under its name.
+// Writes the members of a variant under its name.
 #[cycle(write)]
 fn write_struct_variant<'a, S: Sink>(
     stream: &mut Stream<S>,
@@ -173,7 +173,7 @@ fn write_struct_variant<'a, S: Sink>(
     Ok(())
 }
 
-/// Writes the data under one more segment.
+// Writes the data under one more segment.
 #[cycle(write)]
 fn write_under<'a, S: Sink>(
     stream: &mut Stream<S>,

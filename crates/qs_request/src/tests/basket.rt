@@ -6,6 +6,7 @@ ghost use Rattle.serde_qs.specs.PartTables.{made_of};
 use serde_qs::{Compound, Data, Out, Parts, Result, Shape, Source, Struct};
 use std::alloc::Global;
 
+/// A number and a list of numbers.
 #[derive(Drop)]
 pub struct Basket {
     pub foo: u64,

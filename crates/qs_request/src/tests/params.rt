@@ -6,6 +6,7 @@ ghost use Rattle.serde_qs.specs.PartTables.{made_of};
 use serde_qs::{Compound, Data, Out, Parts, Result, Shape, Source, Struct, fields};
 use std::alloc::Global;
 
+/// Numbers, a list of them, and a boolean.
 #[derive(Drop)]
 pub struct Params {
     pub foo: u64,

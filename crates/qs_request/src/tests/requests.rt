@@ -16,7 +16,7 @@ fn asked<T: Deserialize>(alloc: Global, target: &Uri) -> Result<T> {
     Ok(query::<T>(alloc, target, Config::new())?.into_inner())
 }
 
-/// Returns the value that is read from the query of a target under a configuration.
+// Returns the value that is read from the query of a target under a configuration.
 fn asked_by<R: Abort, T: Deserialize>(
     rt: &R,
     alloc: Global,
@@ -27,7 +27,7 @@ fn asked_by<R: Abort, T: Deserialize>(
     Ok(query::<T>(alloc, &uri, config)?.into_inner())
 }
 
-// Stops where the result isn't an error with this text.
+// Asserts that the result is an error with this text.
 fn fails<R: Abort, T: Drop>(rt: &R, alloc: Global, read: Result<T>, wanted: &str) {
     let Err(error) = read else {
         assert!(rt; false, "no error");
@@ -37,7 +37,7 @@ fn fails<R: Abort, T: Drop>(rt: &R, alloc: Global, read: Result<T>, wanted: &str
     assert!(rt; text.as_str() == wanted, "{text}");
 }
 
-// Stops where the parameters aren't 100, 50 and true after these two.
+// Asserts that the parameters are these two, and then 100, 50 and true.
 fn holds<R: Abort>(rt: &R, params: &Params, foo: u64, bars: &[u64]) {
     assert!(rt; params.foo == foo, "foo");
     assert!(rt; params.bars.as_slice() == bars, "bars");

@@ -6,6 +6,7 @@ ghost use Rattle.serde_qs.specs.PartTables.{made_of};
 use serde_qs::{Compound, Data, Out, Parts, Result, Shape, Source, Struct};
 use std::alloc::Global;
 
+/// A list of numbers.
 #[derive(Drop)]
 pub struct Users {
     pub id: Vec<u64>,
@@ -32,6 +33,7 @@ impl Compound for Users {
     }
 }
 
+/// A text that may be absent.
 #[derive(Drop)]
 pub struct Note {
     pub note: Option<String>,

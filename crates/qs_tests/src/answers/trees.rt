@@ -15,7 +15,7 @@ struct Case {
 }
 
 impl Case {
-    // The case that the line writes.
+    // Returns the case that the line writes.
     fn parse(alloc: Global, line: &str) -> Option<Case> {
         let (form, rest) = line.split_once('\t')?;
         let (max_depth, input) = rest.split_once('\t')?;
@@ -26,7 +26,7 @@ impl Case {
         Some(Case { config, input })
     }
 
-    // What the parser returns.
+    // Returns what the parser returns.
     fn answer(&self, alloc: Global) -> Result<String, AllocError> {
         match parse(alloc, self.input.as_slice(), self.config) {
             Ok(tree) => {

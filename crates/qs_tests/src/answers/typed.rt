@@ -20,7 +20,7 @@ type Ranges = Pair<BTreeMap<String, Range>, Vec<Range>>;
 /// Numbers in one text, with each delimiter.
 type Lists = Pair<Delimited<u32, Comma>, Pair<Delimited<u8, Pipe>, Delimited<i64, Space>>>;
 
-// What is asked of a querystring and a type.
+/// What is asked of a querystring and a type.
 #[derive(Clone, Copy)]
 pub enum Question {
     /// The querystring of the value that it stands for.
@@ -34,7 +34,7 @@ pub enum Question {
 }
 
 impl Question {
-    /// The question that the words after a type's name ask, if it is one.
+    /// Returns the question that the words after a type's name ask, if it is one.
     ///
     /// | words | line |
     /// |---|---|
@@ -75,7 +75,7 @@ fn explained<T: Deserialize>(alloc: Global, input: &[u8]) -> Result<String> {
     }
 }
 
-// Whether a value was read, of which this is the querystring.
+// Returns whether a value was read, of which this is the querystring.
 fn is_written_as<T: Serialize + Drop>(
     alloc: Global,
     value: Result<T>,
@@ -84,7 +84,7 @@ fn is_written_as<T: Serialize + Drop>(
     Ok(Config::new().serialize_string(alloc, &value?)?.as_str() == wanted)
 }
 
-// Whether the value that is read by a shape that is kept has this querystring.
+// Returns whether the value that is read by a shape that is kept has this querystring.
 fn is_read_by_shape<T: Serialize + Deserialize + Drop>(
     alloc: Global,
     input: &[u8],
@@ -95,7 +95,7 @@ fn is_read_by_shape<T: Serialize + Deserialize + Drop>(
     is_written_as::<T>(alloc, value, wanted)
 }
 
-// Whether the value that each other typed call reads has this querystring.
+// Returns whether the value that each other typed call reads has this querystring.
 fn is_read_by_each<T: Serialize + Deserialize + Drop>(
     alloc: Global,
     input: &[u8],
@@ -148,7 +148,7 @@ fn answer<T: Serialize + Deserialize + Drop>(
     }
 }
 
-// The same by the type of this name, or what the call of this name makes of the input, if there is one.
+// Returns the answer by the type of this name, or what the call of this name makes of the input, if there is one.
 fn answer_by(
     alloc: Global,
     name: &str,
@@ -168,7 +168,7 @@ fn answer_by(
     }
 }
 
-// The status, or 3 where the line wasn't written.
+// Returns the status, or 3 where the line wasn't written.
 fn status(written: io::Result<()>, status: u8) -> ExitCode {
     match written {
         Ok(()) => ExitCode::from(status),

@@ -18,7 +18,7 @@ pub enum Call {
 }
 
 impl Call {
-    // How the writer stops.
+    // Returns how the writer stops.
     fn stop(self) -> Stop {
         match self {
             Call::Lent => Stop::Fails,
@@ -36,7 +36,7 @@ impl Call {
         }
     }
 
-    // The text of which whole entries may be written before an allocation fails: none of a typed call's, which makes its text first.
+    // Returns the text of which whole entries may be written before an allocation fails: none of a typed call's, which makes its text first.
     fn text_in_part<T: Serialize>(self, alloc: Global, value: &T) -> Result<String> {
         match self {
             Call::Lent | Call::Configured => Ok(String::new(alloc)),
@@ -58,7 +58,7 @@ fn write_twice(alloc: Global, data: &Data, writer: &mut Narrow) -> Result<()> {
     }
 }
 
-// Whether the text is that of the first few entries of the whole text.
+// Returns whether the text is that of the first few entries of the whole text.
 fn ends_with_an_entry(text: &str, whole: &str) -> bool {
     match whole.strip_prefix(text) {
         Some(rest) => text.is_empty() || rest.is_empty() || rest.starts_with('&'),
@@ -91,14 +91,14 @@ fn add(alloc: Global, members: &mut Vec<(String, Data)>, name: &str, value: Data
     Ok(members.push((String::from_str(alloc, name)?, value))?)
 }
 
-// A map with a list as its key, which isn't written.
+// Returns a map with a list as its key, which isn't written.
 fn map_of_a_list(alloc: Global) -> Result<Data> {
     let list = Data::Seq(Vec::new(alloc));
     let pairs = Vec::from_array(alloc, [(list, Data::Unit)])?;
     Ok(Data::Map(pairs))
 }
 
-// A character, bytes, and a map that isn't written.
+// Returns a character, bytes, and a map that isn't written.
 fn data(alloc: Global) -> Result<Data> {
     let mut members = Vec::new(alloc);
     add(alloc, &mut members, "c", Data::Char('ä'))?;

@@ -7,7 +7,7 @@ use crate::rows::Rows;
 use serde_qs::Config;
 use std::process::Abort;
 
-// The data of the case are plain, fit its shape, and are read from its text.
+// Asserts that the data of the case are plain, fit its shape, and are read from its text.
 fn comes_back<R: Abort>(t: &Rows<'_, R>, case: &str) {
     let b = &t.build;
     let mut fields = case.split('\t');

@@ -18,7 +18,7 @@ const ENTRIES: [&str; 10] = [
     "user_ids[3]=4",
 ];
 
-// The shape of a user with an address and a list.
+// Returns the shape of a user with an address and a list.
 fn shape<R: Abort>(b: &Build<'_, R>) -> Shape {
     let address = b.fields([
         b.required("city", Shape::Text),
@@ -34,7 +34,7 @@ fn shape<R: Abort>(b: &Build<'_, R>) -> Shape {
     ])
 }
 
-// Such a user.
+// Returns such a user.
 fn data<R: Abort>(b: &Build<'_, R>) -> Data {
     let address = b.record([
         b.member("city", b.text("Carrot City")),
@@ -59,7 +59,7 @@ fn data<R: Abort>(b: &Build<'_, R>) -> Data {
 /// The indices of the entries, in order.
 const IN_ORDER: [usize; 10] = [0, 1, 2, 3, 4, 5, 6, 7, 8, 9];
 
-// The entries at these indices, with `&` between them.
+// Returns the entries at these indices, with `&` between them.
 fn text<R: Abort>(b: &Build<'_, R>, indices: &[usize]) -> String {
     let mut text = String::new(b.alloc);
     for index in indices {
@@ -85,7 +85,7 @@ fn written(rt: HostRuntime) {
     assert_eq!(&rt; written.as_slice(), text(b, &IN_ORDER).as_bytes());
 }
 
-// The indices with the first one last.
+// Returns the indices with the first one last.
 fn rotated_once(mut indices: [usize; 10]) -> [usize; 10] {
     indices.rotate_left(1);
     indices
@@ -110,7 +110,7 @@ fn reversed(rt: HostRuntime) {
     t.reads(&text(b, &indices), &shape(b), data(b));
 }
 
-// The indices in an order by pseudo-random numbers.
+// Returns the indices in an order by pseudo-random numbers.
 fn shuffle(seed: u64) -> [usize; 10] {
     let mut indices = IN_ORDER;
     let mut state = seed;

@@ -6,7 +6,7 @@ use crate::writing::writes;
 use serde_qs::{ArrayFormat, Config, Data, Shape};
 use std::process::Abort;
 
-// An empty list, a list of one text, and a list of two numbers.
+// Returns an empty list, a list of one text, and a list of two numbers.
 fn lists<R: Abort>(b: &Build<'_, R>) -> Data {
     b.record([
         b.member("empty", b.list([])),
@@ -15,7 +15,7 @@ fn lists<R: Abort>(b: &Build<'_, R>) -> Data {
     ])
 }
 
-// Fields that are lists.
+// Returns fields that are lists.
 fn shape_of_lists<R: Abort>(b: &Build<'_, R>) -> Shape {
     b.fields([
         b.required("empty", b.seq(Shape::U8)),
@@ -24,7 +24,7 @@ fn shape_of_lists<R: Abort>(b: &Build<'_, R>) -> Shape {
     ])
 }
 
-// The default configuration in that format.
+// Returns the default configuration in that format.
 fn config(format: ArrayFormat) -> Config {
     Config::new().array_format(format)
 }
@@ -134,7 +134,7 @@ fn a_single_item_of_a_variant(rt: HostRuntime) {
     t.says("e[v]=", &shape, "invalid length 0");
 }
 
-// A list of this element alone is written as this text without indices, and read back as the empty list.
+// Asserts that a list of this element alone is written as this text without indices, and read back as the empty list.
 fn is_lost<R: Abort>(t: &Rows<'_, R>, element: Data, text: &str, part: Shape) {
     let b = &t.build;
     let list = b.one("a", b.list([element]));
@@ -149,8 +149,7 @@ fn other_single_elements(rt: HostRuntime) {
     is_lost(&t, Data::None, "a", t.build.option(Shape::Text));
 }
 
-/// Whether the lists come back with empty brackets, and without brackets.
-// Whether data come back in each format is as wanted: with empty brackets, and with nothing after a name.
+// Asserts whether the lists of data come back with empty brackets, and with nothing after a name.
 fn listed<R: Abort>(b: &Build<'_, R>, data: Data, brackets: bool, nothing: bool) {
     let rt = b.rt;
     assert!(rt; data.is_listed(config(ArrayFormat::Indexed)), "{data:?}");

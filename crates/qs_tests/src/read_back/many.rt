@@ -9,7 +9,7 @@ const COUNT: u64 = 50;
 // Steps of this length come to each number below `COUNT` once.
 const STEP: u64 = 7;
 
-// A map whose keys are the numbers below `COUNT` in no order, and then this one.
+// Returns a map whose keys are the numbers below `COUNT` in no order, and then this one.
 fn map<R: Abort>(b: &Build<'_, R>, last: Data) -> Data {
     let mut pairs = Vec::new(b.alloc);
     for place in 0..COUNT {
@@ -20,7 +20,7 @@ fn map<R: Abort>(b: &Build<'_, R>, last: Data) -> Data {
     Data::Map(pairs)
 }
 
-// A struct whose names are those numbers after a letter, and then this one.
+// Returns a struct whose names are those numbers after a letter, and then this one.
 fn structure<R: Abort>(b: &Build<'_, R>, last: &str) -> Data {
     let mut members = Vec::new(b.alloc);
     for place in 0..COUNT {

@@ -6,7 +6,7 @@ use crate::writing::writes;
 use serde_qs::{Config, Data, KeyShape, Shape, VariantKind};
 use std::process::Abort;
 
-// The data are plain at this encoding and fit the shape.
+// Asserts that the data are plain at this encoding and fit the shape.
 fn is_ready<R: Abort>(b: &Build<'_, R>, config: Config, shape: &Shape, data: &Data) {
     assert!(b.rt; data.is_plain(config), "{data:?}");
     assert!(b.rt; shape.fits(data), "{data:?}");

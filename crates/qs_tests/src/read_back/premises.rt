@@ -4,12 +4,12 @@ use crate::build::Build;
 use serde_qs::{Config, Data, Field, KeyShape, Shape, VariantKind};
 use std::process::Abort;
 
-// Whether data are plain is as wanted.
+// Asserts whether data are plain.
 fn is_plain<R: Abort>(rt: &R, data: Data, wanted: bool) {
     assert!(rt; data.is_plain(Config::new()) == wanted, "{data:?}");
 }
 
-// Whether data fit a shape is as wanted.
+// Asserts whether data fit a shape.
 fn fits<R: Abort>(rt: &R, shape: &Shape, data: Data, wanted: bool) {
     assert!(rt; shape.fits(&data) == wanted, "{shape:?} {data:?}");
 }
@@ -125,7 +125,7 @@ fn keys_of_maps(rt: HostRuntime) {
     }
 }
 
-// A field that may be left out, one that must be there, and another that may be left out.
+// Returns a field that may be left out, one that must be there, and another that may be left out.
 fn three<R: Abort>(b: &Build<'_, R>) -> [Field; 3] {
     [
         b.optional("a", Shape::U8),
@@ -134,12 +134,12 @@ fn three<R: Abort>(b: &Build<'_, R>) -> [Field; 3] {
     ]
 }
 
-// A member of this name, which holds a number.
+// Returns a member of this name, which holds a number.
 fn member<R: Abort>(b: &Build<'_, R>, name: &str) -> (String, Data) {
     b.member(name, Data::Unsigned(1))
 }
 
-// A struct of two such members.
+// Returns a struct of two such members.
 fn two<R: Abort>(b: &Build<'_, R>, first: &str, second: &str) -> Data {
     b.record([member(b, first), member(b, second)])
 }

@@ -14,12 +14,12 @@ pub struct Random {
 }
 
 impl Random {
-    /// The numbers from this seed.
+    /// Returns the numbers from this seed.
     pub fn new(seed: u64) -> Random {
         Random { state: seed }
     }
 
-    /// A number below the bound, and 0 where the bound is 0.
+    /// Returns a number below the bound, and 0 where the bound is 0.
     pub fn below(&mut self, bound: usize) -> usize {
         self.state = self
             .state
@@ -98,12 +98,12 @@ pub struct Words {
     pub data: String,
 }
 
-// How many of the names are plain.
+// Returns how many of the names are plain.
 fn plain_names(form: bool) -> usize {
     if form { NAMES.len() - 1 } else { NAMES.len() }
 }
 
-// The words with these names and parts.
+// Returns the words with these names and parts.
 fn filled<R: Abort>(b: &Build<'_, R>, words: &str, names: [&str; 2], x: &str, y: &str) -> String {
     let mut filled = String::new(b.alloc);
     for piece in words.split('<') {
@@ -121,7 +121,7 @@ fn filled<R: Abort>(b: &Build<'_, R>, words: &str, names: [&str; 2], x: &str, y:
     filled
 }
 
-// One of the wholes, of these parts, with two of the first so many names.
+// Returns the words of a random whole of these parts, which has two of the first so many names.
 fn whole<R: Abort>(
     b: &Build<'_, R>,
     random: &mut Random,
@@ -139,7 +139,7 @@ fn whole<R: Abort>(
     }
 }
 
-// As many scalars as a whole five deep has.
+// Returns 32 random scalars, as many as a whole five deep has.
 fn scalars<R: Abort>(b: &Build<'_, R>, random: &mut Random) -> Vec<Words> {
     let mut scalars = Vec::new(b.alloc);
     for _ in 0..32 {
@@ -155,7 +155,7 @@ fn scalars<R: Abort>(b: &Build<'_, R>, random: &mut Random) -> Vec<Words> {
     scalars
 }
 
-// Wholes of wholes, so deep, with two of the first so many names.
+// Returns a whole of wholes, so deep, each with two of the first so many names.
 fn nested<R: Abort>(b: &Build<'_, R>, random: &mut Random, names: usize, depth: u32) -> Words {
     let mut parts = scalars(b, random);
     for _ in 0..depth {
@@ -164,7 +164,7 @@ fn nested<R: Abort>(b: &Build<'_, R>, random: &mut Random, names: usize, depth: 
     parts.pop().expect(b.rt, "a whole")
 }
 
-// A whole of each two.
+// Returns a whole of each two parts that follow one another.
 fn wholes<R: Abort>(
     b: &Build<'_, R>,
     random: &mut Random,
@@ -181,7 +181,7 @@ fn wholes<R: Abort>(
     wholes
 }
 
-/// The data as they are written.
+/// Returns the data as they are written.
 pub fn written<R: Abort>(b: &Build<'_, R>, config: Config, data: &Data) -> String {
     let mut serializer = Serializer::new(Vec::new(b.alloc), config);
     let written = serializer.serialize(b.alloc, data);
@@ -189,7 +189,7 @@ pub fn written<R: Abort>(b: &Build<'_, R>, config: Config, data: &Data) -> Strin
     String::from_utf8(serializer.into_sink().into_writer()).expect(b.rt, "UTF-8")
 }
 
-// The text with its entries in another order: each is put before or after those so far.
+// Returns the text with its entries in another order: each is put before or after those so far.
 fn shuffled<R: Abort>(b: &Build<'_, R>, random: &mut Random, text: &str) -> String {
     let mut shuffled = String::new(b.alloc);
     for (place, entry) in text.split('&').enumerate() {
@@ -203,13 +203,13 @@ fn shuffled<R: Abort>(b: &Build<'_, R>, random: &mut Random, text: &str) -> Stri
     shuffled
 }
 
-/// Rows in this encoding, for what is nested deep.
+/// Returns rows in this encoding, for what is nested deep.
 pub fn rows<R: Abort>(rt: &R, alloc: Global, form: bool) -> Rows<'_, R> {
     let rows = Rows::new(rt, alloc).deep(10);
     if form { rows.form() } else { rows }
 }
 
-/// Plain data so deep, and a shape that they fit.
+/// Returns plain data so deep, and a shape that they fit.
 pub fn fitting<R: Abort>(
     b: &Build<'_, R>,
     random: &mut Random,
@@ -225,7 +225,7 @@ pub fn fitting<R: Abort>(
     (shape, data)
 }
 
-// Data from each of some seeds come back, so deep.
+// Asserts that data from each of some seeds come back, so deep.
 fn come_back<R: Abort>(rt: &R, alloc: Global, form: bool, depth: u32) {
     let config = Config::new().max_depth(10).use_form_encoding(form);
     let t = rows(rt, alloc, form);

@@ -6,7 +6,7 @@ use serde_qs::{ArrayFormat, Config};
 use std::alloc::Global;
 use std::process::Abort;
 
-// What stands before the first `=`.
+// Returns what stands before the first `=`.
 fn key_of(entry: &str) -> &str {
     match entry.split_once('=') {
         Some((key, _)) => key,
@@ -14,7 +14,7 @@ fn key_of(entry: &str) -> &str {
     }
 }
 
-// Whether an entry of the text has this key.
+// Returns whether an entry of the text has this key.
 fn has_entry_of(text: &str, key: &str) -> bool {
     for entry in text.split('&') {
         if key_of(entry) == key {
@@ -24,7 +24,7 @@ fn has_entry_of(text: &str, key: &str) -> bool {
     false
 }
 
-// The text with its entries in another order, but those with one key as they were: each is put after those so far, or before
+// Returns the text with its entries in another order, but those with one key as they were: each is put after those so far, or before
 // them where none has its key.
 fn shuffled<R: Abort>(b: &Build<'_, R>, random: &mut Random, text: &str) -> String {
     let mut shuffled = String::new(b.alloc);
@@ -41,7 +41,7 @@ fn shuffled<R: Abort>(b: &Build<'_, R>, random: &mut Random, text: &str) -> Stri
     shuffled
 }
 
-// Of the data from each of some seeds, so deep, those come back whose lists can. Returns how many these are.
+// Asserts that data of this depth come back where their lists can, for each of 40 seeds. Returns how many of them can.
 fn come_back<R: Abort>(
     rt: &R,
     alloc: Global,

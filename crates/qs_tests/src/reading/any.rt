@@ -5,12 +5,12 @@ use crate::rows::Rows;
 use serde_qs::{Data, KeyShape, Shape};
 use std::process::Abort;
 
-// A map of one key.
+// Returns a map of one key.
 fn under<R: Abort>(b: &Build<'_, R>, key: &str, value: Data) -> Data {
     b.pairs([(b.text(key), value)])
 }
 
-// A map of two keys with texts.
+// Returns a map of two keys with texts.
 fn two<R: Abort>(b: &Build<'_, R>, first: (&str, &str), second: (&str, &str)) -> Data {
     b.pairs([
         (b.text(first.0), b.text(first.1)),
@@ -18,7 +18,7 @@ fn two<R: Abort>(b: &Build<'_, R>, first: (&str, &str), second: (&str, &str)) ->
     ])
 }
 
-// A list of two texts.
+// Returns a list of two texts.
 fn list<R: Abort>(b: &Build<'_, R>, first: &str, second: &str) -> Data {
     b.list([b.text(first), b.text(second)])
 }

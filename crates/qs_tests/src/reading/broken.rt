@@ -13,7 +13,7 @@ enum Part {
 }
 
 impl Part {
-    // The shape of the part.
+    // Returns the shape of the part.
     fn shape(self) -> Shape {
         match self {
             Part::Text => Shape::Text,
@@ -22,7 +22,7 @@ impl Part {
     }
 }
 
-// An input, what reads its broken text as one part, and the data where that part is bytes.
+// Returns an input, what reads its broken text as one part, and the data where that part is bytes.
 fn places<R: Abort>(b: &Build<'_, R>, part: Part) -> [(&'static str, Shape, Data); 9] {
     let broken = || b.bytes(&[0xFF]);
     let field = |shape| b.field("x", shape);

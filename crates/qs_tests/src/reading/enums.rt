@@ -5,7 +5,7 @@ use crate::rows::Rows;
 use serde_qs::{Data, Shape, VariantKind};
 use std::process::Abort;
 
-// A field with a variant of each kind: a holds nothing, b a bool, c the fields x and y, and d two numbers.
+// Returns a field with a variant of each kind: a holds nothing, b a bool, c the fields x and y, and d two numbers.
 fn each_kind<R: Abort>(b: &Build<'_, R>) -> Shape {
     b.field(
         "e",
@@ -21,14 +21,14 @@ fn each_kind<R: Abort>(b: &Build<'_, R>) -> Shape {
     )
 }
 
-// The variant with fields, of two and three.
+// Returns the variant with fields, of two and three.
 fn two_and_three<R: Abort>(b: &Build<'_, R>) -> Data {
     let x = b.member("x", Data::Unsigned(2));
     let y = b.member("y", Data::Unsigned(3));
     b.one("e", b.holding_record("c", [x, y]))
 }
 
-// The variant with a list, of 128 and one.
+// Returns the variant with a list, of 128 and one.
 fn two_items<R: Abort>(b: &Build<'_, R>) -> Data {
     let items = [Data::Unsigned(128), Data::Unsigned(1)];
     b.one("e", b.holding_items("d", items))

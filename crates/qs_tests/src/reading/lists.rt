@@ -5,7 +5,7 @@ use crate::rows::Rows;
 use serde_qs::{Data, Shape};
 use std::process::Abort;
 
-// One and two.
+// Returns the list of one and two.
 fn two<R: Abort>(b: &Build<'_, R>) -> Data {
     b.list([Data::Unsigned(1), Data::Unsigned(2)])
 }

@@ -5,17 +5,17 @@ use crate::rows::Rows;
 use serde_qs::{Data, KeyShape, Shape};
 use std::process::Abort;
 
-// A field with a map of keys of this kind to nothing.
+// Returns a field with a map of keys of this kind to nothing.
 fn keys<R: Abort>(b: &Build<'_, R>, key: KeyShape) -> Shape {
     b.field("m", b.map(key, Shape::Unit))
 }
 
-// The field with a map of this one key.
+// Returns the field with a map of this one key.
 fn key<R: Abort>(b: &Build<'_, R>, key: Data) -> Data {
     b.one("m", b.pairs([(key, Data::Unit)]))
 }
 
-// The field with a map of these two keys.
+// Returns the field with a map of these two keys.
 fn two_keys<R: Abort>(b: &Build<'_, R>, first: Data, second: Data) -> Data {
     b.one("m", b.pairs([(first, Data::Unit), (second, Data::Unit)]))
 }

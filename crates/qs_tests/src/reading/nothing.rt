@@ -6,7 +6,7 @@ use std::process::Abort;
 
 const UNINITIALIZED: &str = "internal error: attempted to deserialize unitialised value";
 
-// The shape reads this from the empty input.
+// Asserts that the shape reads this from the empty input.
 fn reads<R: Abort>(t: &Rows<'_, R>, shape: Shape, data: Data) {
     t.reads("", &shape, data);
 }
@@ -53,7 +53,7 @@ fn rejected_for_the_empty_input(rt: HostRuntime) {
     t.says("", &shape, "invalid type: unit value, expected an enum");
 }
 
-// The shape reads nothing from ampersands alone.
+// Asserts that the shape reads nothing from ampersands alone.
 fn unread<R: Abort>(t: &Rows<'_, R>, shape: Shape) {
     t.says("&&&", &shape, UNINITIALIZED);
 }

@@ -83,7 +83,7 @@ fn units(rt: HostRuntime) {
     t.breaks("t=%FF", &shape);
 }
 
-// A field of this shape isn't read from a byte that is no text.
+// Asserts that a field of this shape isn't read from a byte that is no text.
 fn breaks<R: Abort>(t: &Rows<'_, R>, part: Shape) {
     t.breaks("x=%FF", &t.build.field("x", part));
 }

@@ -20,7 +20,7 @@ fn the_last_counts(rt: HostRuntime) {
     t.says("a=5&a=", &number, "invalid type: string, expected u8");
 }
 
-// A field of this shape isn't read where several values are rejected, and this is said.
+// Asserts that a field of this shape isn't read where several values are rejected, and this is said.
 fn rejects<R: Abort>(t: &Rows<'_, R>, input: &str, part: Shape, said: &str) {
     let shape = t.build.field("a", part);
     t.reject_duplicates().says(input, &shape, said);
@@ -44,7 +44,7 @@ fn rejected(rt: HostRuntime) {
     rejects(&t, "a=1&a=2", Shape::Char, letter);
 }
 
-// The last of several values of a field is read, and they are rejected where that is asked for.
+// Asserts that the last of several values of a field is read, and they are rejected where that is asked for.
 fn last_counts<R: Abort>(t: &Rows<'_, R>, input: &str, part: Shape, last: Data) {
     let shape = t.build.field("a", part);
     t.reads(input, &shape, t.build.one("a", last));

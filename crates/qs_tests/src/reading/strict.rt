@@ -5,7 +5,7 @@ use crate::rows::Rows;
 use serde_qs::{Data, Shape};
 use std::process::Abort;
 
-// A text, and another that may be left out.
+// Returns the shape of a struct of a text, and another that may be left out.
 fn shape<R: Abort>(b: &Build<'_, R>) -> Shape {
     b.strict([b.required("a", Shape::Text), b.optional("b", Shape::Text)])
 }

@@ -5,7 +5,7 @@ use crate::rows::Rows;
 use serde_qs::{Data, Shape};
 use std::process::Abort;
 
-// A number, a text, and a number that may be left out.
+// Returns the shape of a struct of a number, a text, and a number that may be left out.
 fn three<R: Abort>(b: &Build<'_, R>) -> Shape {
     b.fields([
         b.required("u", Shape::U8),
@@ -14,7 +14,7 @@ fn three<R: Abort>(b: &Build<'_, R>) -> Shape {
     ])
 }
 
-// The number and the text.
+// Returns the struct of the number and the text.
 fn two<R: Abort>(b: &Build<'_, R>) -> Data {
     b.record([b.member("u", Data::Unsigned(1)), b.member("v", b.text("x"))])
 }

@@ -106,7 +106,7 @@ enum Act {
 }
 
 impl Act {
-    // A pair with this act on `a`.
+    // Returns the pair that does this at the key `a`.
     fn text(self) -> &'static str {
         match self {
             Act::Plain => "a=1",
@@ -118,7 +118,7 @@ impl Act {
 
 const ACTS: [Act; 3] = [Act::Plain, Act::Push, Act::Below];
 
-// Whether the pairs with these acts have a tree, where a typed call finds the same.
+// Returns whether the pairs with these acts have a tree, where a typed call finds the same.
 fn have_tree(alloc: Global, acts: &[Act]) -> Result<bool, AllocError> {
     let mut input = String::new(alloc);
     for act in acts {
@@ -152,7 +152,7 @@ fn two_pairs(rt: HostRuntime) -> Result<(), Fail> {
     Ok(())
 }
 
-// Whether a third pair with this act is accepted after two others: no below without one that comes first, no push beside one.
+// Returns whether a third pair with this act is accepted after two others: no below without one that comes first, no push beside one.
 fn is_accepted(first: Act, second: Act, third: Act) -> bool {
     let acts = [first, second, third];
     if first == Act::Below {
@@ -162,7 +162,7 @@ fn is_accepted(first: Act, second: Act, third: Act) -> bool {
     }
 }
 
-// How many pairs are accepted after two others.
+// Returns how many pairs are accepted after two others.
 fn accepted_after<R: Abort>(
     rt: &R,
     alloc: Global,

@@ -6,7 +6,7 @@ ghost use Rattle.qs_tree.specs.tree.Views.{map_pairs};
 use super::{Config, Error, Fail, Global};
 use qs_tree::{Key, ParsedMap, ParsedValue, Steps, parse, parse_with};
 
-// The steps that an input takes.
+// Returns the steps that an input takes.
 fn steps_of(alloc: Global, input: &[u8]) -> Result<Steps, Error>
     ensures empty { input.now ≡ [] → IfOk result (λ steps. steps ≡ 1) }
     ensures percent { input.now ≡ codes "=%" → IfOk result (λ steps. steps ≡ 3) }
@@ -18,7 +18,7 @@ fn steps_of(alloc: Global, input: &[u8]) -> Result<Steps, Error>
     Ok(steps)
 }
 
-// The comparisons that a look-up takes.
+// Returns the comparisons that a look-up takes.
 fn comparisons_of(map: &ParsedMap<'_>, key: &Key<'_>) -> Steps
     ensures of_none { length (map_pairs map.now) ≡ 0 → result ≡ 0 }
     ensures of_one { length (map_pairs map.now) ≡ 1 → result ≤ 1 }

@@ -11,7 +11,7 @@ const KEYS: usize = 8_192;
 // Steps of this length, which is odd, come to each number below 8,192 once.
 const STEP: usize = 4_099;
 
-// The pairs `key0000=val0000`, `key4099=val4099` and so on, with these texts around each key, and `&` after each value.
+// Returns the pairs `key0000=val0000`, `key4099=val4099` and so on, with these texts around each key, and `&` after each value.
 fn shuffled(alloc: Global, before: &str, after: &str) -> Result<String, AllocError> {
     let mut input = String::new(alloc);
     for place in 0..KEYS {
@@ -21,7 +21,7 @@ fn shuffled(alloc: Global, before: &str, after: &str) -> Result<String, AllocErr
     Ok(input)
 }
 
-// Their map as a line, with the entries that stand before and after them.
+// Returns the map of these pairs as a line, with other entries before and after theirs.
 fn in_order(alloc: Global, before: &str, end: &str) -> Result<String, AllocError> {
     let mut line = String::from_str(alloc, "{")?;
     line.push_str(before)?;
@@ -34,7 +34,7 @@ fn in_order(alloc: Global, before: &str, end: &str) -> Result<String, AllocError
     Ok(line)
 }
 
-// The pairs, with these after them, have this tree.
+// Asserts that the pairs, with these after them, have this tree.
 fn accept_followed(
     rt: &impl Abort,
     alloc: Global,
@@ -50,7 +50,7 @@ fn accept_followed(
     Ok(())
 }
 
-// The pairs, with these after them, are rejected at this position of what follows.
+// Asserts that the pairs, with these after them, are rejected at this position of what follows.
 fn reject_after(
     rt: &impl Abort,
     alloc: Global,

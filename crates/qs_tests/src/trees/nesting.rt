@@ -4,7 +4,7 @@ use super::{Config, Fail, accept, query, repeated, tree};
 
 const SEVEN_MAPS: &str = "{'a':{'b':{'c':{'d':{'e':{'f':{'[g][h]':'i'}}}}}}}";
 
-// How many maps stand inside one another at most.
+// Returns how many maps stand inside one another at most.
 fn nesting(tree: &str) -> usize {
     let mut open: usize = 0;
     let mut most = 0;

@@ -62,7 +62,7 @@ fn other_scalars(rt: HostRuntime) {
     }
 }
 
-// A field with so many letters and spaces is written.
+// Asserts that a field with so many letters and spaces is written.
 fn is_written<R: Abort>(b: &Build<'_, R>, count: usize) -> Result<(), AllocError> {
     let value = repeated(b.alloc, "\u{e9} ", count)?;
     let encoded = repeated(b.alloc, "%C3%A9+", count)?;

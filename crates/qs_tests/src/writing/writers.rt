@@ -16,7 +16,7 @@ const ADDRESS: &str =
 
 const QUERY: &str = "name=Alice&age=24&occupation=Student";
 
-// A struct of a number and a list of one number.
+// Returns a struct of a number and a list of one number.
 fn number_and_list<R: Abort>(b: &Build<'_, R>) -> Data {
     b.record([
         b.member("a", Data::Unsigned(1)),
@@ -24,7 +24,7 @@ fn number_and_list<R: Abort>(b: &Build<'_, R>) -> Data {
     ])
 }
 
-// A writer with this room holds as many bytes of the text, no write is repeated, and the serializer has failed for good.
+// Asserts that a writer with this room holds as many bytes of the text, no write is repeated, and the serializer has failed for good.
 fn stops_at<R: Abort>(rt: &R, alloc: Global, datum: &Data, room: usize, step: usize, stop: Stop) {
     let mut writer = Narrow::new(alloc, step, room, stop).expect(rt, "memory");
     let mut serializer = Serializer::new(&mut writer, query());
@@ -92,7 +92,7 @@ impl Call {
     }
 }
 
-// Each front of the line is what a writer holds that has room for it.
+// Asserts that each front of the line is what a writer holds that has room for it.
 fn fronts<R: Abort>(
     rt: &R,
     alloc: Global,

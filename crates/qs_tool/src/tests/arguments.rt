@@ -26,7 +26,7 @@ fn right(rt: HostRuntime) -> Result<(), Fail> {
     expect(&rt, rt.alloc(), 0, &rows)
 }
 
-// The usage is printed for these arguments, and this is what is wrong with them.
+// Asserts that the usage is printed for these arguments, and that this is said to be wrong with them.
 fn expect_misuse<R: Abort>(rt: &R, alloc: Global, arguments: &str, said: &str) -> Result<(), Fail> {
     let row = format!(in alloc; "{arguments} | {PERSON} | {USAGE}")?;
     expect(rt, alloc, 2, &[row.as_str()])?;

@@ -1,6 +1,6 @@
 -- The settings of the definitions as those of a `Config`, and back.
 use Rattle.std.specs.Prelude.{◌≡◌, refl}
-use Rattle.qs_spec.specs.Config.{Duplicates, take_last, reject, indexed, empty_indexed, unindexed, ArrayFormat as Places}
+use Rattle.qs_spec.specs.Config.{Duplicates, take_last, reject, indexed, empty_indexed, unindexed, ArrayFormat as Format}
 use Rattle.qs_tree.specs.declared.config.ArrayFormat.{ArrayFormat}
 use Rattle.qs_tree.specs.declared.config.ArrayFormat.TheVariants.{Indexed, EmptyIndexed, Unindexed}
 use Rattle.qs_tree.specs.declared.config.DuplicateKeyBehavior.{DuplicateKeyBehavior}
@@ -8,7 +8,7 @@ use Rattle.qs_tree.specs.declared.config.DuplicateKeyBehavior.TheVariants.{TakeL
 use Rattle.qs_tree.specs.Settings.{array_format_of, duplicates_of}
 
 -- the inverse of `array_format_of`
-abbrev pub array_format_from : Places → ArrayFormat
+abbrev pub array_format_from : Format → ArrayFormat
 array_format_from indexed = Indexed
 array_format_from empty_indexed = EmptyIndexed
 array_format_from unindexed = Unindexed

@@ -12,6 +12,7 @@ abbrev pub key_owns : Key → List Bool
 key_owns (key.Int n) = []
 key_owns (key.String text) = is_owned text ∷ []
 
+-- the strings of items, and of entries with their keys
 abbrev pub items_own : List (List Bool) → List Bool
 items_own [] = []
 items_own (v ∷ vs) = v ++ items_own vs
@@ -29,6 +30,7 @@ owns_step ParsedValue-F.Null = []
 owns_step ParsedValue-F.NoValue = []
 owns_step ParsedValue-F.Uninitialized = []
 
+-- one level of a map
 abbrev pub map_owns_step : ParsedMap-F (List Bool) (List Bool) → List Bool
 map_owns_step m = entries_own m.map
 
@@ -36,5 +38,6 @@ map_owns_step m = entries_own m.map
 abbrev pub owns : ParsedValue → List Bool
 owns = fold-ParsedValue (List Bool) (List Bool) owns_step map_owns_step
 
+-- the same of a map
 abbrev pub map_owns : ParsedMap → List Bool
 map_owns = fold-ParsedMap (List Bool) (List Bool) owns_step map_owns_step

@@ -23,9 +23,11 @@ key_mark (key.Int n) = false
 key_mark (key.String (Borrowed r)) = false
 key_mark (key.String (Owned v)) = true
 
+-- a key as a segment with its mark
 abbrev pub step_of_key : Key → Step
 step_of_key k = record { seg = segment_of_key k; mark = key_mark k }
 
+-- trees as the items of a sequence, and as the entries of a map
 abbrev pub items_from : List Tree → Items
 items_from [] = no_items
 items_from (t ∷ ts) = item t (items_from ts)
@@ -44,6 +46,7 @@ tree_step ParsedValue-F.Null = leaf Null
 tree_step ParsedValue-F.NoValue = leaf NoValue
 tree_step ParsedValue-F.Uninitialized = uninitialized
 
+-- one level of a map
 abbrev pub map_step : ParsedMap-F Tree Entries → Entries
 map_step m = entries_from m.map
 
@@ -51,6 +54,7 @@ map_step m = entries_from m.map
 abbrev pub tree_of : ParsedValue → Tree
 tree_of = fold-ParsedValue Tree Entries tree_step map_step
 
+-- the entries of a map, and the items of a sequence
 abbrev pub entries_of_map : ParsedMap → Entries
 entries_of_map = fold-ParsedMap Tree Entries tree_step map_step
 
@@ -62,6 +66,7 @@ abbrev pub entry_list : Entries → List (Step × Tree)
 entry_list no_entries = []
 entry_list (entry k mark t es) = (record { seg = k; mark = mark }, t) ∷ entry_list es
 
+-- the entries of a map as a list
 abbrev pub map_pairs : ParsedMap → List (Step × Tree)
 map_pairs m = entry_list (entries_of_map m)
 

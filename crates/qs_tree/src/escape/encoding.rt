@@ -1,7 +1,7 @@
 //! Percent-encoding.
 
 ghost use Rattle.std.specs.Prelude.{◌≡◌, ◌+◌, ◌<◌, ◌≤◌, ◌++◌, length, OnOk, OnErr, min, take, drop};
-ghost use Rattle.qs_spec.specs.Escape.{encoded, decoded, escape, spelling};
+ghost use Rattle.qs_spec.specs.Escape.{encoded, decoded, escape, encoded_byte};
 ghost use Rattle.qs_tree.specs.Error.{OnlyOutOfMemory};
 
 use crate::error::Result;
@@ -85,9 +85,9 @@ fn put_each(bytes: &[u8], form: bool, room: &mut [u8], begin: usize) -> usize
 // Encodes one byte to `room` from `at` on, and returns how many bytes it wrote.
 #[inline(always)]
 fn put_byte(byte: u8, form: bool, room: &mut [u8], at: usize) -> usize
-    requires { at + length (spelling form byte) ≤ length room.old }
-    ensures len { result ≡ length (spelling form byte) }
-    ensures text { take (at + result) room.new ≡ take at room.old ++ spelling form byte }
+    requires { at + length (encoded_byte form byte) ≤ length room.old }
+    ensures len { result ≡ length (encoded_byte form byte) }
+    ensures text { take (at + result) room.new ≡ take at room.old ++ encoded_byte form byte }
 {
     let escaped = Escaped { form };
     if escaped.has(byte) {

@@ -28,7 +28,7 @@ use std::cmp::Ordering;
 ///
 /// Keys are looked up by binary search. The key that is looked up may have any lifetime:
 ///
-/// ```text
+/// ```
 /// map.get(&Key::from("name"))
 /// ```
 #[cycle(tree)]
@@ -39,6 +39,10 @@ pub struct ParsedMap<'qs> {
 
 impl<'qs> ParsedMap<'qs> {
     /// Returns an empty map. Doesn't allocate.
+    ///
+    /// ```
+    /// ParsedMap::new(alloc).len() // 0
+    /// ```
     #[must_use]
     pub fn new(alloc: Global) -> Self
         ensures { entries_of_map result ≡ no_entries }
@@ -63,6 +67,10 @@ impl<'qs> ParsedMap<'qs> {
     }
 
     /// Returns the number of entries. Takes constant time, and doesn't allocate.
+    ///
+    /// ```
+    /// map.len() // 2 for a=1&b=2
+    /// ```
     #[must_use]
     #[tactic(auto, using(crate::proofs::lemmas::tree::Keys::lengths))]
     pub fn len(&self) -> usize
@@ -72,6 +80,10 @@ impl<'qs> ParsedMap<'qs> {
     }
 
     /// Returns whether there are no entries. Takes constant time, and doesn't allocate.
+    ///
+    /// ```
+    /// ParsedMap::new(alloc).is_empty() // true
+    /// ```
     #[must_use]
     pub fn is_empty(&self) -> bool
         ensures { IsTrue result ↔ map_pairs self.now ≡ [] }
@@ -80,6 +92,10 @@ impl<'qs> ParsedMap<'qs> {
     }
 
     /// Returns the value at a key, or `None`. Doesn't allocate, and takes logarithmic time, as [`get_with`](ParsedMap::get_with) does.
+    ///
+    /// ```
+    /// map.get(&Key::from(7u32)) // the value of 7=x
+    /// ```
     #[must_use]
     pub fn get<'k>(&self, key: &Key<'k>) -> Option<&ParsedValue<'qs>>
         ensures value { option_map (λ v. tree_of v.now) result ≡ view.find (segment_of_key key.now) (entries_of_map self.now) }
@@ -91,7 +107,7 @@ impl<'qs> ParsedMap<'qs> {
     /// Returns the value at a key, or `None`. Adds the number of comparisons to `steps`: at most as many as the length has binary
     /// digits, and at least one for a map with entries. Doesn't allocate.
     ///
-    /// ```text
+    /// ```
     /// map.get_with(&Key::from("name"), &mut steps)
     /// ```
     #[must_use]
@@ -107,7 +123,7 @@ impl<'qs> ParsedMap<'qs> {
 
     /// Returns the entry at an index, in the order of keys, or `None`. Takes constant time, and doesn't allocate.
     ///
-    /// ```text
+    /// ```
     /// map.at(0) // the entry with the smallest key
     /// ```
     #[must_use]
@@ -120,6 +136,10 @@ impl<'qs> ParsedMap<'qs> {
     /// Removes a key, and returns its value. Returns `None` for a missing key, and changes nothing.
     ///
     /// Finds the key in logarithmic time, and moves the entries after it. Doesn't allocate.
+    ///
+    /// ```
+    /// let name = map.remove(&Key::from("name"));
+    /// ```
     pub fn remove<'k>(&mut self, key: &Key<'k>) -> Option<ParsedValue<'qs>>
         ensures value { option_map tree_of result ≡ view.find (segment_of_key key.now) (entries_of_map self.old) }
         ensures rest { entries_of_map self.new ≡ take_out (segment_of_key key.now) (entries_of_map self.old) }
@@ -132,6 +152,10 @@ impl<'qs> ParsedMap<'qs> {
 
     /// Removes the entry with the smallest key, and returns it, or `None` for an empty map. Moves all other entries, and doesn't
     /// allocate.
+    ///
+    /// ```
+    /// let first = map.pop_first(); // the entry of 0 in b=1&0=2
+    /// ```
     pub fn pop_first(&mut self) -> Option<(Key<'qs>, ParsedValue<'qs>)>
         ensures { MatchOption result ((map_pairs self.old ≡ []) × (map_pairs self.new ≡ [])) (λ p. map_pairs self.old ≡ (step_of_key p.0, tree_of p.1) ∷ map_pairs self.new) }
     {

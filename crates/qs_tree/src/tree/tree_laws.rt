@@ -10,6 +10,11 @@ ghost use Rattle.qs_tree.specs.tree.Keys.{key_cmp, key_eq, value_eq};
 ghost use Rattle.qs_tree.specs.tree.Views.{segment_of_key, tree_of};
 
 /// The order of keys is that of their segments, which ignores ownership, and is total.
+///
+/// ```
+/// let is_less = a < b;
+/// order_of_keys(); // from here on a proof knows what `is_less` says
+/// ```
 #[tactic(auto, using(crate::proofs::lemmas::tree::Equality::order))]
 pub fn order_of_keys()
     ensures segments { (a b : Key) → key_cmp a b ≡ compare_segments (segment_of_key a) (segment_of_key b) }
@@ -17,6 +22,11 @@ pub fn order_of_keys()
 {}
 
 /// Two keys are equal exactly where their segments are, which ignores ownership, and where they compare as `Equal`.
+///
+/// ```
+/// let same = a == b;
+/// equality_of_keys(); // from here on a proof knows what `same` says
+/// ```
 #[tactic(auto, using(crate::proofs::lemmas::tree::Equality::equal_keys, crate::proofs::lemmas::tree::Equality::equal_in_order))]
 pub fn equality_of_keys()
     ensures segments { (a b : Key) → IsTrue (key_eq a b) ↔ segment_of_key a ≡ segment_of_key b }
@@ -24,6 +34,11 @@ pub fn equality_of_keys()
 {}
 
 /// Two values are equal exactly where their trees are, ignoring ownership.
+///
+/// ```
+/// let same = a == b;
+/// equality_of_values(); // from here on a proof knows what `same` says
+/// ```
 #[tactic(auto, using(crate::proofs::lemmas::tree::Equality::equal_values))]
 pub fn equality_of_values()
     ensures { (a b : ParsedValue) → IsTrue (value_eq a b) ↔ unmarked (tree_of a) ≡ unmarked (tree_of b) }

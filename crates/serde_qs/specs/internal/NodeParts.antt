@@ -19,7 +19,7 @@ members_read unknown reject_duplicates fields meaning t =
     option_and_then (λ ms. meaning (members_of ms))
     (struct_members (keys_are_allowed unknown (fields_of fields)) (reads_names reject_duplicates (fields_of fields)) (reads_places reject_duplicates (fields_of fields)) t)
 
--- The value of a field, by what its data mean and by what it is without them: of the values under its name, and of the item at its place.
+-- The value of a field, by what its data mean and by what it is without them: of the values under its name, and of the item at its index.
 
 abbrev pub value_found : {V : Type 0} → (Data → Option V) → Option V → (Tree → Option Data) → List Tree → Option V
 value_found meaning absent r [] = absent

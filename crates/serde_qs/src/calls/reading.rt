@@ -102,7 +102,7 @@ fn read_root_by<T: Deserialize>(
     T::from_node_by(Reader::new(alloc, config), shape, tree)
 }
 
-// Returns the value that is read from a querystring under a configuration.
+/// Returns the value that is read from a querystring under a configuration.
 pub(crate) fn read_typed<T: Deserialize>(alloc: Global, config: Config, input: &[u8]) -> Result<T>
     ensures exact { ReturnsValue T.table.value config T.table.form T.table.meaning input.now result }
     ensures back { ReturnsWritten T.table.value config T.table.form T.table.meaning input.now result }

@@ -57,7 +57,7 @@ pub fn to_writer<T: Serialize, W: Write>(alloc: Global, value: &T, writer: &mut 
     write_to(alloc, Config::new(), value, writer)
 }
 
-// Returns the querystring of a value under a configuration.
+/// Returns the querystring of a value under a configuration.
 pub(crate) fn write_text<T: Serialize>(alloc: Global, config: Config, value: &T) -> Result<String>
     ensures { ReturnsText config (T.datum value.now) result }
 {
@@ -79,7 +79,7 @@ fn string_of(text: Vec<u8>) -> Result<String>
     }
 }
 
-// Writes the querystring of a value under a configuration: the text is made in memory, and then put.
+/// Writes the querystring of a value under a configuration: the text is made in memory, and then put.
 pub(crate) fn write_to<T: Serialize, W: Write>(
     alloc: Global,
     config: Config,

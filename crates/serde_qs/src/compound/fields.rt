@@ -59,7 +59,7 @@ pub trait Fields: Sized + Drop {
         ensures { Gives table.value (entries_are_text (entries_view entries.entry)) result
             (by_names reader.reject_duplicates (table.form (texts names.now)) (table.meaning (texts names.now)) (entries_view entries.entry)) };
 
-    /// Returns the fields that are read by their places, from the last of so many items.
+    /// Returns the fields that are read by their indices, from the last of so many items.
     fn from_places(
         reader: Reader,
         names: &[&'static str],
@@ -185,7 +185,7 @@ impl<T: Deserialize + Drop, R: Fields> Fields for (T, R) {
     }
 }
 
-// Returns the fields, and after them what is read for a field of the first name and for the fields of the other names.
+/// Returns the fields, and after them what is read for a field of the first name and for the fields of the other names.
 pub(crate) fn push_field<T: Deserialize, R: Fields>(
     alloc: Global,
     names: &[&'static str],
@@ -206,7 +206,7 @@ pub(crate) fn push_field<T: Deserialize, R: Fields>(
     R::push_fields(alloc, rest, fields)
 }
 
-// Returns the first name, which is empty where there is none, and the others.
+/// Returns the first name, which is empty where there is none, and the others.
 #[inline(always)]
 pub(crate) fn split<'a, 'n>(names: &'a [&'n str]) -> (&'n str, &'a [&'n str])
     ensures first { result.0.now ≡ first_of (texts names.now) }

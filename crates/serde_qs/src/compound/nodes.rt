@@ -19,8 +19,8 @@ use qs_data::{Entries, FieldNames, Found, Reader, Result, UnknownKeys};
 use qs_tree::ParsedValue;
 use std::marker::PhantomData;
 
-// Returns the fields that a node holds: by their names among keys, and by their places among items. A key that no field has is
-// ignored or rejected.
+/// Returns the fields that a node holds: by their names among keys, and by their indices among items. A key that no field has is
+/// ignored or rejected.
 #[tactic(auto, unfolding(qs_spec::specs::internal::ReadFunction::struct_members))]
 #[inline(always)]
 pub(crate) fn struct_of<F: Fields>(
@@ -46,7 +46,7 @@ pub(crate) fn struct_of<F: Fields>(
     }
 }
 
-// Returns the fields that a struct variant holds: those of a struct, where a text counts as a map from the empty key to it.
+/// Returns the fields that a struct variant holds: those of a struct, where a text counts as a map from the empty key to it.
 #[tactic(auto, unfolding(qs_spec::specs::internal::ReadFunction::struct_members))]
 pub(crate) fn variant_of<F: Fields>(
     reader: Reader,
@@ -107,7 +107,7 @@ impl<F: Fields> FieldNames for NamesOf<'_, F> {
     }
 }
 
-// Returns the value of a field by its name.
+/// Returns the value of a field by its name.
 #[inline(always)]
 pub(crate) fn by_name<T: Deserialize>(
     reader: Reader,
@@ -125,7 +125,7 @@ pub(crate) fn by_name<T: Deserialize>(
     }
 }
 
-// Returns the value of a field by its name, if it isn't left out.
+/// Returns the value of a field by its name, if it isn't left out.
 pub(crate) fn optional_by_name<T: Deserialize>(
     reader: Reader,
     name: &str,
@@ -142,7 +142,7 @@ pub(crate) fn optional_by_name<T: Deserialize>(
     }
 }
 
-// Returns the value of a field by its name, or its default.
+/// Returns the value of a field by its name, or its default.
 pub(crate) fn defaulted_by_name<T: OrDefault>(
     reader: Reader,
     name: &str,
@@ -159,7 +159,7 @@ pub(crate) fn defaulted_by_name<T: OrDefault>(
     }
 }
 
-// Returns the value of a field by its place, the first of these items. There are so many items in all.
+/// Returns the value of a field by its index, that of the first of these items. There are so many items in all.
 #[inline(always)]
 pub(crate) fn by_place<T: Deserialize>(
     reader: Reader,
@@ -175,7 +175,7 @@ pub(crate) fn by_place<T: Deserialize>(
     }
 }
 
-// Returns the value of a field by its place, if it isn't left out.
+/// Returns the value of a field by its index, if it isn't left out.
 pub(crate) fn optional_by_place<T: Deserialize>(
     reader: Reader,
     items: &[ParsedValue<'_>],
@@ -189,7 +189,7 @@ pub(crate) fn optional_by_place<T: Deserialize>(
     }
 }
 
-// Returns the value of a field by its place, or its default.
+/// Returns the value of a field by its index, or its default.
 pub(crate) fn defaulted_by_place<T: OrDefault>(
     reader: Reader,
     items: &[ParsedValue<'_>],
@@ -203,7 +203,7 @@ pub(crate) fn defaulted_by_place<T: OrDefault>(
     }
 }
 
-// Returns the items after the first.
+/// Returns the items after the first.
 pub(crate) fn after<'a, 'qs>(items: &'a [ParsedValue<'qs>]) -> &'a [ParsedValue<'qs>]
     ensures { items_from (map tree_of result.now) ≡ items_after (items_from (map tree_of items.now)) }
 {

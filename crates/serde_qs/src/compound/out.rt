@@ -24,8 +24,8 @@ use std::alloc::Global;
 /// Where the parts of a value go: into its data, to a writer, or nowhere. It is passed to [`Compound::written`](crate::Compound::written),
 /// which passes the parts to one of its methods.
 ///
-/// The one error of each method is [`OutOfMemory`](Error::OutOfMemory). With [`Exit::Writer`] and [`Exit::Nothing`] it is returned in any case,
-/// and no data are made.
+/// The one error of each method is [`OutOfMemory`](Error::OutOfMemory). With [`Exit::Writer`] and [`Exit::Nothing`] no data are made, so it is
+/// returned in any case; what the writing of the parts returned is beside the writer.
 pub type Out<'a> = &'a mut Exit;
 
 /// What an [`Out`] leads to.

@@ -22,7 +22,7 @@ use qs_data::{Data, Reader, Result, Scalar, Shape, WriteResult, Writer};
 use qs_tree::ParsedValue;
 use std::alloc::Global;
 
-// Returns the data of a value.
+/// Returns the data of a value.
 pub(crate) fn datum_of<T: RoundTrip>(alloc: Global, value: &T) -> Result<Data>
     ensures exact { IfOk result (λ x. data_of x ≡ T.table.datum value.now) }
     ensures errors { OnlyOutOfMemory result }
@@ -30,21 +30,21 @@ pub(crate) fn datum_of<T: RoundTrip>(alloc: Global, value: &T) -> Result<Data>
     value.to_data(alloc)
 }
 
-// Writes a value where the writer is.
+/// Writes a value where the writer is.
 pub(crate) fn write_to<T: RoundTrip>(value: &T, writer: &mut Writer) -> WriteResult
     ensures { WritesPart result writer.old writer.new (data_part (T.table.datum value.now)) }
 {
     value.write_to(writer)
 }
 
-// Writes a value under a name.
+/// Writes a value under a name.
 pub(crate) fn write_under<T: RoundTrip>(writer: &mut Writer, name: &str, value: &T) -> WriteResult
     ensures { WritesPart result writer.old writer.new (under name.now (data_part (T.table.datum value.now))) }
 {
     parts::write_under(writer, Scalar::Bytes(name.as_bytes()), value)
 }
 
-// Writes the fields of a variant under its name.
+/// Writes the fields of a variant under its name.
 pub(crate) fn write_variant<R: FieldReferences + Drop>(
     writer: &mut Writer,
     name: &str,
@@ -59,14 +59,14 @@ pub(crate) fn write_variant<R: FieldReferences + Drop>(
     Ok(())
 }
 
-// Writes the tuple of these items where the writer is.
+/// Writes the tuple of these items where the writer is.
 pub(crate) fn write_tuple<R: ListedReferences + Drop>(writer: &mut Writer, items: R) -> WriteResult
     ensures { WritesPart result writer.old writer.new (data_part (d.tuple (values_of (R.own_data items)))) }
 {
     parts::write_made(writer, tuple_struct(writer.alloc, items))
 }
 
-// Writes the variant of this name with these items where the writer is.
+/// Writes the variant of this name with these items where the writer is.
 pub(crate) fn write_tuple_variant<R: ListedReferences + Drop>(
     writer: &mut Writer,
     name: &str,
@@ -77,7 +77,7 @@ pub(crate) fn write_tuple_variant<R: ListedReferences + Drop>(
     parts::write_made(writer, tuple_variant(writer.alloc, name, items))
 }
 
-// Shows that the data of a value fit its shape. It does nothing when it runs.
+/// Shows that the data of a value fit its shape. It does nothing when it runs.
 pub(crate) fn fit<T: RoundTrip>(value: &T)
     ensures { fits T.table.form (T.table.datum value.now) ≡ true }
 {

@@ -89,7 +89,7 @@ impl<F: Fields> Parts for Struct<F> {
     }
 }
 
-// Returns the fields that the data of a struct mean.
+/// Returns the fields that the data of a struct mean.
 #[inline(never)]
 #[tactic(auto, using(crate::proofs::Levels::levels))]
 pub(crate) fn struct_fields<F: Fields>(

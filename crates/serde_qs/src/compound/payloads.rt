@@ -181,7 +181,7 @@ impl<I: Items> Payload for Tuple<I> {
     }
 }
 
-// Returns the fields that the data of a struct variant mean.
+/// Returns the fields that the data of a struct variant mean.
 #[tactic(auto, using(crate::proofs::Levels::levels))]
 pub(crate) fn variant_fields<F: Fields>(
     alloc: Global,

@@ -19,6 +19,10 @@ pub enum Source<'t, 'qs> {
 
 impl Source<'_, '_> {
     /// Returns where memory comes from.
+    ///
+    /// ```
+    /// let alloc = source.alloc();
+    /// ```
     pub fn alloc(&self) -> Global {
         match self {
             Source::Data(alloc, _) => *alloc,

@@ -152,7 +152,7 @@ impl<V: Payload, R: Variants> Variants for OneOf<V, R> {
     }
 }
 
-// Returns the variant that a node names: the smallest key of a map names the one that holds its value, and a text a unit variant.
+/// Returns the variant that a node names: the smallest key of a map names the one that holds its value, and a text a unit variant.
 #[tactic(auto, unfolding(qs_spec::specs::internal::ReadFunction::reads, qs_spec::specs::internal::ReadFunction::read_enum))]
 pub(crate) fn variant_of<V: Variants>(
     reader: Reader,

@@ -45,14 +45,14 @@ pub trait Item: Sized {
         ensures { Means value result (meaning text.now) };
 }
 
-// Returns the error of a text that is no item.
+/// Returns the error of a text that is no item.
 pub(crate) fn invalid(alloc: Global, text: &str) -> Error
     ensures { IsCustomOrOutOfMemory result }
 {
     Error::custom(alloc, format_args!("invalid item `{text}`"), &())
 }
 
-// Appends a text.
+/// Appends a text.
 pub(crate) fn append(text: &str, out: &mut String) -> Result<()>
     ensures ok { OnOk result (string_bytes out.new ≡ string_bytes out.old ++ text.now) }
     ensures err { OnErr result (string_bytes out.new ≡ string_bytes out.old) }

@@ -11,6 +11,10 @@ ghost use Rattle.serde_qs.specs.Items.{joined, list_in};
 
 /// The text of a list of unsigned numbers is parsed as that list, where the delimiter is no digit. It does nothing when it
 /// runs.
+///
+/// ```
+/// unsigned_list_comes_back(); // from here on a proof knows what is read from such a text
+/// ```
 pub fn unsigned_list_comes_back()
     ensures { (bits : ℕ) (delimiter : ℕ) (list : List ℕ) → bits ≤ 64 → IsScalar delimiter → is_between 48 57 delimiter ≡ false → All (λ n. n < 2 ^ bits) list
         → list_in (unsigned_number bits) delimiter (d.text (joined delimiter (map decimal list))) ≡ Some list }
@@ -18,6 +22,10 @@ pub fn unsigned_list_comes_back()
 
 /// The text of a list of signed numbers is parsed as that list, where the delimiter is neither a digit nor `-`. It does
 /// nothing when it runs.
+///
+/// ```
+/// signed_list_comes_back(); // from here on a proof knows what is read from such a text
+/// ```
 pub fn signed_list_comes_back()
     ensures { (bits : ℕ) (delimiter : ℕ) (list : List ℤ) → bits ≤ 64 → IsScalar delimiter → is_between 48 57 delimiter ≡ false → delimiter ≢ 45
         → All (λ z. (neg_ℤ (pos (2 ^ (bits - 1))) ≤ℤ z) × (z <ℤ pos (2 ^ (bits - 1)))) list

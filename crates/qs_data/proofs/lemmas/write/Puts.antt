@@ -7,7 +7,7 @@ use Rattle.std.proofs.KnownBytes.{Appends-trans}
 use Rattle.std.specs.Prelude.{Result, Ok, Err, IfErr}
 use Rattle.std.specs.Result.{IsErrAnd}
 use Rattle.std.specs.Io.KnownBytes.{Appends}
-use Rattle.qs_spec.specs.Escape.{encoded, spelling}
+use Rattle.qs_spec.specs.Escape.{encoded, encoded_byte}
 
 -- one more put, where the rest is what stands after the part that was taken
 pub put_step : (text rest next : List ℕ) (n : ℕ) (a b c : Option (List ℕ)) → length rest ≤ length text → rest ≡ drop (length text - length rest) text
@@ -33,7 +33,7 @@ put_middle front middle rest whole n a b c is before proper now =
 
 pub encoded_parts : (form : Bool) (front piece tail : List ℕ) → encoded form (front ++ (piece ++ tail)) ≡ encoded form front ++ (encoded form piece ++ encoded form tail)
 encoded_parts form front piece tail =
-    flat_map-append (spelling form) front (piece ++ tail) ∙ ap (λ t. encoded form front ++ t) (flat_map-append (spelling form) piece tail)
+    flat_map-append (encoded_byte form) front (piece ++ tail) ∙ ap (λ t. encoded form front ++ t) (flat_map-append (encoded_byte form) piece tail)
 
 -- what the exit of a `?` owes, where the error goes on as it is
 pub exit_part : {T E : Type 0} (r : Result T E) (e : E) (P : E → Type 0) → IsErrAnd r (λ y. y ≡ e) → P e → IfErr r P

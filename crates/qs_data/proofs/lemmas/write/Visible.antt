@@ -7,7 +7,7 @@ use Rattle.std.proofs.lemmas.Fmt.{digits_decimal}
 use Rattle.std.proofs.lemmas.Bool.{agree_below_at}
 use Rattle.std.proofs.lemmas.Bool.Decides.{nat_tests}
 use Rattle.std.proofs.lemmas.List.Elements.{All-nil, All-cons, All-append, All-head, All-tail, All-from_get_or}
-use Rattle.qs_spec.specs.Escape.{spelling, encoded, is_between}
+use Rattle.qs_spec.specs.Escape.{encoded_byte, encoded, is_between}
 use Rattle.qs_spec.proofs.Numerals.{AreDigits, numerals}
 use Rattle.qs_spec.proofs.KeysBack.{encoded_digits}
 use Rattle.qs_spec.specs.Written.{open_bytes, close_bytes}
@@ -16,9 +16,9 @@ use Rattle.qs_data.specs.write.State.{IsVisible}
 abbrev is_visible : ℕ → Bool
 is_visible b = leb 33 b && leb b 126
 
-spelling_test : (form : Bool) (b : ℕ) → b < 256 → list_all is_visible (spelling form b) ≡ true
-spelling_test true b l = agree_below_at (λ b. list_all is_visible (spelling true b)) (λ b. true) 256 b refl l
-spelling_test false b l = agree_below_at (λ b. list_all is_visible (spelling false b)) (λ b. true) 256 b refl l
+encoded_byte_test : (form : Bool) (b : ℕ) → b < 256 → list_all is_visible (encoded_byte form b) ≡ true
+encoded_byte_test true b l = agree_below_at (λ b. list_all is_visible (encoded_byte true b)) (λ b. true) 256 b refl l
+encoded_byte_test false b l = agree_below_at (λ b. list_all is_visible (encoded_byte false b)) (λ b. true) 256 b refl l
 
 both : (a b : Bool) → (a && b) ≡ true → (a ≡ true) × (b ≡ true)
 both true true e = (refl, refl)
@@ -38,7 +38,7 @@ IsByte b = b < 256
 encoded_all : (form : Bool) (bs : List ℕ) → All IsByte bs → All IsVisible (encoded form bs)
 encoded_all form [] h = All-nil IsVisible
 encoded_all form (b ∷ bs) h =
-    All-append IsVisible (spelling form b) (encoded form bs) (all_visible (spelling form b) (spelling_test form b (All-head IsByte b bs h))) (encoded_all form bs (All-tail IsByte b bs h))
+    All-append IsVisible (encoded_byte form b) (encoded form bs) (all_visible (encoded_byte form b) (encoded_byte_test form b (All-head IsByte b bs h))) (encoded_all form bs (All-tail IsByte b bs h))
 
 pub encoded_visible : (form : Bool) (bs : List ℕ) → ((k : ℕ) → Fits w8 (get_or bs k 0)) → All IsVisible (encoded form bs)
 encoded_visible form bs h = encoded_all form bs (All-from_get_or IsByte bs 0 (λ k l. omega (arith, h k)))
@@ -75,7 +75,7 @@ unsigned_plain form n l =
     let same = encoded_digits form (decimal n) (digits_bytes (decimal n) digits) digits in
     (same, subst (All IsVisible) (sym same) (digits_visible (decimal n) digits))
 
-minus : (form : Bool) → spelling form 45 ≡ 45 ∷ []
+minus : (form : Bool) → encoded_byte form 45 ≡ 45 ∷ []
 minus true = refl
 minus false = refl
 

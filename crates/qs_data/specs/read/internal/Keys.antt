@@ -23,7 +23,7 @@ abbrev pub ParsesNumber : Option ℕ → List ℕ → Type 0
 ParsesNumber None name = (n : ℕ) → n < 2 ^ 32 → decimal n ≡ name → ⊥
 ParsesNumber (Some n) name = (n < 2 ^ 32) × (decimal n ≡ name)
 
--- the entries from a place on
+-- the entries from an index on
 abbrev pub entries_after : ℕ → t.Entries → t.Entries
 entries_after zero es = es
 entries_after (suc i) no_entries = no_entries

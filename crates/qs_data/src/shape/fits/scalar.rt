@@ -94,7 +94,7 @@ pub(super) fn is_text(datum: &Data) -> bool
     }
 }
 
-// Returns whether each text, also a name, is UTF-8.
+/// Returns whether each text, also a name, is UTF-8.
 pub(super) fn is_any_text(text: &String) -> bool
     ensures { result ≡ is_utf8 (string_bytes text.now) }
 {

@@ -10,10 +10,10 @@ use Rattle.qs_tree.proofs.lemmas.tree.Places.{hit_lookup, gap_lookup, hit_set}
 use Rattle.qs_tree.proofs.lemmas.build.Turns.{rejected_too, put_there, rejected_there}
 use Rattle.qs_tree.proofs.lemmas.Views.{built_tree-Value, built_tree-fresh}
 
-abbrev Drafts : Type 0
-Drafts = List (Key × TreeBuilder)
+abbrev Unfinished : Type 0
+Unfinished = List (Key × TreeBuilder)
 
-pub built_entries-Vector : (es : Drafts) → built_entries (form.Vector es) ≡ entries_seen es
+pub built_entries-Vector : (es : Unfinished) → built_entries (form.Vector es) ≡ entries_seen es
 built_entries-Vector es = search (rules, the_lemmas)
 
 pub built_entries-Tree : (m : BTreeMap Key TreeBuilder Global) → built_entries (form.Tree m) ≡ entries_seen m.entries
@@ -57,7 +57,7 @@ module _ {X : Type 0} (seen : X → Tree) (k : Key) where
       by more Greater d = let after : compare_segments (step_of_key k).seg (segment_of_key e.0) ≡ Greater = d in rw (d, after, more)
 
 -- the node at a key is taken out of a vector
-module _ (k : Key) (es : Drafts) (i : ℕ) where
+module _ (k : Key) (es : Unfinished) (i : ℕ) where
   pub taken_hit : IsHit key_cmp k es i → IsStrictlySortedBy key_cmp (keys_of es) → (x w : TreeBuilder) → option_map (λ e. e.1) (slice_get es i) ≡ Some x
       → Takes k (entries_seen es) (built_tree x) (entries_seen (put_value es i w))
   taken_hit hit sorted x w is =

@@ -1,5 +1,5 @@
 -- How many bytes `encoded` has, and what it is up to an escape, and after one.
-use Rattle.qs_tree.proofs.Common.{◌≡◌, ℕ, zero, suc, ◌+◌, ◌*◌, ◌/◌, ◌%◌, ◌<◌, ◌≤◌, true, false, Bool, List, [], ◌∷◌, ◌++◌, map, length, get_or, take, drop, refl, sym, ap, ◌∙◌, arith, ◌||◌, ◌==◌, inl, inr, Fits, w8, cond, count_by, AllByRecursion, digit_glyph, sum_by-cons, cond-true, cond-false, not-true, not-false, cases_Bool, or_both, decoded, encoded, spelling, escape, is_kept_in_query, is_escaped, NoneBetween, swapped, length-append, eqb-true}
+use Rattle.qs_tree.proofs.Common.{◌≡◌, ℕ, zero, suc, ◌+◌, ◌*◌, ◌/◌, ◌%◌, ◌<◌, ◌≤◌, true, false, Bool, List, [], ◌∷◌, ◌++◌, map, length, get_or, take, drop, refl, sym, ap, ◌∙◌, arith, ◌||◌, ◌==◌, inl, inr, Fits, w8, cond, count_by, AllByRecursion, digit_glyph, sum_by-cons, cond-true, cond-false, not-true, not-false, cases_Bool, or_both, decoded, encoded, encoded_byte, escape, is_kept_in_query, is_escaped, NoneBetween, swapped, length-append, eqb-true}
 use Rattle.qs_spec.proofs.Unescaped.{decoded-encoded}
 use Rattle.percent_encoding.specs.Percent.{percent_encode_byte}
 
@@ -9,9 +9,9 @@ escape_is b small =
     let same : b / 16 % 16 ≡ b / 16 = omega arith in
     ap (λ high. 37 ∷ digit_glyph true high ∷ digit_glyph true (b % 16) ∷ []) same
 
-pub spelling_escape : (form : Bool) (b : ℕ) → is_escaped form b ≡ true → spelling form b ≡ escape b
-spelling_escape true b is = cond-false _ _ _ (not-true _ is)
-spelling_escape false b is =
+pub byte_escaped : (form : Bool) (b : ℕ) → is_escaped form b ≡ true → encoded_byte form b ≡ escape b
+byte_escaped true b is = cond-false _ _ _ (not-true _ is)
+byte_escaped false b is =
     let neither = or_both (is_kept_in_query b) (b == 32) (not-true _ is) in
     cond-false _ _ _ neither.0 ∙ cond-false _ _ _ neither.1
 
@@ -19,15 +19,15 @@ one_of : (x y : Bool) → (x || y) ≡ true → y ≡ false → x ≡ true
 one_of true y some none = refl
 one_of false y some none = absurd (cc)
 
-pub spelling_plain : (form : Bool) (b : ℕ) → is_escaped form b ≡ false → spelling form b ≡ swapped 32 43 b ∷ []
-spelling_plain true b is =
+pub byte_not_escaped : (form : Bool) (b : ℕ) → is_escaped form b ≡ false → encoded_byte form b ≡ swapped 32 43 b ∷ []
+byte_not_escaped true b is =
     elim (cases_Bool (b == 32)) [
       | inl space ↦ let escaped : is_escaped true b ≡ true = ap (is_escaped true) (eqb-true b 32 space) in absurd (cc)
       | inr other ↦ cond-true _ _ _ (not-false _ is) ∙ ap (λ x. x ∷ []) (sym (cond-false _ _ _ other))
     ]
-spelling_plain false b is =
+byte_not_escaped false b is =
     elim (cases_Bool (b == 32)) [
-      | inl space ↦ ap (spelling false) (eqb-true b 32 space) ∙ sym (ap (λ x. swapped 32 43 x ∷ []) (eqb-true b 32 space))
+      | inl space ↦ ap (encoded_byte false) (eqb-true b 32 space) ∙ sym (ap (λ x. swapped 32 43 x ∷ []) (eqb-true b 32 space))
       | inr other ↦ cond-true _ _ _ (one_of (is_kept_in_query b) (b == 32) (not-false _ is) other) ∙ ap (λ x. x ∷ []) (sym (cond-false _ _ _ other))
     ]
 
@@ -37,14 +37,14 @@ pub encoded_run : (form : Bool) (n : ℕ) (bs : List ℕ) → n ≤ length bs �
 encoded_run form zero bs within plain = refl
 encoded_run form (suc n) [] within plain = absurd (omega arith)
 encoded_run form (suc n) (b ∷ bs) within plain =
-    ap (λ x. x ++ encoded form bs) (spelling_plain form b (plain 0 (omega arith) (omega arith)))
+    ap (λ x. x ++ encoded form bs) (byte_not_escaped form b (plain 0 (omega arith) (omega arith)))
     ∙ ap (λ x. swapped 32 43 b ∷ x) (encoded_run form n bs (omega arith) (λ k from to. plain (suc k) (omega arith) (omega arith)))
 
 -- after an escape
 pub encoded_escape : (form : Bool) (bs : List ℕ) → 0 < length bs → is_escaped form (get_or bs 0 0) ≡ true
     → encoded form bs ≡ escape (get_or bs 0 0) ++ encoded form (drop 1 bs)
 encoded_escape form [] some is = absurd (omega arith)
-encoded_escape form (b ∷ bs) some is = ap (λ x. x ++ encoded form bs) (spelling_escape form b is)
+encoded_escape form (b ∷ bs) some is = ap (λ x. x ++ encoded form bs) (byte_escaped form b is)
 
 -- an escape takes two bytes more
 pub length_encoded : (form : Bool) (bs : List ℕ) → length (encoded form bs) ≡ length bs + 2 * count_by (is_escaped form) bs
@@ -52,8 +52,8 @@ length_encoded form [] = refl
 length_encoded form (b ∷ bs) =
     let counted = sum_by-cons (λ x. cond (is_escaped form x) 1 0) b bs in
     elim (cases_Bool (is_escaped form b)) [
-      | inl escaped ↦ omega (arith, length-append (spelling form b) (encoded form bs), ap length (spelling_escape form b escaped), length_encoded form bs, cond-true {A = ℕ} (is_escaped form b) 1 0 escaped)
-      | inr plain ↦ omega (arith, length-append (spelling form b) (encoded form bs), ap length (spelling_plain form b plain), length_encoded form bs, cond-false {A = ℕ} (is_escaped form b) 1 0 plain)
+      | inl escaped ↦ omega (arith, length-append (encoded_byte form b) (encoded form bs), ap length (byte_escaped form b escaped), length_encoded form bs, cond-true {A = ℕ} (is_escaped form b) 1 0 escaped)
+      | inr plain ↦ omega (arith, length-append (encoded_byte form b) (encoded form bs), ap length (byte_not_escaped form b plain), length_encoded form bs, cond-false {A = ℕ} (is_escaped form b) 1 0 plain)
     ]
 
 -- each byte takes at most three
@@ -61,8 +61,8 @@ pub encoded_few : (form : Bool) (bs : List ℕ) → length (encoded form bs) ≤
 encoded_few form [] = omega arith
 encoded_few form (b ∷ bs) =
     elim (cases_Bool (is_escaped form b)) [
-      | inl escaped ↦ omega (arith, length-append (spelling form b) (encoded form bs), ap length (spelling_escape form b escaped), encoded_few form bs)
-      | inr plain ↦ omega (arith, length-append (spelling form b) (encoded form bs), ap length (spelling_plain form b plain), encoded_few form bs)
+      | inl escaped ↦ omega (arith, length-append (encoded_byte form b) (encoded form bs), ap length (byte_escaped form b escaped), encoded_few form bs)
+      | inr plain ↦ omega (arith, length-append (encoded_byte form b) (encoded form bs), ap length (byte_not_escaped form b plain), encoded_few form bs)
     ]
 
 all_bytes : (bs : List ℕ) → ((k : ℕ) → Fits w8 (get_or bs k 0)) → AllByRecursion (λ b. b < 256) bs

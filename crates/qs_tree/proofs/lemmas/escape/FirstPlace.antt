@@ -29,7 +29,7 @@ none_in_front p xs n within none =
     list_any_none p (take n xs) (All-from_get_or (λ x. p x ≡ false) (take n xs) 0 (λ k below.
     let inside : k < n = omega (arith, below, long) in rw (get_or-take n xs k 0 inside) (none k (omega arith) inside)))
 
--- a place is found just where an element passes
+-- an index is found exactly where an element passes
 pub is_found : (p : ℕ → Bool) (xs : List ℕ) (r : Option ℕ) → r ≡ position p xs → is_some r ≡ list_any p xs
 is_found p xs None is = sym (list_any_none p xs (All-from_get_or (λ x. p x ≡ false) xs 0 (all_fail p xs is)))
 is_found p xs (Some n) is = let at = position-Some p xs n 0 (sym is) in sym (list_any_at p xs n 0 at.0 at.1)

@@ -8,13 +8,13 @@ use Rattle.qs_tree.specs.declared.scan.pair.Pair as code_pair
 use Rattle.qs_tree.specs.declared.scan.parser.ParseError as parse_error
 
 -- what is left after some bytes
-pub left_behind : (start front rest : List ℕ) → start ≡ front ++ rest → IsLeft start rest
-left_behind start front rest e =
+pub rest_left : (start front rest : List ℕ) → start ≡ front ++ rest → IsLeft start rest
+rest_left start front rest e =
     let n : length start - length rest ≡ length front = omega (arith, ap length e, length-append front rest) in
     sym (ap (λ k. drop k start) n ∙ ap (drop (length front)) e ∙ drop_at front rest (length front) refl)
 
-pub taken_behind : (start front rest : List ℕ) → start ≡ front ++ rest → taken start rest ≡ front
-taken_behind start front rest e =
+pub front_taken : (start front rest : List ℕ) → start ≡ front ++ rest → taken start rest ≡ front
+front_taken start front rest e =
     let n : length start - length rest ≡ length front = omega (arith, ap length e, length-append front rest) in
     ap (λ k. take k start) n ∙ ap (take (length front)) e ∙ take-append_seam front rest
 
@@ -70,7 +70,7 @@ segment_found (suc room) path bracket t ts h e =
     let less : room ≡ suc room - 1 = omega arith in
     ap (λ x. in_segment x (parsed_brackets room) path t ts) e ∙ ap (λ n. after_run (parsed_brackets n) (longer path (raw_of (t ∷ (cut is_close ts).0))) (cut is_close ts).1) less
 
--- a token, and the bytes from its place on
+-- a token, and the bytes from its position on
 pub first_token : (place raw old new kept : List ℕ) → place ≡ old → old ≡ raw ++ new → kept ≡ new → place ≡ raw ++ kept
 first_token place raw old new kept at bytes same = at ∙ bytes ∙ ap (λ l. raw ++ l) (sym same)
 

@@ -65,9 +65,9 @@ module _ (depth : ℕ) (form : Bool) where
         by : (x : Bool) → is_ampersands bytes ≡ x → (x || is_plain_value bytes) ≡ true → is_ampersands after ≡ true
         by true e s =
             let all = sym (list_all-append is_ampersand key (raw_from_token stop after)) ∙ ap is_ampersands (sym whole) ∙ e in
-            let behind_key = and_both (is_ampersands key) (is_ampersands (raw_from_token stop after)) all in
-            let behind_token = sym (list_all-append is_ampersand t.raw.now after) ∙ ap (λ o. is_ampersands (raw_from_token o after)) (sym is) ∙ behind_key.1 in
-            (and_both (is_ampersands t.raw.now) (is_ampersands after) behind_token).1
+            let past_key = and_both (is_ampersands key) (is_ampersands (raw_from_token stop after)) all in
+            let past_token = sym (list_all-append is_ampersand t.raw.now after) ∙ ap (λ o. is_ampersands (raw_from_token o after)) (sym is) ∙ past_key.1 in
+            (and_both (is_ampersands t.raw.now) (is_ampersands after) past_token).1
         by false e s = absurd (value bytes s run token whole)
 
     -- an empty key before `=` and a value that is decoded to itself

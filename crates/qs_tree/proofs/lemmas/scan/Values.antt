@@ -129,10 +129,10 @@ no_bytes (b ∷ front) back e = cc
 
 pub plain_value : (bytes value rest : List ℕ) (found : Option code.Token) (new : List ℕ) → is_plain bytes ≡ true → value ≡ take (value_end bytes) bytes → rest ≡ drop (value_end bytes) bytes
     → rest ≡ raw_from_token found new → IfNone found (new ≡ []) → (is_marked value ≡ false) × (new ≡ [])
-plain_value bytes value rest found new e front back behind_it end =
+plain_value bytes value rest found new e front back past_it end =
     let whole = plain_end bytes e in (
       ap is_marked (front ∙ ap (λ n. take n bytes) whole ∙ take-length bytes) ∙ plain_marked bytes e,
-      by found (sym (back ∙ ap (λ n. drop n bytes) whole ∙ drop_all (length bytes) bytes (le_refl (length bytes))) ∙ behind_it) end,
+      by found (sym (back ∙ ap (λ n. drop n bytes) whole ∙ drop_all (length bytes) bytes (le_refl (length bytes))) ∙ past_it) end,
     )
   where
     by : (found : Option code.Token) → [] ≡ raw_from_token found new → IfNone found (new ≡ []) → new ≡ []

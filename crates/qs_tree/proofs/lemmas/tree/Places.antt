@@ -1,4 +1,4 @@
--- What a binary search finds among entries in order, and what an edit at its place does.
+-- What a binary search finds among entries in order, and what an edit at that index does.
 use Rattle.qs_tree.proofs.Common.{map-append, ◌≡◌, ℕ, zero, suc, ◌+◌, ◌<◌, ◌≤◌, ◌/◌, List, [], ◌∷◌, ◌++◌, length, get_or, slice_get, slice_set, Some, None, unwrap_or, option_map, Ordering, Less, Equal, Greater, refl, sym, ap, subst, ◌∙◌, inl, inr, cases_lt, arith, IsTotalOrder, insert, remove, AllByRecursion, IsStrictlySortedBy, keys_of, lookup, set_value, remove_entry, is_at, insert_entry, ordering_reverse, against, IsHit, IsGap, put_value, binary_digits, true, is_lt}
 use Rattle.std.specs.List.{AllAdjacentBelow}
 use Rattle.std.proofs.lemmas.Int.Digits.{length-digits_of_step}
@@ -187,7 +187,7 @@ halved s t some half = omega (arith, length-digits_of_step 2 s (omega arith) som
 pub keys-append : {K X : Type 0} (es fs : List (K × X)) → keys_of (es ++ fs) ≡ keys_of es ++ keys_of fs
 keys-append es fs = map-append (λ e. e.0) es fs
 
--- a key whose place is the end
+-- a key that belongs at the end
 pub sorted_push : {K X : Type 0} (cmp : K → K → Ordering) → IsTotalOrder cmp → (k : K) (v : X) (es : List (K × X)) (i : ℕ) → IsGap cmp k es i → i ≡ length es → IsStrictlySortedBy cmp (keys_of es) → IsStrictlySortedBy cmp (keys_of es ++ k ∷ [])
 sorted_push cmp total k v es i h at s =
     let inserted : insert es i (k, v) ≡ es ++ (k, v) ∷ [] = rw at (insert_end es (k, v)) in

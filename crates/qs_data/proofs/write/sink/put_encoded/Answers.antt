@@ -4,7 +4,7 @@ use Rattle.std.proofs.lemmas.Grind.{flat_map-append}
 use Rattle.std.proofs.KnownBytes.{Appends-trans}
 use Rattle.std.proofs.Math.Bool.{or-false}
 use Rattle.std.specs.Io.KnownBytes.{Appends}
-use Rattle.qs_spec.specs.Escape.{encoded, spelling}
+use Rattle.qs_spec.specs.Escape.{encoded, encoded_byte}
 use Rattle.qs_data.proofs.lemmas.write.Puts.{put_middle, encoded_parts, exit_part}
 use Rattle.qs_data.proofs.write.sink.put_encoded.Goals as goal
 
@@ -22,7 +22,7 @@ loop-rest-preserved g c =
       put = (
         put.0 ++ piece,
         put.1 ∙ ap (λ t. put.0 ++ t) parts ∙ sym (append_assoc put.0 piece tail),
-        subst (Appends old new) (sym (flat_map-append (spelling c.args.form) put.0 piece)) (Appends-trans old now new _ _ put.2 c.in_ok-put_piece.ensures.all),
+        subst (Appends old new) (sym (flat_map-append (encoded_byte c.args.form) put.0 piece)) (Appends-trans old now new _ _ put.2 c.in_ok-put_piece.ensures.all),
       );
       fine = c.in_ok-put_piece.ensures.fails ∙ or-false _ ∙ c.loop-rest.invariant.fine;
       same_writer = c.put_piece.ensures.same_writer ∙ c.loop-rest.invariant.same_writer;

@@ -1,5 +1,5 @@
 use Rattle.qs_tree.proofs.Common.{◌≡◌, ◌-◌, ◌++◌, length, List, ◌∷◌, sym, ap, ap₂, ◌∙◌, arith, refl, append_assoc, Token, tokens, raw_of, Pair, Rest, direct, is_close, ends_last, cut, with_leaf, parsed_value, parsed_brackets, after_close, after_run, kind_of_token, token_of, looks, ended_after, left, from_token, taken, path_of}
-use Rattle.qs_tree.proofs.lemmas.scan.AfterKeys.{pair_as, push_found, last_found, first_token, left_behind, taken_behind, segment_read, next_closing, next_open, next_close, next_other, closes}
+use Rattle.qs_tree.proofs.lemmas.scan.AfterKeys.{pair_as, push_found, last_found, first_token, rest_left, front_taken, segment_read, next_closing, next_open, next_close, next_other, closes}
 use Rattle.qs_tree.proofs.scan.parser.parse_brackets.Goals as goal
 use Rattle.qs_tree.proofs.scan.parser.parse_brackets.Goals.{In_ok-keep_spot, In_ok-push, In-Some-stop}
 
@@ -11,7 +11,7 @@ brackets w = parsed_brackets w.loop-first.room (path_of w.loop-first.pair.path) 
 opened : (w : In_ok-keep_spot) → brackets w (left w.loop-first.cursor) ≡ brackets w (token_of w.in-Some.first ∷ left w.keep_spot.new.self)
 opened w = ap (brackets w) (w.in-Some.ensures.token ∙ ap (λ ts. token_of w.in-Some.first ∷ ts) (sym (ap₂ tokens w.in_ok-keep_spot.ensures.form w.in_ok-keep_spot.ensures.rest)))
 
--- the bracket and that token are what was taken since the bracket's place
+-- the bracket and that token are what was taken since the bracket's position
 whole : (w : In_ok-keep_spot) → w.loop-first.bracket.place.rest.now ≡ (w.loop-first.bracket.raw.now ++ (token_of w.in-Some.first).raw) ++ w.keep_spot.new.self.rest.now
 whole w =
     let bracket = w.loop-first.bracket.raw.now in
@@ -27,7 +27,7 @@ segment w =
     let first = token_of w.in-Some.first in
     let kept = w.keep_spot.new.self in
     let first_bytes = first_token w.in-Some.first.place.rest.now first.raw w.loop-first.cursor.rest.now w.next.new.self.rest.now kept.rest.now w.in-Some.ensures.place w.in-Some.ensures.bytes w.in_ok-keep_spot.ensures.rest in
-    let run = w.run_from.ensures.run ∙ ap (λ l. l ++ raw_of (cut is_close (left kept)).0) (taken_behind w.in-Some.first.place.rest.now first.raw kept.rest.now first_bytes) in
+    let run = w.run_from.ensures.run ∙ ap (λ l. l ++ raw_of (cut is_close (left kept)).0) (front_taken w.in-Some.first.place.rest.now first.raw kept.rest.now first_bytes) in
     segment_read w.loop-first.room w.loop-first.pair.path w.push.new.self w.in_ok-parse_key.field-0 w.loop-first.bracket.raw.now w.run_from.result.0.now first (left kept) (from_token w.run_from.result.1 (left w.run_from.new.self)) (omega arith)
     (sym w.is_close.ensures ∙ w.if-is_close.false) run w.run_from.ensures.token w.in_ok-push.ensures w.in_ok-parse_key.ensures.key
 
@@ -45,7 +45,7 @@ returns-then-is_close-clause-pair c =
 
 pub parse_last_key-requires-clause-follows : goal.parse_last_key-requires-clause-follows
 parse_last_key-requires-clause-follows c =
-    left_behind c.loop-first.bracket.place.rest.now (c.loop-first.bracket.raw.now ++ (token_of c.in-Some.first).raw) c.keep_spot.new.self.rest.now (whole (goal.at.parse_last_key-requires-clause-follows c).In_ok-keep_spot)
+    rest_left c.loop-first.bracket.place.rest.now (c.loop-first.bracket.raw.now ++ (token_of c.in-Some.first).raw) c.keep_spot.new.self.rest.now (whole (goal.at.parse_last_key-requires-clause-follows c).In_ok-keep_spot)
 
 pub returns-then-room-eq0-clause-pair : goal.returns-then-room-eq0-clause-pair
 returns-then-room-eq0-clause-pair c =
@@ -60,7 +60,7 @@ returns-then-room-eq0-clause-pair c =
     pair_as _ _ c.parse_last_key.result c.parse_last_key.new.cursor c.parse_last_key.new.pair
     (c.loop-first.invariant.found ∙ opened w ∙ ap (λ n. parsed_brackets n path bracket (first ∷ left kept)) none
     ∙ last_found path bracket (taken place kept.rest.now ++ raw_of run.0) first (left kept) run.1 (sym c.is_close.ensures ∙ c.if-is_close.false)
-    (ap (λ l. l ++ raw_of run.0) (taken_behind place (bracket ++ first.raw) kept.rest.now (whole w))) refl)
+    (ap (λ l. l ++ raw_of run.0) (front_taken place (bracket ++ first.raw) kept.rest.now (whole w))) refl)
     c.parse_last_key.ensures.pair
 
 pub returns-in_default-stop-clause-pair : goal.returns-in_default-stop-clause-pair

@@ -1,3 +1,4 @@
+-- The whole proof of `Steps::new`, by hand: the prover doesn't find the count, of which the code has no bytes.
 use mathlib.Core.Path.{refl}
 use mathlib.Core.List.{[], ◌∷◌}
 use seplogic.Ra.Ura.{Ura}

@@ -1,13 +1,7 @@
 -- No text of a boolean, a number or a character is empty, and several data are more than one.
-use Rattle.std.proofs.Common.{◌≡◌, ℕ, zero, suc, ◌<◌, ◌≤◌, ◌/◌, ◌%◌, ◌==◌, Bool, true, false, List, [], ◌∷◌, length, decimal, ℤ, pos, negsuc, Some, refl, sym, subst, arith}
-use Rattle.std.specs.Prelude.{if◌then◌else◌}
-use Rattle.std.specs.Fmt.{signed_decimal, digits, digits_onto, digit_glyph}
+use Rattle.qs_data.proofs.Common.{◌≡◌, ℕ, zero, suc, ◌<◌, ◌≤◌, ◌/◌, ◌%◌, ◌==◌, Bool, true, false, List, [], ◌∷◌, length, decimal, ℤ, pos, negsuc, Some, refl, sym, subst, arith, if◌then◌else◌, signed_decimal, digits_onto, digit_glyph, length-encode, len_utf8_bounds, boolean_text, is_empty_text, is_one_empty, values_in, Data}
+use Rattle.std.specs.Fmt.{digits}
 use Rattle.std.specs.Char.{encode_utf8}
-use Rattle.std.proofs.lemmas.Str.{length-encode, len_utf8_bounds}
-use Rattle.qs_spec.specs.Entry.{boolean_text}
-use Rattle.qs_spec.specs.Listed.{is_empty_text, is_one_empty}
-use Rattle.qs_data.specs.data.Views.{values_in}
-use Rattle.qs_data.specs.declared.data.data.Data.{Data}
 
 pub boolean_filled : (b : Bool) → is_empty_text (Some (boolean_text b)) ≡ false
 boolean_filled true = refl

@@ -1,12 +1,5 @@
 -- Lists of other lengths are not the same.
-use Rattle.std.proofs.Common.{◌≡◌, ◌≢◌, suc, Bool, true, false, ◌&&◌, List, [], ◌∷◌, length, refl, ap, ◌∙◌}
-use Rattle.std.specs.Str.{bytes_eq}
-use Rattle.std.specs.String.{string_bytes}
-use Rattle.std.specs.declared.string.String.{String}
-use Rattle.std.specs.declared.alloc.Global.{Global}
-use Rattle.qs_data.specs.declared.data.data.Data.{Data}
-use Rattle.qs_data.specs.data.internal.Equality.{data_same, values_same, pairs_same, members_same}
-use Rattle.qs_data.specs.data.Views.{data_of, values_in, pairs_in, members_in}
+use Rattle.qs_data.proofs.Common.{◌≡◌, ◌≢◌, suc, Bool, true, false, ◌&&◌, List, [], ◌∷◌, length, refl, ap, ◌∙◌, bytes_eq, string_bytes, String, Global, Data, data_same, values_same, pairs_same, members_same, data_of, values_in, pairs_in, members_in}
 
 never : (b : Bool) → (b && false) ≡ false
 never true = refl

@@ -1,12 +1,7 @@
 -- Data, level by level, where a level of the view has more to do than the search does.
-use Rattle.std.proofs.Common.{◌≡◌, List, [], ◌∷◌, map, refl, ap, ◌∙◌, rules, string_bytes}
-use Rattle.std.specs.declared.vec.Vec.{Vec}
-use Rattle.std.specs.declared.string.String.{String}
-use Rattle.std.specs.declared.alloc.Global.{Global}
+use Rattle.qs_data.proofs.Common.{◌≡◌, List, [], ◌∷◌, map, refl, ap, ◌∙◌, rules, string_bytes, Vec, String, Global, data_of, named, unchanged, pairs_in, Data}
 use Rattle.qs_spec.specs.Data as d
-use Rattle.qs_data.specs.data.Views.{data_of, named, unchanged, pairs_in}
 use Rattle.qs_data.specs.declared.data.data.Data as r
-use Rattle.qs_data.specs.declared.data.data.Data.{Data}
 
 members_level : (xs : List (String Global × Data)) → map (named unchanged) (map (λ (x : String Global × Data). (x.0, data_of x.1)) xs) ≡ map (named data_of) xs
 members_level [] = refl

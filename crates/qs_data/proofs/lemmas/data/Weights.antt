@@ -1,13 +1,7 @@
 -- How many data there are to drop, level by level.
-use Rattle.std.proofs.Common.{◌≡◌, ℕ, ◌+◌, List, [], ◌∷◌, ◌++◌, map, refl, ap, ◌∙◌, rules, arith}
+use Rattle.qs_data.proofs.Common.{◌≡◌, ℕ, ◌+◌, List, [], ◌∷◌, ◌++◌, map, refl, ap, ◌∙◌, rules, arith, sum, sum_by, Vec, String, Global, Data, weight, pair_weight, member_weight}
 use Rattle.std.proofs.lemmas.List.Sums.{sum-map, sum_by-append}
-use Rattle.std.specs.List.{sum, sum_by}
-use Rattle.std.specs.declared.vec.Vec.{Vec}
-use Rattle.std.specs.declared.string.String.{String}
-use Rattle.std.specs.declared.alloc.Global.{Global}
 use Rattle.qs_data.specs.declared.data.data.Data as r
-use Rattle.qs_data.specs.declared.data.data.Data.{Data}
-use Rattle.qs_data.specs.data.internal.Weight.{weight, pair_weight, member_weight}
 
 abbrev layer_pair : Data × Data → ℕ × ℕ
 layer_pair p = (weight p.0, weight p.1)

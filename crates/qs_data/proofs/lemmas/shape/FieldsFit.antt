@@ -1,14 +1,5 @@
 -- One field after another, and what is left of lists that have come to their end.
-use Rattle.std.proofs.Common.{◌≡◌, ℕ, ◌+◌, ◌<◌, ◌==◌, Bool, true, false, ◌&&◌, List, [], ◌∷◌, length, length-drop, drop, get_or, refl, sym, ap, ◌∙◌, subst, arith, string_bytes}
-use Rattle.std.proofs.lemmas.List.{drop_more}
-use Rattle.std.specs.Str.{bytes_eq}
-use Rattle.std.specs.declared.string.String.{String}
-use Rattle.std.specs.declared.alloc.Global.{Global}
-use Rattle.qs_spec.specs.Shape.{Shape, Fields, no_fields, one_field, no_shapes}
-use Rattle.qs_spec.specs.Fits.{fits, fits_tuple, fits_fields}
-use Rattle.qs_data.specs.declared.data.data.Data.{Data}
-use Rattle.qs_data.specs.data.Views.{data_of, values_in, members_in}
-use Rattle.qs_data.specs.shape.internal.Fitting.{is_next}
+use Rattle.qs_data.proofs.Common.{◌≡◌, ℕ, ◌+◌, ◌<◌, ◌==◌, Bool, true, false, ◌&&◌, List, [], ◌∷◌, length, length-drop, drop, get_or, refl, sym, ap, ◌∙◌, subst, arith, string_bytes, drop_more, bytes_eq, String, Global, Shape, Fields, no_fields, one_field, no_shapes, fits, fits_tuple, fits_fields, Data, data_of, values_in, members_in, is_next}
 use Rattle.qs_data.proofs.lemmas.data.Counts.{not_empty}
 use Rattle.qs_data.proofs.lemmas.shape.Fitting.{name_is_utf8}
 

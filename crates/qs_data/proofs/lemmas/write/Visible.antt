@@ -1,17 +1,8 @@
 -- What is encoded is visible.
-use Rattle.std.proofs.Common.{suc, ◌+◌, ◌^◌, ℤ, pos, negsuc, ◌++◌, sym, ap, ◌∙◌, subst, ◌≡◌, ℕ, ◌<◌, Bool, true, false, ◌&&◌, leb, List, [], ◌∷◌, get_or, refl, arith, Fits, w8}
-use Rattle.std.specs.List.{All, AllByRecursion, list_all}
-use Rattle.std.specs.Fmt.{decimal, signed_decimal}
+use Rattle.qs_data.proofs.Common.{suc, ◌+◌, ◌^◌, ℤ, pos, negsuc, ◌++◌, sym, ap, ◌∙◌, subst, ◌≡◌, ℕ, ◌<◌, Bool, true, false, ◌&&◌, leb, List, [], ◌∷◌, get_or, refl, arith, Fits, w8, All, AllByRecursion, list_all, decimal, signed_decimal, digits_decimal, agree_below_at, nat_tests, All-nil, All-cons, All-append, All-head, All-tail, All-from_get_or, spelling, encoded, is_between, open_bytes, close_bytes, IsVisible}
 use Rattle.std.specs.Int.Signed.{mag}
-use Rattle.std.proofs.lemmas.Fmt.{digits_decimal}
-use Rattle.std.proofs.lemmas.Bool.{agree_below_at}
-use Rattle.std.proofs.lemmas.Bool.Decides.{nat_tests}
-use Rattle.std.proofs.lemmas.List.Elements.{All-nil, All-cons, All-append, All-head, All-tail, All-from_get_or}
-use Rattle.qs_spec.specs.Escape.{spelling, encoded, is_between}
 use Rattle.qs_spec.proofs.Numerals.{AreDigits, numerals}
 use Rattle.qs_spec.proofs.KeysBack.{encoded_digits}
-use Rattle.qs_spec.specs.Written.{open_bytes, close_bytes}
-use Rattle.qs_data.specs.write.State.{IsVisible}
 
 abbrev is_visible : ℕ → Bool
 is_visible b = leb 33 b && leb b 126

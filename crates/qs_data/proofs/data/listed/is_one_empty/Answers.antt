@@ -1,4 +1,4 @@
-use Rattle.std.proofs.Common.{◌≤◌, length, sym, arith}
+use Rattle.qs_data.proofs.Common.{◌≤◌, length, sym, arith}
 use Rattle.qs_data.proofs.lemmas.data.Filled.{several}
 use Rattle.qs_data.proofs.data.listed.is_one_empty.Goals as goal
 

@@ -1,4 +1,4 @@
-use Rattle.std.proofs.Common.{leb, sym, ap}
+use Rattle.qs_data.proofs.Common.{leb, sym, ap}
 use Rattle.qs_data.proofs.lemmas.data.Counts.{count_is}
 use Rattle.qs_data.proofs.data.plain.are_few.Goals as goal
 

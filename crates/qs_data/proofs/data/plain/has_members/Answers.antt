@@ -1,4 +1,4 @@
-use Rattle.std.proofs.Common.{not, sym, ap, ◌∙◌}
+use Rattle.qs_data.proofs.Common.{not, sym, ap, ◌∙◌}
 use Rattle.qs_data.proofs.lemmas.data.Counts.{some_members}
 use Rattle.qs_data.proofs.data.plain.has_members.Goals as goal
 

@@ -1,5 +1,4 @@
-use Rattle.std.proofs.Common.{◌≡◌, drop}
-use Rattle.std.specs.List.{list_any}
+use Rattle.qs_data.proofs.Common.{◌≡◌, drop, list_any}
 use Rattle.qs_spec.specs.Token.{is_bracket}
 use Rattle.qs_data.proofs.data.plain.holds_bracket.Given as goal
 

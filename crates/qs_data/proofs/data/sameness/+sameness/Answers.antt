@@ -1,6 +1,4 @@
-use Rattle.std.proofs.Common.{sym, ap, ap₂, ◌∙◌}
-use Rattle.qs_data.specs.data.internal.Equality.{data_same, pairs_same}
-use Rattle.qs_data.specs.data.Views.{data_of, pairs_in}
+use Rattle.qs_data.proofs.Common.{sym, ap, ap₂, ◌∙◌, data_same, pairs_same, data_of, pairs_in}
 use Rattle.qs_data.proofs.lemmas.data.Levels.{data_of_map}
 use Rattle.qs_data.proofs.lemmas.data.Lengths.{other_items, other_pairs, other_members}
 use Rattle.qs_data.proofs.data.sameness.+sameness.Goals as goal

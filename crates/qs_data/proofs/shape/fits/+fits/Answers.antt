@@ -1,10 +1,5 @@
-use Rattle.std.proofs.Common.{◌≡◌, ◌-◌, ◌+◌, ◌==◌, true, false, ◌&&◌, [], length, take, drop, sym, ap, ap₂, ◌∙◌, arith}
-use Rattle.std.proofs.lemmas.List.{take_rest}
+use Rattle.qs_data.proofs.Common.{◌≡◌, ◌-◌, ◌+◌, ◌==◌, true, false, ◌&&◌, [], length, take, drop, sym, ap, ap₂, ◌∙◌, arith, take_rest, fits, fits_fields, fits_tuple, data_of, members_in, values_in, field_of, fields_in, shapes_in, is_next}
 use Rattle.std.proofs.Math.ListN.{drop_of_length-le}
-use Rattle.qs_spec.specs.Fits.{fits, fits_fields, fits_tuple}
-use Rattle.qs_data.specs.data.Views.{data_of, members_in, values_in}
-use Rattle.qs_data.specs.shape.Views.{field_of, fields_in, shapes_in}
-use Rattle.qs_data.specs.shape.internal.Fitting.{is_next}
 use Rattle.qs_data.proofs.lemmas.shape.FieldsFit.{taken_at, no_more_fields, no_more_shapes}
 use Rattle.qs_data.proofs.lemmas.read.Fields.{field_name, field_shape}
 use Rattle.qs_data.proofs.shape.fits.+fits.Goals as goal

@@ -1,7 +1,4 @@
-use Rattle.std.proofs.Common.{List, ℕ, sym, subst}
-use Rattle.std.specs.List.{All}
-use Rattle.std.proofs.lemmas.List.Elements.{All-append}
-use Rattle.qs_data.specs.write.State.{IsVisible}
+use Rattle.qs_data.proofs.Common.{List, ℕ, sym, subst, All, All-append, IsVisible}
 use Rattle.qs_data.proofs.lemmas.write.Visible.{open_visible, close_visible}
 use Rattle.qs_data.proofs.write.entry.append_segment.Goals as goal
 

@@ -1,8 +1,5 @@
-use Rattle.std.proofs.Common.{◌≡◌, ◌∙◌, ◌<◌, ◌+◌, ◌^◌, List, ℕ, ◌++◌, sym, subst, arith, rules}
-use Rattle.std.specs.Fmt.{signed_decimal}
+use Rattle.qs_data.proofs.Common.{◌≡◌, ◌∙◌, ◌<◌, ◌+◌, ◌^◌, List, ℕ, ◌++◌, sym, subst, arith, rules, signed_decimal, ints, OnOk}
 use Rattle.std.specs.Int.Signed.{mag}
-use Rattle.std.proofs.lemmas.Int.{ints}
-use Rattle.std.specs.Prelude.{OnOk}
 use Rattle.qs_data.proofs.lemmas.write.Visible.{signed_plain}
 use Rattle.qs_data.proofs.write.scalar.append_signed.Goals as goal
 

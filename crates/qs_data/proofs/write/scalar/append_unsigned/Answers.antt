@@ -1,6 +1,4 @@
-use Rattle.std.proofs.Common.{◌≡◌, ◌∙◌, ◌<◌, ◌^◌, List, ℕ, ◌++◌, sym, subst, arith, rules}
-use Rattle.std.specs.Fmt.{decimal}
-use Rattle.std.specs.Prelude.{OnOk}
+use Rattle.qs_data.proofs.Common.{◌≡◌, ◌∙◌, ◌<◌, ◌^◌, List, ℕ, ◌++◌, sym, subst, arith, rules, decimal, OnOk}
 use Rattle.qs_data.proofs.lemmas.write.Visible.{unsigned_plain}
 use Rattle.qs_data.proofs.write.scalar.append_unsigned.Goals as goal
 

@@ -1,5 +1,4 @@
-use Rattle.std.proofs.Common.{arith}
-use Rattle.qs_data.specs.data.internal.Weight.{weight}
+use Rattle.qs_data.proofs.Common.{arith, weight}
 use Rattle.qs_data.proofs.lemmas.data.Weights.{sum_with_last}
 use Rattle.qs_data.proofs.data.data.Data.discard.Goals as goal
 

@@ -1,4 +1,4 @@
-use Rattle.std.proofs.Common.{sym}
+use Rattle.qs_data.proofs.Common.{sym}
 use Rattle.qs_data.proofs.lemmas.shape.Fitting.{all_bytes}
 use Rattle.qs_data.proofs.shape.fits.scalar.are_bytes.Goals as goal
 

@@ -1,4 +1,4 @@
-use Rattle.std.proofs.Common.{sym}
+use Rattle.qs_data.proofs.Common.{sym}
 use Rattle.qs_data.proofs.lemmas.shape.Fitting.{name_is_utf8}
 use Rattle.qs_data.proofs.shape.fits.scalar.is_any_text.Goals as goal
 

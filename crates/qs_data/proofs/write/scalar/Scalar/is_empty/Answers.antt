@@ -1,6 +1,4 @@
-use Rattle.std.proofs.Common.{◌∙◌, Some, sym, ap}
-use Rattle.qs_spec.specs.Listed.{is_empty_text}
-use Rattle.qs_data.specs.write.Scalars.{scalar_text}
+use Rattle.qs_data.proofs.Common.{◌∙◌, Some, sym, ap, is_empty_text, scalar_text}
 use Rattle.qs_data.proofs.lemmas.data.Filled.{boolean_filled, unsigned_filled, signed_filled, character_filled}
 use Rattle.qs_data.proofs.write.scalar.Scalar.is_empty.Goals as goal
 

@@ -1,11 +1,4 @@
-use Rattle.std.proofs.Common.{ℕ, List, subst, take}
-use Rattle.std.specs.List.{All}
-use Rattle.std.specs.Io.KnownBytes.{Appends}
-use Rattle.qs_spec.specs.Entry.{entries}
-use Rattle.qs_spec.specs.Written.{written}
-use Rattle.qs_data.specs.write.State.{State}
-use Rattle.qs_data.specs.data.Views.{data_of}
-use Rattle.qs_data.specs.write.State.{IsVisible}
+use Rattle.qs_data.proofs.Common.{ℕ, List, subst, take, All, Appends, entries, written, State, data_of, IsVisible}
 use Rattle.qs_data.proofs.lemmas.write.Wrote.{some_entries, writes_visible}
 use Rattle.qs_data.proofs.write.serializer.Serializer.serialize.Goals as goal
 

@@ -15,21 +15,5 @@ all_bytes (b ∷ bs) h =
 
 -- data are no variant of no kind
 pub no_kind : (d : Data) → fits_variant None d ≡ false
-no_kind Data.unit = refl
-no_kind Data.none = refl
-no_kind (Data.some d) = refl
-no_kind (Data.boolean b) = refl
-no_kind (Data.unsigned n) = refl
-no_kind (Data.signed z) = refl
-no_kind (Data.character c) = refl
-no_kind (Data.text t) = refl
-no_kind (Data.bytes b) = refl
-no_kind (Data.sequence ds) = refl
-no_kind (Data.tuple ds) = refl
-no_kind (Data.mapping ps) = refl
-no_kind (Data.struct ms) = refl
-no_kind (Data.newtype d) = refl
 no_kind (Data.unit_variant name) = refl
-no_kind (Data.newtype_variant name d) = refl
-no_kind (Data.tuple_variant name ds) = refl
-no_kind (Data.struct_variant name ms) = refl
+no_kind d = refl

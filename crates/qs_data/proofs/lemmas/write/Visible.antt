@@ -1,6 +1,7 @@
 -- What is encoded is visible.
 use Rattle.qs_data.proofs.Common.{suc, ◌+◌, ◌^◌, ℤ, pos, negsuc, ◌++◌, sym, ap, ◌∙◌, subst, ◌≡◌, ℕ, ◌<◌, Bool, true, false, ◌&&◌, leb, List, [], ◌∷◌, get_or, refl, arith, Fits, w8, All, AllByRecursion, list_all, decimal, signed_decimal, digits_decimal, agree_below_at, nat_tests, All-nil, All-cons, All-append, All-head, All-tail, All-from_get_or, spelling, encoded, is_between, open_bytes, close_bytes, IsVisible}
 use Rattle.std.specs.Int.Signed.{mag}
+use Rattle.qs_spec.proofs.Booleans.{and_both}
 use Rattle.qs_spec.proofs.Numerals.{AreDigits, numerals}
 use Rattle.qs_spec.proofs.KeysBack.{encoded_digits}
 
@@ -11,17 +12,12 @@ spelling_test : (form : Bool) (b : ℕ) → b < 256 → list_all is_visible (spe
 spelling_test true b l = agree_below_at (λ b. list_all is_visible (spelling true b)) (λ b. true) 256 b refl l
 spelling_test false b l = agree_below_at (λ b. list_all is_visible (spelling false b)) (λ b. true) 256 b refl l
 
-both : (a b : Bool) → (a && b) ≡ true → (a ≡ true) × (b ≡ true)
-both true true e = (refl, refl)
-both true false e = cc
-both false b e = cc
-
 visible_of : (b : ℕ) → is_visible b ≡ true → IsVisible b
-visible_of b e = let h = both (leb 33 b) (leb b 126) e in (grind (arith, nat_tests), grind (arith, nat_tests))
+visible_of b e = let h = and_both (leb 33 b) (leb b 126) e in (grind (arith, nat_tests), grind (arith, nat_tests))
 
 all_visible : (bs : List ℕ) → list_all is_visible bs ≡ true → All IsVisible bs
 all_visible [] e = All-nil IsVisible
-all_visible (b ∷ bs) e = let h = both (is_visible b) (list_all is_visible bs) e in All-cons IsVisible b bs (visible_of b h.0) (all_visible bs h.1)
+all_visible (b ∷ bs) e = let h = and_both (is_visible b) (list_all is_visible bs) e in All-cons IsVisible b bs (visible_of b h.0) (all_visible bs h.1)
 
 abbrev IsByte : ℕ → Type 0
 IsByte b = b < 256
@@ -51,13 +47,13 @@ IsPlain form text = (encoded form text ≡ text) × All IsVisible (encoded form 
 
 digits_bytes : (ds : List ℕ) → AreDigits ds → AllByRecursion (λ b. b < 256) ds
 digits_bytes [] e = tt
-digits_bytes (b ∷ ds) e = let h = both (is_between 48 57 b) (list_all (is_between 48 57) ds) e in
-    let r = both (leb 48 b) (leb b 57) h.0 in (grind (arith, nat_tests), digits_bytes ds h.1)
+digits_bytes (b ∷ ds) e = let h = and_both (is_between 48 57 b) (list_all (is_between 48 57) ds) e in
+    let r = and_both (leb 48 b) (leb b 57) h.0 in (grind (arith, nat_tests), digits_bytes ds h.1)
 
 digits_visible : (ds : List ℕ) → AreDigits ds → All IsVisible ds
 digits_visible [] e = All-nil IsVisible
-digits_visible (b ∷ ds) e = let h = both (is_between 48 57 b) (list_all (is_between 48 57) ds) e in
-    let r = both (leb 48 b) (leb b 57) h.0 in
+digits_visible (b ∷ ds) e = let h = and_both (is_between 48 57 b) (list_all (is_between 48 57) ds) e in
+    let r = and_both (leb 48 b) (leb b 57) h.0 in
     All-cons IsVisible b ds (grind (arith, nat_tests), grind (arith, nat_tests)) (digits_visible ds h.1)
 
 pub unsigned_plain : (form : Bool) (n : ℕ) → n < 2 ^ 64 → IsPlain form (decimal n)

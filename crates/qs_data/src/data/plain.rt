@@ -189,12 +189,7 @@ fn is_numeral(bytes: &[u8]) -> bool
 fn holds_bracket(bytes: &[u8]) -> bool
     ensures { result ≡ list_any is_bracket bytes.now }
 {
-    for byte in bytes {
-        if *byte == b'[' || *byte == b']' {
-            return true;
-        }
-    }
-    false
+    bytes.iter().any(|byte| *byte == b'[' || *byte == b']')
 }
 
 // Returns whether the key of a map is read back.

@@ -147,6 +147,7 @@ fn long(bytes: &[u8]) -> &[u8]
 }
 
 /// Appends the digits of the number.
+#[tactic(auto, using(crate::proofs::lemmas::write::Visible::numbers))]
 fn append_unsigned(n: u64, out: &mut Text) -> Result<(), AllocError>
     ensures ok { (form : Bool) → OnOk result (out.new ≡ out.old ++ encoded form (decimal n)) }
     ensures visible { (form : Bool) → All IsVisible (encoded form (decimal n)) }
@@ -155,6 +156,7 @@ fn append_unsigned(n: u64, out: &mut Text) -> Result<(), AllocError>
 }
 
 /// Appends the digits of the number, after `-` where it is negative.
+#[tactic(auto, using(crate::proofs::lemmas::write::Visible::numbers))]
 fn append_signed(n: i64, out: &mut Text) -> Result<(), AllocError>
     ensures ok { (form : Bool) → OnOk result (out.new ≡ out.old ++ encoded form (signed_decimal n)) }
     ensures visible { (form : Bool) → All IsVisible (encoded form (signed_decimal n)) }

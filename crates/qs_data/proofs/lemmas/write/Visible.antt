@@ -42,7 +42,7 @@ pub equals_visible : All IsVisible (61 ∷ [])
 equals_visible = all_visible (61 ∷ []) refl
 
 -- a text that is written as it is
-abbrev pub IsPlain : Bool → List ℕ → Type 0
+abbrev IsPlain : Bool → List ℕ → Type 0
 IsPlain form text = (encoded form text ≡ text) × All IsVisible (encoded form text)
 
 digits_bytes : (ds : List ℕ) → AreDigits ds → AllByRecursion (λ b. b < 256) ds
@@ -56,7 +56,7 @@ digits_visible (b ∷ ds) e = let h = and_both (is_between 48 57 b) (list_all (i
     let r = and_both (leb 48 b) (leb b 57) h.0 in
     All-cons IsVisible b ds (grind (arith, nat_tests), grind (arith, nat_tests)) (digits_visible ds h.1)
 
-pub unsigned_plain : (form : Bool) (n : ℕ) → n < 2 ^ 64 → IsPlain form (decimal n)
+unsigned_plain : (form : Bool) (n : ℕ) → n < 2 ^ 64 → IsPlain form (decimal n)
 unsigned_plain form n l =
     let digits = digits_decimal numerals n l in
     let same = encoded_digits form (decimal n) (digits_bytes (decimal n) digits) digits in
@@ -66,9 +66,23 @@ minus : (form : Bool) → spelling form 45 ≡ 45 ∷ []
 minus true = refl
 minus false = refl
 
-pub signed_plain : (form : Bool) (z : ℤ) → mag z + 1 < 2 ^ 64 → IsPlain form (signed_decimal z)
+signed_plain : (form : Bool) (z : ℤ) → mag z + 1 < 2 ^ 64 → IsPlain form (signed_decimal z)
 signed_plain form (pos n) l = unsigned_plain form n (omega (arith, l))
 signed_plain form (negsuc n) l =
     let p = unsigned_plain form (suc n) (omega (arith, l)) in
     let same : encoded form (45 ∷ decimal (suc n)) ≡ 45 ∷ decimal (suc n) = ap (λ t. t ++ encoded form (decimal (suc n))) (minus form) ∙ ap (λ t. 45 ∷ t) p.0 in
     (same, subst (All IsVisible) (sym same) (All-cons IsVisible 45 (decimal (suc n)) (omega arith, omega arith) (subst (All IsVisible) p.0 p.1)))
+
+pub unsigned_encoded : (form : Bool) (n : ℕ) → n < 2 ^ 64 → encoded form (decimal n) ≡ decimal n
+unsigned_encoded form n l = (unsigned_plain form n l).0
+
+pub unsigned_visible : (form : Bool) (n : ℕ) → n < 2 ^ 64 → All IsVisible (encoded form (decimal n))
+unsigned_visible form n l = (unsigned_plain form n l).1
+
+pub signed_encoded : (form : Bool) (z : ℤ) → mag z + 1 < 2 ^ 64 → encoded form (signed_decimal z) ≡ signed_decimal z
+signed_encoded form z l = (signed_plain form z l).0
+
+pub signed_visible : (form : Bool) (z : ℤ) → mag z + 1 < 2 ^ 64 → All IsVisible (encoded form (signed_decimal z))
+signed_visible form z l = (signed_plain form z l).1
+
+pub ruleset numbers = (unsigned_encoded, unsigned_visible, signed_encoded, signed_visible)

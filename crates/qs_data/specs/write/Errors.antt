@@ -2,23 +2,19 @@
 use Rattle.std.specs.Prelude.{Result, Ok, Err}
 use Rattle.qs_spec.specs.Config.{Config}
 use Rattle.qs_tree.specs.declared.error.Error.{Error}
-use Rattle.qs_tree.specs.declared.error.Error.TheVariants.{Custom, MaxSerializationDepthExceeded, Parse, Unsupported, FromUtf8, Io, ParseInt, Utf8, OutOfMemory, Failed}
+use Rattle.qs_tree.specs.declared.error.Error.TheVariants.{MaxSerializationDepthExceeded, Unsupported, Io, OutOfMemory, Failed}
 use Rattle.qs_data.specs.declared.write.stop.Stop.{Stop}
 use Rattle.qs_data.specs.declared.write.stop.Stop.TheVariants as stop
 
 -- no other error than those of writing
 abbrev pub IsWriteError : {T : Type 0} → Result T Error → Type 0
 IsWriteError (Ok x) = Unit {0}
-IsWriteError (Err (Custom message)) = ⊥
 IsWriteError (Err (MaxSerializationDepthExceeded depth)) = Unit {0}
-IsWriteError (Err (Parse message position)) = ⊥
 IsWriteError (Err Unsupported) = Unit {0}
-IsWriteError (Err (FromUtf8 cause)) = ⊥
 IsWriteError (Err (Io cause)) = Unit {0}
-IsWriteError (Err (ParseInt cause)) = ⊥
-IsWriteError (Err (Utf8 cause)) = ⊥
 IsWriteError (Err OutOfMemory) = Unit {0}
 IsWriteError (Err Failed) = Unit {0}
+IsWriteError (Err other) = ⊥
 
 -- the error of a value that was written in memory
 abbrev pub error_of : Config → Stop → Error

@@ -1,11 +1,11 @@
 -- What a writer wrote of a value, part by part.
-use Rattle.std.specs.Prelude.{◌≡◌, ℕ, ◌≤◌, false, List, [], ◌∷◌, ◌++◌, length, Some, Result}
+use Rattle.std.specs.Prelude.{◌≡◌, ℕ, false, List, [], length, Some, Result}
 use Rattle.qs_spec.specs.Config.{Config, element_segment}
 use Rattle.qs_spec.specs.Data.{Data, Values, Pairs, Members}
 use Rattle.qs_spec.specs.Entry.{Path, Output, entries_at, elements_from, pair_entries, member_entries, deeper, maybe_deeper, and_then}
 use Rattle.qs_data.specs.declared.write.stop.Stop.{Stop}
 use Rattle.qs_data.specs.declared.write.writer.Writer.{Writer}
-use Rattle.qs_data.specs.write.Writes.{StreamState, IsAt, Writes, path_after}
+use Rattle.qs_data.specs.write.Writes.{StreamState, IsAt, WritesAt, EntersAt, LeavesAt}
 
 -- what a part of a value is written as, under a configuration, at a path
 abbrev pub Part : Type 0
@@ -45,7 +45,7 @@ state_of w = record { taken = Some w.stream.sink.writer.items; failed = w.stream
 -- Wherever the writer was, all of the part was written after what was written before, and the writer is there again; or what the stop says.
 pub record WritesPart (result : Result (Unit {0}) Stop) (old new : Writer) (part : Part) : Type 0 where
   pub config : new.config ≡ old.config
-  pub writes : (path : Path) → IsAt old.config path old.walk → Writes result old.config path (state_of old) (state_of new) new.walk (part old.config path)
+  pub writes : WritesAt old.config result (state_of old) (state_of new) old.walk new.walk part
 
 -- a writer that wrote nothing, at the top
 pub record IsFresh (config : Config) (w : Writer) : Type 0 where
@@ -58,10 +58,10 @@ pub record Enters (segment : List ℕ) (len : ℕ) (old new : Writer) : Type 0 w
   pub config : new.config ≡ old.config
   pub state : state_of new ≡ state_of old
   pub before : len ≡ length old.walk.text
-  pub within : (path : Path) → IsAt old.config path old.walk → (length path ≤ old.config.max_depth) × IsAt old.config (path ++ segment ∷ []) new.walk
+  pub within : EntersAt old.config segment old.walk new.walk
 
 -- the writer is where it was before its last segment, if its text was so long there
 pub record Leaves (len : ℕ) (old new : Writer) : Type 0 where
   pub config : new.config ≡ old.config
   pub state : state_of new ≡ state_of old
-  pub back : (path : Path) (segment : List ℕ) → IsAt old.config (path ++ segment ∷ []) old.walk → len ≡ length (path_after old.config.form path) → IsAt old.config path new.walk
+  pub back : LeavesAt old.config len old.walk new.walk

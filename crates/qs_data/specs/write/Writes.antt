@@ -1,5 +1,5 @@
 -- What a call that writes leaves.
-use Rattle.std.specs.Prelude.{◌≡◌, ℕ, ◌<◌, Bool, true, List, [], ◌∷◌, ◌++◌, length, take, Option, Some, None, Result, Ok, Err}
+use Rattle.std.specs.Prelude.{◌≡◌, ℕ, ◌<◌, ◌≤◌, ◌⊎◌, Bool, true, List, [], ◌∷◌, ◌++◌, length, take, Option, Some, None, Result, Ok, Err}
 use Rattle.std.specs.List.{All}
 use Rattle.std.specs.Io.KnownBytes.{Appends}
 use Rattle.qs_spec.specs.Config.{Config}
@@ -77,7 +77,22 @@ Writes (Err e) config path old new walk o = Stops e config old new o
 abbrev pub state_in : {S : Type 0} → (S → Option (List ℕ)) → (S → Bool) → (S → ℕ) → Stream S → StreamState
 state_in taken failed name stream = record { taken = taken stream.sink; failed = failed stream.sink; writer = name stream.sink; started = stream.started }
 
--- what a call leaves that writes a part of the data to a stream, wherever the walk is
+-- what a call leaves that writes a part under this configuration, wherever the walk was
+abbrev pub WritesAt : Config → Result (Unit {0}) Stop → StreamState → StreamState → Walk → Walk → (Config → Path → Output) → Type 0
+WritesAt config result old new from to part = (path : Path) → IsAt config path from → Writes result config path old new to (part config path)
+
+-- what it leaves of a stream, under any configuration
 abbrev pub WritesTo : {S : Type 0} → (S → Option (List ℕ)) → (S → Bool) → (S → ℕ) → Result (Unit {0}) Stop → Stream S → Stream S → Walk → Walk → (Config → Path → Output) → Type 0
-WritesTo taken failed name result old new from to part =
-    (config : Config) (path : Path) → IsAt config path from → Writes result config path (state_in taken failed name old) (state_in taken failed name new) to (part config path)
+WritesTo taken failed name result old new from to part = (config : Config) → WritesAt config result (state_in taken failed name old) (state_in taken failed name new) from to part
+
+-- wherever the walk was, it is under one more segment
+abbrev pub EntersAt : Config → List ℕ → Walk → Walk → Type 0
+EntersAt config segment from within = (path : Path) → IsAt config path from → (length path ≤ config.max_depth) × IsAt config (path ++ segment ∷ []) within
+
+-- wherever the walk is, it can't go in, or an allocation failed
+abbrev pub IsBarred : Config → Stop → Walk → Type 0
+IsBarred config e from = (path : Path) → IsAt config path from → ((e ≡ stop.TooDeep) × (config.max_depth < length path)) ⊎ (e ≡ stop.OutOfMemory)
+
+-- the walk is where it was before its last segment, if its text was so long there
+abbrev pub LeavesAt : Config → ℕ → Walk → Walk → Type 0
+LeavesAt config len from to = (path : Path) (segment : List ℕ) → IsAt config (path ++ segment ∷ []) from → len ≡ length (path_after config.form path) → IsAt config path to

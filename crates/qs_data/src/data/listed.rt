@@ -137,6 +137,7 @@ fn has_text(datum: &Data) -> bool
 }
 
 // Returns whether this is one empty text.
+#[tactic(auto, using(crate::proofs::lemmas::data::Filled::several))]
 fn is_one_empty(items: &[Data]) -> bool
     ensures { result ≡ is_one_empty (values_in items.now) }
 {

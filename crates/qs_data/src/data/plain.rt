@@ -130,6 +130,7 @@ fn are_plain_members(members: &Vec<(String, Data)>, form: bool) -> bool
 }
 
 // Returns whether there is an item.
+#[tactic(auto, using(crate::proofs::lemmas::data::Counts::some_values))]
 fn has_values(items: &[Data]) -> bool
     ensures { result ≡ has_values (values_in items.now) }
 {
@@ -137,6 +138,7 @@ fn has_values(items: &[Data]) -> bool
 }
 
 // Returns whether there is a field.
+#[tactic(auto, using(crate::proofs::lemmas::data::Counts::some_members))]
 fn has_members(members: &[(String, Data)]) -> bool
     ensures { result ≡ has_members (members_in members.now) }
 {
@@ -155,6 +157,7 @@ fn is_optional(datum: &Data) -> bool
 }
 
 // Returns whether there is an index for each element.
+#[tactic(auto, using(crate::proofs::lemmas::data::Counts::count_is))]
 fn are_few(items: &[Data]) -> bool
     ensures { result ≡ are_few (values_in items.now) }
 {
@@ -186,12 +189,7 @@ fn is_numeral(bytes: &[u8]) -> bool
 fn holds_bracket(bytes: &[u8]) -> bool
     ensures { result ≡ list_any is_bracket bytes.now }
 {
-    for byte in bytes {
-        if *byte == b'[' || *byte == b']' {
-            return true;
-        }
-    }
-    false
+    bytes.iter().any(|byte| *byte == b'[' || *byte == b']')
 }
 
 // Returns whether the key of a map is read back.

@@ -44,6 +44,7 @@ pub(crate) fn same_data(left: &Data, right: &Data) -> bool
 
 // Returns whether two lists have equal items in the same order.
 #[cycle(sameness)]
+#[tactic(auto, using(crate::proofs::lemmas::data::Lengths::other_items))]
 fn same_items(left: &[Data], right: &[Data]) -> bool
     ensures { result ≡ values_same (values_in left.now) (values_in right.now) }
 {
@@ -61,6 +62,7 @@ fn same_items(left: &[Data], right: &[Data]) -> bool
 
 // Returns whether two maps have equal pairs in the same order.
 #[cycle(sameness)]
+#[tactic(auto, using(crate::proofs::lemmas::data::Lengths::other_pairs))]
 fn same_pairs(left: &[(Data, Data)], right: &[(Data, Data)]) -> bool
     ensures { result ≡ pairs_same (pairs_in left.now) (pairs_in right.now) }
 {
@@ -86,6 +88,7 @@ fn same_pair(left: &(Data, Data), right: &(Data, Data)) -> bool
 
 // Returns whether two structs have equal fields in the same order.
 #[cycle(sameness)]
+#[tactic(auto, using(crate::proofs::lemmas::data::Lengths::other_members))]
 fn same_members(left: &[(String, Data)], right: &[(String, Data)]) -> bool
     ensures { result ≡ members_same (members_in left.now) (members_in right.now) }
 {

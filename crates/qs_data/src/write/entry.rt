@@ -1,15 +1,15 @@
 //! Entries. Each is made whole before it is put, but for a long value, which is put in pieces after its key and allocates nothing.
 
-ghost use Rattle.std.specs.Prelude.{◌≡◌, ◌==◌, ◌||◌, cond, ◌<◌, ◌≤◌, ◌⊎◌, ◌++◌, [], ◌∷◌, ℕ, Bool, List, length, take, Some, Err, OnOk, OnErr, IfOk, IfErr, IsNone, option_map};
+ghost use Rattle.std.specs.Prelude.{◌≡◌, ◌==◌, ◌||◌, cond, ◌≤◌, ◌++◌, [], length, take, Some, Err, OnOk, OnErr, IfOk, IfErr, IsNone, option_map};
 ghost use Rattle.qs_spec.specs.Config.{Config as Settings};
-ghost use Rattle.qs_spec.specs.Entry.{Path, one};
+ghost use Rattle.qs_spec.specs.Entry.{one};
 ghost use Rattle.qs_spec.specs.Escape.{encoded};
 ghost use Rattle.std.specs.List.{All};
 ghost use Rattle.qs_spec.specs.Written.{open_bytes, close_bytes, value_text};
 ghost use Rattle.qs_data.specs.write.Scalars.{scalar_text};
 ghost use Rattle.qs_data.specs.write.State.{IsVisible};
-ghost use Rattle.qs_data.specs.write.Writes.{IsAt, path_after, grown, WritesTo};
-ghost use Rattle.qs_data.specs.declared.write.stop.Stop.TheVariants.{TooDeep, OutOfMemory};
+ghost use Rattle.qs_data.specs.write.Writes.{IsAt, EntersAt, IsBarred, LeavesAt, WritesTo, grown};
+ghost use Rattle.qs_data.specs.declared.write.stop.Stop.TheVariants.{OutOfMemory};
 
 use crate::write::scalar::Scalar;
 use crate::write::sink::{Sink, put_all, put_encoded};
@@ -52,10 +52,8 @@ impl Walk {
     #[inline(always)]
     pub(crate) fn enter(&mut self, segment: Scalar<'_>) -> Result<usize, Stop>
         ensures len { IfOk result (λ len. len ≡ length self.old.text) }
-        ensures ok { OnOk result ((config : Settings) (path : Path) → IsAt config path self.old
-            → (length path ≤ config.max_depth) × IsAt config (path ++ scalar_text segment.entry ∷ []) self.new) }
-        ensures err { IfErr result (λ stop. (config : Settings) (path : Path) → IsAt config path self.old
-            → ((stop ≡ TooDeep) × (config.max_depth < length path)) ⊎ (stop ≡ OutOfMemory)) }
+        ensures ok { OnOk result ((config : Settings) → EntersAt config (scalar_text segment.entry) self.old self.new) }
+        ensures err { IfErr result (λ stop. (config : Settings) → IsBarred config stop self.old) }
     {
         if self.config.get_max_depth() < self.depth {
             return Err(Stop::TooDeep);
@@ -68,8 +66,7 @@ impl Walk {
 
     /// Leaves the last segment; the text was this long before it.
     pub(crate) fn leave(&mut self, len: usize)
-        ensures { (config : Settings) (path : Path) (segment : List ℕ) → IsAt config (path ++ segment ∷ []) self.old
-            → len ≡ length (path_after config.form path) → IsAt config path self.new }
+        ensures { (config : Settings) → LeavesAt config len self.old self.new }
     {
         self.text.truncate(len);
         self.depth = self.depth.saturating_sub(1);

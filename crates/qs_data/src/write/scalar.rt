@@ -91,6 +91,7 @@ impl<'a> Scalar<'a> {
     }
 
     /// Returns whether its text is empty. Digits, words and characters aren't.
+    #[tactic(auto, using(crate::proofs::lemmas::data::Filled::filled))]
     pub(crate) fn is_empty(self) -> bool
         ensures { result ≡ is_empty_text (Some (scalar_text self.entry)) }
     {
@@ -139,6 +140,7 @@ pub(crate) fn word(value: bool) -> &'static str
 }
 
 // Returns the bytes, where they are too many to be copied before they are put, or none.
+#[tactic(auto, using(crate::proofs::lemmas::write::Visible::encoded_visible))]
 fn long(bytes: &[u8]) -> &[u8]
     ensures which { (length result.now ≡ 0) ⊎ (result.now ≡ bytes.now) }
     ensures visible { (form : Bool) → All IsVisible (encoded form result.now) }
@@ -150,6 +152,7 @@ fn long(bytes: &[u8]) -> &[u8]
 }
 
 // Appends the digits of the number.
+#[tactic(auto, using(crate::proofs::lemmas::write::Visible::numbers))]
 fn append_unsigned(n: u64, out: &mut Text) -> Result<(), AllocError>
     ensures ok { (form : Bool) → OnOk result (out.new ≡ out.old ++ encoded form (decimal n)) }
     ensures visible { (form : Bool) → All IsVisible (encoded form (decimal n)) }
@@ -158,6 +161,7 @@ fn append_unsigned(n: u64, out: &mut Text) -> Result<(), AllocError>
 }
 
 // Appends the digits of the number, after `-` where it is negative.
+#[tactic(auto, using(crate::proofs::lemmas::write::Visible::numbers))]
 fn append_signed(n: i64, out: &mut Text) -> Result<(), AllocError>
     ensures ok { (form : Bool) → OnOk result (out.new ≡ out.old ++ encoded form (signed_decimal n)) }
     ensures visible { (form : Bool) → All IsVisible (encoded form (signed_decimal n)) }
@@ -167,6 +171,7 @@ fn append_signed(n: i64, out: &mut Text) -> Result<(), AllocError>
 
 // Appends the bytes, encoded.
 #[inline(always)]
+#[tactic(auto, using(crate::proofs::lemmas::write::Visible::encoded_visible))]
 fn append_encoded(bytes: &[u8], form: bool, out: &mut Text) -> Result<(), AllocError>
     ensures ok { OnOk result (out.new ≡ out.old ++ encoded form bytes.now) }
     ensures visible { All IsVisible (encoded form bytes.now) }

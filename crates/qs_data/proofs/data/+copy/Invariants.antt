@@ -1,5 +1,4 @@
-use Rattle.std.proofs.Common.{◌≡◌, take, map}
-use Rattle.qs_data.specs.data.Views.{data_of, named, pair_of}
+use Rattle.qs_data.proofs.Common.{◌≡◌, take, map, data_of, named, pair_of}
 use Rattle.qs_data.proofs.data.+copy.Given as goal
 
 abbrev pub invariant-copy::copy_items-loop-item : goal.invariant-copy::copy_items-loop-item

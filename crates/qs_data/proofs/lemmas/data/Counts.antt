@@ -1,11 +1,5 @@
 -- How many elements a list has, and whether there are any.
-use Rattle.std.proofs.Common.{◌≡◌, ◌==◌, false, not, List, [], ◌∷◌, length, refl, sym, ap, arith}
-use Rattle.std.proofs.lemmas.Bool.Decides.{nat_tests}
-use Rattle.std.specs.declared.string.String.{String}
-use Rattle.std.specs.declared.alloc.Global.{Global}
-use Rattle.qs_spec.specs.Plain.{count, has_values, has_members}
-use Rattle.qs_data.specs.data.Views.{values_in, members_in}
-use Rattle.qs_data.specs.declared.data.data.Data.{Data}
+use Rattle.qs_data.proofs.Common.{◌≡◌, ◌==◌, false, not, List, [], ◌∷◌, length, refl, sym, ap, arith, nat_tests, String, Global, count, has_values, has_members, values_in, members_in, Data}
 
 pub count_is : (xs : List Data) → count (values_in xs) ≡ length xs
 count_is [] = refl

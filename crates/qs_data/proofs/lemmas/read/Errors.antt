@@ -11,15 +11,9 @@ use Rattle.qs_data.specs.read.Errors.{IsCustomOrOutOfMemory}
 -- what is rejected of a part is rejected of the whole
 pub rejected : {Y Z : Type 0} (t u : Bool) (e : Error) (r : Option Y) (s : Option Z) → Rejects t e r → (r ≡ None → s ≡ None) → (t ≡ false → u ≡ false) → Rejects u e s
 rejected t u (Custom m) r s h n f = n h
-rejected t u (MaxSerializationDepthExceeded d) r s h n f = h
-rejected t u (Parse m p) r s h n f = h
-rejected t u Unsupported r s h n f = h
-rejected t u (FromUtf8 c) r s h n f = h
-rejected t u (Io c) r s h n f = h
-rejected t u (ParseInt c) r s h n f = h
 rejected t u (Utf8 c) r s h n f = (n h.0, f h.1)
 rejected t u OutOfMemory r s h n f = tt
-rejected t u Failed r s h n f = h
+rejected t u e r s h n f = h
 
 not_true : (b : Bool) → (b ≡ true → ⊥) → b ≡ false
 not_true true h = absurd (h refl)
@@ -38,15 +32,8 @@ gives_exit view t u (Err y) e r s h f n g = let P : Error → Type 0 = λ z. Rej
 
 pub custom : {Y : Type 0} (t : Bool) (e : Error) (r : Option Y) → IsCustomOrOutOfMemory e → r ≡ None → Rejects t e r
 custom t (Custom m) r h n = n
-custom t (MaxSerializationDepthExceeded d) r h n = absurd h
-custom t (Parse m p) r h n = absurd h
-custom t Unsupported r h n = absurd h
-custom t (FromUtf8 c) r h n = absurd h
-custom t (Io c) r h n = absurd h
-custom t (ParseInt c) r h n = absurd h
-custom t (Utf8 c) r h n = absurd h
 custom t OutOfMemory r h n = tt
-custom t Failed r h n = absurd h
+custom t e r h n = absurd h
 
 -- tests joined
 pub and_left : (a b : Bool) → a ≡ false → (a && b) ≡ false

@@ -51,11 +51,11 @@ module _ (st : Bool) (fs : List Field) (i : ℕ) (d : Field) (es : Entries) (ws 
       ∙ ap (λ x. before ws (option_and_then (λ y. with_field (field_of d).0 y (reads_names st (fields_in (drop (i + 1) fs)) es)) x)) r
 
 -- the items after the first
-pub items_behind : (i : ℕ) (ts : List ParsedValue) → items_after (items_from (map tree_of (drop i ts))) ≡ items_from (map tree_of (drop (i + 1) ts))
-items_behind zero [] = refl
-items_behind zero (t ∷ ts) = refl
-items_behind (suc i) [] = rw add-one
-items_behind (suc i) (t ∷ ts) = rw add-one (items_behind i ts ∙ rw add-one)
+pub items_following : (i : ℕ) (ts : List ParsedValue) → items_after (items_from (map tree_of (drop i ts))) ≡ items_from (map tree_of (drop (i + 1) ts))
+items_following zero [] = refl
+items_following zero (t ∷ ts) = refl
+items_following (suc i) [] = rw add-one
+items_following (suc i) (t ∷ ts) = rw add-one (items_following i ts ∙ rw add-one)
 
 -- the item at a place, and where there is none
 pub item_at : (ts : List ParsedValue) (i : ℕ) (d : ParsedValue) → i < length ts → d ≡ get_or ts i d → items_from (map tree_of (drop i ts)) ≡ item (tree_of d) (items_from (map tree_of (drop (i + 1) ts)))
@@ -90,7 +90,7 @@ module _ (st : Bool) (fs : List Field) (i : ℕ) (d : Field) (ts : List ParsedVa
   places_more o r =
       let split : drop i fs ≡ d ∷ drop (i + 1) fs = drop_more fs i d here ∙ ap (λ y. y ∷ drop (i + 1) fs) (sym is) in
       ap (λ ys. before ws (reads_places st (fields_in ys) (items_from (map tree_of (drop i ts))))) split
-      ∙ ap (λ zs. before ws (option_and_then (λ y. with_field (field_of d).0 y (reads_places st (fields_in (drop (i + 1) fs)) zs)) (reads_place st d (drop i ts)))) (items_behind i ts)
+      ∙ ap (λ zs. before ws (option_and_then (λ y. with_field (field_of d).0 y (reads_places st (fields_in (drop (i + 1) fs)) zs)) (reads_place st d (drop i ts)))) (items_following i ts)
       ∙ ap (λ x. before ws (option_and_then (λ y. with_field (field_of d).0 y rest) x)) r
 
 pub field_name : (d : Field) → (field_of d).0 ≡ string_bytes (out-Field d).name

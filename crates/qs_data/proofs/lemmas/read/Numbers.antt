@@ -9,35 +9,27 @@ use Rattle.std.proofs.lemmas.Int.{ints}
 use Rattle.std.proofs.lemmas.Fmt.{IsAscii-decimal, decimal_is_IsNumeral}
 use Rattle.std.proofs.lemmas.Bool.{cases_Bool, false≢true}
 use Rattle.std.proofs.lemmas.Bool.Decides.{nat_tests}
-use Rattle.std.proofs.lemmas.Str.Parse.{IsNumeralModel, numerals_by_fold}
 use Rattle.std.proofs.lemmas.Str.{IsUtf8-from_ascii, is_utf8-from_IsUtf8}
 use Rattle.qs_data.specs.declared.shape.width.Width.{Width}
 use Rattle.qs_data.specs.declared.shape.width.Width.TheVariants.{Bits8, Bits16, Bits32, Bits64}
 use Rattle.qs_data.specs.shape.Widths.{bits_of}
+use Rattle.std.proofs.lemmas.Str.Ascii.{IsAscii-nil}
+use Rattle.qs_spec.proofs.Numerals.{AreDigits, numerals}
 use Rattle.qs_spec.specs.Escape.{is_between}
 use Rattle.qs_spec.specs.Segment.{number}
 use Rattle.qs_spec.specs.Scalar.{is_numeral, numeral_up_to, unsigned_number, signed_number}
 
-abbrev AreDigits : List ℕ → Type 0
-AreDigits ds = list_all (is_between 48 57) ds ≡ true
-
-abbrev number_after : ℕ → List ℕ → ℕ
-number_after n ds = fold (λ m b. 10 * m + (b - 48)) n ds
-
-own : IsNumeralModel AreDigits (number_after 0)
-own = numerals_by_fold AreDigits (search rules) number_after (search rules)
-
 -- a numeral by the test is one by std
 numeral_holds : (ds : List ℕ) → is_numeral ds ≡ true → IsNumeral 10 ds
 numeral_holds [] h = absurd (search rules)
-numeral_holds (d ∷ ds) h = (omega arith, own.to (d ∷ ds) h)
+numeral_holds (d ∷ ds) h = (omega arith, numerals.to (d ∷ ds) h)
 
 numeral_is : (ds : List ℕ) → IsNumeral 10 ds → is_numeral ds ≡ true
 numeral_is [] h = absurd (omega (arith, h.0))
-numeral_is (d ∷ ds) h = own.from (d ∷ ds) h.1
+numeral_is (d ∷ ds) h = numerals.from (d ∷ ds) h.1
 
 value_is : (ds : List ℕ) → IsNumeral 10 ds → number ds ≡ digits_value 10 ds
-value_is ds h = own.same ds h.1
+value_is ds h = numerals.same ds h.1
 
 pub numeral_within : (most : ℕ) (ds : List ℕ) → IsNumeral 10 ds → digits_value 10 ds ≤ most → numeral_up_to most ds ≡ Some (digits_value 10 ds)
 numeral_within most ds h le = let e = numeral_is ds h in let v = value_is ds h in grind (arith, nat_tests)
@@ -69,19 +61,6 @@ digits_ascii (d ∷ ds) h i = by_place (digit_ascii d ds h) (digits_ascii ds (di
 numeral_digits : (ds : List ℕ) → is_numeral ds ≡ true → AreDigits ds
 numeral_digits [] h = absurd (search rules)
 numeral_digits (d ∷ ds) h = h
-
-byte_ascii : (b : ℕ) (bs : List ℕ) → list_all (is_between 0 127) (b ∷ bs) ≡ true → (b < 128) × (list_all (is_between 0 127) bs ≡ true)
-byte_ascii b bs h = (grind (arith, nat_tests, h), grind (arith, nat_tests, h))
-
-all_ascii : (bs : List ℕ) → list_all (is_between 0 127) bs ≡ true → IsAscii bs
-all_ascii [] h i = omega arith
-all_ascii (b ∷ bs) h i = by_place (byte_ascii b bs h).0 (all_ascii bs (byte_ascii b bs h).1) i where
-  by_place : b < 128 → IsAscii bs → (j : ℕ) → slice_index (b ∷ bs) j < 128
-  by_place lt rest zero = lt
-  by_place lt rest (suc j) = rest j
-
-pub word_text : (bs : List ℕ) → list_all (is_between 0 127) bs ≡ true → is_utf8 bs ≡ true
-word_text bs h = is_utf8-from_IsUtf8 bs (IsUtf8-from_ascii bs (all_ascii bs h))
 
 pub ascii_text : (bs : List ℕ) → IsAscii bs → is_utf8 bs ≡ true
 ascii_text bs h = is_utf8-from_IsUtf8 bs (IsUtf8-from_ascii bs h)
@@ -126,10 +105,8 @@ unsigned_text bits bs h = elim (cases_Bool (is_numeral (without_leading_plus bs)
 ]
 
 pub width_fits : (w : Width) → 2 ^ bits_of w ≤ 2 ^ 64
-width_fits Bits8 = omega arith
-width_fits Bits16 = omega arith
-width_fits Bits32 = omega arith
 width_fits Bits64 = omega arith
+width_fits w = omega arith
 
 -- a signed number by its sign
 signed_is : (bits : ℕ) (bs : List ℕ) → signed_number bits bs
@@ -218,17 +195,15 @@ signed_err bits bs h le = elim (cases_Bool (is_numeral (without_leading_sign bs)
 ]
 
 pub signed_width_fits : (w : Width) → 2 ^ (bits_of w - 1) ≤ 2 ^ 63
-signed_width_fits Bits8 = omega arith
-signed_width_fits Bits16 = omega arith
-signed_width_fits Bits32 = omega arith
 signed_width_fits Bits64 = omega arith
+signed_width_fits w = omega arith
 
 -- a number's digits are text
 pub decimal_text : (n : ℕ) → n < 2 ^ 32 → is_utf8 (decimal n) ≡ true
 decimal_text n lt = ascii_text (decimal n) (IsAscii-decimal n (omega arith))
 
 pub empty_text : is_utf8 [] ≡ true
-empty_text = word_text [] refl
+empty_text = ascii_text [] IsAscii-nil
 
 -- and the first is a digit
 first_digit : (ds : List ℕ) → AreDigits ds → 0 < length ds → (48 ≤ get_or ds 0 0) × (get_or ds 0 0 ≤ 57)
@@ -238,5 +213,5 @@ first_digit (d ∷ ds) h some = (grind (arith, nat_tests, h), grind (arith, nat_
 pub decimal_begins : (n : ℕ) (ds : List ℕ) → n < 2 ^ 32 → decimal n ≡ ds → (0 < length ds) × (48 ≤ get_or ds 0 0) × (get_or ds 0 0 ≤ 57)
 decimal_begins n ds lt is =
     let numeral : IsNumeral 10 ds = subst (IsNumeral 10) is (decimal_is_IsNumeral n (omega arith)).0 in
-    let digit = first_digit ds (own.from ds numeral.1) numeral.0 in
+    let digit = first_digit ds (numerals.from ds numeral.1) numeral.0 in
     (numeral.0, digit.0, digit.1)

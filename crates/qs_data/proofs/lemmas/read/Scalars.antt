@@ -6,6 +6,7 @@ use Rattle.std.specs.Char.{IsScalar, encode_utf8}
 use Rattle.std.proofs.lemmas.Str.{IsUtf8-from_is_utf8, chars_past_char, chars-nil, encodes-chars, scalars-chars}
 use Rattle.std.proofs.lemmas.Bool.{cases_Bool, false≢true}
 use Rattle.std.proofs.lemmas.Slice.Eq.{bytes_eq-Decides}
+use Rattle.qs_spec.proofs.Booleans.{and_both}
 use Rattle.qs_spec.specs.Leaf.Leaf.{NoValue, Null, Text}
 use Rattle.qs_spec.specs.Tree.{Tree, Items}
 use Rattle.qs_spec.specs.Tree.Tree.{leaf, sequence, mapping, uninitialized}
@@ -16,7 +17,7 @@ use Rattle.qs_spec.specs.Node.{last_item, item_text}
 use Rattle.qs_spec.specs.internal.ReadFunction.{read_scalar}
 use Rattle.qs_tree.specs.tree.Views.{tree_of, items_from}
 use Rattle.qs_tree.specs.declared.tree.value.ParsedValue.{ParsedValue}
-use Rattle.qs_data.proofs.lemmas.read.Numbers.{word_text, unsigned_text, signed_text}
+use Rattle.qs_data.proofs.lemmas.read.Numbers.{unsigned_text, signed_text}
 use Rattle.qs_data.specs.declared.read.error.ReadError.{ReadError}
 use Rattle.qs_data.specs.read.internal.ReadError.{ReadGives}
 use Rattle.qs_data.proofs.lemmas.read.Errors.{and_left, and_right}
@@ -53,9 +54,7 @@ scalar_is reject_duplicates empty get uninitialized o h = absurd cc
 
 item_bad : (t : Tree) (b : List ℕ) → item_text t ≡ Some b → is_utf8 b ≡ false → is_text t ≡ false
 item_bad (leaf l) b h n = let e : leaf_text l ≡ b = cc in ap is_utf8 e ∙ n
-item_bad (sequence xs) b h n = absurd cc
-item_bad (mapping es) b h n = absurd cc
-item_bad uninitialized b h n = absurd cc
+item_bad t b h n = absurd cc
 
 last_bad : (reject_duplicates : Bool) (xs : Items) (b : List ℕ) → last_item reject_duplicates xs ≡ Some b → is_utf8 b ≡ false → items_are_text xs ≡ false
 last_bad reject_duplicates no_items b h n = absurd cc
@@ -91,10 +90,11 @@ last_item_is reject_duplicates (t ∷ u ∷ ts) d h (inr k) =
     ∙ last_item_is reject_duplicates (u ∷ ts) d (h ∙ ap (slice_get (t ∷ u ∷ ts)) same) (inr k)
 
 pub boolean_none : (b : List ℕ) → utf8_text b ≡ None → boolean_data b ≡ None
+unfolding is_utf8 chars encode_utf8
 boolean_none b h = elim (cases_Bool (bytes_eq b (codes "true"))) [
-  | inl is ↦ absurd (not_word (codes "true") (word_text (codes "true") refl) is)
+  | inl is ↦ absurd (not_word (codes "true") refl is)
   | inr not ↦ elim (cases_Bool (bytes_eq b (codes "false"))) [
-    | inl is ↦ absurd (not_word (codes "false") (word_text (codes "false") refl) is)
+    | inl is ↦ absurd (not_word (codes "false") refl is)
     | inr neither ↦ rw (not, neither)
   ]
 ] where
@@ -105,23 +105,19 @@ pub unsigned_none : (bits : ℕ) (b : List ℕ) → utf8_text b ≡ None → uns
 unsigned_none bits b h = ap (option_map Data.unsigned) (unsigned_text bits b (utf8_none b h))
 
 -- a text of one character, and of none or more
-character_spelled : (b s : List ℕ) (c : ℕ) → utf8_text b ≡ Some s → s ≡ encode_utf8 c → character_data b ≡ Some (Data.character c)
-character_spelled b s c h e =
+character_encoded : (b s : List ℕ) (c : ℕ) → utf8_text b ≡ Some s → s ≡ encode_utf8 c → character_data b ≡ Some (Data.character c)
+character_encoded b s c h e =
     let good = utf8_some b s h in
     let one : b ≡ encode_utf8 c ++ [] = sym good.1 ∙ e ∙ sym (append-nil (encode_utf8 c)) in
-    let spelled : chars b ≡ c ∷ chars [] = chars_past_char b [] c (IsUtf8-from_is_utf8 b good.0) one in
-    rw good.0 (ap only_character (spelled ∙ ap (λ cs. c ∷ cs) chars-nil))
-
-and_front : (a b : Bool) → (a && b) ≡ true → a ≡ true
-and_front true b h = refl
-and_front false b h = h
+    let alone : chars b ≡ c ∷ chars [] = chars_past_char b [] c (IsUtf8-from_is_utf8 b good.0) one in
+    rw good.0 (ap only_character (alone ∙ ap (λ cs. c ∷ cs) chars-nil))
 
 pub character_is : (b s : List ℕ) (c : ℕ) → utf8_text b ≡ Some s → s ≡ encode_utf8 c → character_data b ≡ Some (data_of (v.Char c))
-character_is b s c h e = let seen : data_of (v.Char c) ≡ Data.character c = search (rules, v.the_lemmas) in character_spelled b s c h e ∙ ap Some (sym seen)
+character_is b s c h e = let seen : data_of (v.Char c) ≡ Data.character c = search (rules, v.the_lemmas) in character_encoded b s c h e ∙ ap Some (sym seen)
 
 only_one : (b : List ℕ) (cs : List ℕ) → encode_utf8_all cs ≡ b → all_scalars cs ≡ true → ((c : ℕ) → IsScalar c → b ≡ encode_utf8 c → ⊥) → only_character cs ≡ None
 only_one b [] e s h = refl
-only_one b (c ∷ []) e s h = absurd (h c (and_front _ true s) (sym e ∙ append-nil (encode_utf8 c)))
+only_one b (c ∷ []) e s h = absurd (h c (and_both _ true s).0 (sym e ∙ append-nil (encode_utf8 c)))
 only_one b (c ∷ d ∷ cs) e s h = refl
 
 pub character_none : (b s : List ℕ) → utf8_text b ≡ Some s → ((c : ℕ) → IsScalar c → s ≡ encode_utf8 c → ⊥) → character_data b ≡ None

@@ -1,13 +1,6 @@
 -- Texts of a program are UTF-8, and its bytes are below 256; data are no variant of no kind.
-use Rattle.std.proofs.Common.{◌≡◌, ℕ, suc, true, false, nat_lt, List, [], ◌∷◌, get_or, None, refl, arith, string_bytes, Fits, w8}
-use Rattle.std.specs.List.{list_all}
-use Rattle.std.specs.Str.{is_utf8}
-use Rattle.std.proofs.lemmas.Bool.Decides.{nat_tests}
-use Rattle.std.specs.declared.string.String.{String}
-use Rattle.std.proofs.lemmas.Str.{IsUtf8-string_bytes, is_utf8-from_IsUtf8}
+use Rattle.qs_data.proofs.Common.{◌≡◌, ℕ, suc, true, false, nat_lt, List, [], ◌∷◌, get_or, None, refl, arith, string_bytes, Fits, w8, list_all, is_utf8, nat_tests, String, IsUtf8-string_bytes, is_utf8-from_IsUtf8, is_byte, fits_variant}
 use Rattle.qs_spec.specs.Data.{Data}
-use Rattle.qs_spec.specs.Fits.{is_byte}
-use Rattle.qs_data.specs.shape.internal.Fitting.{fits_variant}
 
 pub name_is_utf8 : {Z : Type 0} (s : String Z) → is_utf8 (string_bytes s) ≡ true
 name_is_utf8 s = is_utf8-from_IsUtf8 (string_bytes s) (IsUtf8-string_bytes s)
@@ -22,21 +15,5 @@ all_bytes (b ∷ bs) h =
 
 -- data are no variant of no kind
 pub no_kind : (d : Data) → fits_variant None d ≡ false
-no_kind Data.unit = refl
-no_kind Data.none = refl
-no_kind (Data.some d) = refl
-no_kind (Data.boolean b) = refl
-no_kind (Data.unsigned n) = refl
-no_kind (Data.signed z) = refl
-no_kind (Data.character c) = refl
-no_kind (Data.text t) = refl
-no_kind (Data.bytes b) = refl
-no_kind (Data.sequence ds) = refl
-no_kind (Data.tuple ds) = refl
-no_kind (Data.mapping ps) = refl
-no_kind (Data.struct ms) = refl
-no_kind (Data.newtype d) = refl
 no_kind (Data.unit_variant name) = refl
-no_kind (Data.newtype_variant name d) = refl
-no_kind (Data.tuple_variant name ds) = refl
-no_kind (Data.struct_variant name ms) = refl
+no_kind d = refl

@@ -1,22 +1,6 @@
 -- One entry: where the walk is, how the entry is written there, and what its puts leave.
-use Rattle.std.proofs.Common.{◌≡◌, ℕ, ◌<◌, ◌≤◌, Bool, true, false, not, eqb, cond, List, [], ◌∷◌, ◌++◌, length, take, drop, refl, sym, ap, ◌∙◌, subst, Option, Some, append_assoc, append-nil, length-append, arith}
-use Rattle.std.proofs.Math.Seq.{take-append_seam}
-use Rattle.std.proofs.Math.Bool.{or-false}
-use Rattle.std.proofs.lemmas.Bool.{ne_eqb}
-use Rattle.std.proofs.lemmas.List.{drop-append-le, length-take}
-use Rattle.std.proofs.lemmas.List.Elements.{All-drop, All-take}
-use Rattle.std.specs.Prelude.{◌||◌}
-use Rattle.std.specs.List.{All}
-use Rattle.std.specs.Io.KnownBytes.{Appends}
-use Rattle.qs_spec.specs.Escape.{encoded}
-use Rattle.qs_spec.specs.Config.{Config}
-use Rattle.qs_spec.specs.Entry.{Path, Output}
-use Rattle.qs_spec.specs.Written.{written, started_after, entry_text, path_text, brackets_text, value_text, has_key, open_bytes, close_bytes}
-use Rattle.qs_data.specs.declared.write.entry.Walk.{Walk}
-use Rattle.qs_data.specs.declared.write.stop.Stop.{Stop}
-use Rattle.qs_data.specs.declared.write.stop.Stop.TheVariants.{Io}
-use Rattle.qs_data.specs.write.State.{IsVisible}
-use Rattle.qs_data.specs.write.Writes.{IsAt, StreamState, Adds, AddsPart, Stops, path_after, grown}
+use Rattle.qs_data.proofs.Common.{one, ◌≡◌, ℕ, ◌<◌, ◌≤◌, Bool, true, false, not, eqb, cond, List, [], ◌∷◌, ◌++◌, length, take, drop, refl, sym, ap, ◌∙◌, subst, Option, Some, append_assoc, append-nil, length-append, arith, take-append_seam, or-false, ne_eqb, drop-append-le, length-take, All-drop, All-take, ◌||◌, All, Appends, encoded, Config, Path, brackets_text, value_text, has_key, open_bytes, close_bytes, Walk, Stop, Io, IsVisible, IsAt, StreamState, Adds, Stops, path_after, grown}
+use Rattle.qs_spec.specs.Written.{written, started_after, entry_text, path_text}
 
 -- a segment in brackets
 abbrev bracketed : Bool → List ℕ → List ℕ
@@ -64,15 +48,17 @@ led form true (x ∷ path) value = refl
 led form false (x ∷ path) value = ap (λ b. drop (cond b 0 1) (path_after form (x ∷ path) ++ value_text form value)) (some_text form x path)
 
 -- what is shown of a text, and what is left of the value, are the entry: it begins with the path's `&`, or after it
-pub entry_shown : (form started : Bool) (path : Path) (value : Option (List ℕ)) (walk : Walk) (out rest shown : List ℕ) (len start : ℕ) → walk.text ≡ path_after form path
+pub entry_shown : (config : Config) (form started : Bool) (path : Path) (value : Option (List ℕ)) (walk : Walk) (out rest shown : List ℕ) (len start : ℕ) → IsAt config path walk → form ≡ walk.config.form
     → out ++ rest ≡ walk.text ++ value_text form value → take (length walk.text) out ≡ walk.text → len ≡ length walk.text → start ≡ cond (started || eqb len 0) 0 1 → start ≤ len
-    → shown ≡ drop start out → All IsVisible (out ++ rest) → (shown ++ rest ≡ entry_text form started path value) × All IsVisible (shown ++ rest)
-entry_shown form started path value walk out rest shown len start at is kept l n within shows visible =
+    → shown ≡ drop start out → (All IsVisible walk.text → All IsVisible (out ++ rest)) → (shown ++ rest ≡ entry_text config.form started path value) × All IsVisible (shown ++ rest)
+entry_shown config form started path value walk out rest shown len start at same_form is kept l n within shows visible =
     let fits : start ≤ length out = omega (arith, within, l, ap length kept, length-take (length walk.text) out) in
-    let same : shown ++ rest ≡ drop start (out ++ rest) = ap (λ t. t ++ rest) shows ∙ sym (drop-append-le start out rest fits) in (
-      same ∙ ap (λ k. drop k (out ++ rest)) (n ∙ ap (λ m. cond (started || eqb m 0) 0 1) (l ∙ ap length at))
-          ∙ ap (drop (cond (started || eqb (length (path_after form path)) 0) 0 1)) (is ∙ ap (λ t. t ++ value_text form value) at) ∙ led form started path value,
-      subst (All IsVisible) (sym same) (All-drop IsVisible start (out ++ rest) visible),
+    let same : shown ++ rest ≡ drop start (out ++ rest) = ap (λ t. t ++ rest) shows ∙ sym (drop-append-le start out rest fits) in
+    let as_set : out ++ rest ≡ path_after config.form path ++ value_text config.form value =
+    is ∙ ap (λ f. walk.text ++ value_text f value) (same_form ∙ ap (λ (k : Config). k.form) at.settings) ∙ ap (λ t. t ++ value_text config.form value) at.text in (
+      same ∙ ap (λ k. drop k (out ++ rest)) (n ∙ ap (λ m. cond (started || eqb m 0) 0 1) (l ∙ ap length at.text))
+          ∙ ap (drop (cond (started || eqb (length (path_after config.form path)) 0) 0 1)) as_set ∙ led config.form started path value,
+      subst (All IsVisible) (sym same) (All-drop IsVisible start (out ++ rest) (visible at.visible)),
     )
 
 key_is : (form : Bool) (path : Path) → not (eqb (length (path_after form path)) 0) ≡ has_key path
@@ -112,19 +98,15 @@ adds_one form a b path value text is added visible started failed writer =
     let same = is ∙ sym (written-one form a.started path value) in
     record { text = subst (Appends a.taken b.taken) same added; visible = subst (All IsVisible) same visible; started = started; failed = failed; writer = writer }
 
-pub part_one : (form : Bool) (a b : StreamState) (path : Path) (value : Option (List ℕ)) (text : List ℕ) → text ≡ entry_text form a.started path value
-    → (n : ℕ) → n < length text → Appends a.taken b.taken (take n text) → All IsVisible text → b.failed ≡ true → b.writer ≡ a.writer
-    → AddsPart form a b (record { path = path; value = value } ∷ [])
-part_one form a b path value text is n proper added visible failed writer =
-    let same = is ∙ sym (written-one form a.started path value) in
-    record {
-      count = n;
-      proper = subst (λ t. n < length t) same proper;
-      text = subst (λ t. Appends a.taken b.taken (take n t)) same added;
-      visible = subst (λ t. All IsVisible (take n t)) same (All-take IsVisible n text visible);
+pub io_stops : (config : Config) (a b : StreamState) (path : Path) (value : Option (List ℕ)) (text : List ℕ) (e : Stop) → e ≡ Io → text ≡ entry_text config.form a.started path value
+    → (n : ℕ) × (n < length text) × Appends a.taken b.taken (take n text) → All IsVisible text → b.failed ≡ true → b.writer ≡ a.writer → Stops e config a b (one path value)
+io_stops config a b path value text e io is part visible failed writer =
+    let same = is ∙ sym (written-one config.form a.started path value) in
+    rw io (record {
+      count = part.0;
+      proper = subst (λ t. part.0 < length t) same part.1;
+      text = subst (λ t. Appends a.taken b.taken (take part.0 t)) same part.2;
+      visible = subst (λ t. All IsVisible (take part.0 t)) same (All-take IsVisible part.0 text visible);
       failed = failed;
       writer = writer;
-    }
-
-pub io_stops : (config : Config) (a b : StreamState) (o : Output) (e : Stop) → e ≡ Io → AddsPart config.form a b o.entries → Stops e config a b o
-io_stops config a b o e is part = subst (λ (z : Stop). Stops z config a b o) (sym is) part
+    })

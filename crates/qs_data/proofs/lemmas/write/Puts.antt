@@ -1,13 +1,5 @@
 -- Several puts, one after another.
-use Rattle.std.proofs.Common.{◌≡◌, ℕ, ◌+◌, ◌-◌, ◌<◌, ◌≤◌, Bool, List, ◌++◌, length, take, drop, Option, sym, ap, ◌∙◌, subst, arith, length-append, length-drop, drop-drop}
-use Rattle.std.proofs.Math.Seq.{take-add, take-append-add}
-use Rattle.std.proofs.lemmas.List.{take-append-le}
-use Rattle.std.proofs.lemmas.Grind.{flat_map-append}
-use Rattle.std.proofs.KnownBytes.{Appends-trans}
-use Rattle.std.specs.Prelude.{Result, Ok, Err, IfErr}
-use Rattle.std.specs.Result.{IsErrAnd}
-use Rattle.std.specs.Io.KnownBytes.{Appends}
-use Rattle.qs_spec.specs.Escape.{encoded, encoded_byte}
+use Rattle.qs_data.proofs.Common.{◌≡◌, ℕ, ◌+◌, ◌-◌, ◌<◌, ◌≤◌, Bool, List, ◌++◌, length, take, drop, Option, sym, ap, ◌∙◌, subst, arith, length-append, length-drop, drop-drop, take-add, take-append-add, take-append-le, flat_map-append, Appends-trans, Result, Ok, Err, IfErr, IsErrAnd, Appends, encoded, encoded_byte}
 
 -- one more put, where the rest is what stands after the part that was taken
 pub put_step : (text rest next : List ℕ) (n : ℕ) (a b c : Option (List ℕ)) → length rest ≤ length text → rest ≡ drop (length text - length rest) text

@@ -1,17 +1,9 @@
 -- What is encoded is visible.
-use Rattle.std.proofs.Common.{suc, ◌+◌, ◌^◌, ℤ, pos, negsuc, ◌++◌, sym, ap, ◌∙◌, subst, ◌≡◌, ℕ, ◌<◌, Bool, true, false, ◌&&◌, leb, List, [], ◌∷◌, get_or, refl, arith, Fits, w8}
-use Rattle.std.specs.List.{All, AllByRecursion, list_all}
-use Rattle.std.specs.Fmt.{decimal, signed_decimal}
+use Rattle.qs_data.proofs.Common.{suc, ◌+◌, ◌^◌, ℤ, pos, negsuc, ◌++◌, sym, ap, ◌∙◌, subst, ◌≡◌, ℕ, ◌<◌, Bool, true, false, ◌&&◌, leb, List, [], ◌∷◌, get_or, refl, arith, Fits, w8, All, AllByRecursion, list_all, decimal, signed_decimal, digits_decimal, agree_below_at, nat_tests, All-nil, All-cons, All-append, All-head, All-tail, All-from_get_or, encoded_byte, encoded, is_between, open_bytes, close_bytes, IsVisible}
 use Rattle.std.specs.Int.Signed.{mag}
-use Rattle.std.proofs.lemmas.Fmt.{digits_decimal}
-use Rattle.std.proofs.lemmas.Bool.{agree_below_at}
-use Rattle.std.proofs.lemmas.Bool.Decides.{nat_tests}
-use Rattle.std.proofs.lemmas.List.Elements.{All-nil, All-cons, All-append, All-head, All-tail, All-from_get_or}
-use Rattle.qs_spec.specs.Escape.{encoded_byte, encoded, is_between}
+use Rattle.qs_spec.proofs.Booleans.{and_both}
 use Rattle.qs_spec.proofs.Numerals.{AreDigits, numerals}
 use Rattle.qs_spec.proofs.KeysBack.{encoded_digits}
-use Rattle.qs_spec.specs.Written.{open_bytes, close_bytes}
-use Rattle.qs_data.specs.write.State.{IsVisible}
 
 abbrev is_visible : ℕ → Bool
 is_visible b = leb 33 b && leb b 126
@@ -20,17 +12,12 @@ encoded_byte_test : (form : Bool) (b : ℕ) → b < 256 → list_all is_visible 
 encoded_byte_test true b l = agree_below_at (λ b. list_all is_visible (encoded_byte true b)) (λ b. true) 256 b refl l
 encoded_byte_test false b l = agree_below_at (λ b. list_all is_visible (encoded_byte false b)) (λ b. true) 256 b refl l
 
-both : (a b : Bool) → (a && b) ≡ true → (a ≡ true) × (b ≡ true)
-both true true e = (refl, refl)
-both true false e = cc
-both false b e = cc
-
 visible_of : (b : ℕ) → is_visible b ≡ true → IsVisible b
-visible_of b e = let h = both (leb 33 b) (leb b 126) e in (grind (arith, nat_tests), grind (arith, nat_tests))
+visible_of b e = let h = and_both (leb 33 b) (leb b 126) e in (grind (arith, nat_tests), grind (arith, nat_tests))
 
 all_visible : (bs : List ℕ) → list_all is_visible bs ≡ true → All IsVisible bs
 all_visible [] e = All-nil IsVisible
-all_visible (b ∷ bs) e = let h = both (is_visible b) (list_all is_visible bs) e in All-cons IsVisible b bs (visible_of b h.0) (all_visible bs h.1)
+all_visible (b ∷ bs) e = let h = and_both (is_visible b) (list_all is_visible bs) e in All-cons IsVisible b bs (visible_of b h.0) (all_visible bs h.1)
 
 abbrev IsByte : ℕ → Type 0
 IsByte b = b < 256
@@ -55,21 +42,21 @@ pub equals_visible : All IsVisible (61 ∷ [])
 equals_visible = all_visible (61 ∷ []) refl
 
 -- a text that is written as it is
-abbrev pub IsPlain : Bool → List ℕ → Type 0
+abbrev IsPlain : Bool → List ℕ → Type 0
 IsPlain form text = (encoded form text ≡ text) × All IsVisible (encoded form text)
 
 digits_bytes : (ds : List ℕ) → AreDigits ds → AllByRecursion (λ b. b < 256) ds
 digits_bytes [] e = tt
-digits_bytes (b ∷ ds) e = let h = both (is_between 48 57 b) (list_all (is_between 48 57) ds) e in
-    let r = both (leb 48 b) (leb b 57) h.0 in (grind (arith, nat_tests), digits_bytes ds h.1)
+digits_bytes (b ∷ ds) e = let h = and_both (is_between 48 57 b) (list_all (is_between 48 57) ds) e in
+    let r = and_both (leb 48 b) (leb b 57) h.0 in (grind (arith, nat_tests), digits_bytes ds h.1)
 
 digits_visible : (ds : List ℕ) → AreDigits ds → All IsVisible ds
 digits_visible [] e = All-nil IsVisible
-digits_visible (b ∷ ds) e = let h = both (is_between 48 57 b) (list_all (is_between 48 57) ds) e in
-    let r = both (leb 48 b) (leb b 57) h.0 in
+digits_visible (b ∷ ds) e = let h = and_both (is_between 48 57 b) (list_all (is_between 48 57) ds) e in
+    let r = and_both (leb 48 b) (leb b 57) h.0 in
     All-cons IsVisible b ds (grind (arith, nat_tests), grind (arith, nat_tests)) (digits_visible ds h.1)
 
-pub unsigned_plain : (form : Bool) (n : ℕ) → n < 2 ^ 64 → IsPlain form (decimal n)
+unsigned_plain : (form : Bool) (n : ℕ) → n < 2 ^ 64 → IsPlain form (decimal n)
 unsigned_plain form n l =
     let digits = digits_decimal numerals n l in
     let same = encoded_digits form (decimal n) (digits_bytes (decimal n) digits) digits in
@@ -79,9 +66,23 @@ minus : (form : Bool) → encoded_byte form 45 ≡ 45 ∷ []
 minus true = refl
 minus false = refl
 
-pub signed_plain : (form : Bool) (z : ℤ) → mag z + 1 < 2 ^ 64 → IsPlain form (signed_decimal z)
+signed_plain : (form : Bool) (z : ℤ) → mag z + 1 < 2 ^ 64 → IsPlain form (signed_decimal z)
 signed_plain form (pos n) l = unsigned_plain form n (omega (arith, l))
 signed_plain form (negsuc n) l =
     let p = unsigned_plain form (suc n) (omega (arith, l)) in
     let same : encoded form (45 ∷ decimal (suc n)) ≡ 45 ∷ decimal (suc n) = ap (λ t. t ++ encoded form (decimal (suc n))) (minus form) ∙ ap (λ t. 45 ∷ t) p.0 in
     (same, subst (All IsVisible) (sym same) (All-cons IsVisible 45 (decimal (suc n)) (omega arith, omega arith) (subst (All IsVisible) p.0 p.1)))
+
+pub unsigned_encoded : (form : Bool) (n : ℕ) → n < 2 ^ 64 → encoded form (decimal n) ≡ decimal n
+unsigned_encoded form n l = (unsigned_plain form n l).0
+
+pub unsigned_visible : (form : Bool) (n : ℕ) → n < 2 ^ 64 → All IsVisible (encoded form (decimal n))
+unsigned_visible form n l = (unsigned_plain form n l).1
+
+pub signed_encoded : (form : Bool) (z : ℤ) → mag z + 1 < 2 ^ 64 → encoded form (signed_decimal z) ≡ signed_decimal z
+signed_encoded form z l = (signed_plain form z l).0
+
+pub signed_visible : (form : Bool) (z : ℤ) → mag z + 1 < 2 ^ 64 → All IsVisible (encoded form (signed_decimal z))
+signed_visible form z l = (signed_plain form z l).1
+
+pub ruleset numbers = (unsigned_encoded, unsigned_visible, signed_encoded, signed_visible)

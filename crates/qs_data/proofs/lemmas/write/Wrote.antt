@@ -1,21 +1,8 @@
 -- Texts, one after another.
-use Rattle.std.proofs.Common.{◌≡◌, ℕ, ◌+◌, Bool, List, [], ◌∷◌, ◌++◌, length, take, refl, sym, ap, ◌∙◌, subst, Option, Some, None, Result, Ok, Err, append_assoc, length-append, arith}
-use Rattle.std.proofs.Math.Seq.{take-append-add, take-append_seam}
-use Rattle.std.proofs.lemmas.List.{take-append-le}
-use Rattle.std.proofs.lemmas.List.Elements.{All-nil, All-append}
-use Rattle.std.proofs.KnownBytes.{Appends-nil, Appends-trans}
-use Rattle.std.specs.Prelude.{◌||◌}
-use Rattle.std.specs.List.{All}
-use Rattle.std.specs.Result.{IsErrAnd}
-use Rattle.std.specs.Io.KnownBytes.{Appends}
-use Rattle.qs_spec.specs.Config.{Config}
-use Rattle.qs_spec.specs.Entry.{Path, Entry, Output, follow, and_then, nothing, Refusal, too_deep, bad_key}
-use Rattle.qs_spec.specs.Written.{written, started_after, entry_text, has_key}
-use Rattle.qs_data.specs.declared.write.entry.Walk.{Walk}
-use Rattle.qs_data.specs.declared.write.stop.Stop.{Stop}
-use Rattle.qs_data.specs.declared.write.stop.Stop.TheVariants.{TooDeep, BadKey, Io, OutOfMemory}
-use Rattle.qs_data.specs.write.State.{IsVisible}
-use Rattle.qs_data.specs.write.Writes.{IsAt, StreamState, Adds, AddsSome, AddsPart, Stops, Writes}
+use Rattle.qs_data.proofs.Common.{◌≡◌, ℕ, ◌+◌, Bool, List, [], ◌∷◌, ◌++◌, length, take, refl, sym, ap, ◌∙◌, subst, Option, Some, None, Result, Ok, Err, append_assoc, length-append, arith, take-append-add, take-append_seam, take-append-le, All-nil, All-append, Appends-nil, Appends-trans, ◌||◌, All, IsErrAnd, Appends, Config, Path, Entry, Output, follow, and_then, nothing, Refusal, too_deep, bad_key, entry_text, has_key, Walk, Stop, TooDeep, BadKey, Io, OutOfMemory, IsVisible, IsAt, StreamState, Adds, AddsSome, AddsPart, Stops, Writes}
+use Rattle.qs_data.specs.write.Parts.{Part, both}
+use Rattle.qs_data.specs.write.Writes.{WritesAt}
+use Rattle.qs_spec.specs.Written.{written, started_after}
 
 pub written-append : (form s : Bool) (es fs : List Entry) → written form s (es ++ fs) ≡ written form s es ++ written form (started_after s es) fs
 unfolding written started_after
@@ -83,38 +70,20 @@ part_more form a c es fs q =
     }
 
 -- all of an output was written
-abbrev pub Wrote : Config → StreamState → StreamState → Output → Type 0
+abbrev Wrote : Config → StreamState → StreamState → Output → Type 0
 Wrote config a b o = (o.refusal ≡ None) × Adds config.form a b o.entries
 
-follow_all : (es : List Entry) (r : Option Refusal) (o : Output) → r ≡ None → follow es r o ≡ record { entries = es ++ o.entries; refusal = o.refusal }
-follow_all es None o h = refl
-follow_all es (Some r) o h = absurd (cc)
-
--- a stop after the first output was written
-stops_then : (e : Stop) (config : Config) (a b c : StreamState) (x y : Output) → Wrote config a b x → Stops e config b c y
-    → Stops e config a c (record { entries = x.entries ++ y.entries; refusal = y.refusal })
-stops_then TooDeep config a b c x y p q = (q.0, adds_then config.form a b c x.entries y.entries p.1 q.1)
-stops_then BadKey config a b c x y p q = (q.0, adds_then config.form a b c x.entries y.entries p.1 q.1)
-stops_then Io config a b c x y p q = adds_part_then config.form a b c x.entries y.entries p.1 q
-stops_then OutOfMemory config a b c x y p q = record {
+writes_then : (r : Result (Unit {0}) Stop) (config : Config) (path : Path) (a b c : StreamState) (to : Walk) (x y : Output) → Wrote config a b x → Writes r config path b c to y
+    → Writes r config path a c to (and_then x y)
+writes_then (Ok t) config path a b c to x y p q = rw p.0 (q.0, adds_then config.form a b c x.entries y.entries p.1 q.1, q.2)
+writes_then (Err Io) config path a b c to x y p q = rw p.0 (adds_part_then config.form a b c x.entries y.entries p.1 q)
+writes_then (Err OutOfMemory) config path a b c to x y p q = rw p.0 (record {
   front = x.entries ++ q.front;
   rest = q.rest;
   parts = ap (λ z. x.entries ++ z) q.parts ∙ sym (append_assoc x.entries q.front q.rest);
   adds = adds_then config.form a b c x.entries q.front p.1 q.adds;
-}
-
-pub writes_then : (r : Result (Unit {0}) Stop) (config : Config) (path : Path) (a b c : StreamState) (to : Walk) (x y : Output) → Wrote config a b x → Writes r config path b c to y
-    → Writes r config path a c to (and_then x y)
-writes_then (Ok t) config path a b c to x y p q =
-    let P : Output → Type 0 = λ o. Writes (Ok t) config path a c to o in
-    subst P (sym (follow_all x.entries x.refusal y p.0)) (q.0, adds_then config.form a b c x.entries y.entries p.1 q.1, q.2)
-writes_then (Err e) config path a b c to x y p q =
-    let P : Output → Type 0 = λ o. Stops e config a c o in
-    subst P (sym (follow_all x.entries x.refusal y p.0)) (stops_then e config a b c x y p q)
-
-follow_stop : (es : List Entry) (r : Option Refusal) (o : Output) (s : Refusal) → r ≡ Some s → follow es r o ≡ record { entries = es; refusal = Some s }
-follow_stop es None o s h = absurd (cc)
-follow_stop es (Some r) o s h = ap (λ z. record { entries = es; refusal = z }) h
+})
+writes_then (Err e) config path a b c to x y p q = rw p.0 (q.0, adds_then config.form a b c x.entries y.entries p.1 q.1)
 
 some_more : (form : Bool) (a c : StreamState) (es : List Entry) (r : Option Refusal) (o : Output) → AddsSome form a c es → AddsSome form a c (follow es r o).entries
 some_more form a c es None o h =
@@ -126,52 +95,57 @@ part_follow form a c es None o h = part_more form a c es o.entries h
 part_follow form a c es (Some s) o h = h
 
 -- a stop in the first output
-pub stops_early : (e : Stop) (config : Config) (a b : StreamState) (x y : Output) → Stops e config a b x → Stops e config a b (and_then x y)
-stops_early TooDeep config a b x y p = subst (Stops TooDeep config a b) (sym (follow_stop x.entries x.refusal y too_deep p.0)) (refl, p.1)
-stops_early BadKey config a b x y p = subst (Stops BadKey config a b) (sym (follow_stop x.entries x.refusal y bad_key p.0)) (refl, p.1)
+stops_early : (e : Stop) (config : Config) (a b : StreamState) (x y : Output) → Stops e config a b x → Stops e config a b (and_then x y)
 stops_early Io config a b x y p = part_follow config.form a b x.entries x.refusal y p
 stops_early OutOfMemory config a b x y p = some_more config.form a b x.entries x.refusal y p
+stops_early e config a b x y p = rw p.0 (refl, p.1)
 
 -- an allocation failed at once
 pub some_none : (form : Bool) (t : StreamState) (es : List Entry) → AddsSome form t t es
 some_none form t es = record { front = []; rest = es; parts = refl; adds = adds_nothing form t }
 
--- The invariant of a loop: the walk is where it was, and whatever is yet written of the rest makes the whole.
-abbrev pub Continues : Config → StreamState → StreamState → Walk → Walk → (Path → Output) → (Path → Output) → Type 0
-Continues config start now from here rest whole =
-    (path : Path) → IsAt config path from → IsAt config path here
-    × ((r : Result (Unit {0}) Stop) (last : StreamState) (to : Walk) → Writes r config path now last to (rest path) → Writes r config path start last to (whole path))
-
-module _ (config : Config) (start now next : StreamState) (from here there : Walk) (mine rest old whole : Path → Output)
-    (go : Continues config start now from here old whole) where
-  pub continue_step : ((path : Path) → old path ≡ and_then (mine path) (rest path)) → ((path : Path) → IsAt config path here → Writes (Ok tt) config path now next there (mine path))
-      → Continues config start next from there rest whole
-  continue_step e w =
-      λ path at. let g = go path at in
-      let m = w path g.0 in (
-        m.2,
-        λ r last to h. let P : Output → Type 0 = λ o. Writes r config path now last to o in
-            g.1 r last to (subst P (sym (e path)) (writes_then r config path now next last to (mine path) (rest path) (m.0, m.1) h)),
-      )
-
-  pub continue_stop : (e : Stop) → ((path : Path) → old path ≡ and_then (mine path) (rest path)) → ((path : Path) → IsAt config path here → Stops e config now next (mine path))
-      → (path : Path) → IsAt config path from → Stops e config start next (whole path)
-  continue_stop e same w =
-      λ path at. let g = go path at in
-      g.1 (Err e) next here (subst (Stops e config now next) (sym (same path)) (stops_early e config now next (mine path) (rest path) (w path g.0)))
-
-pub continue_end : (config : Config) (start now : StreamState) (from here : Walk) (old whole : Path → Output) → Continues config start now from here old whole
-    → ((path : Path) → old path ≡ nothing) → (path : Path) → IsAt config path from → Writes (Ok tt) config path start now here (whole path)
-continue_end config start now from here old whole go same =
-    λ path at. let g = go path at in
-    let P : Output → Type 0 = λ o. Writes (Ok tt) config path now now here o in
-    g.1 (Ok tt) now here (subst P (sym (same path)) (refl, adds_nothing config.form now, g.0))
-
 -- what the exit of a `?` owes
-pub writes_exit : (r : Result (Unit {0}) Stop) (e : Stop) (config : Config) (a b : StreamState) (from to : Walk) (part : Path → Output) → IsErrAnd r (λ y. y ≡ e)
-    → ((path : Path) → IsAt config path from → Stops e config a b (part path)) → (path : Path) → IsAt config path from → Writes r config path a b to (part path)
-writes_exit (Ok x) e config a b from to part h s = absurd h
-writes_exit (Err y) e config a b from to part h s = λ path at. let P : Stop → Type 0 = λ z. Stops z config a b (part path) in subst P (sym h) (s path at)
+pub writes_exit : (r : Result (Unit {0}) Stop) (e : Stop) (config : Config) (a b : StreamState) (from to : Walk) (x : Part) → IsErrAnd r (λ y. y ≡ e)
+    → WritesAt config (Err e) a b from to x → WritesAt config r a b from to x
+writes_exit (Ok t) e config a b from to x h w = absurd h
+writes_exit (Err y) e config a b from to x h w = subst (λ z. WritesAt config (Err z) a b from to x) (sym h) w
+
+-- the same part, said otherwise
+pub writes_same : (r : Result (Unit {0}) Stop) (config : Config) (a b : StreamState) (from to : Walk) (x y : Part) → ((path : Path) → x config path ≡ y config path)
+    → WritesAt config r a b from to x → WritesAt config r a b from to y
+writes_same r config a b from to x y same w = λ path at. subst (Writes r config path a b to) (same path) (w path at)
+
+-- no part at all
+pub writes_nothing : (config : Config) (a : StreamState) (from : Walk) → WritesAt config (Ok tt) a a from from (λ config path. nothing)
+writes_nothing config a from = λ path at. (refl, adds_nothing config.form a, at)
+
+-- one part and then another
+pub writes_both : (r : Result (Unit {0}) Stop) (config : Config) (a b c : StreamState) (from here to : Walk) (x y : Part) → WritesAt config (Ok tt) a b from here x
+    → WritesAt config r b c here to y → WritesAt config r a c from to (both x y)
+writes_both r config a b c from here to x y p q = λ path at. let w = p path at in writes_then r config path a b c to (x config path) (y config path) (w.0, w.1) (q path w.2)
+
+-- a stop in the first part
+pub writes_first : (e : Stop) (config : Config) (a b : StreamState) (from to : Walk) (x y : Part) → WritesAt config (Err e) a b from to x → WritesAt config (Err e) a b from to (both x y)
+writes_first e config a b from to x y w = λ path at. stops_early e config a b (x config path) (y config path) (w path at)
+
+-- The invariant of a loop: whatever is yet written of the rest makes the whole.
+abbrev pub Continues : Config → StreamState → StreamState → Walk → Walk → Part → Part → Type 0
+Continues config start now from here rest whole =
+    (r : Result (Unit {0}) Stop) (last : StreamState) (to : Walk) → WritesAt config r now last here to rest → WritesAt config r start last from to whole
+
+module _ (config : Config) (start now : StreamState) (from here : Walk) (old whole : Part) (go : Continues config start now from here old whole) where
+  pub goes_on : (next : StreamState) (there : Walk) (mine rest : Part) → ((path : Path) → old config path ≡ both mine rest config path) → WritesAt config (Ok tt) now next here there mine
+      → Continues config start next from there rest whole
+  goes_on next there mine rest same w = λ r last to p.
+      go r last to (writes_same r config now last here to (both mine rest) old (λ path. sym (same path)) (writes_both r config now next last here there to mine rest w p))
+
+  pub ends_early : (r : Result (Unit {0}) Stop) (e : Stop) (next : StreamState) (there : Walk) (mine rest : Part) → IsErrAnd r (λ y. y ≡ e) → ((path : Path) → old config path ≡ both mine rest config path)
+      → WritesAt config (Err e) now next here there mine → WritesAt config r start next from there whole
+  ends_early r e next there mine rest exit same w = writes_exit r e config start next from there whole exit
+      (go (Err e) next there (writes_same (Err e) config now next here there (both mine rest) old (λ path. sym (same path)) (writes_first e config now next here there mine rest w)))
+
+  pub ends : ((path : Path) → old config path ≡ nothing) → WritesAt config (Ok tt) start now from here whole
+  ends same = go (Ok tt) now here (writes_same (Ok tt) config now now here here (λ config path. nothing) old (λ path. sym (same path)) (writes_nothing config now here))
 
 -- after want of memory the text of some first entries stands
 pub some_entries : (form : Bool) (a b : StreamState) (es : List Entry) → AddsSome form a b es → (k : ℕ) × Appends a.taken b.taken (written form a.started (take k es))
@@ -183,7 +157,6 @@ some_entries form a b es w =
 pub writes_visible : (r : Result (Unit {0}) Stop) (config : Config) (path : Path) (a b : StreamState) (to : Walk) (o : Output) → Writes r config path a b to o
     → (added : List ℕ) × Appends a.taken b.taken added × All IsVisible added
 writes_visible (Ok x) config path a b to o w = (_, w.1.text, w.1.visible)
-writes_visible (Err TooDeep) config path a b to o w = (_, w.1.text, w.1.visible)
-writes_visible (Err BadKey) config path a b to o w = (_, w.1.text, w.1.visible)
 writes_visible (Err Io) config path a b to o w = (_, w.text, w.visible)
 writes_visible (Err OutOfMemory) config path a b to o w = (_, w.adds.text, w.adds.visible)
+writes_visible (Err e) config path a b to o w = (_, w.1.text, w.1.visible)

@@ -1,6 +1,4 @@
-use Rattle.std.proofs.Common.{◌≡◌, drop}
-use Rattle.qs_spec.specs.Shape.{are_distinct, are_distinct_fields, are_distinct_variants}
-use Rattle.qs_data.specs.shape.Views.{shapes_in, fields_in, variants_in}
+use Rattle.qs_data.proofs.Common.{◌≡◌, drop, are_distinct, are_distinct_fields, are_distinct_variants, shapes_in, fields_in, variants_in}
 use Rattle.qs_data.proofs.shape.+distinct.Given as goal
 
 abbrev pub invariant-distinct::are_distinct-loop-shape : goal.invariant-distinct::are_distinct-loop-shape

@@ -95,6 +95,7 @@ pub(super) fn is_text(datum: &Data) -> bool
 }
 
 /// Returns whether each text, also a name, is UTF-8.
+#[tactic(auto, using(crate::proofs::lemmas::shape::Fitting::name_is_utf8))]
 pub(super) fn is_any_text(text: &String) -> bool
     ensures { result ≡ is_utf8 (string_bytes text.now) }
 {
@@ -113,6 +114,7 @@ pub(super) fn is_bytes(datum: &Data) -> bool
 }
 
 // Returns whether each byte is below 256.
+#[tactic(auto, using(crate::proofs::lemmas::shape::Fitting::all_bytes))]
 fn are_bytes(bytes: &[u8]) -> bool
     ensures { result ≡ list_all is_byte bytes.now }
 {

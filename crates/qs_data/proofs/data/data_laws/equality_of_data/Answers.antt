@@ -1,4 +1,4 @@
-use Rattle.qs_data.specs.data.Views.{data_of}
+use Rattle.qs_data.proofs.Common.{data_of}
 use Rattle.qs_data.specs.data.internal.EqualityLaws.{data_same-Decides}
 use Rattle.qs_data.proofs.data.data_laws.equality_of_data.Goals as goal
 

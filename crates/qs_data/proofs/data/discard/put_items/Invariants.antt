@@ -1,6 +1,4 @@
-use Rattle.std.proofs.Common.{◌+◌, ◌≤◌}
-use Rattle.std.specs.List.{sum_by}
-use Rattle.qs_data.specs.data.internal.Weight.{weight}
+use Rattle.qs_data.proofs.Common.{◌+◌, ◌≤◌, sum_by, weight}
 use Rattle.qs_data.proofs.data.discard.put_items.Given as goal
 
 abbrev pub invariant-loop-item : goal.invariant-loop-item

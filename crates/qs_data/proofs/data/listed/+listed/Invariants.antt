@@ -1,7 +1,5 @@
-use Rattle.std.proofs.Common.{◌≡◌, drop}
-use Rattle.qs_spec.specs.Listed.{are_listed, are_listed_pairs, are_listed_members}
+use Rattle.qs_data.proofs.Common.{◌≡◌, drop, are_listed, are_listed_pairs, are_listed_members, values_in, pairs_in, members_in}
 use Rattle.qs_tree.specs.Settings.{array_format_of}
-use Rattle.qs_data.specs.data.Views.{values_in, pairs_in, members_in}
 use Rattle.qs_data.proofs.data.listed.+listed.Given as goal
 
 abbrev pub invariant-are_listed-loop-item : goal.invariant-are_listed-loop-item

@@ -1,6 +1,4 @@
-use Rattle.std.proofs.Common.{◌≡◌, drop}
-use Rattle.qs_spec.specs.Listed.{are_scalars}
-use Rattle.qs_data.specs.data.Views.{values_in}
+use Rattle.qs_data.proofs.Common.{◌≡◌, drop, are_scalars, values_in}
 use Rattle.qs_data.proofs.data.listed.are_scalars.Given as goal
 
 abbrev pub invariant-loop-item : goal.invariant-loop-item

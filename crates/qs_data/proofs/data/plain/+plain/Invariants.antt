@@ -1,6 +1,4 @@
-use Rattle.std.proofs.Common.{◌≡◌, drop}
-use Rattle.qs_spec.specs.Plain.{are_plain, are_plain_pairs, are_plain_members}
-use Rattle.qs_data.specs.data.Views.{values_in, pairs_in, members_in}
+use Rattle.qs_data.proofs.Common.{◌≡◌, drop, are_plain, are_plain_pairs, are_plain_members, values_in, pairs_in, members_in}
 use Rattle.qs_data.proofs.data.plain.+plain.Given as goal
 
 abbrev pub invariant-are_plain-loop-item : goal.invariant-are_plain-loop-item

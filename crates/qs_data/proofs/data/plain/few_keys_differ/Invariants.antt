@@ -1,6 +1,4 @@
-use Rattle.std.proofs.Common.{◌≡◌, drop}
-use Rattle.qs_spec.specs.Plain.{written_keys_differ}
-use Rattle.qs_data.specs.data.Views.{pairs_in}
+use Rattle.qs_data.proofs.Common.{◌≡◌, drop, written_keys_differ, pairs_in}
 use Rattle.qs_data.proofs.data.plain.few_keys_differ.Given as goal
 
 abbrev pub invariant-loop-i : goal.invariant-loop-i

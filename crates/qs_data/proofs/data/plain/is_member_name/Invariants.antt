@@ -1,6 +1,4 @@
-use Rattle.std.proofs.Common.{◌≡◌, drop}
-use Rattle.qs_spec.specs.Plain.{is_member_name}
-use Rattle.qs_data.specs.data.Views.{members_in}
+use Rattle.qs_data.proofs.Common.{◌≡◌, drop, is_member_name, members_in}
 use Rattle.qs_data.proofs.data.plain.is_member_name.Given as goal
 
 abbrev pub invariant-loop-member : goal.invariant-loop-member

@@ -1,6 +1,4 @@
-use Rattle.std.proofs.Common.{◌≡◌, drop}
-use Rattle.std.specs.List.{list_all}
-use Rattle.qs_spec.specs.Escape.{is_between}
+use Rattle.qs_data.proofs.Common.{◌≡◌, drop, list_all, is_between}
 use Rattle.qs_data.proofs.data.plain.is_numeral.Given as goal
 
 abbrev pub invariant-loop-byte : goal.invariant-loop-byte

@@ -1,6 +1,4 @@
-use Rattle.std.proofs.Common.{◌≡◌, drop, Some}
-use Rattle.qs_spec.specs.Plain.{is_written_key}
-use Rattle.qs_data.specs.data.Views.{pairs_in}
+use Rattle.qs_data.proofs.Common.{◌≡◌, drop, Some, is_written_key, pairs_in}
 use Rattle.qs_data.proofs.data.plain.is_written_key.Given as goal
 
 abbrev pub invariant-loop-pair : goal.invariant-loop-pair

@@ -1,6 +1,4 @@
-use Rattle.std.proofs.Common.{◌≡◌, ℕ, List, drop, Some}
-use Rattle.qs_spec.specs.Plain.{is_written_key, written_keys_differ}
-use Rattle.qs_data.specs.data.Views.{pairs_in}
+use Rattle.qs_data.proofs.Common.{◌≡◌, ℕ, List, drop, Some, is_written_key, written_keys_differ, pairs_in}
 use Rattle.qs_data.specs.data.internal.Texts.{holds_text}
 use Rattle.qs_data.proofs.data.plain.many_keys_differ.Given as goal
 

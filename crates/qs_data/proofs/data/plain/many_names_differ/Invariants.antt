@@ -1,6 +1,4 @@
-use Rattle.std.proofs.Common.{◌≡◌, ℕ, List, drop}
-use Rattle.qs_spec.specs.Plain.{is_member_name, member_names_differ}
-use Rattle.qs_data.specs.data.Views.{members_in}
+use Rattle.qs_data.proofs.Common.{◌≡◌, ℕ, List, drop, is_member_name, member_names_differ, members_in}
 use Rattle.qs_data.specs.data.internal.Texts.{holds_text}
 use Rattle.qs_data.proofs.data.plain.many_names_differ.Given as goal
 

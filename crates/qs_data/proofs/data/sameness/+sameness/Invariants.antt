@@ -1,8 +1,4 @@
-use Rattle.std.proofs.Common.{◌≡◌, ◌+◌, ◌*◌, drop}
-use Rattle.std.specs.List.{sum_by}
-use Rattle.qs_data.specs.data.internal.Equality.{values_same, pairs_same, members_same}
-use Rattle.qs_data.specs.data.Views.{values_in, pairs_in, members_in}
-use Rattle.qs_data.specs.data.internal.Weight.{weight, pair_weight, member_weight}
+use Rattle.qs_data.proofs.Common.{◌≡◌, ◌+◌, ◌*◌, drop, sum_by, values_same, pairs_same, members_same, values_in, pairs_in, members_in, weight, pair_weight, member_weight}
 use Rattle.qs_data.proofs.data.sameness.+sameness.Given as goal
 
 abbrev pub decreases-same_data : goal.decreases-same_data

@@ -1,6 +1,4 @@
-use Rattle.std.proofs.Common.{◌≡◌, drop}
-use Rattle.qs_spec.specs.Shape.{field_names_differ}
-use Rattle.qs_data.specs.shape.Views.{fields_in}
+use Rattle.qs_data.proofs.Common.{◌≡◌, drop, field_names_differ, fields_in}
 use Rattle.qs_data.proofs.shape.distinct.field_names_differ.Given as goal
 
 abbrev pub invariant-loop-i : goal.invariant-loop-i

@@ -1,5 +1,4 @@
-use Rattle.std.proofs.Common.{◌≡◌, drop, map, string_bytes}
-use Rattle.qs_spec.specs.Shape.{names_differ}
+use Rattle.qs_data.proofs.Common.{◌≡◌, drop, map, string_bytes, names_differ}
 use Rattle.qs_data.proofs.shape.distinct.names_differ.Given as goal
 
 abbrev pub invariant-loop-i : goal.invariant-loop-i

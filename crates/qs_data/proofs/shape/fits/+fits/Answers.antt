@@ -1,10 +1,5 @@
-use Rattle.std.proofs.Common.{◌≡◌, ◌-◌, ◌+◌, ◌==◌, true, false, ◌&&◌, [], length, take, drop, sym, ap, ap₂, ◌∙◌, arith}
-use Rattle.std.proofs.lemmas.List.{take_rest}
+use Rattle.qs_data.proofs.Common.{◌≡◌, ◌-◌, ◌+◌, ◌==◌, true, false, ◌&&◌, [], length, take, drop, sym, ap, ap₂, ◌∙◌, arith, take_rest, fits, fits_fields, fits_tuple, data_of, members_in, values_in, field_of, fields_in, shapes_in, is_next}
 use Rattle.std.proofs.Math.ListN.{drop_of_length-le}
-use Rattle.qs_spec.specs.Fits.{fits, fits_fields, fits_tuple}
-use Rattle.qs_data.specs.data.Views.{data_of, members_in, values_in}
-use Rattle.qs_data.specs.shape.Views.{field_of, fields_in, shapes_in}
-use Rattle.qs_data.specs.shape.internal.Fitting.{is_next}
 use Rattle.qs_data.proofs.lemmas.shape.FieldsFit.{taken_at, no_more_fields, no_more_shapes}
 use Rattle.qs_data.proofs.lemmas.read.Fields.{field_name, field_shape}
 use Rattle.qs_data.proofs.shape.fits.+fits.Goals as goal
@@ -12,30 +7,14 @@ use Rattle.qs_data.proofs.shape.fits.+fits.Goals as goal
 pub fits_field-returns-then-fits-clause-fits : goal.fits_field-returns-then-fits-clause-fits
 fits_field-returns-then-fits-clause-fits t c fs =
     let d = c.args.field.now in
-    let ms = c.args.members.now.items in
-    let at = c.args.at in
-    let m = c.index.result.now in
-    let left : take (length c.deref.result.now - at) (drop at c.deref.result.now) ≡ drop at ms = take_rest c.deref.result.now at ∙ ap (drop at) c.deref.ensures.value in
-    let name : c.deref-2.result.now ≡ (field_of d).0 = c.deref-2.ensures ∙ sym (field_name d) in
-    let named : is_next (field_of d).0 (members_in (drop at ms)) ≡ true =
-    ap₂ (λ n l. is_next n (members_in l)) (sym name) (sym left) ∙ sym c.is_next.ensures ∙ c.if-not-is_next.false in
-    let fit : fits (field_of d).1 (data_of m.1) ≡ true = ap (λ s. fits s (data_of m.1)) (field_shape d) ∙ sym c.fits.ensures ∙ c.if-fits.true in
-    taken_at (field_of d).0 (field_of d).1 (field_of d).2 fs ms at m c.index.ensures named
-    ∙ ap (λ b. b && fits_fields fs (members_in (drop (at + 1) ms))) fit
+    taken_at (field_of d).0 c.deref-2.result.now (field_of d).1 (field_of d).2 fs c.deref.result.now c.args.members.now.items c.args.at c.index.result.now true c.deref.ensures.value
+    (c.deref-2.ensures ∙ sym (field_name d)) (sym c.is_next.ensures ∙ c.if-not-is_next.false) c.index.ensures (ap (λ s. fits s (data_of c.index.result.now.1)) (field_shape d) ∙ sym c.fits.ensures ∙ c.if-fits.true)
 
 pub fits_field-returns-else-fits-clause-fits : goal.fits_field-returns-else-fits-clause-fits
 fits_field-returns-else-fits-clause-fits t c fs =
     let d = c.args.field.now in
-    let ms = c.args.members.now.items in
-    let at = c.args.at in
-    let m = c.index.result.now in
-    let left : take (length c.deref.result.now - at) (drop at c.deref.result.now) ≡ drop at ms = take_rest c.deref.result.now at ∙ ap (drop at) c.deref.ensures.value in
-    let name : c.deref-2.result.now ≡ (field_of d).0 = c.deref-2.ensures ∙ sym (field_name d) in
-    let named : is_next (field_of d).0 (members_in (drop at ms)) ≡ true =
-    ap₂ (λ n l. is_next n (members_in l)) (sym name) (sym left) ∙ sym c.is_next.ensures ∙ c.if-not-is_next.false in
-    let fit : fits (field_of d).1 (data_of m.1) ≡ false = ap (λ s. fits s (data_of m.1)) (field_shape d) ∙ sym c.fits.ensures ∙ c.if-fits.false in
-    taken_at (field_of d).0 (field_of d).1 (field_of d).2 fs ms at m c.index.ensures named
-    ∙ ap (λ b. b && fits_fields fs (members_in (drop (at + 1) ms))) fit
+    taken_at (field_of d).0 c.deref-2.result.now (field_of d).1 (field_of d).2 fs c.deref.result.now c.args.members.now.items c.args.at c.index.result.now false c.deref.ensures.value
+    (c.deref-2.ensures ∙ sym (field_name d)) (sym c.is_next.ensures ∙ c.if-not-is_next.false) c.index.ensures (ap (λ s. fits s (data_of c.index.result.now.1)) (field_shape d) ∙ sym c.fits.ensures ∙ c.if-fits.false)
 
 pub fits_fields-returns : goal.fits_fields-returns
 fits_fields-returns t c =

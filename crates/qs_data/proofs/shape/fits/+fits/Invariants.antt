@@ -1,8 +1,4 @@
-use Rattle.std.proofs.Common.{◌≡◌, ◌≤◌, drop, length}
-use Rattle.qs_spec.specs.Fits.{each_fits, fits_tuple, fits_pairs, fits_fields, variant_kind}
-use Rattle.qs_data.specs.data.Views.{data_of, values_in, pairs_in, members_in}
-use Rattle.qs_data.specs.shape.Views.{shape_of, key_shape_of, shapes_in, fields_in, variants_in}
-use Rattle.qs_data.specs.shape.internal.Fitting.{fits_variant}
+use Rattle.qs_data.proofs.Common.{◌≡◌, ◌≤◌, drop, length, each_fits, fits_tuple, fits_pairs, fits_fields, variant_kind, data_of, values_in, pairs_in, members_in, shape_of, key_shape_of, shapes_in, fields_in, variants_in, fits_variant}
 use Rattle.qs_data.proofs.shape.fits.+fits.Given as goal
 
 abbrev pub invariant-each_fits-loop-item : goal.invariant-each_fits-loop-item

@@ -1,7 +1,4 @@
-use Rattle.std.proofs.Common.{◌∙◌, ap, ◌||◌, ◌&&◌, ltb, length}
-use Rattle.std.proofs.lemmas.Bool.{ne_eqb}
-use Rattle.std.proofs.lemmas.List.{take_rest}
-use Rattle.std.proofs.Math.Bool.{or-false}
+use Rattle.qs_data.proofs.Common.{◌∙◌, ap, ◌||◌, ◌&&◌, ltb, length, ne_eqb, take_rest, or-false}
 use Rattle.qs_data.proofs.lemmas.write.Puts.{put_step}
 use Rattle.qs_data.proofs.write.sink.put_all.Goals as goal
 

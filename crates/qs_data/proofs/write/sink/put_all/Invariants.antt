@@ -1,5 +1,4 @@
-use Rattle.std.proofs.Common.{◌≡◌, ◌-◌, ◌≤◌, length, take, drop}
-use Rattle.std.specs.Io.KnownBytes.{Appends}
+use Rattle.qs_data.proofs.Common.{◌≡◌, ◌-◌, ◌≤◌, length, take, drop, Appends}
 use Rattle.qs_data.proofs.write.sink.put_all.Given as goal
 
 abbrev pub invariant-loop-rest : goal.invariant-loop-rest

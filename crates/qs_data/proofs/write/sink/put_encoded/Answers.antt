@@ -1,10 +1,4 @@
-use Rattle.std.proofs.Common.{◌≡◌, ◌∙◌, ap, ap₂, sym, subst, ◌++◌, append_assoc}
-use Rattle.std.proofs.lemmas.List.{take-append-drop}
-use Rattle.std.proofs.lemmas.Grind.{flat_map-append}
-use Rattle.std.proofs.KnownBytes.{Appends-trans}
-use Rattle.std.proofs.Math.Bool.{or-false}
-use Rattle.std.specs.Io.KnownBytes.{Appends}
-use Rattle.qs_spec.specs.Escape.{encoded, encoded_byte}
+use Rattle.qs_data.proofs.Common.{◌≡◌, ◌∙◌, ap, ap₂, sym, subst, ◌++◌, append_assoc, take-append-drop, flat_map-append, Appends-trans, or-false, Appends, encoded, encoded_byte}
 use Rattle.qs_data.proofs.lemmas.write.Puts.{put_middle, encoded_parts, exit_part}
 use Rattle.qs_data.proofs.write.sink.put_encoded.Goals as goal
 

@@ -1,6 +1,4 @@
-use Rattle.std.proofs.Common.{◌≡◌, ℕ, List, ◌++◌, length}
-use Rattle.std.specs.Io.KnownBytes.{Appends}
-use Rattle.qs_spec.specs.Escape.{encoded}
+use Rattle.qs_data.proofs.Common.{◌≡◌, ℕ, List, ◌++◌, length, Appends, encoded}
 use Rattle.qs_data.proofs.write.sink.put_encoded.Given as goal
 
 abbrev pub invariant-loop-rest : goal.invariant-loop-rest

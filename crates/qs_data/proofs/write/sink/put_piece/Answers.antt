@@ -1,4 +1,4 @@
-use Rattle.std.proofs.Common.{arith}
+use Rattle.qs_data.proofs.Common.{arith}
 use Rattle.qs_tree.proofs.lemmas.escape.EncodedFronts.{encoded_few}
 use Rattle.qs_data.proofs.write.sink.put_piece.Goals as goal
 

@@ -1,4 +1,4 @@
-use Rattle.std.proofs.Common.{[]}
+use Rattle.qs_data.proofs.Common.{[]}
 use Rattle.qs_data.proofs.write.walk.write_all.Goals as goal
 
 pub returns-clause-writes : goal.returns-clause-writes

@@ -1,7 +1,4 @@
-use Rattle.std.proofs.Common.{◌≡◌, ◌∙◌, ◌+◌, ◌-◌, ◌^◌, ◌≤◌, ap, sym, length, length-append, ◌++◌, ◌∷◌, [], arith}
-use Rattle.qs_spec.specs.Config.{Config}
-use Rattle.qs_data.specs.write.Scalars.{scalar_text}
-use Rattle.qs_data.specs.write.Writes.{grown, path_after}
+use Rattle.qs_data.proofs.Common.{◌≡◌, ◌∙◌, ◌+◌, ◌-◌, ◌^◌, ◌≤◌, ap, sym, length, length-append, ◌++◌, ◌∷◌, [], arith, Config, scalar_text, grown, path_after}
 use Rattle.qs_data.proofs.lemmas.write.Entry.{path_grown, path_long}
 use Rattle.qs_data.proofs.write.entry.Walk.enter.Goals as goal
 

@@ -1,8 +1,4 @@
-use Rattle.std.proofs.Common.{◌∙◌, ap, sym, subst, take, ◌++◌, length-append, ◌∷◌, [], arith}
-use Rattle.std.specs.List.{All}
-use Rattle.std.proofs.lemmas.List.Elements.{All-take}
-use Rattle.qs_data.specs.write.State.{IsVisible}
-use Rattle.qs_data.specs.write.Writes.{path_after}
+use Rattle.qs_data.proofs.Common.{◌∙◌, ap, sym, subst, take, ◌++◌, length-append, ◌∷◌, [], arith, All, All-take, IsVisible, path_after}
 use Rattle.qs_data.proofs.lemmas.write.Entry.{path_left}
 use Rattle.qs_data.proofs.write.entry.Walk.leave.Goals as goal
 

@@ -1,4 +1,4 @@
-use Rattle.std.proofs.Common.{ap, arith, length}
+use Rattle.qs_data.proofs.Common.{ap, arith, length}
 use Rattle.qs_tree.proofs.lemmas.escape.EncodedFronts.{encoded_few}
 use Rattle.qs_data.proofs.write.text.Text.append_encoded.Goals as goal
 

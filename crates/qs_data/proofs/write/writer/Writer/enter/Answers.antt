@@ -1,5 +1,4 @@
-use Rattle.std.proofs.Common.{refl}
-use Rattle.qs_data.specs.write.Scalars.{scalar_text}
+use Rattle.qs_data.proofs.Common.{refl, scalar_text}
 use Rattle.qs_data.proofs.lemmas.write.Parts.{part_entering}
 use Rattle.qs_data.proofs.write.writer.Writer.enter.Goals as goal
 

@@ -1,6 +1,0 @@
-use Rattle.std.proofs.Common.{not, sym, ap, ◌∙◌}
-use Rattle.qs_data.proofs.lemmas.data.Counts.{some_members}
-use Rattle.qs_data.proofs.data.plain.has_members.Goals as goal
-
-pub returns : goal.returns
-returns c = ap not c.is_empty.ensures ∙ sym (some_members c.args.members.now)

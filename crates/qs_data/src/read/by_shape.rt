@@ -53,8 +53,18 @@ pub(crate) fn read(reader: Reader, shape: &Shape, value: &ParsedValue<'_>) -> Re
 
 /// Reads a value by a shape, on the way through the levels of a tree.
 #[cycle(read)]
-#[tactic(auto, using(crate::proofs::lemmas::data::Levels::levels), unfolding(qs_spec::specs::internal::ReadFunction::reads))]
 pub(crate) fn read_node(reader: Reader, shape: &Shape, value: &ParsedValue<'_>) -> Result<Data>
+    ensures gives { ReadGives data_of (is_text (tree_of value.now)) result (reads reader.reject_duplicates (shape_of shape.now) (tree_of value.now)) }
+    ensures frugal { IsTrue (takes_no_memory (shape_of shape.now)) → ReadIsFrugal result (reads reader.reject_duplicates (shape_of shape.now) (tree_of value.now)) }
+{
+    read_inline(reader, shape, value)
+}
+
+/// Reads a value by a shape as [`read_node`] does, inlined: so the data of a field are moved once less.
+#[cycle(read)]
+#[inline(always)]
+#[tactic(auto, using(crate::proofs::lemmas::data::Levels::levels), unfolding(qs_spec::specs::internal::ReadFunction::reads))]
+pub(crate) fn read_inline(reader: Reader, shape: &Shape, value: &ParsedValue<'_>) -> Result<Data>
     ensures gives { ReadGives data_of (is_text (tree_of value.now)) result (reads reader.reject_duplicates (shape_of shape.now) (tree_of value.now)) }
     ensures frugal { IsTrue (takes_no_memory (shape_of shape.now)) → ReadIsFrugal result (reads reader.reject_duplicates (shape_of shape.now) (tree_of value.now)) }
 {

@@ -13,7 +13,7 @@ ghost use Rattle.qs_data.specs.read.Keys.{NumbersFit, entries_view};
 ghost use Rattle.qs_data.specs.read.internal.Keys.{unknown_of};
 
 use crate::data::Data;
-use crate::read::by_shape::{Reader, read_node};
+use crate::read::by_shape::{Reader, read_inline, read_node};
 use crate::read::error::Result;
 use crate::read::keys::{Entries, Found, find, test_keys};
 use crate::read::message::{Expected, Message};
@@ -66,10 +66,13 @@ pub(crate) fn read_entries(
         (option_and_then (λ ms. cond (keys_are_allowed (unknown_of unknown) (fields_in fields.now.items) (entries_view entries.entry)) (Some ms) None)
         (reads_names reader.reject_duplicates (fields_in fields.now.items) (entries_view entries.entry))) }
 {
-    let tested = test_keys(entries);
+    let are_text = entries.keys_are_text();
     let members = read_names(reader, fields, entries)?;
     unknown.test(reader.alloc, fields, entries)?;
-    match tested {
+    if are_text {
+        return Ok(members);
+    }
+    match test_keys(entries) {
         Ok(()) => Ok(members),
         Err(key) => Err(key.error(reader.alloc)),
     }
@@ -116,7 +119,7 @@ fn read_field(reader: Reader, field: &Field, entries: Entries<'_, '_>) -> Result
                 Err(Message::MissingField(&field.name).error(reader.alloc))
             }
         }
-        Found::One(value) => Ok(Some(read_node(reader, &field.shape, value)?)),
+        Found::One(value) => Ok(Some(read_inline(reader, &field.shape, value)?)),
         Found::Several => Err(Message::DuplicateField(&field.name).error(reader.alloc)),
     }
 }

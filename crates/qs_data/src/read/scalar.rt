@@ -165,6 +165,7 @@ fn item_text<'t>(alloc: Global, value: &'t ParsedValue<'_>, expected: Expected) 
 }
 
 /// Returns bytes as text, where they are UTF-8.
+#[inline(always)]
 #[tactic(auto, using(crate::proofs::lemmas::read::Errors::utf8_tests))]
 pub(crate) fn as_text(bytes: &[u8]) -> Result<&str>
     ensures gives { ReadGives (λ s. s.now) (is_utf8 bytes.now) result (utf8_text bytes.now) }

@@ -48,16 +48,16 @@ fields::read_entries-returns-in-Err t c =
     let none = untested (keys_are_allowed u fs es) (reads_names c.args.reader.reject_duplicates fs es) (and_left (keys_are_text es) (keys_are_names fs es || are_ignored u) bad) in
     key_error (entries_are_text es) c.in-Err.key.text.now (Utf8 c.in-Err.key.cause) c.error.result _ c.error.ensures (none, keys_bad es bad)
 
-pub fields::read_field-returns-in_err-read_node-in-One : goal.fields::read_field-returns-in_err-read_node-in-One
-fields::read_field-returns-in_err-read_node-in-One t c =
+pub fields::read_field-returns-in_err-read_inline-in-One : goal.fields::read_field-returns-in_err-read_inline-in-One
+fields::read_field-returns-in_err-read_inline-in-One t c =
     let d = c.args.field.now in
     let f = field_of d in
     let es = entries_view c.args.entries in
     let n = tree_of c.in-One.value.now in
     let r = reads c.args.reader.reject_duplicates (shape_of (out-Field d).shape) in
     let one : found f.0 es ≡ n ∷ [] = ap (λ name. found name es) (field_name d ∙ sym c.deref.ensures) ∙ c.in-One.ensures in
-    let given = gives_exit (option_map data_of) (is_text n) (entries_are_text es) c.from_residual.result c.in_err-read_node-in-One.field-0.0 (r n) (read_field f.2 (is_option_shape f.1) r (found f.0 es))
-    c.from_residual.ensures.1 c.in_err-read_node-in-One.ensures.gives (field_none f.2 (is_option_shape f.1) r (found f.0 es) n one) (found_bad f.0 es n [] one) in
+    let given = gives_exit (option_map data_of) (is_text n) (entries_are_text es) c.from_residual.result c.in_err-read_inline-in-One.field-0.0 (r n) (read_field f.2 (is_option_shape f.1) r (found f.0 es))
+    c.from_residual.ensures.1 c.in_err-read_inline-in-One.ensures.gives (field_none f.2 (is_option_shape f.1) r (found f.0 es) n one) (found_bad f.0 es n [] one) in
     subst (λ s. ReadGives (option_map data_of) (entries_are_text es) c.from_residual.result (read_field f.2 (is_option_shape f.1) (reads c.args.reader.reject_duplicates s) (found f.0 es))) (sym (field_shape d)) given
 
 pub fields::read_names-loop-field-preserved : goal.fields::read_names-loop-field-preserved
@@ -151,9 +151,9 @@ fields::read_places-loop-i-preserved t c =
     l.invariant ∙ turn ∙ before-front ws ((field_of d).0, data_of x) rest
     ∙ ap (λ b. before (ws ++ (b, data_of x) ∷ []) rest) name ∙ ap (λ ys. before ys rest) (sym pushed)
 
-pub by_shape::read_node-returns-in-Option-clause-gives : goal.by_shape::read_node-returns-in-Option-clause-gives
+pub by_shape::read_inline-returns-in-Option-clause-gives : goal.by_shape::read_inline-returns-in-Option-clause-gives
 unfolding reads
-by_shape::read_node-returns-in-Option-clause-gives t c =
+by_shape::read_inline-returns-in-Option-clause-gives t c =
     let n = tree_of c.args.value.now in
     let shaped : shape_of c.args.shape.now ≡ Shape.option (shape_of c.in-Option.part.value) = ap shape_of c.in-Option.is ∙ search (rules, shape.the_lemmas) in
     let held = subst (λ x. ReadGives data_of (is_text n) c.read_option.result (read_option (reads c.args.reader.reject_duplicates (shape_of x)) n)) c.deref.ensures c.read_option.ensures in

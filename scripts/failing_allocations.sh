@@ -130,11 +130,11 @@ for call in to_writer serialize_to_writer; do
     fail_each "$order" 0 "$text" order "$call" 100
 done
 fail_each "$order" 0 "$text&$text" order serialize_twice 200
-fail_each "$order" 0 'name=Acme&address[street and then: broken pipe' order to_writer 24
-fail_each "$order" 0 ' and then: broken pipe' order to_writer 0
+fail_each "$order" 0 'name=Acme&address[street and then: write zero' order to_writer 24
+fail_each "$order" 0 ' and then: write zero' order to_writer 0
 fail_each "$order" 0 'name=Acme&address[street]=S and then: operation interrupted' order serialize_to_writer 27
-fail_each "$order" 0 "$text&name=Ac and then: write zero" order serialize_twice 83
-fail_each "v=$long&w=1" 0 "v=${long:0:2998} and then: broken pipe" map to_writer 3000
+fail_each "$order" 0 "$text&name=Ac and then: broken pipe" order serialize_twice 83
+fail_each "v=$long&w=1" 0 "v=${long:0:2998} and then: write zero" map to_writer 3000
 fail_each "v=$long&w=1" 0 "v=$long&w=1" map serialize_to_writer 30000
 
 # Calls without a user's type: maps and structs whose keys and names are put into a set to compare them, data of every kind, errors that callers make,

@@ -63,7 +63,8 @@ impl Writer {
     /// let whole = writer.take();
     /// ```
     pub fn take(&mut self) -> Writer
-        ensures { result ≡ self.old }
+        ensures taken { result ≡ self.old }
+        ensures left { IsFresh self.old.config self.new }
     {
         let empty = Writer {
             alloc: self.alloc,

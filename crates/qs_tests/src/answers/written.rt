@@ -9,11 +9,11 @@ use std::alloc::Global;
 /// A call that writes to a writer, which stops once its room is full.
 #[derive(Clone, Copy)]
 pub enum Call {
-    /// `to_writer`, to a writer that then fails.
+    /// `to_writer`, to a writer that then takes nothing.
     Lent,
     /// `serialize_to_writer`, to a writer that then is interrupted.
     Configured,
-    /// `Serializer::serialize` of the same data twice, to a writer that then takes nothing.
+    /// `Serializer::serialize` of the same data twice, to a writer that then fails.
     Twice,
 }
 
@@ -21,9 +21,9 @@ impl Call {
     // Returns how the writer stops.
     fn stop(self) -> Stop {
         match self {
-            Call::Lent => Stop::Fails,
+            Call::Lent => Stop::TakesNothing,
             Call::Configured => Stop::IsInterrupted,
-            Call::Twice => Stop::TakesNothing,
+            Call::Twice => Stop::Fails,
         }
     }
 

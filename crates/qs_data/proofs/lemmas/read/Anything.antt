@@ -1,17 +1,7 @@
 -- What is read of whatever is there, as lists and maps are read.
-use Rattle.std.proofs.Common.{◌≡◌, ℕ, ◌+◌, Bool, true, false, cond, List, Option, Some, None, refl, sym, ap, ◌∙◌, inl, inr}
-use Rattle.std.proofs.lemmas.Bool.{cases_Bool}
-use Rattle.std.specs.Option.{option_map, option_and_then}
-use Rattle.qs_spec.specs.Data.{Data, Values, one_value, one_pair, values_of, pairs_of}
-use Rattle.qs_spec.specs.Scalar.{text_data}
-use Rattle.qs_spec.specs.Segment.{segment_text}
-use Rattle.qs_spec.specs.Shape.{KeyShape}
-use Rattle.qs_spec.specs.Tree.{Tree, Items, Entries}
-use Rattle.qs_spec.specs.Tree.Tree.{leaf, sequence, mapping, uninitialized}
-use Rattle.qs_spec.specs.Tree.Items.{no_items, item}
-use Rattle.qs_spec.specs.Tree.Entries.{no_entries, entry}
-use Rattle.qs_spec.specs.Node.{items, are_ints, sequence_items, placed, is_place}
-use Rattle.qs_spec.specs.internal.ReadFunction.{any_data, any_items, any_places, any_pairs, read_each, read_pairs, with_front}
+use Rattle.qs_data.proofs.Common.{◌≡◌, ℕ, ◌+◌, Bool, true, false, cond, List, Option, Some, None, refl, sym, ap, ◌∙◌, inl, inr, cases_Bool, option_map, option_and_then, Values, one_value, one_pair, values_of, pairs_of, text_data, segment_text, KeyShape, Tree, Items, Entries, leaf, sequence, mapping, uninitialized, no_items, item, no_entries, entry, items, are_ints, sequence_items, placed, is_place, any_items, any_places, any_pairs, read_each, read_pairs, with_front}
+use Rattle.qs_spec.specs.Data.{Data}
+use Rattle.qs_spec.specs.internal.ReadFunction.{any_data}
 
 front_value : (d : Data) (r : Option (List Data)) → option_map (one_value d) (option_map values_of r) ≡ option_map values_of (with_front d r)
 front_value d None = refl

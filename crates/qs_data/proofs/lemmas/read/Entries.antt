@@ -1,17 +1,5 @@
 -- The entries of a map, place by place.
-use Rattle.std.proofs.Common.{◌≡◌, ℕ, zero, suc, ◌+◌, ◌≤◌, Bool, true, false, cond, ◌&&◌, length, slice_get, Option, Some, None, Result, Ok, Err, refl, sym, ap, subst, ◌∙◌, arith, add-one, inl, inr}
-use Rattle.std.proofs.lemmas.Bool.{cases_Bool}
-use Rattle.std.specs.Result.{MatchResult, result_and}
-use Rattle.std.specs.Option.{option_and_then}
-use Rattle.std.specs.Str.{is_utf8}
-use Rattle.qs_spec.specs.Segment.{Segment, Step, segment_text}
-use Rattle.qs_spec.specs.Tree.{Tree, Entries}
-use Rattle.qs_spec.specs.Tree.Entries.{no_entries, entry}
-use Rattle.qs_spec.specs.Node.{keys_are_text}
-use Rattle.qs_tree.specs.tree.Views.{entry_list}
-use Rattle.qs_data.specs.read.TreeText.{is_text, entries_are_text}
-use Rattle.qs_data.specs.read.Keys.{NumbersFit, KeyFits, PassesTest}
-use Rattle.qs_data.specs.read.internal.Keys.{entries_after}
+use Rattle.qs_data.proofs.Common.{◌≡◌, ℕ, zero, suc, ◌+◌, ◌≤◌, Bool, true, false, cond, ◌&&◌, length, slice_get, Option, Some, None, Result, Ok, Err, refl, sym, ap, subst, ◌∙◌, arith, add-one, inl, inr, cases_Bool, MatchResult, result_and, option_and_then, is_utf8, Segment, Step, segment_text, Tree, Entries, no_entries, entry, keys_are_text, entry_list, is_text, entries_are_text, NumbersFit, KeyFits, PassesTest, entries_after}
 use Rattle.qs_data.proofs.lemmas.read.Errors.{and_left, and_right}
 
 some_is : {A : Type 0} (a b : A) → Some a ≡ Some b → a ≡ b

@@ -1,16 +1,7 @@
 -- The first of the entries that are left.
-use Rattle.std.proofs.Common.{◌≡◌, ℕ, zero, suc, ◌+◌, ◌&&◌, Bool, true, false, cond, List, [], slice_get, Option, Some, None, refl, sym, ap, ◌∙◌}
+use Rattle.qs_data.proofs.Common.{◌≡◌, ℕ, zero, suc, ◌+◌, ◌&&◌, Bool, true, false, cond, List, [], slice_get, Option, Some, None, refl, sym, ap, ◌∙◌, false≢true, is_utf8, Step, segment_text, Tree, Entries, no_entries, entry, keys_are_text, under_empty, entry_list, first_entry, entries_are_text, is_text, utf8_text}
 use Rattle.std.specs.Prelude.{if◌then◌else◌}
-use Rattle.std.proofs.lemmas.Bool.{false≢true}
-use Rattle.std.specs.Str.{is_utf8}
-use Rattle.qs_spec.specs.Segment.{Step, segment_text}
-use Rattle.qs_spec.specs.Tree.{Tree, Entries}
-use Rattle.qs_spec.specs.Tree.Entries.{no_entries, entry}
-use Rattle.qs_spec.specs.Node.{keys_are_text, under_empty}
-use Rattle.qs_tree.specs.tree.Views.{entry_list}
-use Rattle.qs_data.specs.read.Entries.{entries_after, first_entry}
-use Rattle.qs_data.specs.read.TreeText.{entries_are_text, is_text}
-use Rattle.qs_data.specs.read.internal.GivenText.{utf8_text}
+use Rattle.qs_data.specs.read.Entries.{entries_after}
 use Rattle.qs_data.proofs.lemmas.read.Entries.{after_none, after_some}
 use Rattle.qs_data.proofs.lemmas.read.Errors.{and_left, and_right}
 use Rattle.qs_data.proofs.lemmas.read.Numbers.{empty_text}

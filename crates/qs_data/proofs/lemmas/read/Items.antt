@@ -1,33 +1,13 @@
 -- The items of a node, place by place.
-use Rattle.std.proofs.Common.{◌++◌, inl, inr, append-nil, ◌≡◌, ℕ, zero, suc, ◌+◌, ◌≤◌, ◌&&◌, Bool, true, false, cond, List, [], ◌∷◌, map, drop, length, slice_get, Option, Some, None, refl, sym, ap, ◌∙◌, arith}
-use Rattle.std.proofs.lemmas.List.{drop_all}
-use Rattle.std.proofs.lemmas.Bool.{cases_Bool, false≢true}
-use Rattle.qs_spec.specs.Segment.{Step}
-use Rattle.qs_spec.specs.Tree.{Tree, Items, Entries}
-use Rattle.qs_spec.specs.Tree.Items.{no_items, item}
-use Rattle.qs_spec.specs.Tree.Entries.{no_entries, entry}
-use Rattle.qs_spec.specs.Node.{sequence_items, placed, is_place, is_int, are_ints}
-use Rattle.std.specs.declared.alloc.Global.{Global}
+use Rattle.qs_data.proofs.Common.{◌++◌, inl, inr, append-nil, ◌≡◌, ℕ, zero, suc, ◌+◌, ◌≤◌, ◌&&◌, Bool, true, false, cond, List, [], ◌∷◌, map, drop, length, slice_get, Option, Some, None, refl, sym, ap, ◌∙◌, arith, drop_all, cases_Bool, false≢true, Step, Tree, Items, Entries, no_items, item, no_entries, entry, sequence_items, placed, is_place, is_int, are_ints, Global, tree_of, items_from, entry_list, segment_of_key, ParsedValue, option_map, option_and_then, items, Reader, read_each, with_front, leaf, sequence, mapping, uninitialized, is_utf8, segment_text, entries_after, first_item, are_text, passed, is_text, items_are_text, entries_are_text}
 use Rattle.std.specs.declared.borrow.CowSlice.{CowSlice}
 use Rattle.std.specs.declared.borrow.CowSlice.TheVariants.{Borrowed, Owned}
 use Rattle.qs_tree.specs.declared.tree.key.Key.{Key}
 use Rattle.qs_tree.specs.declared.tree.key.Key.TheVariants as key
-use Rattle.qs_tree.specs.tree.Views.{tree_of, items_from, entry_list, segment_of_key}
-use Rattle.qs_tree.specs.declared.tree.value.ParsedValue.{ParsedValue}
 use Rattle.std.specs.Borrow.{Bor}
 use Rattle.std.specs.Slice.{IsItemAt}
-use Rattle.std.specs.Option.{option_map, option_and_then}
 use Rattle.qs_spec.specs.Data.{Data}
-use Rattle.qs_spec.specs.Node.{items}
-use Rattle.qs_spec.specs.internal.ReadFunction.{Reader, read_each, with_front}
 use Rattle.qs_spec.specs.Leaf.Leaf.{NoValue, Null, Text}
-use Rattle.qs_spec.specs.Tree.Tree.{leaf, sequence, mapping, uninitialized}
-use Rattle.std.specs.Str.{is_utf8}
-use Rattle.qs_spec.specs.Segment.{segment_text}
-use Rattle.qs_data.specs.read.internal.Keys.{entries_after}
-use Rattle.qs_data.specs.read.Items.{first_item, are_text}
-use Rattle.qs_data.specs.read.internal.Keys.{passed}
-use Rattle.qs_data.specs.read.TreeText.{is_text, items_are_text, entries_are_text}
 use Rattle.qs_data.proofs.lemmas.read.Errors.{and_left, and_right}
 use Rattle.qs_data.proofs.lemmas.read.Fields.{item_at, no_item_at}
 use Rattle.qs_data.proofs.lemmas.read.Steps.{before, before-front}

@@ -1,32 +1,16 @@
 -- What is read as a boolean, a number or a character of a text, and of the text that a scalar is read from.
-use Rattle.std.proofs.Common.{◌≡◌, ℕ, suc, ◌-◌, ◌≤◌, ◌⊎◌, inl, inr, Bool, true, false, ◌&&◌, cond, List, [], ◌∷◌, ◌++◌, append-nil, length, slice_get, map, codes, Option, Some, None, Result, refl, sym, ap, ◌∙◌, arith, rules}
-use Rattle.std.specs.Option.{option_map, option_and_then}
-use Rattle.std.specs.Str.{is_utf8, bytes_eq, chars, all_scalars, encode_utf8_all}
+use Rattle.qs_data.proofs.Common.{◌≡◌, ℕ, suc, ◌-◌, ◌≤◌, ◌⊎◌, inl, inr, Bool, true, false, cond, List, [], ◌∷◌, ◌++◌, append-nil, length, slice_get, map, codes, Option, Some, None, Result, refl, sym, ap, ◌∙◌, arith, rules, option_map, option_and_then, bytes_eq, all_scalars, encode_utf8_all, IsUtf8-from_is_utf8, chars_past_char, chars-nil, encodes-chars, scalars-chars, cases_Bool, false≢true, Tree, Items, leaf, sequence, mapping, uninitialized, no_items, item, boolean_data, unsigned_data, signed_data, character_data, only_character, last_item, item_text, read_scalar, tree_of, items_from, ParsedValue, ReadError, ReadGives, data_of, is_text, items_are_text, given_text, data_by_text, utf8_text}
+use Rattle.std.specs.Str.{is_utf8, chars}
 use Rattle.std.specs.Char.{IsScalar, encode_utf8}
-use Rattle.std.proofs.lemmas.Str.{IsUtf8-from_is_utf8, chars_past_char, chars-nil, encodes-chars, scalars-chars}
-use Rattle.std.proofs.lemmas.Bool.{cases_Bool, false≢true}
 use Rattle.std.proofs.lemmas.Slice.Eq.{bytes_eq-Decides}
 use Rattle.qs_spec.proofs.Booleans.{and_both}
 use Rattle.qs_spec.specs.Leaf.Leaf.{NoValue, Null, Text}
-use Rattle.qs_spec.specs.Tree.{Tree, Items}
-use Rattle.qs_spec.specs.Tree.Tree.{leaf, sequence, mapping, uninitialized}
-use Rattle.qs_spec.specs.Tree.Items.{no_items, item}
 use Rattle.qs_spec.specs.Data.{Data}
-use Rattle.qs_spec.specs.Scalar.{boolean_data, unsigned_data, signed_data, character_data, only_character}
-use Rattle.qs_spec.specs.Node.{last_item, item_text}
-use Rattle.qs_spec.specs.internal.ReadFunction.{read_scalar}
-use Rattle.qs_tree.specs.tree.Views.{tree_of, items_from}
-use Rattle.qs_tree.specs.declared.tree.value.ParsedValue.{ParsedValue}
 use Rattle.qs_data.proofs.lemmas.read.Numbers.{unsigned_text, signed_text}
-use Rattle.qs_data.specs.declared.read.error.ReadError.{ReadError}
-use Rattle.qs_data.specs.read.internal.ReadError.{ReadGives}
 use Rattle.qs_data.proofs.lemmas.read.Errors.{and_left, and_right}
 use Rattle.qs_data.proofs.lemmas.read.ReadErrors.{gives_as}
 use Rattle.qs_spec.specs.Leaf.{leaf_text}
-use Rattle.qs_data.specs.data.Views.{data_of}
 use Rattle.qs_data.specs.declared.data.data.Data as v
-use Rattle.qs_data.specs.read.TreeText.{is_text, items_are_text}
-use Rattle.qs_data.specs.read.internal.GivenText.{given_text, data_by_text, utf8_text}
 
 pub utf8_none : (b : List ℕ) → utf8_text b ≡ None → is_utf8 b ≡ false
 utf8_none b h = elim (cases_Bool (is_utf8 b)) [

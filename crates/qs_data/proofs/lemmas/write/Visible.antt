@@ -1,5 +1,6 @@
 -- What is encoded is visible.
-use Rattle.qs_data.proofs.Common.{suc, ◌+◌, ◌^◌, ℤ, pos, negsuc, ◌++◌, sym, ap, ◌∙◌, subst, ◌≡◌, ℕ, ◌<◌, Bool, true, false, ◌&&◌, leb, List, [], ◌∷◌, get_or, refl, arith, Fits, w8, All, AllByRecursion, list_all, decimal, signed_decimal, digits_decimal, agree_below_at, nat_tests, All-nil, All-cons, All-append, All-head, All-tail, All-from_get_or, spelling, encoded, is_between, open_bytes, close_bytes, IsVisible}
+use Rattle.qs_data.proofs.Common.{suc, ◌+◌, ◌^◌, ℤ, pos, negsuc, ◌++◌, sym, ap, ◌∙◌, subst, ◌≡◌, ℕ, ◌<◌, Bool, true, false, ◌&&◌, leb, List, [], ◌∷◌, get_or, refl, arith, Fits, w8, All, AllByRecursion, list_all, decimal, digits_decimal, agree_below_at, nat_tests, All-nil, All-cons, All-append, All-head, All-tail, All-from_get_or, spelling, encoded, is_between, open_bytes, close_bytes, IsVisible}
+use Rattle.std.specs.Fmt.{signed_decimal}
 use Rattle.std.specs.Int.Signed.{mag}
 use Rattle.qs_spec.proofs.Booleans.{and_both}
 use Rattle.qs_spec.proofs.Numerals.{AreDigits, numerals}

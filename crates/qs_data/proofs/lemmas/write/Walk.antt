@@ -1,11 +1,8 @@
 -- The entries of data, part by part.
-use Rattle.qs_data.proofs.Common.{◌≡◌, ℕ, ◌<◌, ◌≤◌, ◌+◌, cond, List, [], ◌∷◌, ◌++◌, length, drop, get_or, map, refl, sym, ap, ◌∙◌, Option, Result, Ok, Err, arith, rules, lt-ltb, string_bytes, Vec, ◌⊎◌, inl, inr, le-ltb, drop_more, String, Global, IsErrAnd, Config, ArrayFormat, element_segment, Path, Output, nothing, refused, and_then, too_deep, maybe_deeper, under_key, key_text, Walk, Stop, TooDeep, OutOfMemory, Data, data_of, values_in, pairs_in, members_in, StreamState, Stops}
-use Rattle.std.proofs.lemmas.List.{at_drop_all}
+use Rattle.qs_data.proofs.Common.{◌≡◌, ℕ, ◌<◌, ◌≤◌, ◌+◌, cond, List, [], ◌∷◌, ◌++◌, length, drop, get_or, map, refl, sym, ap, ◌∙◌, Option, Result, Ok, Err, arith, rules, lt-ltb, string_bytes, Vec, ◌⊎◌, inl, inr, le-ltb, drop_more, String, Global, IsErrAnd, Config, ArrayFormat, element_segment, Path, Output, nothing, refused, and_then, too_deep, maybe_deeper, under_key, key_text, Walk, Stop, TooDeep, OutOfMemory, Data, data_of, values_in, pairs_in, members_in, StreamState, Stops, at_drop_all, Part, under, elements_part, pairs_part, members_part, WritesAt, EntersAt, IsBarred, LeavesAt}
 use Rattle.qs_spec.specs.Data as d
 use Rattle.qs_spec.specs.Entry.{deeper, entries_at, elements_from, pair_entries, member_entries}
 use Rattle.qs_data.specs.declared.data.data.Data as r
-use Rattle.qs_data.specs.write.Parts.{Part, under, elements_part, pairs_part, members_part}
-use Rattle.qs_data.specs.write.Writes.{WritesAt, EntersAt, IsBarred, LeavesAt}
 use Rattle.qs_data.proofs.lemmas.data.Levels.{data_of_map}
 use Rattle.qs_data.proofs.lemmas.write.Wrote.{adds_nothing, some_none, writes_exit}
 

@@ -1,7 +1,5 @@
 -- Texts, one after another.
-use Rattle.qs_data.proofs.Common.{◌≡◌, ℕ, ◌+◌, Bool, List, [], ◌∷◌, ◌++◌, length, take, refl, sym, ap, ◌∙◌, subst, Option, Some, None, Result, Ok, Err, append_assoc, length-append, arith, take-append-add, take-append_seam, take-append-le, All-nil, All-append, Appends-nil, Appends-trans, ◌||◌, All, IsErrAnd, Appends, Config, Path, Entry, Output, follow, and_then, nothing, Refusal, too_deep, bad_key, entry_text, has_key, Walk, Stop, TooDeep, BadKey, Io, OutOfMemory, IsVisible, IsAt, StreamState, Adds, AddsSome, AddsPart, Stops, Writes}
-use Rattle.qs_data.specs.write.Parts.{Part, both}
-use Rattle.qs_data.specs.write.Writes.{WritesAt}
+use Rattle.qs_data.proofs.Common.{◌≡◌, ℕ, ◌+◌, Bool, List, [], ◌∷◌, ◌++◌, length, take, refl, sym, ap, ◌∙◌, subst, Option, Some, None, Result, Ok, Err, append_assoc, length-append, arith, take-append-add, take-append_seam, take-append-le, All-nil, All-append, Appends-nil, Appends-trans, ◌||◌, All, IsErrAnd, Appends, Config, Path, Entry, Output, follow, and_then, nothing, Refusal, entry_text, has_key, Walk, Stop, Io, OutOfMemory, IsVisible, StreamState, Adds, AddsSome, AddsPart, Stops, Writes, Part, both, WritesAt}
 use Rattle.qs_spec.specs.Written.{written, started_after}
 
 pub written-append : (form s : Bool) (es fs : List Entry) → written form s (es ++ fs) ≡ written form s es ++ written form (started_after s es) fs

@@ -49,7 +49,7 @@ pub use Rattle.qs_data.specs.write.Scalars.{scalar_text}
 pub use Rattle.qs_data.specs.write.State.{IsVisible}
 pub use Rattle.qs_data.specs.write.Writes.{Adds, AddsPart, AddsSome, EntersAt, IsAt, IsBarred, LeavesAt, Stops, StreamState, Writes, WritesAt, grown, path_after, state_in}
 pub use Rattle.std.proofs.KnownBytes.{Appends-nil, Appends-trans}
-pub use Rattle.std.proofs.Math.Bool.{and-false, or-false, or-true}
+pub use Rattle.std.proofs.Math.Bool.{and-false, and-true, or-false, or-true}
 pub use Rattle.std.proofs.Math.Seq.{take-add, take-append-add, take-append_seam}
 pub use Rattle.std.proofs.lemmas.Bool.{MatchBool-at_false, MatchBool-at_true, agree_below_at, cases_Bool, eqb-false, false≢true, le-ltb, ne_eqb}
 pub use Rattle.std.proofs.lemmas.Bool.Decides.{nat_tests}
@@ -57,6 +57,7 @@ pub use Rattle.std.proofs.lemmas.Fmt.{IsAscii-decimal, decimal_injective, decima
 pub use Rattle.std.proofs.lemmas.Grind.{common_steps, flat_map-append}
 pub use Rattle.std.proofs.lemmas.List.{at_drop_all, drop-append-le, drop_all, drop_more, length-take, take-append-drop, take-append-le, take_rest}
 pub use Rattle.std.proofs.lemmas.List.Elements.{All-append, All-cons, All-drop, All-from_get_or, All-head, All-nil, All-pop, All-push, All-tail, All-take}
+pub use Rattle.std.proofs.lemmas.Option.{same_Some, slice_get-get_or}
 pub use Rattle.std.proofs.lemmas.Str.{IsUtf8-from_ascii, IsUtf8-from_is_utf8, IsUtf8-string_bytes, chars-nil, chars_past_char, encodes-chars, is_utf8-from_IsUtf8, len_utf8_bounds, length-encode, scalars-chars}
 pub use Rattle.std.specs.Io.KnownBytes.{Appends}
 pub use Rattle.std.specs.List.{All, AllByRecursion, list_all, list_any, sum_by}

@@ -1,5 +1,5 @@
 -- What is read as a boolean, a number or a character of a text, and of the text that a scalar is read from.
-use Rattle.qs_data.proofs.Common.{◌≡◌, ℕ, suc, ◌-◌, ◌≤◌, ◌⊎◌, inl, inr, Bool, true, false, cond, List, [], ◌∷◌, ◌++◌, append-nil, length, slice_get, map, codes, Option, Some, None, Result, refl, sym, ap, ◌∙◌, arith, rules, option_map, option_and_then, bytes_eq, all_scalars, encode_utf8_all, IsUtf8-from_is_utf8, chars_past_char, chars-nil, encodes-chars, scalars-chars, cases_Bool, false≢true, Tree, Items, leaf, sequence, mapping, uninitialized, no_items, item, boolean_data, unsigned_data, signed_data, character_data, only_character, last_item, item_text, read_scalar, tree_of, items_from, ParsedValue, ReadError, ReadGives, data_of, is_text, items_are_text, given_text, data_by_text, utf8_text}
+use Rattle.qs_data.proofs.Common.{◌≡◌, ℕ, suc, ◌-◌, ◌≤◌, ◌⊎◌, inl, inr, Bool, true, false, cond, List, [], ◌∷◌, ◌++◌, append-nil, length, slice_get, map, codes, Option, Some, None, Result, refl, sym, ap, ◌∙◌, arith, rules, option_map, option_and_then, bytes_eq, all_scalars, encode_utf8_all, IsUtf8-from_is_utf8, chars_past_char, chars-nil, encodes-chars, scalars-chars, cases_Bool, false≢true, Tree, Items, leaf, sequence, no_items, item, boolean_data, unsigned_data, signed_data, character_data, only_character, last_item, item_text, read_scalar, tree_of, items_from, ParsedValue, ReadError, ReadGives, data_of, is_text, items_are_text, given_text, data_by_text, utf8_text}
 use Rattle.std.specs.Str.{is_utf8, chars}
 use Rattle.std.specs.Char.{IsScalar, encode_utf8}
 use Rattle.std.proofs.lemmas.Slice.Eq.{bytes_eq-Decides}
@@ -33,29 +33,24 @@ scalar_is reject_duplicates empty get (sequence xs) o h = by_last (last_item rej
   by_last : (l : Option (List ℕ)) → option_map Some l ≡ Some o → option_and_then get l ≡ data_by_text empty get o
   by_last None k = absurd cc
   by_last (Some b) k = let e : Some b ≡ o = cc in ap (data_by_text empty get) e
-scalar_is reject_duplicates empty get (mapping es) o h = absurd cc
-scalar_is reject_duplicates empty get uninitialized o h = absurd cc
+scalar_is reject_duplicates empty get t o h = absurd cc
 
 item_bad : (t : Tree) (b : List ℕ) → item_text t ≡ Some b → is_utf8 b ≡ false → is_text t ≡ false
 item_bad (leaf l) b h n = let e : leaf_text l ≡ b = cc in ap is_utf8 e ∙ n
 item_bad t b h n = absurd cc
 
 last_bad : (reject_duplicates : Bool) (xs : Items) (b : List ℕ) → last_item reject_duplicates xs ≡ Some b → is_utf8 b ≡ false → items_are_text xs ≡ false
-last_bad reject_duplicates no_items b h n = absurd cc
 last_bad reject_duplicates (item t no_items) b h n = and_left (is_text t) true (item_bad t b h n)
-last_bad true (item t (item u xs)) b h n = absurd cc
 last_bad false (item t (item u xs)) b h n = and_right (is_text t) (items_are_text (item u xs)) (last_bad false (item u xs) b h n)
+last_bad reject_duplicates xs b h n = absurd cc
 
 pub scalar_bad : (reject_duplicates : Bool) (t : Tree) (b : List ℕ) → given_text reject_duplicates t ≡ Some (Some b) → is_utf8 b ≡ false → is_text t ≡ false
-scalar_bad reject_duplicates (leaf NoValue) b h n = absurd cc
-scalar_bad reject_duplicates (leaf Null) b h n = absurd cc
 scalar_bad reject_duplicates (leaf (Text c m)) b h n = let e : c ≡ b = cc in ap is_utf8 e ∙ n
 scalar_bad reject_duplicates (sequence xs) b h n = by_last (last_item reject_duplicates xs) refl h where
   by_last : (l : Option (List ℕ)) → last_item reject_duplicates xs ≡ l → option_map Some l ≡ Some (Some b) → items_are_text xs ≡ false
   by_last None e k = absurd cc
   by_last (Some c) e k = let same : c ≡ b = cc in last_bad reject_duplicates xs b (e ∙ ap Some same) n
-scalar_bad reject_duplicates (mapping es) b h n = absurd cc
-scalar_bad reject_duplicates uninitialized b h n = absurd cc
+scalar_bad reject_duplicates t b h n = absurd cc
 
 -- what is read of the text that a scalar is read from is read of the scalar
 pub scalar_gives : {X : Type 0} (view : X → Data) (reject_duplicates : Bool) (empty : Option Data) (get : List ℕ → Option Data) (t : Tree) (b : List ℕ) (x : Result X ReadError)

@@ -1,6 +1,5 @@
 -- The variant of a name.
-use Rattle.qs_data.proofs.Common.{◌≡◌, ℕ, ◌+◌, ◌<◌, Bool, true, false, ◌&&◌, cond, List, ◌∷◌, Option, Some, None, drop, length, get_or, slice_get, refl, sym, ap, ◌∙◌, rules, inl, inr, string_bytes, option_map, option_and_then, bytes_eq, cases_Bool, drop_more, is_utf8, false≢true, Global, Segment, segment_text, Variants, no_variants, one_variant, Tree, Entries, mapping, entry, as_map, under_empty, reads_variant, reads_kind, unit_variant_data, is_unit_kind, tree_of, variant_of, variants_in, kind_of, is_text, entries_are_text, variant_named}
-use Rattle.std.proofs.lemmas.Option.{slice_get-get_or}
+use Rattle.qs_data.proofs.Common.{◌≡◌, ℕ, ◌+◌, ◌<◌, Bool, true, false, ◌&&◌, cond, List, ◌∷◌, Option, Some, None, drop, length, get_or, slice_get, refl, sym, ap, ◌∙◌, rules, inl, inr, string_bytes, option_map, option_and_then, bytes_eq, cases_Bool, drop_more, is_utf8, false≢true, Global, Segment, segment_text, Variants, no_variants, one_variant, Tree, Entries, mapping, entry, as_map, under_empty, reads_variant, reads_kind, unit_variant_data, is_unit_kind, tree_of, variant_of, variants_in, kind_of, is_text, entries_are_text, variant_named, slice_get-get_or}
 use Rattle.std.specs.declared.borrow.CowSlice.{CowSlice}
 use Rattle.std.specs.declared.borrow.CowSlice.TheVariants.{Borrowed, Owned}
 use Rattle.qs_spec.specs.Data.{Data}

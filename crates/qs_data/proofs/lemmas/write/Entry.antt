@@ -8,18 +8,12 @@ bracketed form s = open_bytes form ++ (encoded form s ++ close_bytes form)
 
 brackets-append : (form : Bool) (path : Path) (s : List ℕ) → brackets_text form (path ++ s ∷ []) ≡ brackets_text form path ++ bracketed form s
 brackets-append form [] s = ap (λ t. open_bytes form ++ (encoded form s ++ t)) (append-nil (close_bytes form))
-brackets-append form (x ∷ path) s =
-    ap (λ t. open_bytes form ++ (encoded form x ++ (close_bytes form ++ t))) (brackets-append form path s)
-    ∙ sym (append_assoc (open_bytes form) (encoded form x ++ (close_bytes form ++ brackets_text form path)) (bracketed form s)
-    ∙ ap (λ t. open_bytes form ++ t) (append_assoc (encoded form x) (close_bytes form ++ brackets_text form path) (bracketed form s)
-    ∙ ap (λ t. encoded form x ++ t) (append_assoc (close_bytes form) (brackets_text form path) (bracketed form s))))
+brackets-append form (x ∷ path) s = rw (brackets-append form path s) (simp append_assoc)
 
 -- one more segment
 pub path_grown : (form : Bool) (path : Path) (s : List ℕ) → path_after form (path ++ s ∷ []) ≡ grown form (path_after form path) s
 path_grown form [] s = ap (λ t. 38 ∷ t) (append-nil (encoded form s))
-path_grown form (x ∷ path) s =
-    ap (λ t. 38 ∷ (encoded form x ++ t)) (brackets-append form path s)
-    ∙ ap (λ t. 38 ∷ t) (sym (append_assoc (encoded form x) (brackets_text form path) (bracketed form s)))
+path_grown form (x ∷ path) s = rw (brackets-append form path s) (simp append_assoc)
 
 -- without the last segment
 pub path_left : (form : Bool) (path : Path) (s : List ℕ) → take (length (path_after form path)) (path_after form (path ++ s ∷ [])) ≡ path_after form path
@@ -55,7 +49,7 @@ entry_shown config form started path value walk out rest shown len start at same
     let fits : start ≤ length out = omega (arith, within, l, ap length kept, length-take (length walk.text) out) in
     let same : shown ++ rest ≡ drop start (out ++ rest) = ap (λ t. t ++ rest) shows ∙ sym (drop-append-le start out rest fits) in
     let as_set : out ++ rest ≡ path_after config.form path ++ value_text config.form value =
-        is ∙ ap (λ f. walk.text ++ value_text f value) (same_form ∙ ap (λ (k : Config). k.form) at.settings) ∙ ap (λ t. t ++ value_text config.form value) at.text in (
+    is ∙ ap (λ f. walk.text ++ value_text f value) (same_form ∙ ap (λ (k : Config). k.form) at.settings) ∙ ap (λ t. t ++ value_text config.form value) at.text in (
       same ∙ ap (λ k. drop k (out ++ rest)) (n ∙ ap (λ m. cond (started || eqb m 0) 0 1) (l ∙ ap length at.text))
           ∙ ap (drop (cond (started || eqb (length (path_after config.form path)) 0) 0 1)) as_set ∙ led config.form started path value,
       subst (All IsVisible) (sym same) (All-drop IsVisible start (out ++ rest) (visible at.visible)),

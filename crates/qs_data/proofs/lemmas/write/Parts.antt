@@ -60,7 +60,7 @@ module _ (segment : List ℕ) (len : ℕ) (old within : Writer) (x : Part) (ente
   inner : (r : Result (Unit {0}) Stop) (back : Writer) → WritesPart r within back x → WritesAt old.config r (state_of old) (state_of back) within.walk back.walk x
   inner r back p =
       subst (λ s. WritesAt old.config r s (state_of back) within.walk back.walk x) entered.state
-          (subst (λ (k : Config). WritesAt k r (state_of within) (state_of back) within.walk back.walk x) entered.config p.writes)
+      (subst (λ (k : Config). WritesAt k r (state_of within) (state_of back) within.walk back.walk x) entered.config p.writes)
 
   -- a part under one more segment
   pub part_under : (back to : Writer) → WritesPart (Ok tt) within back x → Leaves len back to → WritesPart (Ok tt) old to (under segment x)

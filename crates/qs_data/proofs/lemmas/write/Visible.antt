@@ -9,9 +9,9 @@ use Rattle.qs_spec.proofs.KeysBack.{encoded_digits}
 abbrev is_visible : ℕ → Bool
 is_visible b = leb 33 b && leb b 126
 
-spelling_test : (form : Bool) (b : ℕ) → b < 256 → list_all is_visible (spelling form b) ≡ true
-spelling_test true b l = agree_below_at (λ b. list_all is_visible (spelling true b)) (λ b. true) 256 b refl l
-spelling_test false b l = agree_below_at (λ b. list_all is_visible (spelling false b)) (λ b. true) 256 b refl l
+byte_visible : (form : Bool) (b : ℕ) → b < 256 → list_all is_visible (spelling form b) ≡ true
+byte_visible true b l = agree_below_at (λ b. list_all is_visible (spelling true b)) (λ b. true) 256 b refl l
+byte_visible false b l = agree_below_at (λ b. list_all is_visible (spelling false b)) (λ b. true) 256 b refl l
 
 visible_of : (b : ℕ) → is_visible b ≡ true → IsVisible b
 visible_of b e = let h = and_both (leb 33 b) (leb b 126) e in (grind (arith, nat_tests), grind (arith, nat_tests))
@@ -26,7 +26,7 @@ IsByte b = b < 256
 encoded_all : (form : Bool) (bs : List ℕ) → All IsByte bs → All IsVisible (encoded form bs)
 encoded_all form [] h = All-nil IsVisible
 encoded_all form (b ∷ bs) h =
-    All-append IsVisible (spelling form b) (encoded form bs) (all_visible (spelling form b) (spelling_test form b (All-head IsByte b bs h))) (encoded_all form bs (All-tail IsByte b bs h))
+    All-append IsVisible (spelling form b) (encoded form bs) (all_visible (spelling form b) (byte_visible form b (All-head IsByte b bs h))) (encoded_all form bs (All-tail IsByte b bs h))
 
 pub encoded_visible : (form : Bool) (bs : List ℕ) → ((k : ℕ) → Fits w8 (get_or bs k 0)) → All IsVisible (encoded form bs)
 encoded_visible form bs h = encoded_all form bs (All-from_get_or IsByte bs 0 (λ k l. omega (arith, h k)))

@@ -90,23 +90,21 @@ members_here limit format xs i x p name h is e =
 
 -- lists and maps that aren't empty
 
+filled : (limit : ℕ) (format : ArrayFormat) (p : Path) (make : d.Values → d.Data)
+    → ((v : d.Data) (vs : d.Values) → entries_at limit format (make (d.one_value v vs)) p ≡ elements_from limit format 0 (d.one_value v vs) p)
+    → (xs : List Data) → 0 < length xs → entries_at limit format (make (values_in xs)) p ≡ elements_from limit format 0 (values_in xs) p
+filled limit format p make by [] h = absurd (omega arith)
+filled limit format p make by (x ∷ xs) h = by (data_of x) (values_in xs)
+
 pub list_elements : (limit : ℕ) (format : ArrayFormat) (x : Data) (xs : Vec Data Global) (p : Path) → (x ≡ r.Seq xs) ⊎ (x ≡ r.Tuple xs) → 0 < length xs.items
     → entries_at limit format (data_of x) p ≡ elements_from limit format 0 (values_in xs.items) p
 unfolding entries_at
 list_elements limit format x xs p (inl is) some =
     let level : data_of (r.Seq xs) ≡ d.sequence (values_in xs.items) = search (rules, r.the_lemmas) in
-    ap (λ y. entries_at limit format (data_of y) p) is ∙ ap (λ y. entries_at limit format y p) level ∙ by xs.items some
-  where
-    by : (ys : List Data) → 0 < length ys → entries_at limit format (d.sequence (values_in ys)) p ≡ elements_from limit format 0 (values_in ys) p
-    by [] h = absurd (omega arith)
-    by (y ∷ ys) h = refl
+    ap (λ y. entries_at limit format (data_of y) p) is ∙ ap (λ y. entries_at limit format y p) level ∙ filled limit format p d.sequence (λ v vs. refl) xs.items some
 list_elements limit format x xs p (inr is) some =
     let level : data_of (r.Tuple xs) ≡ d.tuple (values_in xs.items) = search (rules, r.the_lemmas) in
-    ap (λ y. entries_at limit format (data_of y) p) is ∙ ap (λ y. entries_at limit format y p) level ∙ by xs.items some
-  where
-    by : (ys : List Data) → 0 < length ys → entries_at limit format (d.tuple (values_in ys)) p ≡ elements_from limit format 0 (values_in ys) p
-    by [] h = absurd (omega arith)
-    by (y ∷ ys) h = refl
+    ap (λ y. entries_at limit format (data_of y) p) is ∙ ap (λ y. entries_at limit format y p) level ∙ filled limit format p d.tuple (λ v vs. refl) xs.items some
 
 pub map_pairs : (limit : ℕ) (format : ArrayFormat) (x : Data) (xs : Vec (Data × Data) Global) (p : Path) → x ≡ r.Map xs → 0 < length xs.items
     → entries_at limit format (data_of x) p ≡ pair_entries limit format (pairs_in xs.items) p

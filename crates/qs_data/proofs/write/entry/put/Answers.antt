@@ -16,10 +16,10 @@ returns-in_err-put_all-clause-writes g c =
     let old = g.S.Sink.taken c.args.stream.now.sink in
     let part = c.in_err-put_all.ensures.part in
     λ config. writes_exit _ c.in_err-put_all.field-0.0 config _ _ c.args.walk.now _ (λ config path. one path value) c.from_residual-in_err-put_all.ensures.1 (λ path at.
-        let entry = entry_shown config _ _ path value c.args.walk.now c.append_value.new.out rest shown _ _ at c.get_form-form.ensures c.in_ok-rest.ensures.ok c.in_ok-rest.ensures.kept
-        c.len-len.ensures.value c.skipped-start.ensures.skips c.skipped-start.ensures.within c.after.ensures c.in_ok-rest.ensures.visible in
-        let front = put_middle [] shown rest (shown ++ rest) part.1 old old (g.S.Sink.taken c.put_all.new.sink) refl (Appends-nil old) part.2 part.3 in
-        io_stops config _ _ path value (shown ++ rest) _ part.0 entry.0 front entry.1 (c.in_err-put_all.ensures.fails ∙ or-true _) c.put_all.ensures.same_writer)
+    let entry = entry_shown config _ _ path value c.args.walk.now c.append_value.new.out rest shown _ _ at c.get_form-form.ensures c.in_ok-rest.ensures.ok c.in_ok-rest.ensures.kept
+    c.len-len.ensures.value c.skipped-start.ensures.skips c.skipped-start.ensures.within c.after.ensures c.in_ok-rest.ensures.visible in
+    let front = put_middle [] shown rest (shown ++ rest) part.1 old old (g.S.Sink.taken c.put_all.new.sink) refl (Appends-nil old) part.2 part.3 in
+    io_stops config _ _ path value (shown ++ rest) _ part.0 entry.0 front entry.1 (c.in_err-put_all.ensures.fails ∙ or-true _) c.put_all.ensures.same_writer)
 
 pub returns-in_err-put_encoded-clause-writes : goal.returns-in_err-put_encoded-clause-writes
 returns-in_err-put_encoded-clause-writes g c =
@@ -29,11 +29,11 @@ returns-in_err-put_encoded-clause-writes g c =
     let taken = g.S.Sink.taken in
     let part = c.in_err-put_encoded.ensures.part in
     λ config. writes_exit _ c.in_err-put_encoded.field-0.0 config _ _ c.args.walk.now _ (λ config path. one path value) c.from_residual-in_err-put_encoded.ensures.1 (λ path at.
-        let entry = entry_shown config _ _ path value c.args.walk.now c.append_value.new.out rest shown _ _ at c.get_form-form.ensures c.in_ok-rest.ensures.ok c.in_ok-rest.ensures.kept
-        c.len-len.ensures.value c.skipped-start.ensures.skips c.skipped-start.ensures.within c.after.ensures c.in_ok-rest.ensures.visible in
-        let front = put_middle shown rest [] (shown ++ rest) part.1 (taken c.args.stream.now.sink) (taken c.put_all.new.sink) (taken c.put_encoded.new.sink)
-            (ap (λ t. shown ++ t) (sym (append-nil rest))) c.in_ok-put_all.ensures.all part.2 part.3 in
-        io_stops config _ _ path value (shown ++ rest) _ part.0 entry.0 front entry.1 (c.in_err-put_encoded.ensures.fails ∙ or-true _) (c.put_encoded.ensures.same_writer ∙ c.put_all.ensures.same_writer))
+    let entry = entry_shown config _ _ path value c.args.walk.now c.append_value.new.out rest shown _ _ at c.get_form-form.ensures c.in_ok-rest.ensures.ok c.in_ok-rest.ensures.kept
+    c.len-len.ensures.value c.skipped-start.ensures.skips c.skipped-start.ensures.within c.after.ensures c.in_ok-rest.ensures.visible in
+    let front = put_middle shown rest [] (shown ++ rest) part.1 (taken c.args.stream.now.sink) (taken c.put_all.new.sink) (taken c.put_encoded.new.sink)
+    (ap (λ t. shown ++ t) (sym (append-nil rest))) c.in_ok-put_all.ensures.all part.2 part.3 in
+    io_stops config _ _ path value (shown ++ rest) _ part.0 entry.0 front entry.1 (c.in_err-put_encoded.ensures.fails ∙ or-true _) (c.put_encoded.ensures.same_writer ∙ c.put_all.ensures.same_writer))
 
 pub returns-clause-writes : goal.returns-clause-writes
 returns-clause-writes g c = λ config path at.
@@ -42,7 +42,7 @@ returns-clause-writes g c = λ config path at.
     let rest = encoded c.get_form-form.result c.in_ok-rest.rest.now in
     let taken = g.S.Sink.taken in
     let entry = entry_shown config _ _ path value c.args.walk.now c.append_value.new.out rest shown _ _ at c.get_form-form.ensures c.in_ok-rest.ensures.ok c.in_ok-rest.ensures.kept
-        c.len-len.ensures.value c.skipped-start.ensures.skips c.skipped-start.ensures.within c.after.ensures c.in_ok-rest.ensures.visible in (
+    c.len-len.ensures.value c.skipped-start.ensures.skips c.skipped-start.ensures.within c.after.ensures c.in_ok-rest.ensures.visible in (
       refl,
       adds_one config.form _ _ path value (shown ++ rest) entry.0
           (Appends-trans (taken c.args.stream.now.sink) (taken c.put_all.new.sink) (taken c.put_encoded.new.sink) shown rest c.in_ok-put_all.ensures.all c.in_ok-put_encoded.ensures.all) entry.1

@@ -19,7 +19,7 @@ pub write_data-returns-in-TupleVariant-clause-writes : goal.write_data-returns-i
 write_data-returns-in-TupleVariant-clause-writes g t c =
     let v = c.in-TupleVariant.items in
     λ config path at. rw (variant_elements config.max_depth config.array_format c.args.datum.now c.in-TupleVariant.name v path c.in-TupleVariant.is, ← c.as_bytes-in-TupleVariant.ensures.value)
-        (c.write_tuple_variant.ensures.writes config path at)
+    (c.write_tuple_variant.ensures.writes config path at)
 
 pub write_under-returns : goal.write_under-returns
 write_under-returns g t c = record {

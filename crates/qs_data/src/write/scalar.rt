@@ -118,11 +118,11 @@ impl<'a> Scalar<'a> {
         ensures visible { All IsVisible (encoded form (scalar_text self.entry)) }
     {
         match self {
-            Scalar::Bytes(bytes) => append_encoded(bytes, form, out),
+            Scalar::Bytes(bytes) => out.append_encoded(bytes, form),
             Scalar::Bool(value) => out.append(word(value).as_bytes()),
             Scalar::Unsigned(n) => append_unsigned(n, out),
             Scalar::Signed(n) => append_signed(n, out),
-            Scalar::Char(c) => append_encoded(c.encode_utf8(&mut [0; 4]).as_bytes(), form, out),
+            Scalar::Char(c) => out.append_encoded(c.encode_utf8(&mut [0; 4]).as_bytes(), form),
         }
     }
 }
@@ -162,14 +162,4 @@ fn append_signed(n: i64, out: &mut Text) -> Result<(), AllocError>
     ensures visible { (form : Bool) → All IsVisible (encoded form (signed_decimal n)) }
 {
     out.append(Buffer::new().format(n).as_bytes())
-}
-
-/// Appends the bytes, encoded.
-#[inline(always)]
-#[tactic(auto, using(crate::proofs::lemmas::write::Visible::encoded_visible))]
-fn append_encoded(bytes: &[u8], form: bool, out: &mut Text) -> Result<(), AllocError>
-    ensures ok { OnOk result (out.new ≡ out.old ++ encoded form bytes.now) }
-    ensures visible { All IsVisible (encoded form bytes.now) }
-{
-    out.append_encoded(bytes, form)
 }

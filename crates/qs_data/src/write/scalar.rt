@@ -62,11 +62,7 @@ impl<'a> Scalar<'a> {
             Data::Text(text) => Some(Scalar::Bytes(text.as_bytes())),
             Data::Bytes(bytes) => Some(Scalar::Bytes(bytes)),
             Data::UnitVariant(name) => Some(Scalar::Bytes(name.as_bytes())),
-            Data::Unit | Data::None | Data::Some(_) | Data::Newtype(_) => None,
-            Data::Seq(_) | Data::Tuple(_) | Data::Map(_) | Data::Struct(_) => None,
-            Data::NewtypeVariant(_, _) | Data::TupleVariant(_, _) | Data::StructVariant(_, _) => {
-                None
-            }
+            _ => None,
         }
     }
 
@@ -92,10 +88,7 @@ impl<'a> Scalar<'a> {
     {
         match self {
             Scalar::Bytes(bytes) => bytes.is_empty(),
-            Scalar::Bool(_) => false,
-            Scalar::Unsigned(_) => false,
-            Scalar::Signed(_) => false,
-            Scalar::Char(_) => false,
+            _ => false,
         }
     }
 

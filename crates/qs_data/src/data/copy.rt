@@ -23,7 +23,7 @@ impl Data {
         match self {
             Data::Unit => Ok(Data::Unit),
             Data::None => Ok(Data::None),
-            Data::Some(part) => Ok(Data::Some(copy_part(alloc, part)?)),
+            Data::Some(part) => Ok(Data::Some(Box::new(alloc, part.try_clone(alloc)?)?)),
             Data::Bool(b) => Ok(Data::Bool(*b)),
             Data::Unsigned(n) => Ok(Data::Unsigned(*n)),
             Data::Signed(n) => Ok(Data::Signed(*n)),
@@ -34,10 +34,10 @@ impl Data {
             Data::Tuple(items) => Ok(Data::Tuple(copy_items(alloc, items)?)),
             Data::Map(pairs) => Ok(Data::Map(copy_pairs(alloc, pairs)?)),
             Data::Struct(members) => Ok(Data::Struct(copy_members(alloc, members)?)),
-            Data::Newtype(part) => Ok(Data::Newtype(copy_part(alloc, part)?)),
+            Data::Newtype(part) => Ok(Data::Newtype(Box::new(alloc, part.try_clone(alloc)?)?)),
             Data::UnitVariant(name) => Ok(Data::UnitVariant(name.clone()?)),
             Data::NewtypeVariant(name, part) => {
-                Ok(Data::NewtypeVariant(name.clone()?, copy_part(alloc, part)?))
+                Ok(Data::NewtypeVariant(name.clone()?, Box::new(alloc, part.try_clone(alloc)?)?))
             }
             Data::TupleVariant(name, items) => {
                 Ok(Data::TupleVariant(name.clone()?, copy_items(alloc, items)?))
@@ -47,15 +47,6 @@ impl Data {
             }
         }
     }
-}
-
-// Copies boxed data.
-#[cycle(copy)]
-fn copy_part(alloc: Global, part: &Data) -> Result<Box<Data>, AllocError>
-    ensures { IfOk result (λ copy. data_of copy.value ≡ data_of part.now) }
-{
-    let copy = part.try_clone(alloc)?;
-    Ok(Box::new(alloc, copy)?)
 }
 
 // Copies the items of a list.

@@ -51,9 +51,7 @@ impl Data {
         match self {
             Data::Unit | Data::None | Data::Bool(_) | Data::Unsigned(_) | Data::Signed(_) => true,
             Data::Char(_) | Data::Text(_) | Data::Bytes(_) | Data::UnitVariant(_) => true,
-            Data::Some(_) | Data::Newtype(_) | Data::NewtypeVariant(_, _) => false,
-            Data::Seq(_) | Data::Tuple(_) | Data::TupleVariant(_, _) => false,
-            Data::Map(_) | Data::Struct(_) | Data::StructVariant(_, _) => false,
+            _ => false,
         }
     }
 

@@ -1,8 +1,7 @@
 //! Data whose lists can be read back where no index is written.
 
 ghost use Rattle.std.specs.Prelude.{◌≡◌, false};
-ghost use Rattle.qs_spec.specs.Entry.{key_text};
-ghost use Rattle.qs_spec.specs.Listed.{is_listed, are_listed, are_listed_pairs, are_listed_members, is_placed, is_list, are_scalars, is_one_empty, is_empty_text, has_text};
+ghost use Rattle.qs_spec.specs.Listed.{is_listed, are_listed, are_listed_pairs, are_listed_members, is_placed, is_list, are_scalars, is_one_empty};
 ghost use Rattle.qs_data.specs.data.Views.{data_of, values_in, pairs_in, members_in};
 ghost use Rattle.qs_tree.specs.Settings.{array_format_of};
 
@@ -122,18 +121,11 @@ fn are_scalars(items: &[Data]) -> bool
     ensures { result ≡ are_scalars (values_in items.now) }
 {
     for item in items {
-        if !has_text(item) {
+        if Scalar::of(item).is_none() {
             return false;
         }
     }
     true
-}
-
-// Returns whether the data are written as one text.
-fn has_text(datum: &Data) -> bool
-    ensures { result ≡ has_text (key_text (data_of datum.now)) }
-{
-    Scalar::of(datum).is_some()
 }
 
 // Returns whether this is one empty text.
@@ -142,17 +134,10 @@ fn is_one_empty(items: &[Data]) -> bool
     ensures { result ≡ is_one_empty (values_in items.now) }
 {
     match items {
-        [item] => is_empty_text(item),
+        [item] => match Scalar::of(item) {
+            Some(scalar) => scalar.is_empty(),
+            None => false,
+        },
         _ => false,
-    }
-}
-
-// Returns whether the data are written as one empty text.
-fn is_empty_text(datum: &Data) -> bool
-    ensures { result ≡ is_empty_text (key_text (data_of datum.now)) }
-{
-    match Scalar::of(datum) {
-        Some(scalar) => scalar.is_empty(),
-        None => false,
     }
 }

@@ -75,10 +75,11 @@ fn is_plain(datum: &Data, form: bool) -> bool
 
 // Returns whether the elements of a list can be read back, and there is an index for each.
 #[cycle(plain)]
+#[tactic(auto, using(crate::proofs::lemmas::data::Counts::count_is))]
 fn are_plain_items(items: &Vec<Data>, form: bool) -> bool
     ensures { let ds = values_in items.now.items in result ≡ (are_few ds && are_plain form ds) }
 {
-    are_few(items) && are_plain(items, form)
+    items.len() <= u32::MAX as usize && are_plain(items, form)
 }
 
 // Returns whether each item can be read back.
@@ -109,11 +110,12 @@ fn are_plain_pairs(pairs: &Vec<(Data, Data)>, form: bool) -> bool
 
 // Returns whether a struct or a struct variant has fields, their names differ, and each can be read back.
 #[cycle(plain)]
+#[tactic(auto, using(crate::proofs::lemmas::data::Counts::some_members))]
 fn are_plain_fields(members: &Vec<(String, Data)>, form: bool) -> bool
     ensures { let ms = members_in members.now.items in
         result ≡ (has_members ms && member_names_differ ms && are_plain_members form ms) }
 {
-    has_members(members) && (member_names_differ(members) && are_plain_members(members, form))
+    !members.is_empty() && (member_names_differ(members) && are_plain_members(members, form))
 }
 
 // Returns whether each name and its value can be read back.
@@ -137,14 +139,6 @@ fn has_values(items: &[Data]) -> bool
     !items.is_empty()
 }
 
-// Returns whether there is a field.
-#[tactic(auto, using(crate::proofs::lemmas::data::Counts::some_members))]
-fn has_members(members: &[(String, Data)]) -> bool
-    ensures { result ≡ has_members (members_in members.now) }
-{
-    !members.is_empty()
-}
-
 // Returns whether the data are an option, also within newtypes.
 fn is_optional(datum: &Data) -> bool
     ensures { result ≡ is_optional (data_of datum.now) }
@@ -154,14 +148,6 @@ fn is_optional(datum: &Data) -> bool
         Data::Newtype(part) => is_optional(part),
         _ => false,
     }
-}
-
-// Returns whether there is an index for each element.
-#[tactic(auto, using(crate::proofs::lemmas::data::Counts::count_is))]
-fn are_few(items: &[Data]) -> bool
-    ensures { result ≡ are_few (values_in items.now) }
-{
-    items.len() <= u32::MAX as usize
 }
 
 // Returns whether a name or the text of a key is read back.

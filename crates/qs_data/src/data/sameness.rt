@@ -1,7 +1,6 @@
 //! When two data are the same.
 
-ghost use Rattle.std.specs.Prelude.{◌≡◌, ◌&&◌, string_bytes};
-ghost use Rattle.std.specs.Str.{bytes_eq};
+ghost use Rattle.std.specs.Prelude.{◌≡◌};
 ghost use Rattle.qs_data.specs.data.internal.Equality.{data_same, values_same, pairs_same, members_same};
 ghost use Rattle.qs_data.specs.data.Views.{data_of, values_in, pairs_in, members_in};
 
@@ -71,19 +70,11 @@ fn same_pairs(left: &[(Data, Data)], right: &[(Data, Data)]) -> bool
     }
     for (at, pair) in left.iter().enumerate() {
         let other = &right[at];
-        if !same_pair(pair, other) {
+        if !(same_data(&pair.0, &other.0) && same_data(&pair.1, &other.1)) {
             return false;
         }
     }
     true
-}
-
-// Returns whether two pairs have equal keys and equal values.
-#[cycle(sameness)]
-fn same_pair(left: &(Data, Data), right: &(Data, Data)) -> bool
-    ensures { result ≡ (data_same (data_of left.now.0) (data_of right.now.0) && data_same (data_of left.now.1) (data_of right.now.1)) }
-{
-    same_data(&left.0, &right.0) && same_data(&left.1, &right.1)
 }
 
 // Returns whether two structs have equal fields in the same order.
@@ -97,17 +88,9 @@ fn same_members(left: &[(String, Data)], right: &[(String, Data)]) -> bool
     }
     for (at, member) in left.iter().enumerate() {
         let other = &right[at];
-        if !same_member(member, other) {
+        if !(member.0 == other.0 && same_data(&member.1, &other.1)) {
             return false;
         }
     }
     true
-}
-
-// Returns whether two fields have one name and equal values.
-#[cycle(sameness)]
-fn same_member(left: &(String, Data), right: &(String, Data)) -> bool
-    ensures { result ≡ (bytes_eq (string_bytes left.now.0) (string_bytes right.now.0) && data_same (data_of left.now.1) (data_of right.now.1)) }
-{
-    left.0 == right.0 && same_data(&left.1, &right.1)
 }

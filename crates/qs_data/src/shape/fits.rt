@@ -43,61 +43,28 @@ impl Shape {
 fn fits(shape: &Shape, datum: &Data) -> bool
     ensures { result ≡ fits (shape_of shape.now) (data_of datum.now) }
 {
-    match shape {
-        Shape::Unit => is_unit(datum),
-        Shape::Bool => is_bool(datum),
-        Shape::U8 => is_unsigned(Width::Bits8, datum),
-        Shape::U16 => is_unsigned(Width::Bits16, datum),
-        Shape::U32 => is_unsigned(Width::Bits32, datum),
-        Shape::U64 => is_unsigned(Width::Bits64, datum),
-        Shape::I8 => is_signed(Width::Bits8, datum),
-        Shape::I16 => is_signed(Width::Bits16, datum),
-        Shape::I32 => is_signed(Width::Bits32, datum),
-        Shape::I64 => is_signed(Width::Bits64, datum),
-        Shape::Char => is_char(datum),
-        Shape::Text => is_text(datum),
-        Shape::Bytes => is_bytes(datum),
-        Shape::Option(part) => fits_option(part, datum),
-        Shape::Seq(part) => fits_seq(part, datum),
-        Shape::Tuple(parts) => fits_tuple(parts, datum),
-        Shape::Map(key, part) => fits_map(key, part, datum),
-        Shape::Struct(fields) | Shape::StrictStruct(fields) => fits_struct(fields, datum),
-        Shape::Newtype(part) => fits_newtype(part, datum),
-        Shape::Enum(variants) => fits_enum(variants, datum),
-        Shape::Any | Shape::Ignored => false,
-    }
-}
-
-// Returns whether data fit an option.
-#[cycle(fits)]
-fn fits_option(part: &Shape, datum: &Data) -> bool
-    ensures { result ≡ fits (s.Shape.option (shape_of part.now)) (data_of datum.now) }
-{
-    match datum {
-        Data::None => true,
-        Data::Some(held) => fits(part, held),
-        _ => false,
-    }
-}
-
-// Returns whether data fit a value in a type of its own.
-#[cycle(fits)]
-fn fits_newtype(part: &Shape, datum: &Data) -> bool
-    ensures { result ≡ fits (s.Shape.newtype (shape_of part.now)) (data_of datum.now) }
-{
-    match datum {
-        Data::Newtype(held) => fits(part, held),
-        _ => false,
-    }
-}
-
-// Returns whether data fit a list.
-#[cycle(fits)]
-fn fits_seq(part: &Shape, datum: &Data) -> bool
-    ensures { result ≡ fits (s.Shape.sequence (shape_of part.now)) (data_of datum.now) }
-{
-    match datum {
-        Data::Seq(items) => each_fits(part, items),
+    match (shape, datum) {
+        (Shape::Unit, _) => is_unit(datum),
+        (Shape::Bool, _) => is_bool(datum),
+        (Shape::U8, _) => is_unsigned(Width::Bits8, datum),
+        (Shape::U16, _) => is_unsigned(Width::Bits16, datum),
+        (Shape::U32, _) => is_unsigned(Width::Bits32, datum),
+        (Shape::U64, _) => is_unsigned(Width::Bits64, datum),
+        (Shape::I8, _) => is_signed(Width::Bits8, datum),
+        (Shape::I16, _) => is_signed(Width::Bits16, datum),
+        (Shape::I32, _) => is_signed(Width::Bits32, datum),
+        (Shape::I64, _) => is_signed(Width::Bits64, datum),
+        (Shape::Char, _) => is_char(datum),
+        (Shape::Text, _) => is_text(datum),
+        (Shape::Bytes, _) => is_bytes(datum),
+        (Shape::Option(_), Data::None) => true,
+        (Shape::Option(part), Data::Some(held)) => fits(part, held),
+        (Shape::Newtype(part), Data::Newtype(held)) => fits(part, held),
+        (Shape::Seq(part), Data::Seq(items)) => each_fits(part, items),
+        (Shape::Tuple(parts), Data::Tuple(items)) => fits_items(parts, items),
+        (Shape::Map(key, part), Data::Map(pairs)) => fits_pairs(key, part, pairs),
+        (Shape::Struct(fields), _) | (Shape::StrictStruct(fields), _) => fits_struct(fields, datum),
+        (Shape::Enum(variants), _) => fits_enum(variants, datum),
         _ => false,
     }
 }
@@ -115,17 +82,6 @@ fn each_fits(part: &Shape, items: &Vec<Data>) -> bool
     true
 }
 
-// Returns whether data fit a tuple.
-#[cycle(fits)]
-fn fits_tuple(parts: &Vec<Shape>, datum: &Data) -> bool
-    ensures { result ≡ fits (s.Shape.tuple (shapes_in parts.now.items)) (data_of datum.now) }
-{
-    match datum {
-        Data::Tuple(items) => fits_items(parts, items),
-        _ => false,
-    }
-}
-
 // Returns whether there are as many items as shapes, and each fits its shape.
 #[cycle(fits)]
 fn fits_items(parts: &Vec<Shape>, items: &Vec<Data>) -> bool
@@ -140,17 +96,6 @@ fn fits_items(parts: &Vec<Shape>, items: &Vec<Data>) -> bool
         }
     }
     items[parts.len()..].is_empty()
-}
-
-// Returns whether data fit a map.
-#[cycle(fits)]
-fn fits_map(key: &KeyShape, part: &Shape, datum: &Data) -> bool
-    ensures { result ≡ fits (s.Shape.mapping (key_shape_of key.now) (shape_of part.now)) (data_of datum.now) }
-{
-    match datum {
-        Data::Map(pairs) => fits_pairs(key, part, pairs),
-        _ => false,
-    }
 }
 
 // Returns whether each key and each value fits.
@@ -255,41 +200,13 @@ fn fits_named(variants: &Vec<Variant>, name: &str, datum: &Data) -> bool
 fn fits_kind(kind: &VariantKind, datum: &Data) -> bool
     ensures { result ≡ fits_variant (Some (view.kind_of kind.now)) (data_of datum.now) }
 {
-    match kind {
-        VariantKind::Unit => is_unit_variant(datum),
-        VariantKind::Newtype(part) => fits_newtype_variant(part, datum),
-        VariantKind::Tuple(parts) => fits_tuple_variant(parts, datum),
-        VariantKind::Struct(fields) | VariantKind::StrictStruct(fields) => {
+    match (kind, datum) {
+        (VariantKind::Unit, Data::UnitVariant(_)) => true,
+        (VariantKind::Newtype(part), Data::NewtypeVariant(_, held)) => fits(part, held),
+        (VariantKind::Tuple(parts), Data::TupleVariant(_, items)) => fits_items(parts, items),
+        (VariantKind::Struct(fields), _) | (VariantKind::StrictStruct(fields), _) => {
             fits_struct_variant(fields, datum)
         }
-    }
-}
-
-// Returns whether data are a variant that holds nothing.
-fn is_unit_variant(datum: &Data) -> bool
-    ensures { result ≡ fits_variant (Some s.unit_kind) (data_of datum.now) }
-{
-    matches!(datum, Data::UnitVariant(_))
-}
-
-// Returns whether data are a variant with a value that fits.
-#[cycle(fits)]
-fn fits_newtype_variant(part: &Shape, datum: &Data) -> bool
-    ensures { result ≡ fits_variant (Some (s.newtype_kind (shape_of part.now))) (data_of datum.now) }
-{
-    match datum {
-        Data::NewtypeVariant(_, held) => fits(part, held),
-        _ => false,
-    }
-}
-
-// Returns whether data are a variant with items that fit.
-#[cycle(fits)]
-fn fits_tuple_variant(parts: &Vec<Shape>, datum: &Data) -> bool
-    ensures { result ≡ fits_variant (Some (s.tuple_kind (shapes_in parts.now.items))) (data_of datum.now) }
-{
-    match datum {
-        Data::TupleVariant(_, items) => fits_items(parts, items),
         _ => false,
     }
 }

@@ -35,24 +35,14 @@ impl Width {
     pub(crate) fn signed_max(self) -> i64
         ensures { result ≡ pos (2 ^ (bits_of self - 1) - 1) }
     {
-        match self {
-            Width::Bits8 => i64::from(i8::MAX),
-            Width::Bits16 => i64::from(i16::MAX),
-            Width::Bits32 => i64::from(i32::MAX),
-            Width::Bits64 => i64::MAX,
-        }
+        (self.unsigned_max() / 2) as i64
     }
 
     /// Returns the smallest signed number of this width.
     pub(crate) fn signed_min(self) -> i64
         ensures { result ≡ neg_ℤ (pos (2 ^ (bits_of self - 1))) }
     {
-        match self {
-            Width::Bits8 => i64::from(i8::MIN),
-            Width::Bits16 => i64::from(i16::MIN),
-            Width::Bits32 => i64::from(i32::MIN),
-            Width::Bits64 => i64::MIN,
-        }
+        -1 - self.signed_max()
     }
 }
 

@@ -67,11 +67,7 @@ impl<'a> Scalar<'a> {
             Data::Text(text) => Some(Scalar::Bytes(text.as_bytes())),
             Data::Bytes(bytes) => Some(Scalar::Bytes(bytes)),
             Data::UnitVariant(name) => Some(Scalar::Bytes(name.as_bytes())),
-            Data::Unit | Data::None | Data::Some(_) | Data::Newtype(_) => None,
-            Data::Seq(_) | Data::Tuple(_) | Data::Map(_) | Data::Struct(_) => None,
-            Data::NewtypeVariant(_, _) | Data::TupleVariant(_, _) | Data::StructVariant(_, _) => {
-                None
-            }
+            _ => None,
         }
     }
 
@@ -97,10 +93,7 @@ impl<'a> Scalar<'a> {
     {
         match self {
             Scalar::Bytes(bytes) => bytes.is_empty(),
-            Scalar::Bool(_) => false,
-            Scalar::Unsigned(_) => false,
-            Scalar::Signed(_) => false,
-            Scalar::Char(_) => false,
+            _ => false,
         }
     }
 
@@ -123,11 +116,11 @@ impl<'a> Scalar<'a> {
         ensures visible { All IsVisible (encoded form (scalar_text self.entry)) }
     {
         match self {
-            Scalar::Bytes(bytes) => append_encoded(bytes, form, out),
+            Scalar::Bytes(bytes) => out.append_encoded(bytes, form),
             Scalar::Bool(value) => out.append(word(value).as_bytes()),
             Scalar::Unsigned(n) => append_unsigned(n, out),
             Scalar::Signed(n) => append_signed(n, out),
-            Scalar::Char(c) => append_encoded(c.encode_utf8(&mut [0; 4]).as_bytes(), form, out),
+            Scalar::Char(c) => out.append_encoded(c.encode_utf8(&mut [0; 4]).as_bytes(), form),
         }
     }
 }
@@ -167,14 +160,4 @@ fn append_signed(n: i64, out: &mut Text) -> Result<(), AllocError>
     ensures visible { (form : Bool) → All IsVisible (encoded form (signed_decimal n)) }
 {
     out.append(Buffer::new().format(n).as_bytes())
-}
-
-// Appends the bytes, encoded.
-#[inline(always)]
-#[tactic(auto, using(crate::proofs::lemmas::write::Visible::encoded_visible))]
-fn append_encoded(bytes: &[u8], form: bool, out: &mut Text) -> Result<(), AllocError>
-    ensures ok { OnOk result (out.new ≡ out.old ++ encoded form bytes.now) }
-    ensures visible { All IsVisible (encoded form bytes.now) }
-{
-    out.append_encoded(bytes, form)
 }

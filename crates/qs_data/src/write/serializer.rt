@@ -98,15 +98,7 @@ impl<S: Sink> Serializer<S> {
     pub fn into_sink(self) -> S
         ensures { result ≡ self.sink }
     {
-        let Serializer {
-            config: _,
-            stream: Stream {
-                sink: Kept { sink, cause: _ },
-                started: _,
-            },
-            failed: _,
-        } = self;
-        sink
+        self.stream.sink.sink
     }
 
     /// Writes the entries of the data after what was written before.

@@ -1,7 +1,9 @@
 //! The text of an entry under construction.
 
 ghost use Rattle.std.specs.Prelude.{◌≡◌, ◌+◌, ◌<◌, ◌≤◌, ◌++◌, [], length, take, drop, OnOk};
+ghost use Rattle.std.specs.List.{All};
 ghost use Rattle.qs_spec.specs.Escape.{encoded};
+ghost use Rattle.qs_data.specs.write.State.{IsVisible};
 
 use qs_tree::encode_to;
 use std::alloc::{AllocError, Global};
@@ -74,8 +76,10 @@ impl Text {
 
     /// Appends bytes, encoded.
     #[inline(always)]
+    #[tactic(auto, using(crate::proofs::lemmas::write::Visible::encoded_visible))]
     pub(crate) fn append_encoded(&mut self, bytes: &[u8], form: bool) -> Result<(), AllocError>
         ensures ok { OnOk result (self.new ≡ self.old ++ encoded form bytes.now) }
+        ensures visible { All IsVisible (encoded form bytes.now) }
     {
         make_room(&mut self.room, self.len, bytes.len().saturating_mul(3))?;
         self.len = encode_to(bytes, form, &mut self.room, self.len);

@@ -1,6 +1,6 @@
 -- No text of a boolean, a number or a character is empty, and several data are more than one.
-use Rattle.qs_data.proofs.Common.{◌≡◌, ℕ, ◌+◌, ◌<◌, ◌≤◌, ◌^◌, Bool, true, false, List, [], ◌∷◌, length, decimal, ℤ, pos, negsuc, Some, refl, sym, subst, arith, signed_decimal, length-encode, len_utf8_bounds, boolean_text, is_empty_text, is_one_empty, values_in, Data}
-use Rattle.std.proofs.lemmas.Fmt.{decimal_nonempty}
+use Rattle.qs_data.proofs.Common.{◌≡◌, ℕ, ◌+◌, ◌<◌, ◌≤◌, ◌^◌, Bool, true, false, List, [], ◌∷◌, length, decimal, ℤ, pos, negsuc, Some, refl, sym, subst, arith, length-encode, len_utf8_bounds, boolean_text, is_empty_text, is_one_empty, values_in, Data, decimal_nonempty}
+use Rattle.std.specs.Fmt.{signed_decimal}
 use Rattle.std.specs.Char.{encode_utf8}
 use Rattle.std.specs.Int.Signed.{mag}
 

@@ -1,6 +1,5 @@
 -- Lists of other lengths are not the same.
-use Rattle.qs_data.proofs.Common.{◌≡◌, ◌≢◌, suc, false, List, [], ◌∷◌, length, refl, ap, String, Global, Data, values_same, pairs_same, members_same, values_in, pairs_in, members_in}
-use Rattle.std.proofs.Math.Bool.{and-false}
+use Rattle.qs_data.proofs.Common.{◌≡◌, ◌≢◌, suc, false, List, [], ◌∷◌, length, refl, ap, String, Global, Data, values_same, pairs_same, members_same, values_in, pairs_in, members_in, and-false}
 
 pub other_items : (xs ys : List Data) → length xs ≢ length ys → values_same (values_in xs) (values_in ys) ≡ false
 other_items [] [] differ = absurd (differ refl)

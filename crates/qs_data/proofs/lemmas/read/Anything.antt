@@ -1,17 +1,7 @@
 -- What is read of whatever is there, as lists and maps are read.
-use Rattle.std.proofs.Common.{◌≡◌, ℕ, ◌+◌, Bool, true, false, cond, List, Option, Some, None, refl, sym, ap, ◌∙◌, inl, inr}
-use Rattle.std.proofs.lemmas.Bool.{cases_Bool}
-use Rattle.std.specs.Option.{option_map, option_and_then}
-use Rattle.qs_spec.specs.Data.{Data, Values, one_value, one_pair, values_of, pairs_of}
-use Rattle.qs_spec.specs.Scalar.{text_data}
-use Rattle.qs_spec.specs.Segment.{segment_text}
-use Rattle.qs_spec.specs.Shape.{KeyShape}
-use Rattle.qs_spec.specs.Tree.{Tree, Items, Entries}
-use Rattle.qs_spec.specs.Tree.Tree.{leaf, sequence, mapping, uninitialized}
-use Rattle.qs_spec.specs.Tree.Items.{no_items, item}
-use Rattle.qs_spec.specs.Tree.Entries.{no_entries, entry}
-use Rattle.qs_spec.specs.Node.{items, are_ints, sequence_items, placed, is_place}
-use Rattle.qs_spec.specs.internal.ReadFunction.{any_data, any_items, any_places, any_pairs, read_each, read_pairs, with_front}
+use Rattle.qs_data.proofs.Common.{◌≡◌, ℕ, ◌+◌, Bool, true, false, cond, List, Option, Some, None, refl, sym, ap, ◌∙◌, inl, inr, cases_Bool, option_map, option_and_then, Values, one_value, one_pair, values_of, pairs_of, text_data, segment_text, KeyShape, Tree, Items, Entries, sequence, mapping, no_items, item, no_entries, entry, items, are_ints, sequence_items, placed, is_place, any_items, any_places, any_pairs, read_each, read_pairs, with_front, same_Some}
+use Rattle.qs_spec.specs.Data.{Data}
+use Rattle.qs_spec.specs.internal.ReadFunction.{any_data}
 
 front_value : (d : Data) (r : Option (List Data)) → option_map (one_value d) (option_map values_of r) ≡ option_map values_of (with_front d r)
 front_value d None = refl
@@ -54,9 +44,6 @@ twice : {A B C : Type 0} (f : B → C) (g : A → B) (r : Option A) → option_m
 twice f g None = refl
 twice f g (Some x) = refl
 
-some_same : {A : Type 0} (a b : A) → Some a ≡ Some b → a ≡ b
-some_same a b h = cc
-
 abbrev pub is_list : Tree → Bool
 is_list (sequence xs) = true
 is_list (mapping es) = true
@@ -65,17 +52,16 @@ is_list _ = false
 -- a sequence, or a map whose keys are integers
 pub any_list : (t : Tree) (xs : List (Option Tree)) → is_list t ≡ true → items t ≡ Some xs → any_data t ≡ option_map (λ ds. Data.sequence (values_of ds)) (read_each any_data xs)
 unfolding any_data
-any_list (leaf l) xs w h = absurd cc
 any_list (sequence ys) xs w h =
-    let e : sequence_items ys ≡ xs = some_same (sequence_items ys) xs h in
+    let e : sequence_items ys ≡ xs = same_Some (sequence_items ys) xs h in
     ap (option_map Data.sequence) (anything_each ys) ∙ twice Data.sequence values_of (read_each any_data (sequence_items ys)) ∙ ap (λ zs. option_map (λ ds. Data.sequence (values_of ds)) (read_each any_data zs)) e
 any_list (mapping es) xs w h = elim (cases_Bool (are_ints es)) [
   | inl ints ↦
-      let e : placed 0 es ≡ xs = some_same (placed 0 es) xs (sym (rw ints) ∙ h) in
+      let e : placed 0 es ≡ xs = same_Some (placed 0 es) xs (sym (rw ints) ∙ h) in
       rw ints (ap (option_map Data.sequence) (anything_placed 0 es) ∙ twice Data.sequence values_of (read_each any_data (placed 0 es)) ∙ ap (λ zs. option_map (λ ds. Data.sequence (values_of ds)) (read_each any_data zs)) e)
   | inr not ↦ absurd (let e : None ≡ Some xs = sym (rw not) ∙ h in cc)
 ]
-any_list uninitialized xs w h = absurd cc
+any_list t xs w h = absurd cc
 
 -- another map
 pub any_map : (es : Entries) → are_ints es ≡ false → any_data (mapping es) ≡ option_map (λ ps. Data.mapping (pairs_of ps)) (read_pairs KeyShape.text any_data es)

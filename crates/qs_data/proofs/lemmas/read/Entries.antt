@@ -1,42 +1,26 @@
 -- The entries of a map, place by place.
-use Rattle.std.proofs.Common.{◌≡◌, ℕ, zero, suc, ◌+◌, ◌≤◌, Bool, true, false, cond, ◌&&◌, length, slice_get, Option, Some, None, Result, Ok, Err, refl, sym, ap, subst, ◌∙◌, arith, add-one, inl, inr}
-use Rattle.std.proofs.lemmas.Bool.{cases_Bool}
-use Rattle.std.specs.Result.{MatchResult, result_and}
-use Rattle.std.specs.Option.{option_and_then}
-use Rattle.std.specs.Str.{is_utf8}
-use Rattle.qs_spec.specs.Segment.{Segment, Step, segment_text}
-use Rattle.qs_spec.specs.Tree.{Tree, Entries}
-use Rattle.qs_spec.specs.Tree.Entries.{no_entries, entry}
-use Rattle.qs_spec.specs.Node.{keys_are_text}
-use Rattle.qs_tree.specs.tree.Views.{entry_list}
-use Rattle.qs_data.specs.read.TreeText.{is_text, entries_are_text}
-use Rattle.qs_data.specs.read.Keys.{NumbersFit, KeyFits, PassesTest}
-use Rattle.qs_data.specs.read.internal.Keys.{entries_after}
+use Rattle.qs_data.proofs.Common.{◌≡◌, ℕ, zero, suc, ◌+◌, ◌≤◌, Bool, true, false, cond, ◌&&◌, length, slice_get, Option, Some, None, Result, Ok, Err, refl, sym, ap, subst, ◌∙◌, arith, add-one, inl, inr, cases_Bool, MatchResult, result_and, option_and_then, is_utf8, Segment, Step, segment_text, Tree, Entries, no_entries, entry, keys_are_text, entry_list, is_text, entries_are_text, NumbersFit, KeyFits, PassesTest, entries_after, same_Some}
 use Rattle.qs_data.proofs.lemmas.read.Errors.{and_left, and_right}
 
-some_is : {A : Type 0} (a b : A) → Some a ≡ Some b → a ≡ b
-some_is a b h = cc
-
 pub after_some : (i : ℕ) (es : Entries) (x : Step × Tree) → slice_get (entry_list es) i ≡ Some x → entries_after i es ≡ entry x.0.seg x.0.mark x.1 (entries_after (i + 1) es)
-after_some zero no_entries x h = absurd cc
 after_some zero (entry k m t es) x h =
     let first : Step × Tree = (record { seg = k; mark = m }, t) in
-    let e : first ≡ x = some_is first x h in
+    let e : first ≡ x = same_Some first x h in
     ap (λ (y : Step × Tree). entry y.0.seg y.0.mark y.1 es) e
-after_some (suc i) no_entries x h = absurd cc
 after_some (suc i) (entry k m t es) x h = rw add-one (after_some i es x h ∙ rw add-one)
+after_some i es x h = absurd cc
 
 pub after_none : (i : ℕ) (es : Entries) → slice_get (entry_list es) i ≡ None → entries_after i es ≡ no_entries
-after_none zero no_entries h = refl
 after_none zero (entry k m t es) h = absurd cc
-after_none (suc i) no_entries h = refl
 after_none (suc i) (entry k m t es) h = after_none i es h
+after_none zero no_entries h = refl
+after_none (suc i) no_entries h = refl
 
 pub after_all : (i : ℕ) (es : Entries) → length (entry_list es) ≤ i → entries_after i es ≡ no_entries
-after_all zero no_entries h = refl
 after_all zero (entry k m t es) h = absurd (omega arith)
-after_all (suc i) no_entries h = refl
 after_all (suc i) (entry k m t es) h = after_all i es (omega arith)
+after_all zero no_entries h = refl
+after_all (suc i) no_entries h = refl
 
 -- a key that isn't a text stands among entries that aren't
 pub keys_bad : (es : Entries) → keys_are_text es ≡ false → entries_are_text es ≡ false

@@ -1,11 +1,6 @@
 -- An error of a part as the error of the whole.
-use Rattle.std.proofs.Common.{◌≡◌, ℕ, List, Bool, true, false, ◌&&◌, Option, None, refl, sym, Result, Ok, Err, subst}
-use Rattle.std.specs.Result.{IsErrAnd}
-use Rattle.std.specs.Str.{IsUtf8, is_utf8}
-use Rattle.std.proofs.lemmas.Str.{is_utf8-from_IsUtf8, IsUtf8-from_is_utf8}
-use Rattle.qs_tree.specs.declared.error.Error.{Error}
-use Rattle.qs_tree.specs.declared.error.Error.TheVariants.{Custom, MaxSerializationDepthExceeded, Parse, Unsupported, FromUtf8, Io, ParseInt, Utf8, OutOfMemory, Failed}
-use Rattle.qs_data.specs.read.Gives.{Gives, Rejects}
+use Rattle.qs_data.proofs.Common.{◌≡◌, ℕ, List, Bool, true, false, ◌&&◌, Option, None, refl, sym, Result, Ok, Err, subst, IsErrAnd, IsUtf8, is_utf8, is_utf8-from_IsUtf8, IsUtf8-from_is_utf8, Error, Custom, Utf8, Gives, Rejects}
+use Rattle.qs_tree.specs.declared.error.Error.TheVariants.{OutOfMemory}
 use Rattle.qs_data.specs.read.Errors.{IsCustomOrOutOfMemory}
 
 -- what is rejected of a part is rejected of the whole

@@ -1,23 +1,9 @@
 -- The fields of a struct, one after the other.
-use Rattle.std.proofs.Common.{◌≡◌, ℕ, zero, suc, ◌+◌, ◌<◌, ◌≤◌, add-one, arith, rules, string_bytes, Bool, false, ◌&&◌, List, [], ◌∷◌, map, Option, Some, None, drop, length, get_or, refl, sym, ap, ◌∙◌, inl, inr}
-use Rattle.std.specs.Option.{option_map, option_and_then}
-use Rattle.std.specs.Str.{bytes_eq, is_utf8}
-use Rattle.std.proofs.lemmas.Bool.{cases_Bool}
-use Rattle.std.proofs.lemmas.List.{drop_more}
-use Rattle.qs_spec.specs.Data.{Data, Named}
-use Rattle.qs_spec.specs.Segment.{segment_text}
-use Rattle.qs_spec.specs.Shape.{is_option}
-use Rattle.qs_spec.specs.Tree.{Tree, Items, Entries}
-use Rattle.qs_spec.specs.Tree.Items.{no_items, item}
-use Rattle.qs_spec.specs.Tree.Entries.{no_entries, entry}
-use Rattle.qs_spec.specs.Node.{found}
-use Rattle.qs_spec.specs.internal.ReadFunction.{Reader, reads, reads_names, reads_places, read_field, read_place, with_field, items_after}
-use Rattle.qs_tree.specs.tree.Views.{tree_of, items_from}
-use Rattle.qs_tree.specs.declared.tree.value.ParsedValue.{ParsedValue}
+use Rattle.qs_data.proofs.Common.{◌≡◌, ℕ, zero, suc, ◌+◌, ◌<◌, ◌≤◌, add-one, arith, rules, string_bytes, Bool, false, ◌&&◌, List, [], ◌∷◌, map, Option, Some, None, drop, length, get_or, refl, sym, ap, ◌∙◌, inl, inr, option_map, option_and_then, bytes_eq, is_utf8, cases_Bool, drop_more, Named, segment_text, is_option, Tree, Items, Entries, no_items, item, no_entries, entry, found, Reader, reads_names, reads_places, read_field, read_place, with_field, items_after, tree_of, items_from, ParsedValue, field_of, fields_in, shape_of, is_text, items_are_text, entries_are_text}
+use Rattle.qs_spec.specs.Data.{Data}
+use Rattle.qs_spec.specs.internal.ReadFunction.{reads}
 use Rattle.qs_data.specs.declared.shape.shape.Field as f
 use Rattle.qs_data.specs.declared.shape.shape.Field.{Field, out-Field}
-use Rattle.qs_data.specs.shape.Views.{field_of, fields_in, shape_of}
-use Rattle.qs_data.specs.read.TreeText.{is_text, items_are_text, entries_are_text}
 use Rattle.qs_data.proofs.lemmas.read.Errors.{and_left, and_right}
 use Rattle.qs_data.proofs.lemmas.read.Steps.{before}
 

@@ -1,16 +1,7 @@
 -- The first of the entries that are left.
-use Rattle.std.proofs.Common.{◌≡◌, ℕ, zero, suc, ◌+◌, ◌&&◌, Bool, true, false, cond, List, [], slice_get, Option, Some, None, refl, sym, ap, ◌∙◌}
+use Rattle.qs_data.proofs.Common.{◌≡◌, ℕ, zero, suc, ◌+◌, ◌&&◌, Bool, true, false, cond, List, [], slice_get, Option, Some, None, refl, sym, ap, ◌∙◌, is_utf8, Step, segment_text, Tree, Entries, no_entries, entry, keys_are_text, under_empty, entry_list, first_entry, entries_are_text, is_text, utf8_text, and-true}
 use Rattle.std.specs.Prelude.{if◌then◌else◌}
-use Rattle.std.proofs.lemmas.Bool.{false≢true}
-use Rattle.std.specs.Str.{is_utf8}
-use Rattle.qs_spec.specs.Segment.{Step, segment_text}
-use Rattle.qs_spec.specs.Tree.{Tree, Entries}
-use Rattle.qs_spec.specs.Tree.Entries.{no_entries, entry}
-use Rattle.qs_spec.specs.Node.{keys_are_text, under_empty}
-use Rattle.qs_tree.specs.tree.Views.{entry_list}
-use Rattle.qs_data.specs.read.Entries.{entries_after, first_entry}
-use Rattle.qs_data.specs.read.TreeText.{entries_are_text, is_text}
-use Rattle.qs_data.specs.read.internal.GivenText.{utf8_text}
+use Rattle.qs_data.specs.read.Entries.{entries_after}
 use Rattle.qs_data.proofs.lemmas.read.Entries.{after_none, after_some}
 use Rattle.qs_data.proofs.lemmas.read.Errors.{and_left, and_right}
 use Rattle.qs_data.proofs.lemmas.read.Numbers.{empty_text}
@@ -58,9 +49,5 @@ pub lone_end : (i : ℕ) (t : Tree) → (i ≡ 0 → ⊥) → first_entry (entri
 lone_end zero t h = absurd (h refl)
 lone_end (suc i) t h = nothing_after i
 
-not_both : (b : Bool) → (b && true) ≡ false → b ≡ false
-not_both true h = absurd (false≢true (sym h))
-not_both false h = refl
-
 pub lone_bad : (t : Tree) → entries_are_text (under_empty t) ≡ false → is_text t ≡ false
-lone_bad t h = not_both (is_text t) (sym (ap (λ b. (b && is_text t) && true) empty_text) ∙ h)
+lone_bad t h = sym (and-true (is_text t)) ∙ sym (ap (λ b. (b && is_text t) && true) empty_text) ∙ h

@@ -1,33 +1,13 @@
 -- The items of a node, place by place.
-use Rattle.std.proofs.Common.{◌++◌, inl, inr, append-nil, ◌≡◌, ℕ, zero, suc, ◌+◌, ◌≤◌, ◌&&◌, Bool, true, false, cond, List, [], ◌∷◌, map, drop, length, slice_get, Option, Some, None, refl, sym, ap, ◌∙◌, arith}
-use Rattle.std.proofs.lemmas.List.{drop_all}
-use Rattle.std.proofs.lemmas.Bool.{cases_Bool, false≢true}
-use Rattle.qs_spec.specs.Segment.{Step}
-use Rattle.qs_spec.specs.Tree.{Tree, Items, Entries}
-use Rattle.qs_spec.specs.Tree.Items.{no_items, item}
-use Rattle.qs_spec.specs.Tree.Entries.{no_entries, entry}
-use Rattle.qs_spec.specs.Node.{sequence_items, placed, is_place, is_int, are_ints}
-use Rattle.std.specs.declared.alloc.Global.{Global}
+use Rattle.qs_data.proofs.Common.{◌++◌, inl, inr, append-nil, ◌≡◌, ℕ, zero, suc, ◌+◌, ◌≤◌, ◌&&◌, Bool, true, false, cond, List, [], ◌∷◌, map, drop, length, slice_get, Option, Some, None, refl, sym, ap, ◌∙◌, arith, drop_all, cases_Bool, false≢true, Step, Tree, Items, Entries, no_items, item, no_entries, entry, sequence_items, placed, is_place, is_int, are_ints, Global, tree_of, items_from, entry_list, segment_of_key, ParsedValue, option_map, option_and_then, items, Reader, read_each, with_front, leaf, sequence, mapping, uninitialized, is_utf8, segment_text, entries_after, first_item, are_text, passed, is_text, items_are_text, entries_are_text, and-true, same_Some}
 use Rattle.std.specs.declared.borrow.CowSlice.{CowSlice}
 use Rattle.std.specs.declared.borrow.CowSlice.TheVariants.{Borrowed, Owned}
 use Rattle.qs_tree.specs.declared.tree.key.Key.{Key}
 use Rattle.qs_tree.specs.declared.tree.key.Key.TheVariants as key
-use Rattle.qs_tree.specs.tree.Views.{tree_of, items_from, entry_list, segment_of_key}
-use Rattle.qs_tree.specs.declared.tree.value.ParsedValue.{ParsedValue}
 use Rattle.std.specs.Borrow.{Bor}
 use Rattle.std.specs.Slice.{IsItemAt}
-use Rattle.std.specs.Option.{option_map, option_and_then}
 use Rattle.qs_spec.specs.Data.{Data}
-use Rattle.qs_spec.specs.Node.{items}
-use Rattle.qs_spec.specs.internal.ReadFunction.{Reader, read_each, with_front}
 use Rattle.qs_spec.specs.Leaf.Leaf.{NoValue, Null, Text}
-use Rattle.qs_spec.specs.Tree.Tree.{leaf, sequence, mapping, uninitialized}
-use Rattle.std.specs.Str.{is_utf8}
-use Rattle.qs_spec.specs.Segment.{segment_text}
-use Rattle.qs_data.specs.read.internal.Keys.{entries_after}
-use Rattle.qs_data.specs.read.Items.{first_item, are_text}
-use Rattle.qs_data.specs.read.internal.Keys.{passed}
-use Rattle.qs_data.specs.read.TreeText.{is_text, items_are_text, entries_are_text}
 use Rattle.qs_data.proofs.lemmas.read.Errors.{and_left, and_right}
 use Rattle.qs_data.proofs.lemmas.read.Fields.{item_at, no_item_at}
 use Rattle.qs_data.proofs.lemmas.read.Steps.{before, before-front}
@@ -104,12 +84,10 @@ item_first ts i (Some v) h = ap first_item (each_at i ts ∙ ap sequence_items (
 
 -- an item that isn't all text stands among items that aren't
 pub due_bad : (i : ℕ) (xs : List (Option Tree)) (t : Tree) → first_item (drop i xs) ≡ Some (Some t) → is_text t ≡ false → are_text xs ≡ false
-due_bad zero [] t h n = absurd cc
-due_bad zero (None ∷ xs) t h n = absurd cc
 due_bad zero (Some u ∷ xs) t h n = let e : u ≡ t = cc in and_left (is_text u) (are_text xs) (ap is_text e ∙ n)
-due_bad (suc i) [] t h n = absurd cc
 due_bad (suc i) (None ∷ xs) t h n = due_bad i xs t h n
 due_bad (suc i) (Some u ∷ xs) t h n = and_right (is_text u) (are_text xs) (due_bad i xs t h n)
+due_bad i xs t h n = absurd cc
 
 -- items that aren't all text stand in a node that isn't
 each_bad : (xs : Items) → are_text (sequence_items xs) ≡ false → items_are_text xs ≡ false
@@ -135,34 +113,26 @@ placed_bad i (entry k m t es) n = elim (cases_Bool (is_place i k)) [
       and_right (is_utf8 (segment_text k) && is_text t) (entries_are_text es) (placed_bad (i + 1) es rest)
 ]
 
-not_both : (b : Bool) → (b && true) ≡ false → b ≡ false
-not_both true h = absurd (false≢true (sym h))
-not_both false h = refl
-
-some_same : {A : Type 0} (a b : A) → Some a ≡ Some b → a ≡ b
-some_same a b h = cc
-
 pub items_bad : (t : Tree) (xs : List (Option Tree)) → items t ≡ Some xs → are_text xs ≡ false → is_text t ≡ false
-items_bad (leaf NoValue) xs h n = let e : [] ≡ xs = some_same [] xs h in absurd (false≢true (sym n ∙ ap are_text (sym e)))
-items_bad (leaf Null) xs h n = let e : [] ≡ xs = some_same [] xs h in absurd (false≢true (sym n ∙ ap are_text (sym e)))
+items_bad (leaf NoValue) xs h n = let e : [] ≡ xs = same_Some [] xs h in absurd (false≢true (sym n ∙ ap are_text (sym e)))
+items_bad (leaf Null) xs h n = let e : [] ≡ xs = same_Some [] xs h in absurd (false≢true (sym n ∙ ap are_text (sym e)))
 items_bad (leaf (Text b m)) xs h n =
-    let one : Some (leaf (Text b m)) ∷ [] ≡ xs = some_same _ xs h in
-    let both : (is_utf8 b && true) ≡ false = ap are_text one ∙ n in
-    not_both (is_utf8 b) both
-items_bad (sequence ys) xs h n = let e : sequence_items ys ≡ xs = some_same _ xs h in each_bad ys (ap are_text e ∙ n)
+    let one : Some (leaf (Text b m)) ∷ [] ≡ xs = same_Some _ xs h in
+    sym (and-true (is_utf8 b)) ∙ ap are_text one ∙ n
+items_bad (sequence ys) xs h n = let e : sequence_items ys ≡ xs = same_Some _ xs h in each_bad ys (ap are_text e ∙ n)
 items_bad (mapping es) xs h n = elim (cases_Bool (are_ints es)) [
-  | inl ints ↦ let e : placed 0 es ≡ xs = some_same _ xs (sym (rw ints) ∙ h) in placed_bad 0 es (ap are_text e ∙ n)
+  | inl ints ↦ let e : placed 0 es ≡ xs = same_Some _ xs (sym (rw ints) ∙ h) in placed_bad 0 es (ap are_text e ∙ n)
   | inr not ↦ absurd (let e : None ≡ Some xs = sym (rw not) ∙ h in cc)
 ]
 items_bad uninitialized xs h n = absurd cc
 
 -- one more item of a list
 pub first_some : (xs : List (Option Tree)) (i : ℕ) (t : Tree) → first_item (drop i xs) ≡ Some (Some t) → drop i xs ≡ Some t ∷ drop (i + 1) xs
-first_some [] zero t h = absurd cc
-first_some (None ∷ xs) zero t h = absurd cc
 first_some (Some u ∷ xs) zero t h = let e : u ≡ t = cc in ap (λ y. Some y ∷ xs) e
-first_some [] (suc i) t h = absurd cc
 first_some (x ∷ xs) (suc i) t h = let e : suc i + 1 ≡ suc (i + 1) = omega arith in first_some xs i t h ∙ ap (λ m. Some t ∷ drop m (x ∷ xs)) (sym e)
+first_some (None ∷ xs) zero t h = absurd cc
+first_some [] zero t h = absurd cc
+first_some [] (suc i) t h = absurd cc
 
 first_end : (xs : List (Option Tree)) → first_item xs ≡ Some None → xs ≡ []
 first_end [] h = refl

@@ -1,25 +1,11 @@
 -- What a map has under a name is found by two look-ups.
-use Rattle.std.proofs.Common.{◌≡◌, ℕ, ◌<◌, ◌^◌, true, false, List, [], ◌∷◌, ◌++◌, Option, Some, None, decimal, Less, Equal, Greater, refl, sym, ap, subst, ltb, ◌∙◌, inl, inr, arith}
-use Rattle.std.specs.Str.{bytes_eq}
-use Rattle.std.specs.Ordering.{is_eq}
+use Rattle.qs_data.proofs.Common.{◌≡◌, ℕ, ◌<◌, ◌^◌, true, false, List, [], ◌∷◌, ◌++◌, Option, Some, None, decimal, Less, Equal, Greater, refl, sym, ap, subst, ltb, ◌∙◌, inl, inr, arith, bytes_eq, is_eq, cases_Bool, false≢true, nat_tests, decimal_injective, Segment, is_same_segment, Tree, Entries, no_entries, entry, found, option_map, ParsedValue, find, tree_of, NumbersFit, value_in}
 use Rattle.std.specs.Cmp.{nat_cmp_is}
-use Rattle.std.proofs.lemmas.Bool.{cases_Bool, false≢true}
-use Rattle.std.proofs.lemmas.Bool.Decides.{nat_tests}
-use Rattle.std.proofs.lemmas.Fmt.{decimal_injective}
 use Rattle.std.proofs.lemmas.Map.Text.{is_eq-slice_cmp}
 use Rattle.std.proofs.lemmas.Slice.Eq.{bytes_eq-Decides}
-use Rattle.qs_spec.specs.Segment.{Segment, is_same_segment}
 use Rattle.qs_spec.specs.Segment.Segment.{Int, Str}
-use Rattle.qs_spec.specs.Tree.{Tree, Entries}
-use Rattle.qs_spec.specs.Tree.Entries.{no_entries, entry}
-use Rattle.qs_spec.specs.Node.{found}
-use Rattle.std.specs.Option.{option_map}
 use Rattle.std.specs.Borrow.{Bor}
-use Rattle.qs_tree.specs.declared.tree.value.ParsedValue.{ParsedValue}
-use Rattle.qs_tree.specs.tree.Views.{find, tree_of}
 use Rattle.qs_tree.specs.tree.Ordered.{IsBefore, AreOrdered}
-use Rattle.qs_data.specs.read.Keys.{NumbersFit}
-use Rattle.qs_data.specs.read.internal.Keys.{value_in}
 
 -- what comes after a key is not that key
 absent : (s : Segment) (es : Entries) → IsBefore s es → find s es ≡ None

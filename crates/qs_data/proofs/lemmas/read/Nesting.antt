@@ -1,35 +1,11 @@
 -- Lists and maps that are being read, one within the other.
-use Rattle.std.proofs.Common.{◌≡◌, ℕ, suc, ◌+◌, ◌*◌, ◌<◌, ◌≤◌, ◌&&◌, Bool, true, false, List, [], ◌∷◌, ◌++◌, slice_get, drop, map, Option, Some, None, refl, sym, ap, ◌∙◌, subst, arith, inl, inr, Result, Ok, Err, Vec}
-use Rattle.std.proofs.lemmas.Bool.{cases_Bool}
-use Rattle.std.proofs.lemmas.List.Elements.{All-push, All-pop}
-use Rattle.std.specs.List.{All}
-use Rattle.std.specs.Option.{option_map, option_and_then}
-use Rattle.std.specs.Str.{is_utf8}
-use Rattle.std.specs.Result.{IsErrAnd}
-use Rattle.std.specs.declared.alloc.Global.{Global}
-use Rattle.qs_spec.specs.Data.{Data, values_of, pairs_of}
-use Rattle.qs_spec.specs.Scalar.{key_data}
-use Rattle.qs_spec.specs.Segment.{Step, segment_text}
-use Rattle.qs_spec.specs.Shape.{KeyShape}
-use Rattle.qs_spec.specs.Tree.{Tree, Entries}
-use Rattle.qs_spec.specs.Tree.Tree.{leaf, sequence, mapping, uninitialized}
-use Rattle.qs_spec.specs.Tree.Entries.{entry}
-use Rattle.qs_spec.specs.Node.{items, are_ints, placed, sequence_items}
-use Rattle.qs_spec.specs.internal.ReadFunction.{any_data, read_each, read_pairs, with_front}
-use Rattle.qs_data.specs.declared.read.error.ReadError.{ReadError}
-use Rattle.qs_tree.specs.tree.Views.{entries_of_map, entry_list}
+use Rattle.qs_data.proofs.Common.{◌≡◌, ℕ, suc, ◌+◌, ◌*◌, ◌<◌, ◌≤◌, ◌&&◌, Bool, true, false, List, [], ◌∷◌, ◌++◌, slice_get, drop, map, Option, Some, None, refl, sym, ap, ◌∙◌, subst, arith, inl, inr, Result, Ok, Err, Vec, cases_Bool, All-push, All-pop, All, option_map, option_and_then, is_utf8, IsErrAnd, Global, values_of, pairs_of, key_data, Step, segment_text, KeyShape, Tree, Entries, sequence, mapping, entry, items, are_ints, placed, sequence_items, any_data, read_each, read_pairs, with_front, ReadError, entries_of_map, entry_list, Begins, Enters, Advances, Extends, entries_left, frame_data, frame_after, frame_size, frame_is_text, list_begun, map_begun, ReadRejects, items_view, first_item, are_text, entries_after, tree_size, list_size, entries_size, data_of, pair_of, is_text, entries_are_text, same_Some}
+use Rattle.qs_spec.specs.Data.{Data}
 use Rattle.qs_data.specs.declared.data.data.Data as r
 use Rattle.qs_data.specs.declared.read.items.Items.{Items as Visited}
 use Rattle.qs_data.specs.declared.read.nested.MapFrame.{MapFrame}
 use Rattle.qs_data.specs.declared.read.nested.Frame.{Frame}
 use Rattle.qs_data.specs.declared.read.nested.Frame.TheVariants as frame
-use Rattle.qs_data.specs.read.internal.Nesting.{Begins, Enters, Advances, Extends, entries_left, frame_data, frame_after, frame_size, frame_is_text, list_begun, map_begun}
-use Rattle.qs_data.specs.read.internal.ReadError.{ReadRejects}
-use Rattle.qs_data.specs.read.Items.{items_view, first_item, are_text}
-use Rattle.qs_data.specs.read.internal.Keys.{entries_after}
-use Rattle.qs_data.specs.read.internal.Sizes.{tree_size, list_size, entries_size}
-use Rattle.qs_data.specs.data.Views.{data_of, pair_of}
-use Rattle.qs_data.specs.read.TreeText.{is_text, entries_are_text}
 use Rattle.qs_data.proofs.lemmas.read.Anything.{is_list, any_list, any_map}
 use Rattle.qs_data.proofs.lemmas.read.Entries.{after_some}
 use Rattle.qs_data.proofs.lemmas.read.Items.{first_some, items_bad}
@@ -118,24 +94,20 @@ module _ (es : Entries) (i : ℕ) (x : Step × Tree) (here : slice_get (entry_li
       ∙ ap (λ key. map_begun ws (option_and_then (λ k. option_and_then (λ d. with_front (k, d) rest) (any_data x.1)) key)) ha
       ∙ ap (λ o. map_begun ws (option_and_then (λ d. with_front (a, d) rest) o)) hd
 
-some_same : {A : Type 0} (a b : A) → Some a ≡ Some b → a ≡ b
-some_same a b h = cc
-
 -- a node is larger than its items
 pub listed_size : (t : Tree) (xs : List (Option Tree)) → is_list t ≡ true → items t ≡ Some xs → suc (list_size xs) ≤ tree_size t
-listed_size (leaf l) xs w h = absurd cc
 listed_size (sequence ys) xs w h =
-    let e : list_size (sequence_items ys) ≡ list_size xs = ap list_size (some_same (sequence_items ys) xs h) in
+    let e : list_size (sequence_items ys) ≡ list_size xs = ap list_size (same_Some (sequence_items ys) xs h) in
     let s = each_size ys in
     omega arith
 listed_size (mapping es) xs w h = elim (cases_Bool (are_ints es)) [
   | inl ints ↦
-      let e : list_size (placed 0 es) ≡ list_size xs = ap list_size (some_same (placed 0 es) xs (sym (rw ints) ∙ h)) in
+      let e : list_size (placed 0 es) ≡ list_size xs = ap list_size (same_Some (placed 0 es) xs (sym (rw ints) ∙ h)) in
       let s = placed_size 0 es in
       omega arith
   | inr not ↦ absurd (let e : None ≡ Some xs = sym (rw not) ∙ h in cc)
 ]
-listed_size uninitialized xs w h = absurd cc
+listed_size t xs w h = absurd cc
 
 -- a frame of all items of a list
 pub begins_list : (l : Frame) (t : Tree) (xs : List (Option Tree)) → is_list t ≡ true → items t ≡ Some xs

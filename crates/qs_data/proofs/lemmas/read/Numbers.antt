@@ -1,23 +1,12 @@
 -- What std reads as a number is what the definitions read.
-use Rattle.std.proofs.Common.{◌≡◌, ℕ, zero, suc, length, get_or, slice_index, ◌+◌, ◌-◌, ◌*◌, ◌^◌, ◌<◌, ◌≤◌, ◌⊎◌, inl, inr, Bool, true, false, cond, decimal, List, [], ◌∷◌, fold, Some, None, ℤ, pos, neg_ℤ, ◌≤ℤ◌, ◌<ℤ◌, w64, refl, sym, ap, ◌∙◌, subst, arith, rules, eqb}
-use Rattle.std.specs.List.{list_all}
-use Rattle.std.specs.Str.{IsAscii, is_utf8}
+use Rattle.qs_data.proofs.Common.{◌≡◌, ℕ, zero, suc, length, get_or, slice_index, ◌-◌, ◌^◌, ◌<◌, ◌≤◌, ◌⊎◌, inl, inr, Bool, true, false, cond, decimal, List, [], ◌∷◌, Some, None, ℤ, pos, neg_ℤ, ◌≤ℤ◌, ◌<ℤ◌, w64, refl, sym, ap, ◌∙◌, subst, arith, rules, eqb, IsAscii, is_utf8, option_map, IsAscii-decimal, decimal_is_IsNumeral, cases_Bool, false≢true, nat_tests, IsUtf8-from_ascii, is_utf8-from_IsUtf8, bits_of, number, is_numeral, numeral_up_to, unsigned_number, signed_number}
 use Rattle.std.specs.Str.Parse.{IsNumeral, digits_value, signed_digits_value, starts_with_minus, without_leading_plus, without_leading_sign}
 use Rattle.std.specs.Int.RustNames.{FitsSigned}
-use Rattle.std.specs.Option.{option_map}
 use Rattle.std.proofs.lemmas.Int.{ints}
-use Rattle.std.proofs.lemmas.Fmt.{IsAscii-decimal, decimal_is_IsNumeral}
-use Rattle.std.proofs.lemmas.Bool.{cases_Bool, false≢true}
-use Rattle.std.proofs.lemmas.Bool.Decides.{nat_tests}
-use Rattle.std.proofs.lemmas.Str.{IsUtf8-from_ascii, is_utf8-from_IsUtf8}
 use Rattle.qs_data.specs.declared.shape.width.Width.{Width}
-use Rattle.qs_data.specs.declared.shape.width.Width.TheVariants.{Bits8, Bits16, Bits32, Bits64}
-use Rattle.qs_data.specs.shape.Widths.{bits_of}
+use Rattle.qs_data.specs.declared.shape.width.Width.TheVariants.{Bits64}
 use Rattle.std.proofs.lemmas.Str.Ascii.{IsAscii-nil}
 use Rattle.qs_spec.proofs.Numerals.{AreDigits, numerals}
-use Rattle.qs_spec.specs.Escape.{is_between}
-use Rattle.qs_spec.specs.Segment.{number}
-use Rattle.qs_spec.specs.Scalar.{is_numeral, numeral_up_to, unsigned_number, signed_number}
 
 -- a numeral by the test is one by std
 numeral_holds : (ds : List ℕ) → is_numeral ds ≡ true → IsNumeral 10 ds

@@ -1,18 +1,6 @@
 -- The pairs of a map, one after the other.
-use Rattle.std.proofs.Common.{◌≡◌, ℕ, zero, suc, ◌+◌, ◌≤◌, ◌&&◌, false, List, [], ◌∷◌, ◌++◌, append-nil, slice_get, length, Option, Some, None, refl, ap, ◌∙◌}
-use Rattle.std.specs.Option.{option_and_then}
-use Rattle.std.specs.Str.{is_utf8}
+use Rattle.qs_data.proofs.Common.{◌≡◌, ℕ, zero, suc, ◌+◌, ◌≤◌, ◌&&◌, false, List, [], ◌∷◌, ◌++◌, append-nil, slice_get, length, Option, Some, None, refl, ap, ◌∙◌, option_and_then, is_utf8, key_data, Step, segment_text, KeyShape, Tree, Entries, no_entries, entry, under_empty, Reader, read_pairs, with_front, entry_list, entries_after, is_text, entries_are_text}
 use Rattle.qs_spec.specs.Data.{Data}
-use Rattle.qs_spec.specs.Scalar.{key_data}
-use Rattle.qs_spec.specs.Segment.{Step, segment_text}
-use Rattle.qs_spec.specs.Shape.{KeyShape}
-use Rattle.qs_spec.specs.Tree.{Tree, Entries}
-use Rattle.qs_spec.specs.Tree.Entries.{no_entries, entry}
-use Rattle.qs_spec.specs.Node.{under_empty}
-use Rattle.qs_spec.specs.internal.ReadFunction.{Reader, read_pairs, with_front}
-use Rattle.qs_tree.specs.tree.Views.{entry_list}
-use Rattle.qs_data.specs.read.internal.Keys.{entries_after}
-use Rattle.qs_data.specs.read.TreeText.{is_text, entries_are_text}
 use Rattle.qs_data.proofs.lemmas.read.Entries.{after_some, after_none, after_all}
 use Rattle.qs_data.proofs.lemmas.read.Errors.{and_left, and_right}
 use Rattle.qs_data.proofs.lemmas.read.Steps.{before, before-front}

@@ -1,21 +1,14 @@
 -- A reader returns data that are those of which the input was written.
-use Rattle.std.proofs.Common.{◌≡◌, true, false, inl, inr, List, Result, Ok, Err, subst}
-use Rattle.qs_spec.specs.Config.{Config, are_rejected}
+use Rattle.qs_data.proofs.Common.{◌≡◌, true, false, inl, inr, List, Result, Ok, Err, subst, Config, are_rejected, Entry, written, Error, Custom, Utf8, Data, data_of, Parsed, ReturnsData}
 use Rattle.qs_spec.specs.Data as d
 use Rattle.qs_spec.specs.Shape as s
 use Rattle.qs_spec.specs.Relation.{ReadsBy}
-use Rattle.qs_spec.specs.Entry.{Entry}
-use Rattle.qs_spec.specs.Written.{written}
 use Rattle.qs_spec.specs.ReadBack.{IsPlainFor, IsReadBack}
 use Rattle.qs_spec.specs.Same.{Same}
 use Rattle.qs_spec.proofs.TreeOf.{one_tree}
 use Rattle.qs_spec.proofs.DataRelatedIsRead.{one_data}
 use Rattle.qs_spec.proofs.WrittenBack as back
-use Rattle.qs_tree.specs.declared.error.Error.{Error}
-use Rattle.qs_tree.specs.declared.error.Error.TheVariants.{Custom, Utf8, OutOfMemory}
-use Rattle.qs_data.specs.declared.data.data.Data.{Data}
-use Rattle.qs_data.specs.data.Views.{data_of}
-use Rattle.qs_data.specs.read.Parsed.{Parsed, ReturnsData}
+use Rattle.qs_tree.specs.declared.error.Error.TheVariants.{OutOfMemory}
 use Rattle.qs_data.specs.read.ReadBack.{IsOrder, IsSame, ReadsBack}
 
 pub in_order : (config : Config) (shape : s.Shape) (x : d.Data) (es : List Entry) → s.is_distinct shape ≡ true → IsPlainFor config shape x → IsOrder config x es → IsReadBack config shape x (written config.form false es)

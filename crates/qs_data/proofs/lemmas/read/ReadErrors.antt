@@ -1,13 +1,7 @@
 -- An error of a part as the error of the whole, inside reading.
-use Rattle.std.proofs.Common.{◌≡◌, ℕ, List, Bool, false, Option, None, ◌∙◌, sym, Result, Ok, Err, subst, inl, inr}
-use Rattle.std.specs.Prelude.{◌==◌}
-use Rattle.std.specs.List.{list_any}
-use Rattle.std.specs.Result.{IsErrAnd}
-use Rattle.std.proofs.lemmas.Bool.{cases_Bool, MatchBool-at_true, MatchBool-at_false}
+use Rattle.qs_data.proofs.Common.{◌≡◌, ℕ, List, Bool, false, Option, None, ◌∙◌, sym, Result, Ok, Err, subst, inl, inr, ◌==◌, list_any, IsErrAnd, cases_Bool, MatchBool-at_true, MatchBool-at_false, ReadError, ReadGives, ReadRejects, ReadIsCustom, ReadSpares, ReadIsFrugal, error_of}
 use Rattle.qs_tree.specs.Error.{IsCustomSaying}
-use Rattle.qs_data.specs.declared.read.error.ReadError.{ReadError}
 use Rattle.qs_data.specs.declared.read.error.ReadError.TheVariants.{Custom, Utf8, OutOfMemory}
-use Rattle.qs_data.specs.read.internal.ReadError.{ReadGives, ReadRejects, ReadIsCustom, ReadSpares, ReadIsFrugal, error_of}
 use Rattle.qs_data.specs.read.internal.Hint.{IsKeyError, IsHinted, hinted_text}
 
 -- what is rejected of a part is rejected of the whole

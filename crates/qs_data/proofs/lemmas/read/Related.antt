@@ -1,18 +1,9 @@
 -- From the function of reading, of which the reader's own functions speak, to the relation, of which callers read.
-use Rattle.std.proofs.Common.{◌≡◌, true, Result, Ok, Err, None}
-use Rattle.qs_spec.specs.Config.{are_rejected}
-use Rattle.qs_spec.specs.Shape.{Shape, is_distinct}
+use Rattle.qs_data.proofs.Common.{◌≡◌, true, Result, Ok, Err, None, are_rejected, Shape, is_distinct, read_by, Error, Custom, Utf8, Data, data_of, is_text, Gives, Parsed, ReturnsData, SparesMemory}
 use Rattle.qs_spec.specs.Relation.{ReadsNothing}
-use Rattle.qs_spec.specs.internal.ReadFunction.{read_by}
 use Rattle.qs_spec.proofs.ReadingIsRelation.{related, none_related}
-use Rattle.qs_tree.specs.declared.error.Error.{Error}
-use Rattle.qs_tree.specs.declared.error.Error.TheVariants.{Custom, Utf8, OutOfMemory}
-use Rattle.qs_data.specs.declared.data.data.Data.{Data}
-use Rattle.qs_data.specs.data.Views.{data_of}
-use Rattle.qs_data.specs.read.TreeText.{is_text}
-use Rattle.qs_data.specs.read.Gives.{Gives}
+use Rattle.qs_tree.specs.declared.error.Error.TheVariants.{OutOfMemory}
 use Rattle.qs_data.specs.read.internal.Frugal.{IsFrugal}
-use Rattle.qs_data.specs.read.Parsed.{Parsed, ReturnsData, SparesMemory}
 
 nothing : (parsed : Parsed) (shape : Shape) → is_distinct shape ≡ true → read_by parsed.config shape parsed.tree ≡ None → ReadsNothing parsed.config shape parsed.tree
 nothing parsed shape dist = (none_related (are_rejected parsed.config.duplicates) shape parsed.tree dist).1

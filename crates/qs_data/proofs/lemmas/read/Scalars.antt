@@ -1,32 +1,16 @@
 -- What is read as a boolean, a number or a character of a text, and of the text that a scalar is read from.
-use Rattle.std.proofs.Common.{◌≡◌, ℕ, suc, ◌-◌, ◌≤◌, ◌⊎◌, inl, inr, Bool, true, false, ◌&&◌, cond, List, [], ◌∷◌, ◌++◌, append-nil, length, slice_get, map, codes, Option, Some, None, Result, refl, sym, ap, ◌∙◌, arith, rules}
-use Rattle.std.specs.Option.{option_map, option_and_then}
-use Rattle.std.specs.Str.{is_utf8, bytes_eq, chars, all_scalars, encode_utf8_all}
+use Rattle.qs_data.proofs.Common.{◌≡◌, ℕ, suc, ◌-◌, ◌≤◌, ◌⊎◌, inl, inr, Bool, true, false, cond, List, [], ◌∷◌, ◌++◌, append-nil, length, slice_get, map, codes, Option, Some, None, Result, refl, sym, ap, ◌∙◌, arith, rules, option_map, option_and_then, bytes_eq, all_scalars, encode_utf8_all, IsUtf8-from_is_utf8, chars_past_char, chars-nil, encodes-chars, scalars-chars, cases_Bool, false≢true, Tree, Items, leaf, sequence, no_items, item, boolean_data, unsigned_data, signed_data, character_data, only_character, last_item, item_text, read_scalar, tree_of, items_from, ParsedValue, ReadError, ReadGives, data_of, is_text, items_are_text, given_text, data_by_text, utf8_text}
+use Rattle.std.specs.Str.{is_utf8, chars}
 use Rattle.std.specs.Char.{IsScalar, encode_utf8}
-use Rattle.std.proofs.lemmas.Str.{IsUtf8-from_is_utf8, chars_past_char, chars-nil, encodes-chars, scalars-chars}
-use Rattle.std.proofs.lemmas.Bool.{cases_Bool, false≢true}
 use Rattle.std.proofs.lemmas.Slice.Eq.{bytes_eq-Decides}
 use Rattle.qs_spec.proofs.Booleans.{and_both}
 use Rattle.qs_spec.specs.Leaf.Leaf.{NoValue, Null, Text}
-use Rattle.qs_spec.specs.Tree.{Tree, Items}
-use Rattle.qs_spec.specs.Tree.Tree.{leaf, sequence, mapping, uninitialized}
-use Rattle.qs_spec.specs.Tree.Items.{no_items, item}
 use Rattle.qs_spec.specs.Data.{Data}
-use Rattle.qs_spec.specs.Scalar.{boolean_data, unsigned_data, signed_data, character_data, only_character}
-use Rattle.qs_spec.specs.Node.{last_item, item_text}
-use Rattle.qs_spec.specs.internal.ReadFunction.{read_scalar}
-use Rattle.qs_tree.specs.tree.Views.{tree_of, items_from}
-use Rattle.qs_tree.specs.declared.tree.value.ParsedValue.{ParsedValue}
 use Rattle.qs_data.proofs.lemmas.read.Numbers.{unsigned_text, signed_text}
-use Rattle.qs_data.specs.declared.read.error.ReadError.{ReadError}
-use Rattle.qs_data.specs.read.internal.ReadError.{ReadGives}
 use Rattle.qs_data.proofs.lemmas.read.Errors.{and_left, and_right}
 use Rattle.qs_data.proofs.lemmas.read.ReadErrors.{gives_as}
 use Rattle.qs_spec.specs.Leaf.{leaf_text}
-use Rattle.qs_data.specs.data.Views.{data_of}
 use Rattle.qs_data.specs.declared.data.data.Data as v
-use Rattle.qs_data.specs.read.TreeText.{is_text, items_are_text}
-use Rattle.qs_data.specs.read.internal.GivenText.{given_text, data_by_text, utf8_text}
 
 pub utf8_none : (b : List ℕ) → utf8_text b ≡ None → is_utf8 b ≡ false
 utf8_none b h = elim (cases_Bool (is_utf8 b)) [
@@ -49,29 +33,24 @@ scalar_is reject_duplicates empty get (sequence xs) o h = by_last (last_item rej
   by_last : (l : Option (List ℕ)) → option_map Some l ≡ Some o → option_and_then get l ≡ data_by_text empty get o
   by_last None k = absurd cc
   by_last (Some b) k = let e : Some b ≡ o = cc in ap (data_by_text empty get) e
-scalar_is reject_duplicates empty get (mapping es) o h = absurd cc
-scalar_is reject_duplicates empty get uninitialized o h = absurd cc
+scalar_is reject_duplicates empty get t o h = absurd cc
 
 item_bad : (t : Tree) (b : List ℕ) → item_text t ≡ Some b → is_utf8 b ≡ false → is_text t ≡ false
 item_bad (leaf l) b h n = let e : leaf_text l ≡ b = cc in ap is_utf8 e ∙ n
 item_bad t b h n = absurd cc
 
 last_bad : (reject_duplicates : Bool) (xs : Items) (b : List ℕ) → last_item reject_duplicates xs ≡ Some b → is_utf8 b ≡ false → items_are_text xs ≡ false
-last_bad reject_duplicates no_items b h n = absurd cc
 last_bad reject_duplicates (item t no_items) b h n = and_left (is_text t) true (item_bad t b h n)
-last_bad true (item t (item u xs)) b h n = absurd cc
 last_bad false (item t (item u xs)) b h n = and_right (is_text t) (items_are_text (item u xs)) (last_bad false (item u xs) b h n)
+last_bad reject_duplicates xs b h n = absurd cc
 
 pub scalar_bad : (reject_duplicates : Bool) (t : Tree) (b : List ℕ) → given_text reject_duplicates t ≡ Some (Some b) → is_utf8 b ≡ false → is_text t ≡ false
-scalar_bad reject_duplicates (leaf NoValue) b h n = absurd cc
-scalar_bad reject_duplicates (leaf Null) b h n = absurd cc
 scalar_bad reject_duplicates (leaf (Text c m)) b h n = let e : c ≡ b = cc in ap is_utf8 e ∙ n
 scalar_bad reject_duplicates (sequence xs) b h n = by_last (last_item reject_duplicates xs) refl h where
   by_last : (l : Option (List ℕ)) → last_item reject_duplicates xs ≡ l → option_map Some l ≡ Some (Some b) → items_are_text xs ≡ false
   by_last None e k = absurd cc
   by_last (Some c) e k = let same : c ≡ b = cc in last_bad reject_duplicates xs b (e ∙ ap Some same) n
-scalar_bad reject_duplicates (mapping es) b h n = absurd cc
-scalar_bad reject_duplicates uninitialized b h n = absurd cc
+scalar_bad reject_duplicates t b h n = absurd cc
 
 -- what is read of the text that a scalar is read from is read of the scalar
 pub scalar_gives : {X : Type 0} (view : X → Data) (reject_duplicates : Bool) (empty : Option Data) (get : List ℕ → Option Data) (t : Tree) (b : List ℕ) (x : Result X ReadError)

@@ -1,10 +1,5 @@
 -- What is in a tree is smaller.
-use Rattle.std.proofs.Common.{◌≡◌, ℕ, ◌+◌, ◌≤◌, Bool, true, false, cond, ◌∷◌, Some, None, refl, ap, arith}
-use Rattle.qs_spec.specs.Tree.{Items, Entries}
-use Rattle.qs_spec.specs.Tree.Items.{no_items, item}
-use Rattle.qs_spec.specs.Tree.Entries.{no_entries, entry}
-use Rattle.qs_spec.specs.Node.{sequence_items, placed, is_place}
-use Rattle.qs_data.specs.read.internal.Sizes.{tree_size, items_size, list_size, entries_size}
+use Rattle.qs_data.proofs.Common.{◌≡◌, ℕ, ◌+◌, ◌≤◌, Bool, true, false, cond, ◌∷◌, Some, None, refl, ap, arith, Items, Entries, no_items, item, no_entries, entry, sequence_items, placed, is_place, tree_size, items_size, list_size, entries_size}
 
 pub each_size : (xs : Items) → list_size (sequence_items xs) ≡ items_size xs
 each_size no_items = refl

@@ -1,7 +1,5 @@
 -- Steps of a loop that reads part by part.
-use Rattle.std.proofs.Common.{◌≡◌, List, [], ◌∷◌, ◌++◌, Option, Some, None, refl, sym, ap, append_assoc}
-use Rattle.std.specs.Option.{option_map}
-use Rattle.qs_spec.specs.internal.ReadFunction.{with_front}
+use Rattle.qs_data.proofs.Common.{◌≡◌, List, [], ◌∷◌, ◌++◌, Option, Some, None, refl, sym, ap, append_assoc, option_map, with_front}
 
 -- what was read, in front of what is read of the rest
 abbrev pub before : {A : Type 0} → List A → Option (List A) → Option (List A)

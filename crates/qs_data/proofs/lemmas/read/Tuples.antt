@@ -1,13 +1,8 @@
 -- The parts of a tuple, one after the other.
-use Rattle.std.proofs.Common.{◌≡◌, ℕ, Bool, ◌+◌, ◌<◌, List, [], ◌∷◌, ◌++◌, length, get_or, drop, Option, Some, None, sym, ap, ◌∙◌}
-use Rattle.std.proofs.lemmas.List.{drop_more}
-use Rattle.std.specs.Option.{option_and_then}
+use Rattle.qs_data.proofs.Common.{◌≡◌, ℕ, Bool, ◌+◌, ◌<◌, List, [], ◌∷◌, ◌++◌, length, get_or, drop, Option, Some, None, sym, ap, ◌∙◌, drop_more, option_and_then, Tree, reads_tuple, with_front, shape_of, shapes_in, first_item}
 use Rattle.qs_spec.specs.Data.{Data}
-use Rattle.qs_spec.specs.Tree.{Tree}
-use Rattle.qs_spec.specs.internal.ReadFunction.{reads, reads_tuple, with_front}
+use Rattle.qs_spec.specs.internal.ReadFunction.{reads}
 use Rattle.qs_data.specs.declared.shape.shape.Shape.{Shape}
-use Rattle.qs_data.specs.shape.Views.{shape_of, shapes_in}
-use Rattle.qs_data.specs.read.Items.{first_item}
 use Rattle.qs_data.proofs.lemmas.read.Items.{first_some}
 use Rattle.qs_data.proofs.lemmas.read.Steps.{before, before-front}
 

@@ -1,12 +1,5 @@
 -- Keys that are fields' names, one after the other.
-use Rattle.std.proofs.Common.{◌≡◌, ℕ, ◌+◌, ◌≤◌, Bool, true, false, ◌&&◌, length, slice_get, Some, None, refl, ap, ◌∙◌}
-use Rattle.qs_spec.specs.Segment.{Step, segment_text}
-use Rattle.qs_spec.specs.Shape.{Fields, is_field_name}
-use Rattle.qs_spec.specs.Tree.{Tree, Entries}
-use Rattle.qs_spec.specs.Node.{keys_are_names}
-use Rattle.qs_tree.specs.tree.Views.{entry_list}
-use Rattle.qs_data.specs.read.internal.Keys.{when}
-use Rattle.qs_data.specs.read.internal.Keys.{entries_after}
+use Rattle.qs_data.proofs.Common.{◌≡◌, ℕ, ◌+◌, ◌≤◌, Bool, true, false, ◌&&◌, length, slice_get, Some, None, refl, ap, ◌∙◌, Step, segment_text, Fields, is_field_name, Tree, Entries, keys_are_names, entry_list, when, entries_after}
 use Rattle.qs_data.proofs.lemmas.read.Entries.{after_some, after_none, after_all}
 use Rattle.qs_data.proofs.lemmas.read.Errors.{and_left}
 

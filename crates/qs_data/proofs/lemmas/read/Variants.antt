@@ -1,30 +1,12 @@
 -- The variant of a name.
-use Rattle.std.proofs.Common.{◌≡◌, ℕ, ◌+◌, ◌<◌, Bool, true, false, ◌&&◌, cond, List, ◌∷◌, Option, Some, None, drop, length, get_or, slice_get, refl, sym, ap, ◌∙◌, rules, inl, inr, string_bytes}
-use Rattle.std.specs.Option.{option_map, option_and_then}
-use Rattle.std.specs.Str.{bytes_eq}
-use Rattle.std.proofs.lemmas.Bool.{cases_Bool}
-use Rattle.std.proofs.lemmas.List.{drop_more}
-use Rattle.std.proofs.lemmas.Option.{slice_get-get_or}
-use Rattle.std.specs.Str.{is_utf8}
-use Rattle.std.proofs.lemmas.Bool.{false≢true}
-use Rattle.std.specs.declared.alloc.Global.{Global}
+use Rattle.qs_data.proofs.Common.{◌≡◌, ℕ, ◌+◌, ◌<◌, Bool, true, false, ◌&&◌, cond, List, ◌∷◌, Option, Some, None, drop, length, get_or, slice_get, refl, sym, ap, ◌∙◌, rules, inl, inr, string_bytes, option_map, option_and_then, bytes_eq, cases_Bool, drop_more, is_utf8, false≢true, Global, Segment, segment_text, Variants, no_variants, one_variant, Tree, Entries, mapping, entry, as_map, under_empty, reads_variant, reads_kind, unit_variant_data, is_unit_kind, tree_of, variant_of, variants_in, kind_of, is_text, entries_are_text, variant_named, slice_get-get_or}
 use Rattle.std.specs.declared.borrow.CowSlice.{CowSlice}
 use Rattle.std.specs.declared.borrow.CowSlice.TheVariants.{Borrowed, Owned}
 use Rattle.qs_spec.specs.Data.{Data}
-use Rattle.qs_spec.specs.Segment.{Segment, segment_text}
-use Rattle.qs_spec.specs.Shape.{Variants, no_variants, one_variant}
-use Rattle.qs_spec.specs.Tree.{Tree, Entries}
-use Rattle.qs_spec.specs.Tree.Tree.{mapping}
-use Rattle.qs_spec.specs.Tree.Entries.{entry}
-use Rattle.qs_spec.specs.Node.{as_map, under_empty}
-use Rattle.qs_spec.specs.internal.ReadFunction.{read_enum, reads, reads_variant, reads_kind, unit_variant_data, is_unit_kind}
-use Rattle.qs_tree.specs.tree.Views.{tree_of}
+use Rattle.qs_spec.specs.internal.ReadFunction.{read_enum, reads}
 use Rattle.qs_tree.specs.declared.tree.value.ParsedValue as value
 use Rattle.qs_data.specs.declared.shape.shape.Variant as v
 use Rattle.qs_data.specs.declared.shape.shape.Variant.{Variant, out-Variant}
-use Rattle.qs_data.specs.shape.Views.{variant_of, variants_in, kind_of}
-use Rattle.qs_data.specs.read.TreeText.{is_text, entries_are_text}
-use Rattle.qs_data.specs.shape.Variants.{variant_named}
 use Rattle.qs_data.proofs.lemmas.read.Numbers.{empty_text}
 use Rattle.qs_data.proofs.lemmas.read.Errors.{and_left, and_right}
 

@@ -8,18 +8,12 @@ bracketed form s = open_bytes form ++ (encoded form s ++ close_bytes form)
 
 brackets-append : (form : Bool) (path : Path) (s : List ℕ) → brackets_text form (path ++ s ∷ []) ≡ brackets_text form path ++ bracketed form s
 brackets-append form [] s = ap (λ t. open_bytes form ++ (encoded form s ++ t)) (append-nil (close_bytes form))
-brackets-append form (x ∷ path) s =
-    ap (λ t. open_bytes form ++ (encoded form x ++ (close_bytes form ++ t))) (brackets-append form path s)
-    ∙ sym (append_assoc (open_bytes form) (encoded form x ++ (close_bytes form ++ brackets_text form path)) (bracketed form s)
-    ∙ ap (λ t. open_bytes form ++ t) (append_assoc (encoded form x) (close_bytes form ++ brackets_text form path) (bracketed form s)
-    ∙ ap (λ t. encoded form x ++ t) (append_assoc (close_bytes form) (brackets_text form path) (bracketed form s))))
+brackets-append form (x ∷ path) s = rw (brackets-append form path s) (simp append_assoc)
 
 -- one more segment
 pub path_grown : (form : Bool) (path : Path) (s : List ℕ) → path_after form (path ++ s ∷ []) ≡ grown form (path_after form path) s
 path_grown form [] s = ap (λ t. 38 ∷ t) (append-nil (encoded form s))
-path_grown form (x ∷ path) s =
-    ap (λ t. 38 ∷ (encoded form x ++ t)) (brackets-append form path s)
-    ∙ ap (λ t. 38 ∷ t) (sym (append_assoc (encoded form x) (brackets_text form path) (bracketed form s)))
+path_grown form (x ∷ path) s = rw (brackets-append form path s) (simp append_assoc)
 
 -- without the last segment
 pub path_left : (form : Bool) (path : Path) (s : List ℕ) → take (length (path_after form path)) (path_after form (path ++ s ∷ [])) ≡ path_after form path

@@ -1,8 +1,7 @@
 -- Parts, one after another and one in another.
-use Rattle.qs_data.proofs.Common.{◌≡◌, refl, ℕ, List, sym, ◌∙◌, subst, Result, Ok, Err, IsErrAnd, Config, Path, nothing, Stop, OutOfMemory}
+use Rattle.qs_data.proofs.Common.{◌≡◌, refl, ℕ, List, sym, ◌∙◌, subst, Result, Ok, Err, IsErrAnd, Config, Path, nothing, Stop, OutOfMemory, Part, WritesPart, Leaves, both, under, state_of, WritesAt, IsBarred, LeavesAt}
 use Rattle.qs_data.specs.declared.write.writer.Writer.{Writer}
-use Rattle.qs_data.specs.write.Parts.{Part, WritesPart, Enters, Leaves, both, under, state_of}
-use Rattle.qs_data.specs.write.Writes.{WritesAt, IsBarred, LeavesAt}
+use Rattle.qs_data.specs.write.Parts.{Enters}
 use Rattle.qs_data.proofs.lemmas.write.Wrote.{writes_both, writes_first, writes_nothing, writes_same, some_none}
 use Rattle.qs_data.proofs.lemmas.write.Walk.{stays_out, writes_under, stops_under}
 

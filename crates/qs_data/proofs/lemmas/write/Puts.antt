@@ -1,5 +1,6 @@
 -- Several puts, one after another.
-use Rattle.qs_data.proofs.Common.{◌≡◌, ℕ, ◌+◌, ◌-◌, ◌<◌, ◌≤◌, Bool, List, ◌++◌, length, take, drop, Option, sym, ap, ◌∙◌, subst, arith, length-append, length-drop, drop-drop, take-add, take-append-add, take-append-le, flat_map-append, Appends-trans, Result, Ok, Err, IfErr, IsErrAnd, Appends, encoded, encoded_byte}
+use Rattle.qs_data.proofs.Common.{◌≡◌, ℕ, ◌+◌, ◌-◌, ◌<◌, ◌≤◌, Bool, List, ◌++◌, length, take, drop, Option, sym, ap, ◌∙◌, subst, arith, length-append, length-drop, drop-drop, take-add, take-append-add, take-append-le, flat_map-append, Appends-trans, Result, Ok, Err, IsErrAnd, Appends, encoded, encoded_byte}
+use Rattle.std.specs.Prelude.{IfErr}
 
 -- one more put, where the rest is what stands after the part that was taken
 pub put_step : (text rest next : List ℕ) (n : ℕ) (a b c : Option (List ℕ)) → length rest ≤ length text → rest ≡ drop (length text - length rest) text

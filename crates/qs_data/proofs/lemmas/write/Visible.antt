@@ -1,5 +1,6 @@
 -- What is encoded is visible.
-use Rattle.qs_data.proofs.Common.{suc, ◌+◌, ◌^◌, ℤ, pos, negsuc, ◌++◌, sym, ap, ◌∙◌, subst, ◌≡◌, ℕ, ◌<◌, Bool, true, false, ◌&&◌, leb, List, [], ◌∷◌, get_or, refl, arith, Fits, w8, All, AllByRecursion, list_all, decimal, signed_decimal, digits_decimal, agree_below_at, nat_tests, All-nil, All-cons, All-append, All-head, All-tail, All-from_get_or, encoded_byte, encoded, is_between, open_bytes, close_bytes, IsVisible}
+use Rattle.qs_data.proofs.Common.{suc, ◌+◌, ◌^◌, ℤ, pos, negsuc, ◌++◌, sym, ap, ◌∙◌, subst, ◌≡◌, ℕ, ◌<◌, Bool, true, false, ◌&&◌, leb, List, [], ◌∷◌, get_or, refl, arith, Fits, w8, All, AllByRecursion, list_all, decimal, digits_decimal, agree_below_at, nat_tests, All-nil, All-cons, All-append, All-head, All-tail, All-from_get_or, encoded_byte, encoded, is_between, open_bytes, close_bytes, IsVisible}
+use Rattle.std.specs.Fmt.{signed_decimal}
 use Rattle.std.specs.Int.Signed.{mag}
 use Rattle.qs_spec.proofs.Booleans.{and_both}
 use Rattle.qs_spec.proofs.Numerals.{AreDigits, numerals}
@@ -8,9 +9,9 @@ use Rattle.qs_spec.proofs.KeysBack.{encoded_digits}
 abbrev is_visible : ℕ → Bool
 is_visible b = leb 33 b && leb b 126
 
-encoded_byte_test : (form : Bool) (b : ℕ) → b < 256 → list_all is_visible (encoded_byte form b) ≡ true
-encoded_byte_test true b l = agree_below_at (λ b. list_all is_visible (encoded_byte true b)) (λ b. true) 256 b refl l
-encoded_byte_test false b l = agree_below_at (λ b. list_all is_visible (encoded_byte false b)) (λ b. true) 256 b refl l
+byte_visible : (form : Bool) (b : ℕ) → b < 256 → list_all is_visible (encoded_byte form b) ≡ true
+byte_visible true b l = agree_below_at (λ b. list_all is_visible (encoded_byte true b)) (λ b. true) 256 b refl l
+byte_visible false b l = agree_below_at (λ b. list_all is_visible (encoded_byte false b)) (λ b. true) 256 b refl l
 
 visible_of : (b : ℕ) → is_visible b ≡ true → IsVisible b
 visible_of b e = let h = and_both (leb 33 b) (leb b 126) e in (grind (arith, nat_tests), grind (arith, nat_tests))
@@ -25,7 +26,7 @@ IsByte b = b < 256
 encoded_all : (form : Bool) (bs : List ℕ) → All IsByte bs → All IsVisible (encoded form bs)
 encoded_all form [] h = All-nil IsVisible
 encoded_all form (b ∷ bs) h =
-    All-append IsVisible (encoded_byte form b) (encoded form bs) (all_visible (encoded_byte form b) (encoded_byte_test form b (All-head IsByte b bs h))) (encoded_all form bs (All-tail IsByte b bs h))
+    All-append IsVisible (encoded_byte form b) (encoded form bs) (all_visible (encoded_byte form b) (byte_visible form b (All-head IsByte b bs h))) (encoded_all form bs (All-tail IsByte b bs h))
 
 pub encoded_visible : (form : Bool) (bs : List ℕ) → ((k : ℕ) → Fits w8 (get_or bs k 0)) → All IsVisible (encoded form bs)
 encoded_visible form bs h = encoded_all form bs (All-from_get_or IsByte bs 0 (λ k l. omega (arith, h k)))

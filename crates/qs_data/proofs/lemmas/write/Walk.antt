@@ -1,11 +1,8 @@
 -- The entries of data, part by part.
-use Rattle.qs_data.proofs.Common.{◌≡◌, ℕ, ◌<◌, ◌≤◌, ◌+◌, cond, List, [], ◌∷◌, ◌++◌, length, drop, get_or, map, refl, sym, ap, ◌∙◌, Option, Result, Ok, Err, arith, rules, lt-ltb, string_bytes, Vec, ◌⊎◌, inl, inr, le-ltb, drop_more, String, Global, IsErrAnd, Config, ArrayFormat, element_segment, Path, Output, nothing, refused, and_then, too_deep, maybe_deeper, under_key, key_text, Walk, Stop, TooDeep, OutOfMemory, Data, data_of, values_in, pairs_in, members_in, StreamState, Stops}
-use Rattle.std.proofs.lemmas.List.{at_drop_all}
+use Rattle.qs_data.proofs.Common.{◌≡◌, ℕ, ◌<◌, ◌≤◌, ◌+◌, cond, List, [], ◌∷◌, ◌++◌, length, drop, get_or, map, refl, sym, ap, ◌∙◌, Option, Result, Ok, Err, arith, rules, lt-ltb, string_bytes, Vec, ◌⊎◌, inl, inr, le-ltb, drop_more, String, Global, IsErrAnd, Config, ArrayFormat, element_segment, Path, Output, nothing, refused, and_then, too_deep, maybe_deeper, under_key, key_text, Walk, Stop, TooDeep, OutOfMemory, Data, data_of, values_in, pairs_in, members_in, StreamState, Stops, at_drop_all, Part, under, elements_part, pairs_part, members_part, WritesAt, EntersAt, IsBarred, LeavesAt}
 use Rattle.qs_spec.specs.Data as d
 use Rattle.qs_spec.specs.Entry.{deeper, entries_at, elements_from, pair_entries, member_entries}
 use Rattle.qs_data.specs.declared.data.data.Data as r
-use Rattle.qs_data.specs.write.Parts.{Part, under, elements_part, pairs_part, members_part}
-use Rattle.qs_data.specs.write.Writes.{WritesAt, EntersAt, IsBarred, LeavesAt}
 use Rattle.qs_data.proofs.lemmas.data.Levels.{data_of_map}
 use Rattle.qs_data.proofs.lemmas.write.Wrote.{adds_nothing, some_none, writes_exit}
 
@@ -93,23 +90,21 @@ members_here limit format xs i x p name h is e =
 
 -- lists and maps that aren't empty
 
+filled : (limit : ℕ) (format : ArrayFormat) (p : Path) (make : d.Values → d.Data)
+    → ((v : d.Data) (vs : d.Values) → entries_at limit format (make (d.one_value v vs)) p ≡ elements_from limit format 0 (d.one_value v vs) p)
+    → (xs : List Data) → 0 < length xs → entries_at limit format (make (values_in xs)) p ≡ elements_from limit format 0 (values_in xs) p
+filled limit format p make by [] h = absurd (omega arith)
+filled limit format p make by (x ∷ xs) h = by (data_of x) (values_in xs)
+
 pub list_elements : (limit : ℕ) (format : ArrayFormat) (x : Data) (xs : Vec Data Global) (p : Path) → (x ≡ r.Seq xs) ⊎ (x ≡ r.Tuple xs) → 0 < length xs.items
     → entries_at limit format (data_of x) p ≡ elements_from limit format 0 (values_in xs.items) p
 unfolding entries_at
 list_elements limit format x xs p (inl is) some =
     let level : data_of (r.Seq xs) ≡ d.sequence (values_in xs.items) = search (rules, r.the_lemmas) in
-    ap (λ y. entries_at limit format (data_of y) p) is ∙ ap (λ y. entries_at limit format y p) level ∙ by xs.items some
-  where
-    by : (ys : List Data) → 0 < length ys → entries_at limit format (d.sequence (values_in ys)) p ≡ elements_from limit format 0 (values_in ys) p
-    by [] h = absurd (omega arith)
-    by (y ∷ ys) h = refl
+    ap (λ y. entries_at limit format (data_of y) p) is ∙ ap (λ y. entries_at limit format y p) level ∙ filled limit format p d.sequence (λ v vs. refl) xs.items some
 list_elements limit format x xs p (inr is) some =
     let level : data_of (r.Tuple xs) ≡ d.tuple (values_in xs.items) = search (rules, r.the_lemmas) in
-    ap (λ y. entries_at limit format (data_of y) p) is ∙ ap (λ y. entries_at limit format y p) level ∙ by xs.items some
-  where
-    by : (ys : List Data) → 0 < length ys → entries_at limit format (d.tuple (values_in ys)) p ≡ elements_from limit format 0 (values_in ys) p
-    by [] h = absurd (omega arith)
-    by (y ∷ ys) h = refl
+    ap (λ y. entries_at limit format (data_of y) p) is ∙ ap (λ y. entries_at limit format y p) level ∙ filled limit format p d.tuple (λ v vs. refl) xs.items some
 
 pub map_pairs : (limit : ℕ) (format : ArrayFormat) (x : Data) (xs : Vec (Data × Data) Global) (p : Path) → x ≡ r.Map xs → 0 < length xs.items
     → entries_at limit format (data_of x) p ≡ pair_entries limit format (pairs_in xs.items) p

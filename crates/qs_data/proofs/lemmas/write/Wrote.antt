@@ -1,7 +1,5 @@
 -- Texts, one after another.
-use Rattle.qs_data.proofs.Common.{◌≡◌, ℕ, ◌+◌, Bool, List, [], ◌∷◌, ◌++◌, length, take, refl, sym, ap, ◌∙◌, subst, Option, Some, None, Result, Ok, Err, append_assoc, length-append, arith, take-append-add, take-append_seam, take-append-le, All-nil, All-append, Appends-nil, Appends-trans, ◌||◌, All, IsErrAnd, Appends, Config, Path, Entry, Output, follow, and_then, nothing, Refusal, too_deep, bad_key, entry_text, has_key, Walk, Stop, TooDeep, BadKey, Io, OutOfMemory, IsVisible, IsAt, StreamState, Adds, AddsSome, AddsPart, Stops, Writes}
-use Rattle.qs_data.specs.write.Parts.{Part, both}
-use Rattle.qs_data.specs.write.Writes.{WritesAt}
+use Rattle.qs_data.proofs.Common.{◌≡◌, ℕ, ◌+◌, Bool, List, [], ◌∷◌, ◌++◌, length, take, refl, sym, ap, ◌∙◌, subst, Option, Some, None, Result, Ok, Err, append_assoc, append-nil, length-append, arith, take-append-add, take-append_seam, take-append-le, All-nil, All-append, Appends-nil, Appends-trans, ◌||◌, All, IsErrAnd, Appends, Config, Path, Entry, Output, follow, and_then, nothing, Refusal, entry_text, has_key, Walk, Stop, Io, OutOfMemory, IsVisible, StreamState, Adds, AddsSome, AddsPart, Stops, Writes, Part, both, WritesAt}
 use Rattle.qs_spec.specs.Written.{written, started_after}
 
 pub written-append : (form s : Bool) (es fs : List Entry) → written form s (es ++ fs) ≡ written form s es ++ written form (started_after s es) fs
@@ -19,14 +17,10 @@ pub adds_nothing : (form : Bool) (t : StreamState) → Adds form t t []
 unfolding written started_after
 adds_nothing form t = record { text = Appends-nil t.taken; visible = All-nil IsVisible; started = refl; failed = refl; writer = refl }
 
--- what stands in the middle is what the first entries say
-middle : (form : Bool) (a b : StreamState) (es fs : List Entry) → Adds form a b es → written form b.started fs ≡ written form (started_after a.started es) fs
-middle form a b es fs p = ap (λ s. written form s fs) p.started
-
 pub adds_then : (form : Bool) (a b c : StreamState) (es fs : List Entry) → Adds form a b es → Adds form b c fs → Adds form a c (es ++ fs)
 adds_then form a b c es fs p q =
     let whole : written form a.started es ++ written form b.started fs ≡ written form a.started (es ++ fs) =
-    ap (λ t. written form a.started es ++ t) (middle form a b es fs p) ∙ sym (written-append form a.started es fs) in
+    ap (λ t. written form a.started es ++ t) (ap (λ s. written form s fs) p.started) ∙ sym (written-append form a.started es fs) in
     record {
       text = subst (Appends a.taken c.taken) whole (Appends-trans a.taken b.taken c.taken _ _ p.text q.text);
       visible = subst (All IsVisible) whole (All-append IsVisible _ _ p.visible q.visible);
@@ -35,39 +29,27 @@ adds_then form a b c es fs p q =
       writer = q.writer ∙ p.writer;
     }
 
-adds_part_then : (form : Bool) (a b c : StreamState) (es fs : List Entry) → Adds form a b es → AddsPart form b c fs → AddsPart form a c (es ++ fs)
-adds_part_then form a b c es fs p q =
+-- a beginning of entries that others precede and follow is one of all
+part_within : (form : Bool) (a b c : StreamState) (es fs gs : List Entry) → Adds form a b es → AddsPart form b c fs → AddsPart form a c (es ++ (fs ++ gs))
+part_within form a b c es fs gs p q =
     let A = written form a.started es in
     let B = written form b.started fs in
-    let whole : A ++ B ≡ written form a.started (es ++ fs) =
-    ap (λ t. A ++ t) (middle form a b es fs p) ∙ sym (written-append form a.started es fs) in
-    let part : A ++ take q.count B ≡ take (length A + q.count) (written form a.started (es ++ fs)) =
-    sym (take-append-add A B q.count) ∙ ap (take (length A + q.count)) whole in
+    let C = written form (started_after b.started fs) gs in
+    let whole : A ++ (B ++ C) ≡ written form a.started (es ++ (fs ++ gs)) =
+    ap (λ t. A ++ t) (sym (written-append form b.started fs gs) ∙ ap (λ s. written form s (fs ++ gs)) p.started) ∙ sym (written-append form a.started es (fs ++ gs)) in
+    let part : A ++ take q.count B ≡ take (length A + q.count) (written form a.started (es ++ (fs ++ gs))) =
+    ap (λ t. A ++ t) (sym (take-append-le q.count B C (omega (arith, q.proper)))) ∙ sym (take-append-add A (B ++ C) q.count) ∙ ap (take (length A + q.count)) whole in
     record {
       count = length A + q.count;
-      proper = omega (arith, q.proper, length-append A B, ap length whole);
+      proper = omega (arith, q.proper, length-append A (B ++ C), length-append B C, ap length whole);
       text = subst (Appends a.taken c.taken) part (Appends-trans a.taken b.taken c.taken _ _ p.text q.text);
       visible = subst (All IsVisible) part (All-append IsVisible _ _ p.visible q.visible);
       failed = q.failed;
       writer = q.writer ∙ p.writer;
     }
 
--- a beginning of the first entries is one of all
-part_more : (form : Bool) (a c : StreamState) (es fs : List Entry) → AddsPart form a c es → AddsPart form a c (es ++ fs)
-part_more form a c es fs q =
-    let A = written form a.started es in
-    let B = written form (started_after a.started es) fs in
-    let whole = written-append form a.started es fs in
-    let part : take q.count A ≡ take q.count (written form a.started (es ++ fs)) =
-    sym (take-append-le q.count A B (omega (arith, q.proper))) ∙ ap (take q.count) (sym whole) in
-    record {
-      count = q.count;
-      proper = omega (arith, q.proper, length-append A B, ap length whole);
-      text = subst (Appends a.taken c.taken) part q.text;
-      visible = subst (All IsVisible) part q.visible;
-      failed = q.failed;
-      writer = q.writer;
-    }
+adds_part_then : (form : Bool) (a b c : StreamState) (es fs : List Entry) → Adds form a b es → AddsPart form b c fs → AddsPart form a c (es ++ fs)
+adds_part_then form a b c es fs p q = subst (λ gs. AddsPart form a c (es ++ gs)) (append-nil fs) (part_within form a b c es fs [] p q)
 
 -- all of an output was written
 abbrev Wrote : Config → StreamState → StreamState → Output → Type 0
@@ -91,7 +73,7 @@ some_more form a c es None o h =
 some_more form a c es (Some s) o h = h
 
 part_follow : (form : Bool) (a c : StreamState) (es : List Entry) (r : Option Refusal) (o : Output) → AddsPart form a c es → AddsPart form a c (follow es r o).entries
-part_follow form a c es None o h = part_more form a c es o.entries h
+part_follow form a c es None o h = part_within form a a c [] es o.entries (adds_nothing form a) h
 part_follow form a c es (Some s) o h = h
 
 -- a stop in the first output

@@ -1,35 +1,15 @@
-use Rattle.std.proofs.Common.{◌≡◌, ◌+◌, ◌<◌, ◌++◌, ◌||◌, ◌∷◌, [], ap, sym, subst, ◌∙◌, length, slice_get, map, drop, true, false, Some, None, option_map, string_bytes, rules, arith}
-use Rattle.std.proofs.lemmas.Grind.{common_steps}
-use Rattle.std.specs.Str.{is_utf8}
-use Rattle.qs_spec.specs.Segment.{segment_text, Step}
-use Rattle.qs_spec.specs.Tree.Tree.{mapping}
-use Rattle.qs_spec.specs.Tree.Entries.{entry}
+use Rattle.qs_data.proofs.Common.{◌≡◌, ◌+◌, ◌<◌, ◌++◌, ◌||◌, ◌∷◌, [], ap, sym, subst, ◌∙◌, length, slice_get, map, drop, true, false, Some, None, option_map, string_bytes, rules, arith, common_steps, is_utf8, segment_text, Step, mapping, entry, are_ignored, Shape, no_items, found, as_map, under_empty, keys_are_text, keys_are_names, keys_are_allowed, items, reads_names, reads_places, reads_variant, reads_kind, read_enum, read_option, read_field, read_place, read_each, read_pairs, reads_tuple, tree_of, items_from, entries_of_map, step_of_key, data_of, named, pair_of, shape_of, field_of, fields_in, variant_of, variants_in, key_shape_of, shapes_in, is_text, items_are_text, entries_are_text, ReadGives, entries_view, entries_after, unknown_of, variant_named, key_data, Tree, false≢true, option_and_then, items_view, first_item, are_text}
 use Rattle.qs_spec.specs.Data as d
-use Rattle.qs_spec.specs.Shape.{is_option as is_option_shape, are_ignored, Shape}
-use Rattle.qs_spec.specs.Tree.Items.{no_items}
-use Rattle.qs_spec.specs.Node.{found, as_map, under_empty, keys_are_text, keys_are_names, keys_are_allowed, items}
-use Rattle.qs_spec.specs.internal.ReadFunction.{reads, reads_names, reads_places, reads_variant, reads_kind, read_enum, read_option, read_field, read_place, struct_members, read_each, read_list, read_pairs, reads_tuple}
-use Rattle.qs_tree.specs.tree.Views.{tree_of, items_from, entries_of_map, step_of_key}
+use Rattle.qs_spec.specs.Shape.{is_option as is_option_shape}
+use Rattle.qs_spec.specs.internal.ReadFunction.{reads, struct_members, read_list}
 use Rattle.qs_data.specs.declared.shape.shape.Shape as shape
 use Rattle.qs_data.specs.declared.shape.shape.Field.{out-Field}
-use Rattle.qs_data.specs.data.Views.{data_of, named, pair_of}
-use Rattle.qs_data.specs.shape.Views.{shape_of, field_of, fields_in, variant_of, variants_in, key_shape_of, shapes_in}
-use Rattle.qs_data.specs.read.TreeText.{is_text, items_are_text, entries_are_text}
-use Rattle.qs_data.specs.read.internal.ReadError.{ReadGives}
-use Rattle.qs_data.specs.read.Keys.{entries_view}
-use Rattle.qs_data.specs.read.internal.Keys.{entries_after, unknown_of}
-use Rattle.qs_data.specs.shape.Variants.{variant_named}
 use Rattle.qs_data.proofs.lemmas.data.Levels.{data_of_struct, data_of_struct_variant}
 use Rattle.qs_data.proofs.lemmas.read.Entries.{after_some, keys_bad, untested}
 use Rattle.qs_data.proofs.lemmas.read.Variants.{named_is, enum_none, enum_some, least_key_bad, least_value_bad, text_as_map, under_bad}
 use Rattle.qs_data.proofs.lemmas.read.Errors.{and_left}
 use Rattle.qs_data.proofs.lemmas.read.ReadErrors.{gives_exit, gives_as, custom, key_error}
 use Rattle.qs_data.specs.declared.read.error.ReadError.TheVariants.{Utf8}
-use Rattle.qs_spec.specs.Scalar.{key_data}
-use Rattle.qs_spec.specs.Tree.{Tree}
-use Rattle.std.proofs.lemmas.Bool.{false≢true}
-use Rattle.std.specs.Option.{option_and_then}
-use Rattle.qs_data.specs.read.Items.{items_view, first_item, are_text}
 use Rattle.qs_data.proofs.lemmas.read.Items.{items_bad, due_bad, each_more, each_unread, each_end, each_all}
 use Rattle.qs_data.proofs.lemmas.read.Tuples.{parts_more, parts_unread}
 use Rattle.qs_data.proofs.lemmas.read.Numbers.{empty_text}

@@ -1,11 +1,4 @@
-use Rattle.std.proofs.Common.{◌≡◌, map, drop}
-use Rattle.qs_spec.specs.internal.ReadFunction.{reads, read_each, read_pairs, reads_names, reads_places, reads_tuple}
-use Rattle.qs_tree.specs.tree.Views.{tree_of, items_from, entries_of_map}
-use Rattle.qs_data.specs.data.Views.{data_of, named, pair_of}
-use Rattle.qs_data.specs.shape.Views.{fields_in, key_shape_of, shape_of, shapes_in}
-use Rattle.qs_data.specs.read.Items.{items_view}
-use Rattle.qs_data.specs.read.Keys.{entries_view}
-use Rattle.qs_data.specs.read.internal.Keys.{entries_after}
+use Rattle.qs_data.proofs.Common.{◌≡◌, map, drop, reads, read_each, read_pairs, reads_names, reads_places, reads_tuple, tree_of, items_from, entries_of_map, data_of, named, pair_of, fields_in, key_shape_of, shape_of, shapes_in, items_view, entries_view, entries_after}
 use Rattle.qs_data.proofs.lemmas.read.Steps.{before}
 use Rattle.qs_data.proofs.read.+read.Given as goal
 

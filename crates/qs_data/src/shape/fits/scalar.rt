@@ -4,7 +4,7 @@ ghost use Rattle.std.specs.Prelude.{◌≡◌, map, string_bytes};
 ghost use Rattle.std.specs.List.{list_all};
 ghost use Rattle.std.specs.Str.{is_utf8};
 ghost use Rattle.qs_spec.specs.Shape as s;
-ghost use Rattle.qs_spec.specs.Fits.{fits, fits_key, fits_unsigned, fits_signed, is_scalar, is_byte};
+ghost use Rattle.qs_spec.specs.Fits.{fits, fits_key, is_scalar, is_byte};
 ghost use Rattle.qs_data.specs.data.Views.{data_of};
 ghost use Rattle.qs_data.specs.shape.Views.{key_shape_of};
 ghost use Rattle.qs_data.specs.shape.Widths.{bits_of};
@@ -34,16 +34,9 @@ pub(super) fn is_unsigned(width: Width, datum: &Data) -> bool
     ensures key { result ≡ fits_key (s.KeyShape.unsigned (bits_of width)) (data_of datum.now) }
 {
     match datum {
-        Data::Unsigned(n) => has_width(width, *n),
+        Data::Unsigned(n) => *n <= width.unsigned_max(),
         _ => false,
     }
-}
-
-// Returns whether an unsigned number has this width.
-fn has_width(width: Width, n: u64) -> bool
-    ensures { result ≡ fits_unsigned (bits_of width) n }
-{
-    n <= width.unsigned_max()
 }
 
 /// Returns whether data are a signed number of this width.
@@ -52,16 +45,9 @@ pub(super) fn is_signed(width: Width, datum: &Data) -> bool
     ensures key { result ≡ fits_key (s.KeyShape.signed (bits_of width)) (data_of datum.now) }
 {
     match datum {
-        Data::Signed(n) => has_signed_width(width, *n),
+        Data::Signed(n) => width.signed_min() <= *n && *n <= width.signed_max(),
         _ => false,
     }
-}
-
-// Returns whether a signed number has this width.
-fn has_signed_width(width: Width, n: i64) -> bool
-    ensures { result ≡ fits_signed (bits_of width) n }
-{
-    width.signed_min() <= n && n <= width.signed_max()
 }
 
 /// Returns whether data are a character.

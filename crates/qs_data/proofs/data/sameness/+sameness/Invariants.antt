@@ -10,14 +10,8 @@ decreases-same_items l = 3 * sum_by weight l.left.now + 2
 abbrev pub decreases-same_pairs : goal.decreases-same_pairs
 decreases-same_pairs l = 3 * sum_by pair_weight l.left.now + 2
 
-abbrev pub decreases-same_pair : goal.decreases-same_pair
-decreases-same_pair l = 3 * pair_weight l.left.now + 1
-
 abbrev pub decreases-same_members : goal.decreases-same_members
 decreases-same_members l = 3 * sum_by member_weight l.left.now + 2
-
-abbrev pub decreases-same_member : goal.decreases-same_member
-decreases-same_member l = 3 * member_weight l.left.now + 1
 
 abbrev pub invariant-same_items-loop-at : goal.invariant-same_items-loop-at
 invariant-same_items-loop-at l = values_same (values_in l.left) (values_in l.right) ≡ values_same (values_in (drop l.at l.left)) (values_in (drop l.at l.right))

@@ -1,8 +1,5 @@
-use Rattle.std.proofs.Common.{◌≡◌, suc, ◌+◌, ◌*◌, ◌<◌, List, [], ◌∷◌, ◌++◌, ap, sym, subst, ◌∙◌, Option, Some, Ok, arith}
-use Rattle.std.proofs.lemmas.Grind.{common_steps}
+use Rattle.qs_data.proofs.Common.{◌≡◌, suc, ◌+◌, ◌*◌, ◌<◌, List, [], ◌∷◌, ◌++◌, ap, sym, subst, ◌∙◌, Option, Some, Ok, arith, common_steps, Advances, frame_data, frame_is_text, frame_size, data_of}
 use Rattle.qs_data.specs.declared.read.nested.Frame.{Frame}
-use Rattle.qs_data.specs.read.internal.Nesting.{Advances, frame_data, frame_is_text, frame_size}
-use Rattle.qs_data.specs.data.Views.{data_of}
 use Rattle.qs_data.proofs.lemmas.read.Nesting.{Continues, frames_size, goes_in, smaller_in, goes_out, smaller_out, fails}
 use Rattle.qs_data.proofs.lemmas.read.ReadErrors.{gives_exit}
 use Rattle.qs_data.proofs.read.any.read_frame.Goals as goal

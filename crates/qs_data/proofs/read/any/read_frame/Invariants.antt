@@ -1,5 +1,4 @@
-use Rattle.std.proofs.Common.{suc, ◌+◌, ◌*◌}
-use Rattle.qs_data.specs.read.internal.Nesting.{frame_size}
+use Rattle.qs_data.proofs.Common.{suc, ◌+◌, ◌*◌, frame_size}
 use Rattle.qs_data.proofs.lemmas.read.Nesting.{Continues, frames_size}
 use Rattle.qs_data.proofs.read.any.read_frame.Given as goal
 

@@ -1,10 +1,4 @@
-use Rattle.std.proofs.Common.{sym, true, option_map, drop}
-use Rattle.qs_spec.specs.Segment.{Step}
-use Rattle.qs_spec.specs.Tree.{Tree}
-use Rattle.qs_spec.specs.Node.{is_place, placed}
-use Rattle.qs_tree.specs.tree.Views.{tree_of, entries_of_map, step_of_key}
-use Rattle.qs_data.specs.read.Items.{first_item}
-use Rattle.qs_data.specs.read.internal.Keys.{passed}
+use Rattle.qs_data.proofs.Common.{sym, true, option_map, drop, Step, Tree, is_place, placed, tree_of, entries_of_map, step_of_key, first_item, passed}
 use Rattle.qs_data.proofs.lemmas.read.Items.{first_none, first_rejected, first_given}
 use Rattle.qs_data.proofs.lemmas.read.ReadErrors.{gives_exit}
 use Rattle.qs_data.proofs.read.items.value_at.Goals as goal

@@ -1,7 +1,4 @@
-use Rattle.std.proofs.Common.{◌<◌, ◌^◌, Some, decimal, ap, ◌∙◌, sym, arith}
-use Rattle.qs_spec.specs.Segment.{segment_text}
-use Rattle.qs_tree.specs.tree.Views.{segment_of_key}
-use Rattle.qs_data.specs.read.internal.GivenText.{utf8_text}
+use Rattle.qs_data.proofs.Common.{◌<◌, ◌^◌, Some, decimal, ap, ◌∙◌, sym, arith, segment_text, segment_of_key, utf8_text}
 use Rattle.qs_data.proofs.lemmas.read.FirstEntry.{utf8_is}
 use Rattle.qs_data.proofs.lemmas.read.Numbers.{decimal_text}
 use Rattle.qs_data.proofs.read.key.key_text.Goals as goal

@@ -1,6 +1,4 @@
-use Rattle.std.proofs.Common.{◌≡◌, drop, map, string_bytes}
-use Rattle.std.specs.List.{list_any}
-use Rattle.std.specs.Str.{bytes_eq}
+use Rattle.qs_data.proofs.Common.{◌≡◌, drop, map, string_bytes, list_any, bytes_eq}
 use Rattle.qs_data.proofs.read.key.name_data.Given as goal
 
 abbrev pub invariant-loop-name : goal.invariant-loop-name

@@ -1,4 +1,4 @@
-use Rattle.std.proofs.Common.{arith}
+use Rattle.qs_data.proofs.Common.{arith}
 use Rattle.qs_data.proofs.lemmas.read.Numbers.{decimal_begins}
 use Rattle.qs_data.proofs.read.keys.begins_with_a_digit.Goals as goal
 

@@ -1,6 +1,4 @@
-use Rattle.std.proofs.Common.{◌++◌, [], Some, ap, ◌∙◌}
-use Rattle.qs_tree.specs.tree.Views.{tree_of}
-use Rattle.qs_data.specs.read.internal.Keys.{value_in}
+use Rattle.qs_data.proofs.Common.{◌++◌, [], Some, ap, ◌∙◌, tree_of, value_in}
 use Rattle.qs_data.proofs.read.keys.either.Goals as goal
 
 pub returns-in-Some-Some : goal.returns-in-Some-Some

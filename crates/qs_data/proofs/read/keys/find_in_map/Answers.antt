@@ -1,10 +1,6 @@
-use Rattle.std.proofs.Common.{◌≡◌, ◌++◌, List, sym, subst, ap, ◌∙◌}
-use Rattle.qs_spec.specs.Segment.{Step}
+use Rattle.qs_data.proofs.Common.{◌≡◌, ◌++◌, List, sym, subst, ap, ◌∙◌, Step, Tree, entries_of_map, segment_of_key, find, value_in}
 use Rattle.qs_spec.specs.Segment.Segment.{Int, Str}
-use Rattle.qs_spec.specs.Tree.{Tree}
-use Rattle.qs_tree.specs.tree.Views.{entries_of_map, segment_of_key, find}
 use Rattle.qs_data.specs.read.Found.{Finds}
-use Rattle.qs_data.specs.read.internal.Keys.{value_in}
 use Rattle.qs_data.proofs.lemmas.read.Lookups.{list, found_text, found_number, value_list}
 use Rattle.qs_data.proofs.read.keys.find_in_map.Goals as goal
 

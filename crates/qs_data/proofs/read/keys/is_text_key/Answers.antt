@@ -1,7 +1,4 @@
-use Rattle.std.proofs.Common.{◌<◌, ◌^◌, ap, sym, ◌∙◌, arith}
-use Rattle.std.specs.Str.{is_utf8}
-use Rattle.qs_spec.specs.Segment.{segment_text}
-use Rattle.qs_tree.specs.tree.Views.{segment_of_key}
+use Rattle.qs_data.proofs.Common.{◌<◌, ◌^◌, ap, sym, ◌∙◌, arith, is_utf8, segment_text, segment_of_key}
 use Rattle.qs_data.proofs.lemmas.read.Numbers.{decimal_text}
 use Rattle.qs_data.proofs.read.keys.is_text_key.Goals as goal
 

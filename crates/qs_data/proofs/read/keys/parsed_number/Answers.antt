@@ -1,6 +1,4 @@
-use Rattle.std.proofs.Common.{◌≡◌, Ok, decimal, sym, ap, ◌∙◌, arith}
-use Rattle.std.proofs.lemmas.Bool.{false≢true}
-use Rattle.std.proofs.lemmas.Fmt.{parse-decimal}
+use Rattle.qs_data.proofs.Common.{◌≡◌, Ok, decimal, sym, ap, ◌∙◌, arith, false≢true, parse-decimal}
 use Rattle.qs_data.proofs.lemmas.read.Lookups.{bytes_eq_same}
 use Rattle.qs_data.proofs.read.keys.parsed_number.Goals as goal
 

@@ -1,6 +1,4 @@
-use Rattle.std.proofs.Common.{ap, ◌&&◌, true, ◌∙◌}
-use Rattle.qs_spec.specs.Node.{keys_are_text}
-use Rattle.qs_data.specs.read.Keys.{entries_view}
+use Rattle.qs_data.proofs.Common.{ap, ◌&&◌, true, ◌∙◌, keys_are_text, entries_view}
 use Rattle.qs_data.proofs.lemmas.read.Numbers.{empty_text}
 use Rattle.qs_data.proofs.read.keys.test_keys.Goals as goal
 

@@ -1,7 +1,4 @@
-use Rattle.std.proofs.Common.{◌≡◌, ◌+◌, sym, subst, arith}
-use Rattle.qs_spec.specs.Tree.Entries.{entry}
-use Rattle.qs_tree.specs.tree.Views.{entries_of_map, step_of_key, tree_of}
-use Rattle.qs_data.specs.read.internal.Keys.{entries_after}
+use Rattle.qs_data.proofs.Common.{◌≡◌, ◌+◌, sym, subst, arith, entry, entries_of_map, step_of_key, tree_of, entries_after}
 use Rattle.qs_data.proofs.lemmas.read.Entries.{Tested, after_some, after_none, after_all, tested_all, tested_more, tested_done, fit_done}
 use Rattle.qs_data.proofs.read.keys.test_map.Goals as goal
 

@@ -1,5 +1,4 @@
-use Rattle.qs_tree.specs.tree.Views.{entries_of_map}
-use Rattle.qs_data.specs.read.internal.Keys.{entries_after}
+use Rattle.qs_data.proofs.Common.{entries_of_map, entries_after}
 use Rattle.qs_data.proofs.lemmas.read.Entries.{Tested}
 use Rattle.qs_data.proofs.read.keys.test_map.Given as goal
 

@@ -1,7 +1,4 @@
-use Rattle.std.proofs.Common.{◌≡◌, ap, sym, ◌∙◌, map, cond, Some, None, rules}
-use Rattle.qs_spec.specs.Tree.Tree.{sequence, mapping}
-use Rattle.qs_spec.specs.Node.{items, sequence_items, placed}
-use Rattle.qs_tree.specs.tree.Views.{tree_of, items_from, entries_of_map}
+use Rattle.qs_data.proofs.Common.{◌≡◌, ap, sym, ◌∙◌, map, cond, Some, None, rules, sequence, mapping, items, sequence_items, placed, tree_of, items_from, entries_of_map}
 use Rattle.qs_tree.specs.declared.tree.value.ParsedValue as value
 use Rattle.qs_data.proofs.lemmas.read.Anything.{is_list}
 use Rattle.qs_data.proofs.lemmas.read.Nesting.{begins_list, begins_map}

@@ -1,10 +1,4 @@
-use Rattle.std.proofs.Common.{rules}
-use Rattle.qs_spec.specs.internal.ReadFunction.{read_by}
-use Rattle.qs_tree.specs.tree.Views.{tree_of}
-use Rattle.qs_data.specs.data.Views.{data_of}
-use Rattle.qs_data.specs.shape.Views.{shape_of}
-use Rattle.qs_data.specs.read.TreeText.{is_text}
-use Rattle.qs_data.specs.read.Gives.{Gives}
+use Rattle.qs_data.proofs.Common.{rules, read_by, tree_of, data_of, shape_of, is_text, Gives}
 use Rattle.qs_data.proofs.lemmas.read.Related.{returns_data}
 use Rattle.qs_data.proofs.read.node.read_value.Goals as goal
 

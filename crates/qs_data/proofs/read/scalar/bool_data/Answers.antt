@@ -1,7 +1,4 @@
-use Rattle.std.specs.Str.{is_utf8}
-use Rattle.qs_spec.specs.Scalar.{boolean_data}
-use Rattle.qs_data.specs.data.Views.{data_of}
-use Rattle.qs_data.specs.read.internal.GivenText.{utf8_text}
+use Rattle.qs_data.proofs.Common.{is_utf8, boolean_data, data_of, utf8_text}
 use Rattle.qs_data.proofs.lemmas.read.ReadErrors.{gives_exit, frugal_exit}
 use Rattle.qs_data.proofs.lemmas.read.Scalars.{boolean_none}
 use Rattle.qs_data.proofs.read.scalar.bool_data.Goals as goal

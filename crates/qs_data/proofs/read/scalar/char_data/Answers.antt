@@ -1,5 +1,4 @@
-use Rattle.std.specs.Str.{is_utf8}
-use Rattle.qs_spec.specs.Scalar.{character_data}
+use Rattle.qs_data.proofs.Common.{is_utf8, character_data}
 use Rattle.qs_data.proofs.lemmas.read.ReadErrors.{custom, custom_spared}
 use Rattle.qs_data.proofs.lemmas.read.Scalars.{character_is, character_none}
 use Rattle.qs_data.proofs.read.scalar.char_data.Goals as goal

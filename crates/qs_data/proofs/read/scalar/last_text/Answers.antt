@@ -1,6 +1,4 @@
-use Rattle.std.proofs.Common.{true, sym, map}
-use Rattle.qs_spec.specs.Node.{last_item, item_text}
-use Rattle.qs_tree.specs.tree.Views.{tree_of, items_from}
+use Rattle.qs_data.proofs.Common.{true, sym, map, last_item, item_text, tree_of, items_from}
 use Rattle.qs_data.proofs.lemmas.read.ReadErrors.{gives_as, frugal_as}
 use Rattle.qs_data.proofs.lemmas.read.Scalars.{last_item_is}
 use Rattle.qs_data.proofs.read.scalar.last_text.Goals as goal

@@ -1,9 +1,5 @@
-use Rattle.std.proofs.Common.{◌≡◌, ◌∙◌, ap, [], Some, option_map}
+use Rattle.qs_data.proofs.Common.{◌≡◌, ◌∙◌, ap, [], Some, option_map, text_data, tree_of, data_of, given_text}
 use Rattle.qs_spec.specs.Data as d
-use Rattle.qs_spec.specs.Scalar.{text_data}
-use Rattle.qs_tree.specs.tree.Views.{tree_of}
-use Rattle.qs_data.specs.data.Views.{data_of}
-use Rattle.qs_data.specs.read.internal.GivenText.{given_text}
 use Rattle.qs_data.proofs.lemmas.read.Scalars.{scalar_gives}
 use Rattle.qs_data.proofs.read.scalar.read_text.Goals as goal
 

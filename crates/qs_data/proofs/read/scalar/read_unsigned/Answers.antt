@@ -1,9 +1,4 @@
-use Rattle.std.proofs.Common.{◌≡◌, ◌∙◌, ap, Some, None, option_map}
-use Rattle.qs_spec.specs.Scalar.{unsigned_data}
-use Rattle.qs_data.specs.shape.Widths.{bits_of}
-use Rattle.qs_tree.specs.tree.Views.{tree_of}
-use Rattle.qs_data.specs.data.Views.{data_of}
-use Rattle.qs_data.specs.read.internal.GivenText.{given_text}
+use Rattle.qs_data.proofs.Common.{◌≡◌, ◌∙◌, ap, Some, None, option_map, unsigned_data, bits_of, tree_of, data_of, given_text}
 use Rattle.qs_data.proofs.lemmas.read.Scalars.{scalar_gives}
 use Rattle.qs_data.proofs.read.scalar.read_unsigned.Goals as goal
 

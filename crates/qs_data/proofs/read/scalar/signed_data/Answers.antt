@@ -1,8 +1,4 @@
-use Rattle.std.specs.Str.{is_utf8}
-use Rattle.qs_spec.specs.Scalar.{signed_data}
-use Rattle.qs_data.specs.data.Views.{data_of}
-use Rattle.qs_data.specs.shape.Widths.{bits_of}
-use Rattle.qs_data.specs.read.internal.GivenText.{utf8_text}
+use Rattle.qs_data.proofs.Common.{is_utf8, signed_data, data_of, bits_of, utf8_text}
 use Rattle.qs_data.proofs.lemmas.read.ReadErrors.{gives_exit, frugal_exit}
 use Rattle.qs_data.proofs.lemmas.read.Scalars.{signed_none}
 use Rattle.qs_data.proofs.read.scalar.signed_data.Goals as goal

@@ -1,5 +1,4 @@
-use Rattle.std.proofs.Common.{◌≤◌, ◌<◌, ◌-◌, ◌^◌, sym, subst}
-use Rattle.qs_data.specs.shape.Widths.{bits_of}
+use Rattle.qs_data.proofs.Common.{◌≤◌, ◌<◌, ◌-◌, ◌^◌, sym, subst, bits_of}
 use Rattle.qs_data.proofs.lemmas.read.Numbers.{unsigned_ok, unsigned_past, unsigned_err, width_fits}
 use Rattle.qs_data.proofs.read.scalar.unsigned.Goals as goal
 

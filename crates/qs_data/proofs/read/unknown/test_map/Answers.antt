@@ -1,11 +1,4 @@
-use Rattle.std.proofs.Common.{ap, sym, ◌∙◌, arith}
-use Rattle.std.specs.Str.{is_utf8}
-use Rattle.qs_spec.specs.Segment.{segment_text}
-use Rattle.qs_spec.specs.Shape.{is_field_name}
-use Rattle.qs_spec.specs.Node.{keys_are_names}
-use Rattle.qs_tree.specs.tree.Views.{entries_of_map, step_of_key, tree_of}
-use Rattle.qs_data.specs.read.TreeText.{entries_are_text}
-use Rattle.qs_data.specs.read.internal.Keys.{when}
+use Rattle.qs_data.proofs.Common.{ap, sym, ◌∙◌, arith, is_utf8, segment_text, is_field_name, keys_are_names, entries_of_map, step_of_key, tree_of, entries_are_text, when}
 use Rattle.qs_data.proofs.lemmas.read.Pairs.{key_bad}
 use Rattle.qs_data.proofs.lemmas.read.ReadErrors.{gives_exit}
 use Rattle.qs_data.proofs.lemmas.read.Unknown.{passes, fails, name_more, name_fails, names_all, names_end}

@@ -1,7 +1,4 @@
-use Rattle.std.proofs.Common.{◌≡◌}
-use Rattle.qs_spec.specs.Node.{keys_are_names}
-use Rattle.qs_tree.specs.tree.Views.{entries_of_map}
-use Rattle.qs_data.specs.read.internal.Keys.{entries_after}
+use Rattle.qs_data.proofs.Common.{◌≡◌, keys_are_names, entries_of_map, entries_after}
 use Rattle.qs_data.proofs.read.unknown.test_map.Given as goal
 
 abbrev pub invariant-loop-i : goal.invariant-loop-i

@@ -1,6 +1,4 @@
-use Rattle.std.proofs.Common.{Some, ap, sym, ◌∙◌, arith}
-use Rattle.std.specs.Option.{option_map}
-use Rattle.std.specs.Str.{bytes_eq}
+use Rattle.qs_data.proofs.Common.{Some, ap, sym, ◌∙◌, arith, option_map, bytes_eq}
 use Rattle.qs_data.proofs.lemmas.read.Variants.{named_here, named_later}
 use Rattle.qs_data.proofs.read.variants.place_of.Goals as goal
 

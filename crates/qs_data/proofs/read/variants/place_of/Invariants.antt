@@ -1,6 +1,4 @@
-use Rattle.std.proofs.Common.{◌≡◌, drop}
-use Rattle.qs_data.specs.shape.Views.{variants_in}
-use Rattle.qs_data.specs.shape.Variants.{variant_named}
+use Rattle.qs_data.proofs.Common.{◌≡◌, drop, variants_in, variant_named}
 use Rattle.qs_data.proofs.read.variants.place_of.Given as goal
 
 abbrev pub invariant-loop-i : goal.invariant-loop-i

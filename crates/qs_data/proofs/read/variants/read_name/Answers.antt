@@ -1,15 +1,8 @@
-use Rattle.std.proofs.Common.{◌≡◌, false, cond, Some, None, ap, sym, ◌∙◌, rules, string_bytes}
-use Rattle.std.specs.Option.{option_map}
-use Rattle.std.specs.Str.{is_utf8}
+use Rattle.qs_data.proofs.Common.{◌≡◌, false, cond, Some, None, ap, sym, ◌∙◌, rules, string_bytes, option_map, is_utf8, unit_kind, unit_variant_data, is_unit_kind, data_of, kind_of, variants_in, variant_named}
 use Rattle.qs_spec.specs.Data as d
-use Rattle.qs_spec.specs.Shape.{unit_kind}
-use Rattle.qs_spec.specs.internal.ReadFunction.{unit_variant_data, is_unit_kind}
 use Rattle.qs_data.specs.declared.data.data.Data as data_type
 use Rattle.qs_data.specs.declared.shape.shape.VariantKind as kind
 use Rattle.qs_data.specs.declared.shape.shape.Variant.{out-Variant}
-use Rattle.qs_data.specs.data.Views.{data_of}
-use Rattle.qs_data.specs.shape.Views.{kind_of, variants_in}
-use Rattle.qs_data.specs.shape.Variants.{variant_named}
 use Rattle.qs_data.proofs.lemmas.read.ReadErrors.{gives_exit, custom}
 use Rattle.qs_data.proofs.lemmas.read.Variants.{named_is, unit_at, no_unit}
 use Rattle.qs_data.proofs.read.variants.read_name.Goals as goal

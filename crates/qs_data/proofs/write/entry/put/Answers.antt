@@ -1,4 +1,4 @@
-use Rattle.qs_data.proofs.Common.{◌≡◌, ◌∙◌, ◌++◌, [], ap, sym, refl, take, append-nil, or-false, or-true, Appends-nil, Appends-trans, ◌||◌, option_map, Config, encoded, one, value_text, OutOfMemory, scalar_text}
+use Rattle.qs_data.proofs.Common.{◌∙◌, ◌++◌, [], ap, sym, refl, take, append-nil, or-false, or-true, Appends-nil, Appends-trans, ◌||◌, option_map, encoded, one, OutOfMemory, scalar_text}
 use Rattle.qs_data.proofs.lemmas.write.Wrote.{writes_exit, some_none}
 use Rattle.qs_data.proofs.lemmas.write.Puts.{put_middle}
 use Rattle.qs_data.proofs.lemmas.write.Entry.{entry_shown, has_key_is, at_back, adds_one, io_stops}

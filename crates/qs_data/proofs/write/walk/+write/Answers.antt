@@ -1,5 +1,4 @@
-use Rattle.qs_data.proofs.Common.{sym, arith, length, ◌<◌, ◌+◌, refl, vec_len, eqb-false, Err, refused, bad_key, Data, BadKey, data_of, values_in, pairs_in, members_in, scalar_text}
-use Rattle.qs_data.specs.write.Parts.{data_part, elements_part, pairs_part, members_part, element, under}
+use Rattle.qs_data.proofs.Common.{sym, arith, length, ◌<◌, ◌+◌, refl, vec_len, eqb-false, Err, refused, bad_key, BadKey, data_of, values_in, pairs_in, members_in, scalar_text, data_part, elements_part, pairs_part, members_part, element, under}
 use Rattle.qs_data.proofs.lemmas.write.Wrote.{goes_on, ends_early, ends, adds_nothing}
 use Rattle.qs_data.proofs.lemmas.write.Walk.{stays_out, writes_under, stops_under, elements_left, pairs_left, members_left, elements_here_by, elements_end_by, pairs_here, pairs_end, members_here, members_end, list_elements, map_pairs, variant_elements}
 use Rattle.qs_data.proofs.write.walk.+write.Goals as goal

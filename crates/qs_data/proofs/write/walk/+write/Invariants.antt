@@ -1,5 +1,4 @@
-use Rattle.qs_data.proofs.Common.{Config, values_in, pairs_in, members_in, state_in}
-use Rattle.qs_data.specs.write.Parts.{elements_part, pairs_part, members_part}
+use Rattle.qs_data.proofs.Common.{Config, values_in, pairs_in, members_in, state_in, elements_part, pairs_part, members_part}
 use Rattle.qs_data.proofs.lemmas.write.Wrote.{Continues}
 use Rattle.qs_data.proofs.lemmas.write.Walk.{elements_left, pairs_left, members_left}
 use Rattle.qs_data.proofs.write.walk.+write.Given as goal

@@ -1,4 +1,4 @@
-use Rattle.qs_tree.specs.tree.Views.{tree_of}
+use Rattle.qs_data.proofs.Common.{tree_of}
 use Rattle.qs_data.proofs.lemmas.read.FirstEntry.{lone_bad}
 use Rattle.qs_data.proofs.read.by_shape.Reader.entries.Goals as goal
 

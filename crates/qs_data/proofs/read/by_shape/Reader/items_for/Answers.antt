@@ -1,5 +1,4 @@
-use Rattle.qs_tree.specs.tree.Views.{tree_of}
-use Rattle.qs_data.specs.read.Items.{items_view}
+use Rattle.qs_data.proofs.Common.{tree_of, items_view}
 use Rattle.qs_data.proofs.lemmas.read.Items.{items_bad}
 use Rattle.qs_data.proofs.read.by_shape.Reader.items_for.Goals as goal
 

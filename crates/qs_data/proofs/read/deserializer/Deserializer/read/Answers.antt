@@ -1,12 +1,5 @@
-use Rattle.std.proofs.Common.{◌≡◌, true, rules}
-use Rattle.qs_spec.specs.internal.ReadFunction.{read_by}
-use Rattle.qs_data.specs.data.Views.{data_of}
-use Rattle.qs_data.specs.shape.Views.{shape_of}
-use Rattle.qs_data.specs.read.TreeText.{is_text}
-use Rattle.qs_data.specs.read.Gives.{Gives}
+use Rattle.qs_data.proofs.Common.{◌≡◌, true, rules, read_by, data_of, shape_of, is_text, Gives, takes_no_memory, parsed_of}
 use Rattle.qs_data.specs.read.internal.Frugal.{IsFrugal}
-use Rattle.qs_data.specs.read.Parsed.{takes_no_memory}
-use Rattle.qs_data.specs.read.Parsed.{parsed_of}
 use Rattle.qs_data.proofs.lemmas.read.Related.{returns_data, spares_memory}
 use Rattle.qs_data.proofs.lemmas.read.ReadBack.{reads_back}
 use Rattle.qs_data.proofs.read.deserializer.Deserializer.read.Goals as goal

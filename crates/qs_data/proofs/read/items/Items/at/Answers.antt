@@ -1,5 +1,4 @@
-use Rattle.std.proofs.Common.{drop, ap, ◌∙◌}
-use Rattle.qs_data.specs.read.Items.{items_view, first_item}
+use Rattle.qs_data.proofs.Common.{drop, ap, ◌∙◌, items_view, first_item}
 use Rattle.qs_data.proofs.lemmas.read.Items.{item_first}
 use Rattle.qs_data.proofs.read.items.Items.at.Goals as goal
 

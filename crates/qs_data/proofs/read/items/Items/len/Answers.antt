@@ -1,6 +1,4 @@
-use Rattle.std.proofs.Common.{length, ap, sym, ◌∙◌}
-use Rattle.qs_tree.specs.tree.Views.{entries_of_map}
-use Rattle.qs_data.specs.read.Items.{items_view}
+use Rattle.qs_data.proofs.Common.{length, ap, sym, ◌∙◌, entries_of_map, items_view}
 use Rattle.qs_data.proofs.lemmas.read.Items.{each_length, places_length}
 use Rattle.qs_data.proofs.read.items.Items.len.Goals as goal
 

@@ -1,7 +1,5 @@
-use Rattle.std.proofs.Common.{ap, ◌∙◌}
-use Rattle.qs_tree.specs.tree.Views.{tree_of}
-use Rattle.qs_data.specs.read.Entries.{entries_after, first_entry}
-use Rattle.qs_data.specs.read.Keys.{entries_view}
+use Rattle.qs_data.proofs.Common.{ap, ◌∙◌, tree_of, first_entry, entries_view}
+use Rattle.qs_data.specs.read.Entries.{entries_after}
 use Rattle.qs_data.proofs.lemmas.read.FirstEntry.{lone_end, lone_first}
 use Rattle.qs_data.proofs.read.keys.Entries.get.Goals as goal
 

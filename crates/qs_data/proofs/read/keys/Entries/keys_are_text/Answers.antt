@@ -1,6 +1,4 @@
-use Rattle.std.proofs.Common.{ap, ◌&&◌, true, sym, ◌∙◌}
-use Rattle.qs_spec.specs.Node.{keys_are_text}
-use Rattle.qs_data.specs.read.Keys.{entries_view}
+use Rattle.qs_data.proofs.Common.{ap, ◌&&◌, true, sym, ◌∙◌, keys_are_text, entries_view}
 use Rattle.qs_data.proofs.lemmas.read.Numbers.{empty_text}
 use Rattle.qs_data.proofs.read.keys.Entries.keys_are_text.Goals as goal
 

@@ -1,13 +1,7 @@
-use Rattle.std.proofs.Common.{◌≡◌, ◌+◌, ◌≤◌, length, drop, [], ◌∷◌, ◌++◌, map, ap, sym, subst, ◌∙◌, Some, None, Ok, option_map, arith}
-use Rattle.std.proofs.lemmas.Grind.{common_steps}
+use Rattle.qs_data.proofs.Common.{◌≡◌, ◌+◌, ◌≤◌, length, drop, [], ◌∷◌, ◌++◌, map, ap, sym, subst, ◌∙◌, Some, None, Ok, option_map, arith, common_steps, any_data, read_each, tree_of, items_view, first_item, Visits, list_begun, data_of}
 use Rattle.qs_spec.specs.Data as d
-use Rattle.qs_spec.specs.internal.ReadFunction.{any_data, read_each}
-use Rattle.qs_tree.specs.tree.Views.{tree_of}
 use Rattle.qs_data.specs.declared.read.nested.Frame.TheVariants as frame
 use Rattle.qs_data.specs.declared.read.nested.Visited.{Visited}
-use Rattle.qs_data.specs.read.Items.{items_view, first_item}
-use Rattle.qs_data.specs.read.internal.Nesting.{Visits, list_begun}
-use Rattle.qs_data.specs.data.Views.{data_of}
 use Rattle.qs_data.proofs.lemmas.read.Items.{each_more, each_end, each_all}
 use Rattle.qs_data.proofs.lemmas.read.Nesting.{enters_list, list_text_after, list_parts}
 use Rattle.qs_data.proofs.read.nested.ListFrame.advance.Goals as goal

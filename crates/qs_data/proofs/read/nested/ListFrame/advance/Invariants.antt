@@ -1,10 +1,5 @@
-use Rattle.std.proofs.Common.{◌≡◌, ◌≤◌, false, map, drop}
-use Rattle.qs_spec.specs.internal.ReadFunction.{any_data, read_each}
+use Rattle.qs_data.proofs.Common.{◌≡◌, ◌≤◌, false, map, drop, any_data, read_each, items_view, are_text, frame_data, frame_is_text, frame_size, list_begun, list_size, data_of}
 use Rattle.qs_data.specs.declared.read.nested.Frame.TheVariants as frame
-use Rattle.qs_data.specs.read.Items.{items_view, are_text}
-use Rattle.qs_data.specs.read.internal.Nesting.{frame_data, frame_is_text, frame_size, list_begun}
-use Rattle.qs_data.specs.read.internal.Sizes.{list_size}
-use Rattle.qs_data.specs.data.Views.{data_of}
 use Rattle.qs_data.proofs.read.nested.ListFrame.advance.Given as goal
 
 abbrev pub invariant-loop-place : goal.invariant-loop-place

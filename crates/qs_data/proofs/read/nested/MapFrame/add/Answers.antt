@@ -1,10 +1,5 @@
-use Rattle.std.proofs.Common.{◌≡◌, [], ◌∷◌, ◌++◌, map, refl, ap, sym, ◌∙◌, option_map, arith}
-use Rattle.std.proofs.lemmas.Grind.{common_steps}
+use Rattle.qs_data.proofs.Common.{◌≡◌, [], ◌∷◌, ◌++◌, map, refl, ap, sym, ◌∙◌, option_map, arith, common_steps, any_data, read_pairs, KeyShape, entries_left, map_begun, data_of, pair_of}
 use Rattle.qs_spec.specs.Data as d
-use Rattle.qs_spec.specs.internal.ReadFunction.{any_data, read_pairs}
-use Rattle.qs_spec.specs.Shape.{KeyShape}
-use Rattle.qs_data.specs.read.internal.Nesting.{entries_left, map_begun}
-use Rattle.qs_data.specs.data.Views.{data_of, pair_of}
 use Rattle.qs_data.proofs.lemmas.read.Steps.{before-front}
 use Rattle.qs_data.proofs.read.nested.MapFrame.add.Goals as goal
 

@@ -1,19 +1,7 @@
-use Rattle.std.proofs.Common.{◌≡◌, ◌+◌, ◌≤◌, length, [], ◌∷◌, ◌++◌, map, ap, sym, subst, ◌∙◌, Some, Ok, option_map, arith}
-use Rattle.std.proofs.lemmas.Grind.{common_steps}
-use Rattle.std.specs.Str.{is_utf8}
+use Rattle.qs_data.proofs.Common.{◌≡◌, ◌+◌, ◌≤◌, length, [], ◌∷◌, ◌++◌, map, ap, sym, subst, ◌∙◌, Some, Ok, option_map, arith, common_steps, is_utf8, any_data, read_pairs, key_data, Step, segment_text, KeyShape, Tree, tree_of, entries_of_map, step_of_key, entry_list, entries_after, Visits, map_begun, is_text, data_of, pair_of}
 use Rattle.qs_spec.specs.Data as d
-use Rattle.qs_spec.specs.internal.ReadFunction.{any_data, read_pairs}
-use Rattle.qs_spec.specs.Scalar.{key_data}
-use Rattle.qs_spec.specs.Segment.{Step, segment_text}
-use Rattle.qs_spec.specs.Shape.{KeyShape}
-use Rattle.qs_spec.specs.Tree.{Tree}
-use Rattle.qs_tree.specs.tree.Views.{tree_of, entries_of_map, step_of_key, entry_list}
 use Rattle.qs_data.specs.declared.read.nested.Frame.TheVariants as frame
 use Rattle.qs_data.specs.declared.read.nested.Visited.{Visited}
-use Rattle.qs_data.specs.read.internal.Keys.{entries_after}
-use Rattle.qs_data.specs.read.internal.Nesting.{Visits, map_begun}
-use Rattle.qs_data.specs.read.TreeText.{is_text}
-use Rattle.qs_data.specs.data.Views.{data_of, pair_of}
 use Rattle.qs_data.proofs.lemmas.read.Nesting.{enters_map, advance_exit, map_text_key, map_text, map_text_after, map_parts}
 use Rattle.qs_data.proofs.lemmas.read.Pairs.{pairs_more, pairs_no_key, pairs_no_value, pairs_end, pairs_all}
 use Rattle.qs_data.proofs.read.nested.MapFrame.advance.Goals as goal

@@ -1,13 +1,5 @@
-use Rattle.std.proofs.Common.{◌≡◌, ◌≤◌, false, map}
-use Rattle.qs_spec.specs.internal.ReadFunction.{any_data, read_pairs}
-use Rattle.qs_spec.specs.Shape.{KeyShape}
-use Rattle.qs_tree.specs.tree.Views.{entries_of_map}
+use Rattle.qs_data.proofs.Common.{◌≡◌, ◌≤◌, false, map, any_data, read_pairs, KeyShape, entries_of_map, entries_after, frame_data, frame_is_text, frame_size, map_begun, entries_size, entries_are_text, pair_of}
 use Rattle.qs_data.specs.declared.read.nested.Frame.TheVariants as frame
-use Rattle.qs_data.specs.read.internal.Keys.{entries_after}
-use Rattle.qs_data.specs.read.internal.Nesting.{frame_data, frame_is_text, frame_size, map_begun}
-use Rattle.qs_data.specs.read.internal.Sizes.{entries_size}
-use Rattle.qs_data.specs.read.TreeText.{entries_are_text}
-use Rattle.qs_data.specs.data.Views.{pair_of}
 use Rattle.qs_data.proofs.read.nested.MapFrame.advance.Given as goal
 
 abbrev pub invariant-loop-place : goal.invariant-loop-place

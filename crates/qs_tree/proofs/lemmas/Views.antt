@@ -20,7 +20,7 @@ pub items_of-push : (vs : List ParsedValue) (v : ParsedValue) → items_of (vs +
 items_of-push [] v = refl
 items_of-push (x ∷ vs) v = ap (item (tree_of x)) (items_of-push vs v)
 
--- a plain leaf is added to a leaf
+-- a direct leaf is added to a leaf
 pub second-String : (s : CowSlice ℕ Global) (l : Leaf) → add_flat false l (tree_of (String s)) ≡ second (tree_of (String s)) l
 second-String (Borrowed r) l = let is : tree_of (String (Borrowed r)) ≡ leaf (Text r.now false) = search (rules, the_lemmas) in rw is
 second-String (Owned v) l = let is : tree_of (String (Owned v)) ≡ leaf (Text v.items true) = search (rules, the_lemmas) in rw is

@@ -3,7 +3,7 @@ ghost use Rattle.std.specs.Prelude.{◌≡◌, ◌+◌, ◌^◌, ◌<◌, ◌≤
 ghost use Rattle.qs_spec.specs.Tree.{empty_step, mapping};
 ghost use Rattle.qs_spec.specs.internal.InPlace as in_place;
 ghost use Rattle.qs_spec.specs.internal.InPlace.{add, add_flat, update};
-ghost use Rattle.qs_tree.specs.declared.scan.pair.Manner.TheVariants.{Plain};
+ghost use Rattle.qs_tree.specs.declared.scan.pair.Manner.TheVariants.{Direct};
 ghost use Rattle.qs_tree.specs.internal.build.Builder.{built_tree, built_entries, entries_seen, fresh, unsorted_entries, IsFlat};
 ghost use Rattle.std.specs.List.Sorted.{IsStrictlySortedBy};
 ghost use Rattle.std.specs.Map.{keys_of};
@@ -13,7 +13,7 @@ ghost use Rattle.qs_tree.specs.tree.Views.{step_of_key, tree_of};
 ghost use Rattle.qs_tree.specs.internal.scan.Pairs.{IsBare, leaf_of, is_push, pair_of, path_of};
 ghost use Rattle.qs_tree.specs.internal.build.Adding.{Adds, Gives};
 
-use crate::build::add_to_value::{add_at_end, add_plain, add_to_value};
+use crate::build::add_to_value::{add_at_end, add_to_leaves, add_to_value};
 use crate::build::builder::{MapBuilder, TreeBuilder, goes_between, into_tree, place_among};
 use crate::build::conflict::{AddError, ConflictKind};
 use crate::build::descent::{Zipper, descend, map_of, rebuild};
@@ -32,7 +32,7 @@ const LEVELS: usize = 64;
 /// Adds a pair to a tree, at the end of its path. The keys and the leaf are taken out of the pair.
 ///
 /// Returns an error where a node is in conflict with the pair, or where an allocation failed. The tree isn't used after that.
-/// Adding a plain leaf with an empty path to an empty tree doesn't allocate.
+/// Adding a direct leaf with an empty path to an empty tree doesn't allocate.
 #[inline(always)]
 pub(crate) fn add_pair<'qs>(
     alloc: Global,
@@ -85,7 +85,7 @@ fn add_along<'qs>(
     }
 }
 
-// Adds a pair that is a plain leaf with one key left.
+// Adds a pair that is a direct leaf with one key left.
 #[inline(never)]
 fn add_unsorted<'qs>(
     leaves: &mut Unsorted<'qs>,
@@ -93,7 +93,7 @@ fn add_unsorted<'qs>(
     level: usize,
 ) -> Result<(), AddError>
     requires one { length pair.old.path ≡ level + 1 }
-    requires plain { is_push pair.old.manner ≡ false }
+    requires direct { is_push pair.old.manner ≡ false }
     ensures { let push = is_push pair.old.manner in let path = path_of (drop level pair.old.path) in
         Gives (λ _. mapping (unsorted_entries leaves.new)) (add path push (leaf_of pair.old.leaf) (mapping (unsorted_entries leaves.old))) result }
 {
@@ -268,12 +268,12 @@ fn add_here<'qs>(
     pair: &mut Pair<'qs>,
 ) -> Result<(), AddError>
     ensures added { Gives (λ _. built_tree node.new) (in_place.add_here (is_push pair.old.manner) (leaf_of pair.old.leaf) (built_tree node.old)) result }
-    ensures fresh { pair.old.manner ≡ Plain → node.old ≡ fresh → IsOkAnd result (λ _. IsFlat node.new) }
+    ensures fresh { pair.old.manner ≡ Direct → node.old ≡ fresh → IsOkAnd result (λ _. IsFlat node.new) }
 {
     match node {
         TreeBuilder::Value(value) => add_at_end(alloc, value, pair),
         TreeBuilder::Unsorted(leaves) => match pair.manner {
-            Manner::Plain => Ok(leaves.push(Key::from(""), pair.leaf.take())?),
+            Manner::Direct => Ok(leaves.push(Key::from(""), pair.leaf.take())?),
             Manner::Push => {
                 let mut map = map_of(
                     alloc,
@@ -284,14 +284,14 @@ fn add_here<'qs>(
             }
         },
         TreeBuilder::Map(map) => match pair.manner {
-            Manner::Plain => map.add_at_empty(alloc, pair.leaf.take(), pair.path.len()),
+            Manner::Direct => map.add_at_empty(alloc, pair.leaf.take(), pair.path.len()),
             Manner::Push => Err(map.conflict(alloc, pair.path.len())),
         },
     }
 }
 
 impl<'qs> MapBuilder<'qs> {
-    // Adds a plain leaf at the empty string key.
+    // Adds a direct leaf at the empty string key.
     #[inline(never)]
     fn add_at_empty(&mut self, alloc: Global, leaf: Leaf<'qs>, level: usize) -> Result<(), AddError>
         ensures { Gives (λ _. built_entries self.new) (update empty_step (add_flat false (leaf_of leaf.entry)) (built_entries self.old)) result }
@@ -314,7 +314,7 @@ impl<'qs> MapBuilder<'qs> {
     }
 }
 
-// Adds a plain leaf to a node, or returns the conflict with a map.
+// Adds a direct leaf to a node, or returns the conflict with a map.
 #[tactic(auto, using(crate::proofs::lemmas::Views::views))]
 fn add_leaf<'qs>(
     alloc: Global,
@@ -325,7 +325,7 @@ fn add_leaf<'qs>(
     ensures { Gives (λ _. built_tree node.new) (add_flat false (leaf_of leaf.entry) (built_tree node.old)) result }
 {
     match node {
-        TreeBuilder::Value(value) => add_plain(alloc, value, leaf, level),
+        TreeBuilder::Value(value) => add_to_leaves(alloc, value, leaf, level),
         TreeBuilder::Map(map) => Err(map.conflict(alloc, level)),
         TreeBuilder::Unsorted(_) => Err(map_of(
             alloc,

@@ -5,7 +5,7 @@ ghost use Rattle.std.specs.Map.{keys_of};
 ghost use Rattle.qs_spec.specs.Tree.{empty_step, mapping, uninitialized};
 ghost use Rattle.qs_spec.specs.internal.InPlace as in_place;
 ghost use Rattle.qs_spec.specs.internal.InPlace.{add, add_flat, update};
-ghost use Rattle.qs_tree.specs.declared.scan.pair.Manner.TheVariants.{Plain};
+ghost use Rattle.qs_tree.specs.declared.scan.pair.Manner.TheVariants.{Direct};
 ghost use Rattle.qs_tree.specs.declared.tree.value.ParsedValue.TheVariants.{Uninitialized};
 ghost use Rattle.qs_tree.specs.tree.Views.{step_of_key, tree_of, entries_of_map};
 ghost use Rattle.qs_tree.specs.internal.scan.Pairs.{leaf_of, is_push, path_of};
@@ -145,7 +145,7 @@ fn value_at_end<'qs>(alloc: Global, pair: &mut Pair<'qs>) -> Result<ParsedValue<
 {
     let leaf = pair.leaf.take().into_value();
     match pair.manner {
-        Manner::Plain => Ok(leaf),
+        Manner::Direct => Ok(leaf),
         Manner::Push => Ok(ParsedValue::Sequence(vec![in alloc; leaf]?)),
     }
 }
@@ -161,16 +161,16 @@ pub(crate) fn add_at_end<'qs>(
     pair: &mut Pair<'qs>,
 ) -> Result<(), AddError>
     ensures added { Gives (λ _. tree_of value.new) (in_place.add_here (is_push pair.old.manner) (leaf_of pair.old.leaf) (tree_of value.old)) result }
-    ensures fresh { pair.old.manner ≡ Plain → value.old ≡ Uninitialized → IsOkAnd result (λ _. IsNoMap (tree_of value.new)) }
+    ensures fresh { pair.old.manner ≡ Direct → value.old ≡ Uninitialized → IsOkAnd result (λ _. IsNoMap (tree_of value.new)) }
 {
     let leaf = pair.leaf.take();
     match pair.manner {
         Manner::Push => add_pushed(alloc, value, leaf, pair.path.len()),
-        Manner::Plain => add_direct(alloc, value, leaf, pair.path.len()),
+        Manner::Direct => add_direct(alloc, value, leaf, pair.path.len()),
     }
 }
 
-// Adds a plain leaf to a node, in a map at the empty string key.
+// Adds a direct leaf to a node, in a map at the empty string key.
 #[inline(always)]
 #[tactic(auto, using(crate::proofs::lemmas::Views::views))]
 fn add_direct<'qs>(
@@ -184,14 +184,14 @@ fn add_direct<'qs>(
 {
     match value {
         ParsedValue::Map(map) => add_at_empty(alloc, map, leaf, level),
-        _ => add_plain(alloc, value, leaf, level),
+        _ => add_to_leaves(alloc, value, leaf, level),
     }
 }
 
-/// Adds a plain leaf to a node, or returns the conflict with a map.
+/// Adds a direct leaf to a node, or returns the conflict with a map.
 #[inline(never)]
 #[tactic(auto, using(crate::proofs::lemmas::Views::views))]
-pub(crate) fn add_plain<'qs>(
+pub(crate) fn add_to_leaves<'qs>(
     alloc: Global,
     value: &mut ParsedValue<'qs>,
     leaf: Leaf<'qs>,
@@ -252,7 +252,7 @@ fn add_pushed<'qs>(
     Ok(())
 }
 
-// Adds a plain leaf at the empty string key of a map.
+// Adds a direct leaf at the empty string key of a map.
 #[inline(never)]
 fn add_at_empty<'qs>(
     alloc: Global,
@@ -265,7 +265,7 @@ fn add_at_empty<'qs>(
     add_leaf_at(alloc, &mut map.map, Key::from(""), leaf, level)
 }
 
-/// Adds a plain leaf to the node at a key, which is at a level of its path.
+/// Adds a direct leaf to the node at a key, which is at a level of its path.
 pub(crate) fn add_leaf_at<'qs>(
     alloc: Global,
     entries: &mut Entries<Key<'qs>, ParsedValue<'qs>>,
@@ -276,7 +276,7 @@ pub(crate) fn add_leaf_at<'qs>(
     ensures { Gives (λ _. entries_held entries.new) (update (step_of_key key.entry) (add_flat false (leaf_of leaf.entry)) (entries_held entries.old)) result }
 {
     match place_among(entries.as_slice(), &key) {
-        Ok(at) => add_plain(alloc, entries.at_mut(at), leaf, level),
+        Ok(at) => add_to_leaves(alloc, entries.at_mut(at), leaf, level),
         Err(at) => Ok(entries.insert_at(at, key, leaf.into_value())?),
     }
 }

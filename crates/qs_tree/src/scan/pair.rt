@@ -26,17 +26,18 @@ pub(crate) enum Leaf<'qs> {
 /// How a pair adds its leaf to the node at its path.
 #[derive(Clone, Copy, Debug)]
 pub(crate) enum Manner {
-    Plain,
+    /// Adds it to the leaves that are there, for any other key.
+    Direct,
     /// Pushes it onto a sequence, for a key that ends in `[]`.
     Push,
 }
 
 impl Manner {
     /// Returns whether the leaf isn't pushed.
-    pub fn is_plain(self) -> bool
+    pub fn is_direct(self) -> bool
         ensures { result ≡ not (is_push self) }
     {
-        matches!(self, Manner::Plain)
+        matches!(self, Manner::Direct)
     }
 }
 
@@ -53,7 +54,7 @@ impl<'qs> Pair<'qs> {
     pub fn new(alloc: Global) -> Self {
         Pair {
             path: Path::new(alloc),
-            manner: Manner::Plain,
+            manner: Manner::Direct,
             leaf: Leaf::NoValue,
         }
     }
@@ -67,13 +68,13 @@ impl<'qs> Pair<'qs> {
         self.path.key(level)
     }
 
-    /// Returns whether only one key of the path is left at a level, and the leaf is plain.
+    /// Returns whether only one key of the path is left at a level, and the leaf is direct.
     pub fn is_leaf_below(&self, level: usize) -> bool
         requires { level < length self.now.path }
         ensures one { IsTrue result → length self.now.path ≡ level + 1 }
-        ensures plain { IsTrue result → is_push self.now.manner ≡ false }
+        ensures direct { IsTrue result → is_push self.now.manner ≡ false }
     {
-        self.path.len() - level == 1 && self.manner.is_plain()
+        self.path.len() - level == 1 && self.manner.is_direct()
     }
 
     /// Removes the last key of the path, and returns it.

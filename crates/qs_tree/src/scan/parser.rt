@@ -144,7 +144,7 @@ fn parse_after_root<'qs>(
             cursor.keep_root(key, token.place)?;
             parse_brackets(alloc, cursor, max_depth, token, pair)
         }
-        _ => parse_plain(alloc, cursor, stop, pair),
+        _ => parse_direct(alloc, cursor, stop, pair),
     }
 }
 
@@ -188,9 +188,9 @@ fn parse_value<'qs>(
     }
 }
 
-// Parses a plain pair after its path and the token that ends it.
+// Parses a direct pair after its path and the token that ends it.
 #[inline(always)]
-fn parse_plain<'qs>(
+fn parse_direct<'qs>(
     alloc: Global,
     cursor: &mut Cursor<'qs>,
     stop: Option<Token<'qs>>,
@@ -202,7 +202,7 @@ fn parse_plain<'qs>(
     ensures moves { GoesOn cursor.old cursor.new }
     ensures bare { pair.old.path ≡ [] → IsEqualsStop stop.entry → IsTrue (is_plain cursor.old.rest.now) → ParsesBare result cursor.new pair.new }
 {
-    pair.manner = Manner::Plain;
+    pair.manner = Manner::Direct;
     pair.leaf = parse_value(alloc, cursor, stop)?;
     Ok(())
 }
@@ -272,7 +272,7 @@ fn parse_brackets<'qs>(
         };
         let next = cursor.next();
         let Some(token) = next else {
-            return parse_plain(alloc, cursor, next, pair);
+            return parse_direct(alloc, cursor, next, pair);
         };
         let character = match token.kind {
             Kind::Open => {
@@ -280,7 +280,7 @@ fn parse_brackets<'qs>(
                 room -= 1;
                 continue;
             }
-            Kind::Ampersand | Kind::Equals => return parse_plain(alloc, cursor, next, pair),
+            Kind::Ampersand | Kind::Equals => return parse_direct(alloc, cursor, next, pair),
             Kind::Close => ']',
             Kind::Other(byte) => char::from(byte),
         };
@@ -303,5 +303,5 @@ fn parse_last_key<'qs>(
 {
     let (key, stop) = cursor.run_from(bracket.place, Until::Separator);
     pair.path.push(parse_key(alloc, key, false)?)?;
-    parse_plain(alloc, cursor, stop, pair)
+    parse_direct(alloc, cursor, stop, pair)
 }

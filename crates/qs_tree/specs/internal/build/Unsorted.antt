@@ -15,7 +15,7 @@ use Rattle.qs_tree.specs.tree.Views.{step_of_key, tree_of}
 abbrev pub leaf_held : ParsedValue → Leaf
 leaf_held v = unwrap_or (leaf_in (tree_of v)) NoValue
 
--- the pairs of plain leaves
+-- the pairs of direct leaves
 abbrev pub leaf_pairs : List (Key × ParsedValue) → List Pair
 leaf_pairs ls = map (λ p. record { path = step_of_key p.0 ∷ []; push = false; leaf = leaf_held p.1 }) ls
 

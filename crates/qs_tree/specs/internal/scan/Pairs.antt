@@ -9,7 +9,7 @@ use Rattle.qs_tree.specs.declared.tree.key.Key.{Key}
 use Rattle.qs_tree.specs.declared.scan.pair.Leaf as code
 use Rattle.qs_tree.specs.declared.scan.pair.Leaf.TheVariants as variant
 use Rattle.qs_tree.specs.declared.scan.pair.Manner.{Manner}
-use Rattle.qs_tree.specs.declared.scan.pair.Manner.TheVariants.{Plain, Push}
+use Rattle.qs_tree.specs.declared.scan.pair.Manner.TheVariants.{Direct, Push}
 use Rattle.qs_tree.specs.declared.scan.pair.Pair.{Pair}
 use Rattle.qs_tree.specs.tree.Views.{step_of_key}
 
@@ -26,7 +26,7 @@ leaf_in (leaf l) = Some l
 leaf_in t = None
 
 abbrev pub is_push : Manner → Bool
-is_push Plain = false
+is_push Direct = false
 is_push Push = true
 
 abbrev pub path_of : List Key → List Step
@@ -35,6 +35,6 @@ path_of keys = map step_of_key keys
 abbrev pub pair_of : Pair → grammar.Pair
 pair_of p = record { path = path_of p.path; push = is_push p.manner; leaf = leaf_of p.leaf }
 
--- a plain pair at the empty path
+-- a direct pair at the empty path
 abbrev pub IsBare : Pair → Type 0
-IsBare p = (p.path ≡ []) × (p.manner ≡ Plain)
+IsBare p = (p.path ≡ []) × (p.manner ≡ Direct)

@@ -17,7 +17,7 @@ abbrev pub IsEqualsStop : Option token.Token → Type 0
 IsEqualsStop None = ⊥
 IsEqualsStop (Some t) = IsTrue (is_equals (kind_of_token t.kind))
 
--- a plain pair with an empty path was parsed, and nothing is left
+-- a direct pair with an empty path was parsed, and nothing is left
 abbrev pub ParsesBare : {A : Type 0} → Result A parse_error.ParseError → cursor.Cursor → pair.Pair → Type 0
 ParsesBare (Ok a) new p = IsBare p × (new.rest.now ≡ [])
 ParsesBare (Err f) new p = ⊥

@@ -7,4 +7,4 @@ returns c =
     let key = c.take_key-key.result in
     let none : drop (c.args.level + 1) pair.path ≡ [] = drop_of_length-le pair.path (omega (arith, c.take_key-key.ensures.len, c.requires.one)) in
     let path : path_of (drop c.args.level c.args.pair.now.path) ≡ step_of_key key ∷ [] = ap path_of c.take_key-key.ensures.key ∙ ap (λ ks. step_of_key key ∷ path_of ks) none in
-    rw (path, c.requires.plain) (ap (option_map mapping) (rw (c.take.ensures, c.take_key-key.ensures.leaf) at c.in_ok-push.ensures.here))
+    rw (path, c.requires.direct) (ap (option_map mapping) (rw (c.take.ensures, c.take_key-key.ensures.leaf) at c.in_ok-push.ensures.here))

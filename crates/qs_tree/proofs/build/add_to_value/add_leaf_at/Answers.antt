@@ -7,11 +7,11 @@ use Rattle.qs_tree.proofs.build.add_to_value.add_leaf_at.Goals as goal
 pub returns-in-Ok : goal.returns-in-Ok
 returns-in-Ok c =
     let es = c.args.entries.now in
-    let new = c.add_plain.new.value in
+    let new = c.add_to_leaves.new.value in
     let hit = rw (c.in-Ok.is, c.as_slice.ensures.all) at c.place_among.ensures in
     at_key tree_of Uninitialized tree_of-Uninitialized c.args.key es c.as_slice.ensures.sorted c.at_mut.result.now
     (same_Some _ _ (sym c.at_mut.ensures.value ∙ hit_value key_cmp c.args.key es c.in-Ok.at Uninitialized hit)) _ _ refl
-    (add_flat false (leaf_of c.args.leaf)) new (ap entries_held (hit_insert key_cmp c.args.key es c.in-Ok.at new hit)) c.add_plain.result c.add_plain.ensures.added
+    (add_flat false (leaf_of c.args.leaf)) new (ap entries_held (hit_insert key_cmp c.args.key es c.in-Ok.at new hit)) c.add_to_leaves.result c.add_to_leaves.ensures.added
 
 pub returns-in_ok-insert_at-in-Err : goal.returns-in_ok-insert_at-in-Err
 returns-in_ok-insert_at-in-Err c =

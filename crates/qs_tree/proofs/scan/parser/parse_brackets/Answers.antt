@@ -73,21 +73,21 @@ pub returns-in_default-next-clause-pair : goal.returns-in_default-next-clause-pa
 returns-in_default-next-clause-pair c =
     let at = goal.at.returns-in_default-next-clause-pair c in
     let path = path_of c.push.new.self in
-    pair_as _ _ c.parse_plain.result c.parse_plain.new.cursor c.parse_plain.new.pair
+    pair_as _ _ c.parse_direct.result c.parse_direct.new.cursor c.parse_direct.new.pair
     (c.loop-first.invariant.found ∙ opened at.In_ok-keep_spot ∙ segment at.In_ok-push ∙ closed at.In-Some-stop ∙ ap (after_close (parsed_brackets (c.loop-first.room - 1)) path) c.in_default-next.ensures.token
     ∙ ap (λ o. with_leaf (direct path) (parsed_value (from_token o (left c.next-next.new.self)))) (sym c.in_default-next.is))
-    c.parse_plain.ensures.pair
+    c.parse_direct.ensures.pair
 
 pub returns-in-Ampersand-clause-pair : goal.returns-in-Ampersand-clause-pair
 returns-in-Ampersand-clause-pair c =
     let at = goal.at.returns-in-Ampersand-clause-pair c in
     let path = path_of c.push.new.self in
     let token = c.in-Some-next.token in
-    pair_as _ _ c.parse_plain-in-Ampersand.result c.parse_plain-in-Ampersand.new.cursor c.parse_plain-in-Ampersand.new.pair
+    pair_as _ _ c.parse_direct-in-Ampersand.result c.parse_direct-in-Ampersand.new.cursor c.parse_direct-in-Ampersand.new.pair
     (c.loop-first.invariant.found ∙ opened at.In_ok-keep_spot ∙ segment at.In_ok-push ∙ closed at.In-Some-stop ∙ ap (after_close (parsed_brackets (c.loop-first.room - 1)) path) c.in-Some-next.ensures.token
     ∙ next_closing (c.loop-first.room - 1) path token (left c.next-next.new.self) (kind_of_token token.kind) refl (closes token.kind c.in-Ampersand.is)
     ∙ ap (λ o. with_leaf (direct path) (parsed_value (from_token o (left c.next-next.new.self)))) (sym c.in-Some-next.is))
-    c.parse_plain-in-Ampersand.ensures.pair
+    c.parse_direct-in-Ampersand.ensures.pair
 
 pub loop-first-preserved : goal.loop-first-preserved
 loop-first-preserved c =

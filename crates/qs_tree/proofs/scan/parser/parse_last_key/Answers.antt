@@ -5,9 +5,9 @@ use Rattle.qs_tree.proofs.scan.parser.parse_last_key.Goals as goal
 pub returns-clause-pair : goal.returns-clause-pair
 returns-clause-pair c =
     let old = c.args.cursor.now in
-    pair_as _ _ c.parse_plain.result c.parse_plain.new.cursor c.parse_plain.new.pair
+    pair_as _ _ c.parse_direct.result c.parse_direct.new.cursor c.parse_direct.new.pair
     (ap₂ (λ p v. with_leaf (direct p) (parsed_value v))
     (sym (path_more c.args.pair.now.path c.push.new.self c.in_ok-parse_key.field-0 (taken c.args.bracket.place.rest.now old.rest.now ++ raw_of (cut ends_last (left old)).0)
     c.in_ok-push.ensures (c.in_ok-parse_key.ensures.key ∙ ap step_of c.run_from.ensures.run)))
     c.run_from.ensures.token)
-    c.parse_plain.ensures.pair
+    c.parse_direct.ensures.pair

@@ -77,37 +77,21 @@ pub fn parse_with<'qs>(
     let taken = mem::replace(steps, Steps::new());
     let mut cursor = Cursor::new(alloc, input, config.get_form(), taken);
     let all = input.len() + 1;
-    let tree = parse_tree(alloc, &mut cursor, config.get_max_depth(), all);
-    *steps = cursor.into_steps();
-    tree
+    let tree = parse_tree(alloc, &mut cursor, config.get_max_depth());
+    *steps = cursor.take_steps();
+    match tree {
+        Ok(tree) => Ok(tree),
+        Err(error) => Err(error.into_error(alloc, &cursor, all)),
+    }
 }
 
-// Parses what is left of an input that takes `all` steps.
+// Parses what is left of an input.
+#[inline(always)]
 fn parse_tree<'qs>(
     alloc: Global,
     cursor: &mut Cursor<'qs>,
     max_depth: usize,
-    all: usize,
-) -> Result<ParsedValue<'qs>>
-    requires end { KnowsEnd cursor.old }
-    ensures tree { Returns tree_of (grown max_depth (left cursor.old) uninitialized) all result }
-    ensures steps { in_all cursor.new ≡ in_all cursor.old }
-    ensures fewer { length cursor.new.rest.now ≤ length cursor.old.rest.now }
-    ensures end { IfOk result (λ _. in_all cursor.new ≡ cursor.new.steps) }
-    ensures no_memory { TakesNoMemory cursor.old.rest.now → IsOk result }
-{
-    match scan(alloc, cursor, max_depth) {
-        Ok(tree) => Ok(tree),
-        Err(error) => Err(error.into_error(alloc, all)),
-    }
-}
-
-// Adds the pairs of an input to a tree one by one.
-fn scan<'qs>(
-    alloc: Global,
-    cursor: &mut Cursor<'qs>,
-    max_depth: usize,
-) -> Result<ParsedValue<'qs>, ScanError<'qs>>
+) -> Result<ParsedValue<'qs>, ScanError>
     requires end { KnowsEnd cursor.old }
     ensures tree { Finds tree_of (grown max_depth (left cursor.old) uninitialized) result }
     ensures steps { in_all cursor.new ≡ in_all cursor.old }
@@ -117,18 +101,38 @@ fn scan<'qs>(
 {
     let mut tree = TreeBuilder::fresh();
     let mut pair = Pair::new(alloc);
+    match scan(alloc, cursor, max_depth, &mut tree, &mut pair) {
+        Ok(()) => Ok(tree.finish(alloc)?),
+        Err(error) => Err(error),
+    }
+}
+
+// Adds the pairs of an input to a tree one by one. Each is read into `pair`.
+#[inline(always)]
+fn scan<'qs>(
+    alloc: Global,
+    cursor: &mut Cursor<'qs>,
+    max_depth: usize,
+    tree: &mut TreeBuilder<'qs>,
+    pair: &mut Pair<'qs>,
+) -> Result<(), ScanError>
+    requires end { KnowsEnd cursor.old }
+    ensures tree { Finds (λ _. built_tree tree.new) (grown max_depth (left cursor.old) (built_tree tree.old)) result }
+    ensures steps { in_all cursor.new ≡ in_all cursor.old }
+    ensures fewer { length cursor.new.rest.now ≤ length cursor.old.rest.now }
+    ensures end { IfOk result (λ _. in_all cursor.new ≡ cursor.new.steps) }
+    ensures no_memory { TakesNoMemory cursor.old.rest.now → tree.old ≡ fresh → IsOkAnd result (λ _. IsFlat tree.new) }
+{
     loop {
-        let item = match parse_item(alloc, cursor, max_depth, &mut pair) {
+        let item = match parse_item(alloc, cursor, max_depth, pair) {
             Ok(item) => item,
-            Err(ParseError::Syntax(error)) => {
-                return Err(syntax_error(alloc, &mut tree, &mut pair, error, cursor));
-            }
+            Err(ParseError::Syntax(error)) => return Err(syntax_error(alloc, tree, pair, error)),
             Err(ParseError::OutOfMemory) => return Err(ScanError::OutOfMemory),
         };
         match item {
-            Item::End => return Ok(tree.finish(alloc)?),
+            Item::End => return Ok(()),
             Item::Ampersand => {}
-            Item::Pair => add(alloc, &mut tree, &mut pair, cursor)?,
+            Item::Pair => add(alloc, tree, pair)?,
         }
     }
 }
@@ -139,13 +143,12 @@ fn add<'qs>(
     alloc: Global,
     tree: &mut TreeBuilder<'qs>,
     pair: &mut Pair<'qs>,
-    cursor: &Cursor<'qs>,
-) -> Result<(), ScanError<'qs>>
+) -> Result<(), ScanError>
     ensures tree { let p = pair_of pair.old in Finds (λ _. built_tree tree.new) (in_place.add p.path p.push p.leaf (built_tree tree.old)) result }
     ensures fresh { IsBare pair.old → tree.old ≡ fresh → IsOkAnd result (λ _. IsFlat tree.new) }
 {
     match add_pair(alloc, tree, pair) {
         Ok(()) => Ok(()),
-        Err(error) => Err(add_error(error, cursor)),
+        Err(error) => Err(add_error(error)),
     }
 }

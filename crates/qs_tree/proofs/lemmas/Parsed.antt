@@ -1,11 +1,19 @@
 -- From the tree of a result to all that `Parses` promises of it.
-use Rattle.qs_tree.proofs.Common.{Global, ◌≡◌, ◌≢◌, ℕ, ◌+◌, ◌≤◌, ◌⊎◌, inl, inr, Bool, List, [], ◌∷◌, length, refl, sym, ap, ◌∙◌, IfOk, Option, Result, Ok, Err, ◌==◌, true, eqb-true, arith, rules, IfOk-weaker, Tree, IsTree, IsRefused, Pair, ArePairs, tokens, AreReordered, AreAlike, marks, one_tree, Error, Parse, OutOfMemory, ParsedValue, NoValue, the_lemmas, tree_of, IsParse, IfParse, IsOutOfMemory, OnlyOutOfMemory, OnlyParseOrOutOfMemory, owns, Returns, HoldsOf}
+use Rattle.qs_tree.proofs.Common.{Global, ◌≡◌, ◌≢◌, ℕ, ◌+◌, ◌≤◌, ◌⊎◌, inl, inr, Bool, List, [], ◌∷◌, length, refl, sym, ap, ◌∙◌, IfOk, Option, None, Result, Ok, Err, ◌==◌, true, false, eqb-true, arith, rules, IfOk-weaker, Tree, IsTree, IsRefused, Pair, ArePairs, tokens, AreReordered, AreAlike, marks, one_tree, Error, Parse, OutOfMemory, ParsedValue, NoValue, the_lemmas, tree_of, IsParse, IfParse, IsOutOfMemory, OnlyOutOfMemory, OnlyParseOrOutOfMemory, owns, Returns, HoldsOf}
 use Rattle.std.specs.declared.string.String.{String}
 use Rattle.qs_spec.specs.Holds.{IsSound, leaf_count, nesting}
 use Rattle.qs_spec.specs.Input.{HasPairs, IsReordered}
 use Rattle.qs_spec.proofs.Sound as sound_trees
 use Rattle.qs_spec.proofs.Alike as trees
 use Rattle.qs_tree.proofs.lemmas.tree.Owned.{owns_marked}
+use Rattle.std.specs.Prelude.{IsOk}
+use Rattle.qs_tree.specs.Parsing.{Parses, TakesNoMemory}
+use Rattle.qs_tree.specs.internal.Parsing.{grown, Reports}
+use Rattle.qs_tree.specs.declared.parsing.scan_error.ScanError.{ScanError}
+use Rattle.qs_tree.specs.declared.parsing.scan_error.ScanError.TheVariants as scan_error
+use Rattle.qs_spec.specs.Token.{Token}
+use Rattle.qs_spec.specs.Tree.Tree.{uninitialized}
+use Rattle.qs_tree.proofs.lemmas.Growing.{result_tree, result_rejected}
 
 -- the pairs of an input that has a tree
 pairs_counted : (form : Bool) (depth : ℕ) (bytes : List ℕ) (t : Tree) → IsTree form depth bytes t → bytes ≢ [] → HasPairs form depth bytes (leaf_count t)
@@ -67,3 +75,31 @@ module _ (form : Bool) (depth : ℕ) (bytes : List ℕ) where
 pub empty_tree : (form : Bool) (depth : ℕ) (bytes : List ℕ) → (length bytes == 0) ≡ true → IsTree form depth bytes (tree_of NoValue)
 empty_tree form depth [] e = search (rules, the_lemmas)
 empty_tree form depth (b ∷ bytes) e = absurd (omega (arith, eqb-true (length (b ∷ bytes)) 0 e))
+
+-- all that is promised of a result, from what it is in terms of the tokens of the input
+module _ (form : Bool) (depth : ℕ) (bytes : List ℕ) (some : (length bytes == 0) ≡ false) (limit : ℕ) (ts : List Token) (d : limit ≡ depth) (e : ts ≡ tokens form bytes) where
+  pub parses : (r : Result ParsedValue Error) → Returns tree_of (grown limit ts uninitialized) (length bytes + 1) r → (TakesNoMemory bytes → IsOk r) → Parses form depth bytes r
+  parses r returned no_memory =
+      let tree = result_tree form depth bytes some limit ts d e (length bytes + 1) r returned in
+      let refused = result_rejected form depth bytes some limit ts d e (length bytes + 1) r returned in
+      record {
+        tree = tree;
+        refused = refused;
+        accepted = accepted form depth bytes _ _ r returned refused;
+        rejected = rejected form depth bytes _ _ r returned tree;
+        position = position form depth bytes _ _ r returned;
+        errors = errors form depth bytes _ _ r returned;
+        no_memory = no_memory;
+        borrowed = borrowed form depth bytes r tree;
+        leaves = leaves form depth bytes r tree;
+        nesting = nested form depth bytes r tree;
+        sound = sound form depth bytes r tree;
+        alike = alike form depth bytes;
+        reordered = reordered form depth bytes r tree refused;
+      }
+
+-- the public error of a scan error
+pub reported : (expected : Option Tree) (bound : ℕ) (e : ScanError) (error : Error) → (e ≢ scan_error.OutOfMemory → expected ≡ None) → Reports e bound error → Returns tree_of expected bound (Err error)
+reported expected bound e (Parse message at) none h = (none h.0, h.1)
+reported expected bound e OutOfMemory none h = tt
+reported expected bound e error none h = absurd h

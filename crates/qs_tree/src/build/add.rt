@@ -59,6 +59,32 @@ fn add_along<'qs>(
         Gives (λ _. built_tree node.new) (add path push (leaf_of pair.old.leaf) (built_tree node.old)) result }
     ensures fresh { IsBare pair.old → level ≡ 0 → node.old ≡ fresh → IsOkAnd result (λ _. IsFlat node.new) }
 {
+    if let TreeBuilder::Value(value) = node {
+        if level < pair.path.len() {
+            match add_in_place(alloc, value, pair, level) {
+                Ok(true) => return Ok(()),
+                Ok(false) => {}
+                Err(error) => return Err(error),
+            }
+        }
+    }
+    add_further(alloc, node, pair, level)
+}
+
+// Adds a pair to a node that isn't finished, or that has to become a map under construction, or at the end of the path.
+#[cycle(adding)]
+#[inline(never)]
+fn add_further<'qs>(
+    alloc: Global,
+    node: &mut TreeBuilder<'qs>,
+    pair: &mut Pair<'qs>,
+    level: usize,
+) -> Result<(), AddError>
+    requires { level ≤ length pair.old.path }
+    ensures added { let push = is_push pair.old.manner in let path = path_of (drop level pair.old.path) in
+        Gives (λ _. built_tree node.new) (add path push (leaf_of pair.old.leaf) (built_tree node.old)) result }
+    ensures fresh { IsBare pair.old → level ≡ 0 → node.old ≡ fresh → IsOkAnd result (λ _. IsFlat node.new) }
+{
     if level >= LEVELS {
         return add_by_value(alloc, node, pair, level);
     }
@@ -70,18 +96,10 @@ fn add_along<'qs>(
             let key = pair.take_key(level);
             add_below(alloc, map, key, pair, level + 1)
         }
-        TreeBuilder::Value(value) => match add_in_place(alloc, value, pair, level) {
-            Ok(true) => Ok(()),
-            Ok(false) => add_out_of_order(alloc, node, pair, level),
-            Err(error) => Err(error),
-        },
-        TreeBuilder::Unsorted(leaves) => {
-            if pair.is_leaf_below(level) {
-                add_unsorted(leaves, pair, level)
-            } else {
-                add_out_of_order(alloc, node, pair, level)
-            }
+        TreeBuilder::Unsorted(leaves) if pair.is_leaf_below(level) => {
+            add_unsorted(leaves, pair, level)
         }
+        _ => add_out_of_order(alloc, node, pair, level),
     }
 }
 

@@ -38,6 +38,7 @@ impl<'qs> TreeBuilder<'qs> {
     ///
     /// Returns an error only where an allocation failed. A finished node needs no allocation, and a map without maps in it only those
     /// for its own entries. Takes constant stack: unfinished maps are kept in a vector.
+    #[inline(always)]
     pub fn finish(self, alloc: Global) -> Result<ParsedValue<'qs>, AllocError>
         ensures tree { IfOk result (λ value. tree_of value ≡ built_tree self.entry) }
         ensures flat { IsFlat self.entry → IsOk result }

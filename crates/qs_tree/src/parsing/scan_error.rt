@@ -10,7 +10,7 @@ use crate::build::add::add_pair;
 use crate::build::builder::TreeBuilder;
 use crate::build::conflict::{AddError, Conflict, ConflictKind, conflict_below};
 use crate::error::Error;
-use crate::scan::cursor::{Cursor, Site};
+use crate::scan::cursor::Cursor;
 use crate::scan::pair::{Leaf, Manner, Pair};
 use crate::scan::parser::SyntaxError;
 use std::alloc::{AllocError, Global};
@@ -18,17 +18,16 @@ use std::{fmt, mem, str};
 
 /// Why an input has no tree.
 #[derive(Drop)]
-pub(crate) enum ScanError<'qs> {
-    /// A syntax error, and how many steps remain after it.
-    Syntax(SyntaxError, usize),
-    Conflict(Box<Conflict>, Site<'qs>),
+pub(crate) enum ScanError {
+    Syntax(SyntaxError),
+    Conflict(Box<Conflict>),
     OutOfMemory,
 }
 
-impl<'qs> From<AllocError> for ScanError<'qs> {
+impl From<AllocError> for ScanError {
     ghost from_gives = { λ _ error. error ≡ OutOfMemory };
 
-    fn from(_: AllocError) -> ScanError<'qs> {
+    fn from(_: AllocError) -> ScanError {
         ScanError::OutOfMemory
     }
 }
@@ -41,24 +40,20 @@ pub(crate) fn syntax_error<'qs>(
     tree: &mut TreeBuilder<'qs>,
     pair: &mut Pair<'qs>,
     error: SyntaxError,
-    cursor: &Cursor<'qs>,
-) -> ScanError<'qs> {
+) -> ScanError {
     match conflict_before(alloc, tree, pair, error) {
-        Ok(()) => ScanError::Syntax(error, cursor.to_come()),
-        Err(error) => add_error(error, cursor),
+        Ok(()) => ScanError::Syntax(error),
+        Err(error) => add_error(error),
     }
 }
 
 /// Returns the error of a pair that wasn't added.
-#[inline(never)]
-pub(crate) fn add_error<'qs>(error: AddError, cursor: &Cursor<'qs>) -> ScanError<'qs>
+#[inline(always)]
+pub(crate) fn add_error(error: AddError) -> ScanError
     ensures { error ≡ no_memory.OutOfMemory → result ≡ OutOfMemory }
 {
     match error {
-        AddError::Conflict(conflict) => {
-            let site = cursor.site(conflict.level);
-            ScanError::Conflict(conflict, site)
-        }
+        AddError::Conflict(conflict) => ScanError::Conflict(conflict),
         AddError::OutOfMemory => ScanError::OutOfMemory,
     }
 }
@@ -87,18 +82,19 @@ fn conflict_before<'qs>(
     }
 }
 
-impl<'qs> ScanError<'qs> {
-    /// Returns the error of an input that takes `all` steps. Allocates its text.
+impl ScanError {
+    /// Returns the error of an input that takes `all` steps, where the cursor is. Allocates its text.
     #[inline(never)]
-    pub fn into_error(self, alloc: Global, all: usize) -> Error
-        ensures { Reports self.entry all result }
+    pub fn into_error(self, alloc: Global, cursor: &Cursor<'_>, all: usize) -> Error
+        ensures { Reports self all result }
     {
         match self {
-            ScanError::Syntax(error, to_come) => {
-                Error::parse_err(alloc, error, all.saturating_sub(to_come))
+            ScanError::Syntax(error) => {
+                Error::parse_err(alloc, error, all.saturating_sub(cursor.to_come()))
             }
-            ScanError::Conflict(conflict, site) => {
-                let kind = Box::into_inner(conflict).kind;
+            ScanError::Conflict(conflict) => {
+                let Conflict { level, kind } = Box::into_inner(conflict);
+                let site = cursor.site(level);
                 conflict_error(alloc, kind, site.key, all.saturating_sub(site.to_come))
             }
             ScanError::OutOfMemory => Error::OutOfMemory,

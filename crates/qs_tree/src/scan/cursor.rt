@@ -12,6 +12,7 @@ use crate::escape::{find_value_end, is_letter};
 use crate::scan::spots::{Spot, Spots};
 use crate::steps::Steps;
 use std::alloc::{AllocError, Global};
+use std::mem;
 
 /// The kind of a token.
 #[derive(Clone, Copy)]
@@ -206,11 +207,11 @@ impl<'qs> Cursor<'qs> {
         }
     }
 
-    /// Returns the steps so far.
-    pub fn into_steps(self) -> Steps
-        ensures { result ≡ self.entry.steps }
+    /// Takes the steps so far.
+    pub fn take_steps(&mut self) -> Steps
+        ensures { result ≡ self.old.steps }
     {
-        self.steps
+        mem::replace(&mut self.steps, Steps::new())
     }
 
     /// Returns whether the end was reached. This isn't a step.

@@ -1,6 +1,6 @@
 //! A sorted vector of entries with distinct keys.
-ghost use Rattle.std.specs.Prelude.{◌≡◌, ◌<◌, [], length, ◌∷◌, ◌++◌, IfOk, IfNone, MatchResult, OnOk, OnErr, Some, option_map, slice_get};
-ghost use Rattle.std.specs.List.{remove};
+ghost use Rattle.std.specs.Prelude.{◌≡◌, ◌<◌, ◌≤◌, [], length, ◌∷◌, ◌++◌, IfOk, IfNone, MatchResult, OnOk, OnErr, Some, option_map, slice_get};
+ghost use Rattle.std.specs.List.{insert, remove};
 ghost use Rattle.std.specs.Option.{option_to_list};
 ghost use Rattle.std.specs.List.Sorted.{IsStrictlySortedBy};
 ghost use Rattle.std.specs.Map.{keys_of};
@@ -168,11 +168,9 @@ impl<K: Ord + Drop, V: Drop> Entries<K, V> {
         ensures ok { OnOk result (self.new ≡ insert_entry K.cmp self.old key value) }
         ensures err { OnErr result (self.new ≡ self.old) }
     {
-        if at == self.len() {
-            return self.push(key, value);
-        }
         reserve_one(&mut self.items)?;
-        Ok(self.items.insert(at, (key, value))?)
+        insert_reserved(&mut self.items, at, (key, value));
+        Ok(())
     }
 
     /// Pushes an entry whose key is greater than all others. On an error nothing is changed.
@@ -194,6 +192,20 @@ impl<K: Ord + Drop, V: Drop> Entries<K, V> {
         ensures rest { self.new ≡ remove self.old at }
     {
         self.items.remove(at)
+    }
+}
+
+// Inserts an item at an index of a vector that has room for it. The item is moved fewer times than by `insert`.
+#[inline(always)]
+fn insert_reserved<T>(items: &mut Vec<T>, at: usize, item: T)
+    requires within { at ≤ length items.old.items }
+    requires room { vec_len items.old < vec_capacity items.old }
+    ensures { items.new.items ≡ insert items.old.items at item }
+{
+    let len = items.len();
+    items.push_reserved(item);
+    if at < len {
+        items[at..].rotate_right(1);
     }
 }
 

@@ -1,5 +1,7 @@
 -- Items of inputs for which nothing is allocated.
 use Rattle.qs_tree.proofs.Common.{◌≡◌, ℕ, zero, suc, Bool, true, false, cond, ◌&&◌, ◌||◌, ◌==◌, List, [], ◌∷◌, ◌++◌, length, refl, sym, ap, ap₂, ◌∙◌, subst, Option, Some, None, Result, eqb-true, ◌<◌, arith, inl, inr, list_all-append, Kind, Token, tokens, byte_token, byte_kind, raw_of, Amp, Equals, Open, Close, is_amp, is_equals, is_open, ends_root, cut, cut_at, and_both, TreeBuilder, IsFlat, fresh, is_ampersand, kind_of_token, token_of, raw_from_token, from_token, is_nothing, is_ampersands, is_plain, is_plain_value, TakesNoMemory, IsEqualsStop, ParsesSmall, StaysSmall}
+use Rattle.qs_tree.proofs.lemmas.Views.{built_tree-fresh}
+use Rattle.qs_tree.specs.internal.build.Builder.{IsNoMap, built_tree}
 use Rattle.qs_tree.specs.declared.scan.cursor.Token as code
 use Rattle.qs_tree.specs.declared.scan.cursor.Cursor as cursor
 use Rattle.qs_tree.specs.declared.scan.pair.Pair as code_pair
@@ -115,3 +117,7 @@ small_ampersand old new tree shorter (inr h) amp = inr (ap (λ x. x || is_plain_
 pub small_fresh : (old new : List ℕ) (tree : TreeBuilder) → length new < length old → StaysSmall old tree → tree ≡ fresh
 small_fresh old new tree shorter (inl h) = absurd (omega (arith, ap length h.0))
 small_fresh old new tree shorter (inr h) = h.1
+
+pub small_flat : (rest : List ℕ) (tree : TreeBuilder) → StaysSmall rest tree → IsFlat tree
+small_flat rest tree (inl h) = h.1
+small_flat rest tree (inr h) = subst IsNoMap (sym (ap built_tree h.1 ∙ built_tree-fresh)) tt

@@ -5,7 +5,6 @@ use Rattle.std.proofs.lemmas.Int.Digits.{length-digits_of_step}
 use Rattle.std.proofs.lemmas.Map.Keys.{Less-from_sorted, sorted_from_all_adjacent, sorted_head, sorted_tail}
 use Rattle.std.proofs.lemmas.Map.Entries.{length-keys_of}
 use Rattle.std.proofs.Math.ListN.{get_or-map}
-use Rattle.std.proofs.lemmas.List.Edits.{insert_end}
 
 -- the key of an entry that was read
 pub key_at : {K X : Type 0} (es : List (K × X)) (m : ℕ) (x : K × X) (k : K) → m < length es → x ≡ get_or es m x → get_or (keys_of es) m k ≡ x.0
@@ -186,9 +185,3 @@ halved s t some half = omega (arith, length-digits_of_step 2 s (omega arith) som
 
 pub keys-append : {K X : Type 0} (es fs : List (K × X)) → keys_of (es ++ fs) ≡ keys_of es ++ keys_of fs
 keys-append es fs = map-append (λ e. e.0) es fs
-
--- a key that belongs at the end
-pub sorted_push : {K X : Type 0} (cmp : K → K → Ordering) → IsTotalOrder cmp → (k : K) (v : X) (es : List (K × X)) (i : ℕ) → IsGap cmp k es i → i ≡ length es → IsStrictlySortedBy cmp (keys_of es) → IsStrictlySortedBy cmp (keys_of es ++ k ∷ [])
-sorted_push cmp total k v es i h at s =
-    let inserted : insert es i (k, v) ≡ es ++ (k, v) ∷ [] = rw at (insert_end es (k, v)) in
-    subst (λ ks. IsStrictlySortedBy cmp ks) (ap keys_of inserted ∙ keys-append es ((k, v) ∷ [])) (sorted_insert cmp total k v es i h s)

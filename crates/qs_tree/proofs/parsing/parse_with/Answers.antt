@@ -1,35 +1,17 @@
-use Rattle.qs_tree.proofs.Common.{Ok, refl, sym, ap₂, subst, ◌∙◌, ◌+◌, length, tokens, NoValue, left, TakesNoMemory}
-use Rattle.qs_tree.proofs.lemmas.Growing.{result_tree, result_rejected}
+use Rattle.qs_tree.proofs.Common.{Ok, Err, refl, sym, ap₂, subst, ◌∙◌, ◌+◌, length, tokens, NoValue, left, grown, uninitialized, TakesNoMemory}
 use Rattle.qs_tree.proofs.lemmas.Parsed as parsed
 use Rattle.qs_tree.proofs.parsing.parse_with.Goals as goal
 
+pub returns-in-Ok-clause-parsed : goal.returns-in-Ok-clause-parsed
+returns-in-Ok-clause-parsed c =
+    parsed.parses c.args.config.form c.args.config.max_depth c.args.input.now (sym c.is_empty.ensures ∙ c.if-is_empty.false) c.get_max_depth.result (left c.new-cursor.result) c.get_max_depth.ensures
+    (ap₂ tokens (c.new-cursor.ensures.form ∙ c.get_form.ensures) c.new-cursor.ensures.rest) (Ok c.in-Ok.tree) c.in-Ok.ensures.tree (λ small. refl)
+
 pub returns-clause-parsed : goal.returns-clause-parsed
 returns-clause-parsed c =
-    let input = c.args.input.now in
-    let form = c.args.config.form in
-    let depth = c.args.config.max_depth in
-    let cursor = c.new-cursor.result in
-    let some = sym c.is_empty.ensures ∙ c.if-is_empty.false in
-    let tokens_left = ap₂ tokens (c.new-cursor.ensures.form ∙ c.get_form.ensures) c.new-cursor.ensures.rest in
-    let result = c.parse_tree-tree.result in
-    let returned = c.parse_tree-tree.ensures.tree in
-    let tree = result_tree form depth input some c.get_max_depth.result (left cursor) c.get_max_depth.ensures tokens_left (length input + 1) result returned in
-    let refused = result_rejected form depth input some c.get_max_depth.result (left cursor) c.get_max_depth.ensures tokens_left (length input + 1) result returned in
-    record {
-      tree = tree;
-      refused = refused;
-      accepted = parsed.accepted form depth input _ _ result returned refused;
-      rejected = parsed.rejected form depth input _ _ result returned tree;
-      position = parsed.position form depth input _ _ result returned;
-      errors = parsed.errors form depth input _ _ result returned;
-      no_memory = λ small. c.parse_tree-tree.ensures.no_memory (subst TakesNoMemory (sym c.new-cursor.ensures.rest) small);
-      borrowed = parsed.borrowed form depth input result tree;
-      leaves = parsed.leaves form depth input result tree;
-      nesting = parsed.nested form depth input result tree;
-      sound = parsed.sound form depth input result tree;
-      alike = parsed.alike form depth input;
-      reordered = parsed.reordered form depth input result tree refused;
-    }
+    let returned = parsed.reported (grown c.get_max_depth.result (left c.new-cursor.result) uninitialized) (length c.args.input.now + 1) c.in-Err.error c.into_error.result c.in-Err.ensures.tree c.into_error.ensures in
+    parsed.parses c.args.config.form c.args.config.max_depth c.args.input.now (sym c.is_empty.ensures ∙ c.if-is_empty.false) c.get_max_depth.result (left c.new-cursor.result) c.get_max_depth.ensures
+    (ap₂ tokens (c.new-cursor.ensures.form ∙ c.get_form.ensures) c.new-cursor.ensures.rest) (Err c.into_error.result) returned (λ small. c.in-Err.ensures.no_memory (subst TakesNoMemory (sym c.new-cursor.ensures.rest) small))
 
 pub returns-then-is_empty-clause-parsed : goal.returns-then-is_empty-clause-parsed
 returns-then-is_empty-clause-parsed c =

@@ -1,13 +1,15 @@
-use Rattle.qs_tree.proofs.Common.{Ok, ◌∙◌, sym, subst, arith, refl, ap, length, built_tree, pair_of, left, to_come, IsEnd, IsMore, ParsesItem, grown, ParsesSmall}
+use Rattle.qs_tree.proofs.Common.{Ok, ◌∙◌, sym, subst, arith, refl, ap, length, built_tree, pair_of, left, to_come, IsEnd, IsMore, ParsesItem, ParsesSmall}
 use Rattle.qs_tree.proofs.lemmas.Growing.{grown_same, grown_pair}
-use Rattle.qs_tree.proofs.lemmas.Views.{built_tree-fresh}
-use Rattle.qs_tree.proofs.lemmas.scan.SmallItems.{small_start, small_end, small_goes, small_ampersand, small_fresh}
+use Rattle.qs_tree.proofs.lemmas.scan.SmallItems.{small_start, small_end, small_goes, small_ampersand, small_fresh, small_flat}
 use Rattle.qs_tree.proofs.parsing.scan.Goals as goal
 
 pub returns-in-End-clause-end : goal.returns-in-End-clause-end
 returns-in-End-clause-end c =
     let ended = c.in-Ok.ensures.end (subst (λ i. IsEnd (Ok i)) (sym c.in-End.is) tt) in
     omega (arith, ap to_come ended, ap length (c.in-Ok.ensures.moves.end ended))
+
+pub returns-in-End-clause-no_memory : goal.returns-in-End-clause-no_memory
+returns-in-End-clause-no_memory c = λ small fresh. small_flat c.loop-item.cursor.rest.now c.loop-item.tree (c.loop-item.invariant.small small fresh)
 
 pub loop-item-preserved-in-Ampersand : goal.loop-item-preserved-in-Ampersand
 loop-item-preserved-in-Ampersand c =
@@ -23,8 +25,8 @@ loop-item-preserved-in-Ampersand c =
       fewer = omega (arith, shorter, before.fewer);
       steps = c.in-Ok.ensures.moves.steps ∙ before.steps;
       end = c.in-Ok.ensures.moves.end;
-      small = λ small. small_ampersand old.rest.now new.rest.now c.loop-item.tree shorter (before.small small)
-          (subst (λ i. ParsesSmall (Ok i) new pair) c.in-Ampersand.is (small_goes old.rest.now c.loop-item.tree (Ok c.in-Ok.item) new pair (before.small small) c.in-Ok.ensures.small));
+      small = λ small fresh. small_ampersand old.rest.now new.rest.now c.loop-item.tree shorter (before.small small fresh)
+          (subst (λ i. ParsesSmall (Ok i) new pair) c.in-Ampersand.is (small_goes old.rest.now c.loop-item.tree (Ok c.in-Ok.item) new pair (before.small small fresh) c.in-Ok.ensures.small));
     }
 
 pub loop-item-preserved : goal.loop-item-preserved
@@ -41,16 +43,16 @@ loop-item-preserved c =
       fewer = omega (arith, shorter, before.fewer);
       steps = c.in-Ok.ensures.moves.steps ∙ before.steps;
       end = c.in-Ok.ensures.moves.end;
-      small = λ small.
-          let bare = subst (λ i. ParsesSmall (Ok i) new pair) c.in-Pair.is (small_goes old.rest.now c.loop-item.tree (Ok c.in-Ok.item) new pair (before.small small) c.in-Ok.ensures.small) in
-          small_end new.rest.now c.add.new.tree bare.1 (c.in_ok-add-in-Pair.ensures.fresh bare.0 (small_fresh old.rest.now new.rest.now c.loop-item.tree shorter (before.small small)));
+      small = λ small fresh.
+          let bare = subst (λ i. ParsesSmall (Ok i) new pair) c.in-Pair.is (small_goes old.rest.now c.loop-item.tree (Ok c.in-Ok.item) new pair (before.small small fresh) c.in-Ok.ensures.small) in
+          small_end new.rest.now c.add.new.tree bare.1 (c.in_ok-add-in-Pair.ensures.fresh bare.0 (small_fresh old.rest.now new.rest.now c.loop-item.tree shorter (before.small small fresh)));
     }
 
 pub loop-item-init : goal.loop-item-init
 loop-item-init c = record {
-  grows = ap (grown c.args.max_depth (left c.args.cursor.now)) (ap built_tree c.fresh-tree.ensures ∙ built_tree-fresh);
+  grows = refl;
   fewer = omega arith;
   steps = refl;
   end = c.requires.end;
-  small = λ small. small_start _ _ small c.fresh-tree.ensures;
+  small = λ small fresh. small_start _ _ small fresh;
 }

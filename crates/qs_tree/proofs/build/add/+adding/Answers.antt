@@ -51,8 +51,8 @@ add_in_tree-returns t c =
     at_key built_tree fresh built_tree-fresh c.args.key es c.in_ok-tree.ensures.ordered c.or_insert-child.result.now lent _ _ refl (add path push (leaf_of c.args.pair.now.leaf)) new
     (ap entries_seen (sym (ap (λ (m : BTreeMap Key TreeBuilder Global). m.entries) written ∙ c.in_ok-tree.ensures.update.1 new))) c.add_along.result c.add_along.ensures.added
 
-pub add_along-returns-in-Map-clause-added : goal.add_along-returns-in-Map-clause-added
-add_along-returns-in-Map-clause-added t c =
+pub add_further-returns-in-Map-clause-added : goal.add_further-returns-in-Map-clause-added
+add_further-returns-in-Map-clause-added t c =
     let pair = c.take_key-key.new.self in
     let h = rw (c.take_key-key.ensures.manner, c.take_key-key.ensures.leaf) at c.add_below.ensures in
     rw (c.in-Map.is, c.take_key-key.ensures.key, built_tree-Map c.in-Map.map, built_tree-Map c.add_below.new.map)

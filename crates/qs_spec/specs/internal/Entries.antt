@@ -10,6 +10,7 @@ use Rattle.qs_spec.specs.Grammar.{Pair, direct}
 use Rattle.qs_spec.specs.Entry.{Path, Entry}
 use Rattle.qs_spec.specs.Written.{has_key}
 
+-- the leaf and the path as which an entry's value and path are parsed
 abbrev pub entry_leaf : Bool → Option (List ℕ) → Leaf
 entry_leaf form None = NoValue
 entry_leaf form (Some bytes) = value_leaf (encoded form bytes)
@@ -39,5 +40,6 @@ pub record IsWritable (form : Bool) (depth : ℕ) (e : Entry) : Type 0 where
   pub short : length e.path ≤ depth + 1
   pub value : IsValueOf e.path e.value
 
+-- the entry has a key
 abbrev pub HasPath : Entry → Type 0
 HasPath e = has_key e.path ≡ true

@@ -25,6 +25,7 @@ abbrev pub lookup_index : Option ℕ → Entries → Option Tree
 lookup_index None es = None
 lookup_index (Some n) es = lookup (Int n) es
 
+-- a list of one, or of none
 abbrev pub list_of : Option Tree → List Tree
 list_of None = []
 list_of (Some t) = t ∷ []
@@ -34,6 +35,7 @@ abbrev pub IsInRange : Segment → Type 0
 IsInRange (Int n) = n ≤ 4294967295
 IsInRange (Str bytes) = ⊤
 
+-- a key is below those of the entries
 abbrev pub AreAbove : Segment → Entries → Type 0
 AreAbove k no_entries = ⊤
 AreAbove k (entry j mark t es) = (compare_segments k j ≡ Less) × AreAbove k es

@@ -25,6 +25,7 @@ read_scalar reject_duplicates empty get (leaf (Text bytes mark)) = get bytes
 read_scalar reject_duplicates empty get (sequence xs) = option_and_then get (last_item reject_duplicates xs)
 read_scalar reject_duplicates empty get _ = None
 
+-- no value, a character, and whatever is there
 abbrev pub read_unit : Reader
 read_unit (leaf NoValue) = Some Data.unit
 read_unit (leaf Null) = Some Data.unit
@@ -45,6 +46,7 @@ read_option r (leaf Null) = option_map Data.some (r (leaf NoValue))
 read_option r uninitialized = None
 read_option r t = option_map Data.some (r t)
 
+-- a list with one more in front, if there is a list
 abbrev pub with_front : {A : Type 0} → A → Option (List A) → Option (List A)
 with_front x r = option_map (λ xs. x ∷ xs) r
 
@@ -53,6 +55,7 @@ abbrev pub read_each : Reader → List (Option Tree) → Option (List Data)
 read_each r [] = Some []
 read_each r (x ∷ xs) = option_and_then (λ d. with_front d (read_each r xs)) (option_and_then r x)
 
+-- a list
 unfoldable pub read_list : Reader → Tree → Option (List Data)
 read_list r t = option_and_then (read_each r) (items t)
 
@@ -68,10 +71,12 @@ abbrev pub read_place : Bool → Reader → Items → Option (Option Data)
 read_place optional r no_items = cond optional (Some None) None
 read_place optional r (item t xs) = option_map Some (r t)
 
+-- the items after the first
 abbrev pub items_after : Items → Items
 items_after no_items = no_items
 items_after (item t xs) = xs
 
+-- a field in front of the others, unless it is left out
 abbrev pub with_field : List ℕ → Option Data → Option (List Named) → Option (List Named)
 with_field name None rest = rest
 with_field name (Some d) rest = with_front (name, d) rest
@@ -85,10 +90,12 @@ struct_members allowed names places (sequence xs) = places xs
 struct_members allowed names places (mapping es) = option_and_then (λ ms. cond (allowed es) (Some ms) None) (names es)
 struct_members allowed names places _ = None
 
+-- the pairs of a map, in the order of its keys
 abbrev pub read_pairs : KeyShape → Reader → Entries → Option (List (Data × Data))
 read_pairs k r no_entries = Some []
 read_pairs k r (entry key mark t es) = option_and_then (λ a. option_and_then (λ d. with_front (a, d) (read_pairs k r es)) (r t)) (key_data k (segment_text key))
 
+-- a map
 unfoldable pub read_map : KeyShape → Reader → Tree → Option (List (Data × Data))
 read_map k r (leaf NoValue) = Some []
 read_map k r (leaf Null) = Some []
@@ -96,6 +103,7 @@ read_map k r (leaf (Text bytes mark)) = read_pairs k r (under_empty (leaf (Text 
 read_map k r (mapping es) = read_pairs k r es
 read_map k r _ = None
 
+-- the variant holds nothing
 abbrev pub is_unit_kind : VariantKind → Bool
 is_unit_kind unit_kind = true
 is_unit_kind _ = false

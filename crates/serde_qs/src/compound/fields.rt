@@ -173,6 +173,7 @@ impl<T: RoundTrip + Drop, R: Fields> Fields for (T, R) {
         Ok((first, others))
     }
 
+    #[inline(never)]
     fn from_places(
         reader: Reader,
         names: &[&'static str],

@@ -7,7 +7,8 @@ use Rattle.std.proofs.lemmas.Bool.{cases_Bool, MatchBool-at_true, MatchBool-at_f
 use Rattle.qs_tree.specs.Error.{IsCustomSaying}
 use Rattle.qs_data.specs.declared.read.error.ReadError.{ReadError}
 use Rattle.qs_data.specs.declared.read.error.ReadError.TheVariants.{Custom, Utf8, OutOfMemory}
-use Rattle.qs_data.specs.read.internal.ReadError.{ReadGives, ReadRejects, ReadIsCustom, ReadSpares, ReadIsFrugal, error_of}
+use Rattle.qs_data.specs.read.Narrowed.{error_of}
+use Rattle.qs_data.specs.read.internal.ReadError.{ReadGives, ReadRejects, ReadIsCustom, ReadSpares, ReadIsFrugal}
 use Rattle.qs_data.specs.read.internal.Hint.{IsKeyError, IsHinted, hinted_text}
 
 -- what is rejected of a part is rejected of the whole

@@ -38,7 +38,8 @@ pub use Rattle.qs_data.specs.read.TreeText.{entries_are_text, is_text, items_are
 pub use Rattle.qs_data.specs.read.internal.GivenText.{data_by_text, given_text, utf8_text}
 pub use Rattle.qs_data.specs.read.internal.Keys.{entries_after, passed, unknown_of, value_in, when}
 pub use Rattle.qs_data.specs.read.internal.Nesting.{Advances, Begins, Enters, Extends, Visits, entries_left, frame_after, frame_data, frame_is_text, frame_size, items_left, list_begun, map_begun}
-pub use Rattle.qs_data.specs.read.internal.ReadError.{ReadGives, ReadIsCustom, ReadIsFrugal, ReadRejects, ReadSpares, error_of}
+pub use Rattle.qs_data.specs.read.Narrowed.{error_of}
+pub use Rattle.qs_data.specs.read.internal.ReadError.{ReadGives, ReadIsCustom, ReadIsFrugal, ReadRejects, ReadSpares}
 pub use Rattle.qs_data.specs.read.internal.Sizes.{entries_size, items_size, list_size, tree_size}
 pub use Rattle.qs_data.specs.shape.Variants.{variant_named}
 pub use Rattle.qs_data.specs.shape.Views.{field_of, fields_in, key_shape_of, kind_of, shape_of, shapes_in, variant_of, variants_in}

@@ -4,6 +4,7 @@ pub mod Reads
 pub mod TreeText
 pub mod Errors
 pub mod Gives
+pub mod Narrowed
 pub mod Items
 pub mod Entries
 pub mod Keys

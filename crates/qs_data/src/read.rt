@@ -20,6 +20,7 @@ mod variants;
 
 pub use by_shape::Reader;
 pub use deserializer::Deserializer;
+pub use error::ReadError;
 pub use items::Items;
 pub use keys::{BrokenKey, Entries, Found};
 pub use node::{find_value, read_value};

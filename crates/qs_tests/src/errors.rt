@@ -1,5 +1,6 @@
 //! What errors print, and what makers make.
 
+use qs_data::ReadError;
 use qs_tree::Error;
 use std::alloc::Global;
 use std::process::Abort;
@@ -38,6 +39,26 @@ fn prints<R: Abort>(rt: &R, alloc: Global, error: &Error, wanted: &str) -> Resul
     assert!(rt; !wanted.is_empty());
     assert_eq!(rt; error.to_string(alloc)?.as_str(), wanted);
     Ok(())
+}
+
+#[test]
+fn reading_has_three_errors(rt: HostRuntime) -> Result<(), Fail> {
+    let alloc = rt.alloc();
+    let missing = "missing field `a`";
+    let custom = ReadError::from(Error::Custom(String::from_str(alloc, missing)?));
+    prints(&rt, alloc, &Error::from(custom), missing)?;
+    let Err(cause) = str::from_utf8(b"\xFF") else {
+        return Err(Fail::from("a text"));
+    };
+    let text = cause.to_string(alloc)?;
+    prints(
+        &rt,
+        alloc,
+        &Error::from(ReadError::from(Error::Utf8(cause))),
+        &text,
+    )?;
+    let other = ReadError::from(Error::Failed);
+    prints(&rt, alloc, &Error::from(other), "out of memory")
 }
 
 #[test]

@@ -1,4 +1,5 @@
 pub mod Levels
+pub mod Narrowed
 pub mod NodeEntries
 pub mod NodeFields
 pub mod NodeItems

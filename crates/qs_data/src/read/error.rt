@@ -2,7 +2,7 @@
 
 ghost use Rattle.std.specs.Prelude.{◌≡◌};
 ghost use Rattle.qs_tree.specs.Error.{IsCustomSaying};
-ghost use Rattle.qs_data.specs.read.internal.ReadError.{error_of};
+ghost use Rattle.qs_data.specs.read.Narrowed.{error_of, narrowed};
 ghost use Rattle.qs_data.specs.declared.read.error.ReadError.TheVariants.{OutOfMemory};
 
 use qs_tree::Error;
@@ -13,9 +13,9 @@ use std::str::Utf8Error;
 /// What a function that reads returns: a value, or why there is none.
 pub(crate) type Result<T, E = ReadError> = std::result::Result<T, E>;
 
-/// Those errors that reading has. Each level of a tree hands them on, so they are a third as long as an [`Error`].
+/// Those errors that reading has. Each level of a tree passes them on, so they are a third as long as an [`Error`].
 #[derive(Drop)]
-pub(crate) enum ReadError {
+pub enum ReadError {
     /// The tree doesn't fit what is read from it; the message says why.
     Custom(String),
     /// Bytes that are read as text aren't UTF-8.
@@ -44,6 +44,20 @@ impl From<ReadError> for Error {
             ReadError::Custom(message) => Error::Custom(message),
             ReadError::Utf8(cause) => Error::Utf8(cause),
             ReadError::OutOfMemory => Error::OutOfMemory,
+        }
+    }
+}
+
+/// An error that reading doesn't have becomes [`OutOfMemory`](ReadError::OutOfMemory).
+impl From<Error> for ReadError {
+    ghost from_gives = { λ cause e. e ≡ narrowed cause };
+
+    #[inline(always)]
+    fn from(cause: Error) -> ReadError {
+        match cause {
+            Error::Custom(message) => ReadError::Custom(message),
+            Error::Utf8(cause) => ReadError::Utf8(cause),
+            _ => ReadError::OutOfMemory,
         }
     }
 }

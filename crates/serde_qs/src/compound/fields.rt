@@ -172,6 +172,7 @@ impl<T: Deserialize + Drop, R: Fields> Fields for (T, R) {
         Ok((first, others))
     }
 
+    #[inline(never)]
     fn from_places(
         reader: Reader,
         names: &[&'static str],

@@ -6,6 +6,7 @@ ghost use Rattle.qs_spec.specs.Shape.{field_names_differ, fields_of};
 ghost use Rattle.qs_spec.specs.internal.ReadFunction.{items_after, reads};
 ghost use Rattle.qs_tree.specs.tree.Views.{items_from, tree_of};
 ghost use Rattle.qs_data.specs.read.Gives.{Gives};
+ghost use Rattle.qs_data.specs.read.internal.ReadError.{ReadGives};
 ghost use Rattle.qs_data.specs.read.TreeText.{entries_are_text, is_text, items_are_text};
 ghost use Rattle.qs_data.specs.read.Keys.{NumbersFit, entries_view, unknown_of};
 ghost use Rattle.serde_qs.specs.Nodes.{missing_data};
@@ -15,7 +16,7 @@ ghost use Rattle.serde_qs.specs.Records.{texts};
 use super::defaulted::OrDefault;
 use super::fields::Fields;
 use crate::traits::Deserialize;
-use qs_data::{Entries, FieldNames, Found, Reader, Result, UnknownKeys};
+use qs_data::{Entries, FieldNames, Found, ReadError, Reader, Result, UnknownKeys};
 use qs_tree::ParsedValue;
 use std::marker::PhantomData;
 
@@ -28,22 +29,22 @@ pub(crate) fn struct_of<F: Fields>(
     unknown: UnknownKeys,
     names: &[&'static str],
     node: &ParsedValue<'_>,
-) -> Result<F>
+) -> Result<F, ReadError>
     requires { field_names_differ (fields_of (F.table.form (texts names.now))) ≡ true }
-    ensures { Gives F.table.value (is_text (tree_of node.now)) result
+    ensures { ReadGives F.table.value (is_text (tree_of node.now)) result
         (members_read (unknown_of unknown) reader.reject_duplicates (F.table.form (texts names.now)) (F.table.meaning (texts names.now)) (tree_of node.now)) }
 {
-    match node {
-        ParsedValue::NoValue | ParsedValue::Null => read_entries(
-            reader,
-            unknown,
-            names,
-            Entries::Empty,
-        ),
-        ParsedValue::Map(map) => read_entries(reader, unknown, names, Entries::Map(map)),
-        ParsedValue::Sequence(items) => F::from_places(reader, names, items, items.len()),
-        ParsedValue::String(_) | ParsedValue::Uninitialized => Err(reader.not_a_struct(node)),
-    }
+    let entries = match node {
+        ParsedValue::NoValue | ParsedValue::Null => Entries::Empty,
+        ParsedValue::Map(map) => Entries::Map(map),
+        ParsedValue::Sequence(items) => {
+            return Ok(F::from_places(reader, names, items, items.len())?);
+        }
+        ParsedValue::String(_) | ParsedValue::Uninitialized => {
+            return Err(ReadError::from(reader.not_a_struct(node)));
+        }
+    };
+    read_entries(reader, unknown, names, entries)
 }
 
 /// Returns the fields that a struct variant holds: those of a struct, where a text counts as a map from the empty key to it.
@@ -53,9 +54,9 @@ pub(crate) fn variant_of<F: Fields>(
     unknown: UnknownKeys,
     names: &[&'static str],
     node: &ParsedValue<'_>,
-) -> Result<F>
+) -> Result<F, ReadError>
     requires { field_names_differ (fields_of (F.table.form (texts names.now))) ≡ true }
-    ensures { Gives F.table.value (is_text (tree_of node.now)) result
+    ensures { ReadGives F.table.value (is_text (tree_of node.now)) result
         (members_read (unknown_of unknown) reader.reject_duplicates (F.table.form (texts names.now)) (F.table.meaning (texts names.now)) (as_map (tree_of node.now))) }
 {
     match node {
@@ -71,9 +72,9 @@ fn read_entries<F: Fields>(
     unknown: UnknownKeys,
     names: &[&'static str],
     entries: Entries<'_, '_>,
-) -> Result<F>
+) -> Result<F, ReadError>
     requires { field_names_differ (fields_of (F.table.form (texts names.now))) ≡ true }
-    ensures { Gives F.table.value (entries_are_text (entries_view entries.entry)) result
+    ensures { ReadGives F.table.value (entries_are_text (entries_view entries.entry)) result
         (names_read (unknown_of unknown) reader.reject_duplicates (F.table.form (texts names.now)) (F.table.meaning (texts names.now)) (entries_view entries.entry)) }
 {
     let are_text = entries.keys_are_text();
@@ -88,7 +89,7 @@ fn read_entries<F: Fields>(
     }
     match entries.test() {
         Ok(()) => Ok(fields),
-        Err(key) => Err(key.into_error(reader.alloc)),
+        Err(key) => Err(ReadError::from(key.into_error(reader.alloc))),
     }
 }
 
@@ -113,15 +114,15 @@ pub(crate) fn by_name<T: Deserialize>(
     reader: Reader,
     name: &str,
     entries: Entries<'_, '_>,
-) -> Result<T>
+) -> Result<T, ReadError>
     requires { NumbersFit (entries_view entries) }
-    ensures { Gives T.table.value (entries_are_text (entries_view entries.entry)) result
+    ensures { ReadGives T.table.value (entries_are_text (entries_view entries.entry)) result
         (value_found T.table.meaning (option_and_then T.table.meaning (missing_data T.table.form)) (reads reader.reject_duplicates T.table.form) (found name.now (entries_view entries.entry))) }
 {
     match entries.find(name) {
-        Found::Missing => T::from_missing(reader, name),
-        Found::One(node) => T::from_node(reader, node),
-        Found::Several => Err(reader.duplicate_field(name)),
+        Found::Missing => Ok(T::from_missing(reader, name)?),
+        Found::One(node) => Ok(T::from_node(reader, node)?),
+        Found::Several => Err(ReadError::from(reader.duplicate_field(name))),
     }
 }
 
@@ -130,15 +131,15 @@ pub(crate) fn optional_by_name<T: Deserialize>(
     reader: Reader,
     name: &str,
     entries: Entries<'_, '_>,
-) -> Result<Option<T>>
+) -> Result<Option<T>, ReadError>
     requires { NumbersFit (entries_view entries) }
-    ensures { Gives (option_map T.table.value) (entries_are_text (entries_view entries.entry)) result
+    ensures { ReadGives (option_map T.table.value) (entries_are_text (entries_view entries.entry)) result
         (value_found (λ d. option_map Some (T.table.meaning d)) (Some None) (reads reader.reject_duplicates T.table.form) (found name.now (entries_view entries.entry))) }
 {
     match entries.find(name) {
         Found::Missing => Ok(None),
         Found::One(node) => Ok(Some(T::from_node(reader, node)?)),
-        Found::Several => Err(reader.duplicate_field(name)),
+        Found::Several => Err(ReadError::from(reader.duplicate_field(name))),
     }
 }
 
@@ -147,15 +148,15 @@ pub(crate) fn defaulted_by_name<T: OrDefault>(
     reader: Reader,
     name: &str,
     entries: Entries<'_, '_>,
-) -> Result<T>
+) -> Result<T, ReadError>
     requires { NumbersFit (entries_view entries) }
-    ensures { Gives T.table.value (entries_are_text (entries_view entries.entry)) result
+    ensures { ReadGives T.table.value (entries_are_text (entries_view entries.entry)) result
         (value_found T.table.meaning (T.table.meaning T.default) (reads reader.reject_duplicates T.table.form) (found name.now (entries_view entries.entry))) }
 {
     match entries.find(name) {
-        Found::Missing => T::missing(reader.alloc),
-        Found::One(node) => T::from_node(reader, node),
-        Found::Several => Err(reader.duplicate_field(name)),
+        Found::Missing => Ok(T::missing(reader.alloc)?),
+        Found::One(node) => Ok(T::from_node(reader, node)?),
+        Found::Several => Err(ReadError::from(reader.duplicate_field(name))),
     }
 }
 

@@ -59,10 +59,11 @@ pub trait Parts: Sized {
         requires { is_distinct (table.form (texts names.now)) ≡ true }
         ensures source { ReadsSource table.value (table.form (texts names.now)) (table.meaning (texts names.now)) source.entry result }
     {
-        match source {
-            Source::Data(alloc, datum) => Self::from_data(alloc, names, datum),
-            Source::Node(reader, node) => Self::from_node(reader, names, node),
-        }
+        let (reader, node) = match source {
+            Source::Data(alloc, datum) => return Self::from_data(alloc, names, datum),
+            Source::Node(reader, node) => (reader, node),
+        };
+        Self::from_node(reader, names, node)
     }
 }
 

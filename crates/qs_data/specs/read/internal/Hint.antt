@@ -6,7 +6,7 @@ use Rattle.qs_tree.specs.declared.error.Error.{Error}
 use Rattle.qs_tree.specs.Error.{IsCustomSaying, error_text}
 use Rattle.qs_data.specs.declared.read.error.ReadError.{ReadError}
 use Rattle.qs_data.specs.declared.read.error.ReadError.TheVariants.{OutOfMemory}
-use Rattle.qs_data.specs.read.internal.ReadError.{error_of}
+use Rattle.qs_data.specs.read.Narrowed.{error_of}
 
 -- the text of an error, and the hint after it
 abbrev pub hinted_text : Error → Option (List ℕ)

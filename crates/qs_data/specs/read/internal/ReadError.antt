@@ -1,18 +1,10 @@
 -- What a function that reads returns, against what the definitions give.
 use Rattle.std.specs.Prelude.{◌≡◌, ⊤, Bool, Result, Ok, Err, Option, Some}
-use Rattle.qs_tree.specs.declared.error.Error.{Error}
-use Rattle.qs_tree.specs.declared.error.Error.TheVariants as e
 use Rattle.qs_data.specs.declared.read.error.ReadError.{ReadError}
-use Rattle.qs_data.specs.declared.read.error.ReadError.TheVariants.{Custom, Utf8, OutOfMemory}
 use Rattle.qs_data.specs.read.Errors.{IsCustomOrOutOfMemory}
 use Rattle.qs_data.specs.read.Gives.{Rejects}
+use Rattle.qs_data.specs.read.Narrowed.{error_of}
 use Rattle.qs_data.specs.read.internal.Frugal.{Spares}
-
--- the error that a caller sees
-abbrev pub error_of : ReadError → Error
-error_of (Custom message) = e.Custom message
-error_of (Utf8 cause) = e.Utf8 cause
-error_of OutOfMemory = e.OutOfMemory
 
 -- each of these says the same of the error that a caller sees
 abbrev pub ReadIsCustom : ReadError → Type 0

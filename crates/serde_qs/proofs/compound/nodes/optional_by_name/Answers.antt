@@ -6,10 +6,10 @@ use Rattle.qs_spec.specs.internal.ReadFunction.{reads}
 use Rattle.qs_tree.specs.tree.Views.{tree_of}
 use Rattle.qs_data.specs.read.TreeText.{entries_are_text, is_text}
 use Rattle.qs_data.specs.read.Keys.{entries_view}
-use Rattle.qs_data.proofs.lemmas.read.Errors.{gives_exit}
 use Rattle.qs_data.proofs.lemmas.read.Fields.{found_bad}
 use Rattle.serde_qs.specs.internal.NodeParts.{value_found}
-use Rattle.serde_qs.proofs.NodeValues.{found_twice, some_read}
+use Rattle.serde_qs.proofs.Narrowed.{narrowed_exit, several_exit}
+use Rattle.serde_qs.proofs.NodeValues.{some_read}
 use Rattle.serde_qs.proofs.compound.nodes.optional_by_name.Goals as goal
 
 pub returns-in_err-from_node-in-One : goal.returns-in_err-from_node-in-One
@@ -19,7 +19,7 @@ returns-in_err-from_node-in-One g c =
     let n = tree_of c.in-One.node.now in
     let r = reads c.args.reader.reject_duplicates t.form in
     let m : Data → Option (Option t.Value) = λ d. option_map Some (t.meaning d) in
-    gives_exit (option_map t.value) (is_text n) (entries_are_text es) c.from_residual.result c.in_err-from_node-in-One.field-0.0 (option_and_then t.meaning (r n)) (value_found m (Some None) r (found c.args.name.now es))
+    narrowed_exit (option_map t.value) (is_text n) (entries_are_text es) c.from_residual.result c.in_err-from_node-in-One.field-0.0 (option_and_then t.meaning (r n)) (value_found m (Some None) r (found c.args.name.now es))
     c.from_residual.ensures.1 c.in_err-from_node-in-One.ensures.node
     (λ none. ap (value_found m (Some None) r) c.in-One.ensures ∙ sym (some_read t.meaning (r n)) ∙ ap (option_map Some) none) (found_bad c.args.name.now es n [] c.in-One.ensures)
 
@@ -38,5 +38,5 @@ returns-in-Several g c =
     let es = entries_view c.args.entries in
     let two = c.in-Several.ensures in
     let m : Data → Option (Option t.Value) = λ d. option_map Some (t.meaning d) in
-    found_twice (entries_are_text es) c.duplicate_field.result m (Some None) (reads c.args.reader.reject_duplicates t.form) (found c.args.name.now es) two.0 two.1 two.2
-    c.duplicate_field.ensures two.3
+    several_exit (entries_are_text es) c.from.result c.duplicate_field.result m (Some None) (reads c.args.reader.reject_duplicates t.form) (found c.args.name.now es) two.0 two.1 two.2
+    c.from.ensures c.duplicate_field.ensures two.3

@@ -3,11 +3,12 @@ use Rattle.qs_spec.specs.Node.{keys_are_names, keys_are_text}
 use Rattle.qs_spec.specs.Shape.{are_ignored, fields_of}
 use Rattle.qs_data.specs.read.TreeText.{entries_are_text}
 use Rattle.qs_data.specs.read.Keys.{entries_view, unknown_of, when}
-use Rattle.qs_data.proofs.lemmas.read.Errors.{and_right, gives_exit}
+use Rattle.qs_data.proofs.lemmas.read.Errors.{and_right}
 use Rattle.qs_data.proofs.lemmas.read.Unknown.{fails, passes}
 use Rattle.serde_qs.specs.Nodes.{by_names}
 use Rattle.serde_qs.specs.internal.NodeParts.{names_read}
 use Rattle.serde_qs.specs.Records.{texts}
+use Rattle.serde_qs.proofs.Narrowed.{narrowed_exit, narrowed_rejects}
 use Rattle.serde_qs.proofs.NodeValues.{names_broken, names_disallowed, names_ok, names_unread}
 use Rattle.serde_qs.proofs.compound.nodes.read_entries.Goals as goal
 
@@ -19,7 +20,7 @@ returns-in_err-fields g c =
     let st = c.args.reader.reject_duplicates in
     let fs = t.form (texts c.args.names.now) in
     let m = t.meaning (texts c.args.names.now) in
-    gives_exit t.value (entries_are_text es) (entries_are_text es) c.from_residual.result c.in_err-fields.field-0.0 (by_names st fs m es) (names_read u st fs m es)
+    narrowed_exit t.value (entries_are_text es) (entries_are_text es) c.from_residual.result c.in_err-fields.field-0.0 (by_names st fs m es) (names_read u st fs m es)
     c.from_residual.ensures.1 c.in_err-fields.ensures (names_unread u st fs m es) (λ f. f)
 
 pub returns-in_err-reject : goal.returns-in_err-reject
@@ -31,7 +32,7 @@ returns-in_err-reject g c =
     let fs = t.form (texts c.args.names.now) in
     let m = t.meaning (texts c.args.names.now) in
     let known = keys_are_names (fields_of fs) es || are_ignored u in
-    gives_exit t.value (entries_are_text es) (entries_are_text es) c.from_residual-in_err-reject.result c.in_err-reject.field-0.0 (when known) (names_read u st fs m es)
+    narrowed_exit t.value (entries_are_text es) (entries_are_text es) c.from_residual-in_err-reject.result c.in_err-reject.field-0.0 (when known) (names_read u st fs m es)
     c.from_residual-in_err-reject.ensures.1 c.in_err-reject.ensures (λ none. names_disallowed u st fs m es (and_right (keys_are_text es) known (fails known none))) (λ f. f)
 
 pub returns-in-Ok : goal.returns-in-Ok
@@ -47,4 +48,9 @@ pub returns-in-Err : goal.returns-in-Err
 returns-in-Err g c =
     let t = g.F.Fields.table in
     let es = entries_view c.args.entries in
-    names_broken (unknown_of c.args.unknown) c.args.reader.reject_duplicates (t.form (texts c.args.names.now)) (t.meaning (texts c.args.names.now)) es c.into_error.result c.in-Err.ensures.text c.into_error.ensures
+    let u = unknown_of c.args.unknown in
+    let st = c.args.reader.reject_duplicates in
+    let fs = t.form (texts c.args.names.now) in
+    let m = t.meaning (texts c.args.names.now) in
+    narrowed_rejects (entries_are_text es) c.from.result c.into_error.result (names_read u st fs m es) c.from.ensures
+    (names_broken u st fs m es c.into_error.result c.in-Err.ensures.text c.into_error.ensures)

@@ -2,6 +2,7 @@ use Rattle.std.specs.Option.{option_and_then}
 use Rattle.qs_spec.specs.Node.{found}
 use Rattle.qs_spec.specs.internal.ReadFunction.{reads}
 use Rattle.qs_data.specs.read.TreeText.{entries_are_text}
+use Rattle.qs_data.specs.read.Narrowed.{error_of}
 use Rattle.qs_data.specs.read.Keys.{entries_view}
 use Rattle.serde_qs.specs.Nodes.{by_names, missing_data}
 use Rattle.serde_qs.specs.internal.NodeParts.{value_found}
@@ -25,7 +26,7 @@ returns-in_err-first g c =
     let names = texts c.args.names.now in
     let es = entries_view c.args.entries in
     let whole = pair_named t.meaning r.meaning st t.form r.form names c.split.result.0.now (texts c.split.result.1.now) c.split.ensures.first c.split.ensures.others es in
-    first_unread _ (entries_are_text es) (entries_are_text es) c.from_residual.result c.in_err-first.field-0.0 _ (value_found t.meaning (option_and_then t.meaning (missing_data t.form)) (reads st t.form) (found c.split.result.0.now es))
+    first_unread _ (entries_are_text es) (entries_are_text es) c.from_residual.result (error_of c.in_err-first.field-0.0) _ (value_found t.meaning (option_and_then t.meaning (missing_data t.form)) (reads st t.form) (found c.split.result.0.now es))
     (by_names st (r.form (texts c.split.result.1.now)) (r.meaning (texts c.split.result.1.now)) es) c.from_residual.ensures.1 c.in_err-first.ensures whole (λ f. f)
 
 pub returns-in_err-others : goal.returns-in_err-others

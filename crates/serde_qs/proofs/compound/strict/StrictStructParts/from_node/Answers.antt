@@ -2,6 +2,7 @@ use Rattle.std.proofs.Common.{sym, ◌∙◌}
 use Rattle.qs_spec.specs.Shape.{UnknownKeys}
 use Rattle.qs_tree.specs.tree.Views.{tree_of}
 use Rattle.qs_data.specs.read.TreeText.{is_text}
+use Rattle.qs_data.specs.read.Narrowed.{error_of}
 use Rattle.qs_data.proofs.lemmas.read.Errors.{gives_exit}
 use Rattle.serde_qs.specs.internal.NodeParts.{members_read}
 use Rattle.serde_qs.specs.Records.{texts}
@@ -15,7 +16,7 @@ returns-in_err-struct_of g c =
     let st = c.args.reader.reject_duplicates in
     let fs = t.form (texts c.args.names.now) in
     let m = t.meaning (texts c.args.names.now) in
-    record { node = gives_exit _ (is_text n) (is_text n) c.from_residual.result c.in_err-struct_of.field-0.0 (members_read UnknownKeys.rejected st fs m n) _ c.from_residual.ensures.1 c.in_err-struct_of.ensures (λ none. sym (struct_read UnknownKeys.rejected st fs m n) ∙ none) (λ f. f) }
+    record { node = gives_exit _ (is_text n) (is_text n) c.from_residual.result (error_of c.in_err-struct_of.field-0.0) (members_read UnknownKeys.rejected st fs m n) _ c.from_residual.ensures.1 c.in_err-struct_of.ensures (λ none. sym (struct_read UnknownKeys.rejected st fs m n) ∙ none) (λ f. f) }
 
 pub returns : goal.returns
 returns g c =

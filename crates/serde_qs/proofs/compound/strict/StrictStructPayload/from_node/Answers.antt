@@ -5,6 +5,7 @@ use Rattle.qs_spec.specs.Shape.{UnknownKeys}
 use Rattle.qs_tree.specs.tree.Views.{tree_of}
 use Rattle.qs_data.specs.read.Held.{held_is_text}
 use Rattle.qs_data.specs.read.TreeText.{is_text}
+use Rattle.qs_data.specs.read.Narrowed.{error_of}
 use Rattle.qs_data.proofs.lemmas.read.Errors.{gives_exit}
 use Rattle.serde_qs.specs.internal.NodeParts.{members_read}
 use Rattle.serde_qs.specs.Records.{texts}
@@ -20,7 +21,7 @@ returns-in_err-variant_of g c = λ name.
     let o = option_map (λ v. tree_of v.now) c.args.held in
     let n = tree_of c.in_ok-node.node.now in
     let here : o ≡ Some n = c.in_ok-node.ensures in
-    gives_exit _ (is_text n) (held_is_text o) c.from_residual-in_err-variant_of.result c.in_err-variant_of.field-0.0 (members_read UnknownKeys.rejected st fs m (as_map n)) _
+    gives_exit _ (is_text n) (held_is_text o) c.from_residual-in_err-variant_of.result (error_of c.in_err-variant_of.field-0.0) (members_read UnknownKeys.rejected st fs m (as_map n)) _
     c.from_residual-in_err-variant_of.ensures.1 c.in_err-variant_of.ensures
     (λ none. struct_held m UnknownKeys.rejected st fs name o ∙ ap (option_and_then (λ x. members_read UnknownKeys.rejected st fs m (as_map x))) here ∙ none) (λ f. ap held_is_text here ∙ f)
 

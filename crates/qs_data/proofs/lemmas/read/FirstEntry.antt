@@ -1,5 +1,5 @@
 -- The first of the entries that are left.
-use Rattle.qs_data.proofs.Common.{◌≡◌, ℕ, zero, suc, ◌+◌, ◌&&◌, Bool, true, false, cond, List, [], slice_get, Option, Some, None, refl, sym, ap, ◌∙◌, is_utf8, Step, segment_text, Tree, Entries, no_entries, entry, keys_are_text, under_empty, entry_list, first_entry, entries_are_text, is_text, utf8_text, and-true}
+use Rattle.qs_data.proofs.Common.{◌≡◌, ℕ, zero, suc, ◌+◌, Bool, true, false, cond, List, [], slice_get, Option, Some, None, refl, sym, ap, ◌∙◌, is_utf8, Step, segment_text, Tree, Entries, no_entries, entry, keys_are_text, under_empty, entry_list, first_entry, utf8_text}
 use Rattle.std.specs.Prelude.{if◌then◌else◌}
 use Rattle.qs_data.specs.read.Entries.{entries_after}
 use Rattle.qs_data.proofs.lemmas.read.Entries.{after_none, after_some}
@@ -48,6 +48,3 @@ nothing_after (suc i) = refl
 pub lone_end : (i : ℕ) (t : Tree) → (i ≡ 0 → ⊥) → first_entry (entries_after i (under_empty t)) ≡ Some None
 lone_end zero t h = absurd (h refl)
 lone_end (suc i) t h = nothing_after i
-
-pub lone_bad : (t : Tree) → entries_are_text (under_empty t) ≡ false → is_text t ≡ false
-lone_bad t h = sym (and-true (is_text t)) ∙ sym (ap (λ b. (b && is_text t) && true) empty_text) ∙ h

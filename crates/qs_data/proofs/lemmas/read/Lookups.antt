@@ -1,5 +1,7 @@
 -- What a map has under a name is found by two look-ups.
 use Rattle.qs_data.proofs.Common.{◌≡◌, ℕ, ◌<◌, ◌^◌, true, false, List, [], ◌∷◌, ◌++◌, Option, Some, None, decimal, Less, Equal, Greater, refl, sym, ap, subst, ltb, ◌∙◌, inl, inr, arith, bytes_eq, is_eq, cases_Bool, false≢true, nat_tests, decimal_injective, Segment, is_same_segment, Tree, Entries, no_entries, entry, found, option_map, ParsedValue, find, tree_of, NumbersFit, value_in}
+use Rattle.std.proofs.lemmas.Cmp.{nat_list_eq_equiv}
+use Rattle.qs_spec.proofs.VariantNames.{bytes_equal}
 use Rattle.std.specs.Cmp.{nat_cmp_is}
 use Rattle.std.proofs.lemmas.Map.Text.{is_eq-slice_cmp}
 use Rattle.std.proofs.lemmas.Slice.Eq.{bytes_eq-Decides}
@@ -22,20 +24,8 @@ abbrev pub list : Option Tree → List Tree
 list None = []
 list (Some t) = t ∷ []
 
-pub bytes_eq_true : (a b : List ℕ) → bytes_eq a b ≡ true → a ≡ b
-bytes_eq_true a b h = (bytes_eq-Decides a b).0 h
-
 pub bytes_eq_same : (a b : List ℕ) → a ≡ b → bytes_eq a b ≡ true
 bytes_eq_same a b h = (bytes_eq-Decides a b).1 h
-
-bytes_eq_sym : (a b : List ℕ) → bytes_eq a b ≡ bytes_eq b a
-bytes_eq_sym a b = elim (cases_Bool (bytes_eq a b)) [
-  | inl is ↦ is ∙ sym (bytes_eq_same b a (sym (bytes_eq_true a b is)))
-  | inr not ↦ elim (cases_Bool (bytes_eq b a)) [
-    | inl is ↦ absurd (false≢true (sym not ∙ bytes_eq_same a b (sym (bytes_eq_true b a is))))
-    | inr both ↦ not ∙ sym both
-  ]
-]
 
 number_same : (n j : ℕ) → n ≡ j → is_same_segment (Int n) (Int j) ≡ true
 number_same n j h = ap is_eq (sym (nat_cmp_is n j Equal h))
@@ -47,18 +37,18 @@ number_other n j h = elim (cases_Bool (ltb n j)) [
 ]
 
 same_text : (b name : List ℕ) → is_same_segment (Str name) (Str b) ≡ bytes_eq b name
-same_text b name = is_eq-slice_cmp name b ∙ bytes_eq_sym name b
+same_text b name = is_eq-slice_cmp name b ∙ nat_list_eq_equiv.symm name b
 
 -- a name that is no number
 pub found_text : (name : List ℕ) (es : Entries) → AreOrdered es → NumbersFit es → ((n : ℕ) → n < 2 ^ 32 → decimal n ≡ name → ⊥) → found name es ≡ list (find (Str name) es)
 found_text name no_entries o f h = refl
 found_text name (entry (Int j) m t es) o f h = elim (cases_Bool (bytes_eq (decimal j) name)) [
-  | inl is ↦ absurd (h j f.0 (bytes_eq_true (decimal j) name is))
+  | inl is ↦ absurd (h j f.0 (bytes_equal (decimal j) name is))
   | inr not ↦ rw not (found_text name es o.1 f.1 h)
 ]
 found_text name (entry (Str b) m t es) o f h = elim (cases_Bool (bytes_eq b name)) [
   | inl is ↦
-      let before : IsBefore (Str name) es = subst (λ x. IsBefore (Str x) es) (bytes_eq_true b name is) o.0 in
+      let before : IsBefore (Str name) es = subst (λ x. IsBefore (Str x) es) (bytes_equal b name is) o.0 in
       let rest : found name es ≡ [] = found_text name es o.1 f.1 h ∙ ap list (absent (Str name) es before) in
       rw (same_text b name, is) (ap (λ ts. t ∷ ts) rest)
   | inr not ↦ rw (same_text b name, not) (found_text name es o.1 f.1 h)
@@ -69,7 +59,7 @@ pub found_number : (name : List ℕ) (n : ℕ) (es : Entries) → AreOrdered es 
 found_number name n no_entries o f lt is = refl
 found_number name n (entry (Int j) m t es) o f lt is = elim (cases_Bool (bytes_eq (decimal j) name)) [
   | inl here ↦
-      let same : n ≡ j = decimal_injective n j (omega arith) (omega (arith, f.0)) (is ∙ sym (bytes_eq_true (decimal j) name here)) in
+      let same : n ≡ j = decimal_injective n j (omega arith) (omega (arith, f.0)) (is ∙ sym (bytes_equal (decimal j) name here)) in
       let before : IsBefore (Int n) es = subst (λ x. IsBefore (Int x) es) (sym same) o.0 in
       let rest : found name es ≡ list (find (Str name) es) = found_number name n es o.1 f.1 lt is ∙ ap (λ r. list r ++ list (find (Str name) es)) (absent (Int n) es before) in
       rw (number_same n j same, here) (ap (λ ts. t ∷ ts) rest)
@@ -79,7 +69,7 @@ found_number name n (entry (Int j) m t es) o f lt is = elim (cases_Bool (bytes_e
 ]
 found_number name n (entry (Str b) m t es) o f lt is = elim (cases_Bool (bytes_eq b name)) [
   | inl here ↦
-      let before : IsBefore (Str name) es = subst (λ x. IsBefore (Str x) es) (bytes_eq_true b name here) o.0 in
+      let before : IsBefore (Str name) es = subst (λ x. IsBefore (Str x) es) (bytes_equal b name here) o.0 in
       let rest : found name es ≡ [] = found_number name n es o.1 f.1 lt is ∙ ap (λ r. list r ++ list (find (Str name) es)) (no_number b n es o.0) ∙ ap list (absent (Str name) es before) in
       rw (same_text b name, here, no_number b n es o.0) (ap (λ ts. t ∷ ts) rest)
   | inr not ↦ rw (same_text b name, not) (found_number name n es o.1 f.1 lt is)

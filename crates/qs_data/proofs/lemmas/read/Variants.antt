@@ -1,5 +1,6 @@
 -- The variant of a name.
-use Rattle.qs_data.proofs.Common.{◌≡◌, ℕ, ◌+◌, ◌<◌, Bool, true, false, ◌&&◌, cond, List, ◌∷◌, Option, Some, None, drop, length, get_or, slice_get, refl, sym, ap, ◌∙◌, rules, inl, inr, string_bytes, option_map, option_and_then, bytes_eq, cases_Bool, drop_more, is_utf8, false≢true, Global, Segment, segment_text, Variants, no_variants, one_variant, Tree, Entries, mapping, entry, as_map, under_empty, reads_variant, reads_kind, unit_variant_data, is_unit_kind, tree_of, variant_of, variants_in, kind_of, is_text, entries_are_text, variant_named, slice_get-get_or}
+use Rattle.qs_data.proofs.Common.{◌≡◌, ℕ, ◌+◌, ◌<◌, Bool, true, false, ◌&&◌, cond, List, ◌∷◌, Option, Some, None, drop, length, get_or, slice_get, refl, sym, ap, ◌∙◌, rules, inl, inr, string_bytes, option_map, option_and_then, bytes_eq, cases_Bool, drop_more, is_utf8, Global, Segment, segment_text, Variants, no_variants, one_variant, Tree, Entries, mapping, entry, as_map, under_empty, reads_variant, reads_kind, unit_variant_data, is_unit_kind, tree_of, variant_of, variants_in, kind_of, is_text, entries_are_text, variant_named, slice_get-get_or}
+use Rattle.std.proofs.Math.Bool.{and-true}
 use Rattle.std.specs.declared.borrow.CowSlice.{CowSlice}
 use Rattle.std.specs.declared.borrow.CowSlice.TheVariants.{Borrowed, Owned}
 use Rattle.qs_spec.specs.Data.{Data}
@@ -96,7 +97,4 @@ text_as_map (Borrowed r) = search (rules, value.the_lemmas)
 text_as_map (Owned v) = search (rules, value.the_lemmas)
 
 pub under_bad : (t : Tree) → entries_are_text (under_empty t) ≡ false → is_text t ≡ false
-under_bad t h = elim (cases_Bool (is_text t)) [
-  | inl is ↦ absurd (false≢true (sym h ∙ ap (λ a. (a && is_text t) && true) empty_text ∙ ap (λ b. (true && b) && true) is))
-  | inr not ↦ not
-]
+under_bad t h = sym (and-true (is_text t)) ∙ sym (ap (λ b. (b && is_text t) && true) empty_text) ∙ h

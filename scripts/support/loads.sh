@@ -16,7 +16,7 @@ declare -A most_bytes=([pairs]=320 [maps]=1200)
 # A shorter run counts as one of so many seconds: the program's start is most of it.
 least_seconds=0.01
 # A run that took longer is tried again, so often in all: another process may have been in the way.
-most_runs=3
+most_runs=8
 # The command that the measures are run by.
 measure=any
 declare -A measures=()

@@ -1,25 +1,19 @@
 //! How the parts of a value are written, in the words of their tables.
 
-ghost use Rattle.std.specs.Prelude.{◌≡◌, true, IfOk, option_and_then};
+ghost use Rattle.std.specs.Prelude.{◌≡◌, true, IfOk};
 ghost use Rattle.qs_spec.specs.Data.{members_of, values_of};
 ghost use Rattle.qs_spec.specs.Data as d;
 ghost use Rattle.qs_tree.specs.Error.{OnlyOutOfMemory};
 ghost use Rattle.qs_data.specs.data.Views.{data_of};
-ghost use Rattle.qs_data.specs.shape.Views.{shape_of};
 ghost use Rattle.qs_data.specs.write.Parts.{WritesPart, data_part, members_part, under};
-ghost use Rattle.qs_tree.specs.tree.Views.{tree_of};
 ghost use Rattle.serde_qs.specs.Fits.{fits};
-ghost use Rattle.serde_qs.specs.Nodes.{ReadsNode, missing_data};
 ghost use Rattle.serde_qs.specs.Records.{texts};
-ghost use Rattle.serde_qs.specs.Typed.{Means};
 
-use super::defaulted::OrDefault;
 use super::references::{FieldReferences, ListedReferences};
 use super::written::{tuple_struct, tuple_variant};
 use crate::parts;
-use crate::traits::{Deserialize, RoundTrip, Serialize};
-use qs_data::{Data, Reader, Result, Scalar, Shape, WriteResult, Writer};
-use qs_tree::ParsedValue;
+use crate::traits::{RoundTrip, Serialize};
+use qs_data::{Data, Result, Scalar, WriteResult, Writer};
 use std::alloc::Global;
 
 /// Returns the data of a value.

@@ -1,12 +1,11 @@
 //! A list of whole numbers in one text, as a field of a struct.
 
-ghost use Rattle.std.specs.Prelude.{◌≡◌, ◌-◌, ◌^◌, ℕ, nat_le, List, true, map, refl};
+ghost use Rattle.std.specs.Prelude.{◌≡◌, ◌-◌, ◌^◌, ℕ, nat_le, true, map, refl};
 ghost use Rattle.std.specs.Fmt.{decimal, signed_decimal};
 ghost use Rattle.std.specs.List.{list_all};
 ghost use Rattle.qs_spec.specs.Scalar.{signed_number, unsigned_number};
 ghost use Rattle.qs_spec.specs.Shape as s;
 ghost use Rattle.serde_qs.specs.Delimited.{NumbersComeBack, is_number_delimiter, list_data};
-ghost use Rattle.serde_qs.specs.internal.DelimitedComesBack.{list_comes_back};
 ghost use Rattle.serde_qs.specs.Fits.{fits, is_signed};
 ghost use Rattle.serde_qs.specs.Items.{list_in};
 ghost use Rattle.serde_qs.specs.internal.NumberLists.{signed_items, unsigned_items};

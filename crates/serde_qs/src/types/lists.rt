@@ -1,6 +1,6 @@
 //! Lists.
 
-ghost use Rattle.std.specs.Prelude.{List, map, option_and_then};
+ghost use Rattle.std.specs.Prelude.{map, option_and_then};
 ghost use Rattle.qs_spec.specs.Data as d;
 ghost use Rattle.qs_spec.specs.Shape as s;
 ghost use Rattle.std.specs.declared.vec.Vec.{Vec};
@@ -12,8 +12,7 @@ ghost use Rattle.qs_data.specs.read.Items.{are_text, items_view};
 ghost use Rattle.qs_spec.specs.internal.ReadFunction.{reads};
 ghost use Rattle.serde_qs.specs.internal.NodeParts.{each_value};
 ghost use Rattle.serde_qs.specs.Typed.{Means};
-ghost use Rattle.serde_qs.specs.internal.ComesBack.{sequence_back};
-ghost use Rattle.serde_qs.specs.Meaning.{sequence_in, values_meant};
+ghost use Rattle.serde_qs.specs.Meaning.{values_meant};
 ghost use Rattle.serde_qs.specs.internal.OwnTables.{sequence_datum};
 ghost use Rattle.serde_qs.specs.Tables.{sequence_table};
 

@@ -1,6 +1,6 @@
 //! Maps whose keys are strings.
 
-ghost use Rattle.std.specs.Prelude.{◌≡◌, List, ℕ, Option, map, option_and_then};
+ghost use Rattle.std.specs.Prelude.{◌≡◌, map, option_and_then};
 ghost use Rattle.qs_spec.specs.Data as d;
 ghost use Rattle.qs_spec.specs.Shape as s;
 ghost use Rattle.qs_spec.specs.internal.ReadFunction.{reads};
@@ -9,10 +9,9 @@ ghost use Rattle.qs_data.specs.read.Gives.{Gives};
 ghost use Rattle.qs_data.specs.read.Keys.{entries_view};
 ghost use Rattle.qs_data.specs.read.TreeText.{entries_are_text};
 ghost use Rattle.qs_data.specs.write.Parts.{WritesPart, pairs_part};
-ghost use Rattle.serde_qs.specs.internal.MapsComeBack.{mapping_back};
 ghost use Rattle.serde_qs.specs.internal.NodeEntries.{entries_onto};
 ghost use Rattle.serde_qs.specs.Typed.{Means};
-ghost use Rattle.serde_qs.specs.Maps.{entry_data, values_by_text, pair_onto, pairs_onto, mapping_in, nowhere};
+ghost use Rattle.serde_qs.specs.Maps.{entry_data, values_by_text, pair_onto, pairs_onto, nowhere};
 ghost use Rattle.serde_qs.specs.internal.OwnTables.{mapping_datum};
 ghost use Rattle.serde_qs.specs.Tables.{mapping_table};
 

@@ -1,9 +1,8 @@
 //! Values that may be absent.
 
-ghost use Rattle.std.specs.Prelude.{Option, option_map};
+ghost use Rattle.std.specs.Prelude.{Option};
 ghost use Rattle.qs_spec.specs.Shape as s;
-ghost use Rattle.serde_qs.specs.internal.ComesBack.{option_back};
-ghost use Rattle.serde_qs.specs.Meaning.{option_in, option_data};
+ghost use Rattle.serde_qs.specs.Meaning.{option_data};
 ghost use Rattle.serde_qs.specs.internal.OwnTables.{option_datum};
 ghost use Rattle.serde_qs.specs.Tables.{option_table};
 

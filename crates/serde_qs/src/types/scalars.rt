@@ -1,6 +1,6 @@
 //! The unit, booleans, characters and strings.
 
-ghost use Rattle.std.specs.Prelude.{ℕ, Bool, List, refl, string_bytes};
+ghost use Rattle.std.specs.Prelude.{Bool, refl, string_bytes};
 ghost use Rattle.std.specs.Str.{is_utf8};
 ghost use lib.Utf8.{scalar};
 ghost use Rattle.qs_spec.specs.Data as d;

@@ -1,11 +1,10 @@
 //! Signed numbers of 8 to 64 bits.
 
-ghost use Rattle.std.specs.Prelude.{◌≡◌, ◌≤ℤ◌, ℤ, Bool, true, ◌&&◌, IfOk, refl};
+ghost use Rattle.std.specs.Prelude.{◌≡◌, ◌≤ℤ◌, ℤ, ◌&&◌, IfOk, refl};
 ghost use Rattle.qs_spec.specs.Data as d;
 ghost use Rattle.qs_spec.specs.Shape as s;
 ghost use Rattle.qs_data.specs.data.Views.{data_of};
 ghost use Rattle.serde_qs.specs.internal.ComesBack.{signed_back};
-ghost use Rattle.serde_qs.specs.Fits.{is_signed};
 ghost use Rattle.serde_qs.specs.Meaning.{signed_between, signed_in};
 ghost use Rattle.serde_qs.specs.Tables.{table_of};
 ghost use Rattle.serde_qs.specs.Typed.{Means};

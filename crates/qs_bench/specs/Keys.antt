@@ -12,6 +12,7 @@ root_keys (leaf l) = 0
 root_keys (sequence xs) = 0
 root_keys uninitialized = 0
 
+-- at the root of the first key's value
 abbrev pub keys_of_first : List (Step × Tree) → ℕ
 keys_of_first [] = 0
 keys_of_first (p ∷ ps) = root_keys p.1

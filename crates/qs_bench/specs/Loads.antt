@@ -4,6 +4,7 @@ use Rattle.qs_spec.specs.Shape.{Shape, KeyShape, Field, fields_of}
 use Rattle.qs_spec.specs.Shape.Shape.{unsigned, text, sequence, mapping, struct}
 use Rattle.qs_spec.specs.Shape.UnknownKeys.{ignored}
 
+-- a field that must be there
 abbrev pub field : List ℕ → Shape → Field
 field name shape = (name, shape, false)
 
@@ -33,6 +34,7 @@ record_of_ten = struct ignored (fields_of
     ∷ field (codes "user_ids") (sequence (unsigned 8))
     ∷ []))
 
+-- three fields
 abbrev pub person : Shape
 person = struct ignored (fields_of
     (field (codes "name") text

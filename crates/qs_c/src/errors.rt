@@ -22,7 +22,7 @@ pub(crate) fn failure_of(alloc: Global, error: Error) -> Failure
     }
 }
 
-// Returns the kind of an error of reading or writing.
+// Returns the kind of an error of reading or writing. What is written goes to memory, so an `Io` error is a failed allocation.
 fn kind_of(error: &Error) -> FailureKind
     ensures { result ≡ kind_of error.now }
 {

@@ -10,6 +10,7 @@ use Rattle.std.specs.Fmt.{digit_glyph}
 abbrev pub escape : ℕ → List ℕ
 escape b = 37 ∷ digit_glyph true (b / 16) ∷ digit_glyph true (b % 16) ∷ []
 
+-- from `low` to `high`, both included
 abbrev pub is_between : ℕ → ℕ → ℕ → Bool
 is_between low high b = nat_le low b && nat_le b high
 

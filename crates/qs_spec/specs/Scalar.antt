@@ -38,10 +38,11 @@ signed_number bits (b ∷ digits) =
 abbrev pub boolean_data : List ℕ → Option Data
 boolean_data t = if bytes_eq t (codes "true") then Some (Data.boolean true) else (if bytes_eq t (codes "false") then Some (Data.boolean false) else None)
 
--- the data of such a number
+-- the data of an unsigned number
 abbrev pub unsigned_data : ℕ → List ℕ → Option Data
 unsigned_data bits t = option_map Data.unsigned (unsigned_number bits t)
 
+-- the data of a signed number
 abbrev pub signed_data : ℕ → List ℕ → Option Data
 signed_data bits t = option_map Data.signed (signed_number bits t)
 

@@ -81,6 +81,7 @@ abbrev pub are_ignored : UnknownKeys → Bool
 are_ignored UnknownKeys.ignored = true
 are_ignored UnknownKeys.rejected = false
 
+-- the shape is an option
 abbrev pub is_option : Shape → Bool
 is_option (Shape.option s) = true
 is_option _ = false

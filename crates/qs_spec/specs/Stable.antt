@@ -15,6 +15,7 @@ abbrev pub is_stable_key : Bool → Segment → Bool
 is_stable_key form (Int n) = true
 is_stable_key form (Str s) = has_bytes s && not (is_index s) && not (form && list_any is_bracket s)
 
+-- at least one entry
 abbrev pub has_entries : Entries → Bool
 has_entries no_entries = false
 has_entries (entry k mark t es) = true

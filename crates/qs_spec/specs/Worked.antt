@@ -35,6 +35,7 @@ only key t = Tree.mapping (at_text key t Entries.no_entries)
 abbrev pub field : List ℕ → Shape → Shape
 field name s = Shape.struct UnknownKeys.ignored (one_field name s false no_fields)
 
+-- data of a struct with one field
 abbrev pub struct_with : List ℕ → Data → Data
 struct_with name d = Data.struct (members_of ((name, d) ∷ []))
 

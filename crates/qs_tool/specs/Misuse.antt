@@ -15,6 +15,7 @@ pub data BeginsWith (words : List Word) : Settings → List Word → Type 0 wher
   one_valued : (s t : Settings) (c : Choice) (w value : Word) (rest : List Word) → BeginsWith words s (w ∷ value ∷ rest)
       → valued w value ≡ Some c → choose s c ≡ Some t → BeginsWith words t rest
 
+-- what an option means: a flag by itself, any other with the word after it
 abbrev pub flag_or_valued : Option Choice → Word → List Word → Option Choice
 flag_or_valued None w [] = None
 flag_or_valued None w (value ∷ rest) = valued w value

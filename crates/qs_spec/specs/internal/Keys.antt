@@ -45,7 +45,7 @@ abbrev pub AreAscending : Entries → Type 0
 AreAscending no_entries = ⊤
 AreAscending (entry k mark t es) = IsInRange k × AreAbove k es × AreAscending es
 
--- so it is in every map of a tree
+-- the keys of every map of a tree ascend
 abbrev mutual
   pub IsAscending : Tree → Type 0
   IsAscending (Tree.leaf l) = ⊤

@@ -1,4 +1,4 @@
-// Laws of entries.
+//! Laws of entries.
 
 ghost use Rattle.std.specs.Prelude.{ℕ, Bool, false, List, [], ◌∷◌, map};
 ghost use Rattle.std.specs.List.{AllByRecursion};

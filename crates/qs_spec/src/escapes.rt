@@ -1,4 +1,4 @@
-// Laws of escapes.
+//! Laws of escapes.
 
 ghost use Rattle.std.specs.Prelude.{◌≡◌, ◌<◌, ℕ, Bool, true, false, List, [], ◌∷◌, codes};
 ghost use Rattle.std.specs.List.{AllByRecursion};

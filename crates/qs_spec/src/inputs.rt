@@ -1,4 +1,4 @@
-// Worked inputs and their trees.
+//! Worked inputs and their trees.
 
 ghost use Rattle.std.specs.Prelude.{true, false, codes, [], ◌∷◌};
 ghost use Rattle.qs_spec.specs.Segment.Segment.{Int, Str};

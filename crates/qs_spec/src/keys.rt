@@ -1,4 +1,4 @@
-// Laws of keys that are written, read back and looked up.
+//! Laws of keys that are written, read back and looked up.
 
 ghost use Rattle.std.specs.Prelude.{◌≡◌, ℕ, ◌^◌, ◌<◌, ◌≤◌, Bool, ◌&&◌, List, ◌∷◌, ◌++◌, decimal, IsTrue, IsFalse};
 ghost use Rattle.std.specs.List.{AllByRecursion};

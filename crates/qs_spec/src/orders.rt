@@ -1,4 +1,4 @@
-// Laws of the order of pairs.
+//! Laws of the order of pairs.
 
 ghost use Rattle.std.specs.Prelude.{◌≡◌, ℕ, Bool, List, ◌∷◌, map};
 ghost use Rattle.qs_spec.specs.Token.{tokens};

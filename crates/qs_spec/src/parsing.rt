@@ -1,4 +1,4 @@
-// Laws of parsing as a function.
+//! Laws of parsing as a function.
 
 ghost use Rattle.std.specs.Prelude.{◌≡◌, ◌↔◌, ℕ, List, ◌∷◌, Some, IsFalse};
 ghost use Rattle.qs_spec.specs.Token.{Token};

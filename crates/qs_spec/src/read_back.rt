@@ -1,4 +1,4 @@
-// Laws of reading back what was written.
+//! Laws of reading back what was written.
 
 ghost use Rattle.std.specs.Prelude.{codes, [], ◌∷◌, ◌≡◌, ℕ, List, true, false, None, pos, neg_ℤ};
 ghost use Rattle.std.specs.List.Sorted.{IsPermutation};

@@ -1,4 +1,4 @@
-// Laws of reading by a shape.
+//! Laws of reading by a shape.
 
 ghost use Rattle.std.specs.Prelude.{◌≡◌, ◌↔◌, Bool, true, Some, None};
 ghost use Rattle.qs_spec.specs.Tree.{Tree};

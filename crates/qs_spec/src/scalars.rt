@@ -1,4 +1,4 @@
-// Laws of scalars.
+//! Laws of scalars.
 
 ghost use Rattle.std.specs.Prelude.{◌≡◌, ℕ, ◌+◌, ◌-◌, ◌^◌, ◌<◌, Bool, List, Some, decimal, pos, negsuc, IsTrue};
 ghost use Rattle.std.specs.Fmt.{signed_decimal};

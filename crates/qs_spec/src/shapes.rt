@@ -1,4 +1,4 @@
-// Worked shapes: what they read from inputs.
+//! Worked shapes: what they read from inputs.
 
 ghost use Rattle.std.specs.Prelude.{◌≡◌, true, false, codes, [], ◌∷◌, Some, None, pos, neg_ℤ};
 ghost use Rattle.qs_spec.specs.Config.{default, reject};

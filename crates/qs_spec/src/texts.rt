@@ -1,4 +1,4 @@
-// Worked texts: what is written of data.
+//! Worked texts: what is written of data.
 
 ghost use Rattle.std.specs.Prelude.{◌≡◌, codes, [], ◌++◌, ◌∷◌, Some, None, true, false, pos, neg_ℤ};
 ghost use Rattle.qs_spec.specs.Config.{default, empty_indexed, unindexed};

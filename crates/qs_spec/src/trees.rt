@@ -1,4 +1,4 @@
-// Laws of pairs and trees.
+//! Laws of pairs and trees.
 
 ghost use Rattle.std.specs.Prelude.{◌≡◌, ◌≤◌, ◌↔◌, ℕ, ◌+◌, Bool, List, ◌∷◌, length, Some};
 ghost use Rattle.qs_spec.specs.Token.{Token, tokens};

@@ -1,5 +1,5 @@
 -- Leaves in no order, and the entries that they make.
-use Rattle.qs_tree.proofs.Common.{◌≡◌, ◌≢◌, ◌≤◌, ◌<◌, ℕ, arith, length, get_or, ⊎_elim, same_segment, Bool, true, false, cond, not, ◌&&◌, List, [], ◌∷◌, ◌++◌, map, refl, sym, ap, ap₂, ◌∙◌, Option, Some, Ordering, Less, Equal, Greater, is_lt, filter, IsPermutation, IsStrictlySortedBy, IsStableBy, ties, keys_of, ordering_reverse, Borrowed, filter_agree, same_Some, none-some, Pair, Segment, is_same_segment, compare_segments, Int, Str, Tree, entries_of, flat, head_mark, heads, node_within, leaf, entry, add_flat, add_here, update, Key, ParsedValue, NoValue, None, entries_held, leaf_pairs, entries_of_leaves, AreLeaves, is_leaf, is_some, unwrap_or, true≢false, append-nil, append_assoc, leaf_held, leaf_in, key_cmp, segment_of_key, key_mark, step_of_key, tree_of}
+use Rattle.qs_tree.proofs.Common.{inl, inr, cases_Bool, ◌≡◌, ◌≢◌, ◌≤◌, ◌<◌, ℕ, arith, length, get_or, ⊎_elim, same_segment, Bool, true, false, cond, not, ◌&&◌, List, [], ◌∷◌, ◌++◌, map, refl, sym, ap, ap₂, ◌∙◌, Option, Some, Ordering, Less, Equal, Greater, is_lt, filter, IsPermutation, IsStrictlySortedBy, IsStableBy, ties, keys_of, ordering_reverse, Borrowed, filter_agree, same_Some, none-some, Pair, Segment, is_same_segment, compare_segments, Int, Str, Tree, entries_of, flat, head_mark, heads, node_within, leaf, entry, add_flat, add_here, update, Key, ParsedValue, NoValue, None, entries_held, leaf_pairs, entries_of_leaves, AreLeaves, is_leaf, is_some, unwrap_or, true≢false, append-nil, append_assoc, leaf_held, leaf_in, key_cmp, segment_of_key, key_mark, step_of_key, tree_of}
 use Rattle.std.proofs.Common.{is_eq}
 use Rattle.std.proofs.lemmas.Bool.{and_parts, cases_lt}
 use Rattle.std.proofs.lemmas.List.Elements.{filter_passes}
@@ -24,11 +24,7 @@ use Rattle.qs_tree.proofs.lemmas.build.Distinct.{alone}
 -- the leaves of one key are direct
 directs : (k : Segment) (ls : Held) → AllDirect (map event (under k (leaf_pairs ls)))
 directs k [] = tt
-directs k (p ∷ ls) = by (is_same_segment k (segment_of_key p.0)) (directs k ls)
-  where
-    by : (b : Bool) → AllDirect (map event (under k (leaf_pairs ls))) → AllDirect (map event (cond b (pair [] false (leaf_held p.1) ∷ under k (leaf_pairs ls)) (under k (leaf_pairs ls))))
-    by true all = all
-    by false all = all
+directs k (p ∷ ls) = elim (cases_Bool (is_same_segment k (segment_of_key p.0))) [ inl at ↦ rw at (directs k ls) | inr other ↦ rw other (directs k ls) ]
 
 leaf_pairs-last : (ls : Held) (p : Key × ParsedValue) → leaf_pairs (ls ++ p ∷ []) ≡ leaf_pairs ls ++ pair (step_of_key p.0 ∷ []) false (leaf_held p.1) ∷ []
 leaf_pairs-last [] p = refl
@@ -69,21 +65,11 @@ bare_pairs ls = map (λ p. pair [] false (leaf_held p.1)) ls
 
 under_leaves : (k : Segment) (ls : Held) → under k (leaf_pairs ls) ≡ bare_pairs (filter (is_at_segment k) ls)
 under_leaves k [] = refl
-under_leaves k (p ∷ ls) = by (is_at_segment k p) (under_leaves k ls)
-  where
-    by : (b : Bool) → under k (leaf_pairs ls) ≡ bare_pairs (filter (is_at_segment k) ls)
-        → cond b (pair [] false (leaf_held p.1) ∷ under k (leaf_pairs ls)) (under k (leaf_pairs ls)) ≡ bare_pairs (cond b (p ∷ filter (is_at_segment k) ls) (filter (is_at_segment k) ls))
-    by true e = ap (λ ps. pair [] false (leaf_held p.1) ∷ ps) e
-    by false e = e
+under_leaves k (p ∷ ls) = elim (cases_Bool (is_at_segment k p)) [ inl at ↦ rw (at, under_leaves k ls) | inr other ↦ rw (other, under_leaves k ls) ]
 
 mark_of_leaves : (k : Segment) (ls : Held) → head_mark k (leaf_pairs ls) ≡ first_mark (filter (is_at_segment k) ls)
 mark_of_leaves k [] = refl
-mark_of_leaves k (p ∷ ls) = by (is_at_segment k p) (mark_of_leaves k ls)
-  where
-    by : (b : Bool) → head_mark k (leaf_pairs ls) ≡ first_mark (filter (is_at_segment k) ls)
-        → cond b (key_mark p.0) (head_mark k (leaf_pairs ls)) ≡ first_mark (cond b (p ∷ filter (is_at_segment k) ls) (filter (is_at_segment k) ls))
-    by true e = refl
-    by false e = e
+mark_of_leaves k (p ∷ ls) = elim (cases_Bool (is_at_segment k p)) [ inl at ↦ rw at | inr other ↦ rw (other, mark_of_leaves k ls) ]
 
 entries_agree : (m n : Segment → Bool) (f g : Segment → Tree) → ((k : Segment) → m k ≡ n k) → ((k : Segment) → f k ≡ g k) → (ks : List Segment) → entries_of m f ks ≡ entries_of n g ks
 entries_agree m n f g marks trees [] = refl

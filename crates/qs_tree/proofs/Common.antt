@@ -51,7 +51,7 @@ pub use Rattle.qs_tree.specs.tree.Views.{entries_from, entries_of_map, entry_lis
 pub use Rattle.std.proofs.Math.ListN.{drop_of_length-le}
 pub use Rattle.std.proofs.Math.Seq.{take-add, take-append-add, take-append_seam, take-length}
 pub use Rattle.std.proofs.lemmas.Bool.{agree_below, agree_below_at, cases_Bool, cases_lt, cond-false, cond-true, le-leb, le-ltb, leb-false, leb-true, lt-leb, lt-ltb, ltb-false, not-false, not-true}
-pub use Rattle.std.proofs.lemmas.List.{drop-append-le, drop_all, drop_at, drop_more, length-map, length-take-le, map-append, map-id, take-append-drop, take-map, take-take, take_all}
+pub use Rattle.std.proofs.lemmas.List.{drop-append-le, drop_all, drop_at, drop_more, length-map, length-take-le, map-append, map-id, nil_from_length, take-append-drop, take-map, take-take, take_all}
 pub use Rattle.std.proofs.lemmas.List.Elements.{All-from_get_or, filter_agree}
 pub use Rattle.std.proofs.lemmas.List.Folds.{list_all-append, list_any_none}
 pub use Rattle.std.proofs.lemmas.List.Sums.{count_by-le-length, fails_before_first, position_or_len_is, sum_by-append, sum_by-cons}

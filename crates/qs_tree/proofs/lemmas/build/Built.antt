@@ -107,8 +107,3 @@ module _ (k : Key) (ks : List Key) where
   unfolding IsStrictlySortedBy
   pushed [] rest v h = refl
   pushed (e ∷ es) rest v h = rw (above e.0 (keys_of es) h.0) (ap (λ l. e ∷ l) (pushed es rest v h.1))
-
--- no entries are left
-pub nothing : {X : Type 0} (xs : List X) (n : ℕ) → n ≡ length xs → n ≡ 0 → xs ≡ []
-nothing [] n same none = refl
-nothing (x ∷ xs) n same none = absurd (omega (arith, same, none))

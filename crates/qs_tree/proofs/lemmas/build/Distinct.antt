@@ -1,14 +1,9 @@
 -- Keys that are distinct.
-use Rattle.qs_tree.proofs.Common.{inl, inr, cases_Bool, ◌≡◌, ◌≤◌, ℕ, Bool, true, false, cond, List, ◌∷◌, length, get_or, map, filter, refl, sym, ap, ◌∙◌, arith, true≢false, IsPermutation, Key, ParsedValue, segment_of_key}
+use Rattle.qs_tree.proofs.Common.{inl, inr, cases_Bool, ◌≡◌, ◌≤◌, ℕ, Bool, true, false, cond, List, ◌∷◌, length, get_or, map, filter, refl, sym, ap, ◌∙◌, arith, true≢false, IsPermutation, Key, ParsedValue, segment_of_key, get_or-map, length-map, HaveDistinctKeys, hash_of, IsPermutation-sym, IsDistinct-IsPermutation, IsDistinct-from_sorted, apart_from_distinct, sorted_from_strictly_increasing, Perm}
 use Rattle.std.proofs.lemmas.Cmp.{eq_by_cmp_equiv, nat_cmp_total}
-use Rattle.std.proofs.lemmas.List.{get_or-map, length-map}
-use Rattle.std.proofs.lemmas.List.Sorted.{IsPermutation-sym}
-use Rattle.std.proofs.lemmas.Map.Keys.{IsDistinct-IsPermutation, IsDistinct-from_sorted, apart_from_distinct, sorted_from_strictly_increasing}
 use Rattle.std.specs.List.Sorted.{IsStrictlyIncreasing}
 use Rattle.std.specs.Ordering.{eq_by_cmp, nat_cmp}
-use Rattle.qs_spec.proofs.Permuted.{Perm}
 use Rattle.qs_spec.proofs.Permuted.Perm.{same, keep, turn, after}
-use Rattle.qs_tree.specs.internal.build.Distinct.{HaveDistinctKeys, hash_of}
 use Rattle.qs_tree.proofs.lemmas.tree.Keys.{Held}
 
 -- an element that is alone has an order to keep in any permutation

@@ -1,8 +1,7 @@
 -- What a binary search finds among entries in order, and what an edit at that index does.
-use Rattle.qs_tree.proofs.Common.{append_assoc, map-append, ◌≡◌, ℕ, zero, suc, ◌+◌, ◌<◌, ◌≤◌, ◌/◌, List, [], ◌∷◌, ◌++◌, length, get_or, slice_get, slice_set, Some, None, unwrap_or, option_map, Ordering, Less, Equal, Greater, refl, sym, ap, subst, ◌∙◌, inl, inr, cases_lt, arith, IsTotalOrder, insert, remove, AllByRecursion, IsStrictlySortedBy, keys_of, lookup, set_value, remove_entry, is_at, insert_entry, ordering_reverse, against, IsHit, IsGap, put_value, binary_digits, true, is_lt}
+use Rattle.qs_tree.proofs.Common.{append_assoc, map-append, ◌≡◌, ℕ, zero, suc, ◌+◌, ◌<◌, ◌≤◌, ◌/◌, List, [], ◌∷◌, ◌++◌, length, get_or, slice_get, slice_set, Some, None, unwrap_or, option_map, Ordering, Less, Equal, Greater, refl, sym, ap, subst, ◌∙◌, inl, inr, cases_lt, arith, IsTotalOrder, insert, remove, AllByRecursion, IsStrictlySortedBy, keys_of, lookup, set_value, remove_entry, is_at, insert_entry, ordering_reverse, against, IsHit, IsGap, put_value, binary_digits, true, is_lt, Less-from_sorted, sorted_from_all_adjacent, sorted_head, sorted_tail}
 use Rattle.std.specs.List.{AllAdjacentBelow}
 use Rattle.std.proofs.lemmas.Int.Digits.{length-digits_of_step}
-use Rattle.std.proofs.lemmas.Map.Keys.{Less-from_sorted, sorted_from_all_adjacent, sorted_head, sorted_tail}
 use Rattle.std.proofs.lemmas.Map.Entries.{length-keys_of}
 use Rattle.std.proofs.Math.ListN.{get_or-map}
 

@@ -1,7 +1,5 @@
-use Rattle.std.proofs.Common.{◌≡◌, ◌∙◌, ◌+◌, ◌++◌, [], ◌∷◌, refl, ap, arith, length, take, slice_set, slice_index_or}
-use Rattle.std.proofs.lemmas.List.{append_assoc, length-set}
+use Rattle.qs_tree.proofs.Common.{append_assoc, length-set, ◌≡◌, ◌∙◌, ◌+◌, ◌++◌, [], ◌∷◌, refl, ap, arith, length, take, slice_set, slice_index_or, escape}
 use Rattle.std.proofs.lemmas.Grind.{take-set_at}
-use Rattle.qs_spec.specs.Escape.{escape}
 use Rattle.qs_tree.proofs.lemmas.escape.EncodedFronts.{escape_is}
 use Rattle.qs_tree.proofs.escape.encoding.put_escape.Goals as goal
 

@@ -25,11 +25,8 @@ leaf_pairs-last [] p = refl
 leaf_pairs-last (q ∷ ls) p = ap (λ ps. pair (step_of_key q.0 ∷ []) false (leaf_held q.1) ∷ ps) (leaf_pairs-last ls p)
 
 here_flat : (l : spec.Leaf) (h : List Event) → add_here false l (flat h) ≡ add_flat false l (flat h)
-here_flat l [] = refl
 here_flat l (direct o ∷ []) = refl
-here_flat l (direct o ∷ e ∷ h) = refl
-here_flat l (push o ∷ h) = refl
-here_flat l (below ∷ h) = refl
+here_flat l h = refl
 
 -- one leaf more
 module _ (ls : Held) (key : Key) (v : ParsedValue) where
@@ -79,8 +76,7 @@ key_at (Str b) = variant.String (Borrowed (record { ref_ptr = (0, 0); now = b })
 
 neither : (o : Ordering) → (not (is_lt o) && not (is_lt (ordering_reverse o))) ≡ is_eq o
 neither Less = refl
-neither Equal = refl
-neither Greater = refl
+neither o = refl
 
 at_itself : (k : Segment) (key : Key) → key_cmp (key_at k) key ≡ compare_segments k (segment_of_key key)
 at_itself (Int n) key = refl
@@ -129,9 +125,7 @@ at_end key ks v l is [] sorted = ap (λ t. Some (entry (segment_of_key key) (key
   where
     only : (t : Tree) → leaf_in t ≡ Some l → t ≡ leaf l
     only (leaf o) e = ap leaf (same_Some o l e)
-    only (Tree.sequence xs) e = absurd (none-some l e)
-    only (Tree.mapping es) e = absurd (none-some l e)
-    only Tree.uninitialized e = absurd (none-some l e)
+    only t e = absurd (none-some l e)
 at_end key ks v l is (e ∷ es) sorted =
     let after : compare_segments (step_of_key key).seg (segment_of_key e.0) ≡ Greater = above key ks e.0 (keys_of es) sorted.0 in
     rw (after, at_end key ks v l is es sorted.1)

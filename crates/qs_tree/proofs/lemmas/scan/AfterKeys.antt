@@ -25,9 +25,8 @@ HasBytes (t ∷ ts) = (b : ℕ) × (more : List ℕ) × (t.raw ≡ b ∷ more)
 
 pub has_bytes : (form : Bool) (bytes : List ℕ) → HasBytes (tokens form bytes)
 has_bytes form [] = tt
-has_bytes form (b ∷ []) = (b, [], refl)
-has_bytes form (b ∷ c ∷ []) = (b, [], refl)
 has_bytes form (b ∷ c ∷ e ∷ rest) = elim (cases_Bool (form && is_escaped_bracket b c e)) [ inl is ↦ rw is (b, c ∷ e ∷ [], refl) | inr other ↦ rw other (b, [], refl) ]
+has_bytes form (b ∷ rest) = (b, [], refl)
 
 -- a path and one key more
 pub path_more : (keys new : List Key) (key : Key) (raw : List ℕ) → new ≡ keys ++ key ∷ [] → step_of_key key ≡ step_of raw → path_of new ≡ longer (path_of keys) raw

@@ -18,8 +18,6 @@ rises n a b us vs p q small l = absurd (omega arith)
 pub as_numbers : (n a : ℕ) (us vs : List ℕ) → n ≤ length us → n ≤ length vs → AreBytes us → AreBytes vs
     → slice_cmp nat_cmp us vs ≡ ordering_then (nat_cmp (big_endian a (take n us)) (big_endian a (take n vs))) (slice_cmp nat_cmp (drop n us) (drop n vs))
 as_numbers zero a us vs p q small less = rw (← nat_cmp_is a a Equal refl) refl
-as_numbers (suc n) a [] vs p q small less = absurd (omega arith)
-as_numbers (suc n) a (u ∷ us) [] p q small less = absurd (omega arith)
 as_numbers (suc n) a (u ∷ us) (v ∷ vs) p q small less =
     by (as_numbers n (a * 256 + u) us vs (omega arith) (omega arith) (λ k. small (suc k)) (λ k. less (suc k))) (nat_cmp u v) refl (ranks u v)
   where
@@ -39,6 +37,7 @@ as_numbers (suc n) a (u ∷ us) (v ∷ vs) p q small less =
     by rest Equal e l =
         let same : u ≡ v = l in
         rw e (subst (λ y. slice_cmp nat_cmp us vs ≡ ordering_then (numbers u y) (slice_cmp nat_cmp (drop n us) (drop n vs))) same rest)
+as_numbers n a us vs p q small less = absurd (omega arith)
 
 -- an order that isn't equality decides
 decided : (r o : Ordering) → is_ne r ≡ true → ordering_then r o ≡ r

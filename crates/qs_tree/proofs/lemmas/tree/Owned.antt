@@ -12,9 +12,8 @@ abbrev AreMarked : ParsedMap → Type 0
 AreMarked m = map_owns m ≡ entries_marks (entries_of_map m)
 
 key_marked : (k : Key) → key_owns k ≡ key_marks (segment_of_key k) (key_mark k)
-key_marked (key.Int n) = refl
 key_marked (key.String (Borrowed r)) = refl
-key_marked (key.String (Owned v)) = refl
+key_marked k = refl
 
 items_marked : (vs : List ((v : ParsedValue) × IsMarked v)) → items_own (map owns (map (λ e. e.0) vs)) ≡ items_marks (items_of (map (λ e. e.0) vs))
 items_marked [] = refl

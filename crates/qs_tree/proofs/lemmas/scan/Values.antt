@@ -71,8 +71,6 @@ bracket_before form b c e rest x i h =
 
 pub value_cut : (form : Bool) (bytes : List ℕ) → IsValueCut form bytes (tokens form bytes)
 value_cut form [] = record { run = refl; rest = refl }
-value_cut form (b ∷ []) = byte_before form b [] (λ _. refl) (value_cut form [])
-value_cut form (b ∷ c ∷ []) = byte_before form b (c ∷ []) (λ _. refl) (value_cut form (c ∷ []))
 value_cut form (b ∷ c ∷ e ∷ rest) = by form (is_escaped_bracket b c e) refl (value_cut form rest) (value_cut form (c ∷ e ∷ rest))
   where
     by : (f x : Bool) → is_escaped_bracket b c e ≡ x → IsValueCut f rest (tokens f rest) → IsValueCut f (c ∷ e ∷ rest) (tokens f (c ∷ e ∷ rest))
@@ -82,6 +80,7 @@ value_cut form (b ∷ c ∷ e ∷ rest) = by form (is_escaped_bracket b c e) ref
     by true false i h g =
         let plain : tokens true (b ∷ c ∷ e ∷ rest) ≡ byte_token b ∷ tokens true (c ∷ e ∷ rest) = ap (λ y. cond y (record { kind = cond (e == 66) Open Close; raw = b ∷ c ∷ e ∷ [] } ∷ tokens true rest) (byte_token b ∷ tokens true (c ∷ e ∷ rest))) i in
         subst (IsValueCut true (b ∷ c ∷ e ∷ rest)) (sym plain) (byte_before true b (c ∷ e ∷ rest) (λ _. plain) g)
+value_cut form (b ∷ bytes) = byte_before form b bytes (λ _. refl) (value_cut form bytes)
 
 -- what follows a run ends it
 pub stop_ends : (ends : Kind → Bool) (ts : List Token) (t : Token) (rest : List Token) → (cut ends ts).1 ≡ t ∷ rest → ends t.kind ≡ true

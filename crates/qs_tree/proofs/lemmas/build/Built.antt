@@ -1,5 +1,5 @@
 -- What a map under construction holds after a step.
-use Rattle.qs_tree.proofs.Common.{◌≡◌, ℕ, List, [], ◌∷◌, ◌++◌, length, slice_get, Option, Some, None, option_map, unwrap_or, Result, Ok, Err, Ordering, Less, Equal, Greater, refl, sym, ap, ◌∙◌, arith, rules, Global, AllByRecursion, IsStrictlySortedBy, keys_of, lookup, set_value, ordering_reverse, is_at, insert_entry, BTreeMap, Tree, Entries, uninitialized, compare_segments, update, Key, TreeBuilder, AddError, key_cmp, Gives, IsHit, IsGap, put_value, segment_of_key, step_of_key, find, built_tree, built_entries, entries_seen, entries_held, as_builders, fresh, child, Takes, total-law}
+use Rattle.qs_tree.proofs.Common.{◌≡◌, ℕ, List, [], ◌∷◌, ◌++◌, slice_get, Option, Some, None, option_map, unwrap_or, Result, Ok, Err, Ordering, Less, Equal, Greater, refl, sym, ap, ◌∙◌, rules, Global, AllByRecursion, IsStrictlySortedBy, keys_of, lookup, set_value, ordering_reverse, is_at, insert_entry, BTreeMap, Tree, Entries, uninitialized, compare_segments, update, Key, TreeBuilder, AddError, key_cmp, Gives, IsHit, IsGap, put_value, segment_of_key, step_of_key, find, built_tree, built_entries, entries_seen, entries_held, as_builders, fresh, child, Takes, total-law}
 use Rattle.qs_spec.proofs.GoodParts.{all_to}
 use Rattle.qs_tree.specs.declared.build.builder.MapBuilder.{the_lemmas}
 use Rattle.qs_tree.specs.declared.build.builder.MapBuilder.TheVariants as form

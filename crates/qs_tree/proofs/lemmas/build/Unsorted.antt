@@ -1,10 +1,10 @@
 -- Leaves in no order, and the entries that they make.
-use Rattle.qs_tree.proofs.Common.{inl, inr, cases_Bool, ◌≡◌, ◌≢◌, ◌≤◌, ◌<◌, ℕ, arith, length, get_or, ⊎_elim, same_segment, Bool, true, false, cond, not, ◌&&◌, List, [], ◌∷◌, ◌++◌, map, refl, sym, ap, ap₂, ◌∙◌, Option, Some, Ordering, Less, Equal, Greater, is_lt, filter, IsPermutation, IsStrictlySortedBy, IsStableBy, ties, keys_of, ordering_reverse, Borrowed, filter_agree, same_Some, none-some, Pair, Segment, is_same_segment, compare_segments, Int, Str, Tree, entries_of, flat, head_mark, heads, node_within, leaf, entry, add_flat, add_here, update, Key, ParsedValue, NoValue, None, entries_held, leaf_pairs, entries_of_leaves, AreLeaves, is_leaf, is_some, unwrap_or, true≢false, append-nil, append_assoc, leaf_held, leaf_in, key_cmp, segment_of_key, key_mark, step_of_key, tree_of, and_parts, cases_lt, HaveDistinctKeys, All-permutation, Perm-from, perm_map, perm_heads, total-law, is_eq}
+use Rattle.qs_tree.proofs.Common.{inl, inr, cases_Bool, ◌≡◌, ◌≢◌, ◌≤◌, ◌<◌, ℕ, arith, length, get_or, ⊎_elim, same_segment, Bool, true, false, not, ◌&&◌, List, [], ◌∷◌, ◌++◌, map, refl, sym, ap, ap₂, ◌∙◌, Option, Some, Ordering, Less, Greater, is_lt, filter, IsPermutation, IsStrictlySortedBy, IsStableBy, ties, keys_of, ordering_reverse, Borrowed, filter_agree, same_Some, none-some, Pair, Segment, is_same_segment, compare_segments, Int, Str, Tree, entries_of, flat, head_mark, heads, node_within, leaf, entry, add_flat, add_here, update, Key, ParsedValue, NoValue, None, entries_held, leaf_pairs, entries_of_leaves, AreLeaves, is_leaf, is_some, unwrap_or, true≢false, append-nil, append_assoc, leaf_held, leaf_in, key_cmp, segment_of_key, key_mark, step_of_key, tree_of, and_parts, cases_lt, HaveDistinctKeys, All-permutation, Perm-from, perm_map, perm_heads, total-law, is_eq}
 use Rattle.std.proofs.lemmas.List.Elements.{filter_passes}
 use Rattle.std.proofs.lemmas.List.Kept.{AllPairs-filter}
 use Rattle.std.proofs.lemmas.List.Sums.{AllPass-from_list_all, list_all-from_AllPass}
 use Rattle.qs_spec.specs.History.{Event, event, under}
-use Rattle.qs_spec.specs.History.Event.{direct, push, below}
+use Rattle.qs_spec.specs.History.Event.{direct}
 use Rattle.qs_spec.specs.Leaf as spec
 use Rattle.qs_spec.proofs.Flat.{AllDirect, direct_adds}
 use Rattle.qs_spec.proofs.OneMore.{pair, history_push}

@@ -1,5 +1,5 @@
 -- What follows a key, by the raw bytes of runs.
-use Rattle.qs_tree.proofs.Common.{inl, inr, cases_Bool, ◌≡◌, ℕ, zero, suc, ◌-◌, Bool, true, false, cond, ◌&&◌, List, [], ◌∷◌, ◌++◌, length, take, drop, refl, sym, ap, ap₂, ◌∙◌, subst, arith, Option, Some, None, Result, length-append, ◌==◌, ◌<◌, ◌⊎◌, ⊎_elim, take-append_seam, drop_at, map-append, Kind, Token, tokens, byte_token, is_escaped_bracket, raw_of, Amp, Equals, Open, Close, Other, Step, step_of, Pair, direct, pushed, longer, is_equals, is_open, is_close, ends_last, Rest, cut, with_leaf, parsed_value, value_at, after_close, after_close_at, after_run, in_segment, in_last, parsed_brackets, Key, step_of_key, path_of, kind_of_token, token_of, from_token, left, taken, IsLeft, IsPast, IsClosing, FollowsStop, ParsesPair, root_path, from_root, from_root_at}
+use Rattle.qs_tree.proofs.Common.{inl, inr, cases_Bool, ◌≡◌, ℕ, zero, suc, ◌-◌, Bool, true, false, ◌&&◌, List, [], ◌∷◌, ◌++◌, length, take, drop, refl, sym, ap, ap₂, ◌∙◌, subst, arith, Option, Some, None, Result, length-append, ◌<◌, ◌⊎◌, ⊎_elim, take-append_seam, drop_at, map-append, Kind, Token, tokens, is_escaped_bracket, raw_of, Amp, Equals, Open, Close, Other, Step, step_of, Pair, direct, pushed, longer, is_equals, is_open, is_close, ends_last, Rest, cut, with_leaf, parsed_value, value_at, after_close, after_close_at, after_run, in_segment, in_last, parsed_brackets, Key, step_of_key, path_of, kind_of_token, token_of, from_token, left, taken, IsLeft, IsPast, IsClosing, FollowsStop, ParsesPair, root_path, from_root, from_root_at}
 use Rattle.qs_spec.specs.Leaf.{NoValue}
 use Rattle.qs_tree.specs.declared.scan.cursor.Kind as kind
 use Rattle.qs_tree.specs.declared.scan.cursor.Token as code

@@ -1,5 +1,5 @@
 -- Bytes that are compared as numbers.
-use Rattle.qs_tree.proofs.Common.{◌≡◌, ℕ, zero, suc, ◌+◌, ◌*◌, ◌<◌, ◌≤◌, List, [], ◌∷◌, length, take, drop, slice_index, true, false, true≢false, Less, Equal, Greater, Ordering, refl, sym, ◌∙◌, subst, arith, nat_cmp, is_ne, ordering_then, MatchOrdering, ranks, nat_cmp_is, slice_cmp}
+use Rattle.qs_tree.proofs.Common.{◌≡◌, ℕ, zero, suc, ◌+◌, ◌*◌, ◌<◌, ◌≤◌, List, ◌∷◌, length, take, drop, slice_index, true, false, true≢false, Less, Equal, Greater, Ordering, refl, sym, ◌∙◌, subst, arith, nat_cmp, is_ne, ordering_then, MatchOrdering, ranks, nat_cmp_is, slice_cmp}
 use Rattle.std.specs.Slice.Scan.{big_endian}
 use mir.Syntax.{w8}
 use mir.Val.{Fits}

@@ -1,5 +1,5 @@
 -- The entries of a sorted vector are in the order of their keys.
-use Rattle.qs_tree.proofs.Common.{◌≡◌, List, [], ◌∷◌, Less, sym, ◌∙◌, AllByRecursion, IsStrictlySortedBy, keys_of, Tree, Key, key_cmp, segment_of_key, tree_of, IsBefore, AreOrdered}
+use Rattle.qs_tree.proofs.Common.{◌≡◌, List, [], ◌∷◌, Less, sym, ◌∙◌, AllByRecursion, IsStrictlySortedBy, keys_of, Tree, Key, key_cmp, segment_of_key, IsBefore, AreOrdered}
 use Rattle.qs_tree.proofs.lemmas.tree.Keys.{seen_view, key_cmp-segments}
 
 module _ {X : Type 0} (seen : X → Tree) where

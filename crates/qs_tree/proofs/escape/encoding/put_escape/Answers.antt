@@ -1,4 +1,4 @@
-use Rattle.qs_tree.proofs.Common.{append_assoc, length-set, ◌≡◌, ◌∙◌, ◌+◌, ◌++◌, [], ◌∷◌, refl, ap, arith, length, take, slice_set, slice_index_or, escape}
+use Rattle.qs_tree.proofs.Common.{append_assoc, length-set, ◌≡◌, ◌∙◌, ◌+◌, ◌++◌, [], ◌∷◌, refl, ap, arith, take, slice_set, slice_index_or, escape}
 use Rattle.std.proofs.lemmas.Grind.{take-set_at}
 use Rattle.qs_tree.proofs.lemmas.escape.EncodedFronts.{escape_is}
 use Rattle.qs_tree.proofs.escape.encoding.put_escape.Goals as goal

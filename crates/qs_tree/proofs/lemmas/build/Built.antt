@@ -35,9 +35,6 @@ module _ {X : Type 0} (seen : X → Tree) (k : Key) where
       by more o d = rw (← key_cmp-segments k e.0, d)
 
   -- no key is this one
-  all_above : (l : Key) (ks : List Key) → key_cmp k l ≡ Less → AllByRecursion (λ y. key_cmp l y ≡ Less) ks → AllByRecursion (λ y. key_cmp k y ≡ Less) ks
-  all_above l ks less h = all_to _ _ (λ y. total-law.trans k l y less) ks h
-
   none_set : (es : List (Key × X)) (w : X) → AllByRecursion (λ y. key_cmp k y ≡ Less) (keys_of es) → set_value (is_at (key_cmp k)) es w ≡ es
   none_set [] w h = refl
   none_set (e ∷ es) w h = rw h.0 (ap (λ l. e ∷ l) (none_set es w h.1))
@@ -51,7 +48,7 @@ module _ {X : Type 0} (seen : X → Tree) (k : Key) where
     where
       by : update (step_of_key k) (λ _. Some u) (seen_view seen (set_value (is_at (key_cmp k)) es w)) ≡ update (step_of_key k) (λ _. Some u) (seen_view seen es) → (o : Ordering) → key_cmp k e.0 ≡ o
           → update (step_of_key k) (λ _. Some u) (seen_view seen (set_value (is_at (key_cmp k)) (e ∷ es) w)) ≡ update (step_of_key k) (λ _. Some u) (seen_view seen (e ∷ es))
-      by more Less d = let before : compare_segments (step_of_key k).seg (segment_of_key e.0) ≡ Less = d in rw (d, before, none_set es w (all_above e.0 (keys_of es) d h.0))
+      by more Less d = let before : compare_segments (step_of_key k).seg (segment_of_key e.0) ≡ Less = d in rw (d, before, none_set es w (all_to _ _ (λ y. total-law.trans k e.0 y d) (keys_of es) h.0))
       by more Equal d = let same : compare_segments (step_of_key k).seg (segment_of_key e.0) ≡ Equal = d in rw (d, same)
       by more Greater d = let after : compare_segments (step_of_key k).seg (segment_of_key e.0) ≡ Greater = d in rw (d, after, more)
 

@@ -1,5 +1,8 @@
 -- The names that the proofs of this crate cite most, passed on from one place. Declares nothing.
-pub use Rattle.std.proofs.Common.{Bool, Bor, Equal, Err, Fits, Global, Greater, IfOk, IsTrue, Less, List, None, Ok, Option, Ordering, Result, Some, Vec, [], ap, append-nil, append_assoc, ap₂, arith, cond, count_by, count_ones, drop, drop-drop, eqb-true, false, fold, get_or, inl, inr, is_lt, le_refl, leb, length, length-append, length-drop, ltb, map, nat_le, not, option_and_then, option_map, refl, replicate, rules, slice_get, slice_index, slice_set, subst, suc, sym, take, true, true≢false, unwrap_or, w8, zero, ℕ, ⊎_elim, ◌%◌, ◌&&◌, ◌*◌, ◌++◌, ◌+◌, ◌-◌, ◌/◌, ◌<◌, ◌==◌, ◌^◌, ◌||◌, ◌↔◌, ◌∙◌, ◌∷◌, ◌≡◌, ◌≢◌, ◌≤◌, ◌⊎◌}
+pub use Rattle.qs_spec.proofs.Permuted.{Perm, Perm-from, perm_heads, perm_map}
+pub use Rattle.qs_tree.specs.contracts.tree.key.KeyOrd.TheImpl.Laws.{matches_eq-law, total-law}
+pub use Rattle.qs_tree.specs.internal.build.Distinct.{HaveDistinctKeys, hash_of}
+pub use Rattle.std.proofs.Common.{Bool, Bor, Equal, Err, Fits, Global, Greater, IfOk, IsTrue, Less, List, None, Ok, Option, Ordering, Result, Some, Vec, [], ap, append-nil, append_assoc, ap₂, arith, cond, count_by, count_ones, drop, drop-drop, eqb-true, false, fold, get_or, inl, inr, is_lt, le_refl, leb, length, length-append, length-drop, ltb, map, nat_le, not, option_and_then, option_map, refl, replicate, rules, slice_get, slice_index, slice_index_or, slice_set, subst, suc, sym, take, true, true≢false, unwrap_or, w8, zero, ℕ, ⊎_elim, ◌%◌, ◌&&◌, ◌*◌, ◌++◌, ◌+◌, ◌-◌, ◌/◌, ◌<◌, ◌==◌, ◌^◌, ◌||◌, ◌↔◌, ◌∙◌, ◌∷◌, ◌≡◌, ◌≢◌, ◌≤◌, ◌⊎◌}
 pub use Rattle.qs_spec.proofs.Booleans.{and_both, or_both}
 pub use Rattle.qs_spec.proofs.Order.{is_itself, segments_total}
 pub use Rattle.qs_spec.proofs.TreeOf.{one_tree, same_segment}
@@ -28,7 +31,7 @@ pub use Rattle.qs_tree.specs.declared.tree.value.ParsedValue.TheViews.{roll-Pars
 pub use Rattle.qs_tree.specs.escape.Classes.{is_ampersand, is_encoded, is_escape}
 pub use Rattle.qs_tree.specs.internal.Parsing.{Returns, grown}
 pub use Rattle.qs_tree.specs.internal.build.Adding.{Adds, Gives, IsRejected, entries_below, second}
-pub use Rattle.qs_tree.specs.internal.build.Builder.{IsFlat, Takes, as_builders, built_entries, built_tree, child, entries_held, entries_seen, fresh, unsorted_entries}
+pub use Rattle.qs_tree.specs.internal.build.Builder.{IsFlat, IsNoMap, Takes, as_builders, built_entries, built_tree, child, entries_held, entries_seen, fresh, unsorted_entries}
 pub use Rattle.qs_tree.specs.internal.build.Descent.{IsBarred, IsOpen, Leads, put_all_back, put_back}
 pub use Rattle.qs_tree.specs.internal.build.Finishing.{IsOpened, built_pairs, entries_map_count, left_pairs, level_pairs, maps_left, with_node}
 pub use Rattle.qs_tree.specs.internal.build.Unsorted.{AreLeaves, entries_of_leaves, is_leaf, leaf_held, leaf_pairs}
@@ -50,11 +53,15 @@ pub use Rattle.qs_tree.specs.tree.Owned.{entries_own, items_own, key_owns, map_o
 pub use Rattle.qs_tree.specs.tree.Views.{entries_from, entries_of_map, entry_list, find, items_of, key_mark, map_pairs, segment_of_key, step_of_key, take_out, tree_of}
 pub use Rattle.std.proofs.Math.ListN.{drop_of_length-le}
 pub use Rattle.std.proofs.Math.Seq.{take-add, take-append-add, take-append_seam, take-length}
-pub use Rattle.std.proofs.lemmas.Bool.{agree_below, agree_below_at, cases_Bool, cases_lt, cond-false, cond-true, le-leb, le-ltb, leb-false, leb-true, lt-leb, lt-ltb, ltb-false, not-false, not-true}
-pub use Rattle.std.proofs.lemmas.List.{drop-append-le, drop_all, drop_at, drop_more, length-map, length-take-le, map-append, map-id, take-append-drop, take-map, take-take, take_all}
+pub use Rattle.std.proofs.lemmas.Bool.{agree_below, agree_below_at, and_from, and_parts, cases_Bool, cases_lt, cond-false, cond-true, le-leb, le-ltb, leb-false, leb-true, lt-leb, lt-ltb, ltb-false, ltb-true, not-false, not-true}
+pub use Rattle.std.proofs.lemmas.Fn.{always_returns_same}
+pub use Rattle.std.proofs.lemmas.List.Quantifiers.{position-Some}
+pub use Rattle.std.proofs.lemmas.List.Sorted.{All-permutation, IsPermutation-sym}
+pub use Rattle.std.proofs.lemmas.List.{drop-append-le, drop_all, drop_at, drop_more, get_or-map, get_or-take, length-map, length-set, length-take-le, map-append, map-id, nil_from_length, take-append-drop, take-map, take-take, take_all}
 pub use Rattle.std.proofs.lemmas.List.Elements.{All-from_get_or, filter_agree}
 pub use Rattle.std.proofs.lemmas.List.Folds.{list_all-append, list_any_none}
 pub use Rattle.std.proofs.lemmas.List.Sums.{count_by-le-length, fails_before_first, position_or_len_is, sum_by-append, sum_by-cons}
+pub use Rattle.std.proofs.lemmas.Map.Keys.{IsDistinct-IsPermutation, IsDistinct-from_sorted, Less-from_sorted, apart_from_distinct, sorted_from_all_adjacent, sorted_from_strictly_increasing, sorted_head, sorted_tail}
 pub use Rattle.std.proofs.lemmas.Option.{none-some, same_Some, slice_get-get_or}
 pub use Rattle.std.proofs.lemmas.Result.{IfOk-weaker}
 pub use Rattle.std.proofs.lemmas.Simd.{bitmask_splat, chunk-fits, first_set_mask_l, length-chunk, map-map, mask_l-lt, mask_l-mod, ones-mask_l, run_in_chunk_fails, run_in_chunk_le, run_in_chunk_stops, splat_is_map, take_more_put_chunk, tops_compared, zip2_of_maps, zip2_splat}
@@ -68,6 +75,7 @@ unfoldable pub use Rattle.std.specs.List.Sorted.{IsStrictlySortedBy}
 pub use Rattle.std.specs.Map.{keys_of, lookup, remove_entry, set_value}
 pub use Rattle.std.specs.Option.{IfNone, IfSome, is_some}
 pub use Rattle.std.specs.Ordering.{MatchOrdering, is_eq, is_ne, nat_cmp, ordering_reverse, ordering_then}
+pub use Rattle.std.specs.Prelude.{IsOk, nat_lt}
 pub use Rattle.std.specs.Result.{IsErrAnd}
 pub use Rattle.std.specs.Str.Chunks.{utf8_chunks_rest}
 pub use Rattle.std.specs.Str.Lossy.{replacement_bytes, utf8_lossy}
@@ -75,8 +83,20 @@ pub use Rattle.std.specs.Vec.Iter.{into_iter_items, into_iter_len}
 pub use Rattle.std.specs.declared.borrow.CowSlice.{CowSlice}
 pub use Rattle.std.specs.declared.borrow.CowSlice.TheVariants.{Borrowed, Owned}
 pub use Rattle.std.specs.declared.collections.BTreeMap.{BTreeMap}
+pub use base.Logic.{SProp, emp, ent, fst∗, via}
+pub use contract.Monad.{Fun}
+pub use denote.Shadow.{pure_i}
+pub use denote.Triple.Entry.{Args, alive, on_entry}
+pub use denote.Triple.Spec.{Meets, triple_of}
+pub use denote.Triple.Table.{entered}
+pub use denote.Triple.Walked.{Goes-none_ref, Stays, Walks, ends_at, says, stay_none_ref, walk_Meets, walk_of, walked}
 pub use lib.Lanes.{Each1, chunk, mask_l, put_chunk, sel_l, top, zip2}
 pub use mir.Val.{Val, vnil, vptr, vstruct}
+pub use prog.Memory.{Memory}
+pub use prog.Routine.{Routine}
+pub use prog.Wp.{Calls, Loops, Tables, WpFn}
+pub use seplogic.Ra.Ura.{Ura}
+pub use sound.WpLaws.{WpFn-mono}
 pub use types.ByLocal.{alloc_all, free_all, look_at, pass_all, sets}
 pub use types.Kit.{ !, done, move, qed, raw, suffices, ‵, ◌$◌, ◌∵◌}
 pub use types.Logic.{Logic}

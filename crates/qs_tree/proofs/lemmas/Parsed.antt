@@ -1,17 +1,15 @@
 -- From the tree of a result to all that `Parses` promises of it.
-use Rattle.qs_tree.proofs.Common.{Global, ◌≡◌, ◌≢◌, ℕ, ◌+◌, ◌≤◌, ◌⊎◌, inl, inr, Bool, List, [], ◌∷◌, length, refl, sym, ap, ◌∙◌, IfOk, Option, None, Result, Ok, Err, ◌==◌, true, false, eqb-true, arith, rules, IfOk-weaker, Tree, IsTree, IsRefused, Pair, ArePairs, tokens, AreReordered, AreAlike, marks, one_tree, Error, Parse, OutOfMemory, ParsedValue, NoValue, the_lemmas, tree_of, IsParse, IfParse, IsOutOfMemory, OnlyOutOfMemory, OnlyParseOrOutOfMemory, owns, Returns, HoldsOf}
+use Rattle.qs_tree.proofs.Common.{Global, ◌≡◌, ◌≢◌, ℕ, ◌+◌, ◌≤◌, ◌⊎◌, inl, inr, Bool, List, [], ◌∷◌, length, refl, sym, ap, ◌∙◌, IfOk, Option, None, Result, Ok, Err, ◌==◌, true, false, eqb-true, arith, rules, IfOk-weaker, Tree, IsTree, IsRefused, Pair, ArePairs, tokens, AreReordered, AreAlike, marks, one_tree, Error, Parse, OutOfMemory, ParsedValue, NoValue, the_lemmas, tree_of, IsParse, IfParse, IsOutOfMemory, OnlyOutOfMemory, OnlyParseOrOutOfMemory, owns, Returns, HoldsOf, IsOk, Token}
 use Rattle.std.specs.declared.string.String.{String}
 use Rattle.qs_spec.specs.Holds.{IsSound, leaf_count, nesting}
 use Rattle.qs_spec.specs.Input.{HasPairs, IsReordered}
 use Rattle.qs_spec.proofs.Sound as sound_trees
 use Rattle.qs_spec.proofs.Alike as trees
 use Rattle.qs_tree.proofs.lemmas.tree.Owned.{owns_marked}
-use Rattle.std.specs.Prelude.{IsOk}
 use Rattle.qs_tree.specs.Parsing.{Parses, TakesNoMemory}
 use Rattle.qs_tree.specs.internal.Parsing.{grown, Reports}
 use Rattle.qs_tree.specs.declared.parsing.scan_error.ScanError.{ScanError}
 use Rattle.qs_tree.specs.declared.parsing.scan_error.ScanError.TheVariants as scan_error
-use Rattle.qs_spec.specs.Token.{Token}
 use Rattle.qs_spec.specs.Tree.Tree.{uninitialized}
 use Rattle.qs_tree.proofs.lemmas.Growing.{result_tree, result_rejected}
 

@@ -292,14 +292,12 @@ fn add_here<'qs>(
         TreeBuilder::Value(value) => add_at_end(alloc, value, pair),
         TreeBuilder::Unsorted(leaves) => match pair.manner {
             Manner::Direct => Ok(leaves.push(Key::from(""), pair.leaf.take())?),
-            Manner::Push => {
-                let mut map = map_of(
-                    alloc,
-                    mem::replace(node, TreeBuilder::fresh()),
-                    pair.path.len(),
-                )?;
-                Err(map.conflict(alloc, pair.path.len()))
-            }
+            Manner::Push => Err(map_of(
+                alloc,
+                mem::replace(node, TreeBuilder::fresh()),
+                pair.path.len(),
+            )?
+            .conflict(alloc, pair.path.len())),
         },
         TreeBuilder::Map(map) => match pair.manner {
             Manner::Direct => map.add_at_empty(alloc, pair.leaf.take(), pair.path.len()),

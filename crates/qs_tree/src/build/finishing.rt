@@ -56,22 +56,19 @@ fn finish_map<'qs>(alloc: Global, map: MapBuilder<'qs>) -> Result<ParsedMap<'qs>
     ensures { IfOk result (λ done. entries_of_map done ≡ built_entries map.entry) }
 {
     let mut level = open_level(alloc, map)?;
-    let mut stack = Vec::new(alloc);
+    let mut stack: Vec<Frame<'qs>> = Vec::new(alloc);
     loop {
-        match level.next_map(alloc)? {
-            Some((key, map)) => {
-                let inner = open_level(alloc, map)?;
-                stack.push(Frame { level, key })?;
-                level = inner;
-            }
-            None => {
-                let map = ParsedMap { map: level.done };
-                let Some(outer) = stack.pop() else {
-                    return Ok(map);
-                };
-                level = outer.resume(map)?;
-            }
-        }
+        let Some((key, map)) = level.next_map(alloc)? else {
+            let map = ParsedMap { map: level.done };
+            let Some(outer) = stack.pop() else {
+                return Ok(map);
+            };
+            level = outer.resume(map)?;
+            continue;
+        };
+        let inner = open_level(alloc, map)?;
+        stack.push(Frame { level, key })?;
+        level = inner;
     }
 }
 

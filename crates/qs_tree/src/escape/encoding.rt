@@ -100,6 +100,7 @@ fn put_byte(byte: u8, form: bool, room: &mut [u8], at: usize) -> usize
 
 // Writes the escape of a byte to `room` from `at` on, byte by byte: a copy would first test whether the two overlap.
 #[inline(always)]
+#[tactic(auto, using(crate::proofs::lemmas::escape::EncodedFronts::escape_is))]
 fn put_escape(byte: u8, room: &mut [u8], at: usize)
     requires { at + 3 ≤ length room.old }
     ensures { take (at + 3) room.new ≡ take at room.old ++ escape byte }

@@ -1,9 +1,8 @@
 -- What a map under construction holds after a step.
-use Rattle.qs_tree.proofs.Common.{◌≡◌, ℕ, List, [], ◌∷◌, ◌++◌, length, slice_get, Option, Some, None, option_map, unwrap_or, Result, Ok, Err, Ordering, Less, Equal, Greater, refl, sym, ap, ◌∙◌, arith, rules, Global, AllByRecursion, IsStrictlySortedBy, keys_of, lookup, set_value, ordering_reverse, is_at, insert_entry, BTreeMap, Tree, Entries, uninitialized, compare_segments, update, Key, TreeBuilder, AddError, key_cmp, Gives, IsHit, IsGap, put_value, segment_of_key, step_of_key, find, built_tree, built_entries, entries_seen, entries_held, as_builders, fresh, child, Takes}
+use Rattle.qs_tree.proofs.Common.{◌≡◌, ℕ, List, [], ◌∷◌, ◌++◌, slice_get, Option, Some, None, option_map, unwrap_or, Result, Ok, Err, Ordering, Less, Equal, Greater, refl, sym, ap, ◌∙◌, rules, Global, AllByRecursion, IsStrictlySortedBy, keys_of, lookup, set_value, ordering_reverse, is_at, insert_entry, BTreeMap, Tree, Entries, uninitialized, compare_segments, update, Key, TreeBuilder, AddError, key_cmp, Gives, IsHit, IsGap, put_value, segment_of_key, step_of_key, find, built_tree, built_entries, entries_seen, entries_held, as_builders, fresh, child, Takes, total-law}
 use Rattle.qs_spec.proofs.GoodParts.{all_to}
 use Rattle.qs_tree.specs.declared.build.builder.MapBuilder.{the_lemmas}
 use Rattle.qs_tree.specs.declared.build.builder.MapBuilder.TheVariants as form
-use Rattle.qs_tree.specs.contracts.tree.key.KeyOrd.TheImpl.Laws.{total-law}
 use Rattle.qs_tree.proofs.lemmas.tree.Keys.{Held, seen_view, seen-lookup, key_cmp-segments}
 use Rattle.qs_tree.proofs.lemmas.tree.Ordered.{ordered_seen}
 use Rattle.qs_tree.proofs.lemmas.tree.Places.{hit_lookup, gap_lookup, hit_set}
@@ -36,9 +35,6 @@ module _ {X : Type 0} (seen : X → Tree) (k : Key) where
       by more o d = rw (← key_cmp-segments k e.0, d)
 
   -- no key is this one
-  all_above : (l : Key) (ks : List Key) → key_cmp k l ≡ Less → AllByRecursion (λ y. key_cmp l y ≡ Less) ks → AllByRecursion (λ y. key_cmp k y ≡ Less) ks
-  all_above l ks less h = all_to _ _ (λ y. total-law.trans k l y less) ks h
-
   none_set : (es : List (Key × X)) (w : X) → AllByRecursion (λ y. key_cmp k y ≡ Less) (keys_of es) → set_value (is_at (key_cmp k)) es w ≡ es
   none_set [] w h = refl
   none_set (e ∷ es) w h = rw h.0 (ap (λ l. e ∷ l) (none_set es w h.1))
@@ -52,7 +48,7 @@ module _ {X : Type 0} (seen : X → Tree) (k : Key) where
     where
       by : update (step_of_key k) (λ _. Some u) (seen_view seen (set_value (is_at (key_cmp k)) es w)) ≡ update (step_of_key k) (λ _. Some u) (seen_view seen es) → (o : Ordering) → key_cmp k e.0 ≡ o
           → update (step_of_key k) (λ _. Some u) (seen_view seen (set_value (is_at (key_cmp k)) (e ∷ es) w)) ≡ update (step_of_key k) (λ _. Some u) (seen_view seen (e ∷ es))
-      by more Less d = let before : compare_segments (step_of_key k).seg (segment_of_key e.0) ≡ Less = d in rw (d, before, none_set es w (all_above e.0 (keys_of es) d h.0))
+      by more Less d = let before : compare_segments (step_of_key k).seg (segment_of_key e.0) ≡ Less = d in rw (d, before, none_set es w (all_to _ _ (λ y. total-law.trans k e.0 y d) (keys_of es) h.0))
       by more Equal d = let same : compare_segments (step_of_key k).seg (segment_of_key e.0) ≡ Equal = d in rw (d, same)
       by more Greater d = let after : compare_segments (step_of_key k).seg (segment_of_key e.0) ≡ Greater = d in rw (d, after, more)
 
@@ -107,8 +103,3 @@ module _ (k : Key) (ks : List Key) where
   unfolding IsStrictlySortedBy
   pushed [] rest v h = refl
   pushed (e ∷ es) rest v h = rw (above e.0 (keys_of es) h.0) (ap (λ l. e ∷ l) (pushed es rest v h.1))
-
--- no entries are left
-pub nothing : {X : Type 0} (xs : List X) (n : ℕ) → n ≡ length xs → n ≡ 0 → xs ≡ []
-nothing [] n same none = refl
-nothing (x ∷ xs) n same none = absurd (omega (arith, same, none))

@@ -1,24 +1,19 @@
 -- Keys that are distinct.
-use Rattle.qs_tree.proofs.Common.{◌≡◌, ◌≤◌, ℕ, Bool, true, false, cond, List, ◌∷◌, length, get_or, map, filter, refl, sym, ap, ◌∙◌, arith, true≢false, IsPermutation, Key, ParsedValue, segment_of_key}
+use Rattle.qs_tree.proofs.Common.{inl, inr, cases_Bool, ◌≡◌, ◌≤◌, ℕ, Bool, true, false, cond, List, ◌∷◌, length, get_or, map, filter, refl, sym, ap, ◌∙◌, arith, true≢false, IsPermutation, Key, ParsedValue, segment_of_key, get_or-map, length-map, HaveDistinctKeys, hash_of, IsPermutation-sym, IsDistinct-IsPermutation, IsDistinct-from_sorted, apart_from_distinct, sorted_from_strictly_increasing, Perm}
 use Rattle.std.proofs.lemmas.Cmp.{eq_by_cmp_equiv, nat_cmp_total}
-use Rattle.std.proofs.lemmas.List.{get_or-map, length-map}
-use Rattle.std.proofs.lemmas.List.Sorted.{IsPermutation-sym}
-use Rattle.std.proofs.lemmas.Map.Keys.{IsDistinct-IsPermutation, IsDistinct-from_sorted, apart_from_distinct, sorted_from_strictly_increasing}
 use Rattle.std.specs.List.Sorted.{IsStrictlyIncreasing}
 use Rattle.std.specs.Ordering.{eq_by_cmp, nat_cmp}
-use Rattle.qs_spec.proofs.Permuted.{Perm}
 use Rattle.qs_spec.proofs.Permuted.Perm.{same, keep, turn, after}
-use Rattle.qs_tree.specs.internal.build.Distinct.{HaveDistinctKeys, hash_of}
 use Rattle.qs_tree.proofs.lemmas.tree.Keys.{Held}
 
 -- an element that is alone has an order to keep in any permutation
 pub alone : {X : Type 0} (p : X → Bool) {xs ys : List X} → Perm xs ys → length (filter p xs) ≤ 1 → filter p ys ≡ filter p xs
 alone p same few = refl
-alone p (keep {x} {xs} {ys} moved) few = by (p x) few (alone p moved)
-  where
-    by : (b : Bool) → length (cond b (x ∷ filter p xs) (filter p xs)) ≤ 1 → (length (filter p xs) ≤ 1 → filter p ys ≡ filter p xs) → cond b (x ∷ filter p ys) (filter p ys) ≡ cond b (x ∷ filter p xs) (filter p xs)
-    by true one rest = ap (λ l. x ∷ l) (rest (omega (arith, one)))
-    by false one rest = rest one
+alone p (keep {x} {xs} {ys} moved) few =
+    elim (cases_Bool (p x)) [
+      | inl one ↦ let less = rw one at few in rw one (ap (λ l. x ∷ l) (alone p moved (omega (arith, less))))
+      | inr other ↦ let less = rw other at few in rw other (alone p moved less)
+    ]
 alone p (turn {x} {y} {xs}) few = by (p x) (p y) few
   where
     by : (a b : Bool) → length (cond a (x ∷ cond b (y ∷ filter p xs) (filter p xs)) (cond b (y ∷ filter p xs) (filter p xs))) ≤ 1

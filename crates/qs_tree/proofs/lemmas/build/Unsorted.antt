@@ -1,21 +1,15 @@
 -- Leaves in no order, and the entries that they make.
-use Rattle.qs_tree.proofs.Common.{◌≡◌, ◌≢◌, ◌≤◌, ◌<◌, ℕ, arith, length, get_or, ⊎_elim, same_segment, Bool, true, false, cond, not, ◌&&◌, List, [], ◌∷◌, ◌++◌, map, refl, sym, ap, ap₂, ◌∙◌, Option, Some, Ordering, Less, Equal, Greater, is_lt, filter, IsPermutation, IsStrictlySortedBy, IsStableBy, ties, keys_of, ordering_reverse, Borrowed, filter_agree, same_Some, none-some, Pair, Segment, is_same_segment, compare_segments, Int, Str, Tree, entries_of, flat, head_mark, heads, node_within, leaf, entry, add_flat, add_here, update, Key, ParsedValue, NoValue, None, entries_held, leaf_pairs, entries_of_leaves, AreLeaves, is_leaf, is_some, unwrap_or, true≢false, append-nil, append_assoc, leaf_held, leaf_in, key_cmp, segment_of_key, key_mark, step_of_key, tree_of}
-use Rattle.std.proofs.Common.{is_eq}
-use Rattle.std.proofs.lemmas.Bool.{and_parts, cases_lt}
+use Rattle.qs_tree.proofs.Common.{inl, inr, cases_Bool, ◌≡◌, ◌≢◌, ◌≤◌, ◌<◌, ℕ, arith, length, get_or, ⊎_elim, same_segment, Bool, true, false, not, ◌&&◌, List, [], ◌∷◌, ◌++◌, map, refl, sym, ap, ap₂, ◌∙◌, Option, Some, Ordering, Less, Greater, is_lt, filter, IsPermutation, IsStrictlySortedBy, IsStableBy, ties, keys_of, ordering_reverse, Borrowed, filter_agree, same_Some, none-some, Pair, Segment, is_same_segment, compare_segments, Int, Str, Tree, entries_of, flat, head_mark, heads, node_within, leaf, entry, add_flat, add_here, update, Key, ParsedValue, NoValue, None, entries_held, leaf_pairs, entries_of_leaves, AreLeaves, is_leaf, is_some, unwrap_or, true≢false, append-nil, append_assoc, leaf_held, leaf_in, key_cmp, segment_of_key, key_mark, step_of_key, tree_of, and_parts, cases_lt, HaveDistinctKeys, All-permutation, Perm-from, perm_map, perm_heads, total-law, is_eq}
 use Rattle.std.proofs.lemmas.List.Elements.{filter_passes}
 use Rattle.std.proofs.lemmas.List.Kept.{AllPairs-filter}
-use Rattle.std.proofs.lemmas.List.Sorted.{All-permutation}
 use Rattle.std.proofs.lemmas.List.Sums.{AllPass-from_list_all, list_all-from_AllPass}
 use Rattle.qs_spec.specs.History.{Event, event, under}
-use Rattle.qs_spec.specs.History.Event.{direct, push, below}
+use Rattle.qs_spec.specs.History.Event.{direct}
 use Rattle.qs_spec.specs.Leaf as spec
 use Rattle.qs_spec.proofs.Flat.{AllDirect, direct_adds}
 use Rattle.qs_spec.proofs.OneMore.{pair, history_push}
-use Rattle.qs_spec.proofs.Permuted.{Perm-from, perm_map, perm_heads}
 use Rattle.qs_spec.proofs.Update.{entries_within, update_pairs}
-use Rattle.qs_tree.specs.contracts.tree.key.KeyOrd.TheImpl.Laws.{total-law}
 use Rattle.qs_tree.specs.declared.tree.key.Key.TheVariants as variant
-use Rattle.qs_tree.specs.internal.build.Distinct.{HaveDistinctKeys}
 use Rattle.qs_tree.proofs.lemmas.tree.Keys.{Held}
 use Rattle.qs_tree.proofs.lemmas.tree.Places.{keys-append}
 use Rattle.qs_tree.proofs.lemmas.build.Built.{above}
@@ -24,22 +18,15 @@ use Rattle.qs_tree.proofs.lemmas.build.Distinct.{alone}
 -- the leaves of one key are direct
 directs : (k : Segment) (ls : Held) → AllDirect (map event (under k (leaf_pairs ls)))
 directs k [] = tt
-directs k (p ∷ ls) = by (is_same_segment k (segment_of_key p.0)) (directs k ls)
-  where
-    by : (b : Bool) → AllDirect (map event (under k (leaf_pairs ls))) → AllDirect (map event (cond b (pair [] false (leaf_held p.1) ∷ under k (leaf_pairs ls)) (under k (leaf_pairs ls))))
-    by true all = all
-    by false all = all
+directs k (p ∷ ls) = elim (cases_Bool (is_same_segment k (segment_of_key p.0))) [ inl at ↦ rw at (directs k ls) | inr other ↦ rw other (directs k ls) ]
 
 leaf_pairs-last : (ls : Held) (p : Key × ParsedValue) → leaf_pairs (ls ++ p ∷ []) ≡ leaf_pairs ls ++ pair (step_of_key p.0 ∷ []) false (leaf_held p.1) ∷ []
 leaf_pairs-last [] p = refl
 leaf_pairs-last (q ∷ ls) p = ap (λ ps. pair (step_of_key q.0 ∷ []) false (leaf_held q.1) ∷ ps) (leaf_pairs-last ls p)
 
 here_flat : (l : spec.Leaf) (h : List Event) → add_here false l (flat h) ≡ add_flat false l (flat h)
-here_flat l [] = refl
 here_flat l (direct o ∷ []) = refl
-here_flat l (direct o ∷ e ∷ h) = refl
-here_flat l (push o ∷ h) = refl
-here_flat l (below ∷ h) = refl
+here_flat l h = refl
 
 -- one leaf more
 module _ (ls : Held) (key : Key) (v : ParsedValue) where
@@ -69,21 +56,11 @@ bare_pairs ls = map (λ p. pair [] false (leaf_held p.1)) ls
 
 under_leaves : (k : Segment) (ls : Held) → under k (leaf_pairs ls) ≡ bare_pairs (filter (is_at_segment k) ls)
 under_leaves k [] = refl
-under_leaves k (p ∷ ls) = by (is_at_segment k p) (under_leaves k ls)
-  where
-    by : (b : Bool) → under k (leaf_pairs ls) ≡ bare_pairs (filter (is_at_segment k) ls)
-        → cond b (pair [] false (leaf_held p.1) ∷ under k (leaf_pairs ls)) (under k (leaf_pairs ls)) ≡ bare_pairs (cond b (p ∷ filter (is_at_segment k) ls) (filter (is_at_segment k) ls))
-    by true e = ap (λ ps. pair [] false (leaf_held p.1) ∷ ps) e
-    by false e = e
+under_leaves k (p ∷ ls) = elim (cases_Bool (is_at_segment k p)) [ inl at ↦ rw (at, under_leaves k ls) | inr other ↦ rw (other, under_leaves k ls) ]
 
 mark_of_leaves : (k : Segment) (ls : Held) → head_mark k (leaf_pairs ls) ≡ first_mark (filter (is_at_segment k) ls)
 mark_of_leaves k [] = refl
-mark_of_leaves k (p ∷ ls) = by (is_at_segment k p) (mark_of_leaves k ls)
-  where
-    by : (b : Bool) → head_mark k (leaf_pairs ls) ≡ first_mark (filter (is_at_segment k) ls)
-        → cond b (key_mark p.0) (head_mark k (leaf_pairs ls)) ≡ first_mark (cond b (p ∷ filter (is_at_segment k) ls) (filter (is_at_segment k) ls))
-    by true e = refl
-    by false e = e
+mark_of_leaves k (p ∷ ls) = elim (cases_Bool (is_at_segment k p)) [ inl at ↦ rw at | inr other ↦ rw (other, mark_of_leaves k ls) ]
 
 entries_agree : (m n : Segment → Bool) (f g : Segment → Tree) → ((k : Segment) → m k ≡ n k) → ((k : Segment) → f k ≡ g k) → (ks : List Segment) → entries_of m f ks ≡ entries_of n g ks
 entries_agree m n f g marks trees [] = refl
@@ -99,8 +76,7 @@ key_at (Str b) = variant.String (Borrowed (record { ref_ptr = (0, 0); now = b })
 
 neither : (o : Ordering) → (not (is_lt o) && not (is_lt (ordering_reverse o))) ≡ is_eq o
 neither Less = refl
-neither Equal = refl
-neither Greater = refl
+neither o = refl
 
 at_itself : (k : Segment) (key : Key) → key_cmp (key_at k) key ≡ compare_segments k (segment_of_key key)
 at_itself (Int n) key = refl
@@ -149,9 +125,7 @@ at_end key ks v l is [] sorted = ap (λ t. Some (entry (segment_of_key key) (key
   where
     only : (t : Tree) → leaf_in t ≡ Some l → t ≡ leaf l
     only (leaf o) e = ap leaf (same_Some o l e)
-    only (Tree.sequence xs) e = absurd (none-some l e)
-    only (Tree.mapping es) e = absurd (none-some l e)
-    only Tree.uninitialized e = absurd (none-some l e)
+    only t e = absurd (none-some l e)
 at_end key ks v l is (e ∷ es) sorted =
     let after : compare_segments (step_of_key key).seg (segment_of_key e.0) ≡ Greater = above key ks e.0 (keys_of es) sorted.0 in
     rw (after, at_end key ks v l is es sorted.1)

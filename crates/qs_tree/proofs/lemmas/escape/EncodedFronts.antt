@@ -1,5 +1,5 @@
 -- How many bytes `encoded` has, and what it is up to an escape, and after one.
-use Rattle.qs_tree.proofs.Common.{◌≡◌, ℕ, zero, suc, ◌+◌, ◌*◌, ◌/◌, ◌%◌, ◌<◌, ◌≤◌, true, false, Bool, List, [], ◌∷◌, ◌++◌, map, length, get_or, take, drop, refl, sym, ap, ◌∙◌, arith, ◌||◌, ◌==◌, inl, inr, Fits, w8, cond, count_by, AllByRecursion, digit_glyph, sum_by-cons, cond-true, cond-false, not-true, not-false, cases_Bool, or_both, decoded, encoded, encoded_byte, escape, is_kept_in_query, is_escaped, NoneBetween, swapped, length-append, eqb-true}
+use Rattle.qs_tree.proofs.Common.{count_by-le-length, ◌≡◌, ℕ, zero, suc, ◌+◌, ◌*◌, ◌/◌, ◌%◌, ◌<◌, ◌≤◌, true, false, Bool, List, [], ◌∷◌, ◌++◌, map, length, get_or, take, drop, refl, sym, ap, ◌∙◌, arith, ◌||◌, ◌==◌, inl, inr, Fits, w8, cond, count_by, AllByRecursion, digit_glyph, sum_by-cons, cond-true, cond-false, not-true, not-false, cases_Bool, or_both, decoded, encoded, encoded_byte, escape, is_kept_in_query, is_escaped, NoneBetween, swapped, length-append, eqb-true}
 use Rattle.qs_spec.proofs.Unescaped.{decoded-encoded}
 use Rattle.percent_encoding.specs.Percent.{percent_encode_byte}
 
@@ -58,12 +58,7 @@ length_encoded form (b ∷ bs) =
 
 -- each byte takes at most three
 pub encoded_few : (form : Bool) (bs : List ℕ) → length (encoded form bs) ≤ 3 * length bs
-encoded_few form [] = omega arith
-encoded_few form (b ∷ bs) =
-    elim (cases_Bool (is_escaped form b)) [
-      | inl escaped ↦ omega (arith, length-append (encoded_byte form b) (encoded form bs), ap length (byte_escaped form b escaped), encoded_few form bs)
-      | inr plain ↦ omega (arith, length-append (encoded_byte form b) (encoded form bs), ap length (byte_not_escaped form b plain), encoded_few form bs)
-    ]
+encoded_few form bs = omega (arith, length_encoded form bs, count_by-le-length (is_escaped form) bs)
 
 all_bytes : (bs : List ℕ) → ((k : ℕ) → Fits w8 (get_or bs k 0)) → AllByRecursion (λ b. b < 256) bs
 all_bytes [] fits = tt

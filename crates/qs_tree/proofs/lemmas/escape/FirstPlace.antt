@@ -1,8 +1,6 @@
 -- The first index at which a test passes, from the elements before it, and back.
-use Rattle.qs_tree.proofs.Common.{◌≡◌, ℕ, Option, ◌<◌, ◌≤◌, true, false, Bool, List, length, take, get_or, ap, ◌∙◌, arith, sym, Some, None, ltb, inl, inr, is_some, position_or_len, position, list_any, cond-true, cond-false, lt-ltb, le-ltb, cases_Bool, ltb-false, position_or_len_is, fails_before_first, All-from_get_or, list_any_none, NoneBetween}
-use Rattle.std.proofs.lemmas.List.{get_or-take, length-take-le}
+use Rattle.qs_tree.proofs.Common.{◌≡◌, ℕ, Option, ◌<◌, ◌≤◌, true, false, Bool, List, length, take, get_or, ap, ◌∙◌, arith, sym, Some, None, ltb, inl, inr, is_some, position_or_len, position, list_any, cond-true, cond-false, lt-ltb, le-ltb, cases_Bool, ltb-false, position_or_len_is, fails_before_first, All-from_get_or, list_any_none, NoneBetween, get_or-take, length-take-le, position-Some}
 use Rattle.std.proofs.lemmas.List.Folds.{list_any_at}
-use Rattle.std.proofs.lemmas.List.Quantifiers.{position-Some}
 
 pub position-some : (p : ℕ → Bool) (xs : List ℕ) (n : ℕ) → n < length xs → NoneBetween p xs 0 n → p (get_or xs n 0) ≡ true → Some n ≡ position p xs
 position-some p xs n inside none passes =

@@ -1,5 +1,5 @@
 -- What follows a key, by the raw bytes of runs.
-use Rattle.qs_tree.proofs.Common.{◌≡◌, ℕ, zero, suc, ◌-◌, Bool, true, false, cond, ◌&&◌, List, [], ◌∷◌, ◌++◌, length, take, drop, refl, sym, ap, ap₂, ◌∙◌, subst, arith, Option, Some, None, Result, length-append, ◌==◌, ◌<◌, ◌⊎◌, ⊎_elim, take-append_seam, drop_at, map-append, Kind, Token, tokens, byte_token, is_escaped_bracket, raw_of, Amp, Equals, Open, Close, Other, Step, step_of, Pair, direct, pushed, longer, is_equals, is_open, is_close, ends_last, Rest, cut, with_leaf, parsed_value, value_at, after_close, after_close_at, after_run, in_segment, in_last, parsed_brackets, Key, step_of_key, path_of, kind_of_token, token_of, from_token, left, taken, IsLeft, IsPast, IsClosing, FollowsStop, ParsesPair, root_path, from_root, from_root_at}
+use Rattle.qs_tree.proofs.Common.{inl, inr, cases_Bool, ◌≡◌, ℕ, zero, suc, ◌-◌, Bool, true, false, ◌&&◌, List, [], ◌∷◌, ◌++◌, length, take, drop, refl, sym, ap, ap₂, ◌∙◌, subst, arith, Option, Some, None, Result, length-append, ◌<◌, ◌⊎◌, ⊎_elim, take-append_seam, drop_at, map-append, Kind, Token, tokens, is_escaped_bracket, raw_of, Amp, Equals, Open, Close, Other, Step, step_of, Pair, direct, pushed, longer, is_equals, is_open, is_close, ends_last, Rest, cut, with_leaf, parsed_value, value_at, after_close, after_close_at, after_run, in_segment, in_last, parsed_brackets, Key, step_of_key, path_of, kind_of_token, token_of, from_token, left, taken, IsLeft, IsPast, IsClosing, FollowsStop, ParsesPair, root_path, from_root, from_root_at}
 use Rattle.qs_spec.specs.Leaf.{NoValue}
 use Rattle.qs_tree.specs.declared.scan.cursor.Kind as kind
 use Rattle.qs_tree.specs.declared.scan.cursor.Token as code
@@ -25,13 +25,8 @@ HasBytes (t ∷ ts) = (b : ℕ) × (more : List ℕ) × (t.raw ≡ b ∷ more)
 
 pub has_bytes : (form : Bool) (bytes : List ℕ) → HasBytes (tokens form bytes)
 has_bytes form [] = tt
-has_bytes form (b ∷ []) = (b, [], refl)
-has_bytes form (b ∷ c ∷ []) = (b, [], refl)
-has_bytes form (b ∷ c ∷ e ∷ rest) = by (form && is_escaped_bracket b c e)
-  where
-    by : (x : Bool) → HasBytes (cond x (record { kind = cond (e == 66) Open Close; raw = b ∷ c ∷ e ∷ [] } ∷ tokens form rest) (byte_token b ∷ tokens form (c ∷ e ∷ rest)))
-    by true = (b, c ∷ e ∷ [], refl)
-    by false = (b, [], refl)
+has_bytes form (b ∷ c ∷ e ∷ rest) = elim (cases_Bool (form && is_escaped_bracket b c e)) [ inl is ↦ rw is (b, c ∷ e ∷ [], refl) | inr other ↦ rw other (b, [], refl) ]
+has_bytes form (b ∷ rest) = (b, [], refl)
 
 -- a path and one key more
 pub path_more : (keys new : List Key) (key : Key) (raw : List ℕ) → new ≡ keys ++ key ∷ [] → step_of_key key ≡ step_of raw → path_of new ≡ longer (path_of keys) raw

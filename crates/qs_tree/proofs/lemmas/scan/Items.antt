@@ -1,5 +1,5 @@
 -- One item of what is left, and the pairs after it.
-use Rattle.qs_tree.proofs.Common.{◌≡◌, ℕ, zero, suc, Bool, true, false, ◌&&◌, ◌==◌, List, [], ◌∷◌, ◌++◌, length, refl, sym, ap, ◌∙◌, subst, arith, Option, Some, None, Result, Ok, Err, option_map, eqb-true, length-append, IsErrAnd, Kind, Token, tokens, raw_of, Amp, Equals, Open, step_of, Pair, direct, root, is_amp, ends_root, Rest, cut, cut_at, with_leaf, value_at, parsed_brackets, after_root, after_root_at, named, parsed_pairs, and_pairs, and_both, pair_of, kind_of_token, token_of, from_token, left, IsPast, is_nothing, IsParseError, ParsesPair, ParsesItem, root_path, from_root, from_root_at}
+use Rattle.qs_tree.proofs.Common.{inl, inr, cases_Bool, ◌≡◌, ℕ, zero, suc, Bool, true, false, ◌&&◌, ◌==◌, List, [], ◌∷◌, ◌++◌, length, refl, sym, ap, ◌∙◌, subst, arith, Option, Some, None, Result, Ok, Err, option_map, eqb-true, length-append, IsErrAnd, Kind, Token, tokens, raw_of, Amp, Equals, Open, step_of, Pair, direct, root, is_amp, ends_root, Rest, cut, cut_at, with_leaf, value_at, parsed_brackets, after_root, after_root_at, named, parsed_pairs, and_pairs, and_both, pair_of, kind_of_token, token_of, from_token, left, IsPast, is_nothing, IsParseError, ParsesPair, ParsesItem, root_path, from_root, from_root_at}
 use Rattle.qs_spec.specs.Leaf.{NoValue}
 use Rattle.qs_spec.proofs.ReadOn.{after_ampersand, after_pair}
 use Rattle.qs_tree.specs.declared.scan.cursor.Token as code
@@ -51,11 +51,7 @@ module _ (depth : ℕ) where
 
   cut_bytes : (ts : List Token) → HasBytes ts → HasBytes (cut (ends_root depth) ts).0
   cut_bytes [] h = tt
-  cut_bytes (t ∷ ts) h = by (ends_root depth t.kind)
-    where
-      by : (x : Bool) → HasBytes (cut_at x t ts (cut (ends_root depth) ts)).0
-      by true = tt
-      by false = h
+  cut_bytes (t ∷ ts) h = elim (cases_Bool (ends_root depth t.kind)) [ inl ends ↦ rw ends tt | inr goes ↦ rw goes h ]
 
   -- after a root key that isn't nothing
   after_key : (key : List Token) (stop : Option code.Token) (rest : List Token) → HasBytes key → is_nothing (raw_of key) stop ≡ false → after_root depth key (from_token stop rest) ≡ from_root depth (raw_of key) (from_token stop rest)

@@ -15,14 +15,13 @@ taken_more start rest raw next h e =
 
 -- a letter is a token by itself
 pub letter_token : (form : Bool) (b : ℕ) (rest : List ℕ) → IsLetter b → tokens form (b ∷ rest) ≡ byte_token b ∷ tokens form rest
-letter_token form b [] h = refl
-letter_token form b (c ∷ []) h = refl
 letter_token form b (c ∷ e ∷ rest) h = by form (is_escaped_bracket b c e) (ap (λ x. (x && c == 53) && (e == 66 || e == 68)) h.0)
   where
     by : (f x : Bool) → x ≡ false → cond (f && x) (record { kind = cond (e == 66) Kind.Open Kind.Close; raw = b ∷ c ∷ e ∷ [] } ∷ tokens form rest) (byte_token b ∷ tokens form (c ∷ e ∷ rest)) ≡ byte_token b ∷ tokens form (c ∷ e ∷ rest)
     by false x i = refl
     by true false i = refl
     by true true i = cc
+letter_token form b rest h = refl
 
 module _ (ends : Kind → Bool) (form : Bool) (bytes : List ℕ) where
   -- the first bytes belong to the run, and what is left of it and ends it is as from there on

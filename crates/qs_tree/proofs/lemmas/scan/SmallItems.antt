@@ -1,7 +1,6 @@
 -- Items of inputs for which nothing is allocated.
-use Rattle.qs_tree.proofs.Common.{◌≡◌, ℕ, zero, suc, Bool, true, false, cond, ◌&&◌, ◌||◌, ◌==◌, List, [], ◌∷◌, ◌++◌, length, refl, sym, ap, ap₂, ◌∙◌, subst, Option, Some, None, Result, eqb-true, ◌<◌, arith, inl, inr, list_all-append, Kind, Token, tokens, byte_token, byte_kind, raw_of, Amp, Equals, Open, Close, is_amp, is_equals, is_open, ends_root, cut, cut_at, and_both, TreeBuilder, IsFlat, fresh, is_ampersand, kind_of_token, token_of, raw_from_token, from_token, is_nothing, is_ampersands, is_plain, is_plain_value, TakesNoMemory, IsEqualsStop, ParsesSmall, StaysSmall}
+use Rattle.qs_tree.proofs.Common.{◌≡◌, ℕ, zero, suc, Bool, true, false, cond, ◌&&◌, ◌||◌, ◌==◌, List, [], ◌∷◌, ◌++◌, length, refl, sym, ap, ap₂, ◌∙◌, subst, Option, Some, None, Result, eqb-true, ◌<◌, arith, inl, inr, list_all-append, Kind, Token, tokens, byte_token, byte_kind, raw_of, Amp, Equals, Open, Close, is_amp, is_equals, is_open, ends_root, cut, cut_at, and_both, TreeBuilder, IsFlat, fresh, is_ampersand, kind_of_token, token_of, raw_from_token, from_token, is_nothing, is_ampersands, is_plain, is_plain_value, TakesNoMemory, IsEqualsStop, ParsesSmall, StaysSmall, IsNoMap, built_tree}
 use Rattle.qs_tree.proofs.lemmas.Views.{built_tree-fresh}
-use Rattle.qs_tree.specs.internal.build.Builder.{IsNoMap, built_tree}
 use Rattle.qs_tree.specs.declared.scan.cursor.Token as code
 use Rattle.qs_tree.specs.declared.scan.cursor.Cursor as cursor
 use Rattle.qs_tree.specs.declared.scan.pair.Pair as code_pair

@@ -1,5 +1,5 @@
 -- A value that is found by its first `&`, and the tokens that it is.
-use Rattle.qs_tree.proofs.Common.{◌≡◌, ℕ, suc, ◌+◌, ◌==◌, Bool, true, false, cond, not, ◌&&◌, ◌||◌, List, [], ◌∷◌, ◌++◌, length, take, drop, eqb-true, refl, sym, ap, ap₂, ◌∙◌, le_refl, subst, arith, Option, Some, None, IfNone, position_or_len, take-length, drop_all, is_marked, and_both, Kind, Token, tokens, byte_token, byte_kind, is_escaped_bracket, raw_of, Amp, Equals, Open, Close, Other, is_amp, cut, cut_at, is_ampersand, kind_of_token, token_of, raw_from_token, from_token, left, IsPast, is_plain}
+use Rattle.qs_tree.proofs.Common.{inl, inr, cases_Bool, ◌≡◌, ℕ, suc, ◌+◌, ◌==◌, Bool, true, false, cond, not, ◌&&◌, ◌||◌, List, [], ◌∷◌, ◌++◌, length, take, drop, eqb-true, refl, sym, ap, ap₂, ◌∙◌, le_refl, subst, arith, Option, Some, None, IfNone, position_or_len, take-length, drop_all, is_marked, and_both, Kind, Token, tokens, byte_token, byte_kind, is_escaped_bracket, raw_of, Amp, Equals, Open, Close, Other, is_amp, cut, cut_at, is_ampersand, kind_of_token, token_of, raw_from_token, from_token, left, IsPast, is_plain}
 use Rattle.qs_tree.specs.declared.scan.cursor.Token as code
 use Rattle.qs_tree.specs.declared.scan.cursor.Cursor as cursor
 
@@ -48,11 +48,7 @@ is_other : (b k : ℕ) → (b == k) ≡ true → (k == 38) ≡ false → (b == 3
 is_other b k e h = ap (λ x. x == 38) (eqb-true b k e) ∙ h
 
 is_either : (e : ℕ) → (e == 66 || e == 68) ≡ true → (e == 38) ≡ false
-is_either e h = by (e == 66) refl
-  where
-    by : (x : Bool) → (e == 66) ≡ x → (e == 38) ≡ false
-    by true d = is_other e 66 d refl
-    by false d = is_other e 68 (sym (ap (λ x. x || e == 68) d) ∙ h) refl
+is_either e h = elim (cases_Bool (e == 66)) [ inl d ↦ is_other e 66 d refl | inr d ↦ is_other e 68 (sym (ap (λ x. x || e == 68) d) ∙ h) refl ]
 
 bracket_kind : (x : Bool) → is_amp (cond x Open Close) ≡ false
 bracket_kind true = refl
@@ -75,8 +71,6 @@ bracket_before form b c e rest x i h =
 
 pub value_cut : (form : Bool) (bytes : List ℕ) → IsValueCut form bytes (tokens form bytes)
 value_cut form [] = record { run = refl; rest = refl }
-value_cut form (b ∷ []) = byte_before form b [] (λ _. refl) (value_cut form [])
-value_cut form (b ∷ c ∷ []) = byte_before form b (c ∷ []) (λ _. refl) (value_cut form (c ∷ []))
 value_cut form (b ∷ c ∷ e ∷ rest) = by form (is_escaped_bracket b c e) refl (value_cut form rest) (value_cut form (c ∷ e ∷ rest))
   where
     by : (f x : Bool) → is_escaped_bracket b c e ≡ x → IsValueCut f rest (tokens f rest) → IsValueCut f (c ∷ e ∷ rest) (tokens f (c ∷ e ∷ rest))
@@ -86,6 +80,7 @@ value_cut form (b ∷ c ∷ e ∷ rest) = by form (is_escaped_bracket b c e) ref
     by true false i h g =
         let plain : tokens true (b ∷ c ∷ e ∷ rest) ≡ byte_token b ∷ tokens true (c ∷ e ∷ rest) = ap (λ y. cond y (record { kind = cond (e == 66) Open Close; raw = b ∷ c ∷ e ∷ [] } ∷ tokens true rest) (byte_token b ∷ tokens true (c ∷ e ∷ rest))) i in
         subst (IsValueCut true (b ∷ c ∷ e ∷ rest)) (sym plain) (byte_before true b (c ∷ e ∷ rest) (λ _. plain) g)
+value_cut form (b ∷ bytes) = byte_before form b bytes (λ _. refl) (value_cut form bytes)
 
 -- what follows a run ends it
 pub stop_ends : (ends : Kind → Bool) (ts : List Token) (t : Token) (rest : List Token) → (cut ends ts).1 ≡ t ∷ rest → ends t.kind ≡ true

@@ -1,20 +1,11 @@
 -- Bytes that are compared as numbers.
-use Rattle.qs_tree.proofs.Common.{◌≡◌, ℕ, zero, suc, ◌+◌, ◌*◌, ◌<◌, ◌≤◌, List, [], ◌∷◌, length, take, drop, slice_index, true, false, true≢false, Less, Equal, Greater, Ordering, refl, sym, ◌∙◌, subst, arith, nat_cmp, is_ne, ordering_then, MatchOrdering, ranks, nat_cmp_is, slice_cmp}
+use Rattle.qs_tree.proofs.Common.{◌≡◌, ℕ, zero, suc, ◌+◌, ◌*◌, ◌<◌, ◌≤◌, List, ◌∷◌, length, take, drop, slice_index, true, false, true≢false, Less, Equal, Greater, Ordering, refl, sym, ◌∙◌, subst, arith, nat_cmp, is_ne, ordering_then, MatchOrdering, ranks, nat_cmp_is, slice_cmp}
 use Rattle.std.specs.Slice.Scan.{big_endian}
 use mir.Syntax.{w8}
 use mir.Val.{Fits}
 
 abbrev pub AreBytes : List ℕ → Type 0
 AreBytes xs = (k : ℕ) → Fits w8 (slice_index xs k)
-
-below : (x y : ℕ) → x < y → nat_cmp x y ≡ Less
-below x y l = sym (nat_cmp_is x y Less l)
-
-above : (x y : ℕ) → y < x → nat_cmp x y ≡ Greater
-above x y l = sym (nat_cmp_is x y Greater l)
-
-level : (x : ℕ) → nat_cmp x x ≡ Equal
-level x = sym (nat_cmp_is x x Equal refl)
 
 rises : (n a b : ℕ) (us vs : List ℕ) → n ≤ length us → n ≤ length vs → AreBytes us → a < b → big_endian a (take n us) < big_endian b (take n vs)
 rises zero a b us vs p q small l = l
@@ -26,9 +17,7 @@ rises n a b us vs p q small l = absurd (omega arith)
 -- the first n bytes compare as the numbers that they write after a, and where those are equal, what follows does
 pub as_numbers : (n a : ℕ) (us vs : List ℕ) → n ≤ length us → n ≤ length vs → AreBytes us → AreBytes vs
     → slice_cmp nat_cmp us vs ≡ ordering_then (nat_cmp (big_endian a (take n us)) (big_endian a (take n vs))) (slice_cmp nat_cmp (drop n us) (drop n vs))
-as_numbers zero a us vs p q small less = rw (level a) refl
-as_numbers (suc n) a [] vs p q small less = absurd (omega arith)
-as_numbers (suc n) a (u ∷ us) [] p q small less = absurd (omega arith)
+as_numbers zero a us vs p q small less = rw (← nat_cmp_is a a Equal refl) refl
 as_numbers (suc n) a (u ∷ us) (v ∷ vs) p q small less =
     by (as_numbers n (a * 256 + u) us vs (omega arith) (omega arith) (λ k. small (suc k)) (λ k. less (suc k))) (nat_cmp u v) refl (ranks u v)
   where
@@ -40,14 +29,15 @@ as_numbers (suc n) a (u ∷ us) (v ∷ vs) p q small less =
     by rest Less e l =
         let under : u < v = l in
         let more = rises n (a * 256 + u) (a * 256 + v) us vs (omega arith) (omega arith) (λ k. small (suc k)) (omega arith) in
-        rw (e, below _ _ more) refl
+        rw (e, ← nat_cmp_is _ _ Less more) refl
     by rest Greater e l =
         let over : v < u = l in
         let more = rises n (a * 256 + v) (a * 256 + u) vs us (omega arith) (omega arith) (λ k. less (suc k)) (omega arith) in
-        rw (e, above _ _ more) refl
+        rw (e, ← nat_cmp_is _ _ Greater more) refl
     by rest Equal e l =
         let same : u ≡ v = l in
         rw e (subst (λ y. slice_cmp nat_cmp us vs ≡ ordering_then (numbers u y) (slice_cmp nat_cmp (drop n us) (drop n vs))) same rest)
+as_numbers n a us vs p q small less = absurd (omega arith)
 
 -- an order that isn't equality decides
 decided : (r o : Ordering) → is_ne r ≡ true → ordering_then r o ≡ r

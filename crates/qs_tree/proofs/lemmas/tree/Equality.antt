@@ -1,6 +1,5 @@
 -- When two keys and two values are equal: where their segments and their trees are, marks aside.
-use Rattle.qs_tree.proofs.Common.{◌≡◌, IsTrue, ◌↔◌, ap, sym, ◌∙◌, is_eq, is_same_segment, unmarked, is_itself, same_segment, Key, ParsedValue, Equal, Equal-is, key_cmp, key_eq, value_eq, segment_of_key, tree_of}
-use Rattle.qs_tree.specs.contracts.tree.key.KeyOrd.TheImpl.Laws.{matches_eq-law, total-law}
+use Rattle.qs_tree.proofs.Common.{◌≡◌, IsTrue, ◌↔◌, ap, sym, ◌∙◌, is_eq, is_same_segment, unmarked, is_itself, same_segment, Key, ParsedValue, Equal, Equal-is, key_cmp, key_eq, value_eq, segment_of_key, tree_of, matches_eq-law, total-law}
 use Rattle.qs_tree.specs.internal.tree.EqualityLaws.{same_trees}
 use Rattle.qs_tree.proofs.lemmas.tree.Keys.{key_cmp-segments}
 

@@ -25,9 +25,6 @@ seen-lookup seen k (e ∷ es) =
       | inr other ↦ rw (other, seen-lookup seen k es)
     ])
 
-pub view-lookup : (k : Key) (es : Held) → option_map tree_of (lookup (is_at (key_cmp k)) es) ≡ find (segment_of_key k) (entries_view es)
-view-lookup k es = seen-lookup tree_of k es
-
 pub view-remove_entry : (k : Key) (es : Held) → entries_view (remove_entry (is_at (key_cmp k)) es) ≡ take_out (segment_of_key k) (entries_view es)
 view-remove_entry k [] = refl
 view-remove_entry k (e ∷ es) =

@@ -1,6 +1,6 @@
 -- The entries of a sorted vector are in the order of their keys.
-use Rattle.qs_tree.proofs.Common.{◌≡◌, List, [], ◌∷◌, Less, sym, ◌∙◌, AllByRecursion, IsStrictlySortedBy, keys_of, Tree, Key, key_cmp, segment_of_key, tree_of, IsBefore, AreOrdered}
-use Rattle.qs_tree.proofs.lemmas.tree.Keys.{Held, entries_view, seen_view, key_cmp-segments}
+use Rattle.qs_tree.proofs.Common.{◌≡◌, List, [], ◌∷◌, Less, sym, ◌∙◌, AllByRecursion, IsStrictlySortedBy, keys_of, Tree, Key, key_cmp, segment_of_key, IsBefore, AreOrdered}
+use Rattle.qs_tree.proofs.lemmas.tree.Keys.{seen_view, key_cmp-segments}
 
 module _ {X : Type 0} (seen : X → Tree) where
   before_all : (k : Key) (es : List (Key × X)) → AllByRecursion (λ y. key_cmp k y ≡ Less) (keys_of es) → IsBefore (segment_of_key k) (seen_view seen es)
@@ -11,6 +11,3 @@ module _ {X : Type 0} (seen : X → Tree) where
   unfolding IsStrictlySortedBy
   ordered_seen [] h = tt
   ordered_seen (e ∷ es) h = (before_all e.0 es h.0, ordered_seen es h.1)
-
-pub ordered_view : (es : Held) → IsStrictlySortedBy key_cmp (keys_of es) → AreOrdered (entries_view es)
-ordered_view es h = ordered_seen tree_of es h

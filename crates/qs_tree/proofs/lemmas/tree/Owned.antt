@@ -1,5 +1,5 @@
 -- A value owns the strings that are marked in its tree.
-use Rattle.qs_tree.proofs.Common.{◌≡◌, List, [], ◌∷◌, ◌++◌, refl, ap₂, subst, rules, map, Borrowed, Owned, key_marks, marks, items_marks, entries_marks, Key, ParsedValue, the_lemmas, ind-ParsedValue, roll-ParsedValue, roll-ParsedMap, ParsedMap, segment_of_key, key_mark, tree_of, items_of, entries_of_map, key_owns, items_own, entries_own, owns, map_owns}
+use Rattle.qs_tree.proofs.Common.{◌≡◌, List, [], ◌∷◌, ◌++◌, refl, ap₂, subst, rules, map, Borrowed, key_marks, marks, items_marks, entries_marks, Key, ParsedValue, the_lemmas, ind-ParsedValue, roll-ParsedValue, roll-ParsedMap, ParsedMap, segment_of_key, key_mark, tree_of, items_of, entries_of_map, key_owns, items_own, entries_own, owns, map_owns}
 use Rattle.qs_tree.specs.declared.tree.key.Key.TheVariants as key
 use Rattle.qs_tree.specs.declared.tree.value.ParsedValue.TheFolds.{map-ParsedValue, map-ParsedMap}
 use Rattle.qs_tree.specs.declared.tree.value.ParsedValue.TheOpen.{ParsedValue-F, ParsedMap-F}
@@ -12,9 +12,8 @@ abbrev AreMarked : ParsedMap → Type 0
 AreMarked m = map_owns m ≡ entries_marks (entries_of_map m)
 
 key_marked : (k : Key) → key_owns k ≡ key_marks (segment_of_key k) (key_mark k)
-key_marked (key.Int n) = refl
 key_marked (key.String (Borrowed r)) = refl
-key_marked (key.String (Owned v)) = refl
+key_marked k = refl
 
 items_marked : (vs : List ((v : ParsedValue) × IsMarked v)) → items_own (map owns (map (λ e. e.0) vs)) ≡ items_marks (items_of (map (λ e. e.0) vs))
 items_marked [] = refl

@@ -1,8 +1,7 @@
 -- What a binary search finds among entries in order, and what an edit at that index does.
-use Rattle.qs_tree.proofs.Common.{map-append, ◌≡◌, ℕ, zero, suc, ◌+◌, ◌<◌, ◌≤◌, ◌/◌, List, [], ◌∷◌, ◌++◌, length, get_or, slice_get, slice_set, Some, None, unwrap_or, option_map, Ordering, Less, Equal, Greater, refl, sym, ap, subst, ◌∙◌, inl, inr, cases_lt, arith, IsTotalOrder, insert, remove, AllByRecursion, IsStrictlySortedBy, keys_of, lookup, set_value, remove_entry, is_at, insert_entry, ordering_reverse, against, IsHit, IsGap, put_value, binary_digits, true, is_lt}
+use Rattle.qs_tree.proofs.Common.{append_assoc, map-append, ◌≡◌, ℕ, zero, suc, ◌+◌, ◌<◌, ◌≤◌, ◌/◌, List, [], ◌∷◌, ◌++◌, length, get_or, slice_get, slice_set, Some, None, unwrap_or, option_map, Ordering, Less, Equal, Greater, refl, sym, ap, subst, ◌∙◌, inl, inr, cases_lt, arith, IsTotalOrder, insert, remove, AllByRecursion, IsStrictlySortedBy, keys_of, lookup, set_value, remove_entry, is_at, insert_entry, ordering_reverse, against, IsHit, IsGap, put_value, binary_digits, true, is_lt, Less-from_sorted, sorted_from_all_adjacent, sorted_head, sorted_tail}
 use Rattle.std.specs.List.{AllAdjacentBelow}
 use Rattle.std.proofs.lemmas.Int.Digits.{length-digits_of_step}
-use Rattle.std.proofs.lemmas.Map.Keys.{Less-from_sorted, sorted_from_all_adjacent, sorted_head, sorted_tail}
 use Rattle.std.proofs.lemmas.Map.Entries.{length-keys_of}
 use Rattle.std.proofs.Math.ListN.{get_or-map}
 
@@ -112,13 +111,16 @@ module _ {K : Type 0} (cmp : K → K → Ordering) where
   pub sorted_one : (k : K) → IsStrictlySortedBy cmp (k ∷ [])
   sorted_one k = sorted_cons k [] tt sorted_none
 
-  all_upto : (P : K → Type 0) (ks : List K) (k : K) (ls : List K) → AllByRecursion P (ks ++ k ∷ ls) → AllByRecursion P (ks ++ k ∷ [])
-  all_upto P [] k ls a = (a.0, tt)
-  all_upto P (x ∷ ks) k ls a = (a.0, all_upto P ks k ls a.1)
+  all_front : (P : K → Type 0) (ks ls : List K) → AllByRecursion P (ks ++ ls) → AllByRecursion P ks
+  all_front P [] ls a = tt
+  all_front P (k ∷ ks) ls a = (a.0, all_front P ks ls a.1)
+
+  keys_front : (ks ls : List K) → IsStrictlySortedBy cmp (ks ++ ls) → IsStrictlySortedBy cmp ks
+  keys_front [] ls s = sorted_none
+  keys_front (k ∷ ks) ls s = sorted_cons k ks (all_front (λ y. cmp k y ≡ Less) ks ls (sorted_head cmp k (ks ++ ls) s)) (keys_front ks ls (sorted_tail cmp k (ks ++ ls) s))
 
   pub sorted_upto : (ks : List K) (k : K) (ls : List K) → IsStrictlySortedBy cmp (ks ++ k ∷ ls) → IsStrictlySortedBy cmp (ks ++ k ∷ [])
-  sorted_upto [] k ls s = sorted_cons k [] tt sorted_none
-  sorted_upto (x ∷ ks) k ls s = sorted_cons x (ks ++ k ∷ []) (all_upto (λ y. cmp x y ≡ Less) ks k ls (sorted_head cmp x (ks ++ k ∷ ls) s)) (sorted_upto ks k ls (sorted_tail cmp x (ks ++ k ∷ ls) s))
+  sorted_upto ks k ls s = keys_front (ks ++ k ∷ []) ls (rw append_assoc s)
 
   module _ {X : Type 0} where
     all_after : (k : K) (es : List (K × X)) → IsGap cmp k es 0 → AllByRecursion (λ y. cmp k y ≡ Less) (keys_of es)
@@ -152,13 +154,8 @@ module _ {K : Type 0} (cmp : K → K → Ordering) where
     sorted_remove (e ∷ es) zero s = sorted_tail cmp e.0 (keys_of es) s
     sorted_remove (e ∷ es) (suc i) s = sorted_cons e.0 (keys_of (remove es i)) (all_remove (λ y. cmp e.0 y ≡ Less) es i (sorted_head cmp e.0 (keys_of es) s)) (sorted_remove es i (sorted_tail cmp e.0 (keys_of es) s))
 
-    all_front : (P : K → Type 0) (es fs : List (K × X)) → AllByRecursion P (keys_of (es ++ fs)) → AllByRecursion P (keys_of es)
-    all_front P [] fs a = tt
-    all_front P (e ∷ es) fs a = (a.0, all_front P es fs a.1)
-
     pub sorted_front : (es fs : List (K × X)) → IsStrictlySortedBy cmp (keys_of (es ++ fs)) → IsStrictlySortedBy cmp (keys_of es)
-    sorted_front [] fs s = sorted_none
-    sorted_front (e ∷ es) fs s = sorted_cons e.0 (keys_of es) (all_front (λ y. cmp e.0 y ≡ Less) es fs (sorted_head cmp e.0 (keys_of (es ++ fs)) s)) (sorted_front es fs (sorted_tail cmp e.0 (keys_of (es ++ fs)) s))
+    sorted_front es fs s = keys_front (keys_of es) (keys_of fs) (rw (map-append (λ (e : K × X). e.0) es fs) at s)
 
 -- each key is below the next
 pub sorted_adjacent : {K X : Type 0} {cmp : K → K → Ordering} → IsTotalOrder cmp → (es : List (K × X)) → AllAdjacentBelow (λ x y. true ≡ is_lt (cmp x.0 y.0)) es (length es) → IsStrictlySortedBy cmp (keys_of es)

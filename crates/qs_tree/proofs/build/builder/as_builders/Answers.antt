@@ -1,6 +1,5 @@
-use Rattle.qs_tree.proofs.Common.{◌∷◌, [], length, sym, ap, ◌∙◌, append-nil, append_assoc, arith, keys_of, into_iter_items, key_cmp, Value}
+use Rattle.qs_tree.proofs.Common.{nil_from_length, ◌∷◌, [], length, sym, ap, ◌∙◌, append-nil, append_assoc, arith, keys_of, into_iter_items, key_cmp, Value}
 use Rattle.qs_tree.proofs.lemmas.tree.Places.{sorted_upto, keys-append}
-use Rattle.qs_tree.proofs.lemmas.build.Built.{nothing}
 use Rattle.qs_tree.proofs.build.builder.as_builders.Goals as goal
 
 pub loop-entry-init : goal.loop-entry-init
@@ -27,5 +26,5 @@ loop-entry-preserved c =
 
 pub returns : goal.returns
 returns c =
-    let none = nothing (into_iter_items c.loop-entry.entry-iterator) _ c.loop-entry.invariant.size c.in-None.ensures.steps.0 in
+    let none = nil_from_length (into_iter_items c.loop-entry.entry-iterator) (sym c.loop-entry.invariant.size ∙ c.in-None.ensures.steps.0) in
     sym (append-nil _) ∙ rw none at c.loop-entry.invariant.all

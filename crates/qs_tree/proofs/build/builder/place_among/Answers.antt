@@ -1,5 +1,4 @@
-use Rattle.qs_tree.proofs.Common.{◌≡◌, ◌-◌, ◌<◌, length, get_or, Greater, Equal, sym, ap, arith, against, key_cmp}
-use Rattle.qs_tree.specs.contracts.tree.key.KeyOrd.TheImpl.Laws.{total-law}
+use Rattle.qs_tree.proofs.Common.{◌≡◌, ◌-◌, ◌<◌, length, get_or, Greater, Equal, sym, ap, arith, against, key_cmp, total-law}
 use Rattle.qs_tree.proofs.lemmas.tree.Places.{key_at, before_middle, hit}
 use Rattle.qs_tree.proofs.build.builder.place_among.Goals as goal
 

@@ -1,4 +1,4 @@
-use Rattle.qs_tree.specs.internal.build.Builder.{built_tree}
+use Rattle.qs_tree.proofs.Common.{built_tree}
 use Rattle.qs_tree.proofs.lemmas.build.Built.{inserted}
 use Rattle.qs_tree.proofs.build.builder.put_below.Goals as goal
 

@@ -1,4 +1,4 @@
-use Rattle.qs_tree.specs.internal.build.Builder.{built_tree, built_entries}
+use Rattle.qs_tree.proofs.Common.{built_tree, built_entries}
 use Rattle.qs_tree.proofs.lemmas.build.Descending.{opened}
 use Rattle.qs_tree.proofs.build.descent.open.Goals as goal
 

@@ -1,8 +1,4 @@
-use Rattle.qs_tree.proofs.Common.{◌≡◌, sym, map, rules, segment_of_key}
-use Rattle.std.proofs.lemmas.Bool.{ltb-true}
-use Rattle.std.proofs.lemmas.Fn.{always_returns_same}
-use Rattle.std.specs.Prelude.{nat_lt}
-use Rattle.qs_tree.specs.internal.build.Distinct.{hash_of}
+use Rattle.qs_tree.proofs.Common.{◌≡◌, sym, map, rules, segment_of_key, ltb-true, hash_of, always_returns_same, nat_lt}
 use Rattle.qs_tree.proofs.lemmas.build.Distinct.{distinct_hashes}
 use Rattle.qs_tree.proofs.build.distinct.have_distinct_keys.Goals as goal
 

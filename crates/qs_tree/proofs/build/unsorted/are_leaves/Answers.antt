@@ -1,5 +1,4 @@
-use Rattle.qs_tree.proofs.Common.{drop_of_length-le, ◌≡◌, ◌+◌, ◌∷◌, drop, refl, sym, ap, ◌∙◌, drop_more}
-use Rattle.std.proofs.lemmas.Bool.{and_from}
+use Rattle.qs_tree.proofs.Common.{drop_of_length-le, ◌≡◌, ◌+◌, ◌∷◌, drop, refl, sym, ap, ◌∙◌, drop_more, and_from}
 use Rattle.qs_tree.proofs.build.unsorted.are_leaves.Goals as goal
 
 pub loop-entry-init : goal.loop-entry-init

@@ -1,8 +1,6 @@
-use Rattle.qs_tree.proofs.Common.{◌≡◌, rules, ap, is_lt, key_cmp}
-use Rattle.std.proofs.lemmas.Fn.{always_returns_same}
+use Rattle.qs_tree.proofs.Common.{◌≡◌, rules, ap, is_lt, key_cmp, always_returns_same, total-law}
 use Rattle.std.proofs.lemmas.List.MinMax.{ranks_by}
 use Rattle.std.proofs.lemmas.Result.{on_ok_weaker}
-use Rattle.qs_tree.specs.contracts.tree.key.KeyOrd.TheImpl.Laws.{total-law}
 use Rattle.qs_tree.proofs.lemmas.build.Unsorted.{is_before, moved_distinct, sorted_leaves}
 use Rattle.qs_tree.proofs.build.unsorted.sort.Goals as goal
 

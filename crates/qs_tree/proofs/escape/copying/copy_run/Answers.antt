@@ -1,5 +1,4 @@
-use Rattle.std.proofs.Common.{arith, take, length-take-le}
-use Rattle.qs_tree.specs.internal.escape.Copying.{swapped}
+use Rattle.qs_tree.proofs.Common.{arith, take, length-take-le, swapped}
 use Rattle.qs_tree.proofs.lemmas.escape.Copied.{swapped_lanes, stored_front}
 use Rattle.qs_tree.proofs.escape.copying.copy_run.Goals as goal
 

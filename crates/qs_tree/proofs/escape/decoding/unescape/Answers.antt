@@ -1,5 +1,4 @@
-use Rattle.qs_tree.proofs.Common.{◌∙◌, sym, arith, is_escape}
-use Rattle.std.proofs.lemmas.List.Quantifiers.{position-Some}
+use Rattle.qs_tree.proofs.Common.{◌∙◌, sym, arith, is_escape, position-Some}
 use Rattle.qs_tree.proofs.lemmas.escape.DecodedFronts.{decoded_front}
 use Rattle.qs_tree.proofs.escape.decoding.unescape.Goals as goal
 

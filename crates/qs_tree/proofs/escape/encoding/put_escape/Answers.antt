@@ -1,18 +1,7 @@
-use Rattle.std.proofs.Common.{◌≡◌, ◌∙◌, ◌+◌, ◌++◌, [], ◌∷◌, refl, ap, arith, length, take, slice_set, slice_index_or}
-use Rattle.std.proofs.lemmas.List.{append_assoc, length-set}
+use Rattle.qs_tree.proofs.Common.{append_assoc, length-set, ◌≡◌, ◌∙◌, ◌+◌, ◌++◌, [], ◌∷◌, refl, ap, arith, take, slice_set, slice_index_or, escape}
 use Rattle.std.proofs.lemmas.Grind.{take-set_at}
-use Rattle.qs_spec.specs.Escape.{escape}
 use Rattle.qs_tree.proofs.lemmas.escape.EncodedFronts.{escape_is}
 use Rattle.qs_tree.proofs.escape.encoding.put_escape.Goals as goal
-
-pub bounds-text-0 : goal.bounds-text-0
-bounds-text-0 c = omega (arith, ap length (c.as_bytes-text.ensures.value ∙ c.percent_encode_byte.ensures ∙ escape_is c.args.byte c.ranges.byte.fits))
-
-pub bounds-text-1 : goal.bounds-text-1
-bounds-text-1 c = omega (arith, ap length (c.as_bytes-text.ensures.value ∙ c.percent_encode_byte.ensures ∙ escape_is c.args.byte c.ranges.byte.fits))
-
-pub bounds-text-2 : goal.bounds-text-2
-bounds-text-2 c = omega (arith, ap length (c.as_bytes-text.ensures.value ∙ c.percent_encode_byte.ensures ∙ escape_is c.args.byte c.ranges.byte.fits))
 
 pub returns : goal.returns
 returns c =

@@ -1,27 +1,13 @@
 -- The whole proof of `Steps::after`, by hand: the prover doesn't find the count, of which the code has no bytes.
-use mathlib.Core.Path.{refl}
-use mathlib.Core.List.{[], ◌∷◌}
-use seplogic.Ra.Ura.{Ura}
 use mir.Syntax.{named}
-use Rattle.qs_tree.proofs.Common.{Val, vptr, vstruct, vnil, Logic, ‵, raw, ◌$◌, ◌∵◌, !, qed, move, suffices, done, no_more, returns, enter, agg, alloc_all, pass_all, free_all, look_at, sets}
-use base.Logic.{SProp, ent, emp, via, fst∗}
+use Rattle.qs_tree.proofs.Common.{Val, vptr, vstruct, vnil, Logic, ‵, raw, ◌$◌, ◌∵◌, !, qed, move, suffices, done, no_more, returns, enter, agg, alloc_all, pass_all, free_all, look_at, sets, Ura, SProp, ent, emp, via, fst∗, Memory, Routine, Calls, Loops, WpFn, Tables, Fun, WpFn-mono, pure_i, on_entry, alive, Args, Meets, triple_of, entered, says, stay_none_ref, Stays, walk_of, Walks, ends_at, walked, Goes-none_ref, walk_Meets, refl, [], ◌∷◌}
 use base.Fml.{Fml}
-use prog.Memory.{Memory}
-use prog.Routine.{Routine}
-use prog.Wp.{Calls, Loops, WpFn, Tables}
 use contract.Lifetimes.{Lfts, Shares}
-use contract.Monad.{Fun}
-use contract.Running.{tables, tables_of}
-use sound.WpLaws.{WpFn-mono}
 use denote.Exit.{yes}
+use contract.Running.{tables, tables_of}
 use denote.RattleType.{owns}
 use denote.Ref.{shr_vals, shr_Tells}
-use denote.Shadow.{pure_i}
 use denote.Signature.{plain, types_at}
-use denote.Triple.Entry.{on_entry, alive, Args}
-use denote.Triple.Spec.{Meets, triple_of}
-use denote.Triple.Table.{entered}
-use denote.Triple.Walked.{says, stay_none_ref, Stays, walk_of, Walks, ends_at, walked, Goes-none_ref, walk_Meets}
 use Rattle.qs_tree.specs.contracts.steps.Steps.after.Key.{name as key}
 use Rattle.qs_tree.specs.contracts.steps.Steps.after as f
 use Rattle.qs_tree.proofs.steps.Steps.after.Statement as stated

@@ -1,21 +1,7 @@
 -- The whole proof of `Steps::new`, by hand: the prover doesn't find the count, of which the code has no bytes.
-use mathlib.Core.Path.{refl}
-use mathlib.Core.List.{[], ◌∷◌}
-use seplogic.Ra.Ura.{Ura}
-use Rattle.qs_tree.proofs.Common.{vstruct, vnil, Logic, ‵, raw, ◌$◌, ◌∵◌, !, qed, move, suffices, done, no_more, returns, enter, agg, alloc_all, pass_all, free_all, look_at, sets}
-use base.Logic.{SProp, ent, emp, via, fst∗}
-use prog.Memory.{Memory}
-use prog.Routine.{Routine}
-use prog.Wp.{Calls, Loops, WpFn, Tables}
-use contract.Monad.{Fun}
+use Rattle.qs_tree.proofs.Common.{vstruct, vnil, Logic, ‵, raw, ◌$◌, ◌∵◌, !, qed, move, suffices, done, no_more, returns, enter, agg, alloc_all, pass_all, free_all, look_at, sets, Ura, SProp, ent, emp, via, fst∗, Memory, Routine, Calls, Loops, WpFn, Tables, Fun, WpFn-mono, pure_i, on_entry, alive, Meets, triple_of, entered, says, Stays, walk_of, Walks, ends_at, walked, walk_Meets, refl, [], ◌∷◌}
 use contract.Running.{tables, tables_of}
-use sound.WpLaws.{WpFn-mono}
 use denote.RattleType.{owns}
-use denote.Shadow.{pure_i}
-use denote.Triple.Entry.{on_entry, alive}
-use denote.Triple.Spec.{Meets, triple_of}
-use denote.Triple.Table.{entered}
-use denote.Triple.Walked.{says, Stays, walk_of, Walks, ends_at, walked, walk_Meets}
 use Rattle.qs_tree.specs.contracts.steps.Steps.new.Key.{name as key}
 use Rattle.qs_tree.specs.contracts.steps.Steps.new as f
 use Rattle.qs_tree.proofs.steps.Steps.new.Statement as stated

@@ -1,5 +1,4 @@
-use Rattle.qs_tree.proofs.Common.{◌≡◌, ◌+◌, ◌-◌, ◌/◌, ◌<◌, length, get_or, Less, Equal, Greater, sym, ap, arith, against, key_cmp}
-use Rattle.qs_tree.specs.contracts.tree.key.KeyOrd.TheImpl.Laws.{total-law}
+use Rattle.qs_tree.proofs.Common.{◌≡◌, ◌+◌, ◌-◌, ◌/◌, ◌<◌, length, get_or, Less, Equal, Greater, sym, ap, arith, against, key_cmp, total-law}
 use Rattle.qs_tree.proofs.lemmas.tree.Places.{key_at, before_middle, after_middle, hit, halved}
 use Rattle.qs_tree.proofs.tree.map.search.Goals as goal
 

@@ -1,5 +1,4 @@
-use Rattle.qs_tree.proofs.Common.{◌++◌, ◌∷◌, [], length, sym, ap, ◌∙◌, append-nil, append_assoc, arith, false, same_Some, into_iter_items, add_flat, update, step_of_key, leaf_held, entries_held, entries_of_leaves}
-use Rattle.qs_tree.proofs.lemmas.build.Built.{nothing}
+use Rattle.qs_tree.proofs.Common.{nil_from_length, ◌++◌, ◌∷◌, [], length, sym, ap, ◌∙◌, append-nil, append_assoc, arith, false, same_Some, into_iter_items, add_flat, update, step_of_key, leaf_held, entries_held, entries_of_leaves}
 use Rattle.qs_tree.proofs.lemmas.build.Unsorted.{added_flat}
 use Rattle.qs_tree.proofs.build.unsorted.Unsorted.merge.Goals as goal
 
@@ -29,5 +28,5 @@ loop-entry-preserved c =
 pub returns : goal.returns
 returns c =
     let front = c.loop-entry.invariant.front in
-    let none = nothing (into_iter_items c.loop-entry.entry-iterator) _ c.loop-entry.invariant.size c.in-None.ensures.steps.0 in
+    let none = nil_from_length (into_iter_items c.loop-entry.entry-iterator) (sym c.loop-entry.invariant.size ∙ c.in-None.ensures.steps.0) in
     c.loop-entry.invariant.same ∙ ap entries_of_leaves (sym (append-nil front)) ∙ rw none at c.loop-entry.invariant.all

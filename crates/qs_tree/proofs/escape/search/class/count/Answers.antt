@@ -1,5 +1,4 @@
-use Rattle.qs_tree.proofs.Common.{◌≡◌, ◌∙◌, ap, arith, cond, count_by, count_ones, take, count_by-le-length, sum_by-append, length-take-le, ones-mask_l, length-chunk, chunk}
-use Rattle.std.proofs.Common.{take-add}
+use Rattle.qs_tree.proofs.Common.{◌≡◌, ◌∙◌, ap, arith, cond, count_by, count_ones, take, count_by-le-length, sum_by-append, length-take-le, ones-mask_l, length-chunk, chunk, take-add}
 use Rattle.qs_tree.proofs.escape.search.class.count.Goals as goal
 
 pub overflow_add-count : goal.overflow_add-count

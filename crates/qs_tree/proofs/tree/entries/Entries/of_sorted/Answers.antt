@@ -1,5 +1,4 @@
-use Rattle.qs_tree.proofs.Common.{◌≡◌, is_lt, rules}
-use Rattle.std.proofs.lemmas.Fn.{always_returns_same}
+use Rattle.qs_tree.proofs.Common.{◌≡◌, is_lt, rules, always_returns_same}
 use Rattle.qs_tree.proofs.lemmas.tree.Places.{sorted_adjacent}
 use Rattle.qs_tree.proofs.tree.entries.Entries.of_sorted.Goals as goal
 

@@ -166,6 +166,7 @@ impl Reader {
     /// ```
     /// let entries = reader.entries(node)?;
     /// ```
+    #[tactic(auto, using(crate::proofs::lemmas::read::Variants::under_bad))]
     pub fn entries<'t, 'qs>(self, node: &'t ParsedValue<'qs>) -> Result<Entries<'t, 'qs>>
         ensures exact { Gives entries_view true result (node_entries (tree_of node.now)) }
         ensures text { IfOk result (λ es. entries_are_text (entries_view es) ≡ false → is_text (tree_of node.now) ≡ false) }
@@ -304,6 +305,7 @@ impl Reader {
     }
 
     // Returns the items of a node, of which these are expected.
+    #[tactic(auto, using(crate::proofs::lemmas::read::Items::items_bad))]
     fn items_for<'t, 'qs>(
         self,
         expected: Expected,

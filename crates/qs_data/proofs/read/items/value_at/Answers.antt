@@ -3,9 +3,6 @@ use Rattle.qs_data.proofs.lemmas.read.Items.{first_none, first_rejected, first_g
 use Rattle.qs_data.proofs.lemmas.read.ReadErrors.{gives_exit}
 use Rattle.qs_data.proofs.read.items.value_at.Goals as goal
 
-pub returns-in_default : goal.returns-in_default
-returns-in_default c = first_none c.args.place (entries_of_map c.args.map.now) (sym c.in_default.ensures)
-
 pub returns-in_err-test_place : goal.returns-in_err-test_place
 returns-in_err-test_place c =
     let es = entries_of_map c.args.map.now in

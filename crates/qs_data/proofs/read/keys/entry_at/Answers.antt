@@ -4,9 +4,6 @@ use Rattle.qs_data.proofs.lemmas.read.FirstEntry.{first_given, first_none, first
 use Rattle.qs_data.proofs.lemmas.read.ReadErrors.{gives_exit}
 use Rattle.qs_data.proofs.read.keys.entry_at.Goals as goal
 
-pub returns-in_default : goal.returns-in_default
-returns-in_default c = first_none c.args.place (entries_of_map c.args.map.now) (sym c.in_default.ensures)
-
 pub returns-in_err-text : goal.returns-in_err-text
 returns-in_err-text c =
     let es = entries_of_map c.args.map.now in

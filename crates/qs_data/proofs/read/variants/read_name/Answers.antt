@@ -8,13 +8,6 @@ use Rattle.qs_data.proofs.lemmas.read.Variants.{named_is, unit_at, no_unit}
 use Rattle.qs_data.proofs.read.variants.read_name.Goals as goal
 use Rattle.qs_data.proofs.read.variants.read_name.Goals.{in-Newtype, in-Tuple, in-Struct, in-StrictStruct}
 
-pub returns-in_err-place : goal.returns-in_err-place
-returns-in_err-place c =
-    let b = c.args.name.now in
-    let vs = c.args.variants.now in
-    gives_exit data_of (is_utf8 b) (is_utf8 b) c.from_residual.result c.in_err-place.field-0.0 (option_map Some (variant_named b (variants_in vs))) (unit_variant_data (variants_in vs) b)
-    c.from_residual.ensures.1 c.in_err-place.ensures.named (no_unit b vs) (λ n. n)
-
 pub returns-in-Unit : goal.returns-in-Unit
 returns-in-Unit c =
     let b = c.args.name.now in

@@ -1,5 +1,4 @@
-use Rattle.qs_data.proofs.Common.{◌≡◌, true, false, ap, sym, ◌∙◌, arith, Step, Tree, are_ints, is_int, entries_of_map, segment_of_key, step_of_key, tree_of}
-use Rattle.qs_data.proofs.lemmas.read.Entries.{after_none, after_all}
+use Rattle.qs_data.proofs.Common.{◌≡◌, true, false, ap, sym, ◌∙◌, Step, Tree, is_int, entries_of_map, segment_of_key, step_of_key, tree_of}
 use Rattle.qs_data.proofs.lemmas.read.Items.{int_key, not_int, text_key}
 use Rattle.qs_data.proofs.read.items.are_integers.Goals as goal
 

@@ -1,5 +1,5 @@
 use Rattle.qs_data.proofs.Common.{sym, true, option_map, drop, Step, Tree, is_place, placed, tree_of, entries_of_map, step_of_key, first_item, passed}
-use Rattle.qs_data.proofs.lemmas.read.Items.{first_none, first_rejected, first_given}
+use Rattle.qs_data.proofs.lemmas.read.Items.{first_rejected, first_given}
 use Rattle.qs_data.proofs.lemmas.read.ReadErrors.{gives_exit}
 use Rattle.qs_data.proofs.read.items.value_at.Goals as goal
 

@@ -1,6 +1,6 @@
 use Rattle.qs_data.proofs.Common.{sym, option_map, string_bytes, is_utf8, Step, segment_text, Tree, keys_are_text, entries_of_map, step_of_key, tree_of, first_entry, utf8_text}
 use Rattle.qs_data.specs.read.Entries.{entries_after}
-use Rattle.qs_data.proofs.lemmas.read.FirstEntry.{first_given, first_none, first_rejected, key_bad}
+use Rattle.qs_data.proofs.lemmas.read.FirstEntry.{first_given, first_rejected, key_bad}
 use Rattle.qs_data.proofs.lemmas.read.ReadErrors.{gives_exit}
 use Rattle.qs_data.proofs.read.keys.entry_at.Goals as goal
 

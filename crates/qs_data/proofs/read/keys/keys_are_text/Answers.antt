@@ -1,5 +1,5 @@
-use Rattle.qs_data.proofs.Common.{◌≡◌, ◌+◌, sym, subst, arith, entry, entries_of_map, step_of_key, tree_of, entries_after}
-use Rattle.qs_data.proofs.lemmas.read.Entries.{Passed, after_some, after_none, after_all, passed_all, passed_more, passed_done, passed_fit}
+use Rattle.qs_data.proofs.Common.{◌≡◌, ◌+◌, sym, subst, entry, entries_of_map, step_of_key, tree_of, entries_after}
+use Rattle.qs_data.proofs.lemmas.read.Entries.{Passed, after_some, passed_more}
 use Rattle.qs_data.proofs.read.keys.keys_are_text.Goals as goal
 
 pub loop-i-preserved : goal.loop-i-preserved

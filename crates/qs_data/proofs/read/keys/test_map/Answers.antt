@@ -1,5 +1,5 @@
-use Rattle.qs_data.proofs.Common.{◌≡◌, ◌+◌, sym, subst, arith, entry, entries_of_map, step_of_key, tree_of, entries_after}
-use Rattle.qs_data.proofs.lemmas.read.Entries.{Tested, after_some, after_none, after_all, tested_all, tested_more, tested_done, fit_done}
+use Rattle.qs_data.proofs.Common.{◌≡◌, ◌+◌, sym, subst, entry, entries_of_map, step_of_key, tree_of, entries_after}
+use Rattle.qs_data.proofs.lemmas.read.Entries.{Tested, after_some, tested_more}
 use Rattle.qs_data.proofs.read.keys.test_map.Goals as goal
 
 pub loop-i-preserved : goal.loop-i-preserved

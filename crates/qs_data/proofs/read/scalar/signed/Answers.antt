@@ -1,7 +1,7 @@
 use Rattle.qs_data.proofs.Common.{◌≡◌, ◌-◌, ◌^◌, ◌⊎◌, inl, inr, Some, ap, pos, neg_ℤ, ◌≤ℤ◌, ◌<ℤ◌, to_z, of_z, w64, sym, subst, ◌∙◌, arith, bits_of}
 use Rattle.std.specs.Int.RustNames.{FitsSigned}
 use Rattle.std.proofs.lemmas.Int.{ints, to_z-of_z}
-use Rattle.qs_data.proofs.lemmas.read.Numbers.{signed_ok, signed_past, signed_err, signed_width_fits}
+use Rattle.qs_data.proofs.lemmas.read.Numbers.{signed_ok, signed_past}
 use Rattle.qs_data.proofs.read.scalar.signed.Goals as goal
 use Rattle.qs_data.proofs.read.scalar.signed.Goals.{else-signed_min-number-via-then-signed_min-number+else-number-signed_max, else-signed_min-number-via-else-signed_min-number}
 

@@ -1,7 +1,7 @@
-use Rattle.qs_data.proofs.Common.{ap, sym, ◌∙◌, arith, is_utf8, segment_text, is_field_name, keys_are_names, entries_of_map, step_of_key, tree_of, entries_are_text, when}
+use Rattle.qs_data.proofs.Common.{ap, sym, ◌∙◌, is_utf8, segment_text, is_field_name, keys_are_names, entries_of_map, step_of_key, tree_of, entries_are_text, when}
 use Rattle.qs_data.proofs.lemmas.read.Pairs.{key_bad}
 use Rattle.qs_data.proofs.lemmas.read.ReadErrors.{gives_exit}
-use Rattle.qs_data.proofs.lemmas.read.Unknown.{passes, fails, name_more, name_fails, names_all, names_end}
+use Rattle.qs_data.proofs.lemmas.read.Unknown.{passes, fails, name_more, name_fails}
 use Rattle.qs_data.proofs.read.unknown.test_map.Goals as goal
 
 pub returns-in_err-test_key : goal.returns-in_err-test_key

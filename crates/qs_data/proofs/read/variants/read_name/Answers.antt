@@ -1,10 +1,10 @@
-use Rattle.qs_data.proofs.Common.{◌≡◌, false, cond, Some, None, ap, sym, ◌∙◌, rules, string_bytes, option_map, is_utf8, unit_kind, unit_variant_data, is_unit_kind, data_of, kind_of, variants_in, variant_named}
+use Rattle.qs_data.proofs.Common.{◌≡◌, false, cond, Some, None, ap, sym, ◌∙◌, rules, string_bytes, is_utf8, unit_kind, is_unit_kind, data_of, kind_of}
 use Rattle.qs_spec.specs.Data as d
 use Rattle.qs_data.specs.declared.data.data.Data as data_type
 use Rattle.qs_data.specs.declared.shape.shape.VariantKind as kind
 use Rattle.qs_data.specs.declared.shape.shape.Variant.{out-Variant}
-use Rattle.qs_data.proofs.lemmas.read.ReadErrors.{gives_exit, custom}
-use Rattle.qs_data.proofs.lemmas.read.Variants.{named_is, unit_at, no_unit}
+use Rattle.qs_data.proofs.lemmas.read.ReadErrors.{custom}
+use Rattle.qs_data.proofs.lemmas.read.Variants.{named_is, unit_at}
 use Rattle.qs_data.proofs.read.variants.read_name.Goals as goal
 use Rattle.qs_data.proofs.read.variants.read_name.Goals.{in-Newtype, in-Tuple, in-Struct, in-StrictStruct}
 

@@ -1,6 +1,5 @@
-use Rattle.qs_data.proofs.Common.{◌≡◌, true, rules, read_by, data_of, shape_of, is_text, Gives, takes_no_memory, parsed_of}
-use Rattle.qs_data.specs.read.internal.Frugal.{IsFrugal}
-use Rattle.qs_data.proofs.lemmas.read.Related.{returns_data, spares_memory}
+use Rattle.qs_data.proofs.Common.{rules, read_by, data_of, shape_of, is_text, Gives, parsed_of}
+use Rattle.qs_data.proofs.lemmas.read.Related.{returns_data}
 use Rattle.qs_data.proofs.lemmas.read.ReadBack.{reads_back}
 use Rattle.qs_data.proofs.read.deserializer.Deserializer.read.Goals as goal
 

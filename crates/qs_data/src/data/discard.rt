@@ -30,6 +30,7 @@ impl Data {
     /// let data = deserializer.read(alloc, &Shape::Any)?;
     /// data.discard();
     /// ```
+    #[tactic(auto, using(std::proofs::lemmas::List::Sums::sum_by_push))]
     pub fn discard(self) {
         let Some((alloc, parts)) = self.into_parts() else {
             return;

@@ -8,7 +8,7 @@ use crate::data::Data;
 
 /// Returns whether two data are of one kind and hold the same.
 #[cycle(sameness)]
-#[tactic(auto, using(crate::proofs::lemmas::data::Levels::levels, crate::proofs::lemmas::data::Weights::weights))]
+#[tactic(auto, using(crate::proofs::lemmas::data::Levels::levels, crate::proofs::lemmas::data::Levels::data_of_map, crate::proofs::lemmas::data::Weights::weights))]
 pub(crate) fn same_data(left: &Data, right: &Data) -> bool
     ensures { result ≡ data_same (data_of left.now) (data_of right.now) }
 {

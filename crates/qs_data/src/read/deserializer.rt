@@ -111,6 +111,7 @@ impl<'qs> Deserializer<'qs> {
     /// let numbers = Shape::Seq(Box::new(alloc, Shape::U8)?);
     /// let datum = Deserializer::new(alloc, b"0=7&1=8")?.read(alloc, &numbers)?; // the list of 7 and 8
     /// ```
+    #[tactic(auto, using(crate::proofs::lemmas::read::Related::returns_data, crate::proofs::lemmas::read::Related::spares_memory))]
     pub fn read(self, alloc: Global, shape: &Shape) -> Result<Data>
         requires { is_distinct (shape_of shape.now) ≡ true }
         ensures exact { ReturnsData (parsed_of self.entry) (shape_of shape.now) result }

@@ -62,6 +62,7 @@ pub(crate) fn items_of<'t, 'qs>(
 }
 
 /// Returns whether all keys of a map are integers.
+#[tactic(auto, using(crate::proofs::lemmas::read::Entries::after_all, crate::proofs::lemmas::read::Entries::after_none))]
 pub(crate) fn are_integers(map: &ParsedMap<'_>) -> bool
     ensures { result ≡ are_ints (entries_of_map map.now) }
 {
@@ -82,6 +83,7 @@ impl<'t, 'qs> Items<'t, 'qs> {
     /// ```
     /// let count = reader.items(&ParsedValue::Null)?.len(); // 0
     /// ```
+    #[tactic(auto, using(crate::proofs::lemmas::read::Items::each_length, crate::proofs::lemmas::read::Items::places_length))]
     pub fn len(self) -> usize
         ensures { result ≡ length (items_view self.entry) }
     {
@@ -95,6 +97,7 @@ impl<'t, 'qs> Items<'t, 'qs> {
 
     /// Returns the item at an index, if there are so many; rejected where a map has another key there.
     #[inline(always)]
+    #[tactic(auto, using(crate::proofs::lemmas::read::Items::item_first))]
     pub(crate) fn at(self, alloc: Global, place: usize) -> Result<Option<&'t ParsedValue<'qs>>>
         ensures { ReadGives (option_map (λ v. tree_of v.now)) true result (first_item (drop place (items_view self.entry))) }
     {
@@ -133,6 +136,7 @@ impl<'t, 'qs> Items<'t, 'qs> {
 }
 
 // Returns the value at an index of a map, whose key must be that index.
+#[tactic(auto, using(crate::proofs::lemmas::read::Items::first_none))]
 fn value_at<'t, 'qs>(
     alloc: Global,
     map: &'t ParsedMap<'qs>,

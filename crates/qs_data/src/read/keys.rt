@@ -107,6 +107,7 @@ impl<'t, 'qs> Entries<'t, 'qs> {
     /// }
     /// ```
     #[inline(always)]
+    #[tactic(auto, using(crate::proofs::lemmas::read::Numbers::empty_text))]
     pub fn keys_are_text(self) -> bool
         ensures text { result ≡ keys_are_text (entries_view self.entry) }
         ensures fit { NumbersFit (entries_view self.entry) }
@@ -146,6 +147,7 @@ impl<'t, 'qs> Entries<'t, 'qs> {
     /// values.insert(key, T::from_node(reader, node)?)?;
     /// ```
     #[inline(always)]
+    #[tactic(auto, using(crate::proofs::lemmas::read::FirstEntry::lone_end, crate::proofs::lemmas::read::FirstEntry::lone_first))]
     pub fn get(
         self,
         reader: Reader,
@@ -169,6 +171,7 @@ impl<'t, 'qs> Entries<'t, 'qs> {
 }
 
 // Returns the entry at an index of a map, its key as a string.
+#[tactic(auto, using(crate::proofs::lemmas::read::FirstEntry::first_none))]
 fn entry_at<'t, 'qs>(
     alloc: Global,
     map: &'t ParsedMap<'qs>,
@@ -262,6 +265,7 @@ fn parsed_number(name: &str) -> Option<u32>
 
 // Returns whether a text begins with a digit, as the digits of each number do.
 #[inline(always)]
+#[tactic(auto, using(crate::proofs::lemmas::read::Numbers::decimal_begins))]
 fn begins_with_a_digit(text: &[u8]) -> bool
     ensures { (n : ℕ) → n < 2 ^ 32 → decimal n ≡ text.now → IsTrue result }
 {
@@ -306,6 +310,7 @@ impl BrokenKey<'_> {
 }
 
 /// Tests whether all keys are UTF-8, and returns the first that isn't.
+#[tactic(auto, using(crate::proofs::lemmas::read::Numbers::empty_text))]
 pub(crate) fn test_keys<'t>(entries: Entries<'t, '_>) -> Result<(), BrokenKey<'t>>
     ensures text { PassesTest result (keys_are_text (entries_view entries.entry)) }
     ensures fit { NumbersFit (entries_view entries.entry) }
@@ -318,6 +323,7 @@ pub(crate) fn test_keys<'t>(entries: Entries<'t, '_>) -> Result<(), BrokenKey<'t
 }
 
 // Tests the keys of a map. All keys are looked at, so their numbers are known to have 32 bits whatever comes of the test.
+#[tactic(auto, using(crate::proofs::lemmas::read::Entries::after_none, crate::proofs::lemmas::read::Entries::after_all, crate::proofs::lemmas::read::Entries::tested_all, crate::proofs::lemmas::read::Entries::tested_done, crate::proofs::lemmas::read::Entries::fit_done))]
 fn test_map<'t>(map: &'t ParsedMap<'_>) -> Result<(), BrokenKey<'t>>
     ensures text { PassesTest result (keys_are_text (entries_of_map map.now)) }
     ensures fit { NumbersFit (entries_of_map map.now) }
@@ -333,6 +339,7 @@ fn test_map<'t>(map: &'t ParsedMap<'_>) -> Result<(), BrokenKey<'t>>
 }
 
 // Returns whether the keys of a map are UTF-8. All keys are looked at, as by `test_map`.
+#[tactic(auto, using(crate::proofs::lemmas::read::Entries::after_none, crate::proofs::lemmas::read::Entries::after_all, crate::proofs::lemmas::read::Entries::passed_all, crate::proofs::lemmas::read::Entries::passed_done, crate::proofs::lemmas::read::Entries::passed_fit))]
 fn keys_are_text(map: &ParsedMap<'_>) -> bool
     ensures text { result ≡ keys_are_text (entries_of_map map.now) }
     ensures fit { NumbersFit (entries_of_map map.now) }
@@ -349,6 +356,7 @@ fn keys_are_text(map: &ParsedMap<'_>) -> bool
 
 // Returns whether a key is UTF-8.
 #[inline(always)]
+#[tactic(auto, using(crate::proofs::lemmas::read::Numbers::decimal_text))]
 fn is_text_key(key: &Key<'_>) -> bool
     ensures text { result ≡ is_utf8 (segment_text (segment_of_key key.now)) }
     ensures fit { KeyFits (segment_of_key key.now) }
@@ -372,6 +380,7 @@ fn is_text(text: &[u8]) -> bool
 }
 
 // Tests whether a key is UTF-8.
+#[tactic(auto, using(crate::proofs::lemmas::read::Numbers::decimal_text))]
 fn test_key<'t>(key: &'t Key<'_>) -> Result<(), BrokenKey<'t>>
     ensures text { PassesTest result (is_utf8 (segment_text (segment_of_key key.now))) }
     ensures fit { KeyFits (segment_of_key key.now) }

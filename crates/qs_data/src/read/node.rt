@@ -30,6 +30,7 @@ use std::alloc::Global;
 /// ```
 /// let age = read_value(alloc, Config::new(), &Shape::U8, &ParsedValue::Null); // an error: u8 is expected
 /// ```
+#[tactic(auto, using(crate::proofs::lemmas::read::Related::returns_data))]
 pub fn read_value(
     alloc: Global,
     config: Config,

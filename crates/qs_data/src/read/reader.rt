@@ -32,6 +32,7 @@ use crate::shape::{Shape, Width};
 use qs_tree::{Config, DuplicateKeyBehavior, Error, ParsedValue, Result};
 use std::alloc::Global;
 
+#[tactic(auto, unfolding(qs_spec::specs::internal::ReadFunction::reads))]
 impl Reader {
     /// Returns how a configuration reads. It doesn't allocate.
     ///
@@ -65,7 +66,6 @@ impl Reader {
     /// let unit = reader.unit(node)?; // Data::Unit
     /// ```
     #[inline(always)]
-    #[tactic(auto, unfolding(qs_spec::specs::internal::ReadFunction::reads))]
     pub fn unit(self, node: &ParsedValue<'_>) -> Result<Data>
         ensures { Gives data_of (is_text (tree_of node.now)) result (reads self.reject_duplicates s.Shape.unit (tree_of node.now)) }
     {
@@ -78,7 +78,6 @@ impl Reader {
     /// let flag = reader.boolean(node)?; // Data::Bool(true)
     /// ```
     #[inline(always)]
-    #[tactic(auto, unfolding(qs_spec::specs::internal::ReadFunction::reads))]
     pub fn boolean(self, node: &ParsedValue<'_>) -> Result<Data>
         ensures { Gives data_of (is_text (tree_of node.now)) result (reads self.reject_duplicates s.Shape.boolean (tree_of node.now)) }
     {
@@ -91,7 +90,6 @@ impl Reader {
     /// let age = reader.unsigned(Width::Bits8, node)?; // Data::Unsigned(24)
     /// ```
     #[inline(always)]
-    #[tactic(auto, unfolding(qs_spec::specs::internal::ReadFunction::reads))]
     pub fn unsigned(self, width: Width, node: &ParsedValue<'_>) -> Result<Data>
         ensures { Gives data_of (is_text (tree_of node.now)) result (reads self.reject_duplicates (s.Shape.unsigned (bits_of width)) (tree_of node.now)) }
     {
@@ -104,7 +102,6 @@ impl Reader {
     /// let offset = reader.signed(Width::Bits16, node)?; // Data::Signed(-7)
     /// ```
     #[inline(always)]
-    #[tactic(auto, unfolding(qs_spec::specs::internal::ReadFunction::reads))]
     pub fn signed(self, width: Width, node: &ParsedValue<'_>) -> Result<Data>
         ensures { Gives data_of (is_text (tree_of node.now)) result (reads self.reject_duplicates (s.Shape.signed (bits_of width)) (tree_of node.now)) }
     {
@@ -117,7 +114,6 @@ impl Reader {
     /// let initial = reader.character(node)?; // Data::Char('A')
     /// ```
     #[inline(always)]
-    #[tactic(auto, unfolding(qs_spec::specs::internal::ReadFunction::reads))]
     pub fn character(self, node: &ParsedValue<'_>) -> Result<Data>
         ensures { Gives data_of (is_text (tree_of node.now)) result (reads self.reject_duplicates s.Shape.character (tree_of node.now)) }
     {
@@ -130,7 +126,6 @@ impl Reader {
     /// let name = reader.text(node)?; // Data::Text: Alice
     /// ```
     #[inline(always)]
-    #[tactic(auto, unfolding(qs_spec::specs::internal::ReadFunction::reads))]
     pub fn text(self, node: &ParsedValue<'_>) -> Result<Data>
         ensures { Gives data_of (is_text (tree_of node.now)) result (reads self.reject_duplicates s.Shape.text (tree_of node.now)) }
     {
@@ -171,6 +166,7 @@ impl Reader {
     /// ```
     /// let entries = reader.entries(node)?;
     /// ```
+    #[tactic(auto, using(crate::proofs::lemmas::read::Variants::under_bad))]
     pub fn entries<'t, 'qs>(self, node: &'t ParsedValue<'qs>) -> Result<Entries<'t, 'qs>>
         ensures exact { Gives entries_view true result (node_entries (tree_of node.now)) }
         ensures text { IfOk result (λ es. entries_are_text (entries_view es) ≡ false → is_text (tree_of node.now) ≡ false) }
@@ -309,6 +305,7 @@ impl Reader {
     }
 
     // Returns the items of a node, of which these are expected.
+    #[tactic(auto, using(crate::proofs::lemmas::read::Items::items_bad))]
     fn items_for<'t, 'qs>(
         self,
         expected: Expected,

@@ -134,6 +134,7 @@ fn given_text<'t>(
 }
 
 // Returns the text of the last item; several items are rejected under `reject_duplicates`.
+#[tactic(auto, using(crate::proofs::lemmas::read::Scalars::last_item_is))]
 fn last_text<'t>(
     reader: Reader,
     items: &'t [ParsedValue<'_>],
@@ -178,6 +179,7 @@ pub(crate) fn as_text(bytes: &[u8]) -> Result<&str>
 }
 
 /// Parses a boolean.
+#[tactic(auto, using(crate::proofs::lemmas::read::Scalars::boolean_none, crate::proofs::lemmas::read::ReadErrors::gives_exit, crate::proofs::lemmas::read::ReadErrors::frugal_exit))]
 pub(crate) fn bool_data(alloc: Global, bytes: &[u8]) -> Result<Data>
     ensures gives { ReadGives data_of (is_utf8 bytes.now) result (boolean_data bytes.now) }
     ensures frugal { ReadIsFrugal result (boolean_data bytes.now) }
@@ -190,6 +192,7 @@ pub(crate) fn bool_data(alloc: Global, bytes: &[u8]) -> Result<Data>
 
 /// Parses an unsigned number: digits, and a `+` before them or none.
 #[inline(always)]
+#[tactic(auto, using(crate::proofs::lemmas::read::Scalars::unsigned_none, crate::proofs::lemmas::read::ReadErrors::gives_exit, crate::proofs::lemmas::read::ReadErrors::frugal_exit))]
 pub(crate) fn unsigned_data(alloc: Global, width: Width, bytes: &[u8]) -> Result<Data>
     ensures gives { ReadGives data_of (is_utf8 bytes.now) result (unsigned_data (bits_of width) bytes.now) }
     ensures frugal { ReadIsFrugal result (unsigned_data (bits_of width) bytes.now) }
@@ -202,6 +205,7 @@ pub(crate) fn unsigned_data(alloc: Global, width: Width, bytes: &[u8]) -> Result
 
 /// Parses a signed number: digits, and a `+` or a `-` before them or none.
 #[inline(always)]
+#[tactic(auto, using(crate::proofs::lemmas::read::Scalars::signed_none, crate::proofs::lemmas::read::ReadErrors::gives_exit, crate::proofs::lemmas::read::ReadErrors::frugal_exit))]
 pub(crate) fn signed_data(alloc: Global, width: Width, bytes: &[u8]) -> Result<Data>
     ensures gives { ReadGives data_of (is_utf8 bytes.now) result (signed_data (bits_of width) bytes.now) }
     ensures frugal { ReadIsFrugal result (signed_data (bits_of width) bytes.now) }
@@ -213,6 +217,7 @@ pub(crate) fn signed_data(alloc: Global, width: Width, bytes: &[u8]) -> Result<D
 }
 
 /// Parses a character: a text of just one.
+#[tactic(auto, using(crate::proofs::lemmas::read::Scalars::character_is, crate::proofs::lemmas::read::Scalars::character_none, crate::proofs::lemmas::read::ReadErrors::custom, crate::proofs::lemmas::read::ReadErrors::custom_spared))]
 pub(crate) fn char_data(alloc: Global, bytes: &[u8]) -> Result<Data>
     ensures gives { ReadGives data_of (is_utf8 bytes.now) result (character_data bytes.now) }
     ensures frugal { ReadIsFrugal result (character_data bytes.now) }
@@ -233,6 +238,7 @@ pub(crate) fn text_data(alloc: Global, bytes: &[u8]) -> Result<Data>
 }
 
 // Returns the number of a text, where it has this width.
+#[tactic(auto, using(crate::proofs::lemmas::read::Numbers::unsigned_err, crate::proofs::lemmas::read::Numbers::width_fits, crate::proofs::lemmas::read::Numbers::unsigned_ok, crate::proofs::lemmas::read::Numbers::unsigned_past))]
 fn unsigned(width: Width, text: &str) -> Option<u64>
     ensures { result ≡ unsigned_number (bits_of width) text.now }
 {
@@ -249,6 +255,7 @@ fn unsigned(width: Width, text: &str) -> Option<u64>
 }
 
 // Returns the signed number of a text, where it has this width.
+#[tactic(auto, using(crate::proofs::lemmas::read::Numbers::signed_err, crate::proofs::lemmas::read::Numbers::signed_width_fits))]
 fn signed(width: Width, text: &str) -> Option<i64>
     ensures { result ≡ signed_number (bits_of width) text.now }
 {

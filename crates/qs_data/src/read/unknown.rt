@@ -100,6 +100,7 @@ impl UnknownKeys {
 }
 
 // Tests whether all keys of a map are names, and returns the error of the first that isn't.
+#[tactic(auto, using(crate::proofs::lemmas::read::Entries::after_none, crate::proofs::lemmas::read::Entries::after_all))]
 fn test_map<N: FieldNames>(alloc: Global, names: &N, map: &ParsedMap<'_>) -> Result<()>
     ensures { let es = entries_of_map map.now in
         ReadGives (λ _. tt) (entries_are_text es) result (when (keys_are_names (N.fields names.now) es)) }

@@ -48,6 +48,7 @@ pub(crate) fn read_enum(
 }
 
 // Reads the unit variant of a name.
+#[tactic(auto, using(crate::proofs::lemmas::read::Variants::no_unit))]
 fn read_name(alloc: Global, variants: &[Variant], name: &[u8]) -> Result<Data>
     ensures { ReadGives data_of (is_utf8 name.now) result (unit_variant_data (variants_in variants.now) name.now) }
 {
@@ -97,6 +98,7 @@ fn place_of_key(alloc: Global, variants: &[Variant], key: &Key<'_>) -> Result<us
 }
 
 // Returns the index of the variant of a name.
+#[tactic(auto, using(crate::proofs::lemmas::read::Variants::named_here, crate::proofs::lemmas::read::Variants::named_later))]
 fn place_of(alloc: Global, variants: &[Variant], name: &[u8]) -> Result<usize>
     ensures place { IfOk result (λ i. i < length variants.now) }
     ensures named { ReadGives (λ i. option_map variant_of (slice_get variants.now i)) (is_utf8 name.now) result

@@ -74,6 +74,7 @@ impl Walk {
 }
 
 // Appends one more segment: the first after an `&`, and the others in brackets.
+#[tactic(auto, using(crate::proofs::lemmas::write::Visible::joined))]
 fn append_segment(out: &mut Text, form: bool, segment: Scalar<'_>) -> Result<(), AllocError>
     ensures ok { OnOk result (out.new ≡ grown form out.old (scalar_text segment.entry)) }
     ensures visible { All IsVisible out.old → OnOk result (All IsVisible out.new) }
@@ -114,6 +115,7 @@ fn close_bracket(form: bool, out: &mut Text) -> Result<(), AllocError>
 
 // Appends the value after `=`, where there is one. Of a long value `=` alone, and the value is returned.
 #[inline(always)]
+#[tactic(auto, using(crate::proofs::lemmas::write::Visible::joined))]
 fn append_value<'a>(
     out: &mut Text,
     form: bool,

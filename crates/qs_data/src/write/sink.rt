@@ -150,6 +150,7 @@ pub(crate) fn put_encoded<S: Sink>(sink: &mut S, bytes: &[u8], form: bool) -> Re
 
 // Puts a piece of a text, encoded.
 #[inline(never)]
+#[tactic(auto, using(qs_tree::proofs::lemmas::escape::EncodedFronts::encoded_few))]
 fn put_piece<S: Sink>(sink: &mut S, bytes: &[u8], form: bool) -> Result<(), Stop>
     requires { length bytes.now ≤ PIECE }
     ensures all { OnOk result (Appends (S.taken sink.old) (S.taken sink.new) (encoded form bytes.now)) }

@@ -76,7 +76,7 @@ impl Text {
 
     /// Appends bytes, encoded.
     #[inline(always)]
-    #[tactic(auto, using(crate::proofs::lemmas::write::Visible::encoded_visible))]
+    #[tactic(auto, using(qs_tree::proofs::lemmas::escape::EncodedFronts::encoded_few, crate::proofs::lemmas::write::Visible::encoded_visible))]
     pub(crate) fn append_encoded(&mut self, bytes: &[u8], form: bool) -> Result<(), AllocError>
         ensures ok { OnOk result (self.new ≡ self.old ++ encoded form bytes.now) }
         ensures visible { All IsVisible (encoded form bytes.now) }

@@ -1,5 +1,5 @@
 -- The variant of a name.
-use Rattle.qs_data.proofs.Common.{◌≡◌, ℕ, ◌+◌, ◌<◌, Bool, true, false, ◌&&◌, cond, List, ◌∷◌, Option, Some, None, drop, length, get_or, slice_get, refl, sym, ap, ◌∙◌, rules, inl, inr, string_bytes, option_map, option_and_then, bytes_eq, cases_Bool, drop_more, is_utf8, Global, Segment, segment_text, Variants, no_variants, one_variant, Tree, Entries, mapping, entry, as_map, under_empty, reads_variant, reads_kind, unit_variant_data, is_unit_kind, tree_of, variant_of, variants_in, kind_of, is_text, entries_are_text, variant_named, slice_get-get_or}
+use Rattle.qs_data.proofs.Common.{◌≡◌, ℕ, ◌+◌, ◌<◌, Bool, true, false, ◌&&◌, cond, List, ◌∷◌, Option, Some, None, drop, length, get_or, slice_get, refl, sym, ap, ◌∙◌, rules, inl, inr, string_bytes, option_map, option_and_then, bytes_eq, cases_Bool, drop_more, Global, Segment, segment_text, Variants, no_variants, one_variant, Tree, Entries, mapping, entry, as_map, under_empty, reads_variant, reads_kind, unit_variant_data, is_unit_kind, tree_of, variant_of, variants_in, kind_of, is_text, entries_are_text, variant_named, slice_get-get_or}
 use Rattle.std.proofs.Math.Bool.{and-true}
 use Rattle.std.specs.declared.borrow.CowSlice.{CowSlice}
 use Rattle.std.specs.declared.borrow.CowSlice.TheVariants.{Borrowed, Owned}
@@ -9,7 +9,6 @@ use Rattle.qs_tree.specs.declared.tree.value.ParsedValue as value
 use Rattle.qs_data.specs.declared.shape.shape.Variant as v
 use Rattle.qs_data.specs.declared.shape.shape.Variant.{Variant, out-Variant}
 use Rattle.qs_data.proofs.lemmas.read.Numbers.{empty_text}
-use Rattle.qs_data.proofs.lemmas.read.Errors.{and_left, and_right}
 
 pub variant_name : (d : Variant) → (variant_of d).0 ≡ string_bytes (out-Variant d).name
 variant_name d = search (rules, v.the_lemmas)
@@ -84,12 +83,6 @@ module _ (reject_duplicates : Bool) (vs : Variants) (es more : Entries) (k : Seg
 
   pub enum_some : (d : Variant) → variant_named (segment_text k) vs ≡ Some (variant_of d) → read_enum vs (reads_variant reject_duplicates vs) (mapping es) ≡ reads_kind reject_duplicates (variant_of d).1 (variant_of d).0 t
   enum_some d h = enum_at ∙ ap (option_and_then (λ x. reads_kind reject_duplicates x.1 x.0 t)) h
-
-  pub least_key_bad : is_utf8 (segment_text k) ≡ false → entries_are_text es ≡ false
-  least_key_bad n = ap entries_are_text least ∙ and_left (is_utf8 (segment_text k) && is_text t) (entries_are_text more) (and_left (is_utf8 (segment_text k)) (is_text t) n)
-
-  pub least_value_bad : is_text t ≡ false → entries_are_text es ≡ false
-  least_value_bad n = ap entries_are_text least ∙ and_left (is_utf8 (segment_text k) && is_text t) (entries_are_text more) (and_right (is_utf8 (segment_text k)) (is_text t) n)
 
 -- a text as a map
 pub text_as_map : (c : CowSlice ℕ Global) → as_map (tree_of (value.String c)) ≡ mapping (under_empty (tree_of (value.String c)))

@@ -42,6 +42,8 @@ close_visible false = all_visible (close_bytes false) refl
 pub equals_visible : All IsVisible (61 ∷ [])
 equals_visible = all_visible (61 ∷ []) refl
 
+pub ruleset joined = (All-append, open_visible, close_visible, equals_visible)
+
 -- a text that is written as it is
 abbrev IsPlain : Bool → List ℕ → Type 0
 IsPlain form text = (encoded form text ≡ text) × All IsVisible (encoded form text)

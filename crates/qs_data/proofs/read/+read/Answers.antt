@@ -6,7 +6,7 @@ use Rattle.qs_data.specs.declared.shape.shape.Shape as shape
 use Rattle.qs_data.specs.declared.shape.shape.Field.{out-Field}
 use Rattle.qs_data.proofs.lemmas.data.Levels.{data_of_struct, data_of_struct_variant}
 use Rattle.qs_data.proofs.lemmas.read.Entries.{after_some, keys_bad, untested}
-use Rattle.qs_data.proofs.lemmas.read.Variants.{named_is, enum_none, enum_some, least_key_bad, least_value_bad, text_as_map, under_bad}
+use Rattle.qs_data.proofs.lemmas.read.Variants.{named_is, enum_none, enum_some, text_as_map, under_bad}
 use Rattle.qs_data.proofs.lemmas.read.Errors.{and_left}
 use Rattle.qs_data.proofs.lemmas.read.ReadErrors.{gives_exit, gives_as, custom, key_error}
 use Rattle.qs_data.specs.declared.read.error.ReadError.TheVariants.{Utf8}
@@ -155,7 +155,7 @@ variants::read_least-returns-in_err-place t c =
     let name = segment_text key.seg in
     let exit = gives_exit data_of (is_utf8 name) (entries_are_text es) c.from_residual.result c.in_err-place.field-0.0 (option_map Some (variant_named name (variants_in ds)))
     (read_enum (variants_in ds) (reads_variant c.args.reader.reject_duplicates (variants_in ds)) (mapping es)) c.from_residual.ensures.1 c.in_err-place.ensures.named
-    (enum_none c.args.reader.reject_duplicates (variants_in ds) es (entries_after 1 es) key.seg key.mark n least) (least_key_bad c.args.reader.reject_duplicates (variants_in ds) es (entries_after 1 es) key.seg key.mark n least) in
+    (enum_none c.args.reader.reject_duplicates (variants_in ds) es (entries_after 1 es) key.seg key.mark n least) (key_bad 0 es (key, n) (sym c.in-Some.ensures)) in
     subst (λ ys. ReadGives data_of (entries_are_text es) c.from_residual.result (read_enum (variants_in ys) (reads_variant c.args.reader.reject_duplicates (variants_in ys)) (mapping es))) c.deref.ensures.value exit
 
 pub variants::read_least-returns : goal.variants::read_least-returns
@@ -173,7 +173,7 @@ variants::read_least-returns t c =
     let inside = subst (λ ys. i < length ys) c.deref.ensures.value c.in_ok-place.ensures.place in
     let named = named_is name ds i v found inside c.index.ensures in
     gives_as data_of (is_text n) (entries_are_text es) c.read_variant.result (reads_kind c.args.reader.reject_duplicates (variant_of v).1 (variant_of v).0 n) (read_enum vs (reads_variant c.args.reader.reject_duplicates vs) (mapping es))
-    c.read_variant.ensures (sym (enum_some c.args.reader.reject_duplicates vs es (entries_after 1 es) key.seg key.mark n least v named)) (least_value_bad c.args.reader.reject_duplicates vs es (entries_after 1 es) key.seg key.mark n least)
+    c.read_variant.ensures (sym (enum_some c.args.reader.reject_duplicates vs es (entries_after 1 es) key.seg key.mark n least v named)) (value_bad 0 es (key, n) (sym c.in-Some.ensures))
 
 pub variants::struct_variant_data-returns : goal.variants::struct_variant_data-returns
 unfolding reads

@@ -1,5 +1,4 @@
-use Rattle.qs_data.proofs.Common.{◌≡◌, true, false, ap, sym, ◌∙◌, arith, Step, Tree, are_ints, is_int, entries_of_map, segment_of_key, step_of_key, tree_of}
-use Rattle.qs_data.proofs.lemmas.read.Entries.{after_none, after_all}
+use Rattle.qs_data.proofs.Common.{◌≡◌, true, false, ap, sym, ◌∙◌, Step, Tree, is_int, entries_of_map, segment_of_key, step_of_key, tree_of}
 use Rattle.qs_data.proofs.lemmas.read.Items.{int_key, not_int, text_key}
 use Rattle.qs_data.proofs.read.items.are_integers.Goals as goal
 
@@ -18,13 +17,3 @@ returns-in-String c =
     let x : Step × Tree = (step_of_key c.in-Some.key.now, tree_of c.in-Some.field-0-1.now) in
     let text : is_int x.0.seg ≡ false = text_key c.in-Some.key.now c.in-String.field-0 c.in-String.is in
     sym (c.loop-i.invariant ∙ not_int i es x (sym c.in-Some.ensures) text)
-
-pub returns-after-loop-i : goal.returns-after-loop-i
-returns-after-loop-i c =
-    let es = entries_of_map c.args.map.now in
-    sym (c.loop-i.invariant ∙ ap are_ints (after_all c.loop-i.i es (omega (arith, c.len-i-end.ensures))))
-
-pub returns-in_default : goal.returns-in_default
-returns-in_default c =
-    let es = entries_of_map c.args.map.now in
-    sym (c.loop-i.invariant ∙ ap are_ints (after_none c.loop-i.i es (sym c.in_default.ensures)))

@@ -1,10 +1,7 @@
 use Rattle.qs_data.proofs.Common.{sym, true, option_map, drop, Step, Tree, is_place, placed, tree_of, entries_of_map, step_of_key, first_item, passed}
-use Rattle.qs_data.proofs.lemmas.read.Items.{first_none, first_rejected, first_given}
+use Rattle.qs_data.proofs.lemmas.read.Items.{first_rejected, first_given}
 use Rattle.qs_data.proofs.lemmas.read.ReadErrors.{gives_exit}
 use Rattle.qs_data.proofs.read.items.value_at.Goals as goal
-
-pub returns-in_default : goal.returns-in_default
-returns-in_default c = first_none c.args.place (entries_of_map c.args.map.now) (sym c.in_default.ensures)
 
 pub returns-in_err-test_place : goal.returns-in_err-test_place
 returns-in_err-test_place c =

@@ -1,11 +1,8 @@
 use Rattle.qs_data.proofs.Common.{sym, option_map, string_bytes, is_utf8, Step, segment_text, Tree, keys_are_text, entries_of_map, step_of_key, tree_of, first_entry, utf8_text}
 use Rattle.qs_data.specs.read.Entries.{entries_after}
-use Rattle.qs_data.proofs.lemmas.read.FirstEntry.{first_given, first_none, first_rejected, key_bad}
+use Rattle.qs_data.proofs.lemmas.read.FirstEntry.{first_given, first_rejected, key_bad}
 use Rattle.qs_data.proofs.lemmas.read.ReadErrors.{gives_exit}
 use Rattle.qs_data.proofs.read.keys.entry_at.Goals as goal
-
-pub returns-in_default : goal.returns-in_default
-returns-in_default c = first_none c.args.place (entries_of_map c.args.map.now) (sym c.in_default.ensures)
 
 pub returns-in_err-text : goal.returns-in_err-text
 returns-in_err-text c =

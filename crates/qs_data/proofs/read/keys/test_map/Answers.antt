@@ -1,9 +1,6 @@
-use Rattle.qs_data.proofs.Common.{◌≡◌, ◌+◌, sym, subst, arith, entry, entries_of_map, step_of_key, tree_of, entries_after}
-use Rattle.qs_data.proofs.lemmas.read.Entries.{Tested, after_some, after_none, after_all, tested_all, tested_more, tested_done, fit_done}
+use Rattle.qs_data.proofs.Common.{◌≡◌, ◌+◌, sym, subst, entry, entries_of_map, step_of_key, tree_of, entries_after}
+use Rattle.qs_data.proofs.lemmas.read.Entries.{Tested, after_some, tested_more}
 use Rattle.qs_data.proofs.read.keys.test_map.Goals as goal
-
-pub loop-i-init : goal.loop-i-init
-loop-i-init c = tested_all (entries_of_map c.args.map.now)
 
 pub loop-i-preserved : goal.loop-i-preserved
 loop-i-preserved c =
@@ -16,23 +13,3 @@ loop-i-preserved c =
     let before : Tested es (entry key.seg key.mark t more) c.loop-i.tested = subst (λ r. Tested es r c.loop-i.tested) here c.loop-i.invariant in
     let tested = tested_more es more key.seg key.mark t c.loop-i.tested c.test_key.result before c.test_key.ensures.text c.test_key.ensures.fit in
     subst (λ x. Tested es more x) (sym c.and-tested.ensures) tested
-
-pub returns-after-loop-i-clause-text : goal.returns-after-loop-i-clause-text
-returns-after-loop-i-clause-text c =
-    let es = entries_of_map c.args.map.now in
-    tested_done es (entries_after c.loop-i.i es) c.loop-i.tested (after_all c.loop-i.i es (omega (arith, c.len-i-end.ensures))) c.loop-i.invariant
-
-pub returns-after-loop-i-clause-fit : goal.returns-after-loop-i-clause-fit
-returns-after-loop-i-clause-fit c =
-    let es = entries_of_map c.args.map.now in
-    fit_done es (entries_after c.loop-i.i es) c.loop-i.tested (after_all c.loop-i.i es (omega (arith, c.len-i-end.ensures))) c.loop-i.invariant
-
-pub returns-in_default-clause-text : goal.returns-in_default-clause-text
-returns-in_default-clause-text c =
-    let es = entries_of_map c.args.map.now in
-    tested_done es (entries_after c.loop-i.i es) c.loop-i.tested (after_none c.loop-i.i es (sym c.in_default.ensures)) c.loop-i.invariant
-
-pub returns-in_default-clause-fit : goal.returns-in_default-clause-fit
-returns-in_default-clause-fit c =
-    let es = entries_of_map c.args.map.now in
-    fit_done es (entries_after c.loop-i.i es) c.loop-i.tested (after_none c.loop-i.i es (sym c.in_default.ensures)) c.loop-i.invariant

@@ -1,12 +1,9 @@
 use Rattle.qs_data.proofs.Common.{◌≡◌, ◌-◌, ◌^◌, ◌⊎◌, inl, inr, Some, ap, pos, neg_ℤ, ◌≤ℤ◌, ◌<ℤ◌, to_z, of_z, w64, sym, subst, ◌∙◌, arith, bits_of}
 use Rattle.std.specs.Int.RustNames.{FitsSigned}
 use Rattle.std.proofs.lemmas.Int.{ints, to_z-of_z}
-use Rattle.qs_data.proofs.lemmas.read.Numbers.{signed_ok, signed_past, signed_err, signed_width_fits}
+use Rattle.qs_data.proofs.lemmas.read.Numbers.{signed_ok, signed_past}
 use Rattle.qs_data.proofs.read.scalar.signed.Goals as goal
 use Rattle.qs_data.proofs.read.scalar.signed.Goals.{else-signed_min-number-via-then-signed_min-number+else-number-signed_max, else-signed_min-number-via-else-signed_min-number}
-
-pub returns-in-Err : goal.returns-in-Err
-returns-in-Err c = sym (signed_err (bits_of c.args.width) c.args.text.now c.in-Err.ensures.value.0 (signed_width_fits c.args.width))
 
 pub returns-then-number-signed_max : goal.returns-then-number-signed_max
 returns-then-number-signed_max c =

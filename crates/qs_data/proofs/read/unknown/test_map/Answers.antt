@@ -1,9 +1,8 @@
-use Rattle.qs_data.proofs.Common.{ap, sym, ◌∙◌, arith, is_utf8, segment_text, is_field_name, keys_are_names, entries_of_map, step_of_key, tree_of, entries_are_text, when}
+use Rattle.qs_data.proofs.Common.{ap, sym, ◌∙◌, is_utf8, segment_text, is_field_name, keys_are_names, entries_of_map, step_of_key, tree_of, entries_are_text, when}
 use Rattle.qs_data.proofs.lemmas.read.Pairs.{key_bad}
 use Rattle.qs_data.proofs.lemmas.read.ReadErrors.{gives_exit}
-use Rattle.qs_data.proofs.lemmas.read.Unknown.{passes, fails, name_more, name_fails, names_all, names_end}
+use Rattle.qs_data.proofs.lemmas.read.Unknown.{passes, fails, name_more, name_fails}
 use Rattle.qs_data.proofs.read.unknown.test_map.Goals as goal
-use Rattle.qs_data.proofs.read.unknown.test_map.Goals.{else-loop-i-test, then-loop-i-test+in_default}
 
 pub returns-in_err-test_key : goal.returns-in_err-test_key
 returns-in_err-test_key g c =
@@ -24,12 +23,3 @@ loop-i-preserved g c =
     let key = step_of_key c.in-Some.key.now in
     let t = tree_of c.in-Some.field-0-1.now in
     c.loop-i.invariant ∙ name_more fs es c.loop-i.i (key, t) (sym c.in-Some.ensures) (passes (is_field_name (segment_text key.seg) fs) c.in_ok-test_key.ensures)
-
-pub returns : goal.returns
-returns g c =
-    let es = entries_of_map c.args.map.now in
-    let fs = g.N.FieldNames.fields c.args.names.now in
-    elim c.loop-i-test.branch [
-      | else-loop-i-test w ↦ ap when (c.loop-i.invariant ∙ names_all fs es c.loop-i.i (omega (arith, c.len-i-end.ensures, w.loop-i-test.false)))
-      | then-loop-i-test+in_default w ↦ ap when (c.loop-i.invariant ∙ names_end fs es c.loop-i.i (sym w.in_default.ensures))
-    ]

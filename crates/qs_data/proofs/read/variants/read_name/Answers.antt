@@ -1,19 +1,12 @@
-use Rattle.qs_data.proofs.Common.{◌≡◌, false, cond, Some, None, ap, sym, ◌∙◌, rules, string_bytes, option_map, is_utf8, unit_kind, unit_variant_data, is_unit_kind, data_of, kind_of, variants_in, variant_named}
+use Rattle.qs_data.proofs.Common.{◌≡◌, false, cond, Some, None, ap, sym, ◌∙◌, rules, string_bytes, is_utf8, unit_kind, is_unit_kind, data_of, kind_of}
 use Rattle.qs_spec.specs.Data as d
 use Rattle.qs_data.specs.declared.data.data.Data as data_type
 use Rattle.qs_data.specs.declared.shape.shape.VariantKind as kind
 use Rattle.qs_data.specs.declared.shape.shape.Variant.{out-Variant}
-use Rattle.qs_data.proofs.lemmas.read.ReadErrors.{gives_exit, custom}
-use Rattle.qs_data.proofs.lemmas.read.Variants.{named_is, unit_at, no_unit}
+use Rattle.qs_data.proofs.lemmas.read.ReadErrors.{custom}
+use Rattle.qs_data.proofs.lemmas.read.Variants.{named_is, unit_at}
 use Rattle.qs_data.proofs.read.variants.read_name.Goals as goal
 use Rattle.qs_data.proofs.read.variants.read_name.Goals.{in-Newtype, in-Tuple, in-Struct, in-StrictStruct}
-
-pub returns-in_err-place : goal.returns-in_err-place
-returns-in_err-place c =
-    let b = c.args.name.now in
-    let vs = c.args.variants.now in
-    gives_exit data_of (is_utf8 b) (is_utf8 b) c.from_residual.result c.in_err-place.field-0.0 (option_map Some (variant_named b (variants_in vs))) (unit_variant_data (variants_in vs) b)
-    c.from_residual.ensures.1 c.in_err-place.ensures.named (no_unit b vs) (λ n. n)
 
 pub returns-in-Unit : goal.returns-in-Unit
 returns-in-Unit c =

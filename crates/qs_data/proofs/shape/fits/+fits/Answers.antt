@@ -1,4 +1,4 @@
-use Rattle.qs_data.proofs.Common.{◌≡◌, ◌-◌, ◌==◌, true, false, [], length, drop, sym, ap, ap₂, ◌∙◌, arith, take_rest, fits, fits_fields, fits_tuple, data_of, members_in, values_in, field_of, fields_in, shapes_in, is_next}
+use Rattle.qs_data.proofs.Common.{◌≡◌, ◌==◌, true, false, [], length, drop, sym, ap, ap₂, ◌∙◌, arith, take_rest, fits, fits_fields, fits_tuple, data_of, members_in, values_in, field_of, fields_in, shapes_in}
 use Rattle.std.proofs.Math.ListN.{drop_of_length-le}
 use Rattle.qs_data.proofs.lemmas.shape.FieldsFit.{taken_at, no_more_fields, no_more_shapes}
 use Rattle.qs_data.proofs.lemmas.read.Fields.{field_name, field_shape}

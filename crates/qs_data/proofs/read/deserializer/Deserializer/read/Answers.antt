@@ -1,15 +1,7 @@
-use Rattle.qs_data.proofs.Common.{◌≡◌, true, rules, read_by, data_of, shape_of, is_text, Gives, takes_no_memory, parsed_of}
-use Rattle.qs_data.specs.read.internal.Frugal.{IsFrugal}
-use Rattle.qs_data.proofs.lemmas.read.Related.{returns_data, spares_memory}
+use Rattle.qs_data.proofs.Common.{rules, read_by, data_of, shape_of, is_text, Gives, parsed_of}
+use Rattle.qs_data.proofs.lemmas.read.Related.{returns_data}
 use Rattle.qs_data.proofs.lemmas.read.ReadBack.{reads_back}
 use Rattle.qs_data.proofs.read.deserializer.Deserializer.read.Goals as goal
-
-pub returns-clause-exact : goal.returns-clause-exact
-returns-clause-exact c =
-    let parsed = parsed_of c.args.self in
-    let shape = shape_of c.args.shape.now in
-    let g : Gives data_of (is_text parsed.tree) c.read.result (read_by parsed.config shape parsed.tree) = search rules in
-    returns_data parsed shape c.read.result c.requires g
 
 pub returns-clause-back : goal.returns-clause-back
 returns-clause-back c =
@@ -17,10 +9,3 @@ returns-clause-back c =
     let shape = shape_of c.args.shape.now in
     let g : Gives data_of (is_text parsed.tree) c.read.result (read_by parsed.config shape parsed.tree) = search rules in
     reads_back parsed shape c.read.result c.requires (returns_data parsed shape c.read.result c.requires g)
-
-pub returns-clause-no_memory : goal.returns-clause-no_memory
-returns-clause-no_memory c =
-    let parsed = parsed_of c.args.self in
-    let shape = shape_of c.args.shape.now in
-    let f : takes_no_memory shape ≡ true → IsFrugal c.read.result (read_by parsed.config shape parsed.tree) = search rules in
-    λ small. spares_memory parsed shape c.read.result c.requires (f small)

@@ -52,6 +52,25 @@ fn a_shape_is_kept(rt: HostRuntime) {
 }
 
 #[test]
+fn in_form_mode(rt: HostRuntime) {
+    let alloc = rt.alloc();
+    let config = Config::new().use_form_encoding(true);
+    let query: Query = config.deserialize_str(alloc, TEXT).expect(&rt, "a query");
+    assert!(rt; is_alice(&query));
+    let query: Query = config
+        .deserialize_bytes(alloc, TEXT.as_bytes())
+        .expect(&rt, "a query");
+    assert!(rt; is_alice(&query));
+    let result: Result<Query> = config.deserialize_str(alloc, "age=24&name=Alice");
+    assert!(rt; is_custom(&result, "missing field `occupation`"));
+    let map: BTreeMap<String, String> = config
+        .deserialize_str(alloc, "1=a&%31=b")
+        .expect(&rt, "a map");
+    assert!(rt; map.len() == 1);
+    assert!(rt; map.get("1").is_some_and(|value| value.as_str() == "b"));
+}
+
+#[test]
 fn rejected_queries(rt: HostRuntime) {
     let alloc = rt.alloc();
     let rows = [

@@ -1,7 +1,7 @@
 //! Values that are written and read back, in both modes.
 
 use crate::values::{list, one, text, with};
-use qs_callers::{Account, Filter, Pair, Price, Sort};
+use qs_callers::{Account, Filter, Pair, Price, Query, Sort};
 use serde_qs::{Config, ConfigExt, RoundTrip, to_string};
 use std::alloc::Global;
 use std::collections::BTreeMap;
@@ -93,6 +93,10 @@ fn strings(rt: HostRuntime) {
         "   ",
         "!@#$%^&*()_+-=[]{}|;':,.<>?/~`",
         "%41 100%25 %5Bx%5D %AD0",
+        "%41",
+        "100%25",
+        "%5Bx%5D",
+        "%AD0",
         "a%3Db",
         "%c5",
         "50%",
@@ -255,6 +259,12 @@ fn structs(rt: HostRuntime) {
         id: 12345,
     };
     comes_back(&rt, alloc, &account);
+    let query = Query {
+        name: text(&rt, alloc, "Alice"),
+        age: 24,
+        occupation: text(&rt, alloc, "Student"),
+    };
+    comes_back(&rt, alloc, &query);
     let filter = Filter {
         text: text(&rt, alloc, "a"),
         page: Some(2),

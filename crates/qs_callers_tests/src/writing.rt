@@ -30,6 +30,20 @@ fn each_call_writes(rt: HostRuntime) {
 }
 
 #[test]
+fn in_form_mode(rt: HostRuntime) {
+    let alloc = rt.alloc();
+    let query: Query = from_str(alloc, TEXT).expect(&rt, "a query");
+    let config = Config::new().use_form_encoding(true);
+    let written = config.serialize_string(alloc, &query).expect(&rt, "a text");
+    assert!(rt; written.as_str() == TEXT);
+    let mut out = Vec::new(alloc);
+    config
+        .serialize_to_writer(alloc, &query, &mut out)
+        .expect(&rt, "a text");
+    assert!(rt; out.as_slice() == TEXT.as_bytes());
+}
+
+#[test]
 fn other_names(rt: HostRuntime) {
     let alloc = rt.alloc();
     let account = Account {

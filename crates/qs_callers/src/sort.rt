@@ -7,7 +7,7 @@ ghost use Rattle.serde_qs.specs.PartTables.{made_of};
 
 use serde_qs::OneOf::{First, Later};
 use serde_qs::{
-    Compound, Data, Enum, Last, Newtype, OneOf, Out, Parts, Result, Shape, Source, Struct,
+    Compound, Data, Enum, Last, Newtype, OneOf, Out, Parts, Result, Shape, Source, Struct, fields,
 };
 use std::alloc::Global;
 
@@ -38,7 +38,10 @@ impl Compound for Sort {
         Ok(match variant {
             First(()) => Sort::Relevance,
             Later(First(Newtype(name))) => Sort::By(name),
-            Later(Later(Last(Struct((from, (to, ())))))) => Sort::Between { from, to },
+            Later(Later(Last(Struct(between)))) => {
+                let fields!(from, to) = between;
+                Sort::Between { from, to }
+            }
         })
     }
 

@@ -26,7 +26,7 @@ use Rattle.qs_spec.specs.Data.{Data, no_values, one_value, no_pairs, one_pair, n
 use Rattle.qs_spec.specs.Shape.{Shape, KeyShape, UnknownKeys, no_shapes, one_shape, no_fields, one_field, no_variants, one_variant, unit_kind, newtype_kind, tuple_kind, struct_kind}
 use Rattle.qs_spec.specs.Shape.UnknownKeys.{ignored, rejected}
 use Rattle.qs_spec.specs.internal.ReadFunction.{read_list, struct_members, read_map, read_enum, any_data, any_items, any_places, any_pairs, reads, reads_tuple, reads_names, reads_places, reads_variant, reads_kind}
-use Rattle.qs_spec.specs.Entry.{deeper, entries_at, elements_from, pair_entries, member_entries, Output, Refusal, too_deep, bad_key}
+use Rattle.qs_spec.specs.Entry.{deeper, entries_at, elements_from, pair_entries, member_entries, Output, EntryError, too_deep, bad_key}
 use Rattle.qs_spec.specs.Written.{path_text, entry_text, written}
 use Rattle.qs_spec.proofs.TreeOf.{tree_of}
 
@@ -38,19 +38,19 @@ all_of_it = tt
 abbrev read : Bool → ℕ → Bool → Shape → List ℕ → Option Data
 read form depth reject_duplicates shape bytes = option_and_then (reads reject_duplicates shape) (tree_of form depth bytes)
 
-abbrev text_unless : Option Refusal → List ℕ → Option (List ℕ)
+abbrev text_unless : Option EntryError → List ℕ → Option (List ℕ)
 text_unless None text = Some text
-text_unless (Some refusal) text = None
+text_unless (Some error) text = None
 
 abbrev text_of : Bool → Output → Option (List ℕ)
-text_of form output = text_unless output.refusal (written form false output.entries)
+text_of form output = text_unless output.error (written form false output.entries)
 
 abbrev rewritten : Bool → ℕ → Bool → Shape → ArrayFormat → List ℕ → Option (List ℕ)
 rewritten form depth reject_duplicates shape format bytes = option_and_then (λ d. text_of form (entries_at depth format d [])) (read form depth reject_duplicates shape bytes)
 
 -- the first error, and the text of the entries before it
-abbrev outcome : Bool → ℕ → ArrayFormat → Data → Option Refusal × List ℕ
-outcome form depth format d = ((entries_at depth format d []).refusal, written form false (entries_at depth format d []).entries)
+abbrev outcome : Bool → ℕ → ArrayFormat → Data → Option EntryError × List ℕ
+outcome form depth format d = ((entries_at depth format d []).error, written form false (entries_at depth format d []).entries)
 """
 
 SHAPES = """
@@ -177,8 +177,8 @@ def read_case(fields):
 
 def write_case(fields):
     mode, depth, places, data, outcome, text = fields
-    refusal = "None" if outcome == "ok" else f"Some {outcome}"
-    return f"outcome {flag(mode == 'form')} {depth} {FORMATS[places]} {data_term(data)} ≡ ({refusal}, {bytes_term(bytes.fromhex(text))})"
+    error = "None" if outcome == "ok" else f"Some {outcome}"
+    return f"outcome {flag(mode == 'form')} {depth} {FORMATS[places]} {data_term(data)} ≡ ({error}, {bytes_term(bytes.fromhex(text))})"
 
 
 CASES = {"trees": tree_case, "program": program_case, "strict": program_case, "reads": read_case, "writes": write_case}

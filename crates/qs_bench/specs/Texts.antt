@@ -15,4 +15,4 @@ IsHandedOut text before after len = (len ≡ length text) × (length text ≤ le
 
 -- the data can be written, and their text was handed out
 abbrev pub IsWritten : Data → List ℕ → List ℕ → ℕ → Type 0
-IsWritten d before after len = ((entries default d).refusal ≡ None) × IsHandedOut (text_of d) before after len
+IsWritten d before after len = ((entries default d).error ≡ None) × IsHandedOut (text_of d) before after len

@@ -18,7 +18,7 @@ pub extern "C" fn qs_bench_decode(
     len: &mut usize,
 ) -> bool
     ensures decoded { IsTrue result → IsHandedOut (decoded bytes.now) out.old out.new len.new }
-    ensures refused { IsFalse result → (out.new ≡ out.old) × (len.new ≡ len.old) }
+    ensures unchanged { IsFalse result → (out.new ≡ out.old) × (len.new ≡ len.old) }
 {
     let Ok(text) = decode(alloc, bytes) else {
         return false;
@@ -37,7 +37,7 @@ pub extern "C" fn qs_bench_encode(
     len: &mut usize,
 ) -> bool
     ensures encoded { IsTrue result → IsHandedOut (encoded form bytes.now) out.old out.new len.new }
-    ensures refused { IsFalse result → (out.new ≡ out.old) × (len.new ≡ len.old) }
+    ensures unchanged { IsFalse result → (out.new ≡ out.old) × (len.new ≡ len.old) }
 {
     let mut text = Vec::new(alloc);
     let Ok(()) = encode(bytes, form, &mut text) else {

@@ -24,7 +24,7 @@ pub struct Keys {
 pub extern "C" fn qs_bench_parse(alloc: Global, input: &[u8], keys: &mut Keys) -> bool
     ensures counted { IsTrue result → (tree : Tree) × IsTree default.form default.max_depth input.now tree
         × (keys.new.root ≡ root_keys tree) × (keys.new.first ≡ first_keys tree) }
-    ensures refused { IsFalse result → keys.new ≡ keys.old }
+    ensures unchanged { IsFalse result → keys.new ≡ keys.old }
 {
     let Ok(tree) = parse(alloc, input, Config::new()) else {
         return false;

@@ -21,7 +21,7 @@ pub extern "C" fn qs_bench_read(
     size: &mut usize,
 ) -> bool
     ensures read { IsTrue result → IsRead number input.now size.new }
-    ensures refused { IsFalse result → size.new ≡ size.old }
+    ensures unchanged { IsFalse result → size.new ≡ size.old }
 {
     let Some(read) = last_size(alloc, times, number, input) else {
         return false;

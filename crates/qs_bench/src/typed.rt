@@ -40,7 +40,7 @@ pub extern "C" fn qs_bench_person(
 ) -> bool
     ensures typed { IsTrue result → IsReadAndWritten ⟦<Person as Deserialize>⟧.table.value ⟦<Person as Deserialize>⟧.table.form ⟦<Person as Deserialize>⟧.table.meaning ⟦<Person as Serialize>⟧.datum
         input.now out.old out.new len.new }
-    ensures refused { IsFalse result → (out.new ≡ out.old) × (len.new ≡ len.old) }
+    ensures unchanged { IsFalse result → (out.new ≡ out.old) × (len.new ≡ len.old) }
 {
     let times = Times {
         reads,
@@ -63,7 +63,7 @@ pub extern "C" fn qs_bench_record(
 ) -> bool
     ensures typed { IsTrue result → IsReadAndWritten ⟦<Record as Deserialize>⟧.table.value ⟦<Record as Deserialize>⟧.table.form ⟦<Record as Deserialize>⟧.table.meaning ⟦<Record as Serialize>⟧.datum
         input.now out.old out.new len.new }
-    ensures refused { IsFalse result → (out.new ≡ out.old) × (len.new ≡ len.old) }
+    ensures unchanged { IsFalse result → (out.new ≡ out.old) × (len.new ≡ len.old) }
 {
     let times = Times {
         reads,
@@ -86,7 +86,7 @@ pub extern "C" fn qs_bench_ids(
 ) -> bool
     ensures typed { IsTrue result → IsReadAndWritten ⟦<Ids as Deserialize>⟧.table.value ⟦<Ids as Deserialize>⟧.table.form ⟦<Ids as Deserialize>⟧.table.meaning ⟦<Ids as Serialize>⟧.datum
         input.now out.old out.new len.new }
-    ensures refused { IsFalse result → (out.new ≡ out.old) × (len.new ≡ len.old) }
+    ensures unchanged { IsFalse result → (out.new ≡ out.old) × (len.new ≡ len.old) }
 {
     let times = Times {
         reads,
@@ -109,7 +109,7 @@ pub extern "C" fn qs_bench_map(
 ) -> bool
     ensures typed { IsTrue result → IsReadAndWritten ⟦<BTreeMap<String, String> as Deserialize>⟧.table.value ⟦<BTreeMap<String, String> as Deserialize>⟧.table.form ⟦<BTreeMap<String, String> as Deserialize>⟧.table.meaning ⟦<BTreeMap<String, String> as Serialize>⟧.datum
         input.now out.old out.new len.new }
-    ensures refused { IsFalse result → (out.new ≡ out.old) × (len.new ≡ len.old) }
+    ensures unchanged { IsFalse result → (out.new ≡ out.old) × (len.new ≡ len.old) }
 {
     let times = Times {
         reads,
@@ -132,7 +132,7 @@ pub extern "C" fn qs_bench_nested(
 ) -> bool
     ensures typed { IsTrue result → IsReadAndWritten ⟦<Nested as Deserialize>⟧.table.value ⟦<Nested as Deserialize>⟧.table.form ⟦<Nested as Deserialize>⟧.table.meaning ⟦<Nested as Serialize>⟧.datum
         input.now out.old out.new len.new }
-    ensures refused { IsFalse result → (out.new ≡ out.old) × (len.new ≡ len.old) }
+    ensures unchanged { IsFalse result → (out.new ≡ out.old) × (len.new ≡ len.old) }
 {
     let times = Times {
         reads,
@@ -151,7 +151,7 @@ fn read_and_write<T: RoundTrip + Drop>(
     len: &mut usize,
 ) -> bool
     ensures typed { IsTrue result → IsReadAndWritten T.table.value T.table.form T.table.meaning T.datum input.now out.old out.new len.new }
-    ensures refused { IsFalse result → (out.new ≡ out.old) × (len.new ≡ len.old) }
+    ensures unchanged { IsFalse result → (out.new ≡ out.old) × (len.new ≡ len.old) }
 {
     let Ok(value) = last_value::<T>(alloc, times, input) else {
         return false;
@@ -210,7 +210,7 @@ fn read_anew<T: RoundTrip + Drop>(alloc: Global, times: usize, input: &[u8]) -> 
 
 // Returns the text of the last of so many writes.
 fn last_text<T: RoundTrip>(alloc: Global, times: usize, value: &T) -> Result<String>
-    ensures whole { IfOk result (λ text. (entries default (T.datum value.now)).refusal ≡ None) }
+    ensures whole { IfOk result (λ text. (entries default (T.datum value.now)).error ≡ None) }
     ensures text { IfOk result (λ text. string_bytes text ≡ text_of (T.datum value.now)) }
 {
     for _ in 1..times {

@@ -24,7 +24,7 @@ pub extern "C" fn qs_bench_write_record(
     len: &mut usize,
 ) -> bool
     ensures written { IsTrue result → IsWritten sample.record_of_ten out.old out.new len.new }
-    ensures refused { IsFalse result → (out.new ≡ out.old) × (len.new ≡ len.old) }
+    ensures unchanged { IsFalse result → (out.new ≡ out.old) × (len.new ≡ len.old) }
 {
     write(alloc, times, samples::record(alloc), out, len)
 }
@@ -40,7 +40,7 @@ pub extern "C" fn qs_bench_write_fields(
     len: &mut usize,
 ) -> bool
     ensures written { IsTrue result → IsWritten (sample.below keys (sample.fields count)) out.old out.new len.new }
-    ensures refused { IsFalse result → (out.new ≡ out.old) × (len.new ≡ len.old) }
+    ensures unchanged { IsFalse result → (out.new ≡ out.old) × (len.new ≡ len.old) }
 {
     write(
         alloc,
@@ -61,7 +61,7 @@ pub extern "C" fn qs_bench_write_numbers(
     len: &mut usize,
 ) -> bool
     ensures written { IsTrue result → IsWritten (sample.only (sample.numbers count)) out.old out.new len.new }
-    ensures refused { IsFalse result → (out.new ≡ out.old) × (len.new ≡ len.old) }
+    ensures unchanged { IsFalse result → (out.new ≡ out.old) × (len.new ≡ len.old) }
 {
     write(alloc, times, samples::numbers(alloc, count), out, len)
 }
@@ -76,7 +76,7 @@ pub extern "C" fn qs_bench_write_bytes(
     len: &mut usize,
 ) -> bool
     ensures written { IsTrue result → IsWritten (sample.only (bytes content.now)) out.old out.new len.new }
-    ensures refused { IsFalse result → (out.new ≡ out.old) × (len.new ≡ len.old) }
+    ensures unchanged { IsFalse result → (out.new ≡ out.old) × (len.new ≡ len.old) }
 {
     write(alloc, times, samples::held(alloc, content), out, len)
 }
@@ -91,7 +91,7 @@ fn write(
 ) -> bool
     ensures written { IfOk datum (λ datum. IsTrue result → IsWritten (data_of datum) out.old out.new len.new) }
     ensures unmade { IsErr datum → IsFalse result }
-    ensures refused { IsFalse result → (out.new ≡ out.old) × (len.new ≡ len.old) }
+    ensures unchanged { IsFalse result → (out.new ≡ out.old) × (len.new ≡ len.old) }
 {
     let Ok(datum) = datum else {
         return false;
@@ -105,7 +105,7 @@ fn write(
 
 // Returns the text of the last of so many writes.
 fn last_text(alloc: Global, times: usize, datum: &Data) -> Result<Vec<u8>>
-    ensures whole { IfOk result (λ text. (entries default (data_of datum.now)).refusal ≡ None) }
+    ensures whole { IfOk result (λ text. (entries default (data_of datum.now)).error ≡ None) }
     ensures text { IfOk result (λ text. text.items ≡ text_of (data_of datum.now)) }
 {
     for _ in 1..times {
@@ -116,7 +116,7 @@ fn last_text(alloc: Global, times: usize, datum: &Data) -> Result<Vec<u8>>
 
 // Returns the text that the data are written as, in a buffer that begins with room for 128 bytes.
 fn text_of(alloc: Global, datum: &Data) -> Result<Vec<u8>>
-    ensures whole { IfOk result (λ text. (entries default (data_of datum.now)).refusal ≡ None) }
+    ensures whole { IfOk result (λ text. (entries default (data_of datum.now)).error ≡ None) }
     ensures text { IfOk result (λ text. text.items ≡ text_of (data_of datum.now)) }
 {
     let text = Vec::with_capacity(alloc, 128)?;

@@ -14,8 +14,8 @@ use Rattle.qs_c.specs.Errors.{kind_of}
 use Rattle.qs_c.specs.Outcomes.{WhyUnwritten}
 
 why : (e : Error) (n : ℕ) (config : Config) (x : Data) → IsWriteError {T = Unit {0}} (Err e)
-    → ((m : ℕ) → IsTooDeep {T = Unit {0}} (Err e) m → (m ≡ n) × ((entries config x).refusal ≡ Some too_deep))
-    → (IsUnsupported {T = Unit {0}} (Err e) → (entries config x).refusal ≡ Some bad_key)
+    → ((m : ℕ) → IsTooDeep {T = Unit {0}} (Err e) m → (m ≡ n) × ((entries config x).error ≡ Some too_deep))
+    → (IsUnsupported {T = Unit {0}} (Err e) → (entries config x).error ≡ Some bad_key)
     → (IsFailed {T = Unit {0}} (Err e) → ⊥) → WhyUnwritten (kind_of e) config x
 why (Custom m) n config x w deep key failed = absurd w
 why (MaxSerializationDepthExceeded d) n config x w deep key failed = (deep d refl).1
@@ -30,8 +30,8 @@ why Failed n config x w deep key failed = absurd (failed tt)
 
 -- the error that is returned is that of the serializer
 pub unwritten : {A : Type 0} (r : Result A Error) (e : Error) (n : ℕ) (old config : Config) (x : Data) (b : Bool) → IsErrAnd r (λ y. y ≡ e) → old ≡ config → IsWriteError {T = Unit {0}} (Err e)
-    → ((m : ℕ) → IsTooDeep {T = Unit {0}} (Err e) m → (m ≡ n) × ((entries old x).refusal ≡ Some too_deep))
-    → (IsUnsupported {T = Unit {0}} (Err e) → (entries old x).refusal ≡ Some bad_key)
+    → ((m : ℕ) → IsTooDeep {T = Unit {0}} (Err e) m → (m ≡ n) × ((entries old x).error ≡ Some too_deep))
+    → (IsUnsupported {T = Unit {0}} (Err e) → (entries old x).error ≡ Some bad_key)
     → IsFailed {T = Unit {0}} (Err e) ↔ (b ≡ true) → b ≡ false → IfErr r (λ error. WhyUnwritten (kind_of error) config x)
 unwritten (Ok a) e n old config x b h same w deep key failed fresh = tt
 unwritten (Err y) e n old config x b h same w deep key failed fresh =

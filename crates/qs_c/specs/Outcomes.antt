@@ -8,7 +8,7 @@ use Rattle.qs_spec.specs.Entry.{entries, too_deep, bad_key}
 use Rattle.qs_spec.specs.Relation.{ReadsBy, ReadsNothing}
 use Rattle.qs_spec.specs.Shape.{Shape}
 use Rattle.qs_spec.specs.Shape.Shape.{any}
-use Rattle.qs_spec.specs.Tree.{Tree, IsTree, IsRefused}
+use Rattle.qs_spec.specs.Tree.{Tree, IsTree, HasNoTree}
 use Rattle.qs_spec.specs.Written.{written}
 use Rattle.qs_c.specs.declared.failure.FailureKind.{FailureKind}
 use Rattle.qs_c.specs.declared.failure.FailureKind.TheVariants as kind
@@ -36,7 +36,7 @@ IsUnread config shape input = (tree : Tree) × IsTree config.form config.max_dep
 
 -- the input has no tree, and the position is at most one beyond its end
 abbrev pub IsRejected : Config → List ℕ → ℕ → Type 0
-IsRejected config input position = IsRefused config.form config.max_depth input × (position ≤ length input + 1)
+IsRejected config input position = HasNoTree config.form config.max_depth input × (position ≤ length input + 1)
 
 -- what an error of this kind at this position says of an input that is read
 abbrev pub WhyUnread : FailureKind → ℕ → Config → Shape → List ℕ → Type 0
@@ -62,14 +62,14 @@ WhyNotRead k position settings notation input = (shape : Shape) × IsNotation no
 pub record IsWritten (config : Config) (json text : List ℕ) : Type 0 where
   pub value : Data
   pub is_value : IsJsonOf json value
-  pub is_whole : (entries config value).refusal ≡ None
+  pub is_whole : (entries config value).error ≡ None
   pub is_text : text ≡ written config.form false (entries config value).entries
 
 -- what an error of this kind says of data that are written
 abbrev pub WhyUnwritten : FailureKind → Config → Data → Type 0
 WhyUnwritten kind.OutOfMemory config x = ⊤
-WhyUnwritten kind.TooDeep config x = (entries config x).refusal ≡ Some too_deep
-WhyUnwritten kind.Mismatch config x = (entries config x).refusal ≡ Some bad_key
+WhyUnwritten kind.TooDeep config x = (entries config x).error ≡ Some too_deep
+WhyUnwritten kind.Mismatch config x = (entries config x).error ≡ Some bad_key
 WhyUnwritten _ config x = ⊥
 
 -- what an error of this kind says of JSON that is written

@@ -2,7 +2,7 @@
 pub use Rattle.std.proofs.Common.{Bool, Equal, Err, Fits, Greater, Less, List, None, Ok, Option, Ordering, Result, Some, [], add-one, ap, append-nil, append_assoc, ap₂, arith, codes, cond, decimal, drop, drop-drop, eqb, false, get_or, inl, inr, is_eq, leb, length, length-append, length-drop, lt-ltb, ltb, map, nat_cmp, nat_lt, neg_ℤ, negsuc, not, of_z, pos, refl, rules, slice_get, slice_index, string_bytes, subst, suc, sym, take, to_z, true, vec_len, w64, w8, zero, ℕ, ℤ, ◌&&◌, ◌*◌, ◌++◌, ◌+◌, ◌-◌, ◌<ℤ◌, ◌<◌, ◌==◌, ◌^◌, ◌||◌, ◌∙◌, ◌∷◌, ◌≡◌, ◌≢◌, ◌≤ℤ◌, ◌≤◌, ◌⊎◌}
 pub use Rattle.qs_spec.specs.Config.{ArrayFormat, Config, are_rejected, element_segment}
 pub use Rattle.qs_spec.specs.Data.{Named, Values, one_pair, one_value, pairs_of, values_of}
-pub use Rattle.qs_spec.specs.Entry.{Entry, Output, Path, Refusal, and_then, bad_key, boolean_text, follow, key_text, maybe_deeper, nothing, one, refused, too_deep, under_key}
+pub use Rattle.qs_spec.specs.Entry.{Entry, Output, Path, EntryError, and_then, bad_key, boolean_text, follow, key_text, maybe_deeper, nothing, one, failure, too_deep, under_key}
 pub use Rattle.qs_spec.specs.Escape.{encoded, is_between, encoded_byte}
 pub use Rattle.qs_spec.specs.Fits.{each_fits, fits, fits_fields, fits_pairs, fits_tuple, is_byte, variant_kind}
 pub use Rattle.qs_spec.specs.Listed.{are_listed, are_listed_members, are_listed_pairs, are_scalars, is_empty_text, is_one_empty}

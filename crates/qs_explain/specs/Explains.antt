@@ -5,7 +5,7 @@ use Rattle.qs_spec.specs.Data.{Data}
 use Rattle.qs_spec.specs.Relation.{ReadsBy, ReadsNothing}
 use Rattle.qs_spec.specs.Segment as segments
 use Rattle.qs_spec.specs.Shape.{Shape}
-use Rattle.qs_spec.specs.Tree.{Tree, IsTree, IsRefused}
+use Rattle.qs_spec.specs.Tree.{Tree, IsTree, HasNoTree}
 use Rattle.qs_data.specs.read.Reads.{reads}
 use Rattle.qs_tree.specs.declared.error.Error.{Error}
 use Rattle.qs_tree.specs.declared.error.Error.TheVariants.{Parse}
@@ -61,13 +61,13 @@ IsParseError _ = ⊥
 -- There is an explanation exactly where the input isn't read: it has no tree, or the shape reads nothing from its tree.
 abbrev pub Explains : {E : Type 0} → Config → Shape → List ℕ → Result (Option Explanation) E → Type 0
 Explains config s input (Ok None) = (n : Tree) × IsTree config.form config.max_depth input n × ReadsSome (are_rejected config.duplicates) s n
-Explains config s input (Ok (Some (e.Syntax error))) = IsRefused config.form config.max_depth input × IsParseError error
+Explains config s input (Ok (Some (e.Syntax error))) = HasNoTree config.form config.max_depth input × IsParseError error
 Explains config s input (Ok (Some (e.Mismatch m))) = (n : Tree) × IsTree config.form config.max_depth input n × (reads (are_rejected config.duplicates) s n ≡ None) × IsMismatch (are_rejected config.duplicates) s n m
 Explains config s input (Err e) = ⊤
 
 -- The same by the relation: no explanation where the shape relates the input's tree to some data, and one where it relates it to none.
 abbrev pub ExplainsUnread : {E : Type 0} → Config → Shape → List ℕ → Result (Option Explanation) E → Type 0
 ExplainsUnread config s input (Ok None) = (n : Tree) × IsTree config.form config.max_depth input n × (d : Data) × ReadsBy config s n d
-ExplainsUnread config s input (Ok (Some (e.Syntax error))) = IsRefused config.form config.max_depth input
+ExplainsUnread config s input (Ok (Some (e.Syntax error))) = HasNoTree config.form config.max_depth input
 ExplainsUnread config s input (Ok (Some (e.Mismatch m))) = (n : Tree) × IsTree config.form config.max_depth input n × ReadsNothing config s n
 ExplainsUnread config s input (Err e) = ⊤

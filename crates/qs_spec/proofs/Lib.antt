@@ -18,7 +18,7 @@ pub mod Sound
 pub mod Reorder
 pub mod Places
 pub mod Marks
-pub mod Alike
+pub mod Equivalent
 pub mod Unescaped
 pub mod ReadOn
 pub mod EncodedTokens

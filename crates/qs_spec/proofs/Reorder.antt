@@ -106,12 +106,12 @@ longest_swaps (keep p w) = ap (max _) (longest_swaps w)
 longest_swaps (swap p q ps h) = omega arith
 longest_swaps (both w v) = longest_swaps w ∙ longest_swaps v
 
-entries_alike : (m n : Segment → Bool) (f g : Segment → Tree) → ((k : Segment) → unmarked (f k) ≡ unmarked (g k)) → (ks : List Segment) → unmarked_entries (entries_of m f ks) ≡ unmarked_entries (entries_of n g ks)
-entries_alike m n f g h [] = refl
-entries_alike m n f g h (k ∷ ks) = ap₂ (Entries.entry k false) (h k) (entries_alike m n f g h ks)
+entries_equivalent : (m n : Segment → Bool) (f g : Segment → Tree) → ((k : Segment) → unmarked (f k) ≡ unmarked (g k)) → (ks : List Segment) → unmarked_entries (entries_of m f ks) ≡ unmarked_entries (entries_of n g ks)
+entries_equivalent m n f g h [] = refl
+entries_equivalent m n f g h (k ∷ ks) = ap₂ (Entries.entry k false) (h k) (entries_equivalent m n f g h ks)
 
 pub entries_same : (m n : Segment → Bool) (f g : Segment → Tree) → ((k : Segment) → unmarked (f k) ≡ unmarked (g k)) → (ks ls : List Segment) → ks ≡ ls → unmarked_entries (entries_of m f ks) ≡ unmarked_entries (entries_of n g ls)
-entries_same m n f g h ks ls e = entries_alike m n f g h ks ∙ ap (λ l. unmarked_entries (entries_of n g l)) e
+entries_same m n f g h ks ls e = entries_equivalent m n f g h ks ∙ ap (λ l. unmarked_entries (entries_of n g l)) e
 
 pub either : (b c : Bool) (s t u v : Tree) → b ≡ c → unmarked s ≡ unmarked t → unmarked u ≡ unmarked v → unmarked (cond b s u) ≡ unmarked (cond c t v)
 either true true s t u v e f g = f

@@ -16,7 +16,7 @@ use Rattle.qs_spec.specs.History.{under}
 use Rattle.qs_spec.specs.Tree.{Tree, Entries, IsTree, put, head_mark, entries_of, node_within, node, longest}
 use Rattle.qs_spec.specs.Tree.Tree.{leaf, sequence, mapping, uninitialized}
 use Rattle.qs_spec.specs.Tree.Entries.{no_entries, entry}
-use Rattle.qs_spec.specs.Order.{unmarked_leaf, unmarked, unmarked_entries, AreAlike}
+use Rattle.qs_spec.specs.Order.{unmarked_leaf, unmarked, unmarked_entries, AreEquivalent}
 use Rattle.qs_spec.specs.Data.{Data, Values, no_values, one_value, Pairs, no_pairs, one_pair}
 use Rattle.qs_spec.specs.Shape.{Shape}
 use Rattle.qs_spec.specs.Scalar.{text_data}
@@ -190,7 +190,7 @@ module _ (form : Bool) where
         (of_more s.0 s.1 (any_is t q.1 h.0 d.0 d.1) (pairs_are es p.1 a.2 h.1 m.0 m.1))
 
 pub stable_back : (config : Config) (input : List ℕ) (t : Tree) (d : Data) (es : List Entry) → config.array_format ≡ indexed → IsTree config.form config.max_depth input t → is_stable config.form t ≡ true
-    → ReadsBy config Shape.any t d → (entries config d).refusal ≡ None → IsPermutation (entries config d).entries es → AreAlike config.form config.max_depth input (written config.form false es)
+    → ReadsBy config Shape.any t d → (entries config d).error ≡ None → IsPermutation (entries config d).entries es → AreEquivalent config.form config.max_depth input (written config.form false es)
 unfolding reads
 stable_back config input t d es f i e r whole p =
     let fm = config.array_format in
@@ -205,7 +205,7 @@ stable_back config input t d es f i e r whole p =
     let s = perm_swaps form o.2 (subst (λ m. AllTidy m form (parts fm d)) f g.tidy) in
     let again = written_tree fm form depth (parts fm d) o.0 (rooted fm d li) g.fine x.1 o.2 (some_pairs form (parts fm d) ps g.full (perm_map (part_pair form) o.2)) (pairs_compatible fm form o.0 (perm_tidy fm form o.2 g.tidy)) in
     let same = same_node form of (longest ps) ps (le_refl (longest ps)) (subst (λ m. Swaps (pairs form (parts m d)) ps) f s) in
-    subst (λ (l : List Entry). AreAlike form depth input (written form false l)) (sym o.1) (record {
+    subst (λ (l : List Entry). AreEquivalent form depth input (written form false l)) (sym o.1) (record {
       there = λ u j. (node ps, again, same ∙ ap unmarked (one_tree form depth input t u i j));
       back = λ u j. (t, i, sym same ∙ ap unmarked (one_tree form depth (written form false (map entry_of o.0)) (node ps) u again j));
     })

@@ -41,7 +41,7 @@ after_nothing [] = refl
 after_nothing (e ∷ es) = ap (λ (l : List Entry). e ∷ l) (after_nothing es)
 
 -- the entries are the parts
-pub parts_of : (limit : ℕ) (fm : ArrayFormat) (d : Data) → is_listed fm false d ≡ true → (entries_at limit fm d []).refusal ≡ None
+pub parts_of : (limit : ℕ) (fm : ArrayFormat) (d : Data) → is_listed fm false d ≡ true → (entries_at limit fm d []).error ≡ None
     → ((entries_at limit fm d []).entries ≡ map entry_of (parts fm d)) × AllByRecursion (λ (p : Part). length (entry_of p).path ≤ limit + 1) (parts fm d)
 parts_of limit fm d li r =
     let h = parts_at limit fm false d [] li (omega arith) r in (

@@ -15,37 +15,37 @@ pub record Entry : Type 0 where
   pub value : Option (List ℕ)
 
 -- a path is longer than the limit allows, or a map's key is no scalar
-pub data Refusal : Type 0 where
-  too_deep : Refusal
-  bad_key : Refusal
+pub data EntryError : Type 0 where
+  too_deep : EntryError
+  bad_key : EntryError
 
 -- the entries, and the first error if there is one; then only the entries before it
 pub record Output : Type 0 where
   pub entries : List Entry
-  pub refusal : Option Refusal
+  pub error : Option EntryError
 
 -- no entry, an error, and one entry
 abbrev pub nothing : Output
-nothing = record { entries = []; refusal = None }
+nothing = record { entries = []; error = None }
 
-abbrev pub refused : Refusal → Output
-refused r = record { entries = []; refusal = Some r }
+abbrev pub failure : EntryError → Output
+failure r = record { entries = []; error = Some r }
 
 abbrev pub one : Path → Option (List ℕ) → Output
-one path value = record { entries = record { path = path; value = value } ∷ []; refusal = None }
+one path value = record { entries = record { path = path; value = value } ∷ []; error = None }
 
 -- entries and then an output, unless there is an error before it
-abbrev pub follow : List Entry → Option Refusal → Output → Output
-follow es None o = record { entries = es ++ o.entries; refusal = o.refusal }
-follow es (Some r) o = record { entries = es; refusal = Some r }
+abbrev pub follow : List Entry → Option EntryError → Output → Output
+follow es None o = record { entries = es ++ o.entries; error = o.error }
+follow es (Some r) o = record { entries = es; error = Some r }
 
 -- one output and then another, unless the first one has an error
 abbrev pub and_then : Output → Output → Output
-and_then a b = follow a.entries a.refusal b
+and_then a b = follow a.entries a.error b
 
 -- a part under one more segment; a path of more segments than the limit isn't extended
 unfoldable pub deeper : ℕ → Path → List ℕ → (Path → Output) → Output
-deeper limit path segment part = cond (nat_lt limit (length path)) (refused too_deep) (part (path ++ segment ∷ []))
+deeper limit path segment part = cond (nat_lt limit (length path)) (failure too_deep) (part (path ++ segment ∷ []))
 
 -- a part under one more segment, if there is one
 abbrev pub maybe_deeper : ℕ → Path → Option (List ℕ) → (Path → Output) → Output
@@ -70,7 +70,7 @@ key_text _ = None
 
 -- a pair of a map: its key is tested first
 abbrev pub under_key : ℕ → Path → Option (List ℕ) → (Path → Output) → Output
-under_key limit path None part = refused bad_key
+under_key limit path None part = failure bad_key
 under_key limit path (Some key) part = deeper limit path key part
 
 -- the entries of data at a path

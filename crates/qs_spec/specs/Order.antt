@@ -52,6 +52,6 @@ abbrev pub AreReordered : List Pair → List Pair → Type 0
 AreReordered ps qs = KeepsOrder overlap (map unmarked_pair ps) (map unmarked_pair qs)
 
 -- two inputs have trees that differ at most in marks, or neither has one
-pub record AreAlike (form : Bool) (depth : ℕ) (a b : List ℕ) : Type 0 where
+pub record AreEquivalent (form : Bool) (depth : ℕ) (a b : List ℕ) : Type 0 where
   pub there : (t : Tree) → IsTree form depth a t → (u : Tree) × IsTree form depth b u × (unmarked u ≡ unmarked t)
   pub back : (u : Tree) → IsTree form depth b u → (t : Tree) × IsTree form depth a t × (unmarked t ≡ unmarked u)

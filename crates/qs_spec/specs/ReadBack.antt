@@ -17,7 +17,7 @@ use Rattle.qs_spec.specs.Permutation.{KeepsOrder, IsReordering}
 pub record IsPlainFor (config : Config) (shape : Shape) (d : Data) : Type 0 where
   pub plain : is_plain config.form d ≡ true
   pub fits : fits shape d ≡ true
-  pub whole : (entries config d).refusal ≡ None
+  pub whole : (entries config d).error ≡ None
 
 -- the input has a tree, and the shape reads data from it that are the same
 pub record IsReadBack (config : Config) (shape : Shape) (d : Data) (input : List ℕ) : Type 0 where

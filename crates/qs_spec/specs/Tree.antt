@@ -120,5 +120,5 @@ IsTree form depth [] tree = tree ≡ leaf NoValue
 IsTree form depth (b ∷ bytes) tree = (pairs : List Pair) × Splits form depth (b ∷ bytes) pairs × (tree ≡ node pairs)
 
 -- the input has no tree, and is rejected
-abbrev pub IsRefused : Bool → ℕ → List ℕ → Type 0
-IsRefused form depth bytes = (tree : Tree) → IsTree form depth bytes tree → ⊥
+abbrev pub HasNoTree : Bool → ℕ → List ℕ → Type 0
+HasNoTree form depth bytes = (tree : Tree) → IsTree form depth bytes tree → ⊥

@@ -3,11 +3,11 @@ use Rattle.std.specs.Prelude.{◌≡◌, ℕ, false, List, [], ◌∷◌, Option
 use Rattle.qs_spec.specs.Config.{Config}
 use Rattle.qs_spec.specs.Segment.{Segment}
 use Rattle.qs_spec.specs.Leaf.{Leaf}
-use Rattle.qs_spec.specs.Tree.{Tree, Items, Entries, IsTree, IsRefused}
+use Rattle.qs_spec.specs.Tree.{Tree, Items, Entries, IsTree, HasNoTree}
 use Rattle.qs_spec.specs.Shape.{Shape, no_fields, one_field, UnknownKeys}
 use Rattle.qs_spec.specs.Data.{Data, pairs_of, members_of}
 use Rattle.qs_spec.specs.Relation.{ReadsBy, ReadsNothing}
-use Rattle.qs_spec.specs.Entry.{Refusal, entries}
+use Rattle.qs_spec.specs.Entry.{EntryError, entries}
 use Rattle.qs_spec.specs.Written.{written}
 use Rattle.qs_spec.specs.Stable.{is_stable}
 
@@ -55,9 +55,9 @@ pub record IsRead (config : Config) (shape : Shape) (input : List ℕ) (answer :
   pub reads : ReadsOrNothing config shape tree answer
 
 -- the text of the entries before the first error, and that error if there is one
-pub record IsWritten (config : Config) (d : Data) (text : List ℕ) (refusal : Option Refusal) : Type 0 where
+pub record IsWritten (config : Config) (d : Data) (text : List ℕ) (error : Option EntryError) : Type 0 where
   pub text_is : written config.form false (entries config d).entries ≡ text
-  pub refusal_is : (entries config d).refusal ≡ refusal
+  pub error_is : (entries config d).error ≡ error
 
 -- the data are written as the text, and this is what the shape reads from it
 pub record IsReadAs (config : Config) (shape : Shape) (d : Data) (text : List ℕ) (answer : Option Data) : Type 0 where
@@ -66,7 +66,7 @@ pub record IsReadAs (config : Config) (shape : Shape) (d : Data) (text : List �
 
 -- this is the tree of the input, if it has one
 abbrev pub IsTreeOrNone : Config → List ℕ → Option Tree → Type 0
-IsTreeOrNone config input None = IsRefused config.form config.max_depth input
+IsTreeOrNone config input None = HasNoTree config.form config.max_depth input
 IsTreeOrNone config input (Some tree) = IsTree config.form config.max_depth input tree
 
 -- The input has this tree, which isn't stable; what `any` reads from it is written as the text, and the text has the other tree, or none.

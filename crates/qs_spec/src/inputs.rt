@@ -3,7 +3,7 @@
 ghost use Rattle.std.specs.Prelude.{true, false, codes, [], ◌∷◌};
 ghost use Rattle.qs_spec.specs.Segment.Segment.{Int, Str};
 ghost use Rattle.qs_spec.specs.Leaf.Leaf.{Text, Null, NoValue};
-ghost use Rattle.qs_spec.specs.Tree.{IsTree, IsRefused};
+ghost use Rattle.qs_spec.specs.Tree.{IsTree, HasNoTree};
 ghost use Rattle.qs_spec.specs.Tree.Tree.{leaf, mapping, uninitialized};
 ghost use Rattle.qs_spec.specs.Tree.Entries.{entry, no_entries};
 ghost use Rattle.qs_spec.specs.Worked.{text_leaf, text_leaves, at_text, only};
@@ -16,14 +16,14 @@ pub fn deep_keys()
     ensures equals_after_the_last_key { IsTree false 1 (codes "a[b][c=1") (only (codes "a") (only (codes "b") (only (codes "[c") (text_leaf (codes "1"))))) }
     ensures ampersand_in_brackets { IsTree false 5 (codes "a[b&c]=1") (only (codes "a") (only (codes "b&c") (text_leaf (codes "1")))) }
     ensures bracket_in_brackets { IsTree false 5 (codes "a[[]=1") (only (codes "a") (only (codes "[") (text_leaf (codes "1")))) }
-    ensures text_after_brackets { IsRefused false 5 (codes "a[b]c=1") }
-    ensures open_bracket { IsRefused false 5 (codes "a[b") }
+    ensures text_after_brackets { HasNoTree false 5 (codes "a[b]c=1") }
+    ensures open_bracket { HasNoTree false 5 (codes "a[b") }
     ensures push_at_the_limit { IsTree false 1 (codes "a[b][]=1") (only (codes "a") (only (codes "b") (text_leaves (codes "1" ∷ [])))) }
     ensures no_depth { IsTree false 0 (codes "a[b]=1") (only (codes "a[b]") (text_leaf (codes "1"))) }
     ensures ampersand_first_in_the_last_key { IsTree false 1 (codes "a[b][&c]=1") (only (codes "a") (only (codes "b") (only (codes "[&c]") (text_leaf (codes "1"))))) }
     ensures closing_bracket_in_a_root_key { IsTree false 5 (codes "a]=1") (only (codes "a]") (text_leaf (codes "1"))) }
-    ensures text_after_a_push { IsRefused false 5 (codes "a[]x=1") }
-    ensures bracket_after_a_push { IsRefused false 5 (codes "a[][b]=1") }
+    ensures text_after_a_push { HasNoTree false 5 (codes "a[]x=1") }
+    ensures bracket_after_a_push { HasNoTree false 5 (codes "a[][b]=1") }
 {}
 
 /// In form mode `%5B` and `%5D` are brackets, in upper case alone; otherwise they are escapes.
@@ -38,20 +38,20 @@ pub fn brackets_in_form_mode()
 /// A value may follow what is nested under its key, and is then the value of the empty key; it may not precede it.
 pub fn values_beside_maps()
     ensures value_after { IsTree false 5 (codes "a[b]=1&a=2") (only (codes "a") (mapping (at_text [] (text_leaf (codes "2")) (at_text (codes "b") (text_leaf (codes "1")) no_entries)))) }
-    ensures value_before { IsRefused false 5 (codes "a=2&a[b]=1") }
-    ensures nothing_before { IsRefused false 5 (codes "a=&a[b]=1") }
-    ensures push_before { IsRefused false 5 (codes "a[]=1&a[b]=2") }
-    ensures value_at_the_root { IsRefused false 5 (codes "=1&a=2") }
+    ensures value_before { HasNoTree false 5 (codes "a=2&a[b]=1") }
+    ensures nothing_before { HasNoTree false 5 (codes "a=&a[b]=1") }
+    ensures push_before { HasNoTree false 5 (codes "a[]=1&a[b]=2") }
+    ensures value_at_the_root { HasNoTree false 5 (codes "=1&a=2") }
     ensures values_after { IsTree false 5 (codes "a[b]=1&a=2&a=3") (only (codes "a") (mapping (at_text [] (text_leaves (codes "2" ∷ codes "3" ∷ [])) (at_text (codes "b") (text_leaf (codes "1")) no_entries)))) }
     ensures value_after_at_the_root { IsTree false 5 (codes "b=1&=2") (mapping (at_text [] (text_leaf (codes "2")) (at_text (codes "b") (text_leaf (codes "1")) no_entries))) }
-    ensures push_after { IsRefused false 5 (codes "a[b]=1&a[]=2") }
+    ensures push_after { HasNoTree false 5 (codes "a[b]=1&a[]=2") }
 {}
 
 /// Several values of a key are a sequence, and more may be pushed onto it; nothing is pushed onto a single value.
 pub fn repeated_keys()
     ensures values_and_a_push { IsTree false 5 (codes "a=1&a=2&a[]=3") (only (codes "a") (text_leaves (codes "1" ∷ codes "2" ∷ codes "3" ∷ []))) }
     ensures pushes { IsTree false 5 (codes "a[]=1&b=x&a[]=2") (mapping (at_text (codes "a") (text_leaves (codes "1" ∷ codes "2" ∷ [])) (at_text (codes "b") (text_leaf (codes "x")) no_entries))) }
-    ensures push_onto_a_value { IsRefused false 5 (codes "a=1&a[]=2") }
+    ensures push_onto_a_value { HasNoTree false 5 (codes "a=1&a[]=2") }
     ensures value_after_a_push { IsTree false 5 (codes "a[]=1&a=2") (only (codes "a") (text_leaves (codes "1" ∷ codes "2" ∷ []))) }
 {}
 

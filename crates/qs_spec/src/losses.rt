@@ -6,11 +6,11 @@ ghost use Rattle.qs_spec.specs.Escape.{encoded};
 ghost use Rattle.qs_spec.specs.Segment.{segment_of};
 ghost use Rattle.qs_spec.specs.Segment.Segment.{Int, Str};
 ghost use Rattle.qs_spec.specs.Leaf.Leaf.{NoValue, Null};
-ghost use Rattle.qs_spec.specs.Tree.{IsRefused};
+ghost use Rattle.qs_spec.specs.Tree.{HasNoTree};
 ghost use Rattle.qs_spec.specs.Tree.Tree.{leaf, mapping};
 ghost use Rattle.qs_spec.specs.Tree.Entries.{entry, no_entries};
 ghost use Rattle.qs_spec.specs.Stable.{is_stable};
-ghost use Rattle.qs_spec.specs.Entry.Refusal.{too_deep};
+ghost use Rattle.qs_spec.specs.Entry.EntryError.{too_deep};
 ghost use Rattle.qs_spec.specs.Shape.{Shape, KeyShape, no_fields, one_field, fields_of, no_shapes, one_shape, no_variants, one_variant, unit_kind, tuple_kind, struct_kind};
 ghost use Rattle.qs_spec.specs.Shape.UnknownKeys.{ignored};
 ghost use Rattle.qs_spec.specs.Data.{Data, values_of, pairs_of, members_of};
@@ -60,7 +60,7 @@ pub fn lists_without_indices()
     ensures one_none { IsReadAs (record default { array_format = unindexed }) (field (codes "v") (Shape.sequence (Shape.option Shape.text))) (struct_with (codes "v") (Data.sequence (values_of (Data.none ∷ [])))) (codes "v") (Some (struct_with (codes "v") (Data.sequence (values_of [])))) }
     ensures at_the_top_in_brackets { IsReadAs (record default { array_format = empty_indexed }) (Shape.sequence Shape.text) (Data.sequence (values_of (Data.text [] ∷ []))) (codes "=") (Some (Data.sequence (values_of []))) }
     ensures lists_in_brackets { IsWritten (record default { array_format = empty_indexed }) (struct_with (codes "v") (Data.sequence (values_of (Data.sequence (values_of (Data.unsigned 1 ∷ Data.unsigned 2 ∷ [])) ∷ [])))) (codes "v[][]=1&v[][]=2") None
-        × IsRefused false 5 (codes "v[][]=1&v[][]=2") }
+        × HasNoTree false 5 (codes "v[][]=1&v[][]=2") }
     ensures other_order { IsRead default (field (codes "v") (Shape.sequence (Shape.unsigned 8))) (codes "v[]=2&v[]=1") (Some (struct_with (codes "v") (Data.sequence (values_of (Data.unsigned 2 ∷ Data.unsigned 1 ∷ []))))) }
 {}
 

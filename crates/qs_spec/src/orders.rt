@@ -7,7 +7,7 @@ ghost use Rattle.qs_spec.specs.Grammar.{Pair, ArePairs};
 ghost use Rattle.qs_spec.specs.History.{events};
 ghost use Rattle.qs_spec.specs.Tree.{node};
 ghost use Rattle.qs_spec.specs.Permutation.{IsReordering, KeepsOrder};
-ghost use Rattle.qs_spec.specs.Order.{overlap, AreReordered, AreAlike, unmarked, unmarked_pair};
+ghost use Rattle.qs_spec.specs.Order.{overlap, AreReordered, AreEquivalent, unmarked, unmarked_pair};
 
 /// A permutation that keeps overlapping paths in order changes no history, and of the node at most marks.
 pub fn reordered_pairs()
@@ -23,7 +23,7 @@ pub fn orders_by_place()
 /// Inputs have equivalent trees, or both have none, if their pairs are, ignoring marks, permutations of one another that keep overlapping paths in order.
 pub fn reordered_inputs()
     ensures by_places { (form : Bool) (depth : ℕ) (a b : List ℕ) (p : Pair) (ps qs : List Pair) → ArePairs depth (tokens form a) (p ∷ ps) → ArePairs depth (tokens form b) qs
-        → AreReordered (p ∷ ps) qs → AreAlike form depth a b }
+        → AreReordered (p ∷ ps) qs → AreEquivalent form depth a b }
     ensures by_cases { (form : Bool) (depth : ℕ) (a b : List ℕ) (p : Pair) (ps qs : List Pair) → ArePairs depth (tokens form a) (p ∷ ps) → ArePairs depth (tokens form b) qs
-        → IsReordering overlap (map unmarked_pair (p ∷ ps)) (map unmarked_pair qs) → AreAlike form depth a b }
+        → IsReordering overlap (map unmarked_pair (p ∷ ps)) (map unmarked_pair qs) → AreEquivalent form depth a b }
 {}

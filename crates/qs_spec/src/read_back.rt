@@ -17,7 +17,7 @@ ghost use Rattle.qs_spec.specs.Worked.{struct_with, map_with};
 ghost use Rattle.qs_spec.specs.Tree.{Tree, IsTree};
 ghost use Rattle.qs_spec.specs.Stable.{is_stable};
 ghost use Rattle.qs_spec.specs.Relation.{ReadsBy};
-ghost use Rattle.qs_spec.specs.Order.{AreAlike};
+ghost use Rattle.qs_spec.specs.Order.{AreEquivalent};
 ghost use Rattle.qs_spec.specs.ReadBack.{IsPlainFor, IsReadBack, ArePathsApart, KeepsPaths, KeepsPlaces};
 
 /// Plain data that are written without an error are read by a fitting shape, under the same configuration, as data that are
@@ -45,7 +45,7 @@ pub fn writing_loses_nothing()
 /// marks aside, from its entries in any order.
 pub fn stable_trees_come_back()
     ensures { (config : Config) (input : List ℕ) (t : Tree) (d : Data) (es : List Entry) → config.array_format ≡ indexed → IsTree config.form config.max_depth input t → is_stable config.form t ≡ true
-        → ReadsBy config Shape.any t d → (entries config d).refusal ≡ None → IsPermutation (entries config d).entries es → AreAlike config.form config.max_depth input (written config.form false es) }
+        → ReadsBy config Shape.any t d → (entries config d).error ≡ None → IsPermutation (entries config d).entries es → AreEquivalent config.form config.max_depth input (written config.form false es) }
 {}
 
 /// In the indexed format no entry of such data has the path of another, or one that begins it.

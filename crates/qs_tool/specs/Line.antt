@@ -4,9 +4,9 @@ use Rattle.std.specs.Io.KnownBytes.{IsAtEnd}
 use Rattle.qs_spec.specs.Config.{Config}
 use Rattle.qs_spec.specs.Data.{Data}
 use Rattle.qs_spec.specs.Shape.{Shape}
-use Rattle.qs_spec.specs.Tree.{Tree, IsTree, IsRefused}
+use Rattle.qs_spec.specs.Tree.{Tree, IsTree, HasNoTree}
 use Rattle.qs_spec.specs.Relation.{ReadsBy, ReadsNothing}
-use Rattle.qs_spec.specs.Entry.{Refusal, entries}
+use Rattle.qs_spec.specs.Entry.{EntryError, entries}
 use Rattle.qs_spec.specs.Written.{written}
 use Rattle.qs_tree.specs.declared.error.Error.{Error}
 use Rattle.qs_tree.specs.Error.{error_text}
@@ -41,13 +41,13 @@ abbrev pub IsLineOfError : Error → List ℕ → Type 0
 IsLineOfError error line = IfSome (error_text error) (λ text. line ≡ ended (codes "error: " ++ text))
 
 -- the text, unless an entry is rejected
-abbrev pub unless_rejected : Option Refusal → List ℕ → Option (List ℕ)
+abbrev pub unless_rejected : Option EntryError → List ℕ → Option (List ℕ)
 unless_rejected None text = Some text
-unless_rejected (Some refusal) text = None
+unless_rejected (Some error) text = None
 
 -- the querystring that the data are written as, unless they are rejected
 abbrev pub rewritten : Config → Data → Option (List ℕ)
-rewritten config value = unless_rejected (entries config value).refusal (written config.form false (entries config value).entries)
+rewritten config value = unless_rejected (entries config value).error (written config.form false (entries config value).entries)
 
 -- what a command prints of the data that it read: `any` shows them, the others write them as a querystring again
 abbrev pub printed : Command → Config → Data → Option (List ℕ)
@@ -65,7 +65,7 @@ pub record IsPrintedBy (config : Config) (shape : Shape) (print : Data → Optio
 
 -- the input has no tree, or the shape reads nothing from it, or what it reads isn't printed
 pub data IsFaultyBy (config : Config) (shape : Shape) (print : Data → Option (List ℕ)) (input : List ℕ) : Type 0 where
-  no_tree : IsRefused config.form config.max_depth input → IsFaultyBy config shape print input
+  no_tree : HasNoTree config.form config.max_depth input → IsFaultyBy config shape print input
   not_read : (tree : Tree) → IsTree config.form config.max_depth input tree → ReadsNothing config shape tree → IsFaultyBy config shape print input
   not_printed : (tree : Tree) (value : Data) → IsTree config.form config.max_depth input tree → ReadsBy config shape tree value → print value ≡ None
       → IsFaultyBy config shape print input

@@ -2,7 +2,7 @@
 
 ghost use Rattle.std.specs.Prelude.{◌≡◌, Some, IfOk};
 ghost use Rattle.qs_spec.specs.Shape as s;
-ghost use Rattle.qs_spec.specs.Tree.{IsTree, IsRefused};
+ghost use Rattle.qs_spec.specs.Tree.{IsTree, HasNoTree};
 ghost use Rattle.qs_tree.specs.Error.{IsParse, OnlyOutOfMemory, OnlyParseOrOutOfMemory};
 ghost use Rattle.qs_data.specs.read.Errors.{OnlyCustomUtf8OrOutOfMemory};
 ghost use Rattle.qs_data.specs.read.Parsed.{ReturnsData, parsed_of};
@@ -65,7 +65,7 @@ fn shown(alloc: Global, config: Config, input: &[u8]) -> Result<Vec<u8>>
 fn parsed<'qs>(alloc: Global, config: Config, input: &'qs [u8]) -> Result<Deserializer<'qs>>
     ensures config { IfOk result (λ d. (parsed_of d).config ≡ config) }
     ensures tree { IfOk result (λ d. IsTree config.form config.max_depth input.now (parsed_of d).tree) }
-    ensures no_tree { IsParse result → IsRefused config.form config.max_depth input.now }
+    ensures no_tree { IsParse result → HasNoTree config.form config.max_depth input.now }
     ensures errors { OnlyParseOrOutOfMemory result }
 {
     Deserializer::with_config(alloc, config, input)

@@ -10,10 +10,10 @@ pub use Rattle.qs_spec.specs.Escape.{decoded, encoded, escape, is_between, is_ke
 pub use Rattle.qs_spec.specs.Grammar.{ArePairs, Pair, direct, ends_last, ends_root, is_amp, is_close, is_equals, is_open, longer, pushed, root}
 pub use Rattle.qs_spec.specs.Leaf.{Leaf}
 pub use Rattle.qs_spec.specs.Marks.{entries_marks, items_marks, key_marks, marks}
-pub use Rattle.qs_spec.specs.Order.{AreAlike, AreReordered, unmarked}
+pub use Rattle.qs_spec.specs.Order.{AreEquivalent, AreReordered, unmarked}
 pub use Rattle.qs_spec.specs.Segment.{Segment, Step, compare_segments, is_index, is_same_segment, number, segment_of, step_of, Int, Str}
 pub use Rattle.qs_spec.specs.Token.{Kind, Token, byte_kind, byte_token, is_escaped_bracket, raw_of, tokens, Amp, Close, Equals, Open, Other}
-pub use Rattle.qs_spec.specs.Tree.{Entries, IsRefused, IsTree, Tree, empty_step, entries_of, flat, head_mark, heads, node_within, entry, no_entries, leaf, mapping, sequence, uninitialized}
+pub use Rattle.qs_spec.specs.Tree.{Entries, HasNoTree, IsTree, Tree, empty_step, entries_of, flat, head_mark, heads, node_within, entry, no_entries, leaf, mapping, sequence, uninitialized}
 pub use Rattle.qs_spec.specs.internal.InPlace.{add, add_all, add_below, add_flat, add_here, push_item, update, update_by}
 pub use Rattle.qs_spec.specs.internal.Parsing.{Rest, after_close, after_close_at, after_root, after_root_at, after_run, and_pairs, cut, cut_at, in_last, in_segment, named, parsed_brackets, parsed_pairs, parsed_value, value_at, with_leaf}
 pub use Rattle.qs_tree.specs.Error.{IfParse, IsOutOfMemory, IsParse, OnlyOutOfMemory, OnlyParseOrOutOfMemory}

@@ -1,9 +1,9 @@
 -- What the clauses of `parse` promise of an input.
 use Rattle.std.specs.Prelude.{◌≡◌, ◌≢◌, ℕ, ◌+◌, ◌≤◌, ◌⊎◌, Bool, false, not, ◌&&◌, ◌||◌, ◌==◌, List, [], ◌∷◌, length, Result, Ok, Err, IfOk, IsOk, IsTrue, ⊤}
 use Rattle.std.specs.List.{list_all}
-use Rattle.qs_spec.specs.Tree.{Tree, IsTree, IsRefused}
+use Rattle.qs_spec.specs.Tree.{Tree, IsTree, HasNoTree}
 use Rattle.qs_spec.specs.Holds.{IsSound, leaf_count, nesting}
-use Rattle.qs_spec.specs.Order.{AreAlike, unmarked}
+use Rattle.qs_spec.specs.Order.{AreEquivalent, unmarked}
 use Rattle.qs_spec.specs.Input.{HasPairs, IsReordered}
 use Rattle.qs_spec.specs.Marks.{marks}
 use Rattle.qs_tree.specs.Error.{IsParse, IfParse, IsOutOfMemory, OnlyOutOfMemory, OnlyParseOrOutOfMemory}
@@ -34,16 +34,16 @@ TakesNoMemory bytes = IsTrue (is_ampersands bytes || is_plain_value bytes)
 -- this input has the tree of the result, ignoring ownership, or no tree where the result is a `Parse` error
 abbrev pub HoldsOf : Bool → ℕ → List ℕ → Result ParsedValue Error → Type 0
 HoldsOf form depth bytes (Ok value) = (t : Tree) × IsTree form depth bytes t × (unmarked t ≡ unmarked (tree_of value))
-HoldsOf form depth bytes (Err (Parse message position)) = IsRefused form depth bytes
+HoldsOf form depth bytes (Err (Parse message position)) = HasNoTree form depth bytes
 HoldsOf form depth bytes (Err _) = ⊤
 
 -- What `parse` promises of its result.
 pub record Parses (form : Bool) (max_depth : ℕ) (input : List ℕ) (result : Result ParsedValue Error) : Type 0 where
   -- the value has the input's tree, and there is an error exactly where the input has none
   pub tree : IfOk result (λ value. IsTree form max_depth input (tree_of value))
-  pub refused : IsParse result → IsRefused form max_depth input
+  pub no_tree : IsParse result → HasNoTree form max_depth input
   pub accepted : (t : Tree) → IsTree form max_depth input t → OnlyOutOfMemory result
-  pub rejected : IsRefused form max_depth input → IsParse result ⊎ IsOutOfMemory result
+  pub rejected : HasNoTree form max_depth input → IsParse result ⊎ IsOutOfMemory result
   -- errors
   pub position : IfParse result (λ position. position ≤ length input + 1)
   pub errors : OnlyParseOrOutOfMemory result
@@ -55,5 +55,5 @@ pub record Parses (form : Bool) (max_depth : ℕ) (input : List ℕ) (result : R
   pub nesting : IfOk result (λ value. nesting (tree_of value) ≤ max_depth + 2)
   pub sound : IfOk result (λ value. IsSound (tree_of value))
   -- permutations of the pairs that keep dependent pairs in order
-  pub alike : (other : List ℕ) → IsReordered form max_depth input other → AreAlike form max_depth input other
+  pub equivalent : (other : List ℕ) → IsReordered form max_depth input other → AreEquivalent form max_depth input other
   pub reordered : (other : List ℕ) → IsReordered form max_depth input other → HoldsOf form max_depth other result

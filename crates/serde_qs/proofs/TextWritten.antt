@@ -45,7 +45,7 @@ module _ (config : Config) (x : Data) (start last : Writer) (fresh : IsFresh con
       (same, subst (All IsVisible) (sym same) adds.visible)
 
   pub text_is : (bytes : List ℕ) → Some bytes ≡ (state_of last).taken → WritesPart (Ok tt) start last (data_part x)
-      → ((entries config x).refusal ≡ None) × (bytes ≡ text_of config x) × All IsVisible bytes
+      → ((entries config x).error ≡ None) × (bytes ≡ text_of config x) × All IsVisible bytes
   text_is bytes taken p = let w = at_top (Ok tt) p in let shown = text_shown bytes taken w.1 in (w.0, shown.0, shown.1)
 
   pub stop_returned : (e : Stop) → WritesPart (Err e) start last (data_part x) → ReturnsText config x (Err (error_of config e))
@@ -56,9 +56,9 @@ module _ (config : Config) (x : Data) (start last : Writer) (fresh : IsFresh con
 
 -- what a call owes that put these bytes, by what it returns
 value_put : (config : Config) (x : Data) (old new : Option (List ℕ)) (r : Result (Unit {0}) Error) (bytes : List ℕ) → Appends old new bytes → All IsVisible bytes
-    → OnOk r ((entries config x).refusal ≡ None) → OnOk r (Appends old new (text_of config x))
-    → ((n : ℕ) → IsTooDeep r n → (n ≡ config.max_depth) × ((entries config x).refusal ≡ Some too_deep) × Appends old new (text_of config x))
-    → (IsUnsupported r → ((entries config x).refusal ≡ Some bad_key) × Appends old new (text_of config x))
+    → OnOk r ((entries config x).error ≡ None) → OnOk r (Appends old new (text_of config x))
+    → ((n : ℕ) → IsTooDeep r n → (n ≡ config.max_depth) × ((entries config x).error ≡ Some too_deep) × Appends old new (text_of config x))
+    → (IsUnsupported r → ((entries config x).error ≡ Some bad_key) × Appends old new (text_of config x))
     → (IsIo r → (n : ℕ) × (n < length (text_of config x)) × Appends old new (take n (text_of config x))) → (IsOutOfMemory r → (k : ℕ) × Appends old new (text_of_first k config x))
     → IsValueWriteError r → WritesValue config x old new r
 value_put config x old new r bytes added visible whole text deep key io memory errors = record {
@@ -121,7 +121,7 @@ module _ (config : Config) (x : Data) (start last : Writer) (fresh : IsFresh con
       text_put (Err Unsupported) r puts w.1 (λ added visible text. value_put config x old new (Err Unsupported) bytes added visible tt tt (λ n h. absurd h) (λ h. (w.0, text)) (λ h. absurd h) (λ h. absurd h) tt)
 
 pub string_returned : (config : Config) (x : Data) (bytes : List ℕ) (r : Result (String Global) Error) → IfOk r (λ s. string_bytes s ≡ bytes) → OnlyOutOfMemory r
-    → ((entries config x).refusal ≡ None) × (bytes ≡ text_of config x) × All IsVisible bytes → ReturnsText config x r
+    → ((entries config x).error ≡ None) × (bytes ≡ text_of config x) × All IsVisible bytes → ReturnsText config x r
 string_returned config x bytes (Ok s) is errors w = (w.0, is ∙ w.1, subst (All IsVisible) (sym is) w.2)
 string_returned config x bytes (Err OutOfMemory) is errors w = tt
 string_returned config x bytes (Err (Custom message)) is errors w = absurd errors

@@ -6,7 +6,7 @@ use Rattle.qs_tree.specs.declared.error.Error.TheVariants.{Custom, Parse, Utf8, 
 use Rattle.qs_spec.specs.Config.{Config}
 use Rattle.qs_spec.specs.Shape.{Shape}
 use Rattle.qs_spec.specs.Data.{Data}
-use Rattle.qs_spec.specs.Tree.{Tree, IsTree, IsRefused}
+use Rattle.qs_spec.specs.Tree.{Tree, IsTree, HasNoTree}
 use Rattle.qs_spec.specs.Relation.{ReadsBy}
 use Rattle.qs_spec.specs.Entry.{Entry}
 use Rattle.qs_spec.specs.Written.{written}
@@ -39,7 +39,7 @@ abbrev pub ReturnsValue : {X V : Type 0} → (X → V) → Config → Shape → 
 ReturnsValue view config form meaning input (Ok x) = IsRead config form meaning input (view x)
 ReturnsValue view config form meaning input (Err (Custom m)) = IsUnread config form meaning input
 ReturnsValue view config form meaning input (Err (Utf8 m)) = IsUnread config form meaning input
-ReturnsValue view config form meaning input (Err (Parse m n)) = IsRefused config.form config.max_depth input
+ReturnsValue view config form meaning input (Err (Parse m n)) = HasNoTree config.form config.max_depth input
 ReturnsValue view config form meaning input (Err OutOfMemory) = ⊤
 ReturnsValue view config form meaning input (Err _) = ⊥
 

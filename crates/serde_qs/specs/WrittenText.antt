@@ -23,9 +23,9 @@ text_of_first k config x = written config.form false (take k (entries config x).
 
 -- the whole text, of visible bytes, exactly where nothing is rejected; otherwise the error, or that an allocation failed
 abbrev pub ReturnsText : Config → Data → Result (String Global) Error → Type 0
-ReturnsText config x (Ok text) = ((entries config x).refusal ≡ None) × (string_bytes text ≡ text_of config x) × All IsVisible (string_bytes text)
-ReturnsText config x (Err (MaxSerializationDepthExceeded n)) = (n ≡ config.max_depth) × ((entries config x).refusal ≡ Some too_deep)
-ReturnsText config x (Err Unsupported) = (entries config x).refusal ≡ Some bad_key
+ReturnsText config x (Ok text) = ((entries config x).error ≡ None) × (string_bytes text ≡ text_of config x) × All IsVisible (string_bytes text)
+ReturnsText config x (Err (MaxSerializationDepthExceeded n)) = (n ≡ config.max_depth) × ((entries config x).error ≡ Some too_deep)
+ReturnsText config x (Err Unsupported) = (entries config x).error ≡ Some bad_key
 ReturnsText config x (Err OutOfMemory) = ⊤
 ReturnsText config x (Err _) = ⊥
 
@@ -42,11 +42,11 @@ IsValueWriteError (Err _) = ⊥
 -- before it; where a write failed a proper prefix of the text; where an allocation failed the text of the first few entries. Only visible
 -- bytes are written.
 pub record WritesValue {T : Type 0} (config : Config) (x : Data) (old new : Option (List ℕ)) (result : Result T Error) : Type 0 where
-  pub whole : OnOk result ((entries config x).refusal ≡ None)
+  pub whole : OnOk result ((entries config x).error ≡ None)
   pub text : OnOk result (Appends old new (text_of config x))
-  pub too_deep : (n : ℕ) → IsTooDeep result n → (n ≡ config.max_depth) × ((entries config x).refusal ≡ Some too_deep)
+  pub too_deep : (n : ℕ) → IsTooDeep result n → (n ≡ config.max_depth) × ((entries config x).error ≡ Some too_deep)
   pub too_deep_text : (n : ℕ) → IsTooDeep result n → Appends old new (text_of config x)
-  pub bad_key : IsUnsupported result → (entries config x).refusal ≡ Some bad_key
+  pub bad_key : IsUnsupported result → (entries config x).error ≡ Some bad_key
   pub bad_key_text : IsUnsupported result → Appends old new (text_of config x)
   pub io_text : IsIo result → (n : ℕ) × (n < length (text_of config x)) × Appends old new (take n (text_of config x))
   pub memory_text : IsOutOfMemory result → (k : ℕ) × Appends old new (text_of_first k config x)

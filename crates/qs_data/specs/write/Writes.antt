@@ -46,8 +46,8 @@ pub record AddsPart (form : Bool) (old new : StreamState) (es : List Entry) : Ty
 
 -- what was written at each stop
 abbrev pub Stops : Stop → Config → StreamState → StreamState → Output → Type 0
-Stops stop.TooDeep config old new o = (o.refusal ≡ Some too_deep) × Adds config.form old new o.entries
-Stops stop.BadKey config old new o = (o.refusal ≡ Some bad_key) × Adds config.form old new o.entries
+Stops stop.TooDeep config old new o = (o.error ≡ Some too_deep) × Adds config.form old new o.entries
+Stops stop.BadKey config old new o = (o.error ≡ Some bad_key) × Adds config.form old new o.entries
 Stops stop.Io config old new o = AddsPart config.form old new o.entries
 Stops stop.OutOfMemory config old new o = AddsSome config.form old new o.entries
 
@@ -70,7 +70,7 @@ pub record IsAt (config : Config) (path : Path) (walk : Walk) : Type 0 where
 
 -- all entries were written, there is no error and the walk is where it was, or what the stop says
 abbrev pub Writes : Result (Unit {0}) Stop → Config → Path → StreamState → StreamState → Walk → Output → Type 0
-Writes (Ok x) config path old new walk o = (o.refusal ≡ None) × Adds config.form old new o.entries × IsAt config path walk
+Writes (Ok x) config path old new walk o = (o.error ≡ None) × Adds config.form old new o.entries × IsAt config path walk
 Writes (Err e) config path old new walk o = Stops e config old new o
 
 -- a stream and the text in it, by what its sink reports

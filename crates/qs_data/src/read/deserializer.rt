@@ -5,9 +5,9 @@ ghost use Rattle.qs_spec.specs.Config.{default};
 ghost use Rattle.qs_spec.specs.Holds.{IsSound, leaf_count, nesting};
 ghost use Rattle.qs_spec.specs.Input.{HasPairs, IsReordered};
 ghost use Rattle.qs_spec.specs.Marks.{marks};
-ghost use Rattle.qs_spec.specs.Order.{AreAlike, unmarked};
+ghost use Rattle.qs_spec.specs.Order.{AreEquivalent, unmarked};
 ghost use Rattle.qs_spec.specs.Shape.{is_distinct};
-ghost use Rattle.qs_spec.specs.Tree.{Tree, IsTree, IsRefused};
+ghost use Rattle.qs_spec.specs.Tree.{Tree, IsTree, HasNoTree};
 ghost use Rattle.qs_tree.specs.Error.{IsParse, IfParse, IsOutOfMemory, OnlyOutOfMemory, OnlyParseOrOutOfMemory};
 ghost use Rattle.qs_tree.specs.Parsing.{TakesNoMemory};
 ghost use Rattle.qs_data.specs.shape.Views.{shape_of};
@@ -45,7 +45,7 @@ impl<'qs> Deserializer<'qs> {
     pub fn new(alloc: Global, input: &'qs [u8]) -> Result<Deserializer<'qs>>
         ensures config { IfOk result (λ d. (parsed_of d).config ≡ default) }
         ensures tree { IfOk result (λ d. IsTree default.form default.max_depth input.now (parsed_of d).tree) }
-        ensures no_tree { IsParse result → IsRefused default.form default.max_depth input.now }
+        ensures no_tree { IsParse result → HasNoTree default.form default.max_depth input.now }
         ensures position { IfParse result (λ position. position ≤ length input.now + 1) }
         ensures no_memory { TakesNoMemory input.now → IsOk result }
         ensures errors { OnlyParseOrOutOfMemory result }
@@ -61,7 +61,7 @@ impl<'qs> Deserializer<'qs> {
     /// input's length and the depth of its keys.
     ///
     /// The clauses are those of [`parse`](qs_tree::parse) about the tree. Pairs in another order that keeps those with overlapping
-    /// paths have the same tree, or are rejected too (`alike`). Steps aren't counted: [`parse_with`](qs_tree::parse_with) counts them.
+    /// paths have the same tree, or are rejected too (`equivalent`). Steps aren't counted: [`parse_with`](qs_tree::parse_with) counts them.
     ///
     /// ```
     /// let config = Config::new().use_form_encoding(true);
@@ -70,9 +70,9 @@ impl<'qs> Deserializer<'qs> {
     pub fn with_config(alloc: Global, config: Config, input: &'qs [u8]) -> Result<Deserializer<'qs>>
         ensures config { IfOk result (λ d. (parsed_of d).config ≡ config) }
         ensures tree { IfOk result (λ d. IsTree config.form config.max_depth input.now (parsed_of d).tree) }
-        ensures no_tree { IsParse result → IsRefused config.form config.max_depth input.now }
+        ensures no_tree { IsParse result → HasNoTree config.form config.max_depth input.now }
         ensures accepted { (t : Tree) → IsTree config.form config.max_depth input.now t → OnlyOutOfMemory result }
-        ensures rejected { IsRefused config.form config.max_depth input.now → IsParse result ⊎ IsOutOfMemory result }
+        ensures rejected { HasNoTree config.form config.max_depth input.now → IsParse result ⊎ IsOutOfMemory result }
         ensures position { IfParse result (λ position. position ≤ length input.now + 1) }
         ensures no_memory { TakesNoMemory input.now → IsOk result }
         ensures errors { OnlyParseOrOutOfMemory result }
@@ -80,7 +80,7 @@ impl<'qs> Deserializer<'qs> {
         ensures leaves { input.now ≢ [] → IfOk result (λ d. HasPairs config.form config.max_depth input.now (leaf_count (parsed_of d).tree)) }
         ensures nesting { IfOk result (λ d. nesting (parsed_of d).tree ≤ config.max_depth + 2) }
         ensures sound { IfOk result (λ d. IsSound (parsed_of d).tree) }
-        ensures alike { (other : List ℕ) → IsReordered config.form config.max_depth input.now other → AreAlike config.form config.max_depth input.now other }
+        ensures equivalent { (other : List ℕ) → IsReordered config.form config.max_depth input.now other → AreEquivalent config.form config.max_depth input.now other }
         ensures reordered { (other : List ℕ) → IsReordered config.form config.max_depth input.now other
             → IfOk result (λ d. (t : Tree) × IsTree config.form config.max_depth other t × (unmarked t ≡ unmarked (parsed_of d).tree)) }
     {

@@ -125,15 +125,15 @@ impl<S: Sink> Serializer<S> {
     /// ```
     #[tactic(auto, using(crate::proofs::lemmas::write::Wrote::writes_visible, crate::proofs::lemmas::write::Wrote::some_entries))]
     pub fn serialize(&mut self, alloc: Global, datum: &Data) -> Result<()>
-        ensures whole { OnOk result ((output_of self.old (data_of datum.now)).refusal ≡ None) }
+        ensures whole { OnOk result ((output_of self.old (data_of datum.now)).error ≡ None) }
         ensures text { OnOk result (Appends (S.taken self.old.sink) (S.taken self.new.sink) (text_of self.old (data_of datum.now))) }
         ensures started { OnOk result (self.new.started
             ≡ started_after self.old.started (output_of self.old (data_of datum.now)).entries) }
         ensures too_deep { (n : ℕ) → IsTooDeep result n
-            → (n ≡ self.old.config.max_depth) × ((output_of self.old (data_of datum.now)).refusal ≡ Some too_deep) }
+            → (n ≡ self.old.config.max_depth) × ((output_of self.old (data_of datum.now)).error ≡ Some too_deep) }
         ensures too_deep_text { (n : ℕ) → IsTooDeep result n
             → Appends (S.taken self.old.sink) (S.taken self.new.sink) (text_of self.old (data_of datum.now)) }
-        ensures bad_key { IsUnsupported result → (output_of self.old (data_of datum.now)).refusal ≡ Some bad_key }
+        ensures bad_key { IsUnsupported result → (output_of self.old (data_of datum.now)).error ≡ Some bad_key }
         ensures bad_key_text { IsUnsupported result
             → Appends (S.taken self.old.sink) (S.taken self.new.sink) (text_of self.old (data_of datum.now)) }
         ensures io { IsIo result ↔ ((S.failed self.old.sink ≡ false) × (S.failed self.new.sink ≡ true)) }

@@ -1,5 +1,5 @@
 -- What the pairs of an input make of a tree, item by item.
-use Rattle.qs_tree.proofs.Common.{◌≡◌, ℕ, ◌==◌, Bool, false, IfOk, List, [], ◌∷◌, length, refl, sym, ap, ◌∙◌, subst, Option, Some, None, option_map, option_and_then, Result, Ok, Err, none-some, Token, tokens, Pair, Tree, IsTree, IsRefused, uninitialized, parsed_pairs, add, add_all, Error, Parse, ParsedValue, tree_of, IsParse, grown, Returns}
+use Rattle.qs_tree.proofs.Common.{◌≡◌, ℕ, ◌==◌, Bool, false, IfOk, List, [], ◌∷◌, length, refl, sym, ap, ◌∙◌, subst, Option, Some, None, option_map, option_and_then, Result, Ok, Err, none-some, Token, tokens, Pair, Tree, IsTree, HasNoTree, uninitialized, parsed_pairs, add, add_all, Error, Parse, ParsedValue, tree_of, IsParse, grown, Returns}
 use Rattle.qs_spec.proofs.RelatedIsRead.{found_pairs, are_pairs}
 use Rattle.qs_spec.proofs.Scan.{in_place}
 
@@ -23,8 +23,8 @@ module _ (form : Bool) (depth b : ℕ) (bytes : List ℕ) where
       by None d e = absurd (none-some t e)
       by (Some ps) d e = (in_place form depth b bytes ps t (are_pairs depth (tokens form (b ∷ bytes)) ps d)).0 e
 
-  pub grown_refusal : grown depth (tokens form (b ∷ bytes)) uninitialized ≡ None → IsRefused form depth (b ∷ bytes)
-  grown_refusal e t h =
+  pub grown_without_tree : grown depth (tokens form (b ∷ bytes)) uninitialized ≡ None → HasNoTree form depth (b ∷ bytes)
+  grown_without_tree e t h =
       let pairs = found_pairs h.1.grammar in
       let whole = (in_place form depth b bytes h.0 t h.1.grammar).1 h in
       none-some t (sym e ∙ ap (option_and_then (λ ps. add_all ps uninitialized)) pairs ∙ whole)
@@ -42,10 +42,10 @@ module _ (form : Bool) (depth : ℕ) (bytes : List ℕ) (some : (length bytes ==
       by (b ∷ bytes) n a = grown_tree form depth b bytes (tree_of v) a
   result_tree (Err f) h = tt
 
-  pub result_rejected : (r : Result ParsedValue Error) → Returns tree_of (grown limit ts uninitialized) bound r → IsParse r → IsRefused form depth bytes
+  pub result_rejected : (r : Result ParsedValue Error) → Returns tree_of (grown limit ts uninitialized) bound r → IsParse r → HasNoTree form depth bytes
   result_rejected (Err (Parse message at)) h p = by bytes some (about (Err (Parse message at)) h).0
     where
-      by : (bytes : List ℕ) → (length bytes == 0) ≡ false → grown depth (tokens form bytes) uninitialized ≡ None → IsRefused form depth bytes
+      by : (bytes : List ℕ) → (length bytes == 0) ≡ false → grown depth (tokens form bytes) uninitialized ≡ None → HasNoTree form depth bytes
       by [] n a = cc
-      by (b ∷ bytes) n a = grown_refusal form depth b bytes a
+      by (b ∷ bytes) n a = grown_without_tree form depth b bytes a
   result_rejected r h p = absurd p

@@ -1,10 +1,10 @@
 -- From the tree of a result to all that `Parses` promises of it.
-use Rattle.qs_tree.proofs.Common.{Global, ◌≡◌, ◌≢◌, ℕ, ◌+◌, ◌≤◌, ◌⊎◌, inl, inr, Bool, List, [], ◌∷◌, length, refl, sym, ap, ◌∙◌, IfOk, Option, None, Result, Ok, Err, ◌==◌, true, false, eqb-true, arith, rules, IfOk-weaker, Tree, IsTree, IsRefused, Pair, ArePairs, tokens, AreReordered, AreAlike, marks, one_tree, Error, Parse, OutOfMemory, ParsedValue, NoValue, the_lemmas, tree_of, IsParse, IfParse, IsOutOfMemory, OnlyOutOfMemory, OnlyParseOrOutOfMemory, owns, Returns, HoldsOf, IsOk, Token}
+use Rattle.qs_tree.proofs.Common.{Global, ◌≡◌, ◌≢◌, ℕ, ◌+◌, ◌≤◌, ◌⊎◌, inl, inr, Bool, List, [], ◌∷◌, length, refl, sym, ap, ◌∙◌, IfOk, Option, None, Result, Ok, Err, ◌==◌, true, false, eqb-true, arith, rules, IfOk-weaker, Tree, IsTree, HasNoTree, Pair, ArePairs, tokens, AreReordered, AreEquivalent, marks, one_tree, Error, Parse, OutOfMemory, ParsedValue, NoValue, the_lemmas, tree_of, IsParse, IfParse, IsOutOfMemory, OnlyOutOfMemory, OnlyParseOrOutOfMemory, owns, Returns, HoldsOf, IsOk, Token}
 use Rattle.std.specs.declared.string.String.{String}
 use Rattle.qs_spec.specs.Holds.{IsSound, leaf_count, nesting}
 use Rattle.qs_spec.specs.Input.{HasPairs, IsReordered}
 use Rattle.qs_spec.proofs.Sound as sound_trees
-use Rattle.qs_spec.proofs.Alike as trees
+use Rattle.qs_spec.proofs.Equivalent as trees
 use Rattle.qs_tree.proofs.lemmas.tree.Owned.{owns_marked}
 use Rattle.qs_tree.specs.Parsing.{Parses, TakesNoMemory}
 use Rattle.qs_tree.specs.internal.Parsing.{grown, Reports}
@@ -32,12 +32,12 @@ module _ (form : Bool) (depth : ℕ) (bytes : List ℕ) (r : Result ParsedValue 
   sound = IfOk-weaker r _ (λ v. IsSound (tree_of v)) (λ v g. sound_trees.sound form depth bytes (tree_of v) g) tree
 
 -- an order of an input's pairs
-pub alike : (form : Bool) (depth : ℕ) (bytes other : List ℕ) → IsReordered form depth bytes other → AreAlike form depth bytes other
-alike form depth bytes other h = by h.pairs h.some h.of_first h.order
+pub equivalent : (form : Bool) (depth : ℕ) (bytes other : List ℕ) → IsReordered form depth bytes other → AreEquivalent form depth bytes other
+equivalent form depth bytes other h = by h.pairs h.some h.of_first h.order
   where
-    by : (pairs : List Pair) → pairs ≢ [] → ArePairs depth (tokens form bytes) pairs → AreReordered pairs h.others → AreAlike form depth bytes other
+    by : (pairs : List Pair) → pairs ≢ [] → ArePairs depth (tokens form bytes) pairs → AreReordered pairs h.others → AreEquivalent form depth bytes other
     by [] some first order = absurd (some refl)
-    by (p ∷ ps) some first order = trees.alike_by_places form depth bytes other p ps h.others first h.of_second order
+    by (p ∷ ps) some first order = trees.equivalent_by_places form depth bytes other p ps h.others first h.of_second order
 
 module _ (form : Bool) (depth : ℕ) (bytes : List ℕ) (expected : Option Tree) (bound : ℕ) where
   -- what such a result can be: a value, `Parse` or `OutOfMemory`
@@ -48,11 +48,11 @@ module _ (form : Bool) (depth : ℕ) (bytes : List ℕ) (expected : Option Tree)
   only P value parse memory (Err OutOfMemory) outcome = memory
   only P value parse memory (Err error) outcome = absurd outcome
 
-  pub accepted : (r : Result ParsedValue Error) → Returns tree_of expected bound r → (IsParse r → IsRefused form depth bytes) → (t : Tree) → IsTree form depth bytes t → OnlyOutOfMemory r
-  accepted r outcome refused t h =
-      only (λ r. (IsParse r → IsRefused form depth bytes) → OnlyOutOfMemory r) (λ v none. tt) (λ message at le none. absurd (none tt t h)) (λ none. tt) r outcome refused
+  pub accepted : (r : Result ParsedValue Error) → Returns tree_of expected bound r → (IsParse r → HasNoTree form depth bytes) → (t : Tree) → IsTree form depth bytes t → OnlyOutOfMemory r
+  accepted r outcome no_tree t h =
+      only (λ r. (IsParse r → HasNoTree form depth bytes) → OnlyOutOfMemory r) (λ v none. tt) (λ message at le none. absurd (none tt t h)) (λ none. tt) r outcome no_tree
 
-  pub rejected : (r : Result ParsedValue Error) → Returns tree_of expected bound r → IfOk r (λ v. IsTree form depth bytes (tree_of v)) → IsRefused form depth bytes → IsParse r ⊎ IsOutOfMemory r
+  pub rejected : (r : Result ParsedValue Error) → Returns tree_of expected bound r → IfOk r (λ v. IsTree form depth bytes (tree_of v)) → HasNoTree form depth bytes → IsParse r ⊎ IsOutOfMemory r
   rejected r outcome tree none =
       only (λ r. IfOk r (λ v. IsTree form depth bytes (tree_of v)) → IsParse r ⊎ IsOutOfMemory r) (λ v h. absurd (none (tree_of v) h)) (λ message at le h. inl tt) (λ h. inr tt) r outcome tree
 
@@ -63,11 +63,11 @@ module _ (form : Bool) (depth : ℕ) (bytes : List ℕ) (expected : Option Tree)
   errors = only OnlyParseOrOutOfMemory (λ v. tt) (λ message at le. tt) tt
 
 module _ (form : Bool) (depth : ℕ) (bytes : List ℕ) where
-  pub reordered : (r : Result ParsedValue Error) → IfOk r (λ v. IsTree form depth bytes (tree_of v)) → (IsParse r → IsRefused form depth bytes)
+  pub reordered : (r : Result ParsedValue Error) → IfOk r (λ v. IsTree form depth bytes (tree_of v)) → (IsParse r → HasNoTree form depth bytes)
       → (other : List ℕ) → IsReordered form depth bytes other → HoldsOf form depth other r
-  reordered (Ok v) tree refused other h = (alike form depth bytes other h).there (tree_of v) tree
-  reordered (Err (Parse message at)) tree refused other h = λ u g. let was = (alike form depth bytes other h).back u g in refused tt was.0 was.1
-  reordered (Err error) tree refused other h = tt
+  reordered (Ok v) tree no_tree other h = (equivalent form depth bytes other h).there (tree_of v) tree
+  reordered (Err (Parse message at)) tree no_tree other h = λ u g. let was = (equivalent form depth bytes other h).back u g in no_tree tt was.0 was.1
+  reordered (Err error) tree no_tree other h = tt
 
 -- the empty input
 pub empty_tree : (form : Bool) (depth : ℕ) (bytes : List ℕ) → (length bytes == 0) ≡ true → IsTree form depth bytes (tree_of NoValue)
@@ -79,11 +79,11 @@ module _ (form : Bool) (depth : ℕ) (bytes : List ℕ) (some : (length bytes ==
   pub parses : (r : Result ParsedValue Error) → Returns tree_of (grown limit ts uninitialized) (length bytes + 1) r → (TakesNoMemory bytes → IsOk r) → Parses form depth bytes r
   parses r returned no_memory =
       let tree = result_tree form depth bytes some limit ts d e (length bytes + 1) r returned in
-      let refused = result_rejected form depth bytes some limit ts d e (length bytes + 1) r returned in
+      let no_tree = result_rejected form depth bytes some limit ts d e (length bytes + 1) r returned in
       record {
         tree = tree;
-        refused = refused;
-        accepted = accepted form depth bytes _ _ r returned refused;
+        no_tree = no_tree;
+        accepted = accepted form depth bytes _ _ r returned no_tree;
         rejected = rejected form depth bytes _ _ r returned tree;
         position = position form depth bytes _ _ r returned;
         errors = errors form depth bytes _ _ r returned;
@@ -92,8 +92,8 @@ module _ (form : Bool) (depth : ℕ) (bytes : List ℕ) (some : (length bytes ==
         leaves = leaves form depth bytes r tree;
         nesting = nested form depth bytes r tree;
         sound = sound form depth bytes r tree;
-        alike = alike form depth bytes;
-        reordered = reordered form depth bytes r tree refused;
+        equivalent = equivalent form depth bytes;
+        reordered = reordered form depth bytes r tree no_tree;
       }
 
 -- the public error of a scan error

@@ -2,7 +2,7 @@
 
 ghost use Rattle.std.specs.Prelude.{◌≡◌, IfOk};
 ghost use Rattle.qs_spec.specs.Config.{are_rejected, default};
-ghost use Rattle.qs_spec.specs.Tree.{IsTree, IsRefused};
+ghost use Rattle.qs_spec.specs.Tree.{IsTree, HasNoTree};
 ghost use Rattle.qs_tree.specs.Error.{IsParse, OnlyParseOrOutOfMemory};
 ghost use Rattle.qs_data.specs.shape.Views.{shape_of};
 ghost use Rattle.qs_tree.specs.tree.Views.{tree_of};
@@ -121,7 +121,7 @@ fn read_tree<T: Deserialize>(alloc: Global, config: Config, input: &[u8]) -> Res
 // Returns the tree of a querystring, by a contract in the words of a typed call.
 fn tree<'qs>(alloc: Global, config: Config, input: &'qs [u8]) -> Result<ParsedValue<'qs>>
     ensures tree { IfOk result (λ t. IsTree config.form config.max_depth input.now (tree_of t)) }
-    ensures no_tree { IsParse result → IsRefused config.form config.max_depth input.now }
+    ensures no_tree { IsParse result → HasNoTree config.form config.max_depth input.now }
     ensures errors { OnlyParseOrOutOfMemory result }
 {
     parse(alloc, input, config)

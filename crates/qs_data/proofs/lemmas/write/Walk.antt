@@ -1,23 +1,23 @@
 -- The entries of data, part by part.
-use Rattle.qs_data.proofs.Common.{◌≡◌, ℕ, ◌<◌, ◌≤◌, ◌+◌, cond, List, [], ◌∷◌, ◌++◌, length, drop, get_or, map, refl, sym, ap, ◌∙◌, Option, Result, Ok, Err, arith, rules, lt-ltb, string_bytes, Vec, ◌⊎◌, inl, inr, le-ltb, drop_more, String, Global, IsErrAnd, Config, ArrayFormat, element_segment, Path, Output, nothing, refused, and_then, too_deep, maybe_deeper, under_key, key_text, Walk, Stop, TooDeep, OutOfMemory, Data, data_of, values_in, pairs_in, members_in, StreamState, Stops, at_drop_all, Part, under, elements_part, pairs_part, members_part, WritesAt, EntersAt, IsBarred, LeavesAt}
+use Rattle.qs_data.proofs.Common.{◌≡◌, ℕ, ◌<◌, ◌≤◌, ◌+◌, cond, List, [], ◌∷◌, ◌++◌, length, drop, get_or, map, refl, sym, ap, ◌∙◌, Option, Result, Ok, Err, arith, rules, lt-ltb, string_bytes, Vec, ◌⊎◌, inl, inr, le-ltb, drop_more, String, Global, IsErrAnd, Config, ArrayFormat, element_segment, Path, Output, nothing, failure, and_then, too_deep, maybe_deeper, under_key, key_text, Walk, Stop, TooDeep, OutOfMemory, Data, data_of, values_in, pairs_in, members_in, StreamState, Stops, at_drop_all, Part, under, elements_part, pairs_part, members_part, WritesAt, EntersAt, IsBarred, LeavesAt}
 use Rattle.qs_spec.specs.Data as d
 use Rattle.qs_spec.specs.Entry.{deeper, entries_at, elements_from, pair_entries, member_entries}
 use Rattle.qs_data.specs.declared.data.data.Data as r
 use Rattle.qs_data.proofs.lemmas.data.Levels.{data_of_map}
 use Rattle.qs_data.proofs.lemmas.write.Wrote.{adds_nothing, some_none, writes_exit}
 
-deeper_refused : (limit : ℕ) (p : Path) (s : List ℕ) (f : Path → Output) → limit < length p → deeper limit p s f ≡ refused too_deep
+deeper_failure : (limit : ℕ) (p : Path) (s : List ℕ) (f : Path → Output) → limit < length p → deeper limit p s f ≡ failure too_deep
 unfolding deeper
-deeper_refused limit p s f h = ap (λ b. cond b (refused too_deep) (f (p ++ s ∷ []))) (lt-ltb _ _ h)
+deeper_failure limit p s f h = ap (λ b. cond b (failure too_deep) (f (p ++ s ∷ []))) (lt-ltb _ _ h)
 
 deeper_goes : (limit : ℕ) (p : Path) (s : List ℕ) (f : Path → Output) → length p ≤ limit → deeper limit p s f ≡ f (p ++ s ∷ [])
 unfolding deeper
-deeper_goes limit p s f h = ap (λ b. cond b (refused too_deep) (f (p ++ s ∷ []))) (le-ltb _ _ h)
+deeper_goes limit p s f h = ap (λ b. cond b (failure too_deep) (f (p ++ s ∷ []))) (le-ltb _ _ h)
 
 -- where the walk doesn't go in
 stops_entering : (e : Stop) (config : Config) (t : StreamState) (p : Path) (s : List ℕ) (f : Path → Output) → ((e ≡ TooDeep) × (config.max_depth < length p)) ⊎ (e ≡ OutOfMemory)
     → Stops e config t t (deeper config.max_depth p s f)
-stops_entering e config t p s f (inl h) = rw (h.0, deeper_refused config.max_depth p s f h.1) (refl, adds_nothing config.form t)
+stops_entering e config t p s f (inl h) = rw (h.0, deeper_failure config.max_depth p s f h.1) (refl, adds_nothing config.form t)
 stops_entering e config t p s f (inr h) = rw h (some_none config.form t (deeper config.max_depth p s f).entries)
 
 pub stays_out : (r : Result (Unit {0}) Stop) (e : Stop) (config : Config) (t : StreamState) (from to : Walk) (s : List ℕ) (x : Part) → IsErrAnd r (λ y. y ≡ e) → IsBarred config e from

@@ -1,5 +1,5 @@
 -- Texts, one after another.
-use Rattle.qs_data.proofs.Common.{◌≡◌, ℕ, ◌+◌, Bool, List, [], ◌∷◌, ◌++◌, length, take, refl, sym, ap, ◌∙◌, subst, Option, Some, None, Result, Ok, Err, append_assoc, append-nil, length-append, arith, take-append-add, take-append_seam, take-append-le, All-nil, All-append, Appends-nil, Appends-trans, ◌||◌, All, IsErrAnd, Appends, Config, Path, Entry, Output, follow, and_then, nothing, Refusal, entry_text, has_key, Walk, Stop, Io, OutOfMemory, IsVisible, StreamState, Adds, AddsSome, AddsPart, Stops, Writes, Part, both, WritesAt}
+use Rattle.qs_data.proofs.Common.{◌≡◌, ℕ, ◌+◌, Bool, List, [], ◌∷◌, ◌++◌, length, take, refl, sym, ap, ◌∙◌, subst, Option, Some, None, Result, Ok, Err, append_assoc, append-nil, length-append, arith, take-append-add, take-append_seam, take-append-le, All-nil, All-append, Appends-nil, Appends-trans, ◌||◌, All, IsErrAnd, Appends, Config, Path, Entry, Output, follow, and_then, nothing, EntryError, entry_text, has_key, Walk, Stop, Io, OutOfMemory, IsVisible, StreamState, Adds, AddsSome, AddsPart, Stops, Writes, Part, both, WritesAt}
 use Rattle.qs_spec.specs.Written.{written, started_after}
 
 pub written-append : (form s : Bool) (es fs : List Entry) → written form s (es ++ fs) ≡ written form s es ++ written form (started_after s es) fs
@@ -53,7 +53,7 @@ adds_part_then form a b c es fs p q = subst (λ gs. AddsPart form a c (es ++ gs)
 
 -- all of an output was written
 abbrev Wrote : Config → StreamState → StreamState → Output → Type 0
-Wrote config a b o = (o.refusal ≡ None) × Adds config.form a b o.entries
+Wrote config a b o = (o.error ≡ None) × Adds config.form a b o.entries
 
 writes_then : (r : Result (Unit {0}) Stop) (config : Config) (path : Path) (a b c : StreamState) (to : Walk) (x y : Output) → Wrote config a b x → Writes r config path b c to y
     → Writes r config path a c to (and_then x y)
@@ -67,19 +67,19 @@ writes_then (Err OutOfMemory) config path a b c to x y p q = rw p.0 (record {
 })
 writes_then (Err e) config path a b c to x y p q = rw p.0 (q.0, adds_then config.form a b c x.entries y.entries p.1 q.1)
 
-some_more : (form : Bool) (a c : StreamState) (es : List Entry) (r : Option Refusal) (o : Output) → AddsSome form a c es → AddsSome form a c (follow es r o).entries
+some_more : (form : Bool) (a c : StreamState) (es : List Entry) (r : Option EntryError) (o : Output) → AddsSome form a c es → AddsSome form a c (follow es r o).entries
 some_more form a c es None o h =
     record { front = h.front; rest = h.rest ++ o.entries; parts = ap (λ z. z ++ o.entries) h.parts ∙ append_assoc h.front h.rest o.entries; adds = h.adds }
 some_more form a c es (Some s) o h = h
 
-part_follow : (form : Bool) (a c : StreamState) (es : List Entry) (r : Option Refusal) (o : Output) → AddsPart form a c es → AddsPart form a c (follow es r o).entries
+part_follow : (form : Bool) (a c : StreamState) (es : List Entry) (r : Option EntryError) (o : Output) → AddsPart form a c es → AddsPart form a c (follow es r o).entries
 part_follow form a c es None o h = part_within form a a c [] es o.entries (adds_nothing form a) h
 part_follow form a c es (Some s) o h = h
 
 -- a stop in the first output
 stops_early : (e : Stop) (config : Config) (a b : StreamState) (x y : Output) → Stops e config a b x → Stops e config a b (and_then x y)
-stops_early Io config a b x y p = part_follow config.form a b x.entries x.refusal y p
-stops_early OutOfMemory config a b x y p = some_more config.form a b x.entries x.refusal y p
+stops_early Io config a b x y p = part_follow config.form a b x.entries x.error y p
+stops_early OutOfMemory config a b x y p = some_more config.form a b x.entries x.error y p
 stops_early e config a b x y p = rw p.0 (refl, p.1)
 
 -- an allocation failed at once

@@ -16,7 +16,7 @@ returns-clause-after_no_key c = refl
 
 pub returns-clause-empty_keys : goal.returns-clause-empty_keys
 unfolding on_literals
-returns-clause-empty_keys c = record { text_is = refl; refusal_is = refl }
+returns-clause-empty_keys c = record { text_is = refl; error_is = refl }
 
 pub returns-clause-started_by_a_key : goal.returns-clause-started_by_a_key
 unfolding on_literals

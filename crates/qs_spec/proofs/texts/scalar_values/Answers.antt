@@ -4,4 +4,4 @@ use Rattle.qs_spec.proofs.texts.scalar_values.Goals as goal
 
 pub returns : goal.returns
 unfolding on_literals
-returns c = record { text_is = refl; refusal_is = refl }
+returns c = record { text_is = refl; error_is = refl }

@@ -1,4 +1,4 @@
-use Rattle.qs_spec.proofs.Alike.{leaves, nests}
+use Rattle.qs_spec.proofs.Equivalent.{leaves, nests}
 use Rattle.qs_spec.proofs.trees.nothing_lost.Goals as goal
 
 pub returns-clause-leaves : goal.returns-clause-leaves

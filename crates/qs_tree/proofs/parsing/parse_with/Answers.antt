@@ -21,7 +21,7 @@ returns-then-is_empty-clause-parsed c =
     let tree = parsed.empty_tree form depth input (sym c.is_empty.ensures ∙ c.if-is_empty.true) in
     record {
       tree = tree;
-      refused = λ h. absurd h;
+      no_tree = λ h. absurd h;
       accepted = λ t h. tt;
       rejected = λ none. absurd (none _ tree);
       position = tt;
@@ -31,6 +31,6 @@ returns-then-is_empty-clause-parsed c =
       leaves = parsed.leaves form depth input (Ok NoValue) tree;
       nesting = parsed.nested form depth input (Ok NoValue) tree;
       sound = parsed.sound form depth input (Ok NoValue) tree;
-      alike = parsed.alike form depth input;
+      equivalent = parsed.equivalent form depth input;
       reordered = parsed.reordered form depth input (Ok NoValue) tree (λ h. absurd h);
     }

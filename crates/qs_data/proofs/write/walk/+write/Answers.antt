@@ -1,4 +1,4 @@
-use Rattle.qs_data.proofs.Common.{sym, arith, length, ◌<◌, ◌+◌, refl, vec_len, eqb-false, Err, refused, bad_key, BadKey, data_of, values_in, pairs_in, members_in, scalar_text, data_part, elements_part, pairs_part, members_part, element, under}
+use Rattle.qs_data.proofs.Common.{sym, arith, length, ◌<◌, ◌+◌, refl, vec_len, eqb-false, Err, failure, bad_key, BadKey, data_of, values_in, pairs_in, members_in, scalar_text, data_part, elements_part, pairs_part, members_part, element, under}
 use Rattle.qs_data.proofs.lemmas.write.Wrote.{goes_on, ends_early, ends, adds_nothing}
 use Rattle.qs_data.proofs.lemmas.write.Walk.{stays_out, writes_under, stops_under, elements_left, pairs_left, members_left, elements_here_by, elements_end_by, pairs_here, pairs_end, members_here, members_end, list_elements, map_pairs, variant_elements}
 use Rattle.qs_data.proofs.write.walk.+write.Goals as goal
@@ -143,7 +143,7 @@ write_pairs-returns-in_default g t c =
     let l = c.loop-pair in
     let xs = c.deref-pair-items.result.now in
     record {
-      writes = λ config. rw (← c.deref-pair-items.ensures.value) (ends_early config _ _ _ _ (pairs_left xs l.pair-index) (pairs_part (pairs_in xs)) (l.invariant config) (Err BadKey) BadKey _ l.walk (λ config path. refused bad_key)
+      writes = λ config. rw (← c.deref-pair-items.ensures.value) (ends_early config _ _ _ _ (pairs_left xs l.pair-index) (pairs_part (pairs_in xs)) (l.invariant config) (Err BadKey) BadKey _ l.walk (λ config path. failure bad_key)
           (pairs_left xs (l.pair-index + 1)) refl (λ path. pairs_here config.max_depth config.array_format xs l.pair-index c.pair-item.result path _ (omega arith) c.pair-item.is c.in_default.ensures)
           (λ path at. (refl, adds_nothing config.form _)));
     }

@@ -7,7 +7,7 @@ use Rattle.qs_spec.specs.Grammar.{Pair, ArePairs}
 use Rattle.qs_spec.specs.Tree.{node, longest, Tree, IsTree}
 use Rattle.qs_spec.specs.History.{events, permitted}
 use Rattle.qs_spec.specs.Permutation.{IsReordering}
-use Rattle.qs_spec.specs.Order.{overlap, AreReordered, AreAlike, unmarked}
+use Rattle.qs_spec.specs.Order.{overlap, AreReordered, AreEquivalent, unmarked}
 use Rattle.qs_spec.specs.Holds.{leaf_count, nesting}
 use Rattle.qs_spec.proofs.RelatedIsRead.{one_list, found_pairs}
 use Rattle.qs_spec.proofs.Reorder.{node_reordered, permitted_reordered}
@@ -29,9 +29,9 @@ to_pairs form depth (b ∷ a) p ps t g h =
     (λ path. ap (λ qs. permitted (events qs path)) (sym same) ∙ h.1.histories path, h.2 ∙ ap node same)
 
 -- inputs whose pairs have the same histories and, marks aside, the same node have the same tree but for marks
-alike_by : (form : Bool) (depth : ℕ) (a b : List ℕ) (p q : Pair) (ps qs : List Pair) → ArePairs depth (tokens form a) (p ∷ ps) → ArePairs depth (tokens form b) (q ∷ qs)
-    → ((path : List Segment) → permitted (events (p ∷ ps) path) ≡ permitted (events (q ∷ qs) path)) → unmarked (node (p ∷ ps)) ≡ unmarked (node (q ∷ qs)) → AreAlike form depth a b
-alike_by form depth a b p q ps qs g i same nodes = record {
+equivalent_by : (form : Bool) (depth : ℕ) (a b : List ℕ) (p q : Pair) (ps qs : List Pair) → ArePairs depth (tokens form a) (p ∷ ps) → ArePairs depth (tokens form b) (q ∷ qs)
+    → ((path : List Segment) → permitted (events (p ∷ ps) path) ≡ permitted (events (q ∷ qs) path)) → unmarked (node (p ∷ ps)) ≡ unmarked (node (q ∷ qs)) → AreEquivalent form depth a b
+equivalent_by form depth a b p q ps qs g i same nodes = record {
   there = λ t d. let of = to_pairs form depth a p ps t g d in
       (node (q ∷ qs), of_pairs form depth b q qs i (λ path. sym (same path) ∙ of.0 path), sym nodes ∙ ap unmarked (sym of.1));
   back = λ u d. let of = to_pairs form depth b q qs u i d in
@@ -45,15 +45,15 @@ no_order_of_none p ps h = by h.0 h.2
     by [] e = cc
     by (q ∷ front) e = cc
 
-pub alike : (form : Bool) (depth : ℕ) (a b : List ℕ) (p : Pair) (ps qs : List Pair) → ArePairs depth (tokens form a) (p ∷ ps) → ArePairs depth (tokens form b) qs → IsReordering overlap (bare (p ∷ ps)) (bare qs) → AreAlike form depth a b
-alike form depth a b p ps [] g i h = absurd (no_order_of_none _ (bare ps) h)
-alike form depth a b p ps (q ∷ qs) g i h = alike_by form depth a b p q ps qs g i
+pub equivalent : (form : Bool) (depth : ℕ) (a b : List ℕ) (p : Pair) (ps qs : List Pair) → ArePairs depth (tokens form a) (p ∷ ps) → ArePairs depth (tokens form b) qs → IsReordering overlap (bare (p ∷ ps)) (bare qs) → AreEquivalent form depth a b
+equivalent form depth a b p ps [] g i h = absurd (no_order_of_none _ (bare ps) h)
+equivalent form depth a b p ps (q ∷ qs) g i h = equivalent_by form depth a b p q ps qs g i
     (λ path. sym (permitted_bare (p ∷ ps) path) ∙ permitted_reordered (bare (p ∷ ps)) (bare (q ∷ qs)) h path ∙ permitted_bare (q ∷ qs) path)
     (sym (node_bare (p ∷ ps)) ∙ node_reordered (bare (p ∷ ps)) (bare (q ∷ qs)) h ∙ node_bare (q ∷ qs))
 
 -- the same by indices
-pub alike_by_places : (form : Bool) (depth : ℕ) (a b : List ℕ) (p : Pair) (ps qs : List Pair) → ArePairs depth (tokens form a) (p ∷ ps) → ArePairs depth (tokens form b) qs → AreReordered (p ∷ ps) qs → AreAlike form depth a b
-alike_by_places form depth a b p ps qs g i h = alike form depth a b p ps qs g i (by_places overlap (bare (p ∷ ps)) (bare qs) h)
+pub equivalent_by_places : (form : Bool) (depth : ℕ) (a b : List ℕ) (p : Pair) (ps qs : List Pair) → ArePairs depth (tokens form a) (p ∷ ps) → ArePairs depth (tokens form b) qs → AreReordered (p ∷ ps) qs → AreEquivalent form depth a b
+equivalent_by_places form depth a b p ps qs g i h = equivalent form depth a b p ps qs g i (by_places overlap (bare (p ∷ ps)) (bare qs) h)
 
 pub leaves : (form : Bool) (depth b : ℕ) (bytes : List ℕ) (ps : List Pair) (t : Tree) → ArePairs depth (tokens form (b ∷ bytes)) ps → IsTree form depth (b ∷ bytes) t → leaf_count t ≡ length ps
 leaves form depth b bytes ps t g h = ap leaf_count h.2 ∙ leaves_of_node h.0 (none_empty form depth (b ∷ bytes) h.0 h.1.grammar) h.1.histories ∙ ap length (one_list depth (tokens form (b ∷ bytes)) h.0 ps h.1.grammar g)

@@ -1,29 +1,22 @@
 //! The keys of a map.
 
-ghost use Rattle.std.specs.Prelude.{◌≡◌, ◌++◌, ◌<◌, ◌^◌, ℕ, Err, IsTrue, decimal, length, option_map, string_bytes};
-ghost use Rattle.std.specs.Str.{is_utf8};
-ghost use Rattle.qs_spec.specs.Segment.{segment_text};
+ghost use Rattle.std.specs.Prelude.{◌≡◌, ◌++◌, ◌<◌, ◌^◌, ℕ, IsTrue, decimal, length, option_map, string_bytes};
 ghost use Rattle.qs_spec.specs.Node.{found, keys_are_text};
-ghost use Rattle.qs_tree.specs.tree.Views.{entries_of_map, entry_list, segment_of_key, tree_of};
-ghost use Rattle.qs_data.specs.declared.read.error.ReadError.TheVariants.{Utf8};
-ghost use Rattle.qs_data.specs.read.internal.Hint.{IsKeyError};
-ghost use Rattle.qs_data.specs.read.Errors.{OnlyCustomUtf8OrOutOfMemory};
+ghost use Rattle.qs_tree.specs.tree.Views.{entries_of_map, entry_list, tree_of};
 ghost use Rattle.qs_data.specs.read.Entries.{entries_after, first_entry};
 ghost use Rattle.qs_data.specs.read.Found.{Finds};
 ghost use Rattle.qs_data.specs.read.Gives.{Gives};
 ghost use Rattle.qs_data.specs.read.internal.ReadError.{ReadGives};
-ghost use Rattle.qs_data.specs.read.Keys.{NumbersFit, KeyFits, PassesTest, entries_view};
+ghost use Rattle.qs_data.specs.read.Keys.{NumbersFit, PassesTest, entries_view};
 ghost use Rattle.qs_data.specs.read.internal.Keys.{ParsesNumber, value_in};
 
 use crate::read::by_shape::Reader;
-use crate::read::error::{ReadError, Result};
+use crate::read::error::Result;
 use crate::read::key::key_text;
-use crate::read::message::key_error;
+use crate::read::key_test::{BrokenKey, keys_are_text, test_keys};
 use itoa::Buffer;
 use qs_tree::{Error, Key, ParsedMap, ParsedValue};
 use std::alloc::Global;
-use std::str;
-use std::str::Utf8Error;
 
 /// Keys with their values, of which the fields of a struct and the pairs of a map are read.
 ///
@@ -272,138 +265,5 @@ fn begins_with_a_digit(text: &[u8]) -> bool
     match text {
         [first, ..] => first.is_ascii_digit(),
         [] => false,
-    }
-}
-
-/// A key that isn't UTF-8, which [`Entries::test`] returns.
-///
-/// ```
-/// let broken = entries.test(); // Err for %FF=1
-/// ```
-#[derive(Clone, Copy)]
-pub struct BrokenKey<'t> {
-    text: &'t [u8],
-    cause: Utf8Error,
-}
-
-impl BrokenKey<'_> {
-    /// Returns the error that says so.
-    pub(crate) fn error(self, alloc: Global) -> ReadError
-        ensures { IsKeyError self.entry.text.now (Utf8 self.entry.cause) result }
-    {
-        key_error(alloc, self.text, ReadError::Utf8(self.cause))
-    }
-
-    /// Returns the error that says so: [`Utf8`](qs_tree::Error::Utf8), or [`Custom`](qs_tree::Error::Custom) with a hint where the key holds a
-    /// bracket. It allocates for the hint.
-    ///
-    /// ```
-    /// if let Err(broken) = entries.test() {
-    ///     return Err(broken.into_error(alloc));
-    /// }
-    /// ```
-    pub fn into_error(self, alloc: Global) -> Error
-        ensures { OnlyCustomUtf8OrOutOfMemory {X = Unit {0}} (Err result) }
-    {
-        Error::from(self.error(alloc))
-    }
-}
-
-/// Tests whether all keys are UTF-8, and returns the first that isn't.
-#[tactic(auto, using(crate::proofs::lemmas::read::Numbers::empty_text))]
-pub(crate) fn test_keys<'t>(entries: Entries<'t, '_>) -> Result<(), BrokenKey<'t>>
-    ensures text { PassesTest result (keys_are_text (entries_view entries.entry)) }
-    ensures fit { NumbersFit (entries_view entries.entry) }
-{
-    match entries {
-        Entries::Empty => Ok(()),
-        Entries::Leaf(_) => Ok(()),
-        Entries::Map(map) => test_map(map),
-    }
-}
-
-// Tests the keys of a map. All keys are looked at, so their numbers are known to have 32 bits whatever comes of the test.
-#[tactic(auto, using(crate::proofs::lemmas::read::Entries::after_none, crate::proofs::lemmas::read::Entries::after_all, crate::proofs::lemmas::read::Entries::tested_all, crate::proofs::lemmas::read::Entries::tested_done, crate::proofs::lemmas::read::Entries::fit_done))]
-fn test_map<'t>(map: &'t ParsedMap<'_>) -> Result<(), BrokenKey<'t>>
-    ensures text { PassesTest result (keys_are_text (entries_of_map map.now)) }
-    ensures fit { NumbersFit (entries_of_map map.now) }
-{
-    let mut tested = Ok(());
-    for i in 0..map.len() {
-        let Some((key, _)) = map.at(i) else {
-            break;
-        };
-        tested = tested.and(test_key(key));
-    }
-    tested
-}
-
-// Returns whether the keys of a map are UTF-8. All keys are looked at, as by `test_map`.
-#[tactic(auto, using(crate::proofs::lemmas::read::Entries::after_none, crate::proofs::lemmas::read::Entries::after_all, crate::proofs::lemmas::read::Entries::passed_all, crate::proofs::lemmas::read::Entries::passed_done, crate::proofs::lemmas::read::Entries::passed_fit))]
-fn keys_are_text(map: &ParsedMap<'_>) -> bool
-    ensures text { result ≡ keys_are_text (entries_of_map map.now) }
-    ensures fit { NumbersFit (entries_of_map map.now) }
-{
-    let mut passed = true;
-    for i in 0..map.len() {
-        let Some((key, _)) = map.at(i) else {
-            break;
-        };
-        passed &= is_text_key(key);
-    }
-    passed
-}
-
-// Returns whether a key is UTF-8.
-#[inline(always)]
-#[tactic(auto, using(crate::proofs::lemmas::read::Numbers::decimal_text))]
-fn is_text_key(key: &Key<'_>) -> bool
-    ensures text { result ≡ is_utf8 (segment_text (segment_of_key key.now)) }
-    ensures fit { KeyFits (segment_of_key key.now) }
-{
-    match key {
-        Key::Int(number) => {
-            let _fits = *number;
-            true
-        }
-        Key::String(text) => is_text(text.as_slice()),
-    }
-}
-
-// Returns whether bytes are UTF-8, as `test_text` tests it.
-#[inline(always)]
-#[tactic(auto, using(crate::proofs::lemmas::read::Errors::utf8_tests, crate::proofs::lemmas::read::Numbers::ascii_text))]
-fn is_text(text: &[u8]) -> bool
-    ensures { result ≡ is_utf8 text.now }
-{
-    text.is_ascii() || str::from_utf8(text).is_ok()
-}
-
-// Tests whether a key is UTF-8.
-#[tactic(auto, using(crate::proofs::lemmas::read::Numbers::decimal_text))]
-fn test_key<'t>(key: &'t Key<'_>) -> Result<(), BrokenKey<'t>>
-    ensures text { PassesTest result (is_utf8 (segment_text (segment_of_key key.now))) }
-    ensures fit { KeyFits (segment_of_key key.now) }
-{
-    match key {
-        Key::Int(number) => {
-            let _fits = *number;
-            Ok(())
-        }
-        Key::String(text) => test_text(text.as_slice()),
-    }
-}
-
-// Tests whether bytes are UTF-8. Most are ASCII, for which the test is faster.
-#[tactic(auto, using(crate::proofs::lemmas::read::Errors::utf8_tests, crate::proofs::lemmas::read::Numbers::ascii_text))]
-fn test_text(text: &[u8]) -> Result<(), BrokenKey<'_>>
-    ensures { PassesTest result (is_utf8 text.now) }
-{
-    if text.is_ascii() {
-        return Ok(());
-    }
-    match str::from_utf8(text) {
-        Ok(_) => Ok(()),
-        Err(cause) => Err(BrokenKey { text, cause }),
     }
 }

@@ -16,7 +16,8 @@ ghost use Rattle.qs_data.specs.read.Parsed.{ReturnsData};
 
 use crate::data::Data;
 use crate::read::by_shape::{Reader, read};
-use crate::read::keys::{Entries, Found, find, test_keys};
+use crate::read::key_test::test_keys;
+use crate::read::keys::{Entries, Found, find};
 use crate::shape::Shape;
 use qs_tree::{Config, ParsedMap, ParsedValue, Result};
 use std::alloc::Global;

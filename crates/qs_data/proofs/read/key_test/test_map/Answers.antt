@@ -1,6 +1,6 @@
 use Rattle.qs_data.proofs.Common.{◌≡◌, ◌+◌, sym, subst, entry, entries_of_map, step_of_key, tree_of, entries_after}
 use Rattle.qs_data.proofs.lemmas.read.Entries.{Tested, after_some, tested_more}
-use Rattle.qs_data.proofs.read.keys.test_map.Goals as goal
+use Rattle.qs_data.proofs.read.key_test.test_map.Goals as goal
 
 pub loop-i-preserved : goal.loop-i-preserved
 loop-i-preserved c =

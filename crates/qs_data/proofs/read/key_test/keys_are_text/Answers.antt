@@ -1,6 +1,6 @@
 use Rattle.qs_data.proofs.Common.{◌≡◌, ◌+◌, sym, subst, entry, entries_of_map, step_of_key, tree_of, entries_after}
 use Rattle.qs_data.proofs.lemmas.read.Entries.{Passed, after_some, passed_more}
-use Rattle.qs_data.proofs.read.keys.keys_are_text.Goals as goal
+use Rattle.qs_data.proofs.read.key_test.keys_are_text.Goals as goal
 
 pub loop-i-preserved : goal.loop-i-preserved
 loop-i-preserved c =

@@ -1,6 +1,6 @@
 #!/usr/bin/env bash
 # Tries the mutants crates/NAME/inner-edits/*.edit: of functions that only their own crate calls, or further ones of a function
-# that has one in must-fail/. The prover has to reject each. ./check leaves them out for the sake of its time, a minute for each.
+# that has one in must-fail/. The prover has to reject each. ./check leaves them out for the sake of its time, up to two minutes of a processor for each.
 #   scripts/support/try_inner_edits.sh NAME [EDIT..]    all of that crate, or these
 set -u
 root=$(cd "$(dirname "$(readlink -f "${BASH_SOURCE[0]}")")/../.." && pwd) || exit 1

@@ -15,7 +15,7 @@ use std::alloc::Global;
 pub struct Keys {
     /// At its root.
     pub root: usize,
-    /// After its first key.
+    /// Below its first key.
     pub first: usize,
 }
 

@@ -1,11 +1,6 @@
 //! Limits in front of a typed call.
 
-ghost use Rattle.std.specs.Prelude.{◌≡◌};
-ghost use Rattle.qs_spec.specs.Config.{default};
-ghost use Rattle.serde_qs.specs.Limits.{Checks};
-ghost use Rattle.serde_qs.specs.Typed.{ReturnsValue};
 ghost use Rattle.qs_callers.specs.Guard.{Guards};
-ghost use Rattle.qs_callers.specs.Query.{query_form, query_in, query_value};
 
 use crate::query::Query;
 use serde_qs::{Error, LimitError, Limits, from_bytes};

@@ -28,6 +28,8 @@ mod reading;
 #[cfg(test)]
 mod round_trips;
 #[cfg(test)]
+mod same;
+#[cfg(test)]
 mod strict;
 #[cfg(test)]
 mod tuples;

@@ -2,7 +2,10 @@
 
 use crate::values::{is_custom, list, text};
 use qs_callers::Query;
-use qs_data::{Data, Entries, Error, Field, FieldNames, Found, Reader, Result, Shape, UnknownKeys};
+use qs_data::{
+    Data, Entries, Error, Field, FieldNames, Found, Reader, Result, Shape, UnknownKeys, find_value,
+    read_value,
+};
 use qs_tree::{Config, ParsedValue, parse};
 use serde_qs::Deserialize;
 use std::alloc::Global;
@@ -74,6 +77,30 @@ fn by_its_entries(rt: HostRuntime) {
             "invalid type: sequence, expected a map"
         )
     );
+}
+
+#[test]
+fn by_a_name(rt: HostRuntime) {
+    let alloc = rt.alloc();
+    let tree = parse(alloc, b"b=2&1=3&%31=4", Config::new()).expect(&rt, "a tree");
+    assert!(rt; matches!(number_of(alloc, &tree, "b"), Ok(Some(Data::Unsigned(2)))));
+    assert!(rt; matches!(number_of(alloc, &tree, "c"), Ok(None)));
+    // the integer and the string key have one text
+    assert!(rt; matches!(number_of(alloc, &tree, "1"), Ok(None)));
+    let tree = parse(alloc, b"%FF=1", Config::new()).expect(&rt, "a tree");
+    let entries = Reader::new(alloc, Config::new()).entries(&tree);
+    assert!(rt; !entries.expect(&rt, "a map").keys_are_text());
+}
+
+// Returns the number under a name, if there is one value alone.
+fn number_of(alloc: Global, tree: &ParsedValue<'_>, name: &str) -> Result<Option<Data>> {
+    let ParsedValue::Map(map) = tree else {
+        return Ok(None);
+    };
+    let Found::One(node) = find_value(map, name) else {
+        return Ok(None);
+    };
+    Ok(Some(read_value(alloc, Config::new(), &Shape::U8, node)?))
 }
 
 #[test]

@@ -118,6 +118,11 @@ fn strings(rt: HostRuntime) {
             comes_back_by(&rt, alloc, Config::new().use_form_encoding(true), &pair);
         }
     }
+}
+
+#[test]
+fn keys_with_escapes(rt: HostRuntime) {
+    let alloc = rt.alloc();
     let keys = one(&rt, alloc, "K%47", 1u8);
     let keys = with(&rt, alloc, keys, "%5Bx%5D", 2);
     comes_back(&rt, alloc, &keys);

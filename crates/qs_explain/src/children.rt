@@ -1,8 +1,8 @@
 //! What is found in a node below another one.
 
 ghost use Rattle.qs_spec.specs.Config.{are_rejected};
-ghost use Rattle.qs_spec.specs.Segment.Segment.{Int, Str};
-ghost use Rattle.qs_tree.specs.tree.Views.{tree_of, segment_of_key};
+ghost use Rattle.qs_spec.specs.Segment.Segment.{Int};
+ghost use Rattle.qs_tree.specs.tree.Views.{segment_of_key};
 ghost use Rattle.qs_data.specs.shape.Views.{shape_of};
 ghost use Rattle.qs_explain.specs.Children.{or_missing};
 ghost use Rattle.qs_explain.specs.internal.Finding.{FindsMismatch, FindsBelow, node_of};

@@ -88,7 +88,7 @@ swaps_filled (keep p w) = keep (record p { path = filled_path p.path p.push }) (
 swaps_filled (swap p q ps h) = swap (record p { path = filled_path p.path p.push }) (record q { path = filled_path q.path q.push }) (filled ps) (apart_filled p.path q.path p.push q.push h)
 swaps_filled (both w v) = both (swaps_filled w) (swaps_filled v)
 
-heads_swap : (a b : List Step) (ks : List Segment) → put_head a (put_head b ks) ≡ put_head b (put_head a ks)
+pub heads_swap : (a b : List Step) (ks : List Segment) → put_head a (put_head b ks) ≡ put_head b (put_head a ks)
 heads_swap [] b ks = refl
 heads_swap (s ∷ a) [] ks = refl
 heads_swap (s ∷ a) (t ∷ b) ks = put_twice s.seg t.seg ks

@@ -15,6 +15,7 @@ use Rattle.qs_spec.specs.internal.InPlace.{add, add_all}
 use Rattle.qs_spec.proofs.RelatedIsRead.{one_list}
 use Rattle.qs_spec.proofs.OneMore.{NoneEmpty, NoEmpty, Permitted}
 use Rattle.qs_spec.proofs.Insert.{Goes, adds}
+use Rattle.qs_spec.proofs.Update.{node_nothing}
 use Rattle.qs_spec.proofs.Empty.{none_empty}
 
 weaker : (a b : Bool) → ((not (a || b) && true) || false) ≡ true → ((not a && true) || false) ≡ true
@@ -84,10 +85,6 @@ all_go n (q ∷ qs) ps l k m r p =
     by : (o : Option Tree) → Goes n ps q o → (Permitted (ps ++ q ∷ []) → AllGo n ((ps ++ q ∷ []) ++ qs) (add_all qs (node_within n (ps ++ q ∷ [])))) → AllGo n ((ps ++ q ∷ []) ++ qs) (option_and_then (add_all qs) o)
     by None g h = λ w. g (front_permitted (ps ++ q ∷ []) qs w)
     by (Some t) g h = subst (λ u. AllGo n ((ps ++ q ∷ []) ++ qs) (add_all qs u)) (sym g.1) (h g.0)
-
-node_nothing : (n : ℕ) → node_within n [] ≡ uninitialized
-node_nothing zero = refl
-node_nothing (suc n) = refl
 
 nothing_permitted : Permitted []
 nothing_permitted [] = refl

@@ -12,7 +12,7 @@ mod rejected;
 mod values;
 
 use crate::tree_line::{Texts, line};
-use qs_tree::{Config, Error, ParsedValue, parse};
+use qs_tree::{Config, Error, parse};
 use serde_qs::ConfigExt;
 use std::alloc::{AllocError, Global};
 use std::collections::BTreeMap;

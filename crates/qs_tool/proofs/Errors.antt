@@ -20,22 +20,3 @@ nothing_read parsed shape (ParseInt cause) report other = absurd report
 nothing_read parsed shape (Utf8 cause) report other = report.0
 nothing_read parsed shape OutOfMemory report other = cc
 nothing_read parsed shape Failed report other = absurd report
-
--- what holds where an error was returned may be put in other words
-pub input_error_is : {T : Type 0} (r : Result T Error) {P Q : Type 0} → (P → Q) → IfInputError r P → IfInputError r Q
-input_error_is (Ok x) f h = tt
-input_error_is (Err e) f h = λ other. f (h other)
-
--- an error that is only that an allocation failed reports nothing of the input
-pub no_input_error : {T : Type 0} (r : Result T Error) (P : Type 0) → OnlyOutOfMemory r → IfInputError r P
-no_input_error (Ok x) P only = tt
-no_input_error (Err (Custom message)) P only = absurd only
-no_input_error (Err (MaxSerializationDepthExceeded n)) P only = absurd only
-no_input_error (Err (Parse message position)) P only = absurd only
-no_input_error (Err Unsupported) P only = absurd only
-no_input_error (Err (FromUtf8 cause)) P only = absurd only
-no_input_error (Err (Io cause)) P only = absurd only
-no_input_error (Err (ParseInt cause)) P only = absurd only
-no_input_error (Err (Utf8 cause)) P only = absurd only
-no_input_error (Err OutOfMemory) P only = λ other. cc
-no_input_error (Err Failed) P only = absurd only

@@ -3,7 +3,6 @@ pub mod Numbers
 pub mod Options
 pub mod Pieces
 pub mod Errors
-pub mod Taken
 pub mod Exact
 pub mod Rewriting
 pub mod Forms

@@ -44,6 +44,3 @@ begins_listed opening closing t ts line stack line_after stack_after some is lef
       ∙ ap (λ l. line ++ l) (sym (append_assoc opening (listed (t ∷ ts) ++ closing) rest));
   grows = longer opening line line_after some is;
 }
-
-pub data_of_map : (ps : Vec (Data × Data) Global) → data_of (r.Map ps) ≡ d.mapping (pairs_in ps.items)
-data_of_map ps = search (rules, r.the_lemmas)

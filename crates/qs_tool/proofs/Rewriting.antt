@@ -37,9 +37,6 @@ as_faulty request command strict p q input result h =
     let Q : Bool → Type 0 = λ b. IfInputError result (IsFaultyBy request.config (shape_for request.command b) (printed request.command request.config) input) in
     subst Q (sym q) (subst P (sym p) h)
 
-pub text_written : (config : Config) (x : Data) (text : String Global) → ReturnsText config x (Ok text) → rewritten config x ≡ Some (string_bytes text)
-text_written config x text report = ap (λ r. unless_rejected r (text_of config x)) report.0 ∙ ap Some (sym report.1)
-
 pub no_text : (config : Config) (x : Data) (e : Error) → ReturnsText config x (Err e) → is_memory e ≡ false → rewritten config x ≡ None
 no_text config x (MaxSerializationDepthExceeded n) report other = ap (λ r. unless_rejected r (text_of config x)) report.1
 no_text config x Unsupported report other = ap (λ r. unless_rejected r (text_of config x)) report
@@ -51,9 +48,6 @@ module _ {A V : Type 0} (value : A → V) (datum : A → Data) (form : Shape) (m
   -- the data of the value are those that were read
   own_data : (x : A) (read : IsRead config form meaning input (value x)) → ReadsBy config form read.tree (datum x)
   own_data x read = let P : Data → Type 0 = λ d. ReadsBy config form read.tree d in subst P (sym (exact.is_written x read.datum read.is_meant)) read.is_read
-
-  pub printed_again : (x : A) (text : List ℕ) → IsRead config form meaning input (value x) → rewritten config (datum x) ≡ Some text → IsPrintedBy config form (rewritten config) input text
-  printed_again x text read is = record { tree = read.tree; value = datum x; has_tree = read.has_tree; is_read = own_data x read; is_text = is }
 
   pub not_printed_again : (x : A) → IsRead config form meaning input (value x) → rewritten config (datum x) ≡ None → IsFaultyBy config form (rewritten config) input
   not_printed_again x read is = not_printed read.tree (datum x) read.has_tree (own_data x read) is

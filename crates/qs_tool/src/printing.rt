@@ -3,10 +3,9 @@
 ghost use Rattle.std.specs.Prelude.{◌≡◌, Some, IfOk};
 ghost use Rattle.qs_spec.specs.Shape as s;
 ghost use Rattle.qs_spec.specs.Tree.{IsTree, HasNoTree};
-ghost use Rattle.qs_tree.specs.Error.{IsParse, OnlyOutOfMemory, OnlyParseOrOutOfMemory};
+ghost use Rattle.qs_tree.specs.Error.{IsParse, OnlyParseOrOutOfMemory};
 ghost use Rattle.qs_data.specs.read.Errors.{OnlyCustomUtf8OrOutOfMemory};
 ghost use Rattle.qs_data.specs.read.Parsed.{ReturnsData, parsed_of};
-ghost use Rattle.qs_data.specs.data.Views.{data_of};
 ghost use Rattle.qs_tool.specs.InputError.{IfInputError};
 ghost use Rattle.qs_tool.specs.Line.{IsFaulty, IsFaultyBy, IsPrinted, IsPrintedBy, rewritten};
 ghost use Rattle.qs_tool.specs.Shown.{shown};

@@ -2,7 +2,7 @@
 //!
 //! What is still to be written is on a stack on the heap, so data may be nested as deep as they like.
 
-ghost use Rattle.std.specs.Prelude.{◌≡◌, ◌<◌, ◌++◌, length, OnOk};
+ghost use Rattle.std.specs.Prelude.{◌≡◌, ◌<◌, ◌++◌, OnOk};
 ghost use Rattle.qs_tree.specs.Error.{OnlyOutOfMemory};
 ghost use Rattle.qs_data.specs.data.Views.{data_of, values_in, pairs_in};
 ghost use Rattle.qs_tool.specs.Shown.{shown, quoted, in_brackets, in_braces, shown_values, shown_pairs};

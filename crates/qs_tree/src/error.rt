@@ -63,15 +63,15 @@ impl Error {
     /// Returns a [`Parse`](Error::Parse) error with a message and a position.
     ///
     /// Allocates the message, and takes time with its length. Returns [`OutOfMemory`](Error::OutOfMemory) where that failed, or where
-    /// `msg.fmt` fails.
+    /// `message.fmt` fails.
     ///
     /// ```
     /// Error::parse_err(alloc, "m", 3) // parsing failed with error: 'm' at position: 3
     /// ```
-    pub fn parse_err<T: Display + Drop>(alloc: Global, msg: T, position: usize) -> Error
-        ensures { IsParseSaying result (T.output msg) position }
+    pub fn parse_err<T: Display + Drop>(alloc: Global, message: T, position: usize) -> Error
+        ensures { IsParseSaying result (T.output message) position }
     {
-        match String::format(alloc, msg) {
+        match String::format(alloc, message) {
             Ok(message) => Error::Parse(message, position),
             Err(_) => Error::OutOfMemory,
         }
@@ -80,15 +80,15 @@ impl Error {
     /// Returns a [`Custom`](Error::Custom) error with a message. The last argument isn't used.
     ///
     /// Allocates the message, and takes time with its length. Returns [`OutOfMemory`](Error::OutOfMemory) where that failed, or where
-    /// `msg.fmt` fails.
+    /// `message.fmt` fails.
     ///
     /// ```
     /// Error::custom(alloc, "no such page", &()) // no such page
     /// ```
-    pub fn custom<T: Display + Drop, D>(alloc: Global, msg: T, _parsed: &D) -> Error
-        ensures { IsCustomSaying result (T.output msg) }
+    pub fn custom<T: Display + Drop, D>(alloc: Global, message: T, _parsed: &D) -> Error
+        ensures { IsCustomSaying result (T.output message) }
     {
-        match String::format(alloc, msg) {
+        match String::format(alloc, message) {
             Ok(message) => Error::Custom(message),
             Err(_) => Error::OutOfMemory,
         }

@@ -9,7 +9,7 @@ ghost use Rattle.qs_tree.specs.tree.Views.{tree_of};
 ghost use Rattle.qs_tree.specs.internal.scan.Pairs.{IsBare, pair_of};
 ghost use Rattle.qs_tree.specs.internal.scan.Cursor.{left, KnowsEnd, in_all};
 ghost use Rattle.qs_tree.specs.internal.build.Builder.{built_tree, fresh, IsFlat};
-ghost use Rattle.qs_tree.specs.internal.Parsing.{grown, Returns, Finds};
+ghost use Rattle.qs_tree.specs.internal.Parsing.{grown, Finds};
 ghost use Rattle.qs_tree.specs.Parsing.{Parses, TakesNoMemory};
 
 use crate::build::add::add_pair;

@@ -12,6 +12,5 @@ pub mod NumbersKept
 pub mod PairsPut
 pub mod PartsWritten
 pub mod Pieces
-pub mod Steps
 pub mod TextWritten
 pub mod WrittenRead

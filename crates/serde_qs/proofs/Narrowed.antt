@@ -54,8 +54,3 @@ found_exit view u y x m absent r ts t is g h f =
 pub several_exit : {Y : Type 0} (u : Bool) (y : ReadError) (x : Error) (m : Data → Option Y) (absent : Option Y) (r : Reader) (ts : List Tree) (s t : Tree) (more : List Tree)
     → y ≡ narrowed x → IsCustomOrOutOfMemory x → ts ≡ s ∷ t ∷ more → ReadRejects u y (value_found m absent r ts)
 several_exit u y x m absent r ts s t more is h two = narrowed_rejects u y x (value_found m absent r ts) is (found_twice u x m absent r ts s t more h two)
-
--- what is returned of a part, as what is returned of a whole that means the same
-pub reads_as : {X Y : Type 0} (view : X → Y) (t u : Bool) (x : Result X ReadError) (r s : Option Y) → ReadGives view t x r → r ≡ s → (t ≡ false → u ≡ false) → ReadGives view u x s
-reads_as view t u (Ok x) r s g h f = sym h ∙ g
-reads_as view t u (Err x) r s g h f = rejected t u (error_of x) r s g (λ n. sym h ∙ n) f

@@ -12,7 +12,7 @@ use Rattle.qs_data.specs.read.Items.{first_item}
 use Rattle.qs_data.proofs.lemmas.read.Items.{first_some}
 use Rattle.serde_qs.specs.Meaning.{sequence_in, values_meant}
 use Rattle.serde_qs.specs.internal.NodeParts.{each_value}
-use Rattle.serde_qs.proofs.Steps.{before, before-front}
+use Rattle.qs_data.proofs.lemmas.read.Steps.{before, before-front}
 
 module _ {V : Type 0} (m : Data → Option V) (r : Reader) where
   abbrev value_at : Tree → Option V

@@ -26,18 +26,7 @@ pub widened : {X Y : Type 0} (view : X → Y) (t u : Bool) (x : Result X Error) 
 widened view t u (Ok x) r s g h f = sym h ∙ g
 widened view t u (Err x) r s g h f = rejected t u x r s g (λ n. sym h ∙ n) f
 
-pub means_all : {X Y : Type 0} (view : X → Y) (u : Bool) (x : Result X Error) (r s : Option Y) → Means view x r → r ≡ s → Gives view u x s
-means_all view u x r s g h = widened view true u x r s g h (λ f. absurd (false≢true (sym f)))
-
--- a field that was found once, never, and twice
-
-pub found_once : {X Y : Type 0} (view : X → Y) (u : Bool) (x : Result X Error) (m : Data → Option Y) (absent : Option Y) (r : Reader) (ts : List Tree) (t : Tree)
-    → Gives view (is_text t) x (option_and_then m (r t)) → ts ≡ t ∷ [] → (is_text t ≡ false → u ≡ false) → Gives view u x (value_found m absent r ts)
-found_once view u x m absent r ts t g h f = widened view (is_text t) u x (option_and_then m (r t)) (value_found m absent r ts) g (sym (ap (value_found m absent r) h)) f
-
-pub found_never : {X Y : Type 0} (view : X → Y) (u : Bool) (x : Result X Error) (m : Data → Option Y) (absent : Option Y) (r : Reader) (ts : List Tree)
-    → Means view x absent → ts ≡ [] → Gives view u x (value_found m absent r ts)
-found_never view u x m absent r ts g h = means_all view u x absent (value_found m absent r ts) g (sym (ap (value_found m absent r) h))
+-- a field that was found twice
 
 pub found_twice : {Y : Type 0} (u : Bool) (x : Error) (m : Data → Option Y) (absent : Option Y) (r : Reader) (ts : List Tree) (s t : Tree) (more : List Tree)
     → IsCustomOrOutOfMemory x → ts ≡ s ∷ t ∷ more → Rejects u x (value_found m absent r ts)

@@ -9,7 +9,7 @@ use Rattle.std.proofs.lemmas.List.Elements.{All-nil, All-cons}
 use Rattle.std.proofs.lemmas.Str.{chars_from_encodes}
 use Rattle.serde_qs.specs.Items.{pieces, items_in}
 use Rattle.serde_qs.specs.internal.Pieces.{Differs, first_piece, last_piece}
-use Rattle.serde_qs.proofs.Steps.{before, before-front}
+use Rattle.qs_data.proofs.lemmas.read.Steps.{before, before-front}
 
 all_differ : (delimiter : ℕ) (cs : List ℕ) → NonePass (λ c. c == delimiter) cs → All (Differs delimiter) cs
 all_differ delimiter [] h = All-nil (Differs delimiter)

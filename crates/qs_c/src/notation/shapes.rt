@@ -1,6 +1,6 @@
 //! A shape, and what shapes hold.
 
-ghost use Rattle.std.specs.Prelude.{map, ◌++◌};
+ghost use Rattle.std.specs.Prelude.{map};
 ghost use Rattle.qs_data.specs.shape.Views.{field_of, shape_of};
 ghost use Rattle.qs_c.specs.Found.{before};
 ghost use Rattle.qs_c.specs.Notation as n;

@@ -8,7 +8,7 @@ ghost use Rattle.qs_c.specs.internal.Parses.{Parses};
 use super::cursor::Cursor;
 use super::shapes::{fields, items, shape};
 use super::stop::{Result, Stop};
-use qs_data::{Shape, Variant, VariantKind};
+use qs_data::{Variant, VariantKind};
 use std::alloc::Global;
 
 /// Parses variants, up to the parenthesis that closes them.

@@ -1,6 +1,6 @@
 //! Copies of data.
 
-ghost use Rattle.std.specs.Prelude.{◌≡◌, map, IfOk, IsOkUnless};
+ghost use Rattle.std.specs.Prelude.{◌≡◌, map, IfOk};
 ghost use Rattle.qs_data.specs.data.Views.{data_of, named, pair_of};
 
 use crate::data::Data;

@@ -1,4 +1,4 @@
-//! The keys of a map.
+//! The entries of a node, and the value under a name.
 
 ghost use Rattle.std.specs.Prelude.{◌≡◌, ◌++◌, ◌<◌, ◌^◌, ℕ, IsTrue, decimal, length, option_map, string_bytes};
 ghost use Rattle.qs_spec.specs.Node.{found, keys_are_text};

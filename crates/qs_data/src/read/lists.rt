@@ -1,6 +1,6 @@
 //! Reading lists and tuples.
 
-ghost use Rattle.std.specs.Prelude.{map, option_and_then, option_map};
+ghost use Rattle.std.specs.Prelude.{map, option_and_then};
 ghost use Rattle.qs_spec.specs.Node.{items};
 ghost use Rattle.qs_spec.specs.internal.ReadFunction.{read_each, read_list, reads, reads_tuple};
 ghost use Rattle.qs_tree.specs.tree.Views.{tree_of};

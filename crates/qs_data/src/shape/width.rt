@@ -1,6 +1,6 @@
 //! How many bits a number has.
 
-ghost use Rattle.std.specs.Prelude.{◌≡◌, ◌+◌, ◌-◌, ◌^◌, pos, neg_ℤ};
+ghost use Rattle.std.specs.Prelude.{◌≡◌, ◌-◌, ◌^◌, pos, neg_ℤ};
 ghost use Rattle.qs_data.specs.shape.Widths.{bits_of};
 
 use std::fmt;

@@ -10,8 +10,8 @@ ghost use Rattle.qs_data.specs.declared.write.stop.Stop.TheVariants.{Io};
 
 use crate::write::stop::Stop;
 use qs_tree::encode_to;
+use std::io;
 use std::io::Write;
-use std::{io, mem};
 
 /// How many bytes of a value are put at once, encoded; a shorter value is put with its key.
 pub(crate) const PIECE: usize = 1024;

@@ -9,7 +9,7 @@ ghost use Rattle.std.specs.BTreeMap.{insert_entry};
 ghost use Rattle.qs_spec.specs.Tree.{mapping, no_entries};
 ghost use Rattle.qs_spec.specs.internal.InPlace.{update};
 ghost use Rattle.qs_tree.specs.declared.tree.key.Key.{Key};
-ghost use Rattle.qs_tree.specs.tree.Views.{segment_of_key, step_of_key, tree_of, entries_of_map};
+ghost use Rattle.qs_tree.specs.tree.Views.{step_of_key, tree_of, entries_of_map};
 ghost use Rattle.qs_tree.specs.tree.Keys.{key_cmp};
 ghost use Rattle.qs_tree.specs.internal.tree.Places.{IsPlaced};
 ghost use Rattle.qs_tree.specs.internal.build.Builder.{built_tree, built_entries, entries_seen, fresh, as_builders, IsFlat, Takes};

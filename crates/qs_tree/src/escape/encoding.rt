@@ -8,7 +8,6 @@ use crate::error::Result;
 use crate::escape::copying::copy_run;
 use crate::escape::search::{Class, Escaped, LANES, count};
 use percent_encoding::percent_encode_byte;
-use std::alloc::AllocError;
 
 /// Percent-encodes bytes, and appends them to `out`.
 ///

@@ -6,7 +6,7 @@ ghost use Rattle.std.specs.List.Sorted.{IsStrictlySortedBy};
 ghost use Rattle.std.specs.Map.{keys_of};
 ghost use Rattle.std.specs.BTreeMap.{insert_entry};
 ghost use Rattle.std.specs.Vec.{vec_len, vec_capacity};
-ghost use Rattle.qs_tree.specs.internal.tree.Places.{IsGap, IsPlaced, put_value};
+ghost use Rattle.qs_tree.specs.internal.tree.Places.{IsGap, put_value};
 
 use std::alloc::{AllocError, Global};
 use std::marker::Model;

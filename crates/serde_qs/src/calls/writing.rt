@@ -51,6 +51,9 @@ pub fn to_string<T: Serialize>(alloc: Global, value: &T) -> Result<String>
 ///   written.
 /// - [`OutOfMemory`](Error::OutOfMemory): an allocation failed, before the first write. The contract allows that the text of the first few
 ///   entries was written.
+///
+/// What was written is promised of a writer that reports its bytes, as one over memory does; std's files report none. That
+/// [`Io`](Error::Io) is returned only where a write failed is tested, and not promised.
 pub fn to_writer<T: Serialize, W: Write>(alloc: Global, value: &T, writer: &mut W) -> Result<()>
     ensures { WritesValue default (T.datum value.now) (W.contents writer.old) (W.contents writer.new) result }
 {

@@ -24,7 +24,7 @@ use std::marker::PhantomData;
 /// ignored or rejected.
 #[tactic(auto, unfolding(qs_spec::specs::internal::ReadFunction::struct_members))]
 #[inline(always)]
-pub(crate) fn struct_of<F: Fields>(
+pub(crate) fn fields_of_struct<F: Fields>(
     reader: Reader,
     unknown: UnknownKeys,
     names: &[&'static str],
@@ -49,7 +49,7 @@ pub(crate) fn struct_of<F: Fields>(
 
 /// Returns the fields that a struct variant holds: those of a struct, where a text counts as a map from the empty key to it.
 #[tactic(auto, unfolding(qs_spec::specs::internal::ReadFunction::struct_members))]
-pub(crate) fn variant_of<F: Fields>(
+pub(crate) fn fields_of_variant<F: Fields>(
     reader: Reader,
     unknown: UnknownKeys,
     names: &[&'static str],
@@ -61,7 +61,7 @@ pub(crate) fn variant_of<F: Fields>(
 {
     match node {
         ParsedValue::String(_) => read_entries(reader, unknown, names, Entries::Leaf(node)),
-        _ => struct_of(reader, unknown, names, node),
+        _ => fields_of_struct(reader, unknown, names, node),
     }
 }
 

@@ -86,7 +86,7 @@ impl<F: Fields> Parts for Struct<F> {
         node: &ParsedValue<'_>,
     ) -> Result<Struct<F>> {
         let unknown = UnknownKeys::Ignored;
-        Ok(Struct(nodes::struct_of(reader, unknown, names, node)?))
+        Ok(Struct(nodes::fields_of_struct(reader, unknown, names, node)?))
     }
 }
 

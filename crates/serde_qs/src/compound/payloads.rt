@@ -147,7 +147,7 @@ impl<F: Fields> Payload for Struct<F> {
     ) -> Result<Struct<F>> {
         let node = reader.struct_variant(held)?;
         let ignored = UnknownKeys::Ignored;
-        Ok(Struct(nodes::variant_of(reader, ignored, names, node)?))
+        Ok(Struct(nodes::fields_of_variant(reader, ignored, names, node)?))
     }
 }
 

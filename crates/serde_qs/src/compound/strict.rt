@@ -36,7 +36,7 @@ impl<F: Fields> Parts for StrictStruct<F> {
         node: &ParsedValue<'_>,
     ) -> Result<StrictStruct<F>> {
         let unknown = UnknownKeys::Rejected;
-        Ok(StrictStruct(nodes::struct_of(reader, unknown, names, node)?))
+        Ok(StrictStruct(nodes::fields_of_struct(reader, unknown, names, node)?))
     }
 }
 
@@ -63,6 +63,6 @@ impl<F: Fields> Payload for StrictStruct<F> {
     ) -> Result<StrictStruct<F>> {
         let node = reader.struct_variant(held)?;
         let rejected = UnknownKeys::Rejected;
-        Ok(StrictStruct(nodes::variant_of(reader, rejected, names, node)?))
+        Ok(StrictStruct(nodes::fields_of_variant(reader, rejected, names, node)?))
     }
 }

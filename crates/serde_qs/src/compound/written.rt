@@ -13,7 +13,9 @@ use qs_data::{Data, Result};
 use std::alloc::Global;
 
 /// Returns the struct of these fields under their names, for a [`to_data`](crate::Serialize::to_data) that is written by hand. The one error is
-/// [`OutOfMemory`](qs_data::Error::OutOfMemory).
+/// [`OutOfMemory`](qs_data::Error::OutOfMemory). It allocates for the data and their names, and takes time with them.
+///
+/// A field for which no name is left has the empty name.
 ///
 /// ```
 /// struct_of(alloc, &["x", "y"], (&self.x, (&self.y, ())))
@@ -27,7 +29,9 @@ pub fn struct_of<R: References + Drop>(alloc: Global, names: &[&str], fields: R)
 }
 
 /// Returns the variant of this name with these fields, for a [`to_data`](crate::Serialize::to_data) that is written by hand. The one error is
-/// [`OutOfMemory`](qs_data::Error::OutOfMemory).
+/// [`OutOfMemory`](qs_data::Error::OutOfMemory). It allocates for the data and their names, and takes time with them.
+///
+/// A field for which no name is left has the empty name.
 ///
 /// ```
 /// Sort::Between { from, to } => struct_variant(alloc, "Between", &["from", "to"], (from, (to, ()))),
@@ -48,7 +52,7 @@ pub fn struct_variant<R: References + Drop>(
 }
 
 /// Returns the data of a variant that holds nothing, for a [`to_data`](crate::Serialize::to_data) that is written by hand. The one error is
-/// [`OutOfMemory`](qs_data::Error::OutOfMemory).
+/// [`OutOfMemory`](qs_data::Error::OutOfMemory). It allocates for the data and their names, and takes time with them.
 ///
 /// ```
 /// Sort::Relevance => unit_variant(alloc, "Relevance"),
@@ -61,7 +65,7 @@ pub fn unit_variant(alloc: Global, name: &str) -> Result<Data>
 }
 
 /// Returns the data of a variant that holds one value, for a [`to_data`](crate::Serialize::to_data) that is written by hand. The one error is
-/// [`OutOfMemory`](qs_data::Error::OutOfMemory).
+/// [`OutOfMemory`](qs_data::Error::OutOfMemory). It allocates for the data and their names, and takes time with them.
 ///
 /// ```
 /// Sort::By(field) => newtype_variant(alloc, "By", field),
@@ -75,7 +79,7 @@ pub fn newtype_variant<T: Serialize>(alloc: Global, name: &str, value: &T) -> Re
 }
 
 /// Returns the data of a struct round one value, for a [`to_data`](crate::Serialize::to_data) that is written by hand. The one error is
-/// [`OutOfMemory`](qs_data::Error::OutOfMemory).
+/// [`OutOfMemory`](qs_data::Error::OutOfMemory). It allocates for the data and their names, and takes time with them.
 ///
 /// ```
 /// newtype_struct(alloc, &self.0)
@@ -88,7 +92,7 @@ pub fn newtype_struct<T: Serialize>(alloc: Global, value: &T) -> Result<Data>
 }
 
 /// Returns the variant of this name with these items, for a [`to_data`](crate::Serialize::to_data) that is written by hand. The one error is
-/// [`OutOfMemory`](qs_data::Error::OutOfMemory).
+/// [`OutOfMemory`](qs_data::Error::OutOfMemory). It allocates for the data and their names, and takes time with them.
 ///
 /// ```
 /// Area::Circle(radius, unit) => tuple_variant(alloc, "Circle", (radius, (unit, ()))),
@@ -103,7 +107,7 @@ pub fn tuple_variant<R: ItemReferences + Drop>(alloc: Global, name: &str, items:
 }
 
 /// Returns the tuple of these items, for a [`to_data`](crate::Serialize::to_data) that is written by hand. The one error is
-/// [`OutOfMemory`](qs_data::Error::OutOfMemory).
+/// [`OutOfMemory`](qs_data::Error::OutOfMemory). It allocates for the data and their names, and takes time with them.
 ///
 /// ```
 /// tuple_struct(alloc, (&self.0, (&self.1, ())))

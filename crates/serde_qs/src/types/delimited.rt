@@ -4,7 +4,6 @@ ghost use Rattle.std.specs.Prelude.{◌≡◌, ◌-◌, ◌^◌, ℕ, nat_le, tr
 ghost use Rattle.std.specs.Fmt.{decimal, signed_decimal};
 ghost use Rattle.std.specs.List.{list_all};
 ghost use Rattle.qs_spec.specs.Scalar.{signed_number, unsigned_number};
-ghost use Rattle.qs_spec.specs.Shape as s;
 ghost use Rattle.serde_qs.specs.Delimited.{NumbersComeBack, is_number_delimiter, list_data};
 ghost use Rattle.serde_qs.specs.Fits.{fits, is_signed};
 ghost use Rattle.serde_qs.specs.Items.{list_in};

@@ -2,7 +2,6 @@
 
 ghost use Rattle.std.specs.Prelude.{map, option_and_then};
 ghost use Rattle.qs_spec.specs.Data as d;
-ghost use Rattle.qs_spec.specs.Shape as s;
 ghost use Rattle.std.specs.declared.vec.Vec.{Vec};
 ghost use Rattle.std.specs.declared.alloc.Global.{Global};
 ghost use Rattle.qs_data.specs.data.Views.{values_in};

@@ -1,8 +1,7 @@
 //! Maps whose keys are strings.
 
-ghost use Rattle.std.specs.Prelude.{◌≡◌, map, option_and_then};
+ghost use Rattle.std.specs.Prelude.{map, option_and_then};
 ghost use Rattle.qs_spec.specs.Data as d;
-ghost use Rattle.qs_spec.specs.Shape as s;
 ghost use Rattle.qs_spec.specs.internal.ReadFunction.{reads};
 ghost use Rattle.qs_data.specs.data.Views.{data_of, pairs_in};
 ghost use Rattle.qs_data.specs.read.Gives.{Gives};

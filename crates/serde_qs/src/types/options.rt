@@ -1,7 +1,6 @@
 //! Values that may be absent.
 
 ghost use Rattle.std.specs.Prelude.{Option};
-ghost use Rattle.qs_spec.specs.Shape as s;
 ghost use Rattle.serde_qs.specs.Meaning.{option_data};
 ghost use Rattle.serde_qs.specs.internal.OwnTables.{option_datum};
 ghost use Rattle.serde_qs.specs.Tables.{option_table};

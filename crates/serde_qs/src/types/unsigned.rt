@@ -1,6 +1,6 @@
 //! Unsigned numbers of 8 to 64 bits.
 
-ghost use Rattle.std.specs.Prelude.{◌≡◌, ◌≤◌, ℕ, IfOk, refl};
+ghost use Rattle.std.specs.Prelude.{◌≤◌, ℕ, IfOk, refl};
 ghost use Rattle.qs_spec.specs.Data as d;
 ghost use Rattle.qs_spec.specs.Shape as s;
 ghost use Rattle.qs_data.specs.data.Views.{data_of};

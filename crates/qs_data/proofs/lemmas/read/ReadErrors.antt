@@ -30,10 +30,6 @@ pub frugal_exit : {X Y Z : Type 0} (x : Result X ReadError) (e : ReadError) (r :
 frugal_exit (Ok x) e r s h f n = tt
 frugal_exit (Err y) e r s h f n = let P : ReadError → Type 0 = λ z. ReadSpares z s in subst P (sym h) (spared e r s f n)
 
-pub frugal_as : {X Y : Type 0} (x : Result X ReadError) (r s : Option Y) → ReadIsFrugal x r → r ≡ s → ReadIsFrugal x s
-frugal_as (Ok x) r s h e = tt
-frugal_as (Err y) r s h e = spared y r s h (λ n. sym e ∙ n)
-
 pub custom_spared : {Y : Type 0} (e : ReadError) (r : Option Y) → r ≡ None → ReadSpares e r
 custom_spared (Custom m) r n = tt
 custom_spared (Utf8 c) r n = tt

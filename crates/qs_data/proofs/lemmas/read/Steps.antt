@@ -5,10 +5,6 @@ use Rattle.qs_data.proofs.Common.{◌≡◌, List, [], ◌∷◌, ◌++◌, Opti
 abbrev pub before : {A : Type 0} → List A → Option (List A) → Option (List A)
 before xs r = option_map (λ ys. xs ++ ys) r
 
-pub before-nil : {A : Type 0} (r : Option (List A)) → r ≡ before [] r
-before-nil None = refl
-before-nil (Some x) = refl
-
 pub before-front : {A : Type 0} (xs : List A) (x : A) (r : Option (List A)) → before xs (with_front x r) ≡ before (xs ++ x ∷ []) r
 before-front xs x None = refl
 before-front xs x (Some ys) = ap Some (sym (append_assoc xs (x ∷ []) ys))

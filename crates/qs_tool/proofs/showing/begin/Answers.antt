@@ -3,7 +3,7 @@ use Rattle.std.specs.Prelude.{OnOk}
 use Rattle.qs_data.specs.data.Views.{data_of, pairs_in}
 use Rattle.qs_tool.specs.Shown.{shown, shown_pairs, in_braces}
 use Rattle.qs_tool.specs.internal.Pieces.{Begins}
-use Rattle.qs_tool.proofs.Pieces.{data_of_map}
+use Rattle.qs_data.proofs.lemmas.data.Levels.{data_of_map}
 use Rattle.qs_tool.proofs.showing.begin.Goals as goal
 
 pub returns-in-Map-clause-ok : goal.returns-in-Map-clause-ok

@@ -4,7 +4,7 @@ use Rattle.qs_data.proofs.lemmas.read.Errors.{gives_exit}
 use Rattle.serde_qs.specs.Items.{items_in, pieces, listed_in}
 use Rattle.serde_qs.proofs.Pieces.{piece_before, only_piece, before-item, no-item, map_more}
 use Rattle.serde_qs.specs.internal.Pieces.{listed_pieces}
-use Rattle.serde_qs.proofs.Steps.{before}
+use Rattle.qs_data.proofs.lemmas.read.Steps.{before}
 use Rattle.serde_qs.proofs.helpers.generic_delimiter.listed.Goals as goal
 
 pub returns-in_err-parse : goal.returns-in_err-parse

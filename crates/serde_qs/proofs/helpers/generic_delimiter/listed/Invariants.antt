@@ -2,7 +2,7 @@ use Rattle.std.proofs.Common.{◌≡◌, length, map}
 use denote.Text.{Utf8}
 use denote.Shadow.{shadow}
 use Rattle.serde_qs.specs.Items.{items_in, pieces}
-use Rattle.serde_qs.proofs.Steps.{before}
+use Rattle.qs_data.proofs.lemmas.read.Steps.{before}
 use Rattle.serde_qs.proofs.helpers.generic_delimiter.listed.Given as goal
 
 abbrev pub invariant-loop-piece : goal.invariant-loop-piece

@@ -2,7 +2,7 @@ use Rattle.std.proofs.Common.{◌≡◌, map, length}
 use Rattle.std.specs.Vec.Iter.{into_iter_items, into_iter_len}
 use Rattle.qs_data.specs.data.Views.{values_in}
 use Rattle.serde_qs.specs.Meaning.{values_meant}
-use Rattle.serde_qs.proofs.Steps.{before}
+use Rattle.qs_data.proofs.lemmas.read.Steps.{before}
 use Rattle.serde_qs.proofs.types.lists.items_of.Given as goal
 
 abbrev pub invariant-loop-part : goal.invariant-loop-part

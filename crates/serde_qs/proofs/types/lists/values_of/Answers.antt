@@ -13,7 +13,7 @@ use Rattle.qs_data.proofs.lemmas.read.Errors.{gives_exit}
 use Rattle.qs_data.proofs.lemmas.read.Items.{due_bad}
 use Rattle.serde_qs.specs.internal.NodeParts.{each_value}
 use Rattle.serde_qs.proofs.NodeItems.{value_all, value_end, value_more, value_rejected, value_unread}
-use Rattle.serde_qs.proofs.Steps.{before}
+use Rattle.qs_data.proofs.lemmas.read.Steps.{before}
 use Rattle.serde_qs.proofs.types.lists.values_of.Goals as goal
 use Rattle.serde_qs.proofs.types.lists.values_of.Goals.{else-loop-i-test, then-loop-i-test+in_ok-item+in_default}
 

@@ -4,7 +4,7 @@ use Rattle.std.specs.Option.{option_and_then}
 use Rattle.qs_spec.specs.internal.ReadFunction.{reads}
 use Rattle.qs_data.specs.read.Items.{items_view}
 use Rattle.serde_qs.specs.internal.NodeParts.{each_value}
-use Rattle.serde_qs.proofs.Steps.{before}
+use Rattle.qs_data.proofs.lemmas.read.Steps.{before}
 use Rattle.serde_qs.proofs.types.lists.values_of.Given as goal
 
 abbrev pub invariant-loop-i : goal.invariant-loop-i

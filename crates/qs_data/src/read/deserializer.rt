@@ -60,8 +60,9 @@ impl<'qs> Deserializer<'qs> {
     /// [`parse`](qs_tree::parse) does: texts and keys that hold neither `+` nor `%` are borrowed from the input. The time grows with the
     /// input's length and the depth of its keys.
     ///
-    /// The clauses are those of [`parse`](qs_tree::parse) about the tree. Pairs in another order that keeps those with overlapping
-    /// paths have the same tree, or are rejected too (`equivalent`). Steps aren't counted: [`parse_with`](qs_tree::parse_with) counts them.
+    /// The clauses are those of [`parse`](qs_tree::parse) about the tree. If there is a pair, an input with the same pairs, in another order
+    /// that keeps those with overlapping paths in theirs, has the same tree but for what is borrowed, or is rejected too (`equivalent`).
+    /// Steps aren't counted: [`parse_with`](qs_tree::parse_with) counts them.
     ///
     /// ```
     /// let config = Config::new().use_form_encoding(true);

@@ -57,6 +57,7 @@ pub(crate) fn read_struct(
 /// Reads the fields by their names, and then tests all keys: for one that no field has, where such are rejected, and for one that isn't
 /// a text.
 #[cycle(read)]
+#[tactic(auto, using(crate::proofs::lemmas::read::Entries::keys_bad))]
 pub(crate) fn read_entries(
     reader: Reader,
     unknown: UnknownKeys,

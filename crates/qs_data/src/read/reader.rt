@@ -136,6 +136,7 @@ impl Reader {
     /// sequence, and the values of a map whose keys are all integers.
     ///
     /// For another map, and a node that holds nothing at all, the error is [`Custom`](qs_tree::Error::Custom). It allocates for an error alone.
+    /// Of a map it looks at each key up to the first that isn't an integer; else it takes constant time.
     ///
     /// ```
     /// let items = reader.items(node)?;
@@ -147,8 +148,8 @@ impl Reader {
         self.items_for(Expected::Sequence, node)
     }
 
-    /// Returns the items of a node for a tuple of this size, as [`items`](Reader::items) does for a list. There may be more or fewer; the size is
-    /// named by the error.
+    /// Returns the items of a node for a tuple of this size, as [`items`](Reader::items) does for a list, with its errors, allocations and time.
+    /// There may be more or fewer; the size is named by the error.
     ///
     /// ```
     /// let items = reader.tuple(2, node)?;
@@ -161,7 +162,10 @@ impl Reader {
     }
 
     /// Returns the entries of a node, if it has a map of them: those of a map, none where there is no value or an empty one, and a text under
-    /// the empty key. It doesn't allocate.
+    /// the empty key.
+    ///
+    /// For a sequence, and a node that holds nothing at all, the error is [`Custom`](qs_tree::Error::Custom), for which alone it allocates. It
+    /// takes constant time.
     ///
     /// ```
     /// let entries = reader.entries(node)?;

@@ -4,11 +4,10 @@ ghost use Rattle.std.specs.Prelude.{◌≡◌, ◌||◌, None};
 ghost use Rattle.std.specs.Str.{is_utf8};
 ghost use Rattle.qs_spec.specs.Segment.{segment_text};
 ghost use Rattle.qs_spec.specs.Shape.{Fields, are_ignored, is_field_name};
-ghost use Rattle.qs_spec.specs.Node.{keys_are_names};
+ghost use Rattle.qs_spec.specs.Node.{keys_are_names, keys_are_text};
 ghost use Rattle.qs_tree.specs.tree.Views.{entries_of_map, segment_of_key};
 ghost use Rattle.qs_data.specs.shape.Views.{fields_in};
 ghost use Rattle.qs_data.specs.read.Gives.{Gives};
-ghost use Rattle.qs_data.specs.read.TreeText.{entries_are_text};
 ghost use Rattle.qs_data.specs.read.internal.ReadError.{ReadGives, ReadRejects};
 ghost use Rattle.qs_data.specs.read.Keys.{entries_view, unknown_of, when};
 
@@ -75,7 +74,7 @@ impl UnknownKeys {
         entries: Entries<'_, '_>,
     ) -> Result<(), Error>
         ensures { let es = entries_view entries.entry in
-            Gives (λ _. tt) (entries_are_text es) result (when (keys_are_names (N.fields names.now) es || are_ignored (unknown_of self))) }
+            Gives (λ _. tt) (keys_are_text es) result (when (keys_are_names (N.fields names.now) es || are_ignored (unknown_of self))) }
     {
         Ok(self.test(reader.alloc, names, entries)?)
     }
@@ -89,7 +88,7 @@ impl UnknownKeys {
         entries: Entries<'_, '_>,
     ) -> Result<()>
         ensures { let es = entries_view entries.entry in
-            ReadGives (λ _. tt) (entries_are_text es) result (when (keys_are_names (N.fields names.now) es || are_ignored (unknown_of self))) }
+            ReadGives (λ _. tt) (keys_are_text es) result (when (keys_are_names (N.fields names.now) es || are_ignored (unknown_of self))) }
     {
         match (self, entries) {
             (UnknownKeys::Ignored, _) | (_, Entries::Empty) => Ok(()),
@@ -103,7 +102,7 @@ impl UnknownKeys {
 #[tactic(auto, using(crate::proofs::lemmas::read::Entries::after_none, crate::proofs::lemmas::read::Entries::after_all))]
 fn test_map<N: FieldNames>(alloc: Global, names: &N, map: &ParsedMap<'_>) -> Result<()>
     ensures { let es = entries_of_map map.now in
-        ReadGives (λ _. tt) (entries_are_text es) result (when (keys_are_names (N.fields names.now) es)) }
+        ReadGives (λ _. tt) (keys_are_text es) result (when (keys_are_names (N.fields names.now) es)) }
 {
     for i in 0..map.len() {
         let Some((key, _)) = map.at(i) else {

@@ -23,8 +23,10 @@ impl Shape {
     /// keys are of the shape. A tuple has the shape's length. The fields of a struct, and of a struct variant, are fields of the
     /// shape in its order, and each that isn't optional is there. Nothing fits [`Any`](Shape::Any) or [`Ignored`](Shape::Ignored).
     ///
-    /// [Plain](Data::is_plain) data that fit a shape, of which the names differ, are read back by it. It takes time with the size of
-    /// the data and of the shape, and stack with their depth. It doesn't allocate.
+    /// Where the data are plain too, and the names of the shape differ, they are read back by it from what is written of them, as
+    /// [`Data::is_plain`] says for the indexed format, and [`Data::is_listed`] for the others. To fit alone isn't enough.
+    ///
+    /// It takes time with the size of the data and of the shape, and stack with their depth. It doesn't allocate.
     ///
     /// ```
     /// if !shape.fits(&data) {

@@ -21,6 +21,9 @@ use std::mem;
 /// A type that writes itself calls one of [`scalar`](Writer::scalar), [`none`](Writer::none), [`unit`](Writer::unit) and [`data`](Writer::data), or goes
 /// in to the key of each part by [`enter`](Writer::enter), and out again by [`leave`](Writer::leave).
 ///
+/// After a [`Stop`] it isn't known at which path the writer is, so write nothing more to it: take its text by
+/// [`into_text`](Writer::into_text), or let it go.
+///
 /// ```
 /// let len = writer.enter(Scalar::Bytes(b"age"))?;
 /// writer.scalar(Scalar::Unsigned(24))?; // age=24
@@ -37,7 +40,8 @@ pub struct Writer {
 }
 
 impl Writer {
-    /// Returns a writer at the top, that wrote nothing yet. It allocates 128 bytes for the text.
+    /// Returns a writer at the top, that wrote nothing yet. It allocates 128 bytes for the text; where that fails, the error is [`AllocError`],
+    /// and there is no other.
     ///
     /// ```
     /// let writer = Writer::new(alloc, Config::new())?;

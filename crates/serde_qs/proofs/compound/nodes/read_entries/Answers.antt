@@ -3,6 +3,7 @@ use Rattle.qs_spec.specs.Node.{keys_are_names, keys_are_text}
 use Rattle.qs_spec.specs.Shape.{are_ignored, fields_of}
 use Rattle.qs_data.specs.read.TreeText.{entries_are_text}
 use Rattle.qs_data.specs.read.Keys.{entries_view, unknown_of, when}
+use Rattle.qs_data.proofs.lemmas.read.Entries.{keys_bad}
 use Rattle.qs_data.proofs.lemmas.read.Errors.{and_right}
 use Rattle.qs_data.proofs.lemmas.read.Unknown.{fails, passes}
 use Rattle.serde_qs.specs.Nodes.{by_names}
@@ -32,8 +33,8 @@ returns-in_err-reject g c =
     let fs = t.form (texts c.args.names.now) in
     let m = t.meaning (texts c.args.names.now) in
     let known = keys_are_names (fields_of fs) es || are_ignored u in
-    narrowed_exit t.value (entries_are_text es) (entries_are_text es) c.from_residual-in_err-reject.result c.in_err-reject.field-0.0 (when known) (names_read u st fs m es)
-    c.from_residual-in_err-reject.ensures.1 c.in_err-reject.ensures (λ none. names_disallowed u st fs m es (and_right (keys_are_text es) known (fails known none))) (λ f. f)
+    narrowed_exit t.value (keys_are_text es) (entries_are_text es) c.from_residual-in_err-reject.result c.in_err-reject.field-0.0 (when known) (names_read u st fs m es)
+    c.from_residual-in_err-reject.ensures.1 c.in_err-reject.ensures (λ none. names_disallowed u st fs m es (and_right (keys_are_text es) known (fails known none))) (keys_bad es)
 
 pub returns-in-Ok : goal.returns-in-Ok
 returns-in-Ok g c =

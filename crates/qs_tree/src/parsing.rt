@@ -40,7 +40,7 @@ use std::mem;
 ///
 /// Strings and string keys without `+` and `%` are borrowed from the input. It allocates for all others, for paths of more than one
 /// key, for each map and sequence, and for the text of an error. It doesn't allocate for the empty input, for `&` alone, and for `=` with a value without
-/// `&`, `+` and `%`. Each byte is parsed once, and each key is looked up in its map in logarithmic time.
+/// `&`, `+` and `%`. Each byte is taken once, as [`parse_with`] counts, and each key is looked up in its map in logarithmic time.
 ///
 /// ```
 /// let tree = parse(alloc, b"a[b]=1&a[c]=x%20y", Config::new())?; // a map with a map under `a`
@@ -53,7 +53,8 @@ pub fn parse(alloc: Global, input: &[u8], config: Config) -> Result<ParsedValue<
 
 /// Parses a querystring as [`parse`] does, and adds to `steps` how many steps that took, after an error too.
 ///
-/// Each parsed byte is a step, and so is the end. So an input without an error takes as many steps as its length and one.
+/// A step is a byte that the parser takes, or its look at the end. So an input without an error takes as many steps as its length and
+/// one. What was taken may be looked at again for an index, for escapes and for comparisons, which isn't counted.
 ///
 /// ```
 /// let mut steps = Steps::new();

@@ -35,23 +35,23 @@ fn drop_first_leaf<'qs>(node: TreeBuilder<'qs>, above: TreeBuilder<'qs>) -> Tree
     let mut node = node;
     let mut above = above;
     loop {
-        match node {
-            TreeBuilder::Map(map) => match map.into_form() {
-                Ok(mut entries) => {
-                    if entries.len() == 0 {
-                        entries.destroy_empty();
-                        return above;
-                    }
-                    node = entries.replace(0, above);
-                    above = TreeBuilder::Map(MapBuilder::Vector(entries));
-                }
-                Err(tree) => {
-                    drop_below(tree);
-                    return above;
-                }
-            },
+        let map = match node {
+            TreeBuilder::Map(map) => map,
             TreeBuilder::Value(_) | TreeBuilder::Unsorted(_) => return above,
+        };
+        let mut entries = match map.into_form() {
+            Ok(entries) => entries,
+            Err(tree) => {
+                drop_below(tree);
+                return above;
+            }
+        };
+        if entries.len() == 0 {
+            entries.destroy_empty();
+            return above;
         }
+        node = entries.replace(0, above);
+        above = TreeBuilder::Map(MapBuilder::Vector(entries));
     }
 }
 

@@ -154,8 +154,9 @@ fn run_len(bytes: &[u8], form: bool, until: Until) -> (usize, bool)
     (at, plain)
 }
 
-/// A cursor over an input. The input is read only by the methods below, and they count steps: one for each byte that is taken, and
-/// one for reaching the end.
+/// A cursor over an input. A step is a byte that the cursor takes, or its look at the end; the methods that take no byte count none.
+/// Other looks aren't counted: at the bytes after a `%`, which may be a bracket's, and at what was taken, for an index, for escapes
+/// and for comparisons.
 #[derive(Drop)]
 pub(crate) struct Cursor<'qs> {
     rest: &'qs [u8],

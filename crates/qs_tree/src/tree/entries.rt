@@ -105,7 +105,8 @@ impl<K: Ord, V> Entries<K, V> {
 
     /// Returns the entry at an index, or `None`.
     pub fn at(&self, at: usize) -> Option<(&K, &V)>
-        ensures { option_map (λ p. (p.0.now, p.1.now)) result ≡ slice_get self.now at }
+        ensures value { option_map (λ p. (p.0.now, p.1.now)) result ≡ slice_get self.now at }
+        ensures sorted { IsStrictlySortedBy K.cmp (keys_of self.now) }
     {
         match self.items.get(at) {
             Some(entry) => Some((&entry.0, &entry.1)),
@@ -190,6 +191,7 @@ impl<K: Ord + Drop, V: Drop> Entries<K, V> {
         requires { at < length self.old }
         ensures entry { slice_get self.old at ≡ Some result }
         ensures rest { self.new ≡ remove self.old at }
+        ensures sorted { IsStrictlySortedBy K.cmp (keys_of self.old) }
     {
         self.items.remove(at)
     }

@@ -128,7 +128,8 @@ impl<'qs> ParsedMap<'qs> {
     /// ```
     #[must_use]
     pub fn at(&self, at: usize) -> Option<(&Key<'qs>, &ParsedValue<'qs>)>
-        ensures { option_map (λ p. (step_of_key p.0.now, tree_of p.1.now)) result ≡ slice_get (map_pairs self.now) at }
+        ensures value { option_map (λ p. (step_of_key p.0.now, tree_of p.1.now)) result ≡ slice_get (map_pairs self.now) at }
+        ensures ordered { AreOrdered (entries_of_map self.now) }
     {
         self.map.at(at)
     }
@@ -143,6 +144,7 @@ impl<'qs> ParsedMap<'qs> {
     pub fn remove<'k>(&mut self, key: &Key<'k>) -> Option<ParsedValue<'qs>>
         ensures value { option_map tree_of result ≡ view.find (segment_of_key key.now) (entries_of_map self.old) }
         ensures rest { entries_of_map self.new ≡ take_out (segment_of_key key.now) (entries_of_map self.old) }
+        ensures ordered { AreOrdered (entries_of_map self.old) }
     {
         match search(self.map.as_slice(), key, &mut Steps::new()) {
             Ok(at) => Some(self.map.remove_at(at).1),
@@ -157,7 +159,8 @@ impl<'qs> ParsedMap<'qs> {
     /// let first = map.pop_first(); // the entry of 0 in b=1&0=2
     /// ```
     pub fn pop_first(&mut self) -> Option<(Key<'qs>, ParsedValue<'qs>)>
-        ensures { MatchOption result ((map_pairs self.old ≡ []) × (map_pairs self.new ≡ [])) (λ p. map_pairs self.old ≡ (step_of_key p.0, tree_of p.1) ∷ map_pairs self.new) }
+        ensures value { MatchOption result ((map_pairs self.old ≡ []) × (map_pairs self.new ≡ [])) (λ p. map_pairs self.old ≡ (step_of_key p.0, tree_of p.1) ∷ map_pairs self.new) }
+        ensures ordered { AreOrdered (entries_of_map self.old) }
     {
         if self.map.len() == 0 {
             return None;

@@ -9,3 +9,6 @@ pub returns-clause-entry : goal.returns-clause-entry
 returns-clause-entry g c =
     let in_range = rw (← c.self.view_is) at c.requires in
     rw (← c.self.view_is, slice_get-get_or c.self.inside.items.items c.args.at c.remove.result in_range) (ap Some (sym c.remove.ensures.value))
+
+pub returns-clause-sorted : goal.returns-clause-sorted
+returns-clause-sorted g c = rw (← c.self.view_is) c.self.invariant

@@ -167,7 +167,7 @@ pairs::find_in_pairs-returns-in-loop-i t c =
     let x : Step × Tree = (step_of_key c.in-Some.key.now, tree_of c.in-Some.value.now) in
     let m = c.in-Some-2.mismatch in
     let below = subst (λ o. FindsBelow {E = AllocError} rd x.0.seg s x.1 (Ok o)) c.in-Some-2.is c.in_ok-mismatch.ensures in
-    c.loop-i.invariant (Ok (Some m)) (children.pairs_fails {E = AllocError} rd c.loop-i.i (Ok (Some m)) s es x m (sym c.in-Some.ensures) below)
+    c.loop-i.invariant (Ok (Some m)) (children.pairs_fails {E = AllocError} rd c.loop-i.i (Ok (Some m)) s es x m (sym c.in-Some.ensures.value) below)
 
 pub pairs::find_in_pairs-loop-i-preserved : goal.pairs::find_in_pairs-loop-i-preserved
 pairs::find_in_pairs-loop-i-preserved t c r rest =
@@ -176,7 +176,7 @@ pairs::find_in_pairs-loop-i-preserved t c r rest =
     let es = entries_of_map c.args.map.now in
     let x : Step × Tree = (step_of_key c.in-Some.key.now, tree_of c.in-Some.value.now) in
     let read = subst (λ o. FindsBelow {E = AllocError} rd x.0.seg s x.1 (Ok o)) c.in_default-2.is c.in_ok-mismatch.ensures in
-    c.loop-i.invariant r (children.pairs_more rd c.loop-i.i r s es x (sym c.in-Some.ensures) read rest)
+    c.loop-i.invariant r (children.pairs_more rd c.loop-i.i r s es x (sym c.in-Some.ensures.value) read rest)
 
 pub pairs::find_in_pairs-returns : goal.pairs::find_in_pairs-returns
 pairs::find_in_pairs-returns t c =
@@ -186,7 +186,7 @@ pairs::find_in_pairs-returns t c =
     let i = c.loop-i.i in
     elim c.loop-i-test.branch [
       | pairs::find_in_pairs-else-loop-i-test w ↦ c.loop-i.invariant (Ok None) (children.pairs_end {E = AllocError} rd i (Ok None) s es (omega (arith, c.len-i-end.ensures, w.loop-i-test.false)))
-      | pairs::find_in_pairs-then-loop-i-test+in_default w ↦ c.loop-i.invariant (Ok None) (children.pairs_none {E = AllocError} rd i (Ok None) s es (sym w.in_default.ensures))
+      | pairs::find_in_pairs-then-loop-i-test+in_default w ↦ c.loop-i.invariant (Ok None) (children.pairs_none {E = AllocError} rd i (Ok None) s es (sym w.in_default.ensures.value))
     ]
 
 pub walk::find_mismatch-returns-in_ok-mismatch_here-in-None : goal.walk::find_mismatch-returns-in_ok-mismatch_here-in-None
@@ -370,7 +370,7 @@ enums::find_in_named-find_in_variant-requires t c =
     let es = entries_of_map c.args.map.now in
     let key = step_of_key c.in-Some.key.now in
     let n = tree_of c.in-Some.value.now in
-    let first : es ≡ entry key.seg key.mark n (entries_after 1 es) = after_some 0 es (key, n) (sym c.in-Some.ensures) in
+    let first : es ≡ entry key.seg key.mark n (entries_after 1 es) = after_some 0 es (key, n) (sym c.in-Some.ensures.value) in
     let i = c.in-Some-find_variant.index in
     let v = c.index-variant.result.now in
     let at = variant_at (segment_text key.seg) ds _ i v c.deref.ensures.value c.in-Some-find_variant.ensures.named c.in-Some-find_variant.ensures.index c.index-variant.ensures in
@@ -383,7 +383,7 @@ enums::find_in_named-returns t c =
     let es = entries_of_map c.args.map.now in
     let key = step_of_key c.in-Some.key.now in
     let n = tree_of c.in-Some.value.now in
-    let first : es ≡ entry key.seg key.mark n (entries_after 1 es) = after_some 0 es (key, n) (sym c.in-Some.ensures) in
+    let first : es ≡ entry key.seg key.mark n (entries_after 1 es) = after_some 0 es (key, n) (sym c.in-Some.ensures.value) in
     let i = c.in-Some-find_variant.index in
     let v = c.index-variant.result.now in
     let at = variant_at (segment_text key.seg) ds _ i v c.deref.ensures.value c.in-Some-find_variant.ensures.named c.in-Some-find_variant.ensures.index c.index-variant.ensures in

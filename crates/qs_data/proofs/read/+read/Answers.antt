@@ -151,11 +151,11 @@ variants::read_least-returns-in_err-place t c =
     let es = entries_of_map c.args.map.now in
     let key = step_of_key c.in-Some.key.now in
     let n = tree_of c.in-Some.value.now in
-    let least : es ≡ entry key.seg key.mark n (entries_after 1 es) = after_some 0 es (key, n) (sym c.in-Some.ensures) in
+    let least : es ≡ entry key.seg key.mark n (entries_after 1 es) = after_some 0 es (key, n) (sym c.in-Some.ensures.value) in
     let name = segment_text key.seg in
     let exit = gives_exit data_of (is_utf8 name) (entries_are_text es) c.from_residual.result c.in_err-place.field-0.0 (option_map Some (variant_named name (variants_in ds)))
     (read_enum (variants_in ds) (reads_variant c.args.reader.reject_duplicates (variants_in ds)) (mapping es)) c.from_residual.ensures.1 c.in_err-place.ensures.named
-    (enum_none c.args.reader.reject_duplicates (variants_in ds) es (entries_after 1 es) key.seg key.mark n least) (key_bad 0 es (key, n) (sym c.in-Some.ensures)) in
+    (enum_none c.args.reader.reject_duplicates (variants_in ds) es (entries_after 1 es) key.seg key.mark n least) (key_bad 0 es (key, n) (sym c.in-Some.ensures.value)) in
     subst (λ ys. ReadGives data_of (entries_are_text es) c.from_residual.result (read_enum (variants_in ys) (reads_variant c.args.reader.reject_duplicates (variants_in ys)) (mapping es))) c.deref.ensures.value exit
 
 pub variants::read_least-returns : goal.variants::read_least-returns
@@ -165,7 +165,7 @@ variants::read_least-returns t c =
     let es = entries_of_map c.args.map.now in
     let key = step_of_key c.in-Some.key.now in
     let n = tree_of c.in-Some.value.now in
-    let least : es ≡ entry key.seg key.mark n (entries_after 1 es) = after_some 0 es (key, n) (sym c.in-Some.ensures) in
+    let least : es ≡ entry key.seg key.mark n (entries_after 1 es) = after_some 0 es (key, n) (sym c.in-Some.ensures.value) in
     let name = segment_text key.seg in
     let i = c.in_ok-place.place in
     let v = c.index.result.now in
@@ -173,7 +173,7 @@ variants::read_least-returns t c =
     let inside = subst (λ ys. i < length ys) c.deref.ensures.value c.in_ok-place.ensures.place in
     let named = named_is name ds i v found inside c.index.ensures in
     gives_as data_of (is_text n) (entries_are_text es) c.read_variant.result (reads_kind c.args.reader.reject_duplicates (variant_of v).1 (variant_of v).0 n) (read_enum vs (reads_variant c.args.reader.reject_duplicates vs) (mapping es))
-    c.read_variant.ensures (sym (enum_some c.args.reader.reject_duplicates vs es (entries_after 1 es) key.seg key.mark n least v named)) (value_bad 0 es (key, n) (sym c.in-Some.ensures))
+    c.read_variant.ensures (sym (enum_some c.args.reader.reject_duplicates vs es (entries_after 1 es) key.seg key.mark n least v named)) (value_bad 0 es (key, n) (sym c.in-Some.ensures.value))
 
 pub variants::struct_variant_data-returns : goal.variants::struct_variant_data-returns
 unfolding reads
@@ -281,7 +281,7 @@ maps::read_pairs-returns-in_err-key t c =
     let k = key_shape_of c.args.key_shape.now in
     let r = reads c.args.reader.reject_duplicates (shape_of c.args.part.now) in
     let x : Step × Tree = (step_of_key c.in-Some.key.now, tree_of c.in-Some.value.now) in
-    let here = sym c.in-Some.ensures in
+    let here = sym c.in-Some.ensures.value in
     gives_exit (λ v. map pair_of v.items) (is_utf8 (segment_text x.0.seg)) (entries_are_text es) c.from_residual-in_err-key.result c.in_err-key.field-0.0 (key_data k (segment_text x.0.seg)) (read_pairs k r es)
     c.from_residual-in_err-key.ensures.1 c.in_err-key.ensures (λ e. l.invariant ∙ pairs_no_key k r es l.i (map pair_of l.pairs.items) x here e) (key_bad l.i es x here)
 
@@ -292,7 +292,7 @@ maps::read_pairs-returns-in_err-value t c =
     let k = key_shape_of c.args.key_shape.now in
     let r = reads c.args.reader.reject_duplicates (shape_of c.args.part.now) in
     let x : Step × Tree = (step_of_key c.in-Some.key.now, tree_of c.in-Some.value.now) in
-    let here = sym c.in-Some.ensures in
+    let here = sym c.in-Some.ensures.value in
     gives_exit (λ v. map pair_of v.items) (is_text x.1) (entries_are_text es) c.from_residual-in_err-value.result c.in_err-value.field-0.0 (r x.1) (read_pairs k r es)
     c.from_residual-in_err-value.ensures.1 c.in_err-value.ensures.gives (λ e. l.invariant ∙ pairs_no_value k r es l.i (map pair_of l.pairs.items) x here e) (value_bad l.i es x here)
 
@@ -307,7 +307,7 @@ maps::read_pairs-loop-i-preserved t c =
     let a = data_of c.in_ok-key.key in
     let d = data_of c.in_ok-value.value in
     let pushed : map pair_of c.push.new.self.items ≡ ws ++ (a, d) ∷ [] = grind (arith, common_steps) in
-    l.invariant ∙ pairs_more k r es l.i ws x (sym c.in-Some.ensures) a d c.in_ok-key.ensures c.in_ok-value.ensures.gives
+    l.invariant ∙ pairs_more k r es l.i ws x (sym c.in-Some.ensures.value) a d c.in_ok-key.ensures c.in_ok-value.ensures.gives
     ∙ ap (λ ys. before ys (read_pairs k r (entries_after (l.i + 1) es))) (sym pushed)
 
 pub maps::read_pairs-returns : goal.maps::read_pairs-returns
@@ -319,7 +319,7 @@ maps::read_pairs-returns t c =
     let ws = map pair_of l.pairs.items in
     elim c.loop-i-test.branch [
       | maps::read_pairs-else-loop-i-test w ↦ l.invariant ∙ pairs_all k r es l.i ws (omega (arith, c.len-i-end.ensures, w.loop-i-test.false))
-      | maps::read_pairs-then-loop-i-test+in_default w ↦ l.invariant ∙ pairs_end k r es l.i ws (sym w.in_default.ensures)
+      | maps::read_pairs-then-loop-i-test+in_default w ↦ l.invariant ∙ pairs_end k r es l.i ws (sym w.in_default.ensures.value)
     ]
 
 pub maps::read_under_empty-returns-in_err-key : goal.maps::read_under_empty-returns-in_err-key

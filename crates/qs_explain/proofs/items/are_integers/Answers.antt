@@ -13,7 +13,7 @@ loop-i-preserved c =
     let i = c.loop-i.i in
     let x : Step × Tree = (step_of_key c.in-Some.key.now, tree_of c.in-Some.field-0-1.now) in
     let number : is_int x.0.seg ≡ true = ap (λ k. is_int (segment_of_key k)) c.in_default-key.is in
-    c.loop-i.invariant ∙ int_key i es x (sym c.in-Some.ensures) number
+    c.loop-i.invariant ∙ int_key i es x (sym c.in-Some.ensures.value) number
 
 pub returns-in-String : goal.returns-in-String
 returns-in-String c =
@@ -21,7 +21,7 @@ returns-in-String c =
     let i = c.loop-i.i in
     let x : Step × Tree = (step_of_key c.in-Some.key.now, tree_of c.in-Some.field-0-1.now) in
     let text : is_int x.0.seg ≡ false = text_key c.in-Some.key.now c.in-String.field-0 c.in-String.is in
-    sym (c.loop-i.invariant ∙ not_int i es x (sym c.in-Some.ensures) text)
+    sym (c.loop-i.invariant ∙ not_int i es x (sym c.in-Some.ensures.value) text)
 
 pub returns-after-loop-i : goal.returns-after-loop-i
 returns-after-loop-i c =
@@ -31,4 +31,4 @@ returns-after-loop-i c =
 pub returns-in_default : goal.returns-in_default
 returns-in_default c =
     let es = entries_of_map c.args.map.now in
-    sym (c.loop-i.invariant ∙ ap are_ints (after_none c.loop-i.i es (sym c.in_default.ensures)))
+    sym (c.loop-i.invariant ∙ ap are_ints (after_none c.loop-i.i es (sym c.in_default.ensures.value)))

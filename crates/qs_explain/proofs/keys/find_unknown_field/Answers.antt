@@ -14,14 +14,14 @@ returns-in-loop-i c =
     let test = is_allowed (unknown_of c.args.unknown) (fields_in c.args.fields.now) in
     let es = entries_of_map c.args.map.now in
     let x : Step × Tree = (step_of_key c.in-Some.key.now, tree_of c.in-Some.field-0-1.now) in
-    ap Some c.in_ok-of.ensures ∙ sym (c.loop-i.invariant ∙ other_here test c.loop-i.i es x (sym c.in-Some.ensures) (sym c.if-is_allowed_key.ensures))
+    ap Some c.in_ok-of.ensures ∙ sym (c.loop-i.invariant ∙ other_here test c.loop-i.i es x (sym c.in-Some.ensures.value) (sym c.if-is_allowed_key.ensures))
 
 pub loop-i-preserved : goal.loop-i-preserved
 loop-i-preserved c =
     let test = is_allowed (unknown_of c.args.unknown) (fields_in c.args.fields.now) in
     let es = entries_of_map c.args.map.now in
     let x : Step × Tree = (step_of_key c.in-Some.key.now, tree_of c.in-Some.field-0-1.now) in
-    c.loop-i.invariant ∙ other_later test c.loop-i.i es x (sym c.in-Some.ensures) (sym c.if-is_allowed_key.ensures)
+    c.loop-i.invariant ∙ other_later test c.loop-i.i es x (sym c.in-Some.ensures.value) (sym c.if-is_allowed_key.ensures)
 
 pub returns : goal.returns
 returns c =
@@ -29,5 +29,5 @@ returns c =
     let es = entries_of_map c.args.map.now in
     elim c.loop-i-test.branch [
       | else-loop-i-test w ↦ sym (c.loop-i.invariant ∙ other_end test c.loop-i.i es (omega (arith, c.len-i-end.ensures, w.loop-i-test.false)))
-      | then-loop-i-test+in_default w ↦ sym (c.loop-i.invariant ∙ other_none test c.loop-i.i es (sym w.in_default.ensures))
+      | then-loop-i-test+in_default w ↦ sym (c.loop-i.invariant ∙ other_none test c.loop-i.i es (sym w.in_default.ensures.value))
     ]

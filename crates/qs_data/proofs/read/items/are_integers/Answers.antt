@@ -8,7 +8,7 @@ loop-i-preserved c =
     let i = c.loop-i.i in
     let x : Step × Tree = (step_of_key c.in-Some.key.now, tree_of c.in-Some.field-0-1.now) in
     let number : is_int x.0.seg ≡ true = ap (λ k. is_int (segment_of_key k)) c.in_default-key.is in
-    c.loop-i.invariant ∙ int_key i es x (sym c.in-Some.ensures) number
+    c.loop-i.invariant ∙ int_key i es x (sym c.in-Some.ensures.value) number
 
 pub returns-in-String : goal.returns-in-String
 returns-in-String c =
@@ -16,4 +16,4 @@ returns-in-String c =
     let i = c.loop-i.i in
     let x : Step × Tree = (step_of_key c.in-Some.key.now, tree_of c.in-Some.field-0-1.now) in
     let text : is_int x.0.seg ≡ false = text_key c.in-Some.key.now c.in-String.field-0 c.in-String.is in
-    sym (c.loop-i.invariant ∙ not_int i es x (sym c.in-Some.ensures) text)
+    sym (c.loop-i.invariant ∙ not_int i es x (sym c.in-Some.ensures.value) text)

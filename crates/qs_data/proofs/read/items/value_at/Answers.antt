@@ -9,9 +9,9 @@ returns-in_err-test_place c =
     let i = c.args.place in
     let x : Step × Tree = (step_of_key c.in-Some.key.now, tree_of c.in-Some.value.now) in
     gives_exit (option_map (λ v. tree_of v.now)) true true c.from_residual.result c.in_err-test_place.field-0.0 (passed (is_place i x.0.seg)) (first_item (drop i (placed 0 es)))
-    c.from_residual.ensures.1 c.in_err-test_place.ensures (first_rejected i es x (sym c.in-Some.ensures)) (λ n. n)
+    c.from_residual.ensures.1 c.in_err-test_place.ensures (first_rejected i es x (sym c.in-Some.ensures.value)) (λ n. n)
 
 pub returns : goal.returns
 returns c =
     let x : Step × Tree = (step_of_key c.in-Some.key.now, tree_of c.in-Some.value.now) in
-    first_given c.args.place (entries_of_map c.args.map.now) x (sym c.in-Some.ensures) c.in_ok-test_place.ensures
+    first_given c.args.place (entries_of_map c.args.map.now) x (sym c.in-Some.ensures.value) c.in_ok-test_place.ensures

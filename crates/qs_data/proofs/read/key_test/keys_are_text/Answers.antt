@@ -9,6 +9,6 @@ loop-i-preserved c =
     let key = step_of_key c.in-Some.key.now in
     let t = tree_of c.in-Some.field-0-1.now in
     let more = entries_after (i + 1) es in
-    let here : entries_after i es ≡ entry key.seg key.mark t more = after_some i es (key, t) (sym c.in-Some.ensures) in
+    let here : entries_after i es ≡ entry key.seg key.mark t more = after_some i es (key, t) (sym c.in-Some.ensures.value) in
     let before : Passed es (entry key.seg key.mark t more) c.loop-i.passed = subst (λ r. Passed es r c.loop-i.passed) here c.loop-i.invariant in
     passed_more es more key.seg key.mark t c.loop-i.passed c.is_text_key-passed.result before c.is_text_key-passed.ensures.text c.is_text_key-passed.ensures.fit

@@ -9,7 +9,7 @@ loop-i-preserved c =
     let key = step_of_key c.in-Some.key.now in
     let t = tree_of c.in-Some.field-0-1.now in
     let more = entries_after (i + 1) es in
-    let here : entries_after i es ≡ entry key.seg key.mark t more = after_some i es (key, t) (sym c.in-Some.ensures) in
+    let here : entries_after i es ≡ entry key.seg key.mark t more = after_some i es (key, t) (sym c.in-Some.ensures.value) in
     let before : Tested es (entry key.seg key.mark t more) c.loop-i.tested = subst (λ r. Tested es r c.loop-i.tested) here c.loop-i.invariant in
     let tested = tested_more es more key.seg key.mark t c.loop-i.tested c.test_key.result before c.test_key.ensures.text c.test_key.ensures.fit in
     subst (λ x. Tested es more x) (sym c.and-tested.ensures) tested

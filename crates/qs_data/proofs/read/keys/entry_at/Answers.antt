@@ -9,7 +9,7 @@ returns-in_err-text c =
     let es = entries_of_map c.args.map.now in
     let i = c.args.place in
     let x : Step × Tree = (step_of_key c.in-Some.key.now, tree_of c.in-Some.value.now) in
-    let here = sym c.in-Some.ensures in
+    let here = sym c.in-Some.ensures.value in
     gives_exit (option_map (λ e. (string_bytes e.0, tree_of e.1.now))) (is_utf8 (segment_text x.0.seg)) (keys_are_text es) c.from_residual.result c.in_err-text.field-0.0
     (utf8_text (segment_text x.0.seg)) (first_entry (entries_after i es)) c.from_residual.ensures.1 c.in_err-text.ensures (first_rejected i es x here) (key_bad i es x here)
 
@@ -17,4 +17,4 @@ pub returns : goal.returns
 returns c =
     let es = entries_of_map c.args.map.now in
     let x : Step × Tree = (step_of_key c.in-Some.key.now, tree_of c.in-Some.value.now) in
-    first_given c.args.place es x (sym c.in-Some.ensures) (string_bytes c.in_ok-text.text) c.in_ok-text.ensures
+    first_given c.args.place es x (sym c.in-Some.ensures.value) (string_bytes c.in_ok-text.text) c.in_ok-text.ensures

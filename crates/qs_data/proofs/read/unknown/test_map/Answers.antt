@@ -13,8 +13,8 @@ returns-in_err-test_key g c =
     let name = segment_text key.seg in
     gives_exit (λ (x : Unit {0}). tt {0}) (is_utf8 name) (keys_are_text es) c.from_residual.result c.in_err-test_key.field-0.0 (when (is_field_name name fs)) (when (keys_are_names fs es))
     c.from_residual.ensures.1 c.in_err-test_key.ensures
-    (λ n. ap when (c.loop-i.invariant ∙ name_fails fs es c.loop-i.i (key, t) (sym c.in-Some.ensures) (fails (is_field_name name fs) n)))
-    (key_bad c.loop-i.i es (key, t) (sym c.in-Some.ensures))
+    (λ n. ap when (c.loop-i.invariant ∙ name_fails fs es c.loop-i.i (key, t) (sym c.in-Some.ensures.value) (fails (is_field_name name fs) n)))
+    (key_bad c.loop-i.i es (key, t) (sym c.in-Some.ensures.value))
 
 pub loop-i-preserved : goal.loop-i-preserved
 loop-i-preserved g c =
@@ -22,4 +22,4 @@ loop-i-preserved g c =
     let fs = g.N.FieldNames.fields c.args.names.now in
     let key = step_of_key c.in-Some.key.now in
     let t = tree_of c.in-Some.field-0-1.now in
-    c.loop-i.invariant ∙ name_more fs es c.loop-i.i (key, t) (sym c.in-Some.ensures) (passes (is_field_name (segment_text key.seg) fs) c.in_ok-test_key.ensures)
+    c.loop-i.invariant ∙ name_more fs es c.loop-i.i (key, t) (sym c.in-Some.ensures.value) (passes (is_field_name (segment_text key.seg) fs) c.in_ok-test_key.ensures)

@@ -26,7 +26,7 @@ returns-in-Some g c =
     let es = entries_of_map c.in-Map.map in
     let key = step_of_key c.in-Some.key.now in
     let t = tree_of c.in-Some.held.now in
-    let least : es ≡ entry key.seg key.mark t (entries_after 1 es) = after_some 0 es (key, t) (sym c.in-Some.ensures) in
+    let least : es ≡ entry key.seg key.mark t (entries_after 1 es) = after_some 0 es (key, t) (sym c.in-Some.ensures.value) in
     let entries : tree_of (value.Map c.in-Map.map) ≡ mapping es = search (rules, value.the_lemmas) in
     let whole : tree_of c.args.node.now ≡ mapping es = ap tree_of c.in-Map.is ∙ entries in
     widened v.value (is_utf8 (segment_text key.seg) && is_text t) (is_text (tree_of c.args.node.now)) c.under_key.result _ _ c.under_key.ensures

@@ -12,7 +12,7 @@ returns-in_err-key c =
     let l = c.loop-place in
     let es = entries_of_map l.self.entries.now in
     let x : Step × Tree = (step_of_key c.in-Some.key.now, tree_of c.in-Some.value.now) in
-    let here = sym c.in-Some.ensures in
+    let here = sym c.in-Some.ensures.value in
     let whole = option_map (λ ps. d.Data.mapping (d.pairs_of ps)) in
     advance_exit (is_utf8 (segment_text x.0.seg)) c.from_residual.result c.in_err-key.field-0.0 (key_data KeyShape.text (segment_text x.0.seg)) (frame.Map c.args.self.now) (frame.Map l.self)
     c.from_residual.ensures.1 c.in_err-key.ensures (λ e. l.invariant.value ∙ ap whole (pairs_no_key KeyShape.text any_data es l.place (map pair_of l.self.pairs.items) x here e))
@@ -23,7 +23,7 @@ returns-in_err-data c =
     let l = c.loop-place in
     let es = entries_of_map l.self.entries.now in
     let x : Step × Tree = (step_of_key c.in-Some.key.now, tree_of c.in-Some.value.now) in
-    let here = sym c.in-Some.ensures in
+    let here = sym c.in-Some.ensures.value in
     let whole = option_map (λ ps. d.Data.mapping (d.pairs_of ps)) in
     advance_exit (is_text x.1) c.from_residual-in_err-data.result c.in_err-data.field-0.0 (any_data x.1) (frame.Map c.args.self.now) (frame.Map l.self) c.from_residual-in_err-data.ensures.1
     c.in_err-data.ensures (λ e. l.invariant.value ∙ ap whole (pairs_no_value KeyShape.text any_data es l.place (map pair_of l.self.pairs.items) x here e))
@@ -39,7 +39,7 @@ returns-in-Inner c =
     let w = c.keep_key in
     let key : key_data KeyShape.text (segment_text x.0.seg) ≡ Some (data_of w.new.self.key) = c.in_ok-key.ensures ∙ ap (λ k. Some (data_of k)) (sym w.ensures.key) in
     let value = l.invariant.value ∙ ap (λ ps. map_begun (map pair_of ps.items) (read_pairs KeyShape.text any_data (entries_after l.place es))) (sym w.ensures.pairs) in
-    enters_map (frame.Map c.args.self.now) c.in-Inner.frame w.new.self es l.place x (sym c.in-Some.ensures) (ap (λ e. entries_of_map e.now) w.ensures.entries) w.ensures.next key value l.invariant.text
+    enters_map (frame.Map c.args.self.now) c.in-Inner.frame w.new.self es l.place x (sym c.in-Some.ensures.value) (ap (λ e. entries_of_map e.now) w.ensures.entries) w.ensures.next key value l.invariant.text
     l.invariant.size begun
 
 pub loop-place-preserved : goal.loop-place-preserved
@@ -47,7 +47,7 @@ loop-place-preserved c =
     let l = c.loop-place in
     let es = entries_of_map l.self.entries.now in
     let x : Step × Tree = (step_of_key c.in-Some.key.now, tree_of c.in-Some.value.now) in
-    let here = sym c.in-Some.ensures in
+    let here = sym c.in-Some.ensures.value in
     let ws = map pair_of l.self.pairs.items in
     let a = data_of c.in_ok-key.key in
     let b = data_of c.in-Leaf.data in
@@ -73,5 +73,5 @@ returns c =
           let same : length (entry_list es) ≡ length (entry_list (entries_of_map c.args.self.now.entries.now)) = ap (λ m. length (entry_list (entries_of_map m))) l.invariant.same in
           let all : length (entry_list es) ≤ l.place = omega (arith, same, c.len-place-end.ensures, w.loop-place-test.false) in
           l.invariant.value ∙ ap whole (pairs_all KeyShape.text any_data es l.place ws all)
-      | then-loop-place-test+in_default w ↦ l.invariant.value ∙ ap whole (pairs_end KeyShape.text any_data es l.place ws (sym w.in_default.ensures))
+      | then-loop-place-test+in_default w ↦ l.invariant.value ∙ ap whole (pairs_end KeyShape.text any_data es l.place ws (sym w.in_default.ensures.value))
     ]

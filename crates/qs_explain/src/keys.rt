@@ -117,10 +117,9 @@ fn find_unknown_field(
         let Some((key, _)) = map.at(i) else {
             break;
         };
-        if is_allowed_key(unknown, fields, key) {
-            continue;
+        if !is_allowed_key(unknown, fields, key) {
+            return Ok(Some(Segment::of(alloc, key)?));
         }
-        return Ok(Some(Segment::of(alloc, key)?));
     }
     Ok(None)
 }
@@ -139,10 +138,9 @@ fn find_unread_key(
             break;
         };
         let is_read = is_key_read(alloc, config, shape, key)?;
-        if is_read {
-            continue;
+        if !is_read {
+            return Ok(Some(Segment::of(alloc, key)?));
         }
-        return Ok(Some(Segment::of(alloc, key)?));
     }
     Ok(None)
 }
@@ -199,22 +197,14 @@ fn is_ignored(unknown: UnknownKeys) -> bool
 fn is_text(bytes: &[u8]) -> bool
     ensures { result ≡ is_utf8 bytes.now }
 {
-    match str::from_utf8(bytes) {
-        Ok(_) => true,
-        Err(_) => false,
-    }
+    str::from_utf8(bytes).is_ok()
 }
 
 // Returns whether one of the fields has this name.
 fn is_field_name(fields: &[Field], name: &[u8]) -> bool
     ensures { result ≡ is_field_name name.now (fields_in fields.now) }
 {
-    for field in fields {
-        if field.name.as_bytes() == name {
-            return true;
-        }
-    }
-    false
+    fields.iter().any(|field| field.name.as_bytes() == name)
 }
 
 // Returns whether a key shape reads a key.
@@ -282,10 +272,5 @@ fn is_text_read(
 fn is_one_of(names: &[String], name: &[u8]) -> bool
     ensures { result ≡ list_any (bytes_eq name.now) (map string_bytes names.now) }
 {
-    for other in names {
-        if name == other.as_bytes() {
-            return true;
-        }
-    }
-    false
+    names.iter().any(|other| name == other.as_bytes())
 }

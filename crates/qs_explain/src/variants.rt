@@ -29,10 +29,7 @@ fn variant_of_name(variants: &[Variant], name: &[u8]) -> Option<usize>
     ensures index { IfSome result (λ i. i < length variants.now) }
     ensures named { option_map (λ i. option_map variant_of (slice_get variants.now i)) result ≡ option_map Some (variant_named name.now (variants_in variants.now)) }
 {
-    for (i, variant) in variants.iter().enumerate() {
-        if variant.name.as_bytes() == name {
-            return Some(i);
-        }
-    }
-    None
+    variants
+        .iter()
+        .position(|variant| variant.name.as_bytes() == name)
 }

@@ -120,12 +120,7 @@ fn is_list(items: &[Data], format: ArrayFormat) -> bool
 fn are_scalars(items: &[Data]) -> bool
     ensures { result ≡ are_scalars (values_in items.now) }
 {
-    for item in items {
-        if Scalar::of(item).is_none() {
-            return false;
-        }
-    }
-    true
+    items.iter().all(|item| Scalar::of(item).is_some())
 }
 
 // Returns whether this is one empty text.

@@ -293,10 +293,5 @@ fn few_names_differ(members: &[(String, Data)]) -> bool
 fn is_member_name(members: &[(String, Data)], name: &str) -> bool
     ensures { result ≡ is_member_name name.now (members_in members.now) }
 {
-    for member in members {
-        if member.0.as_str() == name {
-            return true;
-        }
-    }
-    false
+    members.iter().any(|member| member.0.as_str() == name)
 }

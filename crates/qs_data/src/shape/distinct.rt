@@ -123,12 +123,7 @@ fn field_names_differ(fields: &[Field]) -> bool
 pub(crate) fn is_field_name(fields: &[Field], name: &[u8]) -> bool
     ensures { result ≡ is_field_name name.now (fields_in fields.now) }
 {
-    for field in fields {
-        if field.name.as_bytes() == name {
-            return true;
-        }
-    }
-    false
+    fields.iter().any(|field| field.name.as_bytes() == name)
 }
 
 // Returns whether the names of variants differ.
@@ -147,12 +142,7 @@ fn variant_names_differ(variants: &[Variant]) -> bool
 fn is_variant_name(variants: &[Variant], name: &str) -> bool
     ensures { result ≡ is_variant_name name.now (variants_in variants.now) }
 {
-    for variant in variants {
-        if variant.name.as_str() == name {
-            return true;
-        }
-    }
-    false
+    variants.iter().any(|variant| variant.name.as_str() == name)
 }
 
 // Returns whether names differ.
@@ -171,10 +161,5 @@ fn names_differ(names: &[String]) -> bool
 pub(crate) fn is_name(names: &[String], name: &str) -> bool
     ensures { result ≡ list_any (bytes_eq name.now) (map string_bytes names.now) }
 {
-    for other in names {
-        if name == other.as_str() {
-            return true;
-        }
-    }
-    false
+    names.iter().any(|other| name == other.as_str())
 }

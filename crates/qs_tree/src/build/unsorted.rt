@@ -1,12 +1,13 @@
 //! A map of leaves alone, in the order in which they came.
 //!
 //! It is the map of their pairs. They are sorted once, when it is finished, so a leaf takes constant time until then.
-ghost use Rattle.std.specs.Prelude.{◌≡◌, Some, false, IfOk, IsTrue, OnOk};
+ghost use Rattle.std.specs.Prelude.{◌≡◌, Some, false, IfOk, OnOk};
+ghost use Rattle.std.specs.List.{list_all};
 ghost use Rattle.std.specs.List.Sorted.{IsPermutation};
 ghost use Rattle.qs_spec.specs.internal.InPlace.{add_flat, add_here, update};
-ghost use Rattle.qs_tree.specs.tree.Views.{step_of_key, entries_of_map};
+ghost use Rattle.qs_tree.specs.tree.Views.{step_of_key, entries_of_map, tree_of};
 ghost use Rattle.qs_tree.specs.internal.scan.Pairs.{leaf_of};
-ghost use Rattle.qs_tree.specs.internal.build.Unsorted.{AreLeaves, entries_of_leaves};
+ghost use Rattle.qs_tree.specs.internal.build.Unsorted.{AreLeaves, entries_of_leaves, is_leaf};
 
 use crate::build::add_to_value::add_leaf_at;
 use crate::build::distinct::have_distinct_keys;
@@ -114,12 +115,7 @@ fn are_runs<'qs>(leaves: &[(Key<'qs>, ParsedValue<'qs>)]) -> bool {
 
 /// Returns whether all values are leaves.
 pub(crate) fn are_leaves<'qs>(entries: &[(Key<'qs>, ParsedValue<'qs>)]) -> bool
-    ensures { IsTrue result → AreLeaves entries.now }
+    ensures { result ≡ list_all (λ p. is_leaf (tree_of p.1)) entries.now }
 {
-    for entry in entries {
-        if !entry.1.is_leaf() {
-            return false;
-        }
-    }
-    true
+    entries.iter().all(|entry| entry.1.is_leaf())
 }

@@ -4,7 +4,7 @@ ghost use Rattle.qs_tree.specs.tree.Equality.{tree_same};
 ghost use Rattle.qs_tree.specs.internal.tree.EqualityLaws.{trees_per};
 ghost use Rattle.qs_tree.specs.tree.Views.{tree_of};
 ghost use Rattle.qs_tree.specs.internal.build.Unsorted.{is_leaf};
-ghost use Rattle.std.specs.Prelude.{IsTrue};
+ghost use Rattle.std.specs.Prelude.{◌≡◌};
 
 use crate::tree::map::ParsedMap;
 use crate::tree::sameness::same_nodes;
@@ -32,7 +32,7 @@ impl<'qs> ParsedValue<'qs> {
     /// Returns whether it is a leaf: a string, `Null` or `NoValue`.
     #[tactic(auto, using(crate::proofs::lemmas::Views::views))]
     pub(crate) fn is_leaf(&self) -> bool
-        ensures { IsTrue result → IsTrue (is_leaf (tree_of self.now)) }
+        ensures { result ≡ is_leaf (tree_of self.now) }
     {
         match self {
             ParsedValue::String(_) => true,

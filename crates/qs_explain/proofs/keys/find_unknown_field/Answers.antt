@@ -9,19 +9,19 @@ use Rattle.qs_explain.proofs.KeysAllowed.{other_here, other_later, other_none, o
 use Rattle.qs_explain.proofs.keys.find_unknown_field.Goals as goal
 use Rattle.qs_explain.proofs.keys.find_unknown_field.Goals.{else-loop-i-test, then-loop-i-test+in_default}
 
-pub returns-in-loop-i : goal.returns-in-loop-i
-returns-in-loop-i c =
+pub returns-then-not-is_allowed_key : goal.returns-then-not-is_allowed_key
+returns-then-not-is_allowed_key c =
     let test = is_allowed (unknown_of c.args.unknown) (fields_in c.args.fields.now) in
     let es = entries_of_map c.args.map.now in
     let x : Step × Tree = (step_of_key c.in-Some.key.now, tree_of c.in-Some.field-0-1.now) in
-    ap Some c.in_ok-of.ensures ∙ sym (c.loop-i.invariant ∙ other_here test c.loop-i.i es x (sym c.in-Some.ensures.value) (sym c.if-is_allowed_key.ensures))
+    ap Some c.in_ok-of.ensures ∙ sym (c.loop-i.invariant ∙ other_here test c.loop-i.i es x (sym c.in-Some.ensures.value) (sym c.if-not-is_allowed_key.ensures))
 
 pub loop-i-preserved : goal.loop-i-preserved
 loop-i-preserved c =
     let test = is_allowed (unknown_of c.args.unknown) (fields_in c.args.fields.now) in
     let es = entries_of_map c.args.map.now in
     let x : Step × Tree = (step_of_key c.in-Some.key.now, tree_of c.in-Some.field-0-1.now) in
-    c.loop-i.invariant ∙ other_later test c.loop-i.i es x (sym c.in-Some.ensures.value) (sym c.if-is_allowed_key.ensures)
+    c.loop-i.invariant ∙ other_later test c.loop-i.i es x (sym c.in-Some.ensures.value) (sym c.if-not-is_allowed_key.ensures)
 
 pub returns : goal.returns
 returns c =

@@ -8,19 +8,19 @@ use Rattle.qs_explain.proofs.KeysAllowed.{other_here, other_later, other_none, o
 use Rattle.qs_explain.proofs.keys.find_unread_key.Goals as goal
 use Rattle.qs_explain.proofs.keys.find_unread_key.Goals.{else-loop-i-test, then-loop-i-test+in_default}
 
-pub returns-in-loop-i : goal.returns-in-loop-i
-returns-in-loop-i c =
+pub returns-then-not-is_read : goal.returns-then-not-is_read
+returns-then-not-is_read c =
     let test = is_key (key_shape_of c.args.shape.now) in
     let es = entries_of_map c.args.map.now in
     let x : Step × Tree = (step_of_key c.in-Some.key.now, tree_of c.in-Some.field-0-1.now) in
-    ap Some c.in_ok-of.ensures ∙ sym (c.loop-i.invariant ∙ other_here test c.loop-i.i es x (sym c.in-Some.ensures.value) (sym c.in_ok-is_read.ensures ∙ c.if-is_read.false))
+    ap Some c.in_ok-of.ensures ∙ sym (c.loop-i.invariant ∙ other_here test c.loop-i.i es x (sym c.in-Some.ensures.value) (sym c.in_ok-is_read.ensures ∙ c.if-not-is_read.true))
 
 pub loop-i-preserved : goal.loop-i-preserved
 loop-i-preserved c =
     let test = is_key (key_shape_of c.args.shape.now) in
     let es = entries_of_map c.args.map.now in
     let x : Step × Tree = (step_of_key c.in-Some.key.now, tree_of c.in-Some.field-0-1.now) in
-    c.loop-i.invariant ∙ other_later test c.loop-i.i es x (sym c.in-Some.ensures.value) (sym c.in_ok-is_read.ensures ∙ c.if-is_read.true)
+    c.loop-i.invariant ∙ other_later test c.loop-i.i es x (sym c.in-Some.ensures.value) (sym c.in_ok-is_read.ensures ∙ c.if-not-is_read.false)
 
 pub returns : goal.returns
 returns c =

@@ -17,8 +17,8 @@ impl Data {
     /// - lists, tuples and tuple variants hold booleans, whole numbers, characters, texts, bytes and unit variants alone;
     /// - without brackets, none of them is one empty text or byte string, which is written as an empty list is.
     ///
-    /// [Plain](Data::is_plain) data for which this holds, written within the depth limit, are read by each shape that they
-    /// [fit](crate::Shape::fits), from their entries in every order that keeps entries with one path as they were.
+    /// [Plain](Data::is_plain) data for which this holds, written within the depth limit, are read by each shape whose names
+    /// differ and that they [fit](crate::Shape::fits), from their entries in every order that keeps entries with one path as they were.
     ///
     /// It takes time with the size of the data, and stack with their depth. It doesn't allocate.
     ///

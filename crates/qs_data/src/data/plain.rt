@@ -20,7 +20,7 @@ const FEW: usize = 16;
 
 impl Data {
     /// Returns whether these data can be read back: written in the indexed format, within the depth limit, they are read by each shape
-    /// that they [fit](Shape::fits) from their entries in any order.
+    /// whose names differ and that they [fit](Shape::fits), from their entries in any order.
     ///
     /// That takes all of these, at every depth:
     /// - no option is directly in an option, also within newtypes;

@@ -5,6 +5,7 @@ use Rattle.qs_tree.specs.declared.error.Error.TheVariants as e
 use Rattle.qs_c.specs.declared.failure.Failure.{Failure}
 use Rattle.qs_c.specs.declared.failure.FailureKind.{FailureKind}
 use Rattle.qs_c.specs.declared.failure.FailureKind.TheVariants.{OutOfMemory, Parse, Mismatch, NotUtf8, TooDeep}
+use Rattle.qs_c.specs.Status.{IsOutOfMemory}
 
 -- a write to memory fails only where an allocation does
 abbrev pub kind_of : Error → FailureKind
@@ -22,4 +23,4 @@ position_of _ = 0
 
 -- it is the error's, unless an allocation for the error's text failed
 abbrev pub IsFailureOf : Failure → Error → Type 0
-IsFailureOf failure error = (failure.kind ≡ OutOfMemory) ⊎ ((failure.kind ≡ kind_of error) × (failure.position ≡ position_of error))
+IsFailureOf failure error = IsOutOfMemory failure ⊎ ((failure.kind ≡ kind_of error) × (failure.position ≡ position_of error))

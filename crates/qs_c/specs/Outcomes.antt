@@ -1,5 +1,5 @@
 -- What is read as JSON, what is written of JSON, and why not.
-use Rattle.std.specs.Prelude.{◌≡◌, ◌+◌, ◌≤◌, ⊤, ℕ, List, length, false, Some, None}
+use Rattle.std.specs.Prelude.{◌≡◌, ◌+◌, ◌≤◌, ℕ, List, length, false, Some, None}
 use Rattle.std.specs.Str.{IsUtf8}
 use Rattle.json.specs.Json.{document}
 use Rattle.qs_spec.specs.Config.{Config}
@@ -38,23 +38,23 @@ IsUnread config shape input = (tree : Tree) × IsTree config.form config.max_dep
 abbrev pub IsRejected : Config → List ℕ → ℕ → Type 0
 IsRejected config input position = HasNoTree config.form config.max_depth input × (position ≤ length input + 1)
 
--- what an error of this kind at this position says of an input that is read
+-- what an error of this kind at this position says of an input that is read; only one of syntax has a position other than 0
 abbrev pub WhyUnread : FailureKind → ℕ → Config → Shape → List ℕ → Type 0
-WhyUnread kind.OutOfMemory position config shape input = ⊤
+WhyUnread kind.OutOfMemory position config shape input = position ≡ 0
 WhyUnread kind.Parse position config shape input = IsRejected config input position
-WhyUnread kind.Mismatch position config shape input = IsUnread config shape input
-WhyUnread kind.NotUtf8 position config shape input = IsUnread config shape input
+WhyUnread kind.Mismatch position config shape input = (position ≡ 0) × IsUnread config shape input
+WhyUnread kind.NotUtf8 position config shape input = (position ≡ 0) × IsUnread config shape input
 WhyUnread _ position config shape input = ⊥
 
 -- the same where it is read as whatever is there
 abbrev pub WhyNotParsed : FailureKind → ℕ → Settings → List ℕ → Type 0
-WhyNotParsed kind.Settings position settings input = AreNone settings
+WhyNotParsed kind.Settings position settings input = (position ≡ 0) × AreNone settings
 WhyNotParsed k position settings input = WhyUnread k position (config_of settings) any input
 
 -- the same where it is read by the shape that this text is
 abbrev pub WhyNotRead : FailureKind → ℕ → Settings → List ℕ → List ℕ → Type 0
-WhyNotRead kind.OutOfMemory position settings notation input = ⊤
-WhyNotRead kind.Settings position settings notation input = AreNone settings
+WhyNotRead kind.OutOfMemory position settings notation input = position ≡ 0
+WhyNotRead kind.Settings position settings notation input = (position ≡ 0) × AreNone settings
 WhyNotRead kind.Shape position settings notation input = (reason : List ℕ) × IsNoNotation notation reason position
 WhyNotRead k position settings notation input = (shape : Shape) × IsNotation notation shape × WhyUnread k position (config_of settings) shape input
 
@@ -65,16 +65,16 @@ pub record IsWritten (config : Config) (json text : List ℕ) : Type 0 where
   pub is_whole : (entries config value).error ≡ None
   pub is_text : text ≡ written config.form false (entries config value).entries
 
--- what an error of this kind says of data that are written
-abbrev pub WhyUnwritten : FailureKind → Config → Data → Type 0
-WhyUnwritten kind.OutOfMemory config x = ⊤
-WhyUnwritten kind.TooDeep config x = (entries config x).error ≡ Some too_deep
-WhyUnwritten kind.Mismatch config x = (entries config x).error ≡ Some bad_key
-WhyUnwritten _ config x = ⊥
+-- what an error of this kind at this position says of data that are written
+abbrev pub WhyUnwritten : FailureKind → ℕ → Config → Data → Type 0
+WhyUnwritten kind.OutOfMemory position config x = position ≡ 0
+WhyUnwritten kind.TooDeep position config x = (position ≡ 0) × ((entries config x).error ≡ Some too_deep)
+WhyUnwritten kind.Mismatch position config x = (position ≡ 0) × ((entries config x).error ≡ Some bad_key)
+WhyUnwritten _ position config x = ⊥
 
--- what an error of this kind says of JSON that is written
-abbrev pub WhyNotWritten : FailureKind → Settings → List ℕ → Type 0
-WhyNotWritten kind.OutOfMemory settings json = ⊤
-WhyNotWritten kind.Settings settings json = AreNone settings
-WhyNotWritten kind.Json settings json = IsUtf8 json → document json ≡ None
-WhyNotWritten k settings json = (x : Data) × IsJsonOf json x × WhyUnwritten k (config_of settings) x
+-- what an error of this kind at this position says of JSON that is written
+abbrev pub WhyNotWritten : FailureKind → ℕ → Settings → List ℕ → Type 0
+WhyNotWritten kind.OutOfMemory position settings json = position ≡ 0
+WhyNotWritten kind.Settings position settings json = (position ≡ 0) × AreNone settings
+WhyNotWritten kind.Json position settings json = IsUtf8 json → document json ≡ None
+WhyNotWritten k position settings json = (x : Data) × IsJsonOf json x × WhyUnwritten k position (config_of settings) x

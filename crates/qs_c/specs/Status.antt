@@ -32,3 +32,13 @@ text_or_none None = []
 
 abbrev pub text_of : Failure → List ℕ
 text_of failure = text_or_none failure.text
+
+-- an allocation failed, which has neither a text nor a position
+pub record IsOutOfMemory (failure : Failure) : Type 0 where
+  pub kind : failure.kind ≡ OutOfMemory
+  pub position : failure.position ≡ 0
+  pub text : text_of failure ≡ []
+
+-- the same of a failure of any kind
+abbrev pub MemoryHasNoText : Failure → Type 0
+MemoryHasNoText failure = failure.kind ≡ OutOfMemory → text_of failure ≡ []

@@ -2,6 +2,7 @@
 
 ghost use Rattle.std.specs.Prelude.{◌≡◌};
 ghost use Rattle.qs_c.specs.Errors.{kind_of, position_of, IsFailureOf};
+ghost use Rattle.qs_c.specs.Status.{MemoryHasNoText};
 
 use crate::failure::{Failure, FailureKind};
 use qs_data::Error;
@@ -9,7 +10,8 @@ use std::alloc::Global;
 
 /// Returns the failure that the error is, with its text. That an allocation failed has none.
 pub(crate) fn failure_of(alloc: Global, error: Error) -> Failure
-    ensures { IsFailureOf result error }
+    ensures failure { IsFailureOf result error }
+    ensures memory { MemoryHasNoText result }
 {
     let kind = kind_of(&error);
     if let FailureKind::OutOfMemory = kind {

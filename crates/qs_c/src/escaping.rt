@@ -2,7 +2,7 @@
 
 ghost use Rattle.std.specs.Prelude.{◌≡◌, ◌⊎◌};
 ghost use Rattle.qs_spec.specs.Escape.{decoded, encoded};
-ghost use Rattle.qs_c.specs.Answer.{IsHandedOut};
+ghost use Rattle.qs_c.specs.Answer.{IsHandedOut, LeavesNothing};
 ghost use Rattle.qs_c.specs.Status.{IsDone};
 
 use crate::answer::{Answer, fail, give};
@@ -18,6 +18,7 @@ pub extern "C" fn qs_decode(alloc: Global, bytes: &[u8], out: &mut [u8], answer:
     ensures done { IsDone result → IsHandedOut (decoded bytes.now) out.old out.new result answer.new.len }
     ensures position { IsDone result → answer.new.position ≡ 0 }
     ensures errors { IsDone result ⊎ (result ≡ 2) }
+    ensures memory { result ≡ 2 → LeavesNothing out.old out.new answer.new }
 {
     match decode(alloc, bytes) {
         Ok(text) => give(text.as_slice(), out, answer),
@@ -39,6 +40,7 @@ pub extern "C" fn qs_encode(
     ensures done { IsDone result → IsHandedOut (encoded form bytes.now) out.old out.new result answer.new.len }
     ensures position { IsDone result → answer.new.position ≡ 0 }
     ensures errors { IsDone result ⊎ (result ≡ 2) }
+    ensures memory { result ≡ 2 → LeavesNothing out.old out.new answer.new }
 {
     let mut text = Vec::new(alloc);
     match encode(bytes, form, &mut text) {

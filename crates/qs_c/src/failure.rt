@@ -1,8 +1,7 @@
 //! Why a call failed.
 
-ghost use Rattle.std.specs.Prelude.{◌≡◌, ◌⊎◌, string_bytes};
-ghost use Rattle.qs_c.specs.declared.failure.FailureKind.TheVariants.{OutOfMemory};
-ghost use Rattle.qs_c.specs.Status.{code_of, text_of, IsDone};
+ghost use Rattle.std.specs.Prelude.{◌≡◌, ◌⊎◌, [], string_bytes};
+ghost use Rattle.qs_c.specs.Status.{code_of, text_of, IsDone, IsOutOfMemory};
 
 use std::alloc::{AllocError, AllocFailed, Global};
 
@@ -59,9 +58,11 @@ pub(crate) struct Failure {
 impl Failure {
     ghost use Rattle.qs_c.specs.declared.failure.FailureKind.TheVariants.{OutOfMemory};
 
-    /// Returns the error that an allocation failed.
+    /// Returns the error that an allocation failed, which has neither a text nor a position.
     pub(crate) fn out_of_memory() -> Failure
-        ensures { result.kind ≡ OutOfMemory }
+        ensures kind { result.kind ≡ OutOfMemory }
+        ensures position { result.position ≡ 0 }
+        ensures text { text_of result ≡ [] }
     {
         Failure {
             kind: FailureKind::OutOfMemory,
@@ -86,7 +87,7 @@ impl Failure {
 
 /// Returns the error of this kind, with this text and position, or that an allocation for the text failed.
 pub(crate) fn failure_at(alloc: Global, kind: FailureKind, text: &str, position: usize) -> Failure
-    ensures { (result.kind ≡ OutOfMemory) ⊎ ((result.kind ≡ kind) × (result.position ≡ position) × (text_of result ≡ text.now)) }
+    ensures { IsOutOfMemory result ⊎ ((result.kind ≡ kind) × (result.position ≡ position) × (text_of result ≡ text.now)) }
 {
     match String::from_str(alloc, text) {
         Ok(text) => Failure::new(kind, text, position),
@@ -95,10 +96,9 @@ pub(crate) fn failure_at(alloc: Global, kind: FailureKind, text: &str, position:
 }
 
 impl From<AllocError> for Failure {
-    ghost use Rattle.std.specs.Prelude.{◌≡◌};
-    ghost use Rattle.qs_c.specs.declared.failure.FailureKind.TheVariants.{OutOfMemory};
+    ghost use Rattle.qs_c.specs.Status.{IsOutOfMemory};
 
-    ghost from_gives = { λ _ failure. failure.kind ≡ OutOfMemory };
+    ghost from_gives = { λ _ failure. IsOutOfMemory failure };
 
     fn from(_: AllocError) -> Failure {
         Failure::out_of_memory()
@@ -106,10 +106,9 @@ impl From<AllocError> for Failure {
 }
 
 impl<T: Drop> From<AllocFailed<T>> for Failure {
-    ghost use Rattle.std.specs.Prelude.{◌≡◌};
-    ghost use Rattle.qs_c.specs.declared.failure.FailureKind.TheVariants.{OutOfMemory};
+    ghost use Rattle.qs_c.specs.Status.{IsOutOfMemory};
 
-    ghost from_gives = { λ _ failure. failure.kind ≡ OutOfMemory };
+    ghost from_gives = { λ _ failure. IsOutOfMemory failure };
 
     fn from(_: AllocFailed<T>) -> Failure {
         Failure::out_of_memory()

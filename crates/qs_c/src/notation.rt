@@ -15,7 +15,7 @@ ghost use Rattle.qs_c.specs.declared.failure.FailureKind.TheVariants as kind;
 ghost use Rattle.qs_c.specs.Notation.{IsNotation, IsNoNotation, shape, whole};
 ghost use Rattle.qs_c.specs.Found.{and_then};
 ghost use Rattle.qs_c.specs.internal.Parses.{Parses};
-ghost use Rattle.qs_c.specs.Status.{text_of};
+ghost use Rattle.qs_c.specs.Status.{text_of, IsOutOfMemory};
 
 use crate::failure::{Failure, FailureKind, failure_at};
 use cursor::Cursor;
@@ -30,7 +30,7 @@ const MOST_LEVELS: usize = 32;
 pub(crate) fn shape_of_text(alloc: Global, text: &[u8]) -> std::result::Result<Shape, Failure>
     ensures shape { IfOk result (λ shape. IsNotation text.now (shape_of shape)) }
     ensures distinct { IfOk result (λ shape. is_distinct (shape_of shape) ≡ true) }
-    ensures none { IfErr result (λ failure. (failure.kind ≡ kind.OutOfMemory) ⊎ ((failure.kind ≡ kind.Shape) × IsNoNotation text.now (text_of failure) failure.position)) }
+    ensures none { IfErr result (λ failure. IsOutOfMemory failure ⊎ ((failure.kind ≡ kind.Shape) × IsNoNotation text.now (text_of failure) failure.position)) }
 {
     let mut cursor = Cursor::new(text);
     match whole_shape(alloc, &mut cursor) {

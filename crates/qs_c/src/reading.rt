@@ -5,12 +5,12 @@ ghost use Rattle.qs_spec.specs.Shape.{is_distinct};
 ghost use Rattle.qs_spec.specs.Shape.Shape.{any};
 ghost use Rattle.qs_data.specs.data.Views.{data_of};
 ghost use Rattle.qs_data.specs.shape.Views.{shape_of};
-ghost use Rattle.qs_c.specs.Answer.{IsHandedOut, IsLaidOut};
+ghost use Rattle.qs_c.specs.Answer.{IsHandedOut, IsLaidOut, LeavesNothing};
 ghost use Rattle.qs_c.specs.Errors.{kind_of, position_of};
 ghost use Rattle.qs_c.specs.Notation.{IsNoNotation};
 ghost use Rattle.qs_c.specs.Outcomes.{IsRead, IsReadBy, IsReadByText, WhyNotParsed, WhyNotRead, WhyUnread};
 ghost use Rattle.qs_c.specs.Settings.{config_of, AreNone};
-ghost use Rattle.qs_c.specs.Status.{code_of, text_of, IsDone, IsStoppedEarly};
+ghost use Rattle.qs_c.specs.Status.{code_of, text_of, IsDone, IsStoppedEarly, MemoryHasNoText};
 ghost use Rattle.qs_c.specs.declared.failure.FailureKind.{FailureKind};
 ghost use Rattle.qs_c.specs.declared.failure.FailureKind.TheVariants as kind;
 
@@ -37,6 +37,7 @@ pub extern "C" fn qs_parse(
     ensures position { IsDone result → answer.new.position ≡ 0 }
     ensures failed { (IsDone result → ⊥) → (kind : FailureKind) × (result ≡ code_of kind) × WhyNotParsed kind answer.new.position settings.now input.now }
     ensures message { (IsDone result → ⊥) → (text : List ℕ) × IsLaidOut text out.old out.new answer.new.len }
+    ensures memory { result ≡ 2 → LeavesNothing out.old out.new answer.new }
     ensures settings { AreNone settings.now → IsStoppedEarly result }
 {
     match parsed(alloc, settings, input) {
@@ -60,6 +61,7 @@ pub extern "C" fn qs_read(
     ensures position { IsDone result → answer.new.position ≡ 0 }
     ensures failed { (IsDone result → ⊥) → (kind : FailureKind) × (result ≡ code_of kind) × WhyNotRead kind answer.new.position settings.now shape.now input.now }
     ensures message { (IsDone result → ⊥) → (text : List ℕ) × IsLaidOut text out.old out.new answer.new.len }
+    ensures memory { result ≡ 2 → LeavesNothing out.old out.new answer.new }
     ensures settings { AreNone settings.now → IsStoppedEarly result }
     ensures reason { result ≡ code_of kind.Shape → (reason : List ℕ) × IsNoNotation shape.now reason answer.new.position × IsLaidOut reason out.old out.new answer.new.len }
 {
@@ -73,6 +75,7 @@ pub extern "C" fn qs_read(
 fn parsed(alloc: Global, settings: &Settings, input: &[u8]) -> Result<Vec<u8>, Failure>
     ensures text { IfOk result (λ text. IsRead (config_of settings.now) any input.now text.items) }
     ensures none { IfErr result (λ failure. WhyNotParsed failure.kind failure.position settings.now input.now) }
+    ensures memory { IfErr result MemoryHasNoText }
     ensures sound { IfOk result (λ text. AreNone settings.now → ⊥) }
     ensures early { IfErr result (λ failure. AreNone settings.now → IsStoppedEarly (code_of failure.kind)) }
 {
@@ -84,6 +87,7 @@ fn parsed(alloc: Global, settings: &Settings, input: &[u8]) -> Result<Vec<u8>, F
 fn read(alloc: Global, settings: &Settings, shape: &[u8], input: &[u8]) -> Result<Vec<u8>, Failure>
     ensures text { IfOk result (λ text. IsReadByText (config_of settings.now) shape.now input.now text.items) }
     ensures none { IfErr result (λ failure. WhyNotRead failure.kind failure.position settings.now shape.now input.now) }
+    ensures memory { IfErr result MemoryHasNoText }
     ensures sound { IfOk result (λ text. AreNone settings.now → ⊥) }
     ensures early { IfErr result (λ failure. AreNone settings.now → IsStoppedEarly (code_of failure.kind)) }
     ensures reason { IfErr result (λ failure. failure.kind ≡ kind.Shape → IsNoNotation shape.now (text_of failure) failure.position) }
@@ -98,6 +102,7 @@ fn read_json(alloc: Global, config: Config, shape: &Shape, input: &[u8]) -> Resu
     requires { is_distinct (shape_of shape.now) ≡ true }
     ensures text { IfOk result (λ text. IsRead config (shape_of shape.now) input.now text.items) }
     ensures none { IfErr result (λ failure. WhyUnread failure.kind failure.position config (shape_of shape.now) input.now) }
+    ensures memory { IfErr result MemoryHasNoText }
 {
     match read_data(alloc, config, shape, input) {
         Ok(datum) => Ok(shown(alloc, &datum)?),

@@ -3,7 +3,8 @@
 ghost use Rattle.std.specs.Prelude.{◌≡◌, ◌<◌, ◌≤◌, ◌⊎◌, IfOk, IfErr};
 ghost use Rattle.qs_tree.specs.Settings.{array_format_of, duplicates_of as behavior_of};
 ghost use Rattle.qs_c.specs.Settings.{config_of, format_of, duplicates_of, most_levels, AreNone};
-ghost use Rattle.qs_c.specs.declared.failure.FailureKind.TheVariants.{OutOfMemory, Settings as BadSettings};
+ghost use Rattle.qs_c.specs.declared.failure.FailureKind.TheVariants.{Settings as BadSettings};
+ghost use Rattle.qs_c.specs.Status.{IsOutOfMemory};
 
 use crate::failure::{Failure, FailureKind, failure_at};
 use qs_data::{ArrayFormat, Config, DuplicateKeyBehavior};
@@ -32,7 +33,7 @@ impl Settings {
         ensures config { IfOk result (λ config. config ≡ config_of self.now) }
         ensures sound { IfOk result (λ config. AreNone self.now → ⊥) }
         ensures limit { IfOk result (λ config. config.max_depth ≤ most_levels) }
-        ensures none { IfErr result (λ failure. (failure.kind ≡ OutOfMemory) ⊎ ((failure.kind ≡ BadSettings) × AreNone self.now)) }
+        ensures none { IfErr result (λ failure. IsOutOfMemory failure ⊎ ((failure.kind ≡ BadSettings) × (failure.position ≡ 0) × AreNone self.now)) }
     {
         if self.max_depth > MOST_LEVELS {
             return Err(failure_at(
@@ -56,7 +57,7 @@ impl Settings {
     fn elements(&self, alloc: Global) -> Result<ArrayFormat, Failure>
         ensures format { IfOk result (λ format. array_format_of format ≡ format_of self.now.array_format) }
         ensures sound { IfOk result (λ format. 2 < self.now.array_format → ⊥) }
-        ensures none { IfErr result (λ failure. (failure.kind ≡ OutOfMemory) ⊎ ((failure.kind ≡ BadSettings) × (2 < self.now.array_format))) }
+        ensures none { IfErr result (λ failure. IsOutOfMemory failure ⊎ ((failure.kind ≡ BadSettings) × (failure.position ≡ 0) × (2 < self.now.array_format))) }
     {
         match self.array_format {
             0 => Ok(ArrayFormat::Indexed),

@@ -7,7 +7,7 @@ use Rattle.qs_explain.specs.declared.hint.Hint.TheVariants.{Escaped, LowerCase}
 abbrev pub is_unread_bracket : Bool → ℕ → ℕ → ℕ → Bool
 is_unread_bracket form b c e = b == 37 && c == 53 && (e == 98 || e == 100 || (not form && (e == 66 || e == 68)))
 
--- a key begins after `&`, and ends at `=`
+-- a key begins after `&`, and ends at `=`, in brackets too
 abbrev pub is_key_after : Bool → ℕ → Bool
 is_key_after in_key b = b == 38 || (in_key && not (b == 61))
 

@@ -1,8 +1,11 @@
 -- Where the pair stands at which parsing was given up.
-use Rattle.std.specs.Prelude.{◌≡◌, ◌≢◌, ℕ, ◌-◌, ◌<◌, ◌≤◌, min, take, List, length, slice_index}
+use Rattle.std.specs.Prelude.{◌≡◌, ◌≢◌, ℕ, ◌+◌, ◌-◌, ◌<◌, ◌≤◌, Bool, min, take, List, [], ◌∷◌, length, slice_index, if◌then◌else◌}
+use Rattle.std.specs.List.{slice_range}
 use Rattle.qs_spec.specs.Config.{Config}
 use Rattle.qs_explain.specs.declared.pair_range.PairRange.{PairRange}
-use Rattle.qs_explain.specs.Places.{pair_start}
+use Rattle.qs_explain.specs.declared.place.Place.{Place}
+use Rattle.qs_explain.specs.declared.place.Place.TheVariants.{Root}
+use Rattle.qs_explain.specs.Places.{is_value, kind_after, next_place, pair_start}
 
 -- no such byte stands from one position up to another
 abbrev pub HoldsNo : ℕ → List ℕ → ℕ → ℕ → Type 0
@@ -19,9 +22,21 @@ pub record IsFirst (byte : ℕ) (input : List ℕ) (from to at : ℕ) : Type 0 w
 abbrev pub last_read : List ℕ → ℕ → ℕ
 last_read input position = min (position - 1) (length input)
 
--- From where the pair begins that the last byte stands in that was read, up to the `&` that is this byte or comes next; the key goes up to
--- the first `=`.
+-- How many bytes of a pair come before the first `=` that doesn't stand in brackets, which is the first byte that its value comes after, or
+-- all, where n were read, b and c last, and the next stands at the place.
+abbrev pub key_from : Bool → ℕ → Place → (n b c : ℕ) → List ℕ → ℕ
+key_from form depth place n b c [] = n
+key_from form depth place n b c (e ∷ rest) =
+    if is_value (next_place depth place (kind_after form b c e)) then n else key_from form depth (next_place depth place (kind_after form b c e)) (n + 1) c e rest
+
+-- the same of a whole pair
+abbrev pub key_len : Bool → ℕ → List ℕ → ℕ
+key_len form depth pair = key_from form depth Root 0 0 0 pair
+
+-- From where the pair begins that the last byte stands in that was read, up to the `&` that is this byte or comes next. The key goes up to
+-- the first `=` of the pair that doesn't stand in brackets, or to the pair's end.
 pub record IsPairAt (config : Config) (input : List ℕ) (position : ℕ) (p : PairRange) : Type 0 where
   pub start : p.start ≡ pair_start config.form config.max_depth (take (last_read input position) input)
   pub end : IsFirst 38 input (last_read input position) (length input) p.end
-  pub key_end : IsFirst 61 input p.start p.end p.key_end
+  pub key_end : p.key_end ≡ p.start + key_len config.form config.max_depth (slice_range input p.start p.end)
+  pub within : p.key_end ≤ p.end

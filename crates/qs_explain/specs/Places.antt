@@ -45,6 +45,11 @@ next_place depth Last _ = Last
 next_place depth Value Ampersand = Root
 next_place depth Value _ = Value
 
+-- the value of a pair
+abbrev pub is_value : Place → Bool
+is_value Value = true
+is_value _ = false
+
 -- where the last pair begins, n bytes were read, b and c last, and the next stands at the place
 abbrev pub start_from : Bool → ℕ → Place → (n start b c : ℕ) → List ℕ → ℕ
 start_from form depth place n start b c [] = start

@@ -20,7 +20,9 @@ pub enum Hint {
 /// Returns a hint exactly where a bracket stands escaped in a key and the mode of the configuration doesn't read it as one: in form
 /// mode `%5b` and `%5d`, in query mode `%5B` and `%5D` too. It names the position after the first of them.
 ///
-/// A key is what stands before the first `=` of a pair. Doesn't allocate, and looks at each byte once.
+/// A key is taken to be what stands before the first `=` of a pair, also where that `=` stands in brackets, and an `&` in brackets
+/// is taken to begin another pair, though in an input that is parsed both are bytes of the key. Doesn't allocate, and looks at each
+/// byte once.
 ///
 /// ```
 /// let hint = find_hint(Config::new(), b"user%5Bage%5D=7"); // Some(Hint::Escaped(7))

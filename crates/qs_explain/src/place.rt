@@ -1,6 +1,7 @@
 //! Where the bytes of an input stand in its pairs.
 
 ghost use Rattle.std.specs.Prelude.{◌≡◌, ◌≤◌, length};
+ghost use Rattle.qs_explain.specs.PairRange.{key_len};
 ghost use Rattle.qs_explain.specs.Places.{begins_after, kind_after, next_place, opened, pair_start};
 
 /// What a byte is, with the two before it.
@@ -47,6 +48,24 @@ pub(crate) fn find_start(form: bool, max_depth: usize, input: &[u8]) -> usize
         before = (before.1, *byte);
     }
     start
+}
+
+/// Returns how many bytes of a pair are its key: those before the first `=` that doesn't stand in brackets, or else all.
+pub(crate) fn find_key_len(form: bool, max_depth: usize, pair: &[u8]) -> usize
+    ensures value { result ≡ key_len form max_depth pair.now }
+    ensures within { result ≤ length pair.now }
+{
+    let mut place = Place::Root;
+    let mut before = (0u8, 0u8);
+    for (at, byte) in pair.iter().enumerate() {
+        let kind = kind_after(form, before.0, before.1, *byte);
+        place = next_place(max_depth, place, kind);
+        if let Place::Value = place {
+            return at;
+        }
+        before = (before.1, *byte);
+    }
+    pair.len()
 }
 
 // Returns what a byte is. In form mode the last byte of `%5B` or `%5D` is a bracket.

@@ -278,33 +278,85 @@ fn hints_as_text(rt: HostRuntime) {
 }
 
 // Returns where the pair of the error of an input without a tree stands: its start, the end of its key, and its end.
-fn wrong_pair<R: Abort>(rt: &R, alloc: Global, input: &[u8]) -> (usize, usize, usize) {
-    let explained = explain(alloc, Config::new(), &Shape::Ignored, input).expect(rt, "memory");
+fn wrong_pair<R: Abort>(
+    rt: &R,
+    alloc: Global,
+    config: Config,
+    input: &[u8],
+) -> (usize, usize, usize) {
+    let explained = explain(alloc, config, &Shape::Ignored, input).expect(rt, "memory");
     let Some(Explanation::Syntax(Error::Parse(_, position))) = &explained else {
         rt.abort();
     };
-    let pair = find_pair(Config::new(), input, *position);
+    let pair = find_pair(config, input, *position);
     (pair.start, pair.key_end, pair.end)
 }
 
 #[test]
 fn pairs_of_errors(rt: HostRuntime) {
     let alloc = rt.alloc();
-    let cases: [(&[u8], (usize, usize, usize), &str); 7] = [
+    let cases: [(&[u8], (usize, usize, usize), &str); 6] = [
         (b"a=1&a[b]=2&c=3", (4, 8, 10), "a[b]=2"),
-        (b"a=1&b[c=2", (4, 7, 9), "b[c=2"),
         (b"a[b]c=1&d=2", (0, 5, 7), "a[b]c=1"),
         // an `&` in brackets is a byte of the key
-        (b"a=1&b[c&d=2", (4, 9, 11), "b[c&d=2"),
+        (b"a=1&b[c&d=2", (4, 11, 11), "b[c&d=2"),
         (b"a=[&b[c]=1&d[e&f", (11, 16, 16), "d[e&f"),
         // after brackets, and at the root after the value that closes a pair
         (b"a[b]&a[]=1", (5, 8, 10), "a[]=1"),
         (b"=1&a=2&b", (3, 4, 6), "a=2"),
     ];
     for (input, wanted, pair) in cases {
-        let found = wrong_pair(&rt, alloc, input);
+        let found = wrong_pair(&rt, alloc, Config::new(), input);
         assert!(rt; found == wanted, "{pair}: {found:?}");
     }
+}
+
+// A `=` in brackets is a byte of the key.
+#[test]
+fn keys_of_pairs_with_errors(rt: HostRuntime) {
+    let alloc = rt.alloc();
+    let cases: [(bool, &[u8], (usize, usize, usize), &str); 14] = [
+        (false, b"a[b=c]=1&a[b=c][x]=2", (9, 18, 20), "a[b=c][x]"),
+        (false, b"a[b]=[=]&a[b][c]==1", (9, 16, 19), "a[b][c]"),
+        (false, b"a[=]x=1&b", (0, 5, 7), "a[=]x"),
+        // brackets that aren't closed
+        (false, b"a=1&b[c=2", (4, 9, 9), "b[c=2"),
+        (false, b"a[=1&c", (0, 6, 6), "a[=1&c"),
+        (false, b"a[b=][=c=1", (0, 10, 10), "a[b=][=c=1"),
+        // pushed
+        (false, b"a=1&a[]=2", (4, 7, 9), "a[]"),
+        (false, b"a=1&a[]=", (4, 7, 8), "a[]"),
+        // form mode
+        (
+            true,
+            b"a%5Bb=c%5D=1&a%5Bb=c%5D%5Bx%5D=2",
+            (13, 30, 32),
+            "a%5Bb=c%5D%5Bx%5D",
+        ),
+        (true, b"a%5B=1&c", (0, 8, 8), "a%5B=1&c"),
+        (true, b"a%5Bb=%5d=1&c", (0, 13, 13), "a%5Bb=%5d=1&c"),
+        (true, b"a=1&a%5B%5D=", (4, 11, 12), "a%5B%5D"),
+        // an escaped bracket, which query mode doesn't read as one
+        (true, b"c=1&c[%5D=x", (4, 9, 11), "c[%5D"),
+        (false, b"c=1&c[%5D=x", (4, 11, 11), "c[%5D=x"),
+    ];
+    for (form, input, wanted, key) in cases {
+        let config = Config::new().use_form_encoding(form);
+        let found = wrong_pair(&rt, alloc, config, input);
+        assert!(rt; found == wanted, "{key}: {found:?}");
+    }
+}
+
+// At the depth limit the first byte of the last part of a key may be a `=`, and the next one ends the key.
+#[test]
+fn keys_at_the_depth_limit(rt: HostRuntime) {
+    let alloc = rt.alloc();
+    let config = Config::new().max_depth(1);
+    let found = wrong_pair(&rt, alloc, config, b"a[b]=1&a[b][=c=2");
+    assert!(rt; found == (7, 14, 16), "{found:?}");
+    let form = config.use_form_encoding(true);
+    let found = wrong_pair(&rt, alloc, form, b"a[b]=1&a%5Bb%5D%5B=c=2");
+    assert!(rt; found == (7, 20, 22), "{found:?}");
 }
 
 // At the depth limit a key goes on to its end, and its first byte may be an `&`.

@@ -53,7 +53,7 @@ pub use Rattle.qs_tree.specs.tree.Owned.{entries_own, items_own, key_owns, map_o
 pub use Rattle.qs_tree.specs.tree.Views.{entries_from, entries_of_map, entry_list, find, items_of, key_mark, map_pairs, segment_of_key, step_of_key, take_out, tree_of}
 pub use Rattle.std.proofs.Math.ListN.{drop_of_length-le}
 pub use Rattle.std.proofs.Math.Seq.{take-add, take-append-add, take-append_seam, take-length}
-pub use Rattle.std.proofs.lemmas.Bool.{agree_below, agree_below_at, and_from, and_parts, cases_Bool, cases_lt, cond-false, cond-true, le-leb, le-ltb, leb-false, leb-true, lt-leb, lt-ltb, ltb-false, ltb-true, not-false, not-true}
+pub use Rattle.std.proofs.lemmas.Bool.{agree_below, agree_below_at, and_parts, cases_Bool, cases_lt, cond-false, cond-true, le-leb, le-ltb, leb-false, leb-true, lt-leb, lt-ltb, ltb-false, ltb-true, not-false, not-true}
 pub use Rattle.std.proofs.lemmas.Fn.{always_returns_same}
 pub use Rattle.std.proofs.lemmas.List.Quantifiers.{position-Some}
 pub use Rattle.std.proofs.lemmas.List.Sorted.{All-permutation, IsPermutation-sym}

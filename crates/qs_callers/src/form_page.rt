@@ -54,12 +54,15 @@ fn of_mismatch(alloc: Global, mismatch: &Mismatch) -> Result<FieldError> {
     Ok(FieldError { field, message })
 }
 
-// Returns the error of a key that can't be parsed, or that is in conflict with an earlier one.
+// Returns the error of a key that can't be parsed, or that is in conflict with an earlier one. Where a bracket isn't closed, the
+// key goes on over the fields that follow; the input's name ends at the `=`.
 fn of_syntax(alloc: Global, config: Config, form: &[u8], error: &Error) -> Result<FieldError> {
     let mut field = String::new(alloc);
     if let Error::Parse(_, position) = error {
         let pair = find_pair(config, form, *position);
-        field = String::from_utf8_lossy(alloc, &form[pair.start..pair.key_end])?;
+        let key = String::from_utf8_lossy(alloc, &form[pair.start..pair.key_end])?;
+        let (name, _rest) = key.split_once('=').unwrap_or((key.as_str(), ""));
+        field = String::from_str(alloc, name)?;
     }
     let message = error.to_string(alloc)?;
     Ok(FieldError { field, message })

@@ -19,7 +19,7 @@ pub fn is_same_data(a: &Data, b: &Data) -> bool
 }
 
 /// Returns whether two trees are equal, ignoring which texts are borrowed.
-pub fn is_same_tree(a: &ParsedValue<'_>, b: &ParsedValue<'_>) -> bool
+pub fn is_same_tree<'qs>(a: &ParsedValue<'qs>, b: &ParsedValue<'qs>) -> bool
     ensures { IsTrue result ↔ unmarked (tree_of a.now) ≡ unmarked (tree_of b.now) }
 {
     equality_of_values();

@@ -13,8 +13,6 @@ pub mod reading;
 mod settings;
 mod showing;
 mod taking;
-#[cfg(test)]
-mod tests;
 pub mod writing;
 
 pub use answer::Answer;

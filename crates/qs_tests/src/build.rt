@@ -37,31 +37,6 @@ impl<'r, R: Abort> Build<'r, R> {
         (self.name(name), value)
     }
 
-    /// Returns the shape of a value that may be absent.
-    pub fn option(&self, part: Shape) -> Shape {
-        Shape::Option(self.boxed(part))
-    }
-
-    /// Returns the shape of a list.
-    pub fn seq(&self, part: Shape) -> Shape {
-        Shape::Seq(self.boxed(part))
-    }
-
-    /// Returns the shape of a list of just these.
-    pub fn tuple<const N: usize>(&self, parts: [Shape; N]) -> Shape {
-        Shape::Tuple(self.vec(parts))
-    }
-
-    /// Returns the shape of keys with values.
-    pub fn map(&self, key: KeyShape, part: Shape) -> Shape {
-        Shape::Map(key, self.boxed(part))
-    }
-
-    /// Returns the shape of a type round a value.
-    pub fn newtype(&self, part: Shape) -> Shape {
-        Shape::Newtype(self.boxed(part))
-    }
-
     /// Returns a field that has to be there.
     pub fn required(&self, name: &str, shape: Shape) -> Field {
         let name = self.name(name);
@@ -87,19 +62,9 @@ impl<'r, R: Abort> Build<'r, R> {
         Shape::Struct(self.vec(fields))
     }
 
-    /// Returns the same, where unknown keys are rejected.
-    pub fn strict<const N: usize>(&self, fields: [Field; N]) -> Shape {
-        Shape::StrictStruct(self.vec(fields))
-    }
-
     /// Returns the shape of a struct with this one field, which has to be there.
     pub fn field(&self, name: &str, shape: Shape) -> Shape {
         self.fields([self.required(name, shape)])
-    }
-
-    /// Returns the shape of one of these variants.
-    pub fn variants<const N: usize>(&self, variants: [Variant; N]) -> Shape {
-        Shape::Enum(self.vec(variants))
     }
 
     /// Returns a variant of this kind.
@@ -108,43 +73,9 @@ impl<'r, R: Abort> Build<'r, R> {
         Variant { name, kind }
     }
 
-    /// Returns a variant that holds a value.
-    pub fn newtype_variant(&self, name: &str, part: Shape) -> Variant {
-        self.variant(name, VariantKind::Newtype(self.boxed(part)))
-    }
-
-    /// Returns a variant that holds a list of just these.
-    pub fn tuple_variant<const N: usize>(&self, name: &str, parts: [Shape; N]) -> Variant {
-        self.variant(name, VariantKind::Tuple(self.vec(parts)))
-    }
-
-    /// Returns a variant that holds these fields.
-    pub fn struct_variant<const N: usize>(&self, name: &str, fields: [Field; N]) -> Variant {
-        self.variant(name, VariantKind::Struct(self.vec(fields)))
-    }
-
-    /// Returns the same, where unknown keys are rejected.
-    pub fn strict_variant<const N: usize>(&self, name: &str, fields: [Field; N]) -> Variant {
-        self.variant(name, VariantKind::StrictStruct(self.vec(fields)))
-    }
-
-    /// Returns a key that is one of these names.
-    pub fn names(&self, names: &[&str]) -> KeyShape {
-        let mut owned = Vec::new(self.alloc);
-        for name in names {
-            owned.push(self.name(name)).expect(self.rt, "memory");
-        }
-        KeyShape::Variants(owned)
-    }
-
     /// Returns a text.
     pub fn text(&self, text: &str) -> Data {
         Data::Text(self.name(text))
-    }
-
-    /// Returns bytes.
-    pub fn bytes(&self, bytes: &[u8]) -> Data {
-        Data::Bytes(Vec::from_slice(self.alloc, bytes).expect(self.rt, "memory"))
     }
 
     /// Returns a value that might have been absent.
@@ -180,11 +111,6 @@ impl<'r, R: Abort> Build<'r, R> {
     /// Returns a value in a type of its own.
     pub fn wrapped(&self, value: Data) -> Data {
         Data::Newtype(self.boxed(value))
-    }
-
-    /// Returns a variant that holds nothing.
-    pub fn bare(&self, name: &str) -> Data {
-        Data::UnitVariant(self.name(name))
     }
 
     /// Returns a variant that holds a value.

@@ -1,6 +1,7 @@
 //! Fields that hold a list in one text, read by a shape and then split.
 
 use crate::build::Build;
+use crate::notation;
 use crate::rows::Rows;
 use crate::writing::writes;
 use serde_qs::helpers::{comma_separated, pipe_delimited, space_delimited};
@@ -49,11 +50,8 @@ fn commas_beside_a_number(rt: HostRuntime) {
     let t = Rows::new(&rt, rt.alloc());
     let b = &t.build;
     let input = "s=12&r=1,2,3";
-    let shape = b.fields([b.required("r", Shape::Text), b.required("s", Shape::U8)]);
-    let data = b.record([
-        b.member("r", b.text("1,2,3")),
-        b.member("s", Data::Unsigned(12)),
-    ]);
+    let shape = notation::shape(b, "Struct:r:s Text U8");
+    let data = notation::data(b, "Struct:r:s Text:1%2C2%2C3 Unsigned:12");
     t.reads(input, &shape, data);
     let text = text_of(b, input, "r");
     are(

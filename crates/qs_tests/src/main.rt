@@ -36,6 +36,8 @@ mod reading;
 mod rows;
 #[cfg(test)]
 mod searches;
+#[cfg(test)]
+mod tables;
 mod tree_line;
 #[cfg(test)]
 mod trees;

@@ -1,7 +1,8 @@
 //! Shapes and data as words with spaces between, each before its parts: `Seq Option U8` and `Seq:2 None Some Unsigned:7`.
 //!
 //! After a colon stand a scalar's text, the count of parts, or names. They are escaped as in form mode. After the name of an
-//! optional field stands `?`. The variants of an enum stand after its count: `Enum:2 unit:a struct:b:x:y? U8 Text`.
+//! optional field stands `?`. The variants of an enum stand after its count: `Enum:2 unit:a struct:b:x:y? U8 Text`, and `strict` in
+//! the place of `struct` for one that rejects unknown keys.
 
 use crate::build::Build;
 use qs_tree::decode;
@@ -39,14 +40,19 @@ fn counted<R: Abort, T: Drop>(b: &Build<'_, R>, count: &str, parts: &mut Vec<T>)
     counted
 }
 
-// Returns a field for each name, with the shapes from the last one on.
-fn fields<R: Abort>(b: &Build<'_, R>, names: &str, shapes: &mut Vec<Shape>) -> Vec<Field> {
+// Returns a field for each name after the first so many texts of the word, with the shapes from the last one on.
+fn fields<R: Abort>(
+    b: &Build<'_, R>,
+    word: &str,
+    first: usize,
+    shapes: &mut Vec<Shape>,
+) -> Vec<Field> {
     let mut fields = Vec::new(b.alloc);
-    for word in names.split(':').filter(|word| !word.is_empty()) {
+    for text in word.split(':').skip(first) {
         let shape = part(b, shapes);
-        let field = match word.strip_suffix('?') {
+        let field = match text.strip_suffix('?') {
             Some(name) => b.optional(string(b, name).as_str(), shape),
-            None => b.required(string(b, word).as_str(), shape),
+            None => b.required(string(b, text).as_str(), shape),
         };
         fields.push(field).expect(b.rt, "memory");
     }
@@ -78,19 +84,16 @@ fn key<R: Abort>(b: &Build<'_, R>, word: &str) -> KeyShape {
     }
 }
 
-// Returns the kind of a variant, and its name.
-fn variant<R: Abort>(
-    b: &Build<'_, R>,
-    kind: &str,
-    rest: &str,
-    shapes: &mut Vec<Shape>,
-) -> Option<Variant> {
+// Returns the variant of this word, where it is one.
+fn variant<R: Abort>(b: &Build<'_, R>, word: &str, shapes: &mut Vec<Shape>) -> Option<Variant> {
+    let (kind, rest) = word.split_once(':').unwrap_or((word, ""));
     let (name, parts) = rest.split_once(':').unwrap_or((rest, ""));
     let kind = match kind {
         "unit" => VariantKind::Unit,
         "newtype" => VariantKind::Newtype(boxed(b, shapes)),
         "tuple" => VariantKind::Tuple(counted(b, parts, shapes)),
-        "struct" => VariantKind::Struct(fields(b, parts, shapes)),
+        "struct" => VariantKind::Struct(fields(b, word, 2, shapes)),
+        "strict" => VariantKind::StrictStruct(fields(b, word, 2, shapes)),
         _ => return None,
     };
     Some(b.variant(string(b, name).as_str(), kind))
@@ -112,6 +115,8 @@ fn scalar<R: Abort>(b: &Build<'_, R>, word: &str) -> Shape {
         "Char" => Shape::Char,
         "Text" => Shape::Text,
         "Bytes" => Shape::Bytes,
+        "Any" => Shape::Any,
+        "Ignored" => Shape::Ignored,
         _ => panic!(b.rt; "{word}"),
     }
 }
@@ -121,12 +126,11 @@ pub fn shape<R: Abort>(b: &Build<'_, R>, words: &str) -> Shape {
     let mut shapes = Vec::new(b.alloc);
     let mut variants = Vec::new(b.alloc);
     for word in words.rsplit(' ') {
-        let (kind, rest) = word.split_once(':').unwrap_or((word, ""));
-        if let Some(variant) = variant(b, kind, rest, &mut shapes) {
+        if let Some(variant) = variant(b, word, &mut shapes) {
             variants.push(variant).expect(b.rt, "memory");
             continue;
         }
-        let next = next_shape(b, (kind, rest), &mut shapes, &mut variants);
+        let next = next_shape(b, word, &mut shapes, &mut variants);
         shapes.push(next).expect(b.rt, "memory");
     }
     part(b, &mut shapes)
@@ -135,26 +139,33 @@ pub fn shape<R: Abort>(b: &Build<'_, R>, words: &str) -> Shape {
 // Returns the shape of this word, where those of the words after it were made.
 fn next_shape<R: Abort>(
     b: &Build<'_, R>,
-    (kind, rest): (&str, &str),
+    word: &str,
     shapes: &mut Vec<Shape>,
     variants: &mut Vec<Variant>,
 ) -> Shape {
+    let (kind, rest) = word.split_once(':').unwrap_or((word, ""));
     match kind {
         "Option" => Shape::Option(boxed(b, shapes)),
         "Newtype" => Shape::Newtype(boxed(b, shapes)),
         "Seq" => Shape::Seq(boxed(b, shapes)),
         "Tuple" => Shape::Tuple(counted(b, rest, shapes)),
         "Map" => Shape::Map(key(b, rest), boxed(b, shapes)),
-        "Struct" => Shape::Struct(fields(b, rest, shapes)),
+        "Struct" => Shape::Struct(fields(b, word, 1, shapes)),
+        "StrictStruct" => Shape::StrictStruct(fields(b, word, 1, shapes)),
         "Enum" => Shape::Enum(counted(b, rest, variants)),
         _ => scalar(b, kind),
     }
 }
 
-// Returns a member for each name, with the data from the last one on.
-fn members<R: Abort>(b: &Build<'_, R>, names: &str, data: &mut Vec<Data>) -> Vec<(String, Data)> {
+// Returns a member for each name after the first so many texts of the word, with the data from the last one on.
+fn members<R: Abort>(
+    b: &Build<'_, R>,
+    word: &str,
+    first: usize,
+    data: &mut Vec<Data>,
+) -> Vec<(String, Data)> {
     let mut members = Vec::new(b.alloc);
-    for name in names.split(':').filter(|name| !name.is_empty()) {
+    for name in word.split(':').skip(first) {
         let member = (string(b, name), part(b, data));
         members.push(member).expect(b.rt, "memory");
     }
@@ -172,13 +183,14 @@ fn pairs<R: Abort>(b: &Build<'_, R>, count: &str, data: &mut Vec<Data>) -> Vec<(
 }
 
 // Returns a variant that holds something.
-fn holding<R: Abort>(b: &Build<'_, R>, kind: &str, rest: &str, data: &mut Vec<Data>) -> Data {
+fn holding<R: Abort>(b: &Build<'_, R>, word: &str, data: &mut Vec<Data>) -> Data {
+    let (kind, rest) = word.split_once(':').unwrap_or((word, ""));
     let (name, parts) = rest.split_once(':').unwrap_or((rest, ""));
     let name = string(b, name);
     match kind {
         "NewtypeVariant" => Data::NewtypeVariant(name, boxed(b, data)),
         "TupleVariant" => Data::TupleVariant(name, counted(b, parts, data)),
-        "StructVariant" => Data::StructVariant(name, members(b, parts, data)),
+        "StructVariant" => Data::StructVariant(name, members(b, word, 2, data)),
         _ => panic!(b.rt; "{kind}"),
     }
 }
@@ -211,7 +223,7 @@ fn next_data<R: Abort>(b: &Build<'_, R>, word: &str, data: &mut Vec<Data>) -> Da
         "Seq" => Data::Seq(counted(b, rest, data)),
         "Tuple" => Data::Tuple(counted(b, rest, data)),
         "Map" => Data::Map(pairs(b, rest, data)),
-        "Struct" => Data::Struct(members(b, rest, data)),
-        _ => holding(b, kind, rest, data),
+        "Struct" => Data::Struct(members(b, word, 1, data)),
+        _ => holding(b, word, data),
     }
 }

@@ -1,13 +1,31 @@
 //! A row: an input, a shape, and what is read or said.
 
 use crate::build::Build;
-use serde_qs::{Config, Data, Deserializer, DuplicateKeyBehavior, Error, Result, Shape};
+use crate::{notation, tables};
+use serde_qs::{Config, Data, Deserializer, Error, Result, Shape};
 use std::alloc::Global;
 use std::process::Abort;
 
 /// What is printed after the error of a key that holds a bracket.
 const HINT: &str =
     "\nInvalid field contains an encoded bracket -- consider using form encoding mode\n  https://docs.rs/serde_qs/latest/serde_qs/#query-string-vs-form-encoding";
+
+/// How a table says that the error is `Utf8`.
+const NOT_UTF8: &str = "not UTF-8";
+
+/// Tries each case of a table, and returns how many there are.
+///
+/// A heading is a shape. The inputs under it stand before a bar, each with the data that the shape reads from it, or with `!` and the text
+/// of the error: `not UTF-8` for `Utf8`, and `+ hint` at the end for the hint at form encoding. A configuration and a bar may stand in
+/// front.
+pub fn reads_each<R: Abort>(b: &Build<'_, R>, table: &str) -> usize {
+    let rows = Rows::new(b.rt, b.alloc);
+    let cases = tables::cases(b, table);
+    for (shape, case) in &cases {
+        rows.try_case(&notation::shape(b, shape), case);
+    }
+    cases.len()
+}
 
 /// Tries rows under a configuration.
 #[derive(Drop)]
@@ -47,12 +65,23 @@ impl<'r, R: Abort> Rows<'r, R> {
         self.with(config)
     }
 
-    /// Returns the same where several values for one are rejected.
-    pub fn reject_duplicates(&self) -> Self {
-        let config = self
-            .config
-            .duplicate_key_behavior(DuplicateKeyBehavior::Error);
-        self.with(config)
+    // Tries a case of a table.
+    fn try_case(&self, shape: &Shape, case: &str) {
+        let b = &self.build;
+        let mut columns = case.rsplit('|').map(|column| column.trim());
+        let outcome = columns.next().unwrap_or("");
+        let input = columns.next().unwrap_or("");
+        let config = tables::configuration(b, columns.next().unwrap_or(""));
+        let rows = self.with(config);
+        let Some(error) = outcome.strip_prefix("! ") else {
+            return rows.reads(input, shape, notation::data(b, outcome));
+        };
+        match error.strip_suffix(" + hint") {
+            Some(NOT_UTF8) => rows.breaks_and_hints(input, shape),
+            Some(text) => rows.hints(input, shape, text),
+            None if error == NOT_UTF8 => rows.breaks(input, shape),
+            None => rows.says(input, shape, error),
+        }
     }
 
     // Returns what the shape reads from the input.
@@ -90,16 +119,16 @@ impl<'r, R: Abort> Rows<'r, R> {
         }
     }
 
-    /// Asserts that the shape reads nothing from the input, and that this is said, and then the hint.
-    pub fn hints(&self, input: &str, shape: &Shape, wanted: &str) {
+    // Asserts that the shape reads nothing from the input, and that this is said, and then the hint.
+    fn hints(&self, input: &str, shape: &Shape, wanted: &str) {
         let rt = self.build.rt;
         let alloc = self.build.alloc;
         let wanted = format!(in alloc; "{wanted}{HINT}").expect(rt, "memory");
         self.says(input, shape, &wanted);
     }
 
-    /// Asserts that the input is rejected since a text or a key that is read isn't UTF-8.
-    pub fn breaks(&self, input: &str, shape: &Shape) {
+    // Asserts that the input is rejected since a text or a key that is read isn't UTF-8.
+    fn breaks(&self, input: &str, shape: &Shape) {
         let rt = self.build.rt;
         match self.read(input, shape) {
             Err(Error::Utf8(_)) => {}
@@ -108,8 +137,8 @@ impl<'r, R: Abort> Rows<'r, R> {
         }
     }
 
-    /// Asserts that the input is rejected since a key with a bracket isn't UTF-8, and that the hint is given.
-    pub fn breaks_and_hints(&self, input: &str, shape: &Shape) {
+    // Asserts that the input is rejected since a key with a bracket isn't UTF-8, and that the hint is given.
+    fn breaks_and_hints(&self, input: &str, shape: &Shape) {
         let rt = self.build.rt;
         match self.read(input, shape) {
             Err(Error::Custom(said)) => assert!(rt; said.ends_with(HINT), "{input}: {said}"),

@@ -14,7 +14,7 @@ mod values;
 use crate::tree_line::{Texts, line};
 use qs_tree::{Config, Error, parse};
 use serde_qs::ConfigExt;
-use std::alloc::{AllocError, Global};
+use std::alloc::Global;
 use std::collections::BTreeMap;
 use std::process::Abort;
 use std::test::Fail;
@@ -48,15 +48,6 @@ fn query(max_depth: usize) -> Config {
 // Returns form mode with this limit of depth.
 fn form(max_depth: usize) -> Config {
     query(max_depth).use_form_encoding(true)
-}
-
-/// Returns the text so many times.
-pub fn repeated(alloc: Global, text: &str, times: usize) -> Result<String, AllocError> {
-    let mut all = String::new(alloc);
-    for _ in 0..times {
-        all.push_str(text)?;
-    }
-    Ok(all)
 }
 
 // Returns the tree of an input as a line, or its error.

@@ -1,7 +1,6 @@
 //! Typed calls on depth, long keys, escapes, and texts that aren't UTF-8.
 
 use crate::escapes::decoded;
-use crate::trees::repeated;
 use serde_qs::{
     Comma, Config, ConfigExt, Delimited, Deserialize, Error, Result, from_bytes, from_str,
 };
@@ -18,14 +17,14 @@ type Deep = Map<Map<Map<Map<Map<Map<Map<String>>>>>>>;
 #[test]
 fn two_hundred_brackets(rt: HostRuntime) -> std::result::Result<(), Fail> {
     let alloc = rt.alloc();
-    let brackets = repeated(alloc, "[b]", 200)?;
+    let brackets = "[b]".repeat(alloc, 200)?;
     let input = format!(in alloc; "a{brackets}=1")?;
     let read: Deep = from_str(alloc, input.as_str()).expect(&rt, "maps");
     let written = Config::new()
         .max_depth(usize::MAX)
         .serialize_string(alloc, &read)
         .expect(&rt, "a text");
-    let last_key = repeated(alloc, "%5Bb%5D", 195)?;
+    let last_key = "%5Bb%5D".repeat(alloc, 195)?;
     let wanted = format!(in alloc; "a[b][b][b][b][b][{last_key}]=1")?;
     assert_eq!(rt; written, wanted);
     Ok(())
@@ -34,7 +33,7 @@ fn two_hundred_brackets(rt: HostRuntime) -> std::result::Result<(), Fail> {
 #[test]
 fn a_thousand_digits(rt: HostRuntime) -> std::result::Result<(), Fail> {
     let alloc = rt.alloc();
-    let zeros = repeated(alloc, "0", 1000)?;
+    let zeros = "0".repeat(alloc, 1000)?;
     let input = format!(in alloc; "a[{zeros}]=x")?;
     let read: Map<Vec<String>> = from_str(alloc, input.as_str()).expect(&rt, "lists");
     assert!(rt; read.get("a").is_some_and(|items| items.len() == 1));
@@ -43,7 +42,7 @@ fn a_thousand_digits(rt: HostRuntime) -> std::result::Result<(), Fail> {
     assert!(rt;
         matches!(&read, Err(Error::Custom(said)) if said.as_str() == "missing index, expected: 0 got 1")
     );
-    let nines = repeated(alloc, "9", 1000)?;
+    let nines = "9".repeat(alloc, 1000)?;
     let input = format!(in alloc; "{nines}=x")?;
     let read: Map<String> = from_str(alloc, input.as_str()).expect(&rt, "a map");
     assert!(rt; read.get(nines.as_str()).is_some());

@@ -2,14 +2,15 @@
 //! written from the documents alone, and agree with the Rust original.
 
 use super::cases::CASES;
+use crate::build::Build;
 use crate::notation;
 use crate::rows::Rows;
 use serde_qs::Config;
 use std::process::Abort;
 
-// Asserts that the data of the case are plain, fit its shape, and are read from its text.
-fn comes_back<R: Abort>(t: &Rows<'_, R>, case: &str) {
-    let b = &t.build;
+/// Asserts that the data of the case are plain, fit its shape, and are read from its text.
+pub fn comes_back<R: Abort>(b: &Build<'_, R>, case: &str) {
+    let t = Rows::new(b.rt, b.alloc);
     let mut fields = case.split('\t');
     let mut field = || fields.next().expect(b.rt, case);
     let form = field() == "form";
@@ -33,10 +34,9 @@ fn comes_back<R: Abort>(t: &Rows<'_, R>, case: &str) {
 
 #[test]
 fn each_case(rt: HostRuntime) {
-    let t = Rows::new(&rt, rt.alloc());
-    let b = &t.build;
-    assert_eq!(b.rt; CASES.lines().count(), 300);
+    let b = Build::new(&rt, rt.alloc());
+    assert_eq!(rt; CASES.lines().count(), 300);
     for case in CASES.lines() {
-        comes_back(&t, case);
+        comes_back(&b, case);
     }
 }

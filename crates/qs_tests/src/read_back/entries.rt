@@ -1,8 +1,9 @@
 //! Ten entries in each rotation, in reverse, and in a hundred shuffles.
 
 use crate::build::Build;
+use crate::notation;
 use crate::rows::Rows;
-use serde_qs::{Config, Data, Serializer, Shape};
+use serde_qs::{Config, Serializer};
 use std::process::Abort;
 
 const ENTRIES: [&str; 10] = [
@@ -18,43 +19,12 @@ const ENTRIES: [&str; 10] = [
     "user_ids[3]=4",
 ];
 
-// Returns the shape of a user with an address and a list.
-fn shape<R: Abort>(b: &Build<'_, R>) -> Shape {
-    let address = b.fields([
-        b.required("city", Shape::Text),
-        b.required("street", Shape::Text),
-        b.required("postcode", Shape::Text),
-    ]);
-    b.fields([
-        b.required("id", Shape::U64),
-        b.required("name", Shape::Text),
-        b.required("phone", Shape::U32),
-        b.required("address", address),
-        b.required("user_ids", b.seq(Shape::U8)),
-    ])
-}
+/// A user with an address and a list.
+const SHAPE: &str =
+    "Struct:id:name:phone:address:user_ids U64 Text U32 Struct:city:street:postcode Text Text Text Seq U8";
 
-// Returns such a user.
-fn data<R: Abort>(b: &Build<'_, R>) -> Data {
-    let address = b.record([
-        b.member("city", b.text("Carrot City")),
-        b.member("street", b.text("Special-Street* No. 11")),
-        b.member("postcode", b.text("12345")),
-    ]);
-    let users = b.list([
-        Data::Unsigned(1),
-        Data::Unsigned(2),
-        Data::Unsigned(3),
-        Data::Unsigned(4),
-    ]);
-    b.record([
-        b.member("id", Data::Unsigned(42)),
-        b.member("name", b.text("Acme")),
-        b.member("phone", Data::Unsigned(12345)),
-        b.member("address", address),
-        b.member("user_ids", users),
-    ])
-}
+const DATA: &str =
+    "Struct:id:name:phone:address:user_ids Unsigned:42 Text:Acme Unsigned:12345 Struct:city:street:postcode Text:Carrot%20City Text:Special-Street*%20No.%2011 Text:12345 Seq:4 Unsigned:1 Unsigned:2 Unsigned:3 Unsigned:4";
 
 /// The indices of the entries, in order.
 const IN_ORDER: [usize; 10] = [0, 1, 2, 3, 4, 5, 6, 7, 8, 9];
@@ -76,13 +46,20 @@ fn text<R: Abort>(b: &Build<'_, R>, indices: &[usize]) -> String {
 fn written(rt: HostRuntime) {
     let t = Rows::new(&rt, rt.alloc());
     let b = &t.build;
-    let data = data(b);
+    let data = notation::data(b, DATA);
     assert!(&rt; data.is_plain(Config::new()));
-    assert!(&rt; shape(b).fits(&data));
+    assert!(&rt; notation::shape(b, SHAPE).fits(&data));
     let mut serializer = Serializer::new(Vec::new(b.alloc), Config::new());
     assert!(&rt; serializer.serialize(b.alloc, &data).is_ok());
     let written = serializer.into_sink().into_writer();
     assert_eq!(&rt; written.as_slice(), text(b, &IN_ORDER).as_bytes());
+}
+
+// Asserts that the user is read from the entries at these indices.
+fn is_read<R: Abort>(b: &Build<'_, R>, indices: &[usize]) {
+    let t = Rows::new(b.rt, b.alloc);
+    let shape = notation::shape(b, SHAPE);
+    t.reads(&text(b, indices), &shape, notation::data(b, DATA));
 }
 
 // Returns the indices with the first one last.
@@ -93,21 +70,18 @@ fn rotated_once(mut indices: [usize; 10]) -> [usize; 10] {
 
 #[test]
 fn rotated(rt: HostRuntime) {
-    let t = Rows::new(&rt, rt.alloc());
-    let b = &t.build;
+    let b = Build::new(&rt, rt.alloc());
     let mut indices = IN_ORDER;
     for _ in 0..10 {
         indices = rotated_once(indices);
-        t.reads(&text(b, &indices), &shape(b), data(b));
+        is_read(&b, &indices);
     }
 }
 
 #[test]
 fn reversed(rt: HostRuntime) {
-    let t = Rows::new(&rt, rt.alloc());
-    let b = &t.build;
-    let indices = [9, 8, 7, 6, 5, 4, 3, 2, 1, 0];
-    t.reads(&text(b, &indices), &shape(b), data(b));
+    let b = Build::new(&rt, rt.alloc());
+    is_read(&b, &[9, 8, 7, 6, 5, 4, 3, 2, 1, 0]);
 }
 
 // Returns the indices in an order by pseudo-random numbers.
@@ -126,9 +100,8 @@ fn shuffle(seed: u64) -> [usize; 10] {
 
 #[test]
 fn shuffled(rt: HostRuntime) {
-    let t = Rows::new(&rt, rt.alloc());
-    let b = &t.build;
+    let b = Build::new(&rt, rt.alloc());
     for seed in 0..100 {
-        t.reads(&text(b, &shuffle(seed)), &shape(b), data(b));
+        is_read(&b, &shuffle(seed));
     }
 }

@@ -1,70 +1,75 @@
 //! Whatever is there: inputs as data of no shape, and inputs that are passed over.
 
 use crate::build::Build;
-use crate::rows::Rows;
-use serde_qs::{Data, KeyShape, Shape};
-use std::process::Abort;
+use crate::notation;
+use crate::rows::{Rows, reads_each};
 
-// Returns a map of one key.
-fn under<R: Abort>(b: &Build<'_, R>, key: &str, value: Data) -> Data {
-    b.pairs([(b.text(key), value)])
-}
+const CASES: &str = "\
+# values
+Any
+    =foo            | Text:foo
+    a               | Map:1 Text:a Unit
+    a=              | Map:1 Text:a Text:
+    abc=def         | Map:1 Text:abc Text:def
+    a==1            | Map:1 Text:a Text:%3D1
+    a=%zz+1         | Map:1 Text:a Text:%25zz%201
+    a=%FF           | ! not UTF-8
+    foo=%5BHello%5D | Map:1 Text:foo Text:%5BHello%5D
+    form | foo=%5BHello%5D | Map:1 Text:foo Text:%5BHello%5D
 
-// Returns a map of two keys with texts.
-fn two<R: Abort>(b: &Build<'_, R>, first: (&str, &str), second: (&str, &str)) -> Data {
-    b.pairs([
-        (b.text(first.0), b.text(first.1)),
-        (b.text(second.0), b.text(second.1)),
-    ])
-}
+# lists
+Any
+    0=a               | Seq:1 Text:a
+    []=1&[]=2         | Seq:2 Text:1 Text:2
+    abc[]=1&abc[]=2   | Map:1 Text:abc Seq:2 Text:1 Text:2
+    abc[1]=1&abc[0]=0 | Map:1 Text:abc Seq:2 Text:0 Text:1
+    a[]&a=1           | Map:1 Text:a Seq:2 Unit Text:1
+    a=1&a=2&a[]=3     | Map:1 Text:a Seq:3 Text:1 Text:2 Text:3
+    reject duplicates | a=1&a=2 | Map:1 Text:a Seq:2 Text:1 Text:2
+    a[0]=x&a[2]=y     | ! missing index, expected: 1 got 2
+    01=x              | ! missing index, expected: 0 got 1
 
-// Returns a list of two texts.
-fn list<R: Abort>(b: &Build<'_, R>, first: &str, second: &str) -> Data {
-    b.list([b.text(first), b.text(second)])
-}
+# brackets in keys
+Any
+    a]=1             | Map:1 Text:a%5D Text:1
+    abc%5Bdef%5D=ghi | Map:1 Text:abc%5Bdef%5D Text:ghi
+    form | abc%5Bdef%5D=ghi | Map:1 Text:abc Map:1 Text:def Text:ghi
+    form | abc%5bdef%5d=ghi | Map:1 Text:abc%5Bdef%5D Text:ghi
+    a[b&c]=1         | Map:1 Text:a Map:1 Text:b%26c Text:1
+    x[%FF]=1         | ! not UTF-8
+    x[%5B%FF]=1      | ! not UTF-8 + hint
+
+# several keys
+Any
+    1=a&%31=b                       | Map:2 Text:1 Text:a Text:1 Text:b
+    &a=1&&b=2&                      | Map:2 Text:a Text:1 Text:b Text:2
+    [a]=1&[b]=2                     | Map:2 Text:a Text:1 Text:b Text:2
+    a[b]=1&a=2                      | Map:1 Text:a Map:2 Text: Text:2 Text:b Text:1
+    # the greatest integer in front of the number that is a text
+    a[4294967296]=p&a[4294967295]=q | Map:1 Text:a Map:2 Text:4294967295 Text:q Text:4294967296 Text:p
+
+# below the root
+Any
+    a[b][c][d][e][f][g][h]=i | Map:1 Text:a Map:1 Text:b Map:1 Text:c Map:1 Text:d Map:1 Text:e Map:1 Text:f Map:1 Text:%5Bg%5D%5Bh%5D Text:i
+    depth 1 | a[b][=1 | Map:1 Text:a Map:1 Text:b Map:1 Text:%5B%3D1 Unit
+    depth 0 | a[b][c]=1 | Map:1 Text:a%5Bb%5D%5Bc%5D Text:1
+    depth 1 | a[b][]=1&a[b][]=2 | Map:1 Text:a Map:1 Text:b Seq:2 Text:1 Text:2
+
+# variants without their shapes
+Any
+    e[B]&v[V1][x]=12&v[V1][y]=300&u=12 | Map:3 Text:e Map:1 Text:B Unit Text:u Text:12 Text:v Map:1 Text:V1 Map:2 Text:x Text:12 Text:y Text:300
+
+# passed over
+Struct:a Ignored
+    a               | Struct:a Unit
+    a=%FF           | Struct:a Unit
+    a[]=%FF&a[]=1   | Struct:a Unit
+    a[%FF]=1&a[1]=2 | Struct:a Unit
+";
 
 #[test]
-fn values(rt: HostRuntime) {
-    let t = Rows::new(&rt, rt.alloc());
-    let b = &t.build;
-    t.reads("=foo", &Shape::Any, b.text("foo"));
-    t.reads("a", &Shape::Any, under(b, "a", Data::Unit));
-    t.reads("a=", &Shape::Any, under(b, "a", b.text("")));
-    t.reads("abc=def", &Shape::Any, under(b, "abc", b.text("def")));
-    t.reads("a==1", &Shape::Any, under(b, "a", b.text("=1")));
-    t.reads("a=%zz+1", &Shape::Any, under(b, "a", b.text("%zz 1")));
-    t.breaks("a=%FF", &Shape::Any);
-    let escaped = "foo=%5BHello%5D";
-    t.reads(escaped, &Shape::Any, under(b, "foo", b.text("[Hello]")));
-    let wanted = under(b, "foo", b.text("[Hello]"));
-    t.form().reads(escaped, &Shape::Any, wanted);
-}
-
-#[test]
-fn lists(rt: HostRuntime) {
-    let t = Rows::new(&rt, rt.alloc());
-    let b = &t.build;
-    t.reads("0=a", &Shape::Any, b.list([b.text("a")]));
-    t.reads("[]=1&[]=2", &Shape::Any, list(b, "1", "2"));
-    t.reads(
-        "abc[]=1&abc[]=2",
-        &Shape::Any,
-        under(b, "abc", list(b, "1", "2")),
-    );
-    let turned = under(b, "abc", list(b, "0", "1"));
-    t.reads("abc[1]=1&abc[0]=0", &Shape::Any, turned);
-    let first = b.list([Data::Unit, b.text("1")]);
-    t.reads("a[]&a=1", &Shape::Any, under(b, "a", first));
-    let three = b.list([b.text("1"), b.text("2"), b.text("3")]);
-    t.reads("a=1&a=2&a[]=3", &Shape::Any, under(b, "a", three));
-    let both = under(b, "a", list(b, "1", "2"));
-    t.reject_duplicates().reads("a=1&a=2", &Shape::Any, both);
-    t.says(
-        "a[0]=x&a[2]=y",
-        &Shape::Any,
-        "missing index, expected: 1 got 2",
-    );
-    t.says("01=x", &Shape::Any, "missing index, expected: 0 got 1");
+fn each_case(rt: HostRuntime) {
+    assert_eq!(rt; reads_each(&Build::new(&rt, rt.alloc()), CASES), 39);
 }
 
 #[test]
@@ -73,80 +78,9 @@ fn a_number_with_a_thousand_zeros(rt: HostRuntime) {
     let b = &t.build;
     let zeros = "0".repeat(rt.alloc(), 1000).expect(&rt, "memory");
     let input = format!(in rt.alloc(); "a[{zeros}1]=x").expect(&rt, "memory");
-    t.says(&input, &Shape::Any, "missing index, expected: 0 got 1");
-    let shape = b.field("a", b.map(KeyShape::Text, Shape::Text));
-    t.reads(&input, &shape, b.one("a", under(b, "1", b.text("x"))));
-}
-
-#[test]
-fn brackets_in_keys(rt: HostRuntime) {
-    let t = Rows::new(&rt, rt.alloc());
-    let b = &t.build;
-    t.reads("a]=1", &Shape::Any, under(b, "a]", b.text("1")));
-    let escaped = "abc%5Bdef%5D=ghi";
-    let whole = under(b, "abc[def]", b.text("ghi"));
-    t.reads(escaped, &Shape::Any, whole);
-    let nested = under(b, "abc", under(b, "def", b.text("ghi")));
-    t.form().reads(escaped, &Shape::Any, nested);
-    let whole = under(b, "abc[def]", b.text("ghi"));
-    t.form().reads("abc%5bdef%5d=ghi", &Shape::Any, whole);
-    let nested = under(b, "a", under(b, "b&c", b.text("1")));
-    t.reads("a[b&c]=1", &Shape::Any, nested);
-    t.breaks("x[%FF]=1", &Shape::Any);
-    t.breaks_and_hints("x[%5B%FF]=1", &Shape::Any);
-}
-
-#[test]
-fn several_keys(rt: HostRuntime) {
-    let t = Rows::new(&rt, rt.alloc());
-    let b = &t.build;
-    t.reads("1=a&%31=b", &Shape::Any, two(b, ("1", "a"), ("1", "b")));
-    t.reads("&a=1&&b=2&", &Shape::Any, two(b, ("a", "1"), ("b", "2")));
-    t.reads("[a]=1&[b]=2", &Shape::Any, two(b, ("a", "1"), ("b", "2")));
-    let both = under(b, "a", two(b, ("", "2"), ("b", "1")));
-    t.reads("a[b]=1&a=2", &Shape::Any, both);
-    // the greatest integer in front of the number that is a text
-    let both = two(b, ("4294967295", "q"), ("4294967296", "p"));
-    let input = "a[4294967296]=p&a[4294967295]=q";
-    t.reads(input, &Shape::Any, under(b, "a", both));
-}
-
-#[test]
-fn below_the_root(rt: HostRuntime) {
-    let t = Rows::new(&rt, rt.alloc());
-    let b = &t.build;
-    let last = under(b, "e", under(b, "f", under(b, "[g][h]", b.text("i"))));
-    let all = under(b, "a", under(b, "b", under(b, "c", under(b, "d", last))));
-    t.reads("a[b][c][d][e][f][g][h]=i", &Shape::Any, all);
-    let all = under(b, "a", under(b, "b", under(b, "[=1", Data::Unit)));
-    t.deep(1).reads("a[b][=1", &Shape::Any, all);
-    let all = under(b, "a[b][c]", b.text("1"));
-    t.deep(0).reads("a[b][c]=1", &Shape::Any, all);
-    let all = under(b, "a", under(b, "b", list(b, "1", "2")));
-    t.deep(1).reads("a[b][]=1&a[b][]=2", &Shape::Any, all);
-}
-
-#[test]
-fn variants_without_their_shapes(rt: HostRuntime) {
-    let t = Rows::new(&rt, rt.alloc());
-    let b = &t.build;
-    let coordinates = two(b, ("x", "12"), ("y", "300"));
-    let all = b.pairs([
-        (b.text("e"), under(b, "B", Data::Unit)),
-        (b.text("u"), b.text("12")),
-        (b.text("v"), under(b, "V1", coordinates)),
-    ]);
-    let input = "e[B]&v[V1][x]=12&v[V1][y]=300&u=12";
-    t.reads(input, &Shape::Any, all);
-}
-
-#[test]
-fn passed_over(rt: HostRuntime) {
-    let t = Rows::new(&rt, rt.alloc());
-    let b = &t.build;
-    let shape = b.field("a", Shape::Ignored);
-    t.reads("a", &shape, b.one("a", Data::Unit));
-    t.reads("a=%FF", &shape, b.one("a", Data::Unit));
-    t.reads("a[]=%FF&a[]=1", &shape, b.one("a", Data::Unit));
-    t.reads("a[%FF]=1&a[1]=2", &shape, b.one("a", Data::Unit));
+    let said = "missing index, expected: 0 got 1";
+    t.says(&input, &notation::shape(b, "Any"), said);
+    let shape = notation::shape(b, "Struct:a Map:Text Text");
+    let wanted = notation::data(b, "Struct:a Map:1 Text:1 Text:x");
+    t.reads(&input, &shape, wanted);
 }

@@ -1,80 +1,49 @@
 //! Texts that aren't UTF-8, in each place where one can be asked for.
 
 use crate::build::Build;
-use crate::rows::Rows;
-use serde_qs::{Data, KeyShape, Shape};
-use std::process::Abort;
+use crate::rows::reads_each;
 
-/// What asks for a text.
-#[derive(Clone, Copy)]
-enum Part {
-    Text,
-    Bytes,
-}
+const CASES: &str = "\
+# as a text
+Struct:x Seq Text
+    x[]=%FF | ! not UTF-8
+Struct:x Tuple:1 Text
+    x[0]=%FF | ! not UTF-8
+Struct:x Map:Text Text
+    x[k]=%FF | ! not UTF-8
+    x=%FF    | ! not UTF-8
+Struct:x Option Text
+    x=%FF | ! not UTF-8
+Struct:x Newtype Text
+    x=%FF | ! not UTF-8
+Struct:x Struct:u Text
+    x[]=%FF | ! not UTF-8
+Struct:x Enum:1 newtype:A Text
+    x[A]=%FF | ! not UTF-8
+Struct:x Enum:1 tuple:A:1 Text
+    x[A][]=%FF | ! not UTF-8
 
-impl Part {
-    // Returns the shape of the part.
-    fn shape(self) -> Shape {
-        match self {
-            Part::Text => Shape::Text,
-            Part::Bytes => Shape::Bytes,
-        }
-    }
-}
-
-// Returns an input, what reads its broken text as one part, and the data where that part is bytes.
-fn places<R: Abort>(b: &Build<'_, R>, part: Part) -> [(&'static str, Shape, Data); 9] {
-    let broken = || b.bytes(&[0xFF]);
-    let field = |shape| b.field("x", shape);
-    [
-        ("x[]=%FF", field(b.seq(part.shape())), b.list([broken()])),
-        (
-            "x[0]=%FF",
-            field(b.tuple([part.shape()])),
-            b.items([broken()]),
-        ),
-        (
-            "x[k]=%FF",
-            field(b.map(KeyShape::Text, part.shape())),
-            b.pairs([(b.text("k"), broken())]),
-        ),
-        (
-            "x=%FF",
-            field(b.map(KeyShape::Text, part.shape())),
-            b.pairs([(b.text(""), broken())]),
-        ),
-        ("x=%FF", field(b.option(part.shape())), b.some(broken())),
-        ("x=%FF", field(b.newtype(part.shape())), b.wrapped(broken())),
-        (
-            "x[]=%FF",
-            field(b.field("u", part.shape())),
-            b.one("u", broken()),
-        ),
-        (
-            "x[A]=%FF",
-            field(b.variants([b.newtype_variant("A", part.shape())])),
-            b.holding("A", broken()),
-        ),
-        (
-            "x[A][]=%FF",
-            field(b.variants([b.tuple_variant("A", [part.shape()])])),
-            b.holding_items("A", [broken()]),
-        ),
-    ]
-}
+# as bytes
+Struct:x Seq Bytes
+    x[]=%FF | Struct:x Seq:1 Bytes:%FF
+Struct:x Tuple:1 Bytes
+    x[0]=%FF | Struct:x Tuple:1 Bytes:%FF
+Struct:x Map:Text Bytes
+    x[k]=%FF | Struct:x Map:1 Text:k Bytes:%FF
+    x=%FF    | Struct:x Map:1 Text: Bytes:%FF
+Struct:x Option Bytes
+    x=%FF | Struct:x Some Bytes:%FF
+Struct:x Newtype Bytes
+    x=%FF | Struct:x Newtype Bytes:%FF
+Struct:x Struct:u Bytes
+    x[]=%FF | Struct:x Struct:u Bytes:%FF
+Struct:x Enum:1 newtype:A Bytes
+    x[A]=%FF | Struct:x NewtypeVariant:A Bytes:%FF
+Struct:x Enum:1 tuple:A:1 Bytes
+    x[A][]=%FF | Struct:x TupleVariant:A:1 Bytes:%FF
+";
 
 #[test]
-fn as_a_text(rt: HostRuntime) {
-    let t = Rows::new(&rt, rt.alloc());
-    for (input, shape, _) in places(&t.build, Part::Text) {
-        t.breaks(input, &shape);
-    }
-}
-
-#[test]
-fn as_bytes(rt: HostRuntime) {
-    let t = Rows::new(&rt, rt.alloc());
-    for (input, shape, data) in places(&t.build, Part::Bytes) {
-        t.reads(input, &shape, t.build.one("x", data));
-    }
+fn each_case(rt: HostRuntime) {
+    assert_eq!(rt; reads_each(&Build::new(&rt, rt.alloc()), CASES), 18);
 }

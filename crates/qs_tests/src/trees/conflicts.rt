@@ -1,10 +1,11 @@
 //! Pairs that can't stand beside the earlier ones.
 
 use super::{
-    AllocError, Config, Error, Fail, Global, SEQUENCE_AND_MAP, UNIT_AND_MAP, VALUE_AND_MAP,
-    VALUE_AND_SEQUENCE, query, reject, reject_bytes, typed_position,
+    Config, Error, Fail, Global, SEQUENCE_AND_MAP, UNIT_AND_MAP, VALUE_AND_MAP, VALUE_AND_SEQUENCE,
+    query, reject, reject_bytes, typed_position,
 };
 use qs_tree::parse;
+use std::alloc::AllocError;
 use std::process::Abort;
 
 #[test]

@@ -1,6 +1,6 @@
 //! Integer keys, escaped keys, and how a key is kept.
 
-use super::{Config, Fail, accept, repeated, tree};
+use super::{Config, Fail, accept, tree};
 
 #[test]
 fn numbers_and_texts(rt: HostRuntime) -> Result<(), Fail> {
@@ -46,7 +46,7 @@ fn the_first_encoding_is_kept(rt: HostRuntime) -> Result<(), Fail> {
 #[test]
 fn a_number_with_a_thousand_zeros(rt: HostRuntime) -> Result<(), Fail> {
     let alloc = rt.alloc();
-    let zeros = repeated(alloc, "0", 1000)?;
+    let zeros = "0".repeat(alloc, 1000)?;
     let input = format!(in alloc; "a[{zeros}1]=x")?;
     let found = tree(alloc, Config::new(), input.as_bytes())?;
     assert_eq!(rt; found.as_str(), "{'a':{1:'x'}}");
@@ -56,7 +56,7 @@ fn a_number_with_a_thousand_zeros(rt: HostRuntime) -> Result<(), Fail> {
 #[test]
 fn a_thousand_nines(rt: HostRuntime) -> Result<(), Fail> {
     let alloc = rt.alloc();
-    let nines = repeated(alloc, "9", 1000)?;
+    let nines = "9".repeat(alloc, 1000)?;
     let input = format!(in alloc; "a[{nines}]=x&{nines}=y")?;
     let wanted = format!(in alloc; "{{'{nines}':'y','a':{{'{nines}':'x'}}}}")?;
     let found = tree(alloc, Config::new(), input.as_bytes())?;

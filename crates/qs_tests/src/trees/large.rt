@@ -1,9 +1,9 @@
 //! Inputs of 8,192 keys in no order.
 
 use super::{
-    AllocError, Config, ENDED_IN_KEY, Fail, Global, SEQUENCE_AND_MAP, VALUE_AND_MAP, form,
-    reject_bytes, tree,
+    Config, ENDED_IN_KEY, Fail, Global, SEQUENCE_AND_MAP, VALUE_AND_MAP, form, reject_bytes, tree,
 };
+use std::alloc::AllocError;
 use std::process::Abort;
 
 const KEYS: usize = 8_192;

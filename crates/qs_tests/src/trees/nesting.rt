@@ -1,6 +1,6 @@
 //! Keys below keys, and the limit of depth.
 
-use super::{Config, Fail, accept, query, repeated, tree};
+use super::{Config, Fail, accept, query, tree};
 
 const SEVEN_MAPS: &str = "{'a':{'b':{'c':{'d':{'e':{'f':{'[g][h]':'i'}}}}}}}";
 
@@ -57,9 +57,9 @@ fn maps_in_maps(rt: HostRuntime) -> Result<(), Fail> {
 #[test]
 fn two_hundred_brackets(rt: HostRuntime) -> Result<(), Fail> {
     let alloc = rt.alloc();
-    let brackets = repeated(alloc, "[b]", 200)?;
+    let brackets = "[b]".repeat(alloc, 200)?;
     let input = format!(in alloc; "a{brackets}=1")?;
-    let last_key = repeated(alloc, "[b]", 195)?;
+    let last_key = "[b]".repeat(alloc, 195)?;
     let wanted = format!(in alloc;
         "{{'a':{{'b':{{'b':{{'b':{{'b':{{'b':{{'{last_key}':'1'}}}}}}}}}}}}}}"
     )?;
@@ -74,7 +74,7 @@ fn two_hundred_brackets(rt: HostRuntime) -> Result<(), Fail> {
 #[test]
 fn a_path_of_a_thousand(rt: HostRuntime) -> Result<(), Fail> {
     let alloc = rt.alloc();
-    let brackets = repeated(alloc, "[b]", 1000)?;
+    let brackets = "[b]".repeat(alloc, 1000)?;
     let input = format!(in alloc; "a{brackets}=1")?;
     for max_depth in [1000, usize::MAX] {
         let found = tree(alloc, query(max_depth), input.as_bytes())?;

@@ -1,38 +1,30 @@
 //! Variants of an enum.
 
-use super::{query, stops, writes};
+use super::writes_each;
 use crate::build::Build;
-use serde_qs::{Data, Error};
+
+const CASES: &str = "\
+# each kind
+Struct:e UnitVariant:a
+    e=a
+Struct:e NewtypeVariant:b Bool:true
+    e[b]=true
+Struct:e StructVariant:c:x:y Unsigned:2 Unsigned:3
+    e[c][x]=2&e[c][y]=3
+Struct:e TupleVariant:d:2 Unsigned:128 Unsigned:1
+    e[d][0]=128&e[d][1]=1
+
+# without fields
+Struct:e TupleVariant:v:0
+    # nothing is written, and the name needs its depth all the same
+    depth 0 |  | ! Maximum serialization depth `0` exceeded
+    depth 1 |
+Struct:e StructVariant:v
+    depth 0 |  | ! Maximum serialization depth `0` exceeded
+    depth 1 |
+";
 
 #[test]
-fn each_kind(rt: HostRuntime) {
-    let build = Build::new(&rt, rt.alloc());
-    let b = &build;
-    let members = [
-        b.member("x", Data::Unsigned(2)),
-        b.member("y", Data::Unsigned(3)),
-    ];
-    let items = [Data::Unsigned(128), Data::Unsigned(1)];
-    let rows = [
-        (b.bare("a"), "e=a"),
-        (b.holding("b", Data::Bool(true)), "e[b]=true"),
-        (b.holding_record("c", members), "e[c][x]=2&e[c][y]=3"),
-        (b.holding_items("d", items), "e[d][0]=128&e[d][1]=1"),
-    ];
-    for (variant, wanted) in rows {
-        writes(b, query(), &b.one("e", variant), wanted);
-    }
-}
-
-// Nothing is written, and the name needs its depth all the same.
-#[test]
-fn without_fields(rt: HostRuntime) {
-    let build = Build::new(&rt, rt.alloc());
-    let b = &build;
-    for variant in [b.holding_items("v", []), b.holding_record("v", [])] {
-        let datum = b.one("e", variant);
-        let error = stops(b, query().max_depth(0), &datum, "");
-        assert!(rt; matches!(error, Error::MaxSerializationDepthExceeded(0)));
-        writes(b, query().max_depth(1), &datum, "");
-    }
+fn each_case(rt: HostRuntime) {
+    assert_eq!(rt; writes_each(&Build::new(&rt, rt.alloc()), CASES), 8);
 }

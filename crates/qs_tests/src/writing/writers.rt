@@ -1,10 +1,12 @@
 //! Writers that take little, and writers that stop.
 
-use super::query;
 use crate::build::Build;
 use crate::narrow::{Narrow, Stop};
+use crate::notation;
 use qs_callers::Query;
-use serde_qs::{ByWrite, ConfigExt, Data, Error, Result, Serializer, Sink, from_str, to_writer};
+use serde_qs::{
+    ByWrite, Config, ConfigExt, Data, Error, Result, Serializer, Sink, from_str, to_writer,
+};
 use std::alloc::Global;
 use std::collections::BTreeMap;
 use std::process::Abort;
@@ -18,16 +20,13 @@ const QUERY: &str = "name=Alice&age=24&occupation=Student";
 
 // Returns a struct of a number and a list of one number.
 fn number_and_list<R: Abort>(b: &Build<'_, R>) -> Data {
-    b.record([
-        b.member("a", Data::Unsigned(1)),
-        b.member("b", b.list([Data::Unsigned(2)])),
-    ])
+    notation::data(b, "Struct:a:b Unsigned:1 Seq:1 Unsigned:2")
 }
 
 // Asserts that a writer with this room holds as many bytes of the text, no write is repeated, and the serializer has failed for good.
 fn stops_at<R: Abort>(rt: &R, alloc: Global, datum: &Data, room: usize, step: usize, stop: Stop) {
     let mut writer = Narrow::new(alloc, step, room, stop).expect(rt, "memory");
-    let mut serializer = Serializer::new(&mut writer, query());
+    let mut serializer = Serializer::new(&mut writer, Config::new());
     let result = serializer.serialize(alloc, datum);
     assert!(rt;
         matches!(result, Err(Error::Io(_))),
@@ -66,7 +65,7 @@ fn takes_all_in_small_steps(rt: HostRuntime) {
     let datum = number_and_list(b);
     for step in [1, 3, 5, 10] {
         let mut writer = Narrow::new(b.alloc, step, WHOLE.len(), Stop::Fails).expect(&rt, "memory");
-        let mut serializer = Serializer::new(&mut writer, query());
+        let mut serializer = Serializer::new(&mut writer, Config::new());
         assert!(rt; serializer.serialize(b.alloc, &datum).is_ok());
         assert!(rt; !serializer.into_sink().has_failed());
         assert_eq!(rt; writer.held.as_slice(), WHOLE.as_slice(), "{step}");
@@ -87,7 +86,7 @@ impl Call {
     fn write(self, alloc: Global, addresses: &Addresses, writer: &mut Narrow) -> Result<()> {
         match self {
             Call::Writer => to_writer(alloc, addresses, writer),
-            Call::Configured => query().serialize_to_writer(alloc, addresses, writer),
+            Call::Configured => Config::new().serialize_to_writer(alloc, addresses, writer),
         }
     }
 }
@@ -149,7 +148,7 @@ fn a_struct_stops_in_mid_stream(rt: HostRuntime) {
 fn a_second_value_continues(rt: HostRuntime) {
     let build = Build::new(&rt, rt.alloc());
     let b = &build;
-    let mut serializer = Serializer::over(ByWrite::new(Vec::new(b.alloc)), query());
+    let mut serializer = Serializer::over(ByWrite::new(Vec::new(b.alloc)), Config::new());
     for (name, number) in [("a", 1), ("b", 2)] {
         let datum = b.one(name, Data::Unsigned(number));
         assert!(rt; serializer.serialize(b.alloc, &datum).is_ok());

@@ -24,7 +24,7 @@ build_program() {
 # is_left NAME: rt ci has proved the library and left it, and nothing of it was edited since.
 is_left() {
     local built=$root/crates/$1/out/rlib
-    [ ! -e "$built/stamp" ] && is_newer "$built/$1.rlib/format" "$root/crates.txt" "$root/crates/$1"/{src,specs,proofs}
+    [ ! -e "$built/stamp" ] && is_newer "$built/$1.rlib" "$root/crates.txt" "$root/crates/$1"/{src,specs,proofs}
 }
 
 # build_static NAME LIBRARY..: proves and builds the static library of that crate over the libraries, which are proved once more only where rt ci

@@ -1,4 +1,4 @@
--- The words of the benchmark's clauses: what its calls count, read and write, in words of qs_spec and of serde_qs.
+-- The words that a reader must believe, beside those of qs_spec and serde_qs: all modules. They say what the calls of the benchmark count, read and write.
 pub mod Keys
 pub mod Loads
 pub mod Reads

@@ -7,6 +7,11 @@ ghost use Rattle.qs_c.specs.Status.{code_of, text_of, IsDone};
 use crate::failure::Failure;
 
 /// What a call says beside its status.
+///
+/// ```
+/// qs_answer answer;
+/// uint32_t status = qs_decode(QS_TEXT("a%5Bb%5D=1"), QS_ROOM(out), &answer); // answer.len is 6
+/// ```
 #[repr(C)]
 #[derive(Drop)]
 pub struct Answer {

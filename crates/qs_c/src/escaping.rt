@@ -12,7 +12,13 @@ use std::alloc::Global;
 
 /// Decodes the bytes: `+` is a space, and `%` with two hexadecimal digits is one byte.
 ///
-/// Only an allocation can fail.
+/// Returns 0 where the result stands at the front of `out`, and 1 where it doesn't fit there. `answer` has its length. Only an allocation
+/// can fail: then it returns 2. It allocates for the result where there is a `+` or a `%`, frees that before it returns, and takes linear
+/// time.
+///
+/// ```
+/// uint32_t status = qs_decode(QS_TEXT("a%5Bb%5D=1"), QS_ROOM(out), &answer); // a[b]=1
+/// ```
 #[unsafe(no_mangle)]
 pub extern "C" fn qs_decode(alloc: Global, bytes: &[u8], out: &mut [u8], answer: &mut Answer) -> u32
     ensures done { IsDone result → IsHandedOut (decoded bytes.now) out.old out.new result answer.new.len }
@@ -28,7 +34,12 @@ pub extern "C" fn qs_decode(alloc: Global, bytes: &[u8], out: &mut [u8], answer:
 
 /// Encodes the bytes for form mode (`form`) or query mode.
 ///
-/// Only an allocation can fail.
+/// Returns 0 where the result stands at the front of `out`, and 1 where it doesn't fit there. `answer` has its length. Only an allocation
+/// can fail: then it returns 2. It allocates for the result, frees that before it returns, and takes linear time.
+///
+/// ```
+/// uint32_t status = qs_encode(false, QS_TEXT("100% a+b"), QS_ROOM(out), &answer); // 100%25+a%2Bb
+/// ```
 #[unsafe(no_mangle)]
 pub extern "C" fn qs_encode(
     alloc: Global,

@@ -19,11 +19,25 @@ use crate::errors::failure_of;
 use crate::failure::Failure;
 use crate::notation::shape_of_text;
 use crate::settings::Settings;
-use crate::showing::shown;
+use crate::showing::to_json;
 use qs_data::{Config, Data, Deserializer, Shape};
 use std::alloc::Global;
 
 /// Makes JSON of the querystring, read as whatever is there: strings, lists and maps.
+///
+/// Returns 0 where the JSON stands at the front of `out`, and 1 where it doesn't fit there. `answer` has its length. Of an error `answer`
+/// has the length of its text, which stands at the front of `out` if it fits there. The errors, with position 0 where no other is given:
+///
+/// - 2: an allocation failed; there is no text.
+/// - 3: a number in the settings is too large.
+/// - 4: the querystring has no tree. The position is how many bytes were read, and one more where the end was read.
+/// - 5 or 6: it has one, from which nothing is read.
+///
+/// It allocates for the tree, the data and the JSON, and frees them before it returns. The time grows with the input and the JSON.
+///
+/// ```
+/// uint32_t status = qs_parse(&qs_default, QS_TEXT("a[b]=1"), QS_ROOM(out), &answer); // {"a":{"b":"1"}}
+/// ```
 #[unsafe(no_mangle)]
 pub extern "C" fn qs_parse(
     alloc: Global,
@@ -47,6 +61,16 @@ pub extern "C" fn qs_parse(
 }
 
 /// Makes JSON of the querystring, read by a shape in the notation of docs/LIBRARY.md.
+///
+/// What it returns is as that of [`qs_parse`], with one more error, which comes before those of the querystring:
+///
+/// - 7: the text isn't a shape. The position is how many of its bytes were read.
+///
+/// It allocates for the shape too, and frees it before it returns. The time grows with the text of the shape, the input and the JSON.
+///
+/// ```
+/// uint32_t status = qs_read(&qs_default, QS_TEXT("{age: u8}"), QS_TEXT("age=7"), QS_ROOM(out), &answer); // {"age":7}
+/// ```
 #[unsafe(no_mangle)]
 pub extern "C" fn qs_read(
     alloc: Global,
@@ -105,7 +129,7 @@ fn read_json(alloc: Global, config: Config, shape: &Shape, input: &[u8]) -> Resu
     ensures memory { IfErr result MemoryHasNoText }
 {
     match read_data(alloc, config, shape, input) {
-        Ok(datum) => Ok(shown(alloc, &datum)?),
+        Ok(datum) => Ok(to_json(alloc, &datum)?),
         Err(error) => Err(failure_of(alloc, error)),
     }
 }

@@ -11,9 +11,13 @@ use qs_data::{ArrayFormat, Config, DuplicateKeyBehavior};
 use std::alloc::Global;
 
 /// The deepest nesting that may be asked for. So a call takes little stack, and what is read nests as deep as JSON may be.
-const MOST_LEVELS: usize = 100;
+const MOST_DEPTH: usize = 100;
 
 /// How a querystring is read and written.
+///
+/// ```
+/// qs_settings settings = {5, false, QS_EMPTY_INDEXED, true}; // a[]=x&a[]=y
+/// ```
 #[repr(C)]
 #[derive(Drop)]
 pub struct Settings {
@@ -35,7 +39,7 @@ impl Settings {
         ensures limit { IfOk result (λ config. config.max_depth ≤ most_levels) }
         ensures none { IfErr result (λ failure. IsOutOfMemory failure ⊎ ((failure.kind ≡ BadSettings) × (failure.position ≡ 0) × AreNone self.now)) }
     {
-        if self.max_depth > MOST_LEVELS {
+        if self.max_depth > MOST_DEPTH {
             return Err(failure_at(
                 alloc,
                 FailureKind::Settings,

@@ -11,7 +11,7 @@ use qs_data::Data;
 use std::alloc::{AllocError, Global};
 
 /// Returns the data as JSON without blanks.
-pub(crate) fn shown(alloc: Global, datum: &Data) -> Result<Vec<u8>, AllocError>
+pub(crate) fn to_json(alloc: Global, datum: &Data) -> Result<Vec<u8>, AllocError>
     ensures { IfOk result (λ text. text.items ≡ json_text (data_of datum.now)) }
 {
     let mut writer = Writer::new(Vec::with_capacity(alloc, 128)?);

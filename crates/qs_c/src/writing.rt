@@ -20,6 +20,21 @@ use qs_data::{Config, Data, Serializer};
 use std::alloc::Global;
 
 /// Writes the JSON as a querystring.
+///
+/// Returns 0 where the querystring stands at the front of `out`, and 1 where it doesn't fit there. `answer` has its length. Of an error
+/// `answer` has the length of its text, which stands at the front of `out` if it fits there. The errors, with position 0 where no other is
+/// given:
+///
+/// - 2: an allocation failed; there is no text.
+/// - 3: a number in the settings is too large.
+/// - 8: the JSON isn't UTF-8, or is none. The position is where it can't be read on.
+/// - 9: its data nest deeper than the settings allow.
+///
+/// It allocates for the data and the querystring, and frees them before it returns. The time grows with the JSON and the querystring.
+///
+/// ```
+/// uint32_t status = qs_write(&qs_default, QS_TEXT("{\"a\":{\"b\":1}}"), QS_ROOM(out), &answer); // a[b]=1
+/// ```
 #[unsafe(no_mangle)]
 pub extern "C" fn qs_write(
     alloc: Global,

@@ -1,3 +1,3 @@
--- What the examples of callers promise, in words of serde_qs.
+-- The words that a reader must believe, beside those of serde_qs: all modules. They say what the examples of callers promise.
 pub mod Query
 pub mod Guard

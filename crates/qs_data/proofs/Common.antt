@@ -6,10 +6,10 @@ pub use Rattle.qs_spec.specs.Entry.{Entry, Output, Path, EntryError, and_then, b
 pub use Rattle.qs_spec.specs.Escape.{encoded, is_between, encoded_byte}
 pub use Rattle.qs_spec.specs.Fits.{each_fits, fits, fits_fields, fits_pairs, fits_tuple, is_byte, variant_kind}
 pub use Rattle.qs_spec.specs.Listed.{are_listed, are_listed_members, are_listed_pairs, are_scalars, is_empty_text, is_one_empty}
-pub use Rattle.qs_spec.specs.Node.{are_ints, as_map, found, is_int, is_place, item_text, items, keys_are_allowed, keys_are_names, keys_are_text, last_item, placed, sequence_items, under_empty}
+pub use Rattle.qs_spec.specs.Node.{are_ints, as_map, found, is_int, is_place, item_text, items, keys_are_allowed, keys_are_names, keys_are_text, last_item, placed, sequence_items, under_empty, value_at_key}
 pub use Rattle.qs_spec.specs.Plain.{are_plain, are_plain_members, are_plain_pairs, count, has_members, has_values, is_member_name, is_written_key, member_names_differ, written_keys_differ}
 pub use Rattle.qs_spec.specs.Scalar.{boolean_data, character_data, is_numeral, key_data, numeral_up_to, only_character, signed_data, signed_number, text_data, unsigned_data, unsigned_number}
-pub use Rattle.qs_spec.specs.Segment.{Segment, Step, is_same_segment, number, segment_text}
+pub use Rattle.qs_spec.specs.Segment.{Segment, MarkedSegment, is_same_segment, number, segment_text}
 pub use Rattle.qs_spec.specs.Shape.{Fields, KeyShape, Shape, Variants, are_distinct, are_distinct_fields, are_distinct_variants, are_ignored, field_names_differ, is_distinct, is_field_name, is_option, is_variant_name, names_differ, no_fields, no_shapes, no_variants, one_field, one_variant, unit_kind, variant_names_differ}
 pub use Rattle.qs_spec.specs.Tree.{Entries, Items, Tree}
 pub use Rattle.qs_spec.specs.Tree.Entries.{entry, no_entries}
@@ -20,7 +20,7 @@ pub use Rattle.qs_spec.specs.internal.ReadFunction.{Reader, any_data, any_items,
 pub use Rattle.qs_tree.specs.declared.error.Error.{Error}
 pub use Rattle.qs_tree.specs.declared.error.Error.TheVariants.{Custom, Utf8}
 pub use Rattle.qs_tree.specs.declared.tree.value.ParsedValue.{ParsedValue}
-pub use Rattle.qs_tree.specs.tree.Views.{entries_of_map, entry_list, find, items_from, segment_of_key, step_of_key, tree_of}
+pub use Rattle.qs_tree.specs.tree.Views.{entries_of_map, entry_list, items_from, segment_of_key, marked_segment_of_key, tree_of}
 pub use Rattle.qs_data.specs.data.Views.{data_of, members_in, named, pair_of, pairs_in, unchanged, values_in}
 pub use Rattle.qs_data.specs.data.internal.Equality.{data_same, members_same, pairs_same, values_same}
 pub use Rattle.qs_data.specs.data.internal.Weight.{member_weight, pair_weight, weight}
@@ -33,7 +33,7 @@ pub use Rattle.qs_data.specs.read.Entries.{first_entry}
 pub use Rattle.qs_data.specs.read.Gives.{Gives, Rejects}
 pub use Rattle.qs_data.specs.read.Items.{are_text, first_item, items_view}
 pub use Rattle.qs_data.specs.read.Keys.{KeyFits, NumbersFit, PassesTest, entries_view}
-pub use Rattle.qs_data.specs.read.Parsed.{Parsed, ReturnsData, SparesMemory, parsed_of, takes_no_memory}
+pub use Rattle.qs_data.specs.read.Parsed.{Parsed, ReturnsData, AllocatesOnlyForErrors, parsed_of, allocates_nothing}
 pub use Rattle.qs_data.specs.read.TreeText.{entries_are_text, is_text, items_are_text}
 pub use Rattle.qs_data.specs.read.internal.GivenText.{data_by_text, given_text, utf8_text}
 pub use Rattle.qs_data.specs.read.internal.Keys.{entries_after, passed, unknown_of, value_in, when}

@@ -11,7 +11,7 @@ is_unread_bracket form b c e = b == 37 && c == 53 && (e == 98 || e == 100 || (no
 abbrev pub is_key_after : Bool → ℕ → Bool
 is_key_after in_key b = b == 38 || (in_key && not (b == 61))
 
--- The position after the first such bracket in a key, where n bytes were read, b and c last.
+-- The position after the first such bracket in a key, where n bytes were parsed, b and c last.
 abbrev pub bracket_from : Bool → (in_key : Bool) → (n b c : ℕ) → List ℕ → Option ℕ
 bracket_from form in_key n b c [] = None
 bracket_from form in_key n b c (e ∷ rest) =

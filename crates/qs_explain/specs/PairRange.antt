@@ -18,12 +18,12 @@ pub record IsFirst (byte : ℕ) (input : List ℕ) (from to at : ℕ) : Type 0 w
   pub none : HoldsNo byte input from at
   pub stands : at < to → slice_index input at ≡ byte
 
--- the last byte of so many that were read, or the end of the input
-abbrev pub last_read : List ℕ → ℕ → ℕ
-last_read input position = min (position - 1) (length input)
+-- the last byte of so many that were parsed, or the end of the input
+abbrev pub last_parsed : List ℕ → ℕ → ℕ
+last_parsed input position = min (position - 1) (length input)
 
 -- How many bytes of a pair come before the first `=` that doesn't stand in brackets, which is the first byte that its value comes after, or
--- all, where n were read, b and c last, and the next stands at the place.
+-- all, where n were parsed, b and c last, and the next stands at the place.
 abbrev pub key_from : Bool → ℕ → Place → (n b c : ℕ) → List ℕ → ℕ
 key_from form depth place n b c [] = n
 key_from form depth place n b c (e ∷ rest) =
@@ -33,10 +33,10 @@ key_from form depth place n b c (e ∷ rest) =
 abbrev pub key_len : Bool → ℕ → List ℕ → ℕ
 key_len form depth pair = key_from form depth Root 0 0 0 pair
 
--- From where the pair begins that the last byte stands in that was read, up to the `&` that is this byte or comes next. The key goes up to
+-- From where the pair begins that the last byte stands in that was parsed, up to the `&` that is this byte or comes next. The key goes up to
 -- the first `=` of the pair that doesn't stand in brackets, or to the pair's end.
 pub record IsPairAt (config : Config) (input : List ℕ) (position : ℕ) (p : PairRange) : Type 0 where
-  pub start : p.start ≡ pair_start config.form config.max_depth (take (last_read input position) input)
-  pub end : IsFirst 38 input (last_read input position) (length input) p.end
+  pub start : p.start ≡ pair_start config.form config.max_depth (take (last_parsed input position) input)
+  pub end : IsFirst 38 input (last_parsed input position) (length input) p.end
   pub key_end : p.key_end ≡ p.start + key_len config.form config.max_depth (slice_range input p.start p.end)
   pub within : p.key_end ≤ p.end

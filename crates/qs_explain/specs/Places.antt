@@ -50,7 +50,7 @@ abbrev pub is_value : Place → Bool
 is_value Value = true
 is_value _ = false
 
--- where the last pair begins, n bytes were read, b and c last, and the next stands at the place
+-- where the last pair begins, n bytes were parsed, b and c last, and the next stands at the place
 abbrev pub start_from : Bool → ℕ → Place → (n start b c : ℕ) → List ℕ → ℕ
 start_from form depth place n start b c [] = start
 start_from form depth place n start b c (e ∷ rest) =

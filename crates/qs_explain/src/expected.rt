@@ -8,6 +8,10 @@ use qs_data::Shape;
 use std::fmt;
 
 /// What is expected of a part: the kind of its shape.
+///
+/// ```
+/// let text = Expected::Unsigned(8).to_string(alloc)?; // u8
+/// ```
 #[derive(Debug, Clone, Copy, PartialEq, Eq)]
 pub enum Expected {
     /// No value.

@@ -10,6 +10,10 @@ use std::alloc::{AllocError, Global};
 use std::fmt;
 
 /// What stands at a part.
+///
+/// ```
+/// let text = Found::Map.to_string(alloc)?; // nested keys
+/// ```
 #[derive(Debug, PartialEq, Eq, Drop)]
 pub enum Found {
     /// A key without `=`.

@@ -7,6 +7,10 @@ use qs_data::Config;
 use std::fmt;
 
 /// What is probably meant by an input that isn't read as its sender meant it.
+///
+/// ```
+/// let hint = find_hint(Config::new().use_form_encoding(true), b"user%5bage%5d=7"); // Some(Hint::LowerCase(7))
+/// ```
 #[derive(Debug, Clone, Copy, PartialEq, Eq)]
 pub enum Hint {
     /// A key holds a bracket that is escaped, `%5B` or `%5D` in either case, which ends at this position. In query mode it is part of
@@ -22,7 +26,7 @@ pub enum Hint {
 ///
 /// A key is taken to be what stands before the first `=` of a pair, also where that `=` stands in brackets, and an `&` in brackets
 /// is taken to begin another pair, though in an input that is parsed both are bytes of the key. Doesn't allocate, and looks at each
-/// byte once.
+/// byte once at most.
 ///
 /// ```
 /// let hint = find_hint(Config::new(), b"user%5Bage%5D=7"); // Some(Hint::Escaped(7))

@@ -7,6 +7,11 @@ use crate::place::{find_key_len, find_start};
 use qs_data::Config;
 
 /// Where a pair stands in an input: `input[start..end]`, without the `&` on either side.
+///
+/// ```
+/// let pair = find_pair(Config::new(), input, position);
+/// let key = &input[pair.start..pair.key_end];
+/// ```
 #[derive(Debug, Clone, Copy, PartialEq, Eq)]
 pub struct PairRange {
     /// Where it begins.

@@ -10,6 +10,10 @@ use std::alloc::{AllocError, Global};
 use std::fmt;
 
 /// A segment of a path: what stands between two brackets of a key, or in front of the first.
+///
+/// ```
+/// let text = Segment::Index(1).to_string(alloc)?; // 1
+/// ```
 #[derive(Debug, PartialEq, Eq, Drop)]
 pub enum Segment {
     /// The index of an item, or an integer key.

@@ -50,19 +50,31 @@ twice : {A B C : Type 0} (f : B → C) (g : A → B) (o : Option A) → option_m
 twice f g None = refl
 twice f g (Some a) = refl
 
-pub sequence_of_any : (st : Bool) (xs : Items) → reads st (Shape.sequence Shape.any) (sequence xs) ≡ any_data (sequence xs)
-unfolding reads read_list any_data
-sequence_of_any st xs = sym (ap (option_map Data.sequence) (items_read xs) ∙ twice Data.sequence values_of (read_each any_data (sequence_items xs)))
+pub sequence_is : (xs : Items) → any_data (sequence xs) ≡ option_map (λ ds. Data.sequence (values_of ds)) (read_each any_data (sequence_items xs))
+unfolding any_data
+sequence_is xs = ap (option_map Data.sequence) (items_read xs) ∙ twice Data.sequence values_of (read_each any_data (sequence_items xs))
 
-pub places_of_any : (st : Bool) (es : Entries) → are_ints es ≡ true → reads st (Shape.sequence Shape.any) (mapping es) ≡ any_data (mapping es)
-unfolding reads read_list any_data
-places_of_any st es e =
-    ap (λ b. option_map (λ ds. Data.sequence (values_of ds)) (option_and_then (read_each any_data) (cond b (Some (placed 0 es)) None))) e
-    ∙ sym (ap (λ b. cond b (option_map Data.sequence (any_places 0 es)) (option_map Data.mapping (any_pairs es))) e
-    ∙ ap (option_map Data.sequence) (places_read 0 es) ∙ twice Data.sequence values_of (read_each any_data (placed 0 es)))
+pub places_are : (es : Entries) → are_ints es ≡ true → any_data (mapping es) ≡ option_map (λ ds. Data.sequence (values_of ds)) (read_each any_data (placed 0 es))
+unfolding any_data
+places_are es e =
+    ap (λ b. cond b (option_map Data.sequence (any_places 0 es)) (option_map Data.mapping (any_pairs es))) e
+    ∙ ap (option_map Data.sequence) (places_read 0 es) ∙ twice Data.sequence values_of (read_each any_data (placed 0 es))
 
-pub map_of_any : (st : Bool) (es : Entries) → are_ints es ≡ false → reads st (Shape.mapping KeyShape.text Shape.any) (mapping es) ≡ any_data (mapping es)
-unfolding reads read_map any_data
-map_of_any st es e =
-    sym (ap (λ b. cond b (option_map Data.sequence (any_places 0 es)) (option_map Data.mapping (any_pairs es))) e
-    ∙ ap (option_map Data.mapping) (pairs_read es) ∙ twice Data.mapping pairs_of (read_pairs KeyShape.text any_data es))
+pub map_is : (es : Entries) → are_ints es ≡ false → any_data (mapping es) ≡ option_map (λ ps. Data.mapping (pairs_of ps)) (read_pairs KeyShape.text any_data es)
+unfolding any_data
+map_is es e =
+    ap (λ b. cond b (option_map Data.sequence (any_places 0 es)) (option_map Data.mapping (any_pairs es))) e
+    ∙ ap (option_map Data.mapping) (pairs_read es) ∙ twice Data.mapping pairs_of (read_pairs KeyShape.text any_data es)
+
+pub sequence_of_any : (reject_duplicates : Bool) (xs : Items) → reads reject_duplicates (Shape.sequence Shape.any) (sequence xs) ≡ any_data (sequence xs)
+unfolding reads read_list
+sequence_of_any reject_duplicates xs = sym (sequence_is xs)
+
+pub places_of_any : (reject_duplicates : Bool) (es : Entries) → are_ints es ≡ true → reads reject_duplicates (Shape.sequence Shape.any) (mapping es) ≡ any_data (mapping es)
+unfolding reads read_list
+places_of_any reject_duplicates es e =
+    ap (λ b. option_map (λ ds. Data.sequence (values_of ds)) (option_and_then (read_each any_data) (cond b (Some (placed 0 es)) None))) e ∙ sym (places_are es e)
+
+pub map_of_any : (reject_duplicates : Bool) (es : Entries) → are_ints es ≡ false → reads reject_duplicates (Shape.mapping KeyShape.text Shape.any) (mapping es) ≡ any_data (mapping es)
+unfolding reads read_map
+map_of_any reject_duplicates es e = sym (map_is es e)

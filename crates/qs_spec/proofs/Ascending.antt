@@ -2,7 +2,7 @@
 use Rattle.std.proofs.Common.{◌≡◌, ℕ, zero, suc, Bool, true, false, cond, List, [], ◌∷◌, refl, sym, subst, Ordering, Less, Equal, Greater}
 use Rattle.std.specs.List.{AllByRecursion, list_any}
 use Rattle.qs_spec.specs.Escape.{decoded}
-use Rattle.qs_spec.specs.Segment.{Segment, Step, segment_of, is_index, number, compare_segments, is_same_segment}
+use Rattle.qs_spec.specs.Segment.{Segment, MarkedSegment, segment_of, is_index, number, compare_segments, is_same_segment}
 use Rattle.qs_spec.specs.Segment.Segment.{Int, Str}
 use Rattle.qs_spec.specs.Grammar.{Pair}
 use Rattle.qs_spec.specs.History.{Event, events, is_below, under}
@@ -10,7 +10,7 @@ use Rattle.qs_spec.specs.History.Event.{direct, push, below}
 use Rattle.qs_spec.specs.Tree.{Tree, IsTree, flat, put, put_head, heads, filled, filled_path, head_mark, entries_of, node_within, longest}
 use Rattle.qs_spec.specs.internal.Keys.{IsInRange, AreAbove, AreAscending, IsAscending, HoldAscending}
 use Rattle.qs_spec.proofs.Order.{put_lt, put_eq, put_gt}
-use Rattle.qs_spec.proofs.Segments.{HasBytes, AllSteps, AllSegments, all_segments}
+use Rattle.qs_spec.proofs.Segments.{HasBytes, AllOfPath, AllSegments, all_segments}
 use Rattle.qs_spec.proofs.Leaves.{Ascends, ascends_heads}
 use Rattle.qs_spec.proofs.KeysBack.{index_below}
 
@@ -34,7 +34,7 @@ heads_in_range : (ps : List Pair) → AllSegments IsInRange ps → AllByRecursio
 heads_in_range [] h = tt
 heads_in_range (p ∷ ps) h = by p.path h.0 (heads_in_range ps h.1)
   where
-    by : (path : List Step) → AllSteps IsInRange path → AllByRecursion IsInRange (heads ps) → AllByRecursion IsInRange (put_head path (heads ps))
+    by : (path : List MarkedSegment) → AllOfPath IsInRange path → AllByRecursion IsInRange (heads ps) → AllByRecursion IsInRange (put_head path (heads ps))
     by [] r more = more
     by (s ∷ path) r more = put_in_range s.seg (heads ps) r.0 more
 
@@ -42,7 +42,7 @@ filled_in_range : (ps : List Pair) → AllSegments IsInRange ps → AllSegments 
 filled_in_range [] h = tt
 filled_in_range (p ∷ ps) h = (by p.path p.push h.0, filled_in_range ps h.1)
   where
-    by : (path : List Step) (b : Bool) → AllSteps IsInRange path → AllSteps IsInRange (filled_path path b)
+    by : (path : List MarkedSegment) (b : Bool) → AllOfPath IsInRange path → AllOfPath IsInRange (filled_path path b)
     by [] true r = tt
     by [] false r = (tt, tt)
     by (s ∷ path) b r = r
@@ -51,7 +51,7 @@ under_in_range : (k : Segment) (ps : List Pair) → AllSegments IsInRange ps →
 under_in_range k [] h = tt
 under_in_range k (p ∷ ps) h = by p.path h.0 (under_in_range k ps h.1)
   where
-    by : (path : List Step) → AllSteps IsInRange path → AllSegments IsInRange (under k ps) → AllSegments IsInRange (under k (record p { path = path } ∷ ps))
+    by : (path : List MarkedSegment) → AllOfPath IsInRange path → AllSegments IsInRange (under k ps) → AllSegments IsInRange (under k (record p { path = path } ∷ ps))
     by [] r more = more
     by (s ∷ path) r more = each (is_same_segment k s.seg)
       where

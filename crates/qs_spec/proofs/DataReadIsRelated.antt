@@ -21,80 +21,80 @@ use Rattle.qs_spec.proofs.VariantNames.{bytes_equal}
 
 -- what a shape reads is related
 abbrev pub Reading : Bool → Shape → Type 0
-Reading st s = (n : Tree) (d : Data) → reads st s n ≡ Some d → Reads st s n d
+Reading reject_duplicates s = (n : Tree) (d : Data) → reads reject_duplicates s n ≡ Some d → Reads reject_duplicates s n d
 
 pub text_related : (t : List ℕ) (d : Data) → text_data t ≡ Some d → (is_utf8 t ≡ true) × (Data.text t ≡ d)
 text_related t d e = tested (is_utf8 t) (Data.text t) d e
 
 -- a scalar by cases
-pub scalar_related : (st : Bool) (empty : Option Data) (get : List ℕ → Option Data) (P : Tree → Type 0) (d : Data) → (empty ≡ Some d → P (leaf NoValue)) → (empty ≡ Some d → P (leaf Null))
-    → ((n : Tree) (t : List ℕ) → last_text st n ≡ Some t → get t ≡ Some d → P n) → (n : Tree) → read_scalar st empty get n ≡ Some d → P n
-scalar_related st empty get P d no_value null some (leaf NoValue) e = no_value e
-scalar_related st empty get P d no_value null some (leaf Null) e = null e
-scalar_related st empty get P d no_value null some (leaf (Text t m)) e = some (leaf (Text t m)) t refl e
-scalar_related st empty get P d no_value null some (sequence xs) e = let c = chained get (last_item st xs) d e in some (sequence xs) c.0 c.1 c.2
-scalar_related st empty get P d no_value null some (mapping es) e = absurd (none-some d e)
-scalar_related st empty get P d no_value null some uninitialized e = absurd (none-some d e)
+pub scalar_related : (reject_duplicates : Bool) (empty : Option Data) (get : List ℕ → Option Data) (P : Tree → Type 0) (d : Data) → (empty ≡ Some d → P (leaf NoValue)) → (empty ≡ Some d → P (leaf Null))
+    → ((n : Tree) (t : List ℕ) → last_text reject_duplicates n ≡ Some t → get t ≡ Some d → P n) → (n : Tree) → read_scalar reject_duplicates empty get n ≡ Some d → P n
+scalar_related reject_duplicates empty get P d no_value null some (leaf NoValue) e = no_value e
+scalar_related reject_duplicates empty get P d no_value null some (leaf Null) e = null e
+scalar_related reject_duplicates empty get P d no_value null some (leaf (Text t m)) e = some (leaf (Text t m)) t refl e
+scalar_related reject_duplicates empty get P d no_value null some (sequence xs) e = let c = chained get (last_item reject_duplicates xs) d e in some (sequence xs) c.0 c.1 c.2
+scalar_related reject_duplicates empty get P d no_value null some (mapping es) e = absurd (none-some d e)
+scalar_related reject_duplicates empty get P d no_value null some uninitialized e = absurd (none-some d e)
 
-pub unit_related : (st : Bool) (n : Tree) (d : Data) → read_unit n ≡ Some d → Reads st Shape.unit n d
-unit_related st (leaf NoValue) d e = subst (Reads st Shape.unit (leaf NoValue)) (same_Some Data.unit d e) Reads.unit_no_value
-unit_related st (leaf Null) d e = subst (Reads st Shape.unit (leaf Null)) (same_Some Data.unit d e) Reads.unit_null
-unit_related st (leaf (Text t m)) d e = absurd (none-some d e)
-unit_related st (sequence xs) d e = absurd (none-some d e)
-unit_related st (mapping es) d e = absurd (none-some d e)
-unit_related st uninitialized d e = absurd (none-some d e)
+pub unit_related : (reject_duplicates : Bool) (n : Tree) (d : Data) → read_unit n ≡ Some d → Reads reject_duplicates Shape.unit n d
+unit_related reject_duplicates (leaf NoValue) d e = subst (Reads reject_duplicates Shape.unit (leaf NoValue)) (same_Some Data.unit d e) Reads.unit_no_value
+unit_related reject_duplicates (leaf Null) d e = subst (Reads reject_duplicates Shape.unit (leaf Null)) (same_Some Data.unit d e) Reads.unit_null
+unit_related reject_duplicates (leaf (Text t m)) d e = absurd (none-some d e)
+unit_related reject_duplicates (sequence xs) d e = absurd (none-some d e)
+unit_related reject_duplicates (mapping es) d e = absurd (none-some d e)
+unit_related reject_duplicates uninitialized d e = absurd (none-some d e)
 
-pub character_related : (st : Bool) (n : Tree) (d : Data) → read_character n ≡ Some d → Reads st Shape.character n d
-character_related st (leaf NoValue) d e = absurd (none-some d e)
-character_related st (leaf Null) d e = absurd (none-some d e)
-character_related st (leaf (Text t m)) d e = Reads.character e
-character_related st (sequence xs) d e = absurd (none-some d e)
-character_related st (mapping es) d e = absurd (none-some d e)
-character_related st uninitialized d e = absurd (none-some d e)
+pub character_related : (reject_duplicates : Bool) (n : Tree) (d : Data) → read_character n ≡ Some d → Reads reject_duplicates Shape.character n d
+character_related reject_duplicates (leaf NoValue) d e = absurd (none-some d e)
+character_related reject_duplicates (leaf Null) d e = absurd (none-some d e)
+character_related reject_duplicates (leaf (Text t m)) d e = Reads.character e
+character_related reject_duplicates (sequence xs) d e = absurd (none-some d e)
+character_related reject_duplicates (mapping es) d e = absurd (none-some d e)
+character_related reject_duplicates uninitialized d e = absurd (none-some d e)
 
-pub ignored_related : (st : Bool) (n : Tree) (d : Data) → read_ignored n ≡ Some d → Reads st Shape.ignored n d
-ignored_related st (leaf l) d e = subst (Reads st Shape.ignored (leaf l)) (same_Some Data.unit d e) (Reads.ignored tt)
-ignored_related st (sequence xs) d e = subst (Reads st Shape.ignored (sequence xs)) (same_Some Data.unit d e) (Reads.ignored tt)
-ignored_related st (mapping es) d e = subst (Reads st Shape.ignored (mapping es)) (same_Some Data.unit d e) (Reads.ignored tt)
-ignored_related st uninitialized d e = absurd (none-some d e)
+pub ignored_related : (reject_duplicates : Bool) (n : Tree) (d : Data) → read_ignored n ≡ Some d → Reads reject_duplicates Shape.ignored n d
+ignored_related reject_duplicates (leaf l) d e = subst (Reads reject_duplicates Shape.ignored (leaf l)) (same_Some Data.unit d e) (Reads.ignored tt)
+ignored_related reject_duplicates (sequence xs) d e = subst (Reads reject_duplicates Shape.ignored (sequence xs)) (same_Some Data.unit d e) (Reads.ignored tt)
+ignored_related reject_duplicates (mapping es) d e = subst (Reads reject_duplicates Shape.ignored (mapping es)) (same_Some Data.unit d e) (Reads.ignored tt)
+ignored_related reject_duplicates uninitialized d e = absurd (none-some d e)
 
 -- some of what the shape reads from a full node
-full_related : (st : Bool) (s : Shape) (n : Tree) (d : Data) → Reading st s → IsFull n → option_map Data.some (reads st s n) ≡ Some d → Reads st (Shape.option s) n d
-full_related st s n d h f e = let m = mapped Data.some (reads st s n) d e in subst (Reads st (Shape.option s) n) m.2 (Reads.option_full f (h n m.0 m.1))
+full_related : (reject_duplicates : Bool) (s : Shape) (n : Tree) (d : Data) → Reading reject_duplicates s → IsFull n → option_map Data.some (reads reject_duplicates s n) ≡ Some d → Reads reject_duplicates (Shape.option s) n d
+full_related reject_duplicates s n d h f e = let m = mapped Data.some (reads reject_duplicates s n) d e in subst (Reads reject_duplicates (Shape.option s) n) m.2 (Reads.option_full f (h n m.0 m.1))
 
-pub option_related : (st : Bool) (s : Shape) (n : Tree) (d : Data) → Reading st s → read_option (reads st s) n ≡ Some d → Reads st (Shape.option s) n d
-option_related st s (leaf NoValue) d h e = subst (Reads st (Shape.option s) (leaf NoValue)) (same_Some Data.none d e) Reads.option_no_value
-option_related st s (leaf Null) d h e = let m = mapped Data.some (reads st s (leaf NoValue)) d e in subst (Reads st (Shape.option s) (leaf Null)) m.2 (Reads.option_null (h (leaf NoValue) m.0 m.1))
-option_related st s (leaf (Text t m)) d h e = full_related st s (leaf (Text t m)) d h tt e
-option_related st s (sequence xs) d h e = full_related st s (sequence xs) d h tt e
-option_related st s (mapping es) d h e = full_related st s (mapping es) d h tt e
-option_related st s uninitialized d h e = absurd (none-some d e)
+pub option_related : (reject_duplicates : Bool) (s : Shape) (n : Tree) (d : Data) → Reading reject_duplicates s → read_option (reads reject_duplicates s) n ≡ Some d → Reads reject_duplicates (Shape.option s) n d
+option_related reject_duplicates s (leaf NoValue) d h e = subst (Reads reject_duplicates (Shape.option s) (leaf NoValue)) (same_Some Data.none d e) Reads.option_no_value
+option_related reject_duplicates s (leaf Null) d h e = let m = mapped Data.some (reads reject_duplicates s (leaf NoValue)) d e in subst (Reads reject_duplicates (Shape.option s) (leaf Null)) m.2 (Reads.option_null (h (leaf NoValue) m.0 m.1))
+option_related reject_duplicates s (leaf (Text t m)) d h e = full_related reject_duplicates s (leaf (Text t m)) d h tt e
+option_related reject_duplicates s (sequence xs) d h e = full_related reject_duplicates s (sequence xs) d h tt e
+option_related reject_duplicates s (mapping es) d h e = full_related reject_duplicates s (mapping es) d h tt e
+option_related reject_duplicates s uninitialized d h e = absurd (none-some d e)
 
-pub each_related : (st : Bool) (s : Shape) → Reading st s → (xs : List (Option Tree)) (ds : List Data) → read_each (reads st s) xs ≡ Some ds → ReadsEach st s xs (values_of ds)
-each_related st s h [] ds e = subst (λ (ds : List Data). ReadsEach st s [] (values_of ds)) (same_Some [] ds e) ReadsEach.each_end
-each_related st s h (x ∷ xs) ds e =
-    let c = chained (λ d. with_front d (read_each (reads st s) xs)) (option_and_then (reads st s) x) ds e in
-    let i = chained (reads st s) x c.0 c.1 in
-    let m = mapped (λ ds. c.0 ∷ ds) (read_each (reads st s) xs) ds c.2 in
-    subst (λ (o : Option Tree). ReadsEach st s (o ∷ xs) (values_of ds)) (sym i.1)
-    (subst (λ (ds : List Data). ReadsEach st s (Some i.0 ∷ xs) (values_of ds)) m.2 (ReadsEach.each_item (h i.0 c.0 i.2) (each_related st s h xs m.0 m.1)))
+pub each_related : (reject_duplicates : Bool) (s : Shape) → Reading reject_duplicates s → (xs : List (Option Tree)) (ds : List Data) → read_each (reads reject_duplicates s) xs ≡ Some ds → ReadsEach reject_duplicates s xs (values_of ds)
+each_related reject_duplicates s h [] ds e = subst (λ (ds : List Data). ReadsEach reject_duplicates s [] (values_of ds)) (same_Some [] ds e) ReadsEach.each_end
+each_related reject_duplicates s h (x ∷ xs) ds e =
+    let c = chained (λ d. with_front d (read_each (reads reject_duplicates s) xs)) (option_and_then (reads reject_duplicates s) x) ds e in
+    let i = chained (reads reject_duplicates s) x c.0 c.1 in
+    let m = mapped (λ ds. c.0 ∷ ds) (read_each (reads reject_duplicates s) xs) ds c.2 in
+    subst (λ (o : Option Tree). ReadsEach reject_duplicates s (o ∷ xs) (values_of ds)) (sym i.1)
+    (subst (λ (ds : List Data). ReadsEach reject_duplicates s (Some i.0 ∷ xs) (values_of ds)) m.2 (ReadsEach.each_item (h i.0 c.0 i.2) (each_related reject_duplicates s h xs m.0 m.1)))
 
-pairs_related : (st : Bool) (k : KeyShape) (s : Shape) → Reading st s → (es : Entries) (ps : List (Data × Data)) → read_pairs k (reads st s) es ≡ Some ps → ReadsPairs st k s es (pairs_of ps)
-pairs_related st k s h no_entries ps e = subst (λ (ps : List (Data × Data)). ReadsPairs st k s no_entries (pairs_of ps)) (same_Some [] ps e) ReadsPairs.pairs_end
-pairs_related st k s h (entry key mark t es) ps e =
-    let a = chained (λ a. option_and_then (λ d. with_front (a, d) (read_pairs k (reads st s) es)) (reads st s t)) (key_data k (segment_text key)) ps e in
-    let d = chained (λ d. with_front (a.0, d) (read_pairs k (reads st s) es)) (reads st s t) ps a.2 in
-    let m = mapped (λ ps. (a.0, d.0) ∷ ps) (read_pairs k (reads st s) es) ps d.2 in
-    subst (λ (ps : List (Data × Data)). ReadsPairs st k s (entry key mark t es) (pairs_of ps)) {x = (a.0, d.0) ∷ m.0} m.2 (ReadsPairs.pairs_more a.1 (h t d.0 d.1) (pairs_related st k s h es m.0 m.1))
+pairs_related : (reject_duplicates : Bool) (k : KeyShape) (s : Shape) → Reading reject_duplicates s → (es : Entries) (ps : List (Data × Data)) → read_pairs k (reads reject_duplicates s) es ≡ Some ps → ReadsPairs reject_duplicates k s es (pairs_of ps)
+pairs_related reject_duplicates k s h no_entries ps e = subst (λ (ps : List (Data × Data)). ReadsPairs reject_duplicates k s no_entries (pairs_of ps)) (same_Some [] ps e) ReadsPairs.pairs_end
+pairs_related reject_duplicates k s h (entry key mark t es) ps e =
+    let a = chained (λ a. option_and_then (λ d. with_front (a, d) (read_pairs k (reads reject_duplicates s) es)) (reads reject_duplicates s t)) (key_data k (segment_text key)) ps e in
+    let d = chained (λ d. with_front (a.0, d) (read_pairs k (reads reject_duplicates s) es)) (reads reject_duplicates s t) ps a.2 in
+    let m = mapped (λ ps. (a.0, d.0) ∷ ps) (read_pairs k (reads reject_duplicates s) es) ps d.2 in
+    subst (λ (ps : List (Data × Data)). ReadsPairs reject_duplicates k s (entry key mark t es) (pairs_of ps)) {x = (a.0, d.0) ∷ m.0} m.2 (ReadsPairs.pairs_more a.1 (h t d.0 d.1) (pairs_related reject_duplicates k s h es m.0 m.1))
 
-pub map_related : (st : Bool) (k : KeyShape) (s : Shape) (n : Tree) (ps : List (Data × Data)) → Reading st s → read_map k (reads st s) n ≡ Some ps → Reads st (Shape.mapping k s) n (Data.mapping (pairs_of ps))
+pub map_related : (reject_duplicates : Bool) (k : KeyShape) (s : Shape) (n : Tree) (ps : List (Data × Data)) → Reading reject_duplicates s → read_map k (reads reject_duplicates s) n ≡ Some ps → Reads reject_duplicates (Shape.mapping k s) n (Data.mapping (pairs_of ps))
 unfolding read_map
-map_related st k s (leaf NoValue) ps h e = subst (λ (ps : List (Data × Data)). Reads st (Shape.mapping k s) (leaf NoValue) (Data.mapping (pairs_of ps))) (same_Some [] ps e) Reads.map_no_value
-map_related st k s (leaf Null) ps h e = subst (λ (ps : List (Data × Data)). Reads st (Shape.mapping k s) (leaf Null) (Data.mapping (pairs_of ps))) (same_Some [] ps e) Reads.map_null
-map_related st k s (leaf (Text t m)) ps h e = Reads.map_text (pairs_related st k s h (under_empty (leaf (Text t m))) ps e)
-map_related st k s (sequence xs) ps h e = absurd (none-some ps e)
-map_related st k s (mapping es) ps h e = Reads.map (pairs_related st k s h es ps e)
-map_related st k s uninitialized ps h e = absurd (none-some ps e)
+map_related reject_duplicates k s (leaf NoValue) ps h e = subst (λ (ps : List (Data × Data)). Reads reject_duplicates (Shape.mapping k s) (leaf NoValue) (Data.mapping (pairs_of ps))) (same_Some [] ps e) Reads.map_no_value
+map_related reject_duplicates k s (leaf Null) ps h e = subst (λ (ps : List (Data × Data)). Reads reject_duplicates (Shape.mapping k s) (leaf Null) (Data.mapping (pairs_of ps))) (same_Some [] ps e) Reads.map_null
+map_related reject_duplicates k s (leaf (Text t m)) ps h e = Reads.map_text (pairs_related reject_duplicates k s h (under_empty (leaf (Text t m))) ps e)
+map_related reject_duplicates k s (sequence xs) ps h e = absurd (none-some ps e)
+map_related reject_duplicates k s (mapping es) ps h e = Reads.map (pairs_related reject_duplicates k s h es ps e)
+map_related reject_duplicates k s uninitialized ps h e = absurd (none-some ps e)
 
 -- a field that was read, or left out, in front of the others
 abbrev pub with_member : List ℕ → Option Data → Members → Members
@@ -123,46 +123,46 @@ option_of (Shape.enumeration vs) e = cc
 option_of Shape.any e = cc
 option_of Shape.ignored e = cc
 
-pub name_related : (st : Bool) (name : List ℕ) (s : Shape) (optional : Bool) (fs : Fields) (es : Entries) (o : Option Data) (ms : Members) → Reading st s
-    → read_field optional (is_option s) (reads st s) (found name es) ≡ Some o → ReadsNames st fs es ms → ReadsNames st (one_field name s optional fs) es (with_member name o ms)
-name_related st name s optional fs es o ms h e more = by (found name es) refl e
+pub name_related : (reject_duplicates : Bool) (name : List ℕ) (s : Shape) (optional : Bool) (fs : Fields) (es : Entries) (o : Option Data) (ms : Members) → Reading reject_duplicates s
+    → read_field optional (is_option s) (reads reject_duplicates s) (found name es) ≡ Some o → ReadsNames reject_duplicates fs es ms → ReadsNames reject_duplicates (one_field name s optional fs) es (with_member name o ms)
+name_related reject_duplicates name s optional fs es o ms h e more = by (found name es) refl e
   where
-    none_found : (optional b : Bool) → is_option s ≡ b → found name es ≡ [] → cond optional (Some None) (cond b (Some (Some Data.none)) None) ≡ Some o → ReadsNames st (one_field name s optional fs) es (with_member name o ms)
-    none_found true b i f e = subst (λ (o : Option Data). ReadsNames st (one_field name s true fs) es (with_member name o ms)) (same_Some None o e) (ReadsNames.name_left_out f more)
+    none_found : (optional b : Bool) → is_option s ≡ b → found name es ≡ [] → cond optional (Some None) (cond b (Some (Some Data.none)) None) ≡ Some o → ReadsNames reject_duplicates (one_field name s optional fs) es (with_member name o ms)
+    none_found true b i f e = subst (λ (o : Option Data). ReadsNames reject_duplicates (one_field name s true fs) es (with_member name o ms)) (same_Some None o e) (ReadsNames.name_left_out f more)
     none_found false true i f e =
         let r = option_of s i in
-        subst (λ (s : Shape). ReadsNames st (one_field name s false fs) es (with_member name o ms)) r.1
-        (subst (λ (o : Option Data). ReadsNames st (one_field name (Shape.option r.0) false fs) es (with_member name o ms)) (same_Some (Some Data.none) o e) (ReadsNames.name_as_none f more))
+        subst (λ (s : Shape). ReadsNames reject_duplicates (one_field name s false fs) es (with_member name o ms)) r.1
+        (subst (λ (o : Option Data). ReadsNames reject_duplicates (one_field name (Shape.option r.0) false fs) es (with_member name o ms)) (same_Some (Some Data.none) o e) (ReadsNames.name_as_none f more))
     none_found false false i f e = absurd (none-some o e)
 
-    by : (ns : List Tree) → found name es ≡ ns → read_field optional (is_option s) (reads st s) ns ≡ Some o → ReadsNames st (one_field name s optional fs) es (with_member name o ms)
+    by : (ns : List Tree) → found name es ≡ ns → read_field optional (is_option s) (reads reject_duplicates s) ns ≡ Some o → ReadsNames reject_duplicates (one_field name s optional fs) es (with_member name o ms)
     by [] f e = none_found optional (is_option s) refl f e
     by (t ∷ []) f e =
-        let m = mapped Some (reads st s t) o e in
-        subst (λ (o : Option Data). ReadsNames st (one_field name s optional fs) es (with_member name o ms)) m.2 (ReadsNames.name_found f (h t m.0 m.1) more)
+        let m = mapped Some (reads reject_duplicates s t) o e in
+        subst (λ (o : Option Data). ReadsNames reject_duplicates (one_field name s optional fs) es (with_member name o ms)) m.2 (ReadsNames.name_found f (h t m.0 m.1) more)
     by (t ∷ u ∷ ts) f e = absurd (none-some o e)
 
-pub place_related : (st : Bool) (name : List ℕ) (s : Shape) (optional : Bool) (fs : Fields) (xs : Items) (o : Option Data) (ms : Members) → Reading st s
-    → read_place optional (reads st s) xs ≡ Some o → ReadsPlaces st fs (items_after xs) ms → ReadsPlaces st (one_field name s optional fs) xs (with_member name o ms)
-place_related st name s true fs no_items o ms h e more = subst (λ (o : Option Data). ReadsPlaces st (one_field name s true fs) no_items (with_member name o ms)) (same_Some None o e) (ReadsPlaces.place_left_out more)
-place_related st name s false fs no_items o ms h e more = absurd (none-some o e)
-place_related st name s optional fs (item t xs) o ms h e more =
-    let m = mapped Some (reads st s t) o e in
-    subst (λ (o : Option Data). ReadsPlaces st (one_field name s optional fs) (item t xs) (with_member name o ms)) m.2 (ReadsPlaces.place_found (h t m.0 m.1) more)
+pub place_related : (reject_duplicates : Bool) (name : List ℕ) (s : Shape) (optional : Bool) (fs : Fields) (xs : Items) (o : Option Data) (ms : Members) → Reading reject_duplicates s
+    → read_place optional (reads reject_duplicates s) xs ≡ Some o → ReadsPlaces reject_duplicates fs (items_after xs) ms → ReadsPlaces reject_duplicates (one_field name s optional fs) xs (with_member name o ms)
+place_related reject_duplicates name s true fs no_items o ms h e more = subst (λ (o : Option Data). ReadsPlaces reject_duplicates (one_field name s true fs) no_items (with_member name o ms)) (same_Some None o e) (ReadsPlaces.place_left_out more)
+place_related reject_duplicates name s false fs no_items o ms h e more = absurd (none-some o e)
+place_related reject_duplicates name s optional fs (item t xs) o ms h e more =
+    let m = mapped Some (reads reject_duplicates s t) o e in
+    subst (λ (o : Option Data). ReadsPlaces reject_duplicates (one_field name s optional fs) (item t xs) (with_member name o ms)) m.2 (ReadsPlaces.place_found (h t m.0 m.1) more)
 
 -- the fields of a node, by what is related of their names and of their indices
-pub struct_related : (st : Bool) (u : UnknownKeys) (fs : Fields) (n : Tree) (ms : List Named) → ((es : Entries) (ms : List Named) → reads_names st fs es ≡ Some ms → ReadsNames st fs es (members_of ms))
-    → ((xs : Items) (ms : List Named) → reads_places st fs xs ≡ Some ms → ReadsPlaces st fs xs (members_of ms)) → struct_members (keys_are_allowed u fs) (reads_names st fs) (reads_places st fs) n ≡ Some ms → ReadsStruct st u fs n (members_of ms)
+pub struct_related : (reject_duplicates : Bool) (u : UnknownKeys) (fs : Fields) (n : Tree) (ms : List Named) → ((es : Entries) (ms : List Named) → reads_names reject_duplicates fs es ≡ Some ms → ReadsNames reject_duplicates fs es (members_of ms))
+    → ((xs : Items) (ms : List Named) → reads_places reject_duplicates fs xs ≡ Some ms → ReadsPlaces reject_duplicates fs xs (members_of ms)) → struct_members (keys_are_allowed u fs) (reads_names reject_duplicates fs) (reads_places reject_duplicates fs) n ≡ Some ms → ReadsStruct reject_duplicates u fs n (members_of ms)
 unfolding struct_members
-struct_related st u fs (leaf NoValue) ms names places e = ReadsStruct.fields_of_no_value (names no_entries ms e)
-struct_related st u fs (leaf Null) ms names places e = ReadsStruct.fields_of_null (names no_entries ms e)
-struct_related st u fs (leaf (Text t m)) ms names places e = absurd (none-some ms e)
-struct_related st u fs (sequence xs) ms names places e = ReadsStruct.fields_by_place (places xs ms e)
-struct_related st u fs (mapping es) ms names places e =
-    let c = chained (λ ms. cond (keys_are_allowed u fs es) (Some ms) None) (reads_names st fs es) ms e in
+struct_related reject_duplicates u fs (leaf NoValue) ms names places e = ReadsStruct.fields_of_no_value (names no_entries ms e)
+struct_related reject_duplicates u fs (leaf Null) ms names places e = ReadsStruct.fields_of_null (names no_entries ms e)
+struct_related reject_duplicates u fs (leaf (Text t m)) ms names places e = absurd (none-some ms e)
+struct_related reject_duplicates u fs (sequence xs) ms names places e = ReadsStruct.fields_by_place (places xs ms e)
+struct_related reject_duplicates u fs (mapping es) ms names places e =
+    let c = chained (λ ms. cond (keys_are_allowed u fs es) (Some ms) None) (reads_names reject_duplicates fs es) ms e in
     let d = tested (keys_are_allowed u fs es) c.0 ms c.2 in
     ReadsStruct.fields_by_name d.0 (names es ms (c.1 ∙ ap Some d.1))
-struct_related st u fs uninitialized ms names places e = absurd (none-some ms e)
+struct_related reject_duplicates u fs uninitialized ms names places e = absurd (none-some ms e)
 
 unit_of : (k : VariantKind) → is_unit_kind k ≡ true → unit_kind ≡ k
 unit_of unit_kind e = refl

@@ -7,7 +7,7 @@ use Rattle.qs_spec.specs.Leaf.{value_leaf}
 use Rattle.qs_spec.specs.Token.{tokens, byte_token, is_escaped_bracket, Token, Kind, byte_kind, raw_of, is_bracket}
 use Rattle.qs_spec.specs.Token.Kind.{Other}
 use Rattle.qs_spec.specs.Written.{open_bytes, close_bytes, value_text}
-use Rattle.qs_spec.specs.internal.Entries.{entry_leaf, IsSegment, IsValueOf}
+use Rattle.qs_spec.specs.internal.WrittenEntries.{entry_leaf, IsSegment, IsValueOf}
 use Rattle.qs_spec.specs.Grammar.{is_amp, IsValue}
 use Rattle.qs_spec.proofs.Booleans.{and_both, not_of}
 

@@ -9,7 +9,7 @@ use Rattle.qs_spec.specs.History.{events, permitted}
 use Rattle.qs_spec.specs.Permutation.{IsReordering}
 use Rattle.qs_spec.specs.Order.{overlap, AreReordered, AreEquivalent, unmarked}
 use Rattle.qs_spec.specs.Holds.{leaf_count, nesting}
-use Rattle.qs_spec.proofs.RelatedIsRead.{one_list, found_pairs}
+use Rattle.qs_spec.proofs.RelatedIsParsed.{one_list, found_pairs}
 use Rattle.qs_spec.proofs.Reorder.{node_reordered, permitted_reordered}
 use Rattle.qs_spec.proofs.Places.{by_places}
 use Rattle.qs_spec.proofs.Marks.{bare, permitted_bare, node_bare}

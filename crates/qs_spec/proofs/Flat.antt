@@ -2,7 +2,7 @@
 use Rattle.std.proofs.Common.{◌≡◌, Bool, true, false, cond, not, ◌&&◌, ◌||◌, List, [], ◌∷◌, ◌++◌, map, refl, sym, ap, ap₂, ◌∙◌, subst, Option, Some, None}
 use Rattle.std.specs.List.{list_any}
 use Rattle.std.proofs.lemmas.List.Folds.{list_any-append}
-use Rattle.qs_spec.specs.Segment.{Step}
+use Rattle.qs_spec.specs.Segment.{MarkedSegment}
 use Rattle.qs_spec.specs.Leaf.{Leaf}
 use Rattle.qs_spec.specs.Segment.Segment.{Str}
 use Rattle.qs_spec.specs.Grammar.{Pair}
@@ -98,7 +98,7 @@ pub all_direct : (ps : List Pair) → NoneEmpty ps → list_any is_push (map eve
 all_direct [] n e = tt
 all_direct (p ∷ ps) n e = by p.path p.push n.0 e (all_direct ps n.1)
   where
-    by : (path : List Step) (b : Bool) → NoEmpty path → (is_push (event_of path b p.leaf) || list_any is_push (map event ps)) ≡ false → (list_any is_push (map event ps) ≡ false → AllDirect (map event (under (Str []) (filled ps))))
+    by : (path : List MarkedSegment) (b : Bool) → NoEmpty path → (is_push (event_of path b p.leaf) || list_any is_push (map event ps)) ≡ false → (list_any is_push (map event ps) ≡ false → AllDirect (map event (under (Str []) (filled ps))))
         → AllDirect (map event (under (Str []) (record p { path = filled_path path b; push = b } ∷ filled ps)))
     by [] true n e h = cc
     by [] false n e h = h e

@@ -2,12 +2,12 @@
 use Rattle.std.proofs.Common.{◌≡◌, ℕ, zero, suc, ◌≤◌, Bool, true, false, cond, List, [], ◌∷◌, ◌++◌, length, map, refl, sym, ap, ◌∙◌, subst, arith, Option, Some, None, option_map, append-nil}
 use Rattle.std.specs.List.{list_any}
 use Rattle.std.proofs.lemmas.Option.{none-some, same_Some}
-use Rattle.qs_spec.specs.Segment.{Segment, Step}
+use Rattle.qs_spec.specs.Segment.{Segment, MarkedSegment}
 use Rattle.qs_spec.specs.Leaf.{Leaf}
 use Rattle.qs_spec.specs.Segment.Segment.{Str}
 use Rattle.qs_spec.specs.Grammar.{Pair}
 use Rattle.qs_spec.specs.History.{Event, event, event_of, events, is_below, permitted, under}
-use Rattle.qs_spec.specs.Tree.{flat, filled, filled_path, empty_step, node_within, longest, Tree}
+use Rattle.qs_spec.specs.Tree.{flat, filled, filled_path, empty_segment, node_within, longest, Tree}
 use Rattle.qs_spec.specs.Segment.{is_same_segment}
 use Rattle.qs_spec.specs.History.Event.{direct, push, below}
 use Rattle.qs_spec.specs.Tree.Tree.{mapping, uninitialized}
@@ -76,8 +76,8 @@ adds_map n ps false l m p e =
     let made : add_flat false l (node_within n own) ≡ Some (flat (map event own ++ direct l ∷ [])) = ap (add_flat false l) (node_flat n own (direct_no_below (map event own) all)) ∙ direct_adds (map event own) l all in
     let next : flat (map event own ++ direct l ∷ []) ≡ node_within n (own ++ pair [] false l ∷ []) =
     ap flat (sym (history_push own (pair [] false l))) ∙ sym (node_flat n (own ++ pair [] false l ∷ []) (ap (list_any is_below) (history_push own (pair [] false l)) ∙ direct_no_below (map event own ++ direct l ∷ []) (direct_push (map event own) l all))) in
-    let up : update empty_step (add_flat false l) (entries_within n (filled ps)) ≡ Some (entries_within n (filled ps ++ pair (empty_step ∷ []) false l ∷ [])) =
-    update_pairs n (filled ps) empty_step [] false l (add_flat false l) (Some (flat (map event own ++ direct l ∷ []))) made (λ t d. sym (same_Some _ t d) ∙ next) in
+    let up : update empty_segment (add_flat false l) (entries_within n (filled ps)) ≡ Some (entries_within n (filled ps ++ pair (empty_segment ∷ []) false l ∷ [])) =
+    update_pairs n (filled ps) empty_segment [] false l (add_flat false l) (Some (flat (map event own ++ direct l ∷ []))) made (λ t d. sym (same_Some _ t d) ∙ next) in
     subst (λ o. Goes (suc n) ps (pair [] false l) o) (sym (ap (add_here false l) (node_mapping n ps e) ∙ ap (option_map mapping) up)) (
       own_permitted ps false l p (still_permitted (map event ps) (direct l) h.0 h.1),
       ap (λ (qs : List Pair). mapping (entries_within n qs)) (sym (filled_push ps (pair [] false l))) ∙ sym (node_mapping n (ps ++ pair [] false l ∷ []) (any_after ps (pair [] false l) e)),
@@ -87,7 +87,7 @@ pub under_filled : (k : Segment) (ps : List Pair) → is_same_segment (Str []) k
 under_filled k [] e = refl
 under_filled k (p ∷ ps) e = by p.path p.push (under_filled k ps e)
   where
-    by : (path : List Step) (b : Bool) → under k (filled ps) ≡ under k ps → under k (record p { path = filled_path path b } ∷ filled ps) ≡ under k (record p { path = path } ∷ ps)
+    by : (path : List MarkedSegment) (b : Bool) → under k (filled ps) ≡ under k ps → under k (record p { path = filled_path path b } ∷ filled ps) ≡ under k (record p { path = path } ∷ ps)
     by [] true h = h
     by [] false h = ap (λ x. cond x (record p { path = [] } ∷ under k (filled ps)) (under k (filled ps))) (same_turned k (Str []) ∙ e) ∙ h
     by (s ∷ path) b h = ap (λ (l : List Pair). cond (is_same_segment k s.seg) (record p { path = path } ∷ l) l) h
@@ -96,7 +96,7 @@ pub none_empty_under : (k : Segment) (ps : List Pair) → NoneEmpty ps → NoneE
 none_empty_under k [] h = tt
 none_empty_under k (p ∷ ps) h = by p.path h.0 (none_empty_under k ps h.1)
   where
-    by : (path : List Step) → NoEmpty path → NoneEmpty (under k ps) → NoneEmpty (under k (record p { path = path } ∷ ps))
+    by : (path : List MarkedSegment) → NoEmpty path → NoneEmpty (under k ps) → NoneEmpty (under k (record p { path = path } ∷ ps))
     by [] n h = h
     by (s ∷ path) n h = each (is_same_segment k s.seg)
       where
@@ -108,7 +108,7 @@ pub permitted_under : (ps : List Pair) (k : Segment) → Permitted ps → Permit
 permitted_under ps k p path = p (k ∷ path)
 
 -- a pair that goes on below s concerns the histories there, and the root's
-below_permitted : (ps : List Pair) (s : Step) (path : List Step) (b : Bool) (l : Leaf) → Permitted ps → permitted (map event ps ++ below ∷ []) ≡ true → Permitted (under s.seg ps ++ pair path b l ∷ []) → Permitted (ps ++ pair (s ∷ path) b l ∷ [])
+below_permitted : (ps : List Pair) (s : MarkedSegment) (path : List MarkedSegment) (b : Bool) (l : Leaf) → Permitted ps → permitted (map event ps ++ below ∷ []) ≡ true → Permitted (under s.seg ps ++ pair path b l ∷ []) → Permitted (ps ++ pair (s ∷ path) b l ∷ [])
 below_permitted ps s path b l p r h [] = root_history ps (pair (s ∷ path) b l) ∙ r
 below_permitted ps s path b l p r h (k ∷ rest) = by (is_same_segment k s.seg) refl
   where
@@ -116,19 +116,19 @@ below_permitted ps s path b l p r h (k ∷ rest) = by (is_same_segment k s.seg) 
     by true e = ap (λ (j : Segment). permitted (events (under j (ps ++ pair (s ∷ path) b l ∷ [])) rest)) (same_segment k s.seg e) ∙ ap (λ (qs : List Pair). permitted (events qs rest)) (under_same s ps path b l) ∙ h rest
     by false e = ap (λ (qs : List Pair). permitted (events qs rest)) (under_other k s ps path b l e) ∙ p (k ∷ rest)
 
-permitted_below : (ps : List Pair) (s : Step) (path : List Step) (b : Bool) (l : Leaf) → Permitted (ps ++ pair (s ∷ path) b l ∷ []) → Permitted (under s.seg ps ++ pair path b l ∷ [])
+permitted_below : (ps : List Pair) (s : MarkedSegment) (path : List MarkedSegment) (b : Bool) (l : Leaf) → Permitted (ps ++ pair (s ∷ path) b l ∷ []) → Permitted (under s.seg ps ++ pair path b l ∷ [])
 permitted_below ps s path b l p rest = sym (ap (λ (qs : List Pair). permitted (events qs rest)) (under_same s ps path b l)) ∙ p (s.seg ∷ rest)
 
-below_flat : (s : Step) (g : Tree → Option Tree) (e : Event) (h : List Event) → list_any is_below (e ∷ h) ≡ false → add_below s g (flat (e ∷ h)) ≡ None
+below_flat : (s : MarkedSegment) (g : Tree → Option Tree) (e : Event) (h : List Event) → list_any is_below (e ∷ h) ≡ false → add_below s g (flat (e ∷ h)) ≡ None
 below_flat s g (direct l) [] n = refl
 below_flat s g (direct l) (d ∷ h) n = refl
 below_flat s g (push l) h n = refl
 below_flat s g below h n = cc
 
-adds_one : (n : ℕ) (s : Step) (path : List Step) (b : Bool) (l : Leaf) → node_within (suc n) (pair (s ∷ path) b l ∷ []) ≡ mapping (entry s.seg s.mark (node_within n (pair path b l ∷ [])) no_entries)
+adds_one : (n : ℕ) (s : MarkedSegment) (path : List MarkedSegment) (b : Bool) (l : Leaf) → node_within (suc n) (pair (s ∷ path) b l ∷ []) ≡ mapping (entry s.seg s.mark (node_within n (pair path b l ∷ [])) no_entries)
 adds_one n s path b l = ap (λ x. mapping (entry s.seg (cond x s.mark false) (node_within n (cond x (pair path b l ∷ []) [])) no_entries)) (is_itself s.seg)
 
-adds_below : (n : ℕ) (s : Step) (path : List Step) (b : Bool) (l : Leaf) (ps : List Pair) → is_same_segment (Str []) s.seg ≡ false → Permitted ps → ((qs : List Pair) → qs ≡ under s.seg ps → Goes n qs (pair path b l) (add path b l (node_within n qs)))
+adds_below : (n : ℕ) (s : MarkedSegment) (path : List MarkedSegment) (b : Bool) (l : Leaf) (ps : List Pair) → is_same_segment (Str []) s.seg ≡ false → Permitted ps → ((qs : List Pair) → qs ≡ under s.seg ps → Goes n qs (pair path b l) (add path b l (node_within n qs)))
     → Goes (suc n) ps (pair (s ∷ path) b l) (add_below s (add path b l) (node_within (suc n) ps))
 adds_below n s path b l [] m p ih = by (add path b l uninitialized) (subst (λ t. Goes n [] (pair path b l) (add path b l t)) (node_nothing n) (ih [] refl))
   where
@@ -165,7 +165,7 @@ adds_below n s path b l (q ∷ qs) m p ih = by (list_any is_below (map event (q 
         (λ w. let v = sym (w []) ∙ root_history (q ∷ qs) (pair (s ∷ path) b l) ∙ none_begun (map event qs) (event q) [] a in cc)
 
 -- One pair more: it is added in place exactly where all histories stay permitted, and the tree is then that of the pairs with it.
-pub adds : (path : List Step) (b : Bool) (l : Leaf) (n : ℕ) (ps : List Pair) → longest ps ≤ n → length path ≤ n → NoneEmpty ps → NoEmpty path → Permitted ps → Goes n ps (pair path b l) (add path b l (node_within n ps))
+pub adds : (path : List MarkedSegment) (b : Bool) (l : Leaf) (n : ℕ) (ps : List Pair) → longest ps ≤ n → length path ≤ n → NoneEmpty ps → NoEmpty path → Permitted ps → Goes n ps (pair path b l) (add path b l (node_within n ps))
 adds [] b l n ps w v m k p = by n w (list_any is_below (map event ps)) refl
   where
     by : (n : ℕ) → longest ps ≤ n → (x : Bool) → list_any is_below (map event ps) ≡ x → Goes n ps (pair [] b l) (add_here b l (node_within n ps))

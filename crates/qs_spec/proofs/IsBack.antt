@@ -18,28 +18,28 @@ IsValued (Tree.mapping es) = Unit {0}
 IsValued Tree.uninitialized = ⊥
 
 -- the shape reads data from the node that are the same
-pub record IsBack (st : Bool) (s : Shape) (t : Tree) (d : Data) : Type 0 where
+pub record IsBack (reject_duplicates : Bool) (s : Shape) (t : Tree) (d : Data) : Type 0 where
   pub answer : Data
-  pub reads : Reads st s t answer
+  pub reads : Reads reject_duplicates s t answer
   pub same : Same d answer
   pub valued : is_optional d ≡ false → IsValued t
 
-pub record AreBack (st : Bool) (s : Shape) (xs : List (Option Tree)) (ds : Values) : Type 0 where
+pub record AreBack (reject_duplicates : Bool) (s : Shape) (xs : List (Option Tree)) (ds : Values) : Type 0 where
   pub answers : Values
-  pub reads : ReadsEach st s xs answers
+  pub reads : ReadsEach reject_duplicates s xs answers
   pub same : SameValues ds answers
 
-pub record IsTupleBack (st : Bool) (ss : Shapes) (xs : List (Option Tree)) (ds : Values) : Type 0 where
+pub record IsTupleBack (reject_duplicates : Bool) (ss : Shapes) (xs : List (Option Tree)) (ds : Values) : Type 0 where
   pub answers : Values
-  pub reads : ReadsFirst st ss xs answers
+  pub reads : ReadsFirst reject_duplicates ss xs answers
   pub same : SameValues ds answers
 
-pub record ArePairsBack (st : Bool) (k : KeyShape) (s : Shape) (es : Entries) (ps : Pairs) : Type 0 where
+pub record ArePairsBack (reject_duplicates : Bool) (k : KeyShape) (s : Shape) (es : Entries) (ps : Pairs) : Type 0 where
   pub answers : Pairs
-  pub reads : ReadsPairs st k s es answers
+  pub reads : ReadsPairs reject_duplicates k s es answers
   pub same : SamePairs ps answers
 
-pub record AreFieldsBack (st : Bool) (fs : Fields) (es : Entries) (ms : Members) : Type 0 where
+pub record AreFieldsBack (reject_duplicates : Bool) (fs : Fields) (es : Entries) (ms : Members) : Type 0 where
   pub answers : Members
-  pub reads : ReadsNames st fs es answers
+  pub reads : ReadsNames reject_duplicates fs es answers
   pub same : SameMembers ms answers

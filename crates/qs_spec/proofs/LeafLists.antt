@@ -13,7 +13,7 @@ use Rattle.qs_spec.specs.Entry.{key_text}
 use Rattle.qs_spec.specs.Config.{ArrayFormat, indexed, empty_indexed, unindexed}
 use Rattle.qs_spec.proofs.Reorder.{Swaps}
 use Rattle.qs_spec.proofs.Insert.{node_flat}
-use Rattle.qs_spec.specs.internal.Entries.{entry_leaf}
+use Rattle.qs_spec.specs.internal.WrittenEntries.{entry_leaf}
 use Rattle.qs_spec.proofs.Booleans.{and_both, not_of}
 use Rattle.qs_spec.proofs.KeysBack.{leaf_back}
 use Rattle.qs_spec.specs.Plain.{has_bytes}

@@ -2,7 +2,7 @@
 use Rattle.std.proofs.Common.{◌≡◌, ℕ, zero, suc, max, ◌+◌, ◌≤◌, ◌<◌, Bool, true, false, cond, ◌||◌, List, [], ◌∷◌, length, refl, sym, ap, ap₂, ◌∙◌, subst, arith, Ordering, Less, Equal, Greater, is_eq, length-append, suc-le-suc}
 use Rattle.std.specs.List.{list_any, AllByRecursion}
 use Rattle.std.specs.Ordering.{ordering_reverse}
-use Rattle.qs_spec.specs.Segment.{Segment, Step}
+use Rattle.qs_spec.specs.Segment.{Segment, MarkedSegment}
 use Rattle.qs_spec.specs.Leaf.{Leaf}
 use Rattle.qs_spec.specs.Token.{Token}
 use Rattle.qs_spec.specs.Grammar.{Pair, IsPair, IsBrackets, ArePairs, root}
@@ -45,7 +45,7 @@ pub ascends_heads : (ps : List Pair) → Ascends (heads ps)
 ascends_heads [] = tt
 ascends_heads (p ∷ ps) = by p.path (ascends_heads ps)
   where
-    by : (path : List Step) → Ascends (heads ps) → Ascends (put_head path (heads ps))
+    by : (path : List MarkedSegment) → Ascends (heads ps) → Ascends (put_head path (heads ps))
     by [] h = h
     by (s ∷ path) h = ascends_put s.seg (heads ps) h
 
@@ -108,7 +108,7 @@ pub longer_filled : (ps : List Pair) → list_any is_push (events ps []) ≡ fal
 longer_filled [] e = tt
 longer_filled (p ∷ ps) e = by p.path p.push e (longer_filled ps)
   where
-    by : (path : List Step) (b : Bool) → (is_push (event_of path b p.leaf) || list_any is_push (events ps [])) ≡ false → (list_any is_push (events ps []) ≡ false → AllLonger (filled ps)) → (0 < length (filled_path path b)) × AllLonger (filled ps)
+    by : (path : List MarkedSegment) (b : Bool) → (is_push (event_of path b p.leaf) || list_any is_push (events ps [])) ≡ false → (list_any is_push (events ps []) ≡ false → AllLonger (filled ps)) → (0 < length (filled_path path b)) × AllLonger (filled ps)
     by [] true e h = cc
     by [] false e h = (omega arith, h e)
     by (s ∷ path) b e h = (omega arith, h e)
@@ -121,7 +121,7 @@ pub longest_filled : (n : ℕ) (ps : List Pair) → longest ps ≤ suc n → lon
 longest_filled n [] l = l
 longest_filled n (p ∷ ps) l = by p.path p.push l (longest_filled n ps)
   where
-    by : (path : List Step) (b : Bool) → max (length path) (longest ps) ≤ suc n → (longest ps ≤ suc n → longest (filled ps) ≤ suc n) → max (length (filled_path path b)) (longest (filled ps)) ≤ suc n
+    by : (path : List MarkedSegment) (b : Bool) → max (length path) (longest ps) ≤ suc n → (longest ps ≤ suc n → longest (filled ps) ≤ suc n) → max (length (filled_path path b)) (longest (filled ps)) ≤ suc n
     by [] true l h = let m : longest (filled ps) ≤ suc n = h (omega arith) in omega arith
     by [] false l h = let m : longest (filled ps) ≤ suc n = h (omega arith) in omega arith
     by (s ∷ path) b l h = let m : longest (filled ps) ≤ suc n = h (omega arith) in omega arith
@@ -131,14 +131,14 @@ pub counted : (ps : List Pair) → AllLonger ps → total (λ k. length (under k
 counted [] h = refl
 counted (p ∷ ps) h = by p.path h.0 (counted ps h.1)
   where
-    at_key : (s : Step) (path : List Step) (k : Segment) → length (under k (record p { path = s ∷ path } ∷ ps)) ≡ one_if (is_same_segment k s.seg) + length (under k ps)
+    at_key : (s : MarkedSegment) (path : List MarkedSegment) (k : Segment) → length (under k (record p { path = s ∷ path } ∷ ps)) ≡ one_if (is_same_segment k s.seg) + length (under k ps)
     at_key s path k = each (is_same_segment k s.seg)
       where
         each : (b : Bool) → length (cond b (record p { path = path } ∷ under k ps) (under k ps)) ≡ one_if b + length (under k ps)
         each true = omega arith
         each false = omega arith
 
-    by : (path : List Step) → 0 < length path → total (λ k. length (under k ps)) (heads ps) ≡ length ps → total (λ k. length (under k (record p { path = path } ∷ ps))) (put_head path (heads ps)) ≡ suc (length ps)
+    by : (path : List MarkedSegment) → 0 < length path → total (λ k. length (under k ps)) (heads ps) ≡ length ps → total (λ k. length (under k (record p { path = path } ∷ ps))) (put_head path (heads ps)) ≡ suc (length ps)
     by [] l e = absurd (omega arith)
     by (s ∷ path) l e =
         one_more s.seg (λ k. length (under k (record p { path = s ∷ path } ∷ ps))) (λ k. length (under k ps)) (at_key s path) (heads ps) (ascends_heads ps) (λ n. ap length (none_under s.seg ps n))
@@ -169,7 +169,7 @@ pub none_below : (ps : List Pair) → longest ps ≤ 0 → list_any is_below (ev
 none_below [] l = refl
 none_below (p ∷ ps) l = by p.path p.push l (none_below ps)
   where
-    by : (path : List Step) (b : Bool) → max (length path) (longest ps) ≤ 0 → (longest ps ≤ 0 → list_any is_below (events ps []) ≡ false) → list_any is_below (event_of path b p.leaf ∷ events ps []) ≡ false
+    by : (path : List MarkedSegment) (b : Bool) → max (length path) (longest ps) ≤ 0 → (longest ps ≤ 0 → list_any is_below (events ps []) ≡ false) → list_any is_below (event_of path b p.leaf ∷ events ps []) ≡ false
     by [] true l h = h (omega arith)
     by [] false l h = h (omega arith)
     by (s ∷ path) b l h = absurd (omega arith)
@@ -204,11 +204,11 @@ root_short : (key : List Token) → length (root key) ≤ 1
 root_short [] = omega arith
 root_short (t ∷ key) = omega arith
 
-brackets_short : {room : ℕ} {path : List Step} {bracket : List ℕ} {ts : List Token} {p : Pair} → IsBrackets room path bracket ts p → length p.path ≤ length path + room + 1
+brackets_short : {room : ℕ} {path : List MarkedSegment} {bracket : List ℕ} {ts : List Token} {p : Pair} → IsBrackets room path bracket ts p → length p.path ≤ length path + room + 1
 brackets_short (IsBrackets.push e v) = omega arith
-brackets_short (IsBrackets.segment {path = path} s t run value r e v) = omega (arith, length-append {A = Step})
-brackets_short (IsBrackets.more {path = path} s t u run rest r e d b) = omega (arith, length-append {A = Step}, brackets_short b)
-brackets_short (IsBrackets.last {path = path} t run value e r v) = omega (arith, length-append {A = Step})
+brackets_short (IsBrackets.segment {path = path} s t run value r e v) = omega (arith, length-append {A = MarkedSegment})
+brackets_short (IsBrackets.more {path = path} s t u run rest r e d b) = omega (arith, length-append {A = MarkedSegment}, brackets_short b)
+brackets_short (IsBrackets.last {path = path} t run value e r v) = omega (arith, length-append {A = MarkedSegment})
 
 pair_short : {depth : ℕ} {ts : List Token} {p : Pair} → IsPair depth ts p → length p.path ≤ depth + 2
 pair_short (IsPair.name {t} {key} r) = omega arith

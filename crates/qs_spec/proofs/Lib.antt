@@ -1,7 +1,7 @@
 pub mod Booleans
 pub mod Order
-pub mod ReadIsRelated
-pub mod RelatedIsRead
+pub mod ParsedIsRelated
+pub mod RelatedIsParsed
 pub mod TreeOf
 pub mod Worked
 pub mod OnLiterals
@@ -22,7 +22,7 @@ pub mod Equivalent
 pub mod Unescaped
 pub mod ReadOn
 pub mod EncodedTokens
-pub mod EntryRead
+pub mod EntryParsed
 pub mod ReadingParts
 pub mod VariantNames
 pub mod AnyIsRead
@@ -37,7 +37,7 @@ pub mod Ascending
 pub mod Lookup
 pub mod ScalarsBack
 pub mod Permuted
-pub mod PushRead
+pub mod PushParsed
 pub mod Placed
 pub mod Nodes
 pub mod Branches

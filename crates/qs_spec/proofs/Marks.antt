@@ -1,7 +1,7 @@
 -- What is left of pairs without marks has the same histories and, marks aside, the same nodes.
 use Rattle.std.proofs.Common.{◌≡◌, ℕ, zero, suc, max, Bool, true, false, cond, ◌||◌, not, ◌&&◌, List, [], ◌∷◌, length, map, refl, ap, ap₂, ◌∙◌}
 use Rattle.std.specs.List.{list_any}
-use Rattle.qs_spec.specs.Segment.{Segment, Step, is_same_segment}
+use Rattle.qs_spec.specs.Segment.{Segment, MarkedSegment, is_same_segment}
 use Rattle.qs_spec.specs.Leaf.{Leaf}
 use Rattle.qs_spec.specs.Leaf.Leaf.{NoValue, Null, Text}
 use Rattle.qs_spec.specs.Grammar.{Pair}
@@ -9,7 +9,7 @@ use Rattle.qs_spec.specs.History.{Event, event, event_of, under, events, is_belo
 use Rattle.qs_spec.specs.History.Event.{direct, push, below}
 use Rattle.qs_spec.specs.Tree.{Tree, Items, leaves_in, leaf_items, flat, filled, filled_path, put_head, heads, node_within, longest, node}
 use Rattle.qs_spec.specs.Tree.Items.{item}
-use Rattle.qs_spec.specs.Order.{unmarked_leaf, unmarked_step, unmarked_pair, unmarked, unmarked_items}
+use Rattle.qs_spec.specs.Order.{unmarked_leaf, unmarked_segment, unmarked_pair, unmarked, unmarked_items}
 use Rattle.qs_spec.proofs.Reorder.{entries_same, either}
 
 abbrev pub bare : List Pair → List Pair
@@ -19,12 +19,12 @@ under_bare : (k : Segment) (ps : List Pair) → under k (bare ps) ≡ bare (unde
 under_bare k [] = refl
 under_bare k (p ∷ ps) = by p.path (under_bare k ps)
   where
-    by : (path : List Step) → under k (bare ps) ≡ bare (under k ps) → under k (bare (record p { path = path } ∷ ps)) ≡ bare (under k (record p { path = path } ∷ ps))
+    by : (path : List MarkedSegment) → under k (bare ps) ≡ bare (under k ps) → under k (bare (record p { path = path } ∷ ps)) ≡ bare (under k (record p { path = path } ∷ ps))
     by [] e = e
     by (s ∷ path) e = each (is_same_segment k s.seg)
       where
-        each : (b : Bool) → cond b (record p { path = map unmarked_step path; leaf = unmarked_leaf p.leaf } ∷ under k (bare ps)) (under k (bare ps)) ≡ bare (cond b (record p { path = path } ∷ under k ps) (under k ps))
-        each true = ap (λ l. record p { path = map unmarked_step path; leaf = unmarked_leaf p.leaf } ∷ l) e
+        each : (b : Bool) → cond b (record p { path = map unmarked_segment path; leaf = unmarked_leaf p.leaf } ∷ under k (bare ps)) (under k (bare ps)) ≡ bare (cond b (record p { path = path } ∷ under k ps) (under k ps))
+        each true = ap (λ l. record p { path = map unmarked_segment path; leaf = unmarked_leaf p.leaf } ∷ l) e
         each false = e
 
 abbrev unmarked_event : Event → Event
@@ -39,7 +39,7 @@ history_bare : (ps : List Pair) → map event (bare ps) ≡ bare_events (map eve
 history_bare [] = refl
 history_bare (p ∷ ps) = ap₂ (λ e h. e ∷ h) (by p.path p.push) (history_bare ps)
   where
-    by : (path : List Step) (b : Bool) → event_of (map unmarked_step path) b (unmarked_leaf p.leaf) ≡ unmarked_event (event_of path b p.leaf)
+    by : (path : List MarkedSegment) (b : Bool) → event_of (map unmarked_segment path) b (unmarked_leaf p.leaf) ≡ unmarked_event (event_of path b p.leaf)
     by (s ∷ path) b = refl
     by [] true = refl
     by [] false = refl
@@ -86,9 +86,9 @@ permitted_bare ps path = ap permitted (events_bare path ps) ∙ permitted_events
 
 filled_bare : (ps : List Pair) → filled (bare ps) ≡ bare (filled ps)
 filled_bare [] = refl
-filled_bare (p ∷ ps) = ap₂ (λ (path : List Step) (l : List Pair). record p { path = path; leaf = unmarked_leaf p.leaf } ∷ l) (by p.path p.push) (filled_bare ps)
+filled_bare (p ∷ ps) = ap₂ (λ (path : List MarkedSegment) (l : List Pair). record p { path = path; leaf = unmarked_leaf p.leaf } ∷ l) (by p.path p.push) (filled_bare ps)
   where
-    by : (path : List Step) (b : Bool) → filled_path (map unmarked_step path) b ≡ map unmarked_step (filled_path path b)
+    by : (path : List MarkedSegment) (b : Bool) → filled_path (map unmarked_segment path) b ≡ map unmarked_segment (filled_path path b)
     by [] true = refl
     by [] false = refl
     by (s ∷ path) b = refl
@@ -97,7 +97,7 @@ heads_bare : (ps : List Pair) → heads (bare ps) ≡ heads ps
 heads_bare [] = refl
 heads_bare (p ∷ ps) = by p.path (heads_bare ps)
   where
-    by : (path : List Step) → heads (bare ps) ≡ heads ps → put_head (map unmarked_step path) (heads (bare ps)) ≡ put_head path (heads ps)
+    by : (path : List MarkedSegment) → heads (bare ps) ≡ heads ps → put_head (map unmarked_segment path) (heads (bare ps)) ≡ put_head path (heads ps)
     by [] e = e
     by (s ∷ path) e = ap (put_head (s ∷ path)) e
 
@@ -105,7 +105,7 @@ longest_bare : (ps : List Pair) → longest (bare ps) ≡ longest ps
 longest_bare [] = refl
 longest_bare (p ∷ ps) = ap₂ max (by p.path) (longest_bare ps)
   where
-    by : (path : List Step) → length (map unmarked_step path) ≡ length path
+    by : (path : List MarkedSegment) → length (map unmarked_segment path) ≡ length path
     by [] = refl
     by (s ∷ path) = ap suc (by path)
 

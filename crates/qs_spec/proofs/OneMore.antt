@@ -1,7 +1,7 @@
 -- Lists of pairs with one more at their end.
 use Rattle.std.proofs.Common.{◌≡◌, Bool, true, false, cond, ◌||◌, List, [], ◌∷◌, ◌++◌, map, refl, sym, ap, ◌∙◌}
 use Rattle.std.specs.List.{list_any, AllByRecursion}
-use Rattle.qs_spec.specs.Segment.{Segment, Step}
+use Rattle.qs_spec.specs.Segment.{Segment, MarkedSegment}
 use Rattle.qs_spec.specs.Leaf.{Leaf}
 use Rattle.qs_spec.specs.Segment.Segment.{Str}
 use Rattle.qs_spec.specs.Grammar.{Pair}
@@ -12,11 +12,11 @@ use Rattle.qs_spec.proofs.Order.{put_twice}
 use Rattle.qs_spec.proofs.TreeOf.{any_put}
 use Rattle.qs_spec.proofs.Booleans.{or_both}
 
-abbrev pub pair : List Step → Bool → Leaf → Pair
+abbrev pub pair : List MarkedSegment → Bool → Leaf → Pair
 pair path b l = record { path = path; push = b; leaf = l }
 
 -- no segment is the empty text
-abbrev pub NoEmpty : List Step → Type 0
+abbrev pub NoEmpty : List MarkedSegment → Type 0
 NoEmpty path = AllByRecursion (λ s. is_same_segment (Str []) s.seg ≡ false) path
 
 abbrev pub NoneEmpty : List Pair → Type 0
@@ -30,7 +30,7 @@ pub under_push : (k : Segment) (ps : List Pair) (p : Pair) → under k (ps ++ p 
 under_push k [] p = refl
 under_push k (q ∷ ps) p = by q.path (under_push k ps p)
   where
-    by : (path : List Step) → under k (ps ++ p ∷ []) ≡ under k ps ++ under k (p ∷ []) → under k (record q { path = path } ∷ (ps ++ p ∷ [])) ≡ under k (record q { path = path } ∷ ps) ++ under k (p ∷ [])
+    by : (path : List MarkedSegment) → under k (ps ++ p ∷ []) ≡ under k ps ++ under k (p ∷ []) → under k (record q { path = path } ∷ (ps ++ p ∷ [])) ≡ under k (record q { path = path } ∷ ps) ++ under k (p ∷ [])
     by [] e = e
     by (s ∷ path) e = each (is_same_segment k s.seg)
       where
@@ -46,11 +46,11 @@ pub filled_push : (ps : List Pair) (p : Pair) → filled (ps ++ p ∷ []) ≡ fi
 filled_push [] p = refl
 filled_push (q ∷ ps) p = ap (λ l. record q { path = filled_path q.path q.push } ∷ l) (filled_push ps p)
 
-pub heads_push : (ps : List Pair) (s : Step) (path : List Step) (b : Bool) (l : Leaf) → heads (ps ++ pair (s ∷ path) b l ∷ []) ≡ put s.seg (heads ps)
+pub heads_push : (ps : List Pair) (s : MarkedSegment) (path : List MarkedSegment) (b : Bool) (l : Leaf) → heads (ps ++ pair (s ∷ path) b l ∷ []) ≡ put s.seg (heads ps)
 heads_push [] s path b l = refl
 heads_push (q ∷ ps) s path b l = ap (put_head q.path) (heads_push ps s path b l) ∙ by q.path
   where
-    by : (p : List Step) → put_head p (put s.seg (heads ps)) ≡ put s.seg (put_head p (heads ps))
+    by : (p : List MarkedSegment) → put_head p (put s.seg (heads ps)) ≡ put s.seg (put_head p (heads ps))
     by [] = refl
     by (t ∷ p) = put_twice t.seg s.seg (heads ps)
 
@@ -59,7 +59,7 @@ or-false true = refl
 or-false false = refl
 
 -- the mark of another key stays, and so does that of a key that is there
-pub mark_push : (k : Segment) (ps : List Pair) (s : Step) (path : List Step) (b : Bool) (l : Leaf) → is_same_segment k s.seg ≡ false → head_mark k (ps ++ pair (s ∷ path) b l ∷ []) ≡ head_mark k ps
+pub mark_push : (k : Segment) (ps : List Pair) (s : MarkedSegment) (path : List MarkedSegment) (b : Bool) (l : Leaf) → is_same_segment k s.seg ≡ false → head_mark k (ps ++ pair (s ∷ path) b l ∷ []) ≡ head_mark k ps
 mark_push k [] s path b l e = ap (λ x. cond x s.mark false) e
 mark_push k (q ∷ ps) s path b l e = ap (λ m. elim q.path [ [] ↦ m | (t ∷ p) ↦ cond (is_same_segment k t.seg) t.mark m ]) (mark_push k ps s path b l e)
 
@@ -67,7 +67,7 @@ pub mark_there : (k : Segment) (ps qs : List Pair) → list_any (is_same_segment
 mark_there k [] qs e = cc
 mark_there k (q ∷ ps) qs e = by q.path e (mark_there k ps qs)
   where
-    by : (p : List Step) → list_any (is_same_segment k) (put_head p (heads ps)) ≡ true → (list_any (is_same_segment k) (heads ps) ≡ true → head_mark k (ps ++ qs) ≡ head_mark k ps) → head_mark k (record q { path = p } ∷ (ps ++ qs)) ≡ head_mark k (record q { path = p } ∷ ps)
+    by : (p : List MarkedSegment) → list_any (is_same_segment k) (put_head p (heads ps)) ≡ true → (list_any (is_same_segment k) (heads ps) ≡ true → head_mark k (ps ++ qs) ≡ head_mark k ps) → head_mark k (record q { path = p } ∷ (ps ++ qs)) ≡ head_mark k (record q { path = p } ∷ ps)
     by [] e h = h e
     by (t ∷ p) e h = each (is_same_segment k t.seg) (sym (any_put k t.seg (heads ps)) ∙ e)
       where
@@ -75,11 +75,11 @@ mark_there k (q ∷ ps) qs e = by q.path e (mark_there k ps qs)
         each true d = refl
         each false d = h d
 
-pub mark_new : (k : Segment) (ps : List Pair) (s : Step) (path : List Step) (b : Bool) (l : Leaf) → list_any (is_same_segment k) (heads ps) ≡ false → is_same_segment k s.seg ≡ true → head_mark k (ps ++ pair (s ∷ path) b l ∷ []) ≡ s.mark
+pub mark_new : (k : Segment) (ps : List Pair) (s : MarkedSegment) (path : List MarkedSegment) (b : Bool) (l : Leaf) → list_any (is_same_segment k) (heads ps) ≡ false → is_same_segment k s.seg ≡ true → head_mark k (ps ++ pair (s ∷ path) b l ∷ []) ≡ s.mark
 mark_new k [] s path b l n e = ap (λ x. cond x s.mark false) e
 mark_new k (q ∷ ps) s path b l n e = by q.path n (mark_new k ps s path b l)
   where
-    by : (p : List Step) → list_any (is_same_segment k) (put_head p (heads ps)) ≡ false → (list_any (is_same_segment k) (heads ps) ≡ false → is_same_segment k s.seg ≡ true → head_mark k (ps ++ pair (s ∷ path) b l ∷ []) ≡ s.mark) → head_mark k (record q { path = p } ∷ (ps ++ pair (s ∷ path) b l ∷ [])) ≡ s.mark
+    by : (p : List MarkedSegment) → list_any (is_same_segment k) (put_head p (heads ps)) ≡ false → (list_any (is_same_segment k) (heads ps) ≡ false → is_same_segment k s.seg ≡ true → head_mark k (ps ++ pair (s ∷ path) b l ∷ []) ≡ s.mark) → head_mark k (record q { path = p } ∷ (ps ++ pair (s ∷ path) b l ∷ [])) ≡ s.mark
     by [] n h = h n e
     by (t ∷ p) n h =
         let parts = or_both (is_same_segment k t.seg) _ (sym (any_put k t.seg (heads ps)) ∙ n) in

@@ -19,24 +19,24 @@ distinguishes_null (Shape.newtype s) = distinguishes_null s
 distinguishes_null Shape.any = true
 distinguishes_null _ = false
 
-null_as_no_value : (st : Bool) (s : Shape) → distinguishes_null s ≡ false → reads st s (Tree.leaf Null) ≡ reads st s (Tree.leaf NoValue)
+null_as_no_value : (reject_duplicates : Bool) (s : Shape) → distinguishes_null s ≡ false → reads reject_duplicates s (Tree.leaf Null) ≡ reads reject_duplicates s (Tree.leaf NoValue)
 unfolding reads read_list read_map read_enum struct_members
-null_as_no_value st Shape.unit e = refl
-null_as_no_value st Shape.boolean e = refl
-null_as_no_value st (Shape.unsigned bits) e = refl
-null_as_no_value st (Shape.signed bits) e = refl
-null_as_no_value st Shape.character e = refl
-null_as_no_value st Shape.text e = refl
-null_as_no_value st Shape.bytes e = refl
-null_as_no_value st (Shape.option s) e = cc
-null_as_no_value st (Shape.sequence s) e = refl
-null_as_no_value st (Shape.tuple ss) e = refl
-null_as_no_value st (Shape.mapping k s) e = refl
-null_as_no_value st (Shape.struct u fs) e = refl
-null_as_no_value st (Shape.newtype s) e = ap (option_map Data.newtype) (null_as_no_value st s e)
-null_as_no_value st (Shape.enumeration vs) e = refl
-null_as_no_value st Shape.any e = cc
-null_as_no_value st Shape.ignored e = refl
+null_as_no_value reject_duplicates Shape.unit e = refl
+null_as_no_value reject_duplicates Shape.boolean e = refl
+null_as_no_value reject_duplicates (Shape.unsigned bits) e = refl
+null_as_no_value reject_duplicates (Shape.signed bits) e = refl
+null_as_no_value reject_duplicates Shape.character e = refl
+null_as_no_value reject_duplicates Shape.text e = refl
+null_as_no_value reject_duplicates Shape.bytes e = refl
+null_as_no_value reject_duplicates (Shape.option s) e = cc
+null_as_no_value reject_duplicates (Shape.sequence s) e = refl
+null_as_no_value reject_duplicates (Shape.tuple ss) e = refl
+null_as_no_value reject_duplicates (Shape.mapping k s) e = refl
+null_as_no_value reject_duplicates (Shape.struct u fs) e = refl
+null_as_no_value reject_duplicates (Shape.newtype s) e = ap (option_map Data.newtype) (null_as_no_value reject_duplicates s e)
+null_as_no_value reject_duplicates (Shape.enumeration vs) e = refl
+null_as_no_value reject_duplicates Shape.any e = cc
+null_as_no_value reject_duplicates Shape.ignored e = refl
 
 pub no_option : {s : Shape} {d : Data} → Fits s d → is_optional d ≡ false → distinguishes_null s ≡ false
 no_option Fits.unit e = refl
@@ -60,15 +60,15 @@ no_option (Fits.tuple_variant v u f) e = refl
 no_option (Fits.struct_variant v u f) e = refl
 
 -- some of data that are no option
-pub some_back : (st : Bool) (s : Shape) (d : Data) (t : Tree) → is_distinct s ≡ true → distinguishes_null s ≡ false → is_optional d ≡ false → IsBack st s t d → IsBack st (Shape.option s) t (Data.some d)
-some_back st s d (Tree.leaf NoValue) dist e o g = absurd (g.valued o)
-some_back st s d (Tree.leaf Null) dist e o g = record {
+pub some_back : (reject_duplicates : Bool) (s : Shape) (d : Data) (t : Tree) → is_distinct s ≡ true → distinguishes_null s ≡ false → is_optional d ≡ false → IsBack reject_duplicates s t d → IsBack reject_duplicates (Shape.option s) t (Data.some d)
+some_back reject_duplicates s d (Tree.leaf NoValue) dist e o g = absurd (g.valued o)
+some_back reject_duplicates s d (Tree.leaf Null) dist e o g = record {
   answer = Data.some g.answer;
-  reads = Reads.option_null ((is_the_relation st s (Tree.leaf NoValue) g.answer dist).1 (sym (null_as_no_value st s e) ∙ (is_the_relation st s (Tree.leaf Null) g.answer dist).0 g.reads));
+  reads = Reads.option_null ((is_the_relation reject_duplicates s (Tree.leaf NoValue) g.answer dist).1 (sym (null_as_no_value reject_duplicates s e) ∙ (is_the_relation reject_duplicates s (Tree.leaf Null) g.answer dist).0 g.reads));
   same = Same.some g.same;
   valued = λ x. tt;
 }
-some_back st s d (Tree.leaf (Text t m)) dist e o g = record { answer = Data.some g.answer; reads = Reads.option_full tt g.reads; same = Same.some g.same; valued = λ x. tt }
-some_back st s d (Tree.sequence xs) dist e o g = record { answer = Data.some g.answer; reads = Reads.option_full tt g.reads; same = Same.some g.same; valued = λ x. tt }
-some_back st s d (Tree.mapping es) dist e o g = record { answer = Data.some g.answer; reads = Reads.option_full tt g.reads; same = Same.some g.same; valued = λ x. tt }
-some_back st s d Tree.uninitialized dist e o g = absurd (g.valued o)
+some_back reject_duplicates s d (Tree.leaf (Text t m)) dist e o g = record { answer = Data.some g.answer; reads = Reads.option_full tt g.reads; same = Same.some g.same; valued = λ x. tt }
+some_back reject_duplicates s d (Tree.sequence xs) dist e o g = record { answer = Data.some g.answer; reads = Reads.option_full tt g.reads; same = Same.some g.same; valued = λ x. tt }
+some_back reject_duplicates s d (Tree.mapping es) dist e o g = record { answer = Data.some g.answer; reads = Reads.option_full tt g.reads; same = Same.some g.same; valued = λ x. tt }
+some_back reject_duplicates s d Tree.uninitialized dist e o g = absurd (g.valued o)

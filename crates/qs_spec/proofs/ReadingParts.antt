@@ -47,13 +47,13 @@ pairs_made of o ps e = ap (option_map (λ xs. of (pairs_of xs))) e ∙ ap (λ xs
 pub members_made : (of : Members → Data) (o : Option (List Named)) (ms : Members) → o ≡ Some (member_list ms) → option_map (λ xs. of (members_of xs)) o ≡ Some (of ms)
 members_made of o ms e = ap (option_map (λ xs. of (members_of xs))) e ∙ ap (λ xs. Some (of xs)) (members_list ms)
 
-pub scalar_read : (st : Bool) (empty : Option Data) (get : List ℕ → Option Data) (n : Tree) (t : List ℕ) (d : Data) → last_text st n ≡ Some t → get t ≡ Some d → read_scalar st empty get n ≡ Some d
-scalar_read st empty get (leaf NoValue) t d e f = absurd (none-some t e)
-scalar_read st empty get (leaf Null) t d e f = absurd (none-some t e)
-scalar_read st empty get (leaf (Text b m)) t d e f = ap get (same_Some b t e) ∙ f
-scalar_read st empty get (sequence xs) t d e f = ap (option_and_then get) e ∙ f
-scalar_read st empty get (mapping es) t d e f = absurd (none-some t e)
-scalar_read st empty get uninitialized t d e f = absurd (none-some t e)
+pub scalar_read : (reject_duplicates : Bool) (empty : Option Data) (get : List ℕ → Option Data) (n : Tree) (t : List ℕ) (d : Data) → last_text reject_duplicates n ≡ Some t → get t ≡ Some d → read_scalar reject_duplicates empty get n ≡ Some d
+scalar_read reject_duplicates empty get (leaf NoValue) t d e f = absurd (none-some t e)
+scalar_read reject_duplicates empty get (leaf Null) t d e f = absurd (none-some t e)
+scalar_read reject_duplicates empty get (leaf (Text b m)) t d e f = ap get (same_Some b t e) ∙ f
+scalar_read reject_duplicates empty get (sequence xs) t d e f = ap (option_and_then get) e ∙ f
+scalar_read reject_duplicates empty get (mapping es) t d e f = absurd (none-some t e)
+scalar_read reject_duplicates empty get uninitialized t d e f = absurd (none-some t e)
 
 pub text_read : (t : List ℕ) → is_utf8 t ≡ true → text_data t ≡ Some (Data.text t)
 text_read t e = ap (λ b. cond b (Some (Data.text t)) None) e

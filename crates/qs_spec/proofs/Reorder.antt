@@ -1,7 +1,7 @@
 -- An order of the pairs that keeps those that overlap leaves each history, and so the tree.
 use Rattle.std.proofs.Common.{◌≡◌, ℕ, zero, suc, max, Bool, true, false, cond, ◌||◌, ◌&&◌, List, [], ◌∷◌, ◌++◌, map, refl, sym, ap, ap₂, ◌∙◌, subst, IsFalse, arith}
 use Rattle.std.specs.List.{AllByRecursion, list_any}
-use Rattle.qs_spec.specs.Segment.{Segment, Step}
+use Rattle.qs_spec.specs.Segment.{Segment, MarkedSegment}
 use Rattle.qs_spec.specs.Leaf.{Leaf}
 use Rattle.qs_spec.specs.Grammar.{Pair}
 use Rattle.qs_spec.specs.History.{Event, event, event_of, under, events, is_below, permitted}
@@ -27,7 +27,7 @@ swaps_of [] qs h = subst (λ l. Swaps [] l) (sym h) (same [])
 swaps_of (p ∷ ps) qs h = subst (λ l. Swaps (p ∷ ps) l) (sym h.2) (both (keep p (swaps_of ps (h.0 ++ h.1) h.4)) (to_place p h.0 h.1 h.3))
 
 -- a part of each pair's path decides whether it stays, and with which path
-under_keep : (k : Segment) (path : List Step) (p : Pair) (ps qs : List Pair) → Swaps (under k ps) (under k qs) → Swaps (under k (record p { path = path } ∷ ps)) (under k (record p { path = path } ∷ qs))
+under_keep : (k : Segment) (path : List MarkedSegment) (p : Pair) (ps qs : List Pair) → Swaps (under k ps) (under k qs) → Swaps (under k (record p { path = path } ∷ ps)) (under k (record p { path = path } ∷ qs))
 under_keep k [] p ps qs w = w
 under_keep k (s ∷ path) p ps qs w = by (is_same_segment k s.seg)
   where
@@ -36,13 +36,13 @@ under_keep k (s ∷ path) p ps qs w = by (is_same_segment k s.seg)
     by false = w
 
 -- paths of two that don't overlap
-abbrev Apart : List Step → List Step → Type 0
+abbrev Apart : List MarkedSegment → List MarkedSegment → Type 0
 Apart a b = (is_front a b || is_front b a) ≡ false
 
-pub apart_rest : (s t : Step) (a b : List Step) → is_same_segment s.seg t.seg ≡ true → is_same_segment t.seg s.seg ≡ true → Apart (s ∷ a) (t ∷ b) → Apart a b
+pub apart_rest : (s t : MarkedSegment) (a b : List MarkedSegment) → is_same_segment s.seg t.seg ≡ true → is_same_segment t.seg s.seg ≡ true → Apart (s ∷ a) (t ∷ b) → Apart a b
 apart_rest s t a b e f h = sym (ap₂ (λ x y. (x && is_front a b) || (y && is_front b a)) e f) ∙ h
 
-under_swap : (k : Segment) (a b : List Step) (p q : Pair) (rest : List Pair) → Apart a b
+under_swap : (k : Segment) (a b : List MarkedSegment) (p q : Pair) (rest : List Pair) → Apart a b
     → Swaps (under k (record p { path = a } ∷ record q { path = b } ∷ rest)) (under k (record q { path = b } ∷ record p { path = a } ∷ rest))
 under_swap k [] b p q rest h = cc
 under_swap k (s ∷ a) [] p q rest h = cc
@@ -61,7 +61,7 @@ swaps_under k (keep {ps} {qs} p w) = under_keep k p.path p ps qs (swaps_under k 
 swaps_under k (swap p q ps h) = under_swap k p.path q.path p q ps h
 swaps_under k (both w v) = both (swaps_under k w) (swaps_under k v)
 
-event_swap : (a b : List Step) (p q : Bool) (l m : Leaf) (h : List Event) → Apart a b → event_of a p l ∷ event_of b q m ∷ h ≡ event_of b q m ∷ event_of a p l ∷ h
+event_swap : (a b : List MarkedSegment) (p q : Bool) (l m : Leaf) (h : List Event) → Apart a b → event_of a p l ∷ event_of b q m ∷ h ≡ event_of b q m ∷ event_of a p l ∷ h
 event_swap [] b p q l m h e = cc
 event_swap (s ∷ a) [] p q l m h e = cc
 event_swap (s ∷ a) (t ∷ b) p q l m h e = refl
@@ -77,7 +77,7 @@ pub events_swaps : (path : List Segment) {ps qs : List Pair} → Swaps ps qs →
 events_swaps [] w = history_swaps w
 events_swaps (k ∷ path) w = events_swaps path (swaps_under k w)
 
-apart_filled : (a b : List Step) (x y : Bool) → Apart a b → Apart (filled_path a x) (filled_path b y)
+apart_filled : (a b : List MarkedSegment) (x y : Bool) → Apart a b → Apart (filled_path a x) (filled_path b y)
 apart_filled [] b x y e = cc
 apart_filled (s ∷ a) [] x y e = cc
 apart_filled (s ∷ a) (t ∷ b) x y e = e
@@ -88,7 +88,7 @@ swaps_filled (keep p w) = keep (record p { path = filled_path p.path p.push }) (
 swaps_filled (swap p q ps h) = swap (record p { path = filled_path p.path p.push }) (record q { path = filled_path q.path q.push }) (filled ps) (apart_filled p.path q.path p.push q.push h)
 swaps_filled (both w v) = both (swaps_filled w) (swaps_filled v)
 
-pub heads_swap : (a b : List Step) (ks : List Segment) → put_head a (put_head b ks) ≡ put_head b (put_head a ks)
+pub heads_swap : (a b : List MarkedSegment) (ks : List Segment) → put_head a (put_head b ks) ≡ put_head b (put_head a ks)
 heads_swap [] b ks = refl
 heads_swap (s ∷ a) [] ks = refl
 heads_swap (s ∷ a) (t ∷ b) ks = put_twice s.seg t.seg ks

@@ -54,7 +54,7 @@ pub negative_back : (bits n : ℕ) → n < 2 ^ (bits - 1) → n + 1 < 2 ^ 64 →
 negative_back bits n l h =
     ap (λ o. option_map Data.signed (option_map (λ n. neg_ℤ (pos n)) o)) (numeral_back (2 ^ (bits - 1)) (suc n) (omega arith) (omega arith))
 
-characters : (c : ℕ) → IsScalar c → chars (encode_utf8 c) ≡ c ∷ []
+pub characters : (c : ℕ) → IsScalar c → chars (encode_utf8 c) ≡ c ∷ []
 characters c s = ap chars (sym (append-nil (encode_utf8 c))) ∙ chars-encodes (c ∷ []) (ap (λ b. b && true) s)
 
 pub character_back : (c : ℕ) → IsScalar c → character_data (encode_utf8 c) ≡ Some (Data.character c)

@@ -1,9 +1,9 @@
 -- All pairs of an input, added in place.
-use Rattle.std.proofs.Common.{◌≡◌, ◌↔◌, ℕ, zero, suc, max, ◌≤◌, Bool, true, false, cond, not, ◌&&◌, ◌||◌, List, [], ◌∷◌, ◌++◌, map, refl, sym, ap, ◌∙◌, subst, arith, Option, Some, None, option_and_then, append_assoc, append-nil, le_refl}
+use Rattle.std.proofs.Common.{◌≡◌, ◌↔◌, ℕ, max, ◌≤◌, Bool, true, false, cond, not, ◌&&◌, ◌||◌, List, [], ◌∷◌, ◌++◌, map, refl, sym, ap, ◌∙◌, subst, arith, Option, Some, None, option_and_then, append_assoc, append-nil, le_refl}
 use Rattle.std.specs.List.{list_any}
 use Rattle.std.proofs.lemmas.Option.{none-some, same_Some}
 use Rattle.std.proofs.lemmas.List.Folds.{list_any-append}
-use Rattle.qs_spec.specs.Segment.{Segment, Step}
+use Rattle.qs_spec.specs.Segment.{Segment, MarkedSegment}
 use Rattle.qs_spec.specs.Token.{tokens}
 use Rattle.qs_spec.specs.Grammar.{Pair, ArePairs}
 use Rattle.qs_spec.specs.History.{Event, event, events, under, is_below, is_push, permitted}
@@ -12,7 +12,7 @@ use Rattle.qs_spec.specs.Segment.{is_same_segment}
 use Rattle.qs_spec.specs.History.Event.{direct, push, below}
 use Rattle.qs_spec.specs.Tree.Tree.{uninitialized}
 use Rattle.qs_spec.specs.internal.InPlace.{add, add_all}
-use Rattle.qs_spec.proofs.RelatedIsRead.{one_list}
+use Rattle.qs_spec.proofs.RelatedIsParsed.{one_list}
 use Rattle.qs_spec.proofs.OneMore.{NoneEmpty, NoEmpty, Permitted}
 use Rattle.qs_spec.proofs.Insert.{Goes, adds}
 use Rattle.qs_spec.proofs.Update.{node_nothing}
@@ -44,7 +44,7 @@ pub under-append : (k : Segment) (ps qs : List Pair) → under k (ps ++ qs) ≡ 
 under-append k [] qs = refl
 under-append k (p ∷ ps) qs = by p.path (under-append k ps qs)
   where
-    by : (path : List Step) → under k (ps ++ qs) ≡ under k ps ++ under k qs → under k (record p { path = path } ∷ (ps ++ qs)) ≡ under k (record p { path = path } ∷ ps) ++ under k qs
+    by : (path : List MarkedSegment) → under k (ps ++ qs) ≡ under k ps ++ under k qs → under k (record p { path = path } ∷ (ps ++ qs)) ≡ under k (record p { path = path } ∷ ps) ++ under k qs
     by [] e = e
     by (s ∷ path) e = each (is_same_segment k s.seg)
       where

@@ -1,7 +1,7 @@
 -- What holds of the segment of any bytes holds of every segment of an input.
 use Rattle.std.proofs.Common.{ℕ, Bool, true, false, cond, ◌&&◌, ◌==◌, List, [], ◌∷◌, ◌++◌}
 use Rattle.std.specs.List.{AllByRecursion}
-use Rattle.qs_spec.specs.Segment.{Segment, segment_of, Step}
+use Rattle.qs_spec.specs.Segment.{Segment, segment_of, MarkedSegment}
 use Rattle.qs_spec.specs.Token.{Token, raw_of, tokens, byte_token, is_escaped_bracket}
 use Rattle.qs_spec.specs.Token.Kind.{Open, Close}
 use Rattle.qs_spec.specs.Grammar.{Pair, root, longer, IsPair, IsBrackets, ArePairs}
@@ -40,28 +40,28 @@ tokens_raw form (b ∷ c ∷ e ∷ rest) = by (form && is_escaped_bracket b c e)
     by false h i = (tt, i)
 
 -- every segment of a path, and of the paths of some pairs
-abbrev pub AllSteps : (Segment → Type 0) → List Step → Type 0
-AllSteps P path = AllByRecursion (λ s. P s.seg) path
+abbrev pub AllOfPath : (Segment → Type 0) → List MarkedSegment → Type 0
+AllOfPath P path = AllByRecursion (λ s. P s.seg) path
 
 abbrev pub AllSegments : (Segment → Type 0) → List Pair → Type 0
-AllSegments P ps = AllByRecursion (λ p. AllSteps P p.path) ps
+AllSegments P ps = AllByRecursion (λ p. AllOfPath P p.path) ps
 
 module _ (P : Segment → Type 0) (of : (raw : List ℕ) → HasBytes raw → P (segment_of raw)) where
-  longer_all : (path : List Step) (raw : List ℕ) → AllSteps P path → HasBytes raw → AllSteps P (longer path raw)
+  longer_all : (path : List MarkedSegment) (raw : List ℕ) → AllOfPath P path → HasBytes raw → AllOfPath P (longer path raw)
   longer_all [] raw n h = (of raw h, tt)
   longer_all (s ∷ path) raw n h = (n.0, longer_all path raw n.1 h)
 
-  root_all : (key : List Token) → AllRaw key → AllSteps P (root key)
+  root_all : (key : List Token) → AllRaw key → AllOfPath P (root key)
   root_all [] h = tt
   root_all (t ∷ key) h = (of (raw_of (t ∷ key)) (has_left t.raw (raw_of key) h.0), tt)
 
-  brackets_all : {room : ℕ} {path : List Step} {bracket : List ℕ} {ts : List Token} {p : Pair} → IsBrackets room path bracket ts p → AllSteps P path → AllRaw ts → AllSteps P p.path
+  brackets_all : {room : ℕ} {path : List MarkedSegment} {bracket : List ℕ} {ts : List Token} {p : Pair} → IsBrackets room path bracket ts p → AllOfPath P path → AllRaw ts → AllOfPath P p.path
   brackets_all (IsBrackets.push e v) n h = n
   brackets_all (IsBrackets.segment {path = path} s t run value r e v) n h = longer_all path (raw_of (s ∷ run)) n (has_left s.raw (raw_of run) h.0)
   brackets_all (IsBrackets.more {path = path} s t u run rest r e d b) n h = brackets_all b (longer_all path (raw_of (s ∷ run)) n (has_left s.raw (raw_of run) h.0)) (all_right (s ∷ run) (t ∷ u ∷ rest) h).1.1
   brackets_all (IsBrackets.last {path = path} {bracket = bracket} t run value e r v) n h = longer_all path (bracket ++ t.raw ++ raw_of run) n (has_left (bracket ++ t.raw) (raw_of run) (has_right bracket t.raw h.0))
 
-  pair_all : {depth : ℕ} {ts : List Token} {p : Pair} → IsPair depth ts p → AllRaw ts → AllSteps P p.path
+  pair_all : {depth : ℕ} {ts : List Token} {p : Pair} → IsPair depth ts p → AllRaw ts → AllOfPath P p.path
   pair_all (IsPair.name {t} {key} r) h = root_all (t ∷ key) h
   pair_all (IsPair.value t key value r v) h = root_all key (all_left key (t ∷ value) h)
   pair_all (IsPair.brackets t key rest r o d b) h = brackets_all b (root_all key (all_left key (t ∷ rest) h)) (all_right key (t ∷ rest) h).1

@@ -1,7 +1,7 @@
 -- Trees of inputs are sound.
 use Rattle.std.proofs.Common.{◌≡◌, ◌≢◌, ℕ, zero, suc, ◌≤◌, Bool, true, false, cond, ◌||◌, List, [], ◌∷◌, map, refl, sym, ap, ◌∙◌, subst, le_refl}
 use Rattle.std.specs.List.{list_any}
-use Rattle.qs_spec.specs.Segment.{Segment, Step}
+use Rattle.qs_spec.specs.Segment.{Segment, MarkedSegment}
 use Rattle.qs_spec.specs.Leaf.{Leaf}
 use Rattle.qs_spec.specs.Segment.Segment.{Int, Str}
 use Rattle.qs_spec.specs.Grammar.{Pair}
@@ -44,7 +44,7 @@ some_under : (k : Segment) (ps : List Pair) → list_any (is_same_segment k) (he
 some_under k [] e = cc
 some_under k (p ∷ ps) e = by p.path e (some_under k ps)
   where
-    by : (path : List Step) → list_any (is_same_segment k) (put_head path (heads ps)) ≡ true → (list_any (is_same_segment k) (heads ps) ≡ true → under k ps ≢ []) → under k (record p { path = path } ∷ ps) ≢ []
+    by : (path : List MarkedSegment) → list_any (is_same_segment k) (put_head path (heads ps)) ≡ true → (list_any (is_same_segment k) (heads ps) ≡ true → under k ps ≢ []) → under k (record p { path = path } ∷ ps) ≢ []
     by [] e h = h e
     by (s ∷ path) e h = each (is_same_segment k s.seg) (sym (any_put k s.seg (heads ps)) ∙ e)
       where
@@ -56,7 +56,7 @@ none_empty_filled : (k : Segment) (ps : List Pair) → NoneEmpty ps → NoneEmpt
 none_empty_filled k [] m = tt
 none_empty_filled k (p ∷ ps) m = by p.path p.push m.0 (none_empty_filled k ps m.1)
   where
-    by : (path : List Step) (b : Bool) → NoEmpty path → NoneEmpty (under k (filled ps)) → NoneEmpty (under k (record p { path = filled_path path b } ∷ filled ps))
+    by : (path : List MarkedSegment) (b : Bool) → NoEmpty path → NoneEmpty (under k (filled ps)) → NoneEmpty (under k (record p { path = filled_path path b } ∷ filled ps))
     by [] true n h = h
     by [] false n h = each (is_same_segment k (Str []))
       where
@@ -73,7 +73,7 @@ own_flat : (ps : List Pair) → NoneEmpty ps → list_any is_below (map event (u
 own_flat [] m = refl
 own_flat (p ∷ ps) m = by p.path p.push m.0 (own_flat ps m.1)
   where
-    by : (path : List Step) (b : Bool) → NoEmpty path → list_any is_below (map event (under (Str []) (filled ps))) ≡ false → list_any is_below (map event (under (Str []) (record p { path = filled_path path b; push = b } ∷ filled ps))) ≡ false
+    by : (path : List MarkedSegment) (b : Bool) → NoEmpty path → list_any is_below (map event (under (Str []) (filled ps))) ≡ false → list_any is_below (map event (under (Str []) (record p { path = filled_path path b; push = b } ∷ filled ps))) ≡ false
     by [] true n h = h
     by [] false n h = h
     by (s ∷ path) b n h = ap (λ x. list_any is_below (map event (cond x (record p { path = path; push = b } ∷ under (Str []) (filled ps)) (under (Str []) (filled ps))))) n.0 ∙ h
@@ -103,7 +103,7 @@ some_heads : (ps : List Pair) → list_any is_below (map event ps) ≡ true → 
 some_heads [] e = cc
 some_heads (p ∷ ps) e = by p.path p.push e (some_heads ps)
   where
-    by : (path : List Step) (b : Bool) → (is_below (event_of path b p.leaf) || list_any is_below (map event ps)) ≡ true → (list_any is_below (map event ps) ≡ true → heads (filled ps) ≢ []) → put_head (filled_path path b) (heads (filled ps)) ≢ []
+    by : (path : List MarkedSegment) (b : Bool) → (is_below (event_of path b p.leaf) || list_any is_below (map event ps)) ≡ true → (list_any is_below (map event ps) ≡ true → heads (filled ps) ≢ []) → put_head (filled_path path b) (heads (filled ps)) ≢ []
     by [] true e h = h e
     by [] false e h = some_put (Str []) (heads (filled ps))
     by (s ∷ path) b e h = some_put s.seg (heads (filled ps))

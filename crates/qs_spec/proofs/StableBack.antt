@@ -28,7 +28,7 @@ use Rattle.qs_spec.specs.Written.{written}
 use Rattle.qs_spec.specs.Plain.{has_bytes}
 use Rattle.qs_spec.specs.Stable.{is_stable_key, has_entries, is_stable, are_stable}
 use Rattle.qs_spec.specs.Token.{is_bracket}
-use Rattle.qs_spec.specs.internal.Entries.{IsSegment, entry_leaf}
+use Rattle.qs_spec.specs.internal.WrittenEntries.{IsSegment, entry_leaf}
 use Rattle.qs_spec.specs.internal.Keys.{IsInRange, AreAbove, AreAscending, IsAscending, HoldAscending}
 use Rattle.qs_spec.specs.internal.Parts.{Part, entry_of, leaf_part, Branch, branches, parts, value_branches, pair_branches, part_pair}
 use Rattle.qs_spec.proofs.Booleans.{and_both, not_of}

@@ -1,8 +1,8 @@
--- A plain function that gives the tree of an input, or none; it gives the one tree that the definition gives.
+-- A function that computes the tree of an input, or none; it is the one tree that the definition gives.
 use Rattle.std.proofs.Common.{◌≡◌, ℕ, zero, suc, max, ◌≤◌, Bool, true, false, cond, ◌&&◌, ◌||◌, List, [], ◌∷◌, length, refl, sym, ap, ap₂, ◌∙◌, arith, Option, Some, None, Ordering, Less, Equal, Greater, is_eq, le_refl, if◌then◌else◌}
 use Rattle.std.specs.List.{list_all, list_any}
 use Rattle.std.proofs.lemmas.Option.{none-some, same_Some}
-use Rattle.qs_spec.specs.Segment.{Segment, Step}
+use Rattle.qs_spec.specs.Segment.{Segment, MarkedSegment}
 use Rattle.qs_spec.specs.Token.{tokens}
 use Rattle.qs_spec.specs.Leaf.Leaf.{NoValue}
 use Rattle.qs_spec.specs.Grammar.{Pair}
@@ -11,7 +11,7 @@ use Rattle.qs_spec.specs.Tree.{heads, put_head, put, node, longest, Tree, IsTree
 use Rattle.qs_spec.specs.Segment.{compare_segments, is_same_segment}
 use Rattle.qs_spec.proofs.Order.{exact_segment, put_lt, put_eq, put_gt}
 use Rattle.qs_spec.specs.internal.Parsing.{parsed_pairs}
-use Rattle.qs_spec.proofs.RelatedIsRead.{are_pairs, found_pairs}
+use Rattle.qs_spec.proofs.RelatedIsParsed.{are_pairs, found_pairs}
 use Rattle.qs_spec.proofs.Booleans.{and_both, or_both}
 
 pub same_of : (o : Ordering) → is_eq o ≡ true → o ≡ Equal
@@ -71,7 +71,7 @@ pub none_under : (k : Segment) (ps : List Pair) → list_any (is_same_segment k)
 none_under k [] e = refl
 none_under k (p ∷ ps) e = by p.path e (none_under k ps)
   where
-    by : (path : List Step) → list_any (is_same_segment k) (put_head path (heads ps)) ≡ false → (list_any (is_same_segment k) (heads ps) ≡ false → under k ps ≡ []) → under k (record p { path = path } ∷ ps) ≡ []
+    by : (path : List MarkedSegment) → list_any (is_same_segment k) (put_head path (heads ps)) ≡ false → (list_any (is_same_segment k) (heads ps) ≡ false → under k ps ≡ []) → under k (record p { path = path } ∷ ps) ≡ []
     by [] e h = h e
     by (s ∷ path) e h =
         let parts = or_both (is_same_segment k s.seg) _ (sym (any_put k s.seg (heads ps)) ∙ e) in
@@ -82,7 +82,7 @@ pub longest_under : (k : Segment) (n : ℕ) (ps : List Pair) → longest ps ≤ 
 longest_under k n [] l = omega arith
 longest_under k n (p ∷ ps) l = by p.path l (longest_under k n ps)
   where
-    by : (path : List Step) → max (length path) (longest ps) ≤ suc n → (longest ps ≤ suc n → longest (under k ps) ≤ n) → longest (under k (record p { path = path } ∷ ps)) ≤ n
+    by : (path : List MarkedSegment) → max (length path) (longest ps) ≤ suc n → (longest ps ≤ suc n → longest (under k ps) ≤ n) → longest (under k (record p { path = path } ∷ ps)) ≤ n
     by [] l h = h (omega arith)
     by (s ∷ path) l h = each (is_same_segment k s.seg)
       where
@@ -95,7 +95,7 @@ pub none_longer : (k : Segment) (ps : List Pair) → longest ps ≤ 0 → under 
 none_longer k [] l = refl
 none_longer k (p ∷ ps) l = by p.path l (none_longer k ps)
   where
-    by : (path : List Step) → max (length path) (longest ps) ≤ 0 → (longest ps ≤ 0 → under k ps ≡ []) → under k (record p { path = path } ∷ ps) ≡ []
+    by : (path : List MarkedSegment) → max (length path) (longest ps) ≤ 0 → (longest ps ≤ 0 → under k ps ≡ []) → under k (record p { path = path } ∷ ps) ≡ []
     by [] l h = h (omega arith)
     by (s ∷ path) l h = absurd (omega arith)
 

@@ -1,7 +1,7 @@
 -- The entries of pairs, updated in place at one key.
 use Rattle.std.proofs.Common.{◌≡◌, ℕ, zero, suc, Bool, true, false, cond, ◌||◌, List, [], ◌∷◌, ◌++◌, refl, sym, ap, ap₂, ◌∙◌, subst, Option, Some, None, option_map, Ordering, Less, Equal, Greater, is_eq, append-nil}
 use Rattle.std.specs.List.{list_any, AllByRecursion}
-use Rattle.qs_spec.specs.Segment.{Segment, Step}
+use Rattle.qs_spec.specs.Segment.{Segment, MarkedSegment}
 use Rattle.qs_spec.specs.Leaf.{Leaf}
 use Rattle.qs_spec.specs.Grammar.{Pair}
 use Rattle.qs_spec.specs.History.{under}
@@ -34,7 +34,7 @@ not_among : (x : Segment) (ks : List Segment) → AllByRecursion (λ k. compare_
 not_among x [] h = refl
 not_among x (k ∷ ks) h = ap₂ (λ a b. a || b) (ap is_eq h.0) (not_among x ks h.1)
 
-module _ (s : Step) (g : Tree → Option Tree) (m n : Segment → Bool) (f h : Segment → Tree) (o : Option Tree)
+module _ (s : MarkedSegment) (g : Tree → Option Tree) (m n : Segment → Bool) (f h : Segment → Tree) (o : Option Tree)
     (others : (k : Segment) → is_same_segment k s.seg ≡ false → (n k ≡ m k) × (h k ≡ f k)) (made : g (f s.seg) ≡ o) (same : (t : Tree) → o ≡ Some t → t ≡ h s.seg) where
   update_entries : (ks : List Segment) → Ascends ks → (list_any (is_same_segment s.seg) ks ≡ true → n s.seg ≡ m s.seg) → (list_any (is_same_segment s.seg) ks ≡ false → (n s.seg ≡ s.mark) × (f s.seg ≡ uninitialized))
       → update s g (entries_of m f ks) ≡ option_map (λ t. entries_of n h (put s.seg ks)) o
@@ -78,14 +78,14 @@ pub node_nothing : (n : ℕ) → node_within n [] ≡ uninitialized
 node_nothing zero = refl
 node_nothing (suc n) = refl
 
-pub under_same : (s : Step) (ps : List Pair) (path : List Step) (b : Bool) (l : Leaf) → under s.seg (ps ++ pair (s ∷ path) b l ∷ []) ≡ under s.seg ps ++ pair path b l ∷ []
+pub under_same : (s : MarkedSegment) (ps : List Pair) (path : List MarkedSegment) (b : Bool) (l : Leaf) → under s.seg (ps ++ pair (s ∷ path) b l ∷ []) ≡ under s.seg ps ++ pair path b l ∷ []
 under_same s ps path b l = under_push s.seg ps (pair (s ∷ path) b l) ∙ ap (λ x. under s.seg ps ++ cond x (pair path b l ∷ []) []) (is_itself s.seg)
 
-pub under_other : (k : Segment) (s : Step) (ps : List Pair) (path : List Step) (b : Bool) (l : Leaf) → is_same_segment k s.seg ≡ false → under k (ps ++ pair (s ∷ path) b l ∷ []) ≡ under k ps
+pub under_other : (k : Segment) (s : MarkedSegment) (ps : List Pair) (path : List MarkedSegment) (b : Bool) (l : Leaf) → is_same_segment k s.seg ≡ false → under k (ps ++ pair (s ∷ path) b l ∷ []) ≡ under k ps
 under_other k s ps path b l e = under_push k ps (pair (s ∷ path) b l) ∙ ap (λ x. under k ps ++ cond x (pair path b l ∷ []) []) e ∙ append-nil (under k ps)
 
 -- the entries of pairs with one more
-pub update_pairs : (n : ℕ) (qs : List Pair) (s : Step) (path : List Step) (b : Bool) (l : Leaf) (g : Tree → Option Tree) (o : Option Tree) → g (node_within n (under s.seg qs)) ≡ o
+pub update_pairs : (n : ℕ) (qs : List Pair) (s : MarkedSegment) (path : List MarkedSegment) (b : Bool) (l : Leaf) (g : Tree → Option Tree) (o : Option Tree) → g (node_within n (under s.seg qs)) ≡ o
     → ((t : Tree) → o ≡ Some t → t ≡ node_within n (under s.seg qs ++ pair path b l ∷ [])) → update s g (entries_within n qs) ≡ option_map (λ t. entries_within n (qs ++ pair (s ∷ path) b l ∷ [])) o
 update_pairs n qs s path b l g o e same =
     update_entries s g (λ k. head_mark k qs) (λ k. head_mark k (qs ++ pair (s ∷ path) b l ∷ [])) (λ k. node_within n (under k qs)) (λ k. node_within n (under k (qs ++ pair (s ∷ path) b l ∷ []))) o

@@ -33,12 +33,12 @@ other_name n name kind vs e h = by (bytes_eq n name) refl
     by true d = let w = sym e ∙ ap (λ m. is_variant_name m vs) (bytes_equal n name d) ∙ name_there h in cc
 
 -- the variant of a name is read on a value, and a unit variant as a text
-pub variant_read : (st : Bool) (name : List ℕ) (kind : VariantKind) (vs : Variants) (t : Tree) → variant_names_differ vs ≡ true → HasVariant name kind vs → reads_variant st vs name t ≡ reads_kind st kind name t
+pub variant_read : (reject_duplicates : Bool) (name : List ℕ) (kind : VariantKind) (vs : Variants) (t : Tree) → variant_names_differ vs ≡ true → HasVariant name kind vs → reads_variant reject_duplicates vs name t ≡ reads_kind reject_duplicates kind name t
 unfolding reads_variant
-variant_read st name kind _ t e (HasVariant.first {vs}) = ap (λ b. cond b (reads_kind st kind name t) (reads_variant st vs name t)) (bytes_same name)
-variant_read st name kind _ t e (HasVariant.later {n} {k} {vs} h) =
+variant_read reject_duplicates name kind _ t e (HasVariant.first {vs}) = ap (λ b. cond b (reads_kind reject_duplicates kind name t) (reads_variant reject_duplicates vs name t)) (bytes_same name)
+variant_read reject_duplicates name kind _ t e (HasVariant.later {n} {k} {vs} h) =
     let p = and_both (not (is_variant_name n vs)) (variant_names_differ vs) e in
-    ap (λ b. cond b (reads_kind st k n t) (reads_variant st vs name t)) (other_name n name kind vs (not_of (is_variant_name n vs) p.0) h) ∙ variant_read st name kind vs t p.1 h
+    ap (λ b. cond b (reads_kind reject_duplicates k n t) (reads_variant reject_duplicates vs name t)) (other_name n name kind vs (not_of (is_variant_name n vs) p.0) h) ∙ variant_read reject_duplicates name kind vs t p.1 h
 
 pub unit_variant_read : (name : List ℕ) (vs : Variants) → variant_names_differ vs ≡ true → HasVariant name unit_kind vs → unit_variant_data vs name ≡ Some (Data.unit_variant name)
 unit_variant_read name _ e (HasVariant.first {vs}) = ap (λ b. cond b (Some (Data.unit_variant name)) (unit_variant_data vs name)) (bytes_same name)

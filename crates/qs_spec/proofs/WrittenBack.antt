@@ -6,7 +6,7 @@ use Rattle.std.specs.Str.{bytes_eq}
 use Rattle.std.proofs.lemmas.Option.{same_Some}
 use Rattle.qs_spec.specs.Config.{Config, ArrayFormat, indexed, empty_indexed, unindexed, are_rejected}
 use Rattle.qs_spec.specs.Token.{tokens}
-use Rattle.qs_spec.specs.Segment.{step_of, is_same_segment}
+use Rattle.qs_spec.specs.Segment.{marked_segment_of, is_same_segment}
 use Rattle.qs_spec.specs.Escape.{encoded}
 use Rattle.qs_spec.specs.Grammar.{Pair, ArePairs}
 use Rattle.qs_spec.specs.Tree.{node, longest, IsTree}
@@ -15,13 +15,13 @@ use Rattle.qs_spec.specs.Data.{Data, Values, no_values, one_value, Pairs, no_pai
 use Rattle.qs_spec.specs.Shape.{Shape, is_distinct}
 use Rattle.qs_spec.specs.Entry.{Path, Entry, entries, entries_at}
 use Rattle.qs_spec.specs.Written.{has_key, written, entry_text, path_text}
-use Rattle.qs_spec.specs.internal.Entries.{steps, IsValueOf}
+use Rattle.qs_spec.specs.internal.WrittenEntries.{marked_path, IsValueOf}
 use Rattle.qs_spec.proofs.Order.{is_itself}
 use Rattle.qs_spec.proofs.Reorder.{Swaps}
 use Rattle.qs_spec.proofs.Booleans.{and_both, or_both}
 use Rattle.qs_spec.proofs.VariantNames.{bytes_equal}
-use Rattle.qs_spec.proofs.RelatedIsRead.{found_pairs}
-use Rattle.qs_spec.proofs.EntryRead.{written_pair}
+use Rattle.qs_spec.proofs.RelatedIsParsed.{found_pairs}
+use Rattle.qs_spec.proofs.EntryParsed.{written_pair}
 use Rattle.qs_spec.specs.Listed.{is_placed, is_list, is_listed, are_listed, are_listed_pairs, are_listed_members}
 use Rattle.qs_spec.specs.internal.Parts.{Part, entry_of, part_pair, end_segment, leaf_part, under_segment, Branch, branches, parts, value_parts, value_branches, pair_branches, member_branches}
 use Rattle.qs_spec.specs.ReadBack.{IsPlainFor, IsReadBack, is_prefix, ArePathsApart, KeepsPaths}
@@ -33,7 +33,7 @@ use Rattle.qs_spec.proofs.Branches.{pairs, all_both, some_pairs}
 use Rattle.qs_spec.proofs.Tidy.{Tidy, AllTidy, AllCompatible, pairs_compatible, compatible_permitted}
 use Rattle.qs_spec.proofs.GoodParts.{IsFine, IsByteValue, good}
 use Rattle.qs_spec.proofs.ReadBack.{back}
-use Rattle.qs_spec.proofs.PushRead.{IsReadable, parts_read}
+use Rattle.qs_spec.proofs.PushParsed.{IsParseable, parts_parsed}
 use Rattle.qs_spec.proofs.PartOrders.{perm_tidy, perm_swaps, lifted, kept_perm, kept_swaps, kept_lift}
 
 after_nothing : (es : List Entry) → map (after []) es ≡ es
@@ -103,7 +103,7 @@ pairs_tree fm form depth [] (p ∷ ps) g h a = absurd (none (same_Some [] (p ∷
     none e = cc
 pairs_tree fm form depth (b ∷ text) ps g h a = (ps, record { grammar = g; histories = compatible_permitted fm ps a }, refl)
 
-readable : (form : Bool) (depth : ℕ) (p : Part) → has_key p.path ≡ true → IsFine form p → length (entry_of p).path ≤ depth + 1 → IsReadable form depth p
+readable : (form : Bool) (depth : ℕ) (p : Part) → has_key p.path ≡ true → IsFine form p → length (entry_of p).path ≤ depth + 1 → IsParseable form depth p
 readable form depth p h f l = record { some = h; segments = f.0; short = l; value = by p.value f.1 }
   where
     by : (v : Option (List ℕ)) → IsByteValue v → IsValueOf ([] ∷ []) v
@@ -125,8 +125,8 @@ written_tree fm form depth ps qs r f l w h a = by r
     by : IsRooted ps → IsTree form depth (written form false (map entry_of qs)) (node (pairs form qs))
     by (inl p) =
         pairs_tree fm form depth (written form false (map entry_of qs)) (pairs form qs)
-        (parts_read form depth qs
-        (all_both (λ (p : Part). has_key p.path ≡ true) (λ (p : Part). IsFine form p × (length (entry_of p).path ≤ depth + 1)) (IsReadable form depth) (λ e q r. readable form depth e q r.0 r.1) qs (perm_all (λ (p : Part). has_key p.path ≡ true) w p)
+        (parts_parsed form depth qs
+        (all_both (λ (p : Part). has_key p.path ≡ true) (λ (p : Part). IsFine form p × (length (entry_of p).path ≤ depth + 1)) (IsParseable form depth) (λ e q r. readable form depth e q r.0 r.1) qs (perm_all (λ (p : Part). has_key p.path ≡ true) w p)
         (all_both (IsFine form) (λ (p : Part). length (entry_of p).path ≤ depth + 1) (λ (p : Part). IsFine form p × (length (entry_of p).path ≤ depth + 1)) (λ e q r. (q, r)) qs (perm_all (IsFine form) w f) (perm_all (λ (p : Part). length (entry_of p).path ≤ depth + 1) w l)))) h a
     by (inr p) =
         let one : qs ≡ leaf_part p.0 ∷ [] = perm_one (leaf_part p.0) qs (subst (λ (l : List Part). Perm l qs) p.1 w) in
@@ -214,19 +214,19 @@ read_back config shape d es e dist w p =
     subst (λ (l : List Entry). IsReadBack config shape d (written form false l)) (sym o.1)
     (parts_back config shape d o.0 dist w li o.2 (perm_swaps form o.2 (subst (λ f. AllTidy f form (parts fm d)) e g.tidy)))
 
--- a path that begins another does so as steps
-front_steps : (form : Bool) (p q : Path) → is_prefix p q ≡ true → is_front (steps form p) (steps form q) ≡ true
-front_steps form [] q e = refl
-front_steps form (s ∷ p) [] e = cc
-front_steps form (s ∷ p) (t ∷ q) e =
+-- a path that begins another does so with its marks
+front_path : (form : Bool) (p q : Path) → is_prefix p q ≡ true → is_front (marked_path form p) (marked_path form q) ≡ true
+front_path form [] q e = refl
+front_path form (s ∷ p) [] e = cc
+front_path form (s ∷ p) (t ∷ q) e =
     let h = and_both (bytes_eq s t) (is_prefix p q) e in
-    ap₂ (λ a b. a && b) (ap (λ (x : List ℕ). is_same_segment (step_of (encoded form s)).seg (step_of (encoded form x)).seg) (sym (bytes_equal s t h.0)) ∙ is_itself (step_of (encoded form s)).seg) (front_steps form p q h.1)
+    ap₂ (λ a b. a && b) (ap (λ (x : List ℕ). is_same_segment (marked_segment_of (encoded form s)).seg (marked_segment_of (encoded form x)).seg) (sym (bytes_equal s t h.0)) ∙ is_itself (marked_segment_of (encoded form s)).seg) (front_path form p q h.1)
 
-no_front : (form : Bool) (p q : Path) → is_front (steps form p) (steps form q) ≡ false → is_prefix p q ≡ false
+no_front : (form : Bool) (p q : Path) → is_front (marked_path form p) (marked_path form q) ≡ false → is_prefix p q ≡ false
 no_front form p q e = by (is_prefix p q) refl
   where
     by : (b : Bool) → is_prefix p q ≡ b → is_prefix p q ≡ false
-    by true d = let w = sym e ∙ front_steps form p q d in cc
+    by true d = let w = sym e ∙ front_path form p q d in cc
     by false d = d
 
 -- with indices written no part pushes
@@ -294,7 +294,7 @@ paths_apart form (p ∷ ps) n h = (each ps n.1 h.0, paths_apart form ps n.1 h.1)
     two : (q : Part) → q.push ≡ false → Tidy indexed form p q → (is_prefix (entry_of p).path (entry_of q).path || is_prefix (entry_of q).path (entry_of p).path) ≡ false
     two q m (inl a) = absurd (no a.0)
     two q m (inr t) =
-        let o = or_both (is_front (steps form p.path) (steps form q.path)) (is_front (steps form q.path) (steps form p.path)) t in
+        let o = or_both (is_front (marked_path form p.path) (marked_path form q.path)) (is_front (marked_path form q.path) (marked_path form p.path)) t in
         ap₂ (λ (x y : Path). is_prefix x y || is_prefix y x) (whole_path p n.0) (whole_path q m)
         ∙ ap₂ (λ a b. a || b) (no_front form p.path q.path o.0) (no_front form q.path p.path o.1)
 

@@ -2,22 +2,22 @@
 use Rattle.std.specs.Prelude.{◌≡◌, ℕ, zero, suc, Bool, true, false, ◌||◌, not, List, [], ◌∷◌, ◌++◌, IsTrue, IsFalse}
 use Rattle.std.specs.List.{list_all}
 use Rattle.qs_spec.specs.Token.{Kind, Token, raw_of}
-use Rattle.qs_spec.specs.Segment.{Step, step_of}
+use Rattle.qs_spec.specs.Segment.{MarkedSegment, marked_segment_of}
 use Rattle.qs_spec.specs.Leaf.{Leaf, value_leaf}
 use Rattle.qs_spec.specs.Token.Kind.{Amp, Equals, Open, Close}
 use Rattle.qs_spec.specs.Leaf.Leaf.{NoValue}
 
 -- A pair whose key ends in `[]` pushes its leaf onto a sequence; any other pair is direct.
 pub record Pair : Type 0 where
-  pub path : List Step
+  pub path : List MarkedSegment
   pub push : Bool
   pub leaf : Leaf
 
 -- the two kinds of pairs
-abbrev pub direct : List Step → Leaf → Pair
+abbrev pub direct : List MarkedSegment → Leaf → Pair
 direct path leaf = record { path = path; push = false; leaf = leaf }
 
-abbrev pub pushed : List Step → Leaf → Pair
+abbrev pub pushed : List MarkedSegment → Leaf → Pair
 pushed path leaf = record { path = path; push = true; leaf = leaf }
 
 -- which token it is
@@ -51,13 +51,13 @@ abbrev pub IsRun : (Kind → Bool) → List Token → Type 0
 IsRun ends ts = IsTrue (list_all (λ t. not (ends t.kind)) ts)
 
 -- the path of a root key
-abbrev pub root : List Token → List Step
+abbrev pub root : List Token → List MarkedSegment
 root [] = []
-root (t ∷ key) = step_of (raw_of (t ∷ key)) ∷ []
+root (t ∷ key) = marked_segment_of (raw_of (t ∷ key)) ∷ []
 
 -- a path and one segment more
-abbrev pub longer : List Step → List ℕ → List Step
-longer path raw = path ++ step_of raw ∷ []
+abbrev pub longer : List MarkedSegment → List ℕ → List MarkedSegment
+longer path raw = path ++ marked_segment_of raw ∷ []
 
 -- nothing, or `=` and a value
 pub data IsValue : List Token → Leaf → Type 0 where
@@ -65,18 +65,18 @@ pub data IsValue : List Token → Leaf → Type 0 where
   some : {t : Token} {v : List Token} → t.kind ≡ Equals → IsRun is_amp v → IsValue (t ∷ v) (value_leaf (raw_of v))
 
 -- What follows an opening bracket with these bytes after a path, with room for so many segments: a push, a segment where there is room, or else the last key.
-pub data IsBrackets : ℕ → List Step → List ℕ → List Token → Pair → Type 0 where
-  push : {room : ℕ} {path : List Step} {bracket : List ℕ} {t : Token} {value : List Token} {leaf : Leaf}
+pub data IsBrackets : ℕ → List MarkedSegment → List ℕ → List Token → Pair → Type 0 where
+  push : {room : ℕ} {path : List MarkedSegment} {bracket : List ℕ} {t : Token} {value : List Token} {leaf : Leaf}
       → t.kind ≡ Close → IsValue value leaf
       → IsBrackets room path bracket (t ∷ value) (pushed path leaf)
-  segment : {room : ℕ} {path : List Step} {bracket : List ℕ} {leaf : Leaf} (s t : Token) (run value : List Token)
+  segment : {room : ℕ} {path : List MarkedSegment} {bracket : List ℕ} {leaf : Leaf} (s t : Token) (run value : List Token)
       → IsRun is_close (s ∷ run) → t.kind ≡ Close → IsValue value leaf
       → IsBrackets (suc room) path bracket (s ∷ run ++ t ∷ value) (direct (longer path (raw_of (s ∷ run))) leaf)
-  more : {room : ℕ} {path : List Step} {bracket : List ℕ} {pair : Pair} (s t u : Token) (run rest : List Token)
+  more : {room : ℕ} {path : List MarkedSegment} {bracket : List ℕ} {pair : Pair} (s t u : Token) (run rest : List Token)
       → IsRun is_close (s ∷ run) → t.kind ≡ Close → u.kind ≡ Open
       → IsBrackets room (longer path (raw_of (s ∷ run))) u.raw rest pair
       → IsBrackets (suc room) path bracket (s ∷ run ++ t ∷ u ∷ rest) pair
-  last : {path : List Step} {bracket : List ℕ} {leaf : Leaf} (t : Token) (run value : List Token)
+  last : {path : List MarkedSegment} {bracket : List ℕ} {leaf : Leaf} (t : Token) (run value : List Token)
       → IsFalse (is_close t.kind) → IsRun ends_last run → IsValue value leaf
       → IsBrackets 0 path bracket (t ∷ run ++ value) (direct (longer path (bracket ++ t.raw ++ raw_of run)) leaf)
 

@@ -1,7 +1,7 @@
 -- Histories: what the pairs of an input do, in turn, to the node at one path.
 use Rattle.std.specs.Prelude.{Bool, true, false, ◌||◌, ◌&&◌, not, List, [], ◌∷◌, map, if◌then◌else◌}
 use Rattle.std.specs.List.{list_any}
-use Rattle.qs_spec.specs.Segment.{Segment, Step, is_same_segment}
+use Rattle.qs_spec.specs.Segment.{Segment, MarkedSegment, is_same_segment}
 use Rattle.qs_spec.specs.Leaf.{Leaf}
 use Rattle.qs_spec.specs.Grammar.{Pair}
 
@@ -12,7 +12,7 @@ pub data Event : Type 0 where
   below : Event
 
 -- what a pair does to the node that its path begins at
-abbrev pub event_of : List Step → Bool → Leaf → Event
+abbrev pub event_of : List MarkedSegment → Bool → Leaf → Event
 event_of (s ∷ path) p leaf = below
 event_of [] true leaf = push leaf
 event_of [] false leaf = direct leaf

@@ -1,7 +1,7 @@
--- What is read from a node: its last text, its items, and the values of a name.
-use Rattle.std.specs.Prelude.{ℕ, ◌+◌, Bool, true, false, ◌&&◌, ◌||◌, ◌==◌, nat_lt, cond, List, [], ◌∷◌, Option, Some, None, ⊤}
+-- What is read from a node: its last text, its items, the value at a key, and the values of a name.
+use Rattle.std.specs.Prelude.{ℕ, ◌+◌, Bool, true, false, ◌&&◌, ◌||◌, ◌==◌, nat_lt, cond, List, [], ◌∷◌, Option, Some, None, if◌then◌else◌, ⊤}
 use Rattle.std.specs.Str.{bytes_eq, is_utf8}
-use Rattle.qs_spec.specs.Segment.{Segment, segment_text}
+use Rattle.qs_spec.specs.Segment.{Segment, segment_text, is_same_segment}
 use Rattle.qs_spec.specs.Segment.Segment.{Int, Str}
 use Rattle.qs_spec.specs.Leaf.{leaf_text}
 use Rattle.qs_spec.specs.Leaf.Leaf.{NoValue, Null, Text}
@@ -73,6 +73,11 @@ items (leaf (Text bytes mark)) = Some (Some (leaf (Text bytes mark)) ∷ [])
 items (sequence xs) = Some (sequence_items xs)
 items (mapping es) = cond (are_ints es) (Some (placed 0 es)) None
 items uninitialized = None
+
+-- the value at a key
+abbrev pub value_at_key : Segment → Entries → Option Tree
+value_at_key k no_entries = None
+value_at_key k (entry j mark t es) = if is_same_segment k j then Some t else value_at_key k es
 
 -- the values whose key has the text
 abbrev pub found : List ℕ → Entries → List Tree

@@ -1,6 +1,6 @@
 -- Permutations of pairs, and inputs with the same tree. Marks are no part of what is compared.
 use Rattle.std.specs.Prelude.{◌≡◌, ℕ, Bool, true, false, ◌||◌, ◌&&◌, List, [], ◌∷◌, map}
-use Rattle.qs_spec.specs.Segment.{Step, is_same_segment}
+use Rattle.qs_spec.specs.Segment.{MarkedSegment, is_same_segment}
 use Rattle.qs_spec.specs.Leaf.{Leaf}
 use Rattle.qs_spec.specs.Leaf.Leaf.{NoValue, Null, Text}
 use Rattle.qs_spec.specs.Grammar.{Pair}
@@ -11,7 +11,7 @@ use Rattle.qs_spec.specs.Tree.Items.{no_items, item}
 use Rattle.qs_spec.specs.Tree.Entries.{no_entries, entry}
 
 -- the second path begins with the first
-abbrev pub is_front : List Step → List Step → Bool
+abbrev pub is_front : List MarkedSegment → List MarkedSegment → Bool
 is_front [] q = true
 is_front (s ∷ p) [] = false
 is_front (s ∷ p) (t ∷ q) = is_same_segment s.seg t.seg && is_front p q
@@ -26,11 +26,11 @@ unmarked_leaf NoValue = NoValue
 unmarked_leaf Null = Null
 unmarked_leaf (Text bytes mark) = Text bytes false
 
-abbrev pub unmarked_step : Step → Step
-unmarked_step s = record { seg = s.seg; mark = false }
+abbrev pub unmarked_segment : MarkedSegment → MarkedSegment
+unmarked_segment s = record { seg = s.seg; mark = false }
 
 abbrev pub unmarked_pair : Pair → Pair
-unmarked_pair p = record { path = map unmarked_step p.path; push = p.push; leaf = unmarked_leaf p.leaf }
+unmarked_pair p = record { path = map unmarked_segment p.path; push = p.push; leaf = unmarked_leaf p.leaf }
 
 abbrev mutual
   pub unmarked : Tree → Tree

@@ -13,7 +13,7 @@ pub data Segment : Type 0 where
   Str : List ℕ → Segment
 
 -- a segment of an input, and whether its raw bytes hold `+` or `%`
-pub record Step : Type 0 where
+pub record MarkedSegment : Type 0 where
   pub seg : Segment
   pub mark : Bool
 
@@ -31,8 +31,8 @@ abbrev pub segment_of : List ℕ → Segment
 segment_of raw = if is_index raw then Int (number raw) else Str (decoded raw)
 
 -- the segment of raw bytes, with its mark
-abbrev pub step_of : List ℕ → Step
-step_of raw = record { seg = segment_of raw; mark = is_marked raw }
+abbrev pub marked_segment_of : List ℕ → MarkedSegment
+marked_segment_of raw = record { seg = segment_of raw; mark = is_marked raw }
 
 -- the decimal digits, or the bytes
 abbrev pub segment_text : Segment → List ℕ

@@ -3,7 +3,7 @@ use Rattle.std.specs.Prelude.{◌≡◌, ℕ, zero, suc, max, Bool, true, false,
 use Rattle.std.specs.List.{list_any}
 use Rattle.std.specs.Ordering.{match_ordering}
 use Rattle.qs_spec.specs.Token.{tokens}
-use Rattle.qs_spec.specs.Segment.{Segment, Step, compare_segments, is_same_segment}
+use Rattle.qs_spec.specs.Segment.{Segment, MarkedSegment, compare_segments, is_same_segment}
 use Rattle.qs_spec.specs.Segment.Segment.{Str}
 use Rattle.qs_spec.specs.Leaf.{Leaf}
 use Rattle.qs_spec.specs.Leaf.Leaf.{NoValue}
@@ -50,14 +50,14 @@ flat (direct l ∷ []) = leaf l
 flat h = sequence (leaf_items (leaves_in h))
 
 -- A direct leaf at a map is the value of the empty key, which no path of an input holds. A push at a map is never permitted.
-abbrev pub empty_step : Step
-empty_step = record { seg = Str []; mark = false }
+abbrev pub empty_segment : MarkedSegment
+empty_segment = record { seg = Str []; mark = false }
 
--- the path with this step, where it is empty and its leaf isn't pushed
-abbrev pub filled_path : List Step → (pushed : Bool) → List Step
+-- the path with this segment, where it is empty and its leaf isn't pushed
+abbrev pub filled_path : List MarkedSegment → (pushed : Bool) → List MarkedSegment
 filled_path (s ∷ path) pushed = s ∷ path
 filled_path [] true = []
-filled_path [] false = empty_step ∷ []
+filled_path [] false = empty_segment ∷ []
 
 -- the pairs with such paths
 abbrev pub filled : List Pair → List Pair
@@ -70,7 +70,7 @@ put k [] = k ∷ []
 put k (x ∷ xs) = match_ordering (compare_segments k x) (k ∷ x ∷ xs) (x ∷ xs) (x ∷ put k xs)
 
 -- the same for the first segment of a path, if it has one
-abbrev pub put_head : List Step → List Segment → List Segment
+abbrev pub put_head : List MarkedSegment → List Segment → List Segment
 put_head [] ks = ks
 put_head (s ∷ path) ks = put s.seg ks
 

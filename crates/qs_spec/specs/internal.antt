@@ -2,7 +2,7 @@
 pub mod InPlace
 pub mod ReadFunction
 pub mod Parsing
-pub mod Entries
+pub mod WrittenEntries
 pub mod Keys
 pub mod Parts
 pub mod Fitting

@@ -6,11 +6,11 @@ ghost use Rattle.qs_spec.specs.Token.{tokens};
 ghost use Rattle.qs_spec.specs.Grammar.{ArePairs};
 ghost use Rattle.qs_spec.specs.Entry.{Entry};
 ghost use Rattle.qs_spec.specs.Written.{written};
-ghost use Rattle.qs_spec.specs.internal.Entries.{IsWritable, HasPath, entry_pair};
+ghost use Rattle.qs_spec.specs.internal.WrittenEntries.{IsWritable, HasKey, entry_pair};
 
 /// The text of entries with paths, or of a single entry, is parsed as their pairs.
 pub fn written_entries_are_parsed()
-    ensures entries { (form : Bool) (depth : ℕ) (es : List Entry) → AllByRecursion (IsWritable form depth) es → AllByRecursion HasPath es
+    ensures entries { (form : Bool) (depth : ℕ) (es : List Entry) → AllByRecursion (IsWritable form depth) es → AllByRecursion HasKey es
         → ArePairs depth (tokens form (written form false es)) (map (entry_pair form) es) }
     ensures single { (form : Bool) (depth : ℕ) (e : Entry) → IsWritable form depth e → ArePairs depth (tokens form (written form false (e ∷ []))) (entry_pair form e ∷ []) }
 {}

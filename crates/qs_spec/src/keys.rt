@@ -9,9 +9,9 @@ ghost use Rattle.qs_spec.specs.Leaf.{value_leaf, leaf_text};
 ghost use Rattle.qs_spec.specs.Leaf.Leaf.{Text};
 ghost use Rattle.qs_spec.specs.Escape.{is_marked};
 ghost use Rattle.qs_spec.specs.Tree.{Tree, Entries, IsTree};
-ghost use Rattle.qs_spec.specs.Node.{found};
+ghost use Rattle.qs_spec.specs.Node.{found, value_at_key};
 ghost use Rattle.qs_spec.specs.Scalar.{is_numeral, has_leading_zero};
-ghost use Rattle.qs_spec.specs.internal.Keys.{written_segment, printed_index, lookup, lookup_index, list_of, AreAscending, IsAscending};
+ghost use Rattle.qs_spec.specs.internal.Keys.{written_segment, printed_index, value_at_index, list_of, AreAscending, IsAscending};
 
 /// Digits without a leading zero are the decimal digits of their number, and the decimal digits of a number are parsed as it.
 pub fn digits_and_numbers()
@@ -42,5 +42,5 @@ pub fn ascending_keys()
 
 /// The values whose key has a name as its text are found by two look-ups: the integer key that is printed so, if there is one, and the string key.
 pub fn found_by_lookup()
-    ensures { (name : List ℕ) (es : Entries) → AreAscending es → found name es ≡ list_of (lookup_index (printed_index name) es) ++ list_of (lookup (Str name) es) }
+    ensures { (name : List ℕ) (es : Entries) → AreAscending es → found name es ≡ list_of (value_at_index (printed_index name) es) ++ list_of (value_at_key (Str name) es) }
 {}

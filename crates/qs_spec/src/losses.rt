@@ -1,4 +1,4 @@
-//! Worked losses: data that are read back as others, each for want of one premise.
+//! Worked losses: data that are read back as others, each because one premise is missing.
 
 ghost use Rattle.std.specs.Prelude.{◌≡◌, codes, decimal, [], ◌∷◌, Some, None, true, false, pos};
 ghost use Rattle.qs_spec.specs.Config.{default, empty_indexed, unindexed};

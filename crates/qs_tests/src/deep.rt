@@ -11,7 +11,7 @@ const COMPARED: usize = 2_000;
 const DISCARDED: usize = 200_000;
 
 // Returns data of the level's kind that hold these, with a leaf before or after them.
-fn deeper<R: Abort>(b: &Build<'_, R>, level: usize, inner: Data) -> Data {
+fn nested_once<R: Abort>(b: &Build<'_, R>, level: usize, inner: Data) -> Data {
     match level % 10 {
         0 => b.some(inner),
         1 => b.list([inner, Data::Unit]),
@@ -30,7 +30,7 @@ fn deeper<R: Abort>(b: &Build<'_, R>, level: usize, inner: Data) -> Data {
 fn deep<R: Abort>(b: &Build<'_, R>, levels: usize, bottom: Data) -> Data {
     let mut datum = bottom;
     for level in 0..levels {
-        datum = deeper(b, level, datum);
+        datum = nested_once(b, level, datum);
     }
     datum
 }

@@ -1,9 +1,9 @@
 //! Plain data that fit a shape, read back from their entries in other orders, and what isn't read back.
 
-mod answered;
 mod cases;
 mod entries;
 mod formats;
+mod golden;
 mod losses;
 mod many;
 mod orders;

@@ -218,7 +218,7 @@ module _ {A B : Type 0} (t : Exact A) (r : ExactFields B) where
   same_member : (k n : List ℕ) (x e : Data) (ns ms : Members) → bytes_eq k n ≡ true → x ≡ e → ns ≡ ms → one_member n x ns ≡ one_member k e ms
   same_member k n x e ns ms q p ps = ap (λ m. one_member m x ns) (sym ((bytes_eq-Decides k n).0 q)) ∙ ap₂ (one_member k) p ps
 
-  pub field_meant : {st : Bool} (names : List (List ℕ)) {ms : Members} → field_names_differ (fields_of (field_form t.form false r.form names)) ≡ true → FieldsRead st (fields_of (field_form t.form false r.form names)) ms
+  pub field_meant : {reject_duplicates : Bool} (names : List (List ℕ)) {ms : Members} → field_names_differ (fields_of (field_form t.form false r.form names)) ≡ true → FieldsRead reject_duplicates (fields_of (field_form t.form false r.form names)) ms
       → (v : t.Value × r.Value) × (member_in t.meaning r.meaning names ms ≡ Some v)
   field_meant names k (FieldsRead.one_read {d = e} {ms} p ps) =
       let later = others_of names in
@@ -246,7 +246,7 @@ module _ {A B : Type 0} (t : Exact A) (r : ExactFields B) where
       ap (λ b. if b then both (option_map Some (t.meaning e)) (r.meaning (others_of names) ms) else option_map (λ y. (None, y)) (r.meaning (others_of names) (one_member k e ms))) (other_field (first_of names) k fs free named)
       ∙ ap (option_map (λ y. (None, y))) p
 
-  pub optional_meant : {st : Bool} (names : List (List ℕ)) {ms : Members} → field_names_differ (fields_of (field_form t.form true r.form names)) ≡ true → FieldsRead st (fields_of (field_form t.form true r.form names)) ms
+  pub optional_meant : {reject_duplicates : Bool} (names : List (List ℕ)) {ms : Members} → field_names_differ (fields_of (field_form t.form true r.form names)) ≡ true → FieldsRead reject_duplicates (fields_of (field_form t.form true r.form names)) ms
       → (v : Option t.Value × r.Value) × (optional_in t.meaning r.meaning names ms ≡ Some v)
   optional_meant names k (FieldsRead.one_read {d = e} {ms} p ps) =
       let later = others_of names in

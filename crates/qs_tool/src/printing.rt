@@ -32,7 +32,7 @@ pub fn printed(alloc: Global, request: Request, input: &[u8]) -> Result<Vec<u8>>
         (Command::Params, true) => {
             rewritten::<Strict<Params<Strict<Address>>>>(alloc, config, input)
         }
-        (Command::Any, _) => shown(alloc, config, input),
+        (Command::Any, _) => printed_any(alloc, config, input),
     }
 }
 
@@ -47,7 +47,7 @@ fn rewritten<T: RoundTrip + Drop>(alloc: Global, config: Config, input: &[u8]) -
 }
 
 // Returns the data that are read from the input, as they are shown.
-fn shown(alloc: Global, config: Config, input: &[u8]) -> Result<Vec<u8>>
+fn printed_any(alloc: Global, config: Config, input: &[u8]) -> Result<Vec<u8>>
     ensures text { IfOk result (λ text. IsPrintedBy config s.Shape.any (λ d. Some (shown d)) input.now text.items) }
     ensures fault { IfInputError result (IsFaultyBy config s.Shape.any (λ d. Some (shown d)) input.now) }
 {

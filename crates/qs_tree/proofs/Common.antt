@@ -11,13 +11,14 @@ pub use Rattle.qs_spec.specs.Grammar.{ArePairs, Pair, direct, ends_last, ends_ro
 pub use Rattle.qs_spec.specs.Leaf.{Leaf}
 pub use Rattle.qs_spec.specs.Marks.{entries_marks, items_marks, key_marks, marks}
 pub use Rattle.qs_spec.specs.Order.{AreEquivalent, AreReordered, unmarked}
-pub use Rattle.qs_spec.specs.Segment.{Segment, Step, compare_segments, is_index, is_same_segment, number, segment_of, step_of, Int, Str}
+pub use Rattle.qs_spec.specs.Node.{value_at_key}
+pub use Rattle.qs_spec.specs.Segment.{Segment, MarkedSegment, compare_segments, is_index, is_same_segment, number, segment_of, marked_segment_of, Int, Str}
 pub use Rattle.qs_spec.specs.Token.{Kind, Token, byte_kind, byte_token, is_escaped_bracket, raw_of, tokens, Amp, Close, Equals, Open, Other}
-pub use Rattle.qs_spec.specs.Tree.{Entries, HasNoTree, IsTree, Tree, empty_step, entries_of, flat, head_mark, heads, node_within, entry, no_entries, leaf, mapping, sequence, uninitialized}
+pub use Rattle.qs_spec.specs.Tree.{Entries, HasNoTree, IsTree, Tree, empty_segment, entries_of, flat, head_mark, heads, node_within, entry, no_entries, leaf, mapping, sequence, uninitialized}
 pub use Rattle.qs_spec.specs.internal.InPlace.{add, add_all, add_below, add_flat, add_here, push_item, update, update_by}
 pub use Rattle.qs_spec.specs.internal.Parsing.{Rest, after_close, after_close_at, after_root, after_root_at, after_run, and_pairs, cut, cut_at, in_last, in_segment, named, parsed_brackets, parsed_pairs, parsed_value, value_at, with_leaf}
 pub use Rattle.qs_tree.specs.Error.{IfParse, IsOutOfMemory, IsParse, OnlyOutOfMemory, OnlyParseOrOutOfMemory}
-pub use Rattle.qs_tree.specs.Parsing.{HoldsOf, TakesNoMemory, is_ampersands, is_plain, is_plain_value}
+pub use Rattle.qs_tree.specs.Parsing.{HoldsOf, AllocatesNothing, is_ampersands, is_unescaped, is_unescaped_value}
 pub use Rattle.qs_tree.specs.declared.build.builder.MapBuilder.{MapBuilder, Vector}
 pub use Rattle.qs_tree.specs.declared.build.builder.TreeBuilder.{TreeBuilder, Value}
 pub use Rattle.qs_tree.specs.declared.build.conflict.AddError.{AddError}
@@ -30,7 +31,7 @@ pub use Rattle.qs_tree.specs.declared.tree.value.ParsedValue.{Map, NoValue, Null
 pub use Rattle.qs_tree.specs.declared.tree.value.ParsedValue.TheViews.{roll-ParsedMap, roll-ParsedValue}
 pub use Rattle.qs_tree.specs.escape.Classes.{is_ampersand, is_encoded, is_escape}
 pub use Rattle.qs_tree.specs.internal.Parsing.{Returns, grown}
-pub use Rattle.qs_tree.specs.internal.build.Adding.{Adds, Gives, IsRejected, entries_below, second}
+pub use Rattle.qs_tree.specs.internal.build.Adding.{Adds, AddGives, IsRejected, entries_below, second}
 pub use Rattle.qs_tree.specs.internal.build.Builder.{IsFlat, IsNoMap, Takes, as_builders, built_entries, built_tree, child, entries_held, entries_seen, fresh, unsorted_entries}
 pub use Rattle.qs_tree.specs.internal.build.Descent.{IsBarred, IsOpen, Leads, put_all_back, put_back}
 pub use Rattle.qs_tree.specs.internal.build.Finishing.{IsOpened, built_pairs, entries_map_count, left_pairs, level_pairs, maps_left, with_node}
@@ -50,7 +51,7 @@ pub use Rattle.qs_tree.specs.tree.Keys.{key_cmp, key_eq, value_eq}
 pub use Rattle.qs_tree.specs.tree.Lookup.{binary_digits}
 pub use Rattle.qs_tree.specs.tree.Ordered.{AreOrdered, IsBefore}
 pub use Rattle.qs_tree.specs.tree.Owned.{entries_own, items_own, key_owns, map_owns, owns}
-pub use Rattle.qs_tree.specs.tree.Views.{entries_from, entries_of_map, entry_list, find, items_of, key_mark, map_pairs, segment_of_key, step_of_key, take_out, tree_of}
+pub use Rattle.qs_tree.specs.tree.Views.{entries_from, entries_of_map, entry_list, items_of, key_mark, map_pairs, segment_of_key, marked_segment_of_key, take_out, tree_of}
 pub use Rattle.std.proofs.Math.ListN.{drop_of_length-le}
 pub use Rattle.std.proofs.Math.Seq.{take-add, take-append-add, take-append_seam, take-length}
 pub use Rattle.std.proofs.lemmas.Bool.{agree_below, agree_below_at, and_parts, cases_Bool, cases_lt, cond-false, cond-true, le-leb, le-ltb, leb-false, leb-true, lt-leb, lt-ltb, ltb-false, ltb-true, not-false, not-true}

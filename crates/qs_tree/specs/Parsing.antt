@@ -19,17 +19,17 @@ abbrev pub is_ampersands : List ℕ → Bool
 is_ampersands bytes = list_all is_ampersand bytes
 
 -- no `&`, `+` or `%`
-abbrev pub is_plain : List ℕ → Bool
-is_plain bytes = list_all (λ b. not (b == 38 || b == 43 || b == 37)) bytes
+abbrev pub is_unescaped : List ℕ → Bool
+is_unescaped bytes = list_all (λ b. not (b == 38 || b == 43 || b == 37)) bytes
 
 -- such bytes after `=`
-abbrev pub is_plain_value : List ℕ → Bool
-is_plain_value [] = false
-is_plain_value (b ∷ value) = b == 61 && is_plain value
+abbrev pub is_unescaped_value : List ℕ → Bool
+is_unescaped_value [] = false
+is_unescaped_value (b ∷ value) = b == 61 && is_unescaped value
 
 -- the empty input, `&` alone, or an empty key with a value without `&`, `+` and `%`: nothing is allocated for them
-abbrev pub TakesNoMemory : List ℕ → Type 0
-TakesNoMemory bytes = IsTrue (is_ampersands bytes || is_plain_value bytes)
+abbrev pub AllocatesNothing : List ℕ → Type 0
+AllocatesNothing bytes = IsTrue (is_ampersands bytes || is_unescaped_value bytes)
 
 -- this input has the tree of the result, ignoring ownership, or no tree where the result is a `Parse` error
 abbrev pub HoldsOf : Bool → ℕ → List ℕ → Result ParsedValue Error → Type 0
@@ -48,7 +48,7 @@ pub record Parses (form : Bool) (max_depth : ℕ) (input : List ℕ) (result : R
   pub position : IfParse result (λ position. position ≤ length input + 1)
   pub errors : OnlyParseOrOutOfMemory result
   -- memory
-  pub no_memory : TakesNoMemory input → IsOk result
+  pub no_allocation : AllocatesNothing input → IsOk result
   pub borrowed : (t : Tree) → IsTree form max_depth input t → IfOk result (λ value. owns value ≡ marks t)
   -- the form of the tree
   pub leaves : input ≢ [] → IfOk result (λ value. HasPairs form max_depth input (leaf_count (tree_of value)))

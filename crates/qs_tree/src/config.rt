@@ -7,6 +7,10 @@ ghost use Rattle.qs_tree.specs.Settings.{array_format_of, duplicates_of};
 use std::marker::Model;
 
 /// How the index of a list's element is written in a key.
+///
+/// ```
+/// let config = Config::new().array_format(ArrayFormat::EmptyIndexed); // writes a[]=x&a[]=y
+/// ```
 #[derive(Clone, Copy, Debug, Default, PartialEq, Eq)]
 pub enum ArrayFormat {
     /// In brackets: `a[0]=x&a[1]=y`.
@@ -19,6 +23,10 @@ pub enum ArrayFormat {
 }
 
 /// What happens to repeated values where one value is read.
+///
+/// ```
+/// let config = Config::new().duplicate_key_behavior(DuplicateKeyBehavior::Error);
+/// ```
 #[derive(Clone, Copy, Debug, Default, PartialEq, Eq)]
 pub enum DuplicateKeyBehavior {
     /// The last one is read.
@@ -139,6 +147,10 @@ impl Config {
     }
 
     /// Returns how many levels of brackets are parsed and written.
+    ///
+    /// ```
+    /// Config::new().get_max_depth() // 5
+    /// ```
     pub fn get_max_depth(&self) -> usize
         ensures { result ≡ self.now.max_depth }
     {
@@ -146,6 +158,10 @@ impl Config {
     }
 
     /// Returns whether form encoding is used.
+    ///
+    /// ```
+    /// Config::new().get_form() // false
+    /// ```
     pub fn get_form(&self) -> bool
         ensures { result ≡ self.now.form }
     {
@@ -153,6 +169,10 @@ impl Config {
     }
 
     /// Returns how the index of a list's element is written.
+    ///
+    /// ```
+    /// Config::new().get_array_format() // ArrayFormat::Indexed
+    /// ```
     pub fn get_array_format(&self) -> ArrayFormat
         ensures { array_format_of result ≡ self.now.array_format }
     {
@@ -160,6 +180,10 @@ impl Config {
     }
 
     /// Returns what happens to repeated values where one value is read.
+    ///
+    /// ```
+    /// Config::new().get_duplicates() // DuplicateKeyBehavior::TakeLast
+    /// ```
     pub fn get_duplicates(&self) -> DuplicateKeyBehavior
         ensures { duplicates_of result ≡ self.now.duplicates }
     {

@@ -8,12 +8,22 @@ use std::fmt::Display;
 use std::{fmt, io, num, str, string};
 
 /// The result of a call: a value, or an [`Error`].
+///
+/// ```
+/// fn count(alloc: Global, input: &[u8]) -> Result<usize> {
+///     match parse(alloc, input, Config::new())? {
+/// ```
 pub type Result<T, E = Error> = std::result::Result<T, E>;
 
 /// Why a call failed.
 ///
 /// Its `Display` writes a message. That of [`FromUtf8`](Error::FromUtf8), [`Io`](Error::Io),
 /// [`ParseInt`](Error::ParseInt) and [`Utf8`](Error::Utf8) is the message of the cause.
+///
+/// ```
+/// match parse(alloc, body, config) {
+///     Err(Error::Parse(message, position)) => reject(message, position),
+/// ```
 #[derive(Debug, Drop)]
 pub enum Error {
     /// The tree can't be read by the shape. Holds the message.

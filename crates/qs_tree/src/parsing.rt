@@ -10,7 +10,7 @@ ghost use Rattle.qs_tree.specs.internal.scan.Pairs.{IsBare, pair_of};
 ghost use Rattle.qs_tree.specs.internal.scan.Cursor.{left, KnowsEnd, in_all};
 ghost use Rattle.qs_tree.specs.internal.build.Builder.{built_tree, fresh, IsFlat};
 ghost use Rattle.qs_tree.specs.internal.Parsing.{grown, Finds};
-ghost use Rattle.qs_tree.specs.Parsing.{Parses, TakesNoMemory};
+ghost use Rattle.qs_tree.specs.Parsing.{Parses, AllocatesNothing};
 
 use crate::build::add::add_pair;
 use crate::build::builder::TreeBuilder;
@@ -98,7 +98,7 @@ fn parse_tree<'qs>(
     ensures steps { in_all cursor.new ≡ in_all cursor.old }
     ensures fewer { length cursor.new.rest.now ≤ length cursor.old.rest.now }
     ensures end { IfOk result (λ _. in_all cursor.new ≡ cursor.new.steps) }
-    ensures no_memory { TakesNoMemory cursor.old.rest.now → IsOk result }
+    ensures no_allocation { AllocatesNothing cursor.old.rest.now → IsOk result }
 {
     let mut tree = TreeBuilder::fresh();
     let mut pair = Pair::new(alloc);
@@ -122,7 +122,7 @@ fn scan<'qs>(
     ensures steps { in_all cursor.new ≡ in_all cursor.old }
     ensures fewer { length cursor.new.rest.now ≤ length cursor.old.rest.now }
     ensures end { IfOk result (λ _. in_all cursor.new ≡ cursor.new.steps) }
-    ensures no_memory { TakesNoMemory cursor.old.rest.now → tree.old ≡ fresh → IsOkAnd result (λ _. IsFlat tree.new) }
+    ensures no_allocation { AllocatesNothing cursor.old.rest.now → tree.old ≡ fresh → IsOkAnd result (λ _. IsFlat tree.new) }
 {
     loop {
         let item = match parse_item(alloc, cursor, max_depth, pair) {

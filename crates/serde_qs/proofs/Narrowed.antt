@@ -12,7 +12,7 @@ use Rattle.qs_data.specs.declared.read.error.ReadError.{ReadError}
 use Rattle.qs_data.specs.read.Errors.{IsCustomOrOutOfMemory}
 use Rattle.qs_data.specs.read.Gives.{Rejects}
 use Rattle.qs_data.specs.read.TreeText.{is_text}
-use Rattle.qs_data.specs.read.Narrowed.{error_of, narrowed}
+use Rattle.qs_data.specs.read.Narrowed.{narrowed}
 use Rattle.qs_data.specs.read.internal.ReadError.{ReadGives, ReadRejects}
 use Rattle.qs_data.proofs.lemmas.read.Errors.{rejected}
 use Rattle.serde_qs.specs.internal.NodeParts.{value_found}

@@ -71,10 +71,10 @@ module _ {V : Type 0} (m : Data → Option V) (r : Reader) where
   map_meant (mapping es) = pairs_meant es nowhere
   map_meant uninitialized = refl
 
-pub mapping_read : {V : Type 0} (m : Data → Option V) (st : Bool) (form : Shape) (t : Tree)
-    → option_and_then (mapping_in m) (reads st (s.Shape.mapping s.KeyShape.text form) t) ≡ option_and_then (entries_onto (λ n. option_and_then m (reads st form n)) nowhere) (node_entries t)
+pub mapping_read : {V : Type 0} (m : Data → Option V) (reject_duplicates : Bool) (form : Shape) (t : Tree)
+    → option_and_then (mapping_in m) (reads reject_duplicates (s.Shape.mapping s.KeyShape.text form) t) ≡ option_and_then (entries_onto (λ n. option_and_then m (reads reject_duplicates form n)) nowhere) (node_entries t)
 unfolding reads
-mapping_read m st form t = in_mapping m (reads st form) (read_map s.KeyShape.text (reads st form) t) ∙ map_meant m (reads st form) t
+mapping_read m reject_duplicates form t = in_mapping m (reads reject_duplicates form) (read_map s.KeyShape.text (reads reject_duplicates form) t) ∙ map_meant m (reads reject_duplicates form) t
 
 -- one more entry
 

@@ -63,19 +63,19 @@ module _ {A B : Type 0} (m : Data → Option A) (others : List (List ℕ) → Me
   placed_there r no_items rest = refl
   placed_there r (item t xs) rest = read_there (r t) rest
 
-pair_by_names : {A B : Type 0} (m : Data → Option A) (others : List (List ℕ) → Members → Option B) (st : Bool) (s : Shape) (form : List (List ℕ) → List Field) (names : List (List ℕ)) (es : Entries)
-    → by_names st (field_form s false form names) (member_in m others names) es
-    ≡ both (value_found m (option_and_then m (missing_data s)) (reads st s) (found (first_of names) es)) (by_names st (form (others_of names)) (others (others_of names)) es)
+pair_by_names : {A B : Type 0} (m : Data → Option A) (others : List (List ℕ) → Members → Option B) (reject_duplicates : Bool) (s : Shape) (form : List (List ℕ) → List Field) (names : List (List ℕ)) (es : Entries)
+    → by_names reject_duplicates (field_form s false form names) (member_in m others names) es
+    ≡ both (value_found m (option_and_then m (missing_data s)) (reads reject_duplicates s) (found (first_of names) es)) (by_names reject_duplicates (form (others_of names)) (others (others_of names)) es)
 unfolding reads
-pair_by_names m others st s form names es =
-    found_there m others names (is_option s) (reads st s) (found (first_of names) es) (reads_names st (fields_of (form (others_of names))) es)
+pair_by_names m others reject_duplicates s form names es =
+    found_there m others names (is_option s) (reads reject_duplicates s) (found (first_of names) es) (reads_names reject_duplicates (fields_of (form (others_of names))) es)
 
-pair_by_places : {A B : Type 0} (m : Data → Option A) (others : List (List ℕ) → Members → Option B) (st : Bool) (s : Shape) (form : List (List ℕ) → List Field) (names : List (List ℕ)) (xs : Items)
-    → by_places st (field_form s false form names) (member_in m others names) xs
-    ≡ both (value_placed m None (reads st s) xs) (by_places st (form (others_of names)) (others (others_of names)) (items_after xs))
+pair_by_places : {A B : Type 0} (m : Data → Option A) (others : List (List ℕ) → Members → Option B) (reject_duplicates : Bool) (s : Shape) (form : List (List ℕ) → List Field) (names : List (List ℕ)) (xs : Items)
+    → by_places reject_duplicates (field_form s false form names) (member_in m others names) xs
+    ≡ both (value_placed m None (reads reject_duplicates s) xs) (by_places reject_duplicates (form (others_of names)) (others (others_of names)) (items_after xs))
 unfolding reads
-pair_by_places m others st s form names xs =
-    placed_there m others names (reads st s) xs (reads_places st (fields_of (form (others_of names))) (items_after xs))
+pair_by_places m others reject_duplicates s form names xs =
+    placed_there m others names (reads reject_duplicates s) xs (reads_places reject_duplicates (fields_of (form (others_of names))) (items_after xs))
 
 -- the first of the members that are read has the name of a field
 
@@ -88,17 +88,17 @@ first_there name s o fs (Some rs) h (Some (Some x)) ms e =
     let is : (name, x) ∷ rs ≡ ms = cc in
     ap (λ ys. is_first_named (one_field name s o fs) (members_of ys)) (sym is) ∙ itself_named name (is_field_name name fs)
 
-names_named : (st : Bool) (fs : List Field) (es : Entries) (ms : List Named) → reads_names st (fields_of fs) es ≡ Some ms → is_first_named (fields_of fs) (members_of ms) ≡ true
+names_named : (reject_duplicates : Bool) (fs : List Field) (es : Entries) (ms : List Named) → reads_names reject_duplicates (fields_of fs) es ≡ Some ms → is_first_named (fields_of fs) (members_of ms) ≡ true
 unfolding reads
-names_named st [] es ms e = let is : [] ≡ ms = cc in ap (λ ys. is_first_named no_fields (members_of ys)) (sym is)
-names_named st (f ∷ fs) es ms e =
-    first_there f.0 f.1 f.2 (fields_of fs) (reads_names st (fields_of fs) es) (names_named st fs es) (read_field f.2 (is_option f.1) (reads st f.1) (found f.0 es)) ms e
+names_named reject_duplicates [] es ms e = let is : [] ≡ ms = cc in ap (λ ys. is_first_named no_fields (members_of ys)) (sym is)
+names_named reject_duplicates (f ∷ fs) es ms e =
+    first_there f.0 f.1 f.2 (fields_of fs) (reads_names reject_duplicates (fields_of fs) es) (names_named reject_duplicates fs es) (read_field f.2 (is_option f.1) (reads reject_duplicates f.1) (found f.0 es)) ms e
 
-places_named : (st : Bool) (fs : List Field) (xs : Items) (ms : List Named) → reads_places st (fields_of fs) xs ≡ Some ms → is_first_named (fields_of fs) (members_of ms) ≡ true
+places_named : (reject_duplicates : Bool) (fs : List Field) (xs : Items) (ms : List Named) → reads_places reject_duplicates (fields_of fs) xs ≡ Some ms → is_first_named (fields_of fs) (members_of ms) ≡ true
 unfolding reads
-places_named st [] xs ms e = let is : [] ≡ ms = cc in ap (λ ys. is_first_named no_fields (members_of ys)) (sym is)
-places_named st (f ∷ fs) xs ms e =
-    first_there f.0 f.1 f.2 (fields_of fs) (reads_places st (fields_of fs) (items_after xs)) (places_named st fs (items_after xs)) (read_place f.2 (reads st f.1) xs) ms e
+places_named reject_duplicates [] xs ms e = let is : [] ≡ ms = cc in ap (λ ys. is_first_named no_fields (members_of ys)) (sym is)
+places_named reject_duplicates (f ∷ fs) xs ms e =
+    first_there f.0 f.1 f.2 (fields_of fs) (reads_places reject_duplicates (fields_of fs) (items_after xs)) (places_named reject_duplicates fs (items_after xs)) (read_place f.2 (reads reject_duplicates f.1) xs) ms e
 
 -- a field that may be left out, whatever it means then
 module _ {A B : Type 0} (here : Data → Option A) (absent : Option A) (others : List (List ℕ) → Members → Option B) (names : List (List ℕ)) where
@@ -154,82 +154,82 @@ as_defaulted missing m others names (Some (p ∷ ms)) = refl
 free : (s : Shape) (form : List (List ℕ) → List Field) (names : List (List ℕ)) → field_names_differ (fields_of (field_form s true form names)) ≡ true → not (is_field_name (first_of names) (fields_of (form (others_of names)))) ≡ true
 free s form names h = (both_hold (not (is_field_name (first_of names) (fields_of (form (others_of names))))) (field_names_differ (fields_of (form (others_of names)))) h).0
 
-optional_by_names : {A B : Type 0} (m : Data → Option A) (others : List (List ℕ) → Members → Option B) (st : Bool) (s : Shape) (form : List (List ℕ) → List Field) (names : List (List ℕ)) (es : Entries)
-    → field_names_differ (fields_of (field_form s true form names)) ≡ true → by_names st (field_form s true form names) (optional_in m others names) es
-    ≡ both (value_found (λ x. option_map Some (m x)) (Some None) (reads st s) (found (first_of names) es)) (by_names st (form (others_of names)) (others (others_of names)) es)
+optional_by_names : {A B : Type 0} (m : Data → Option A) (others : List (List ℕ) → Members → Option B) (reject_duplicates : Bool) (s : Shape) (form : List (List ℕ) → List Field) (names : List (List ℕ)) (es : Entries)
+    → field_names_differ (fields_of (field_form s true form names)) ≡ true → by_names reject_duplicates (field_form s true form names) (optional_in m others names) es
+    ≡ both (value_found (λ x. option_map Some (m x)) (Some None) (reads reject_duplicates s) (found (first_of names) es)) (by_names reject_duplicates (form (others_of names)) (others (others_of names)) es)
 unfolding reads
-optional_by_names m others st s form names es h =
+optional_by_names m others reject_duplicates s form names es h =
     let fs = form (others_of names) in
-    as_optional m others names (reads_names st (fields_of (field_form s true form names)) es)
-    ∙ left_by_name (λ x. option_map Some (m x)) (Some None) others names (is_option s) (reads st s) (fields_of fs) (free s form names h) (reads_names st (fields_of fs) es) (names_named st fs es) (found (first_of names) es)
+    as_optional m others names (reads_names reject_duplicates (fields_of (field_form s true form names)) es)
+    ∙ left_by_name (λ x. option_map Some (m x)) (Some None) others names (is_option s) (reads reject_duplicates s) (fields_of fs) (free s form names h) (reads_names reject_duplicates (fields_of fs) es) (names_named reject_duplicates fs es) (found (first_of names) es)
 
-optional_by_places : {A B : Type 0} (m : Data → Option A) (others : List (List ℕ) → Members → Option B) (st : Bool) (s : Shape) (form : List (List ℕ) → List Field) (names : List (List ℕ)) (xs : Items)
-    → field_names_differ (fields_of (field_form s true form names)) ≡ true → by_places st (field_form s true form names) (optional_in m others names) xs
-    ≡ both (value_placed (λ x. option_map Some (m x)) (Some None) (reads st s) xs) (by_places st (form (others_of names)) (others (others_of names)) (items_after xs))
+optional_by_places : {A B : Type 0} (m : Data → Option A) (others : List (List ℕ) → Members → Option B) (reject_duplicates : Bool) (s : Shape) (form : List (List ℕ) → List Field) (names : List (List ℕ)) (xs : Items)
+    → field_names_differ (fields_of (field_form s true form names)) ≡ true → by_places reject_duplicates (field_form s true form names) (optional_in m others names) xs
+    ≡ both (value_placed (λ x. option_map Some (m x)) (Some None) (reads reject_duplicates s) xs) (by_places reject_duplicates (form (others_of names)) (others (others_of names)) (items_after xs))
 unfolding reads
-optional_by_places m others st s form names xs h =
+optional_by_places m others reject_duplicates s form names xs h =
     let fs = form (others_of names) in
-    as_optional m others names (reads_places st (fields_of (field_form s true form names)) xs)
-    ∙ left_by_place (λ x. option_map Some (m x)) (Some None) others names (reads st s) (fields_of fs) (free s form names h) (reads_places st (fields_of fs) (items_after xs)) (places_named st fs (items_after xs)) xs
+    as_optional m others names (reads_places reject_duplicates (fields_of (field_form s true form names)) xs)
+    ∙ left_by_place (λ x. option_map Some (m x)) (Some None) others names (reads reject_duplicates s) (fields_of fs) (free s form names h) (reads_places reject_duplicates (fields_of fs) (items_after xs)) (places_named reject_duplicates fs (items_after xs)) xs
 
-defaulted_by_names : {A B : Type 0} (missing : Data) (m : Data → Option A) (others : List (List ℕ) → Members → Option B) (st : Bool) (s : Shape) (form : List (List ℕ) → List Field) (names : List (List ℕ)) (es : Entries)
-    → field_names_differ (fields_of (field_form s true form names)) ≡ true → by_names st (field_form s true form names) (defaulted_in missing m others names) es
-    ≡ both (value_found m (m missing) (reads st s) (found (first_of names) es)) (by_names st (form (others_of names)) (others (others_of names)) es)
+defaulted_by_names : {A B : Type 0} (missing : Data) (m : Data → Option A) (others : List (List ℕ) → Members → Option B) (reject_duplicates : Bool) (s : Shape) (form : List (List ℕ) → List Field) (names : List (List ℕ)) (es : Entries)
+    → field_names_differ (fields_of (field_form s true form names)) ≡ true → by_names reject_duplicates (field_form s true form names) (defaulted_in missing m others names) es
+    ≡ both (value_found m (m missing) (reads reject_duplicates s) (found (first_of names) es)) (by_names reject_duplicates (form (others_of names)) (others (others_of names)) es)
 unfolding reads
-defaulted_by_names missing m others st s form names es h =
+defaulted_by_names missing m others reject_duplicates s form names es h =
     let fs = form (others_of names) in
-    as_defaulted missing m others names (reads_names st (fields_of (field_form s true form names)) es)
-    ∙ left_by_name m (m missing) others names (is_option s) (reads st s) (fields_of fs) (free s form names h) (reads_names st (fields_of fs) es) (names_named st fs es) (found (first_of names) es)
+    as_defaulted missing m others names (reads_names reject_duplicates (fields_of (field_form s true form names)) es)
+    ∙ left_by_name m (m missing) others names (is_option s) (reads reject_duplicates s) (fields_of fs) (free s form names h) (reads_names reject_duplicates (fields_of fs) es) (names_named reject_duplicates fs es) (found (first_of names) es)
 
-defaulted_by_places : {A B : Type 0} (missing : Data) (m : Data → Option A) (others : List (List ℕ) → Members → Option B) (st : Bool) (s : Shape) (form : List (List ℕ) → List Field) (names : List (List ℕ)) (xs : Items)
-    → field_names_differ (fields_of (field_form s true form names)) ≡ true → by_places st (field_form s true form names) (defaulted_in missing m others names) xs
-    ≡ both (value_placed m (m missing) (reads st s) xs) (by_places st (form (others_of names)) (others (others_of names)) (items_after xs))
+defaulted_by_places : {A B : Type 0} (missing : Data) (m : Data → Option A) (others : List (List ℕ) → Members → Option B) (reject_duplicates : Bool) (s : Shape) (form : List (List ℕ) → List Field) (names : List (List ℕ)) (xs : Items)
+    → field_names_differ (fields_of (field_form s true form names)) ≡ true → by_places reject_duplicates (field_form s true form names) (defaulted_in missing m others names) xs
+    ≡ both (value_placed m (m missing) (reads reject_duplicates s) xs) (by_places reject_duplicates (form (others_of names)) (others (others_of names)) (items_after xs))
 unfolding reads
-defaulted_by_places missing m others st s form names xs h =
+defaulted_by_places missing m others reject_duplicates s form names xs h =
     let fs = form (others_of names) in
-    as_defaulted missing m others names (reads_places st (fields_of (field_form s true form names)) xs)
-    ∙ left_by_place m (m missing) others names (reads st s) (fields_of fs) (free s form names h) (reads_places st (fields_of fs) (items_after xs)) (places_named st fs (items_after xs)) xs
+    as_defaulted missing m others names (reads_places reject_duplicates (fields_of (field_form s true form names)) xs)
+    ∙ left_by_place m (m missing) others names (reads reject_duplicates s) (fields_of fs) (free s form names h) (reads_places reject_duplicates (fields_of fs) (items_after xs)) (places_named reject_duplicates fs (items_after xs)) xs
 
 -- the same by the names that a function has split
 
-module _ {A B : Type 0} (m : Data → Option A) (others : List (List ℕ) → Members → Option B) (st : Bool) (s : Shape) (form : List (List ℕ) → List Field) (names : List (List ℕ))
+module _ {A B : Type 0} (m : Data → Option A) (others : List (List ℕ) → Members → Option B) (reject_duplicates : Bool) (s : Shape) (form : List (List ℕ) → List Field) (names : List (List ℕ))
     (name : List ℕ) (rest : List (List ℕ)) (is_first : name ≡ first_of names) (are_others : rest ≡ others_of names) where
-  pub pair_named : (es : Entries) → by_names st (field_form s false form names) (member_in m others names) es
-      ≡ both (value_found m (option_and_then m (missing_data s)) (reads st s) (found name es)) (by_names st (form rest) (others rest) es)
+  pub pair_named : (es : Entries) → by_names reject_duplicates (field_form s false form names) (member_in m others names) es
+      ≡ both (value_found m (option_and_then m (missing_data s)) (reads reject_duplicates s) (found name es)) (by_names reject_duplicates (form rest) (others rest) es)
   pair_named es =
-      pair_by_names m others st s form names es
-      ∙ ap₂ (λ n ns. both (value_found m (option_and_then m (missing_data s)) (reads st s) (found n es)) (by_names st (form ns) (others ns) es)) (sym is_first) (sym are_others)
+      pair_by_names m others reject_duplicates s form names es
+      ∙ ap₂ (λ n ns. both (value_found m (option_and_then m (missing_data s)) (reads reject_duplicates s) (found n es)) (by_names reject_duplicates (form ns) (others ns) es)) (sym is_first) (sym are_others)
 
-  pub pair_placed : (xs : Items) → by_places st (field_form s false form names) (member_in m others names) xs
-      ≡ both (value_placed m None (reads st s) xs) (by_places st (form rest) (others rest) (items_after xs))
+  pub pair_placed : (xs : Items) → by_places reject_duplicates (field_form s false form names) (member_in m others names) xs
+      ≡ both (value_placed m None (reads reject_duplicates s) xs) (by_places reject_duplicates (form rest) (others rest) (items_after xs))
   pair_placed xs =
-      pair_by_places m others st s form names xs
-      ∙ ap (λ ns. both (value_placed m None (reads st s) xs) (by_places st (form ns) (others ns) (items_after xs))) (sym are_others)
+      pair_by_places m others reject_duplicates s form names xs
+      ∙ ap (λ ns. both (value_placed m None (reads reject_duplicates s) xs) (by_places reject_duplicates (form ns) (others ns) (items_after xs))) (sym are_others)
 
   module _ (differ : field_names_differ (fields_of (field_form s true form names)) ≡ true) where
-    pub optional_named : (es : Entries) → by_names st (field_form s true form names) (optional_in m others names) es
-        ≡ both (value_found (λ x. option_map Some (m x)) (Some None) (reads st s) (found name es)) (by_names st (form rest) (others rest) es)
+    pub optional_named : (es : Entries) → by_names reject_duplicates (field_form s true form names) (optional_in m others names) es
+        ≡ both (value_found (λ x. option_map Some (m x)) (Some None) (reads reject_duplicates s) (found name es)) (by_names reject_duplicates (form rest) (others rest) es)
     optional_named es =
-        optional_by_names m others st s form names es differ
-        ∙ ap₂ (λ n ns. both (value_found (λ x. option_map Some (m x)) (Some None) (reads st s) (found n es)) (by_names st (form ns) (others ns) es)) (sym is_first) (sym are_others)
+        optional_by_names m others reject_duplicates s form names es differ
+        ∙ ap₂ (λ n ns. both (value_found (λ x. option_map Some (m x)) (Some None) (reads reject_duplicates s) (found n es)) (by_names reject_duplicates (form ns) (others ns) es)) (sym is_first) (sym are_others)
 
-    pub optional_placed : (xs : Items) → by_places st (field_form s true form names) (optional_in m others names) xs
-        ≡ both (value_placed (λ x. option_map Some (m x)) (Some None) (reads st s) xs) (by_places st (form rest) (others rest) (items_after xs))
+    pub optional_placed : (xs : Items) → by_places reject_duplicates (field_form s true form names) (optional_in m others names) xs
+        ≡ both (value_placed (λ x. option_map Some (m x)) (Some None) (reads reject_duplicates s) xs) (by_places reject_duplicates (form rest) (others rest) (items_after xs))
     optional_placed xs =
-        optional_by_places m others st s form names xs differ
-        ∙ ap (λ ns. both (value_placed (λ x. option_map Some (m x)) (Some None) (reads st s) xs) (by_places st (form ns) (others ns) (items_after xs))) (sym are_others)
+        optional_by_places m others reject_duplicates s form names xs differ
+        ∙ ap (λ ns. both (value_placed (λ x. option_map Some (m x)) (Some None) (reads reject_duplicates s) xs) (by_places reject_duplicates (form ns) (others ns) (items_after xs))) (sym are_others)
 
-    pub defaulted_named : (missing : Data) (es : Entries) → by_names st (field_form s true form names) (defaulted_in missing m others names) es
-        ≡ both (value_found m (m missing) (reads st s) (found name es)) (by_names st (form rest) (others rest) es)
+    pub defaulted_named : (missing : Data) (es : Entries) → by_names reject_duplicates (field_form s true form names) (defaulted_in missing m others names) es
+        ≡ both (value_found m (m missing) (reads reject_duplicates s) (found name es)) (by_names reject_duplicates (form rest) (others rest) es)
     defaulted_named missing es =
-        defaulted_by_names missing m others st s form names es differ
-        ∙ ap₂ (λ n ns. both (value_found m (m missing) (reads st s) (found n es)) (by_names st (form ns) (others ns) es)) (sym is_first) (sym are_others)
+        defaulted_by_names missing m others reject_duplicates s form names es differ
+        ∙ ap₂ (λ n ns. both (value_found m (m missing) (reads reject_duplicates s) (found n es)) (by_names reject_duplicates (form ns) (others ns) es)) (sym is_first) (sym are_others)
 
-    pub defaulted_placed : (missing : Data) (xs : Items) → by_places st (field_form s true form names) (defaulted_in missing m others names) xs
-        ≡ both (value_placed m (m missing) (reads st s) xs) (by_places st (form rest) (others rest) (items_after xs))
+    pub defaulted_placed : (missing : Data) (xs : Items) → by_places reject_duplicates (field_form s true form names) (defaulted_in missing m others names) xs
+        ≡ both (value_placed m (m missing) (reads reject_duplicates s) xs) (by_places reject_duplicates (form rest) (others rest) (items_after xs))
     defaulted_placed missing xs =
-        defaulted_by_places missing m others st s form names xs differ
-        ∙ ap (λ ns. both (value_placed m (m missing) (reads st s) xs) (by_places st (form ns) (others ns) (items_after xs))) (sym are_others)
+        defaulted_by_places missing m others reject_duplicates s form names xs differ
+        ∙ ap (λ ns. both (value_placed m (m missing) (reads reject_duplicates s) xs) (by_places reject_duplicates (form ns) (others ns) (items_after xs))) (sym are_others)
 
     -- the names of the others differ too
     pub others_differ : field_names_differ (fields_of (form rest)) ≡ true

@@ -9,7 +9,7 @@ use Rattle.qs_spec.specs.Tree.{Tree}
 use Rattle.qs_spec.specs.Node.{items}
 use Rattle.qs_spec.specs.internal.ReadFunction.{Reader, read_each, read_list, reads, with_front}
 use Rattle.qs_data.specs.read.Items.{first_item}
-use Rattle.qs_data.proofs.lemmas.read.Items.{first_some}
+use Rattle.qs_data.proofs.lemmas.read.Items.{first_end, first_some}
 use Rattle.serde_qs.specs.Meaning.{sequence_in, values_meant}
 use Rattle.serde_qs.specs.internal.NodeParts.{each_value}
 use Rattle.qs_data.proofs.lemmas.read.Steps.{before, before-front}
@@ -50,14 +50,9 @@ module _ {V : Type 0} (m : Data → Option V) (r : Reader) where
   unfolding read_list
   list_meant t = in_sequence (read_list r t) ∙ all_meant (items t)
 
-pub sequence_read : {V : Type 0} (m : Data → Option V) (st : Bool) (form : Shape) (t : Tree) → option_and_then (sequence_in m) (reads st (Shape.sequence form) t) ≡ option_and_then (each_value (λ n. option_and_then m (reads st form n))) (items t)
+pub sequence_read : {V : Type 0} (m : Data → Option V) (reject_duplicates : Bool) (form : Shape) (t : Tree) → option_and_then (sequence_in m) (reads reject_duplicates (Shape.sequence form) t) ≡ option_and_then (each_value (λ n. option_and_then m (reads reject_duplicates form n))) (items t)
 unfolding reads
-sequence_read m st form t = list_meant m (reads st form) t
-
-first_end : (xs : List (Option Tree)) → first_item xs ≡ Some None → xs ≡ []
-first_end [] h = refl
-first_end (None ∷ xs) h = absurd cc
-first_end (Some t ∷ xs) h = absurd cc
+sequence_read m reject_duplicates form t = list_meant m (reads reject_duplicates form) t
 
 -- one more item of a list
 module _ {V : Type 0} (r : Tree → Option V) (xs : List (Option Tree)) (i : ℕ) (ws : List V) where

@@ -1,8 +1,7 @@
 -- What is returned of a node, and of the parts of a struct.
-use Rattle.std.proofs.Common.{◌≡◌, Bool, true, false, List, [], ◌∷◌, Option, Some, None, Result, Ok, Err, refl, sym, ap, ap₂, ◌∙◌}
+use Rattle.std.proofs.Common.{◌≡◌, Bool, true, false, List, ◌∷◌, Option, Some, None, Result, Ok, Err, refl, sym, ap, ap₂, ◌∙◌}
 use Rattle.std.specs.Prelude.{cond, ◌&&◌, ◌||◌}
 use Rattle.std.specs.Option.{option_map, option_and_then}
-use Rattle.std.proofs.lemmas.Bool.{false≢true}
 use Rattle.qs_spec.specs.Data.{Data, Members, members_of, Named}
 use Rattle.qs_spec.specs.Data as d
 use Rattle.qs_spec.specs.Shape.{Shape, Field, UnknownKeys, are_ignored, fields_of}
@@ -13,13 +12,12 @@ use Rattle.qs_tree.specs.declared.error.Error.{Error}
 use Rattle.qs_tree.specs.declared.error.Error.TheVariants as e
 use Rattle.qs_data.specs.read.Errors.{IsCustomOrOutOfMemory, OnlyCustomUtf8OrOutOfMemory}
 use Rattle.qs_data.specs.read.Gives.{Gives, Rejects}
-use Rattle.qs_data.specs.read.TreeText.{entries_are_text, is_text}
+use Rattle.qs_data.specs.read.TreeText.{entries_are_text}
 use Rattle.qs_data.proofs.lemmas.read.Entries.{keys_bad}
 use Rattle.qs_data.proofs.lemmas.read.Errors.{and_left, custom, rejected}
 use Rattle.serde_qs.specs.Nodes.{by_names}
 use Rattle.serde_qs.specs.internal.NodeParts.{members_read, names_read, value_found}
 use Rattle.serde_qs.specs.Records.{struct_in}
-use Rattle.serde_qs.specs.Typed.{Means}
 
 -- what is returned of a part, as what is returned of a whole that means the same
 pub widened : {X Y : Type 0} (view : X → Y) (t u : Bool) (x : Result X Error) (r s : Option Y) → Gives view t x r → r ≡ s → (t ≡ false → u ≡ false) → Gives view u x s
@@ -46,34 +44,34 @@ tested_first m false None = refl
 tested_first m true (Some ms) = refl
 tested_first m false (Some ms) = refl
 
-pub names_are : {Y : Type 0} (u : UnknownKeys) (st : Bool) (fs : List Field) (m : Members → Option Y) (es : Entries)
-    → names_read u st fs m es ≡ cond (keys_are_allowed u (fields_of fs) es) (by_names st fs m es) None
-names_are u st fs m es = sym (tested_first m (keys_are_allowed u (fields_of fs) es) (reads_names st (fields_of fs) es))
+pub names_are : {Y : Type 0} (u : UnknownKeys) (reject_duplicates : Bool) (fs : List Field) (m : Members → Option Y) (es : Entries)
+    → names_read u reject_duplicates fs m es ≡ cond (keys_are_allowed u (fields_of fs) es) (by_names reject_duplicates fs m es) None
+names_are u reject_duplicates fs m es = sym (tested_first m (keys_are_allowed u (fields_of fs) es) (reads_names reject_duplicates (fields_of fs) es))
 
-pub names_ok : {Y : Type 0} (u : UnknownKeys) (st : Bool) (fs : List Field) (m : Members → Option Y) (es : Entries) (y : Y) → keys_are_text es ≡ true → (keys_are_names (fields_of fs) es || are_ignored u) ≡ true
-    → by_names st fs m es ≡ Some y → names_read u st fs m es ≡ Some y
-names_ok u st fs m es y h k p = names_are u st fs m es ∙ ap₂ (λ a b. cond (a && b) (by_names st fs m es) None) h k ∙ p
+pub names_ok : {Y : Type 0} (u : UnknownKeys) (reject_duplicates : Bool) (fs : List Field) (m : Members → Option Y) (es : Entries) (y : Y) → keys_are_text es ≡ true → (keys_are_names (fields_of fs) es || are_ignored u) ≡ true
+    → by_names reject_duplicates fs m es ≡ Some y → names_read u reject_duplicates fs m es ≡ Some y
+names_ok u reject_duplicates fs m es y h k p = names_are u reject_duplicates fs m es ∙ ap₂ (λ a b. cond (a && b) (by_names reject_duplicates fs m es) None) h k ∙ p
 
 untested : {Y : Type 0} (b : Bool) (o : Option Y) → o ≡ None → cond b o None ≡ None
 untested true o p = p
 untested false o p = refl
 
-pub names_unread : {Y : Type 0} (u : UnknownKeys) (st : Bool) (fs : List Field) (m : Members → Option Y) (es : Entries) → by_names st fs m es ≡ None → names_read u st fs m es ≡ None
-names_unread u st fs m es p = names_are u st fs m es ∙ untested (keys_are_allowed u (fields_of fs) es) (by_names st fs m es) p
+pub names_unread : {Y : Type 0} (u : UnknownKeys) (reject_duplicates : Bool) (fs : List Field) (m : Members → Option Y) (es : Entries) → by_names reject_duplicates fs m es ≡ None → names_read u reject_duplicates fs m es ≡ None
+names_unread u reject_duplicates fs m es p = names_are u reject_duplicates fs m es ∙ untested (keys_are_allowed u (fields_of fs) es) (by_names reject_duplicates fs m es) p
 
 -- a key that isn't allowed
-pub names_disallowed : {Y : Type 0} (u : UnknownKeys) (st : Bool) (fs : List Field) (m : Members → Option Y) (es : Entries) → keys_are_allowed u (fields_of fs) es ≡ false → names_read u st fs m es ≡ None
-names_disallowed u st fs m es h = names_are u st fs m es ∙ ap (λ a. cond a (by_names st fs m es) None) h
+pub names_disallowed : {Y : Type 0} (u : UnknownKeys) (reject_duplicates : Bool) (fs : List Field) (m : Members → Option Y) (es : Entries) → keys_are_allowed u (fields_of fs) es ≡ false → names_read u reject_duplicates fs m es ≡ None
+names_disallowed u reject_duplicates fs m es h = names_are u reject_duplicates fs m es ∙ ap (λ a. cond a (by_names reject_duplicates fs m es) None) h
 
 -- a key that isn't text
-pub names_broken : {Y : Type 0} (u : UnknownKeys) (st : Bool) (fs : List Field) (m : Members → Option Y) (es : Entries) (x : Error) → keys_are_text es ≡ false → OnlyCustomUtf8OrOutOfMemory {X = Unit {0}} (Err x)
-    → Rejects (entries_are_text es) x (names_read u st fs m es)
-names_broken u st fs m es x h p = by x p
+pub names_broken : {Y : Type 0} (u : UnknownKeys) (reject_duplicates : Bool) (fs : List Field) (m : Members → Option Y) (es : Entries) (x : Error) → keys_are_text es ≡ false → OnlyCustomUtf8OrOutOfMemory {X = Unit {0}} (Err x)
+    → Rejects (entries_are_text es) x (names_read u reject_duplicates fs m es)
+names_broken u reject_duplicates fs m es x h p = by x p
   where
-    none : names_read u st fs m es ≡ None
-    none = names_disallowed u st fs m es (and_left (keys_are_text es) (keys_are_names (fields_of fs) es || are_ignored u) h)
+    none : names_read u reject_duplicates fs m es ≡ None
+    none = names_disallowed u reject_duplicates fs m es (and_left (keys_are_text es) (keys_are_names (fields_of fs) es || are_ignored u) h)
 
-    by : (x : Error) → OnlyCustomUtf8OrOutOfMemory {X = Unit {0}} (Err x) → Rejects (entries_are_text es) x (names_read u st fs m es)
+    by : (x : Error) → OnlyCustomUtf8OrOutOfMemory {X = Unit {0}} (Err x) → Rejects (entries_are_text es) x (names_read u reject_duplicates fs m es)
     by (e.Custom message) p = none
     by (e.Utf8 cause) p = (none, keys_bad es h)
     by e.OutOfMemory p = tt
@@ -85,9 +83,9 @@ names_broken u st fs m es x h p = by x p
     by (e.ParseInt cause) p = absurd p
     by e.Failed p = absurd p
 
-pub struct_read : {Y : Type 0} (u : UnknownKeys) (st : Bool) (fs : List Field) (m : Members → Option Y) (t : Tree) → members_read u st fs m t ≡ option_and_then (struct_in m) (reads st (Shape.struct u (fields_of fs)) t)
+pub struct_read : {Y : Type 0} (u : UnknownKeys) (reject_duplicates : Bool) (fs : List Field) (m : Members → Option Y) (t : Tree) → members_read u reject_duplicates fs m t ≡ option_and_then (struct_in m) (reads reject_duplicates (Shape.struct u (fields_of fs)) t)
 unfolding reads
-struct_read u st fs m t = by (struct_members (keys_are_allowed u (fields_of fs)) (reads_names st (fields_of fs)) (reads_places st (fields_of fs)) t)
+struct_read u reject_duplicates fs m t = by (struct_members (keys_are_allowed u (fields_of fs)) (reads_names reject_duplicates (fields_of fs)) (reads_places reject_duplicates (fields_of fs)) t)
   where
     by : (o : Option (List Named)) → option_and_then (λ ms. m (members_of ms)) o ≡ option_and_then (struct_in m) (option_map (λ ms. d.struct (members_of ms)) o)
     by None = refl

@@ -1,5 +1,5 @@
 -- What std reads as a number is what the definitions read.
-use Rattle.std.proofs.Common.{◌≡◌, ℕ, ◌-◌, ◌^◌, ◌<◌, ◌≤◌, ◌⊎◌, inl, inr, true, List, [], ◌∷◌, Some, None, ℤ, pos, negsuc, neg_ℤ, ◌≤ℤ◌, ◌<ℤ◌, refl, sym, ap, ◌∙◌, subst, arith, rules, pow_pos, to_z, of_z}
+use Rattle.std.proofs.Common.{◌≡◌, ℕ, ◌-◌, ◌^◌, ◌<◌, ◌≤◌, ◌⊎◌, inl, inr, List, Some, None, ℤ, pos, negsuc, neg_ℤ, ◌≤ℤ◌, ◌<ℤ◌, refl, sym, ap, ◌∙◌, subst, arith, pow_pos, to_z, of_z}
 use Rattle.std.specs.Str.Parse.{IsNumeral, digits_value, signed_digits_value, without_leading_plus, without_leading_sign}
 use Rattle.std.specs.Int.RustNames.{FitsSigned}
 use Rattle.std.proofs.lemmas.Int.{ints, to_z-of_z}
@@ -7,16 +7,7 @@ use Rattle.std.proofs.lemmas.Bool.{cases_Bool, false≢true}
 use Rattle.std.specs.Int.{Width}
 use mir.Val.{hbits}
 use Rattle.qs_spec.specs.Scalar.{is_numeral, unsigned_number, signed_number}
-use Rattle.qs_spec.proofs.Numerals.{numerals}
-use Rattle.qs_data.proofs.lemmas.read.Numbers.{numeral_past, unsigned_is, unsigned_ok, signed_ok, signed_past, signed_err}
-
-numeral_holds : (ds : List ℕ) → is_numeral ds ≡ true → IsNumeral 10 ds
-numeral_holds [] h = absurd (search rules)
-numeral_holds (d ∷ ds) h = (omega arith, numerals.to (d ∷ ds) h)
-
-numeral_is : (ds : List ℕ) → IsNumeral 10 ds → is_numeral ds ≡ true
-numeral_is [] h = absurd (omega (arith, h.0))
-numeral_is (d ∷ ds) h = numerals.from (d ∷ ds) h.1
+use Rattle.qs_data.proofs.lemmas.read.Numbers.{numeral_holds, numeral_is, numeral_past, unsigned_is, unsigned_ok, signed_ok, signed_past, signed_err}
 
 -- an unsigned number of these bits
 abbrev pub IsUnsigned : ℕ → List ℕ → Type 0

@@ -1,6 +1,6 @@
 -- What was returned of a type's own values, in the words of its table.
 use Rattle.std.proofs.Common.{◌≡◌, ap, ◌∙◌, sym}
-use Rattle.std.specs.Prelude.{Result, Ok, Err, Option, Some, None, option_map}
+use Rattle.std.specs.Prelude.{Result, Ok, Err, Option, Some, option_map}
 use Rattle.qs_tree.specs.declared.error.Error.{Error}
 use Rattle.qs_tree.specs.declared.error.Error.TheVariants.{Custom, Utf8, OutOfMemory}
 use Rattle.serde_qs.specs.Typed.{Means}

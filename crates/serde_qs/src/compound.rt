@@ -82,20 +82,35 @@ pub trait Compound: Sized {
     // What it is made of, under which names, and its parts.
     ghost table: { Table Self };
 
-    /// Returns the shape that is read for a value. The one error is [`OutOfMemory`](qs_data::Error::OutOfMemory).
+    /// Returns the shape that is read for a value. The one error is [`OutOfMemory`](qs_data::Error::OutOfMemory). It allocates for names and
+    /// nested shapes, and takes time with them.
+    ///
+    /// ```
+    /// PointParts::shape(alloc, NAMES)
+    /// ```
     fn form(alloc: Global) -> Result<Shape>
         ensures exact { IfOk result (λ s. shape_of s ≡ table.form) }
         ensures errors { OnlyOutOfMemory result };
 
     /// Returns the value that comes from data, or from a node of a tree. Where there is none, the error is
     /// [`Custom`](qs_data::Error::Custom), or [`Utf8`](qs_data::Error::Utf8) where a text of the node isn't UTF-8; where an allocation failed,
-    /// [`OutOfMemory`](qs_data::Error::OutOfMemory). There is no other error.
+    /// [`OutOfMemory`](qs_data::Error::OutOfMemory). There is no other error. It allocates for the value, and the time grows with the source.
+    ///
+    /// ```
+    /// let Struct((x, (y, ()))) = PointParts::read(source, NAMES)?;
+    /// Ok(Point { x, y })
+    /// ```
     fn read(source: Source<'_, '_>) -> Result<Self>
         requires { is_distinct table.form ≡ true }
         ensures exact { ReadsSource table.value table.form table.meaning source.entry result };
 
     /// Passes the parts to `out`, and returns their data under their names. The one error is
     /// [`OutOfMemory`](qs_data::Error::OutOfMemory). Where they go to a writer, they are written; where they go nowhere, it shows that they fit.
+    /// It allocates, and takes time, as the method of [`Out`] does that it calls.
+    ///
+    /// ```
+    /// out.fields(NAMES, (&self.x, (&self.y, ())))
+    /// ```
     fn written(&self, out: Out) -> Result<Data>
         ensures exact { IfOk result (λ d. data_of d ≡ table.datum self.now) }
         ensures errors { OnlyOutOfMemory result }

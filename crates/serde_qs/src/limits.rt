@@ -25,7 +25,15 @@ pub struct Limits {
     max_pairs: usize,
 }
 
-/// Which limit an input exceeds.
+/// Which limit an input exceeds. Its text is `querystring too long: 4 bytes`, or
+/// `too many pairs: the first beyond the limit begins at byte 8`.
+///
+/// ```
+/// match limits.check(body) {
+///     Ok(()) => read(body),
+///     Err(LimitError::TooLong(_) | LimitError::TooManyPairs(_)) => reject(),
+/// }
+/// ```
 #[derive(Clone, Copy, Debug, PartialEq, Eq)]
 pub enum LimitError {
     /// The input has so many bytes, more than are allowed.
@@ -35,7 +43,7 @@ pub enum LimitError {
 }
 
 impl Limits {
-    /// Returns no limits.
+    /// Returns no limits, in constant time.
     ///
     /// ```
     /// Limits::new().check(input) // Ok, whatever the input
@@ -50,7 +58,7 @@ impl Limits {
         }
     }
 
-    /// Returns these limits with another greatest length in bytes.
+    /// Returns these limits with another greatest length in bytes, in constant time.
     ///
     /// ```
     /// Limits::new().max_length(3).check(b"a=12") // Err(LimitError::TooLong(4))
@@ -63,7 +71,7 @@ impl Limits {
         Limits { max_length, ..self }
     }
 
-    /// Returns these limits with another greatest number of pairs.
+    /// Returns these limits with another greatest number of pairs, in constant time.
     ///
     /// ```
     /// Limits::new().max_pairs(1).check(b"a=1&b=2") // Err(LimitError::TooManyPairs(4))
@@ -100,7 +108,7 @@ impl Limits {
 impl Default for Limits {
     ghost is_default = { λ limits. limits ≡ lifted };
 
-    /// Returns no limits.
+    /// Returns no limits, in constant time.
     fn default() -> Self {
         Limits::new()
     }

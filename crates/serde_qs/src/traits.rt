@@ -32,6 +32,10 @@ pub trait Serialize {
     /// Returns the data of this value. The one error is [`OutOfMemory`](Error::OutOfMemory).
     ///
     /// Strings are copied. The time and the memory grow with the value.
+    ///
+    /// ```
+    /// let datum = true.to_data(alloc)?; // Data::Bool(true)
+    /// ```
     fn to_data(&self, alloc: Global) -> Result<Data>
         ensures exact { IfOk result (λ d. data_of d ≡ datum self.now) }
         ensures errors { OnlyOutOfMemory result };
@@ -68,6 +72,10 @@ pub trait Deserialize: Sized {
     ///
     /// It allocates for names and nested shapes. A typed call makes it for a type without a [`from_node`](Deserialize::from_node) of its own;
     /// a service that reads many of such a type keeps it for [`read_by`](crate::read_by).
+    ///
+    /// ```
+    /// let shape = u8::shape(alloc)?; // Shape::U8
+    /// ```
     fn shape(alloc: Global) -> Result<Shape>
         ensures exact { IfOk result (λ s. shape_of s ≡ table.form) }
         ensures errors { OnlyOutOfMemory result };
@@ -77,6 +85,10 @@ pub trait Deserialize: Sized {
     /// Where they mean none, the error is [`Custom`](Error::Custom); where an allocation failed,
     /// [`OutOfMemory`](Error::OutOfMemory). There is no other error. Strings are moved, not copied;
     /// lists and maps are allocated anew. The time grows with the data.
+    ///
+    /// ```
+    /// let flag = bool::from_data(alloc, Data::Bool(true))?; // true
+    /// ```
     fn from_data(alloc: Global, datum: Data) -> Result<Self>
         ensures exact { Means table.value result (table.meaning (data_of datum)) };
 
@@ -85,7 +97,11 @@ pub trait Deserialize: Sized {
     ///
     /// The errors are those of reading by the shape, and of [`from_data`](Deserialize::from_data). Unless a type has a function of its own, this
     /// makes the shape and the data. The unit, booleans, numbers, characters, strings, options, lists, maps, and the structs and enums of
-    /// [`Compound`](crate::Compound) read the node itself.
+    /// [`Compound`](crate::Compound) read the node itself. It allocates for the value, and the time grows with the node.
+    ///
+    /// ```
+    /// let age = u8::from_node(reader, node)?;
+    /// ```
     fn from_node(reader: Reader, node: &ParsedValue<'_>) -> Result<Self>
         ensures node { ReadsNode table.value table.form table.meaning reader.reject_duplicates (tree_of node.now) result }
     {
@@ -97,7 +113,13 @@ pub trait Deserialize: Sized {
     /// Returns the same value by a shape that the caller keeps: that of the type. [`read_by`](crate::read_by) reads by this function.
     ///
     /// The errors are those of [`from_node`](Deserialize::from_node). Unless a type has a function of its own, this makes the data. The structs
-    /// and enums of [`Compound`](crate::Compound) read the node itself, without the shape.
+    /// and enums of [`Compound`](crate::Compound) read the node itself, without the shape. It allocates for the value, and the time grows with
+    /// the node.
+    ///
+    /// ```
+    /// let shape = Visit::shape(alloc)?; // once
+    /// let visit = Visit::from_node_by(reader, &shape, node)?;
+    /// ```
     fn from_node_by(reader: Reader, shape: &Shape, node: &ParsedValue<'_>) -> Result<Self>
         requires { shape_of shape.now ≡ table.form }
         ensures node { ReadsNode table.value table.form table.meaning reader.reject_duplicates (tree_of node.now) result }
@@ -108,6 +130,12 @@ pub trait Deserialize: Sized {
 
     /// Returns the value of a field of this name that has no key. Unless the shape is an option, the error is
     /// [`Custom`](Error::Custom), ``missing field `name` ``; where an allocation failed, [`OutOfMemory`](Error::OutOfMemory).
+    ///
+    /// It allocates for the shape, unless a type has a function of its own, and for the message of the error.
+    ///
+    /// ```
+    /// let none: Option<u8> = Option::from_missing(reader, "age")?; // None
+    /// ```
     fn from_missing(reader: Reader, name: &str) -> Result<Self>
         ensures missing { Means table.value result (option_and_then table.meaning (missing_data table.form)) }
     {
@@ -122,9 +150,18 @@ pub trait Deserialize: Sized {
 
 /// A type whose values come back from what was written of them.
 ///
-/// [`value_comes_back`](crate::value_comes_back) is what follows from it.
+/// [`value_comes_back`](crate::value_comes_back) is what follows from it. A struct or an enum gets this trait by [`Compound`](crate::Compound).
+///
+/// ```
+/// let text = to_string(alloc, &query)?;
+/// let same: Query = from_str(alloc, text.as_str())?; // the value of `query`, where its data are plain
+/// ```
 pub trait RoundTrip: Serialize + Deserialize {
     /// Shows that the data of this value fit the shape. It does nothing when it runs.
+    ///
+    /// ```
+    /// value.fits(); // from here on a proof knows that the data of `value` fit
+    /// ```
     fn fits(&self)
         ensures { fits Self.table.form (Self.datum self.now) ≡ true };
 

@@ -36,15 +36,15 @@ ReturnsData parsed shape (Err OutOfMemory) = ⊤
 ReturnsData parsed shape (Err _) = ⊥
 
 -- memory runs out only where the shape relates the tree to no data
-abbrev pub SparesMemory : Parsed → Shape → Result Data Error → Type 0
-SparesMemory parsed shape (Err OutOfMemory) = ReadsNothing parsed.config shape parsed.tree
-SparesMemory parsed shape _ = ⊤
+abbrev pub AllocatesOnlyForErrors : Parsed → Shape → Result Data Error → Type 0
+AllocatesOnlyForErrors parsed shape (Err OutOfMemory) = ReadsNothing parsed.config shape parsed.tree
+AllocatesOnlyForErrors parsed shape _ = ⊤
 
 -- reading data of the shape doesn't allocate
-abbrev pub takes_no_memory : Shape → Bool
-takes_no_memory Shape.unit = true
-takes_no_memory Shape.boolean = true
-takes_no_memory (Shape.unsigned bits) = true
-takes_no_memory (Shape.signed bits) = true
-takes_no_memory Shape.character = true
-takes_no_memory _ = false
+abbrev pub allocates_nothing : Shape → Bool
+allocates_nothing Shape.unit = true
+allocates_nothing Shape.boolean = true
+allocates_nothing (Shape.unsigned bits) = true
+allocates_nothing (Shape.signed bits) = true
+allocates_nothing Shape.character = true
+allocates_nothing _ = false

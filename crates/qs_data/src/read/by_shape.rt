@@ -7,7 +7,7 @@ ghost use Rattle.qs_tree.specs.tree.Views.{tree_of};
 ghost use Rattle.qs_data.specs.data.Views.{data_of};
 ghost use Rattle.qs_data.specs.shape.Views.{fields_in, key_shape_of, shape_of, shapes_in};
 ghost use Rattle.qs_data.specs.read.TreeText.{is_text};
-ghost use Rattle.qs_data.specs.read.Parsed.{takes_no_memory};
+ghost use Rattle.qs_data.specs.read.Parsed.{allocates_nothing};
 ghost use Rattle.qs_data.specs.read.Gives.{Gives};
 ghost use Rattle.qs_data.specs.read.internal.Frugal.{IsFrugal};
 ghost use Rattle.qs_data.specs.read.internal.ReadError.{ReadGives, ReadIsFrugal};
@@ -46,7 +46,7 @@ pub struct Reader {
 /// Reads a value by a shape.
 pub(crate) fn read(reader: Reader, shape: &Shape, value: &ParsedValue<'_>) -> Result<Data, Error>
     ensures gives { Gives data_of (is_text (tree_of value.now)) result (reads reader.reject_duplicates (shape_of shape.now) (tree_of value.now)) }
-    ensures frugal { IsTrue (takes_no_memory (shape_of shape.now)) → IsFrugal result (reads reader.reject_duplicates (shape_of shape.now) (tree_of value.now)) }
+    ensures frugal { IsTrue (allocates_nothing (shape_of shape.now)) → IsFrugal result (reads reader.reject_duplicates (shape_of shape.now) (tree_of value.now)) }
 {
     Ok(read_node(reader, shape, value)?)
 }
@@ -55,7 +55,7 @@ pub(crate) fn read(reader: Reader, shape: &Shape, value: &ParsedValue<'_>) -> Re
 #[cycle(read)]
 pub(crate) fn read_node(reader: Reader, shape: &Shape, value: &ParsedValue<'_>) -> Result<Data>
     ensures gives { ReadGives data_of (is_text (tree_of value.now)) result (reads reader.reject_duplicates (shape_of shape.now) (tree_of value.now)) }
-    ensures frugal { IsTrue (takes_no_memory (shape_of shape.now)) → ReadIsFrugal result (reads reader.reject_duplicates (shape_of shape.now) (tree_of value.now)) }
+    ensures frugal { IsTrue (allocates_nothing (shape_of shape.now)) → ReadIsFrugal result (reads reader.reject_duplicates (shape_of shape.now) (tree_of value.now)) }
 {
     read_inline(reader, shape, value)
 }
@@ -66,7 +66,7 @@ pub(crate) fn read_node(reader: Reader, shape: &Shape, value: &ParsedValue<'_>) 
 #[tactic(auto, using(crate::proofs::lemmas::data::Levels::levels), unfolding(qs_spec::specs::internal::ReadFunction::reads))]
 pub(crate) fn read_inline(reader: Reader, shape: &Shape, value: &ParsedValue<'_>) -> Result<Data>
     ensures gives { ReadGives data_of (is_text (tree_of value.now)) result (reads reader.reject_duplicates (shape_of shape.now) (tree_of value.now)) }
-    ensures frugal { IsTrue (takes_no_memory (shape_of shape.now)) → ReadIsFrugal result (reads reader.reject_duplicates (shape_of shape.now) (tree_of value.now)) }
+    ensures frugal { IsTrue (allocates_nothing (shape_of shape.now)) → ReadIsFrugal result (reads reader.reject_duplicates (shape_of shape.now) (tree_of value.now)) }
 {
     match shape {
         Shape::Unit => read_unit(reader.alloc, value),

@@ -9,11 +9,11 @@ ghost use Rattle.qs_spec.specs.Order.{AreEquivalent, unmarked};
 ghost use Rattle.qs_spec.specs.Shape.{is_distinct};
 ghost use Rattle.qs_spec.specs.Tree.{Tree, IsTree, HasNoTree};
 ghost use Rattle.qs_tree.specs.Error.{IsParse, IfParse, IsOutOfMemory, OnlyOutOfMemory, OnlyParseOrOutOfMemory};
-ghost use Rattle.qs_tree.specs.Parsing.{TakesNoMemory};
+ghost use Rattle.qs_tree.specs.Parsing.{AllocatesNothing};
 ghost use Rattle.qs_data.specs.shape.Views.{shape_of};
 ghost use Rattle.qs_data.specs.read.Errors.{OnlyCustomUtf8OrOutOfMemory};
-ghost use Rattle.qs_data.specs.read.Parsed.{takes_no_memory};
-ghost use Rattle.qs_data.specs.read.Parsed.{ReturnsData, SparesMemory, owned_by, parsed_of};
+ghost use Rattle.qs_data.specs.read.Parsed.{allocates_nothing};
+ghost use Rattle.qs_data.specs.read.Parsed.{ReturnsData, AllocatesOnlyForErrors, owned_by, parsed_of};
 ghost use Rattle.qs_data.specs.read.ReadBack.{ReadsBack};
 
 use crate::data::Data;
@@ -47,7 +47,7 @@ impl<'qs> Deserializer<'qs> {
         ensures tree { IfOk result (λ d. IsTree default.form default.max_depth input.now (parsed_of d).tree) }
         ensures no_tree { IsParse result → HasNoTree default.form default.max_depth input.now }
         ensures position { IfParse result (λ position. position ≤ length input.now + 1) }
-        ensures no_memory { TakesNoMemory input.now → IsOk result }
+        ensures no_allocation { AllocatesNothing input.now → IsOk result }
         ensures errors { OnlyParseOrOutOfMemory result }
     {
         Deserializer::with_config(alloc, Config::new(), input)
@@ -75,7 +75,7 @@ impl<'qs> Deserializer<'qs> {
         ensures accepted { (t : Tree) → IsTree config.form config.max_depth input.now t → OnlyOutOfMemory result }
         ensures rejected { HasNoTree config.form config.max_depth input.now → IsParse result ⊎ IsOutOfMemory result }
         ensures position { IfParse result (λ position. position ≤ length input.now + 1) }
-        ensures no_memory { TakesNoMemory input.now → IsOk result }
+        ensures no_allocation { AllocatesNothing input.now → IsOk result }
         ensures errors { OnlyParseOrOutOfMemory result }
         ensures borrowed { (t : Tree) → IsTree config.form config.max_depth input.now t → IfOk result (λ d. owned_by d ≡ marks t) }
         ensures leaves { input.now ≢ [] → IfOk result (λ d. HasPairs config.form config.max_depth input.now (leaf_count (parsed_of d).tree)) }
@@ -112,12 +112,12 @@ impl<'qs> Deserializer<'qs> {
     /// let numbers = Shape::Seq(Box::new(alloc, Shape::U8)?);
     /// let datum = Deserializer::new(alloc, b"0=7&1=8")?.read(alloc, &numbers)?; // the list of 7 and 8
     /// ```
-    #[tactic(auto, using(crate::proofs::lemmas::read::Related::returns_data, crate::proofs::lemmas::read::Related::spares_memory))]
+    #[tactic(auto, using(crate::proofs::lemmas::read::Related::returns_data, crate::proofs::lemmas::read::Related::allocates_only_for_errors))]
     pub fn read(self, alloc: Global, shape: &Shape) -> Result<Data>
         requires { is_distinct (shape_of shape.now) ≡ true }
         ensures exact { ReturnsData (parsed_of self.entry) (shape_of shape.now) result }
         ensures back { ReadsBack (parsed_of self.entry) (shape_of shape.now) result }
-        ensures no_memory { takes_no_memory (shape_of shape.now) ≡ true → SparesMemory (parsed_of self.entry) (shape_of shape.now) result }
+        ensures no_allocation { allocates_nothing (shape_of shape.now) ≡ true → AllocatesOnlyForErrors (parsed_of self.entry) (shape_of shape.now) result }
         ensures errors { OnlyCustomUtf8OrOutOfMemory result }
     {
         read(Reader::new(alloc, self.config), shape, &self.tree)

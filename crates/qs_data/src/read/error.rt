@@ -14,6 +14,10 @@ use std::str::Utf8Error;
 pub(crate) type Result<T, E = ReadError> = std::result::Result<T, E>;
 
 /// Those errors that reading has. Each level of a tree passes them on, so they are a third as long as an [`Error`].
+///
+/// ```
+/// Err(error) => Err(Error::from(error)), // the public error
+/// ```
 #[derive(Drop)]
 pub enum ReadError {
     /// The tree doesn't fit what is read from it; the message says why.

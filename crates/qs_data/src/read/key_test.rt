@@ -92,7 +92,7 @@ pub(crate) fn keys_are_text(map: &ParsedMap<'_>) -> bool
         let Some((key, _)) = map.at(i) else {
             break;
         };
-        passed &= is_text_key(key);
+        passed &= is_utf8_key(key);
     }
     passed
 }
@@ -100,7 +100,7 @@ pub(crate) fn keys_are_text(map: &ParsedMap<'_>) -> bool
 // Returns whether a key is UTF-8.
 #[inline(always)]
 #[tactic(auto, using(crate::proofs::lemmas::read::Numbers::decimal_text))]
-fn is_text_key(key: &Key<'_>) -> bool
+fn is_utf8_key(key: &Key<'_>) -> bool
     ensures text { result ≡ is_utf8 (segment_text (segment_of_key key.now)) }
     ensures fit { KeyFits (segment_of_key key.now) }
 {

@@ -37,7 +37,7 @@ pub enum Entries<'t, 'qs> {
     Empty,
     /// Those of a map.
     Map(&'t ParsedMap<'qs>),
-    /// A leaf under the empty text.
+    /// A leaf under the empty string key.
     Leaf(&'t ParsedValue<'qs>),
 }
 
@@ -56,7 +56,7 @@ pub enum Found<'t, 'qs> {
     Missing,
     /// This value.
     One(&'t ParsedValue<'qs>),
-    /// Two values, one under the text and one under the integer that is written so.
+    /// Two values, one under the string key and one under the integer key that is written so.
     Several,
 }
 

@@ -45,6 +45,10 @@ pub trait FieldNames {
     ghost fields: { Self → Fields };
 
     /// Returns whether one of the fields has this name.
+    ///
+    /// ```
+    /// let known = fields.has(b"age");
+    /// ```
     fn has(&self, name: &[u8]) -> bool
         ensures { result ≡ is_field_name name.now (fields self.now) };
 }

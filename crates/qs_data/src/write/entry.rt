@@ -14,7 +14,7 @@ ghost use Rattle.qs_data.specs.declared.write.stop.Stop.TheVariants.{OutOfMemory
 use crate::write::scalar::Scalar;
 use crate::write::sink::{Sink, put_all, put_encoded};
 use crate::write::stop::Stop;
-use crate::write::text::Text;
+use crate::write::text::TextBuffer;
 use qs_tree::Config;
 use std::alloc::{AllocError, Global};
 
@@ -33,7 +33,7 @@ pub(crate) struct Walk {
     /// How many segments lead there.
     depth: usize,
     /// Their text after an `&`. Going in appends, leaving truncates.
-    text: Text,
+    text: TextBuffer,
 }
 
 impl Walk {
@@ -44,7 +44,7 @@ impl Walk {
         Walk {
             config,
             depth: 0,
-            text: Text::new(alloc),
+            text: TextBuffer::new(alloc),
         }
     }
 
@@ -75,7 +75,7 @@ impl Walk {
 
 // Appends one more segment: the first after an `&`, and the others in brackets.
 #[tactic(auto, using(crate::proofs::lemmas::write::Visible::joined))]
-fn append_segment(out: &mut Text, form: bool, segment: Scalar<'_>) -> Result<(), AllocError>
+fn append_segment(out: &mut TextBuffer, form: bool, segment: Scalar<'_>) -> Result<(), AllocError>
     ensures ok { OnOk result (out.new ≡ grown form out.old (scalar_text segment.entry)) }
     ensures visible { All IsVisible out.old → OnOk result (All IsVisible out.new) }
 {
@@ -91,7 +91,7 @@ fn append_segment(out: &mut Text, form: bool, segment: Scalar<'_>) -> Result<(),
 
 // Appends a bracket that opens, as it is written.
 #[inline(always)]
-fn open_bracket(form: bool, out: &mut Text) -> Result<(), AllocError>
+fn open_bracket(form: bool, out: &mut TextBuffer) -> Result<(), AllocError>
     ensures { OnOk result (out.new ≡ out.old ++ open_bytes form) }
 {
     if form {
@@ -103,7 +103,7 @@ fn open_bracket(form: bool, out: &mut Text) -> Result<(), AllocError>
 
 // Appends a bracket that closes, as it is written.
 #[inline(always)]
-fn close_bracket(form: bool, out: &mut Text) -> Result<(), AllocError>
+fn close_bracket(form: bool, out: &mut TextBuffer) -> Result<(), AllocError>
     ensures { OnOk result (out.new ≡ out.old ++ close_bytes form) }
 {
     if form {
@@ -117,7 +117,7 @@ fn close_bracket(form: bool, out: &mut Text) -> Result<(), AllocError>
 #[inline(always)]
 #[tactic(auto, using(crate::proofs::lemmas::write::Visible::joined))]
 fn append_value<'a>(
-    out: &mut Text,
+    out: &mut TextBuffer,
     form: bool,
     value: Option<Scalar<'a>>,
 ) -> Result<&'a [u8], AllocError>

@@ -12,7 +12,7 @@ ghost use Rattle.qs_data.specs.write.State.{IsVisible};
 
 use crate::data::Data;
 use crate::write::sink::PIECE;
-use crate::write::text::Text;
+use crate::write::text::TextBuffer;
 use itoa::Buffer;
 use std::alloc::AllocError;
 
@@ -111,7 +111,7 @@ impl<'a> Scalar<'a> {
 
     /// Appends its text, encoded. Digits and words hold nothing to encode.
     #[inline(always)]
-    pub(crate) fn append(self, form: bool, out: &mut Text) -> Result<(), AllocError>
+    pub(crate) fn append(self, form: bool, out: &mut TextBuffer) -> Result<(), AllocError>
         ensures ok { OnOk result (out.new ≡ out.old ++ encoded form (scalar_text self.entry)) }
         ensures visible { All IsVisible (encoded form (scalar_text self.entry)) }
     {
@@ -146,7 +146,7 @@ fn long(bytes: &[u8]) -> &[u8]
 
 // Appends the digits of the number.
 #[tactic(auto, using(crate::proofs::lemmas::write::Visible::numbers))]
-fn append_unsigned(n: u64, out: &mut Text) -> Result<(), AllocError>
+fn append_unsigned(n: u64, out: &mut TextBuffer) -> Result<(), AllocError>
     ensures ok { (form : Bool) → OnOk result (out.new ≡ out.old ++ encoded form (decimal n)) }
     ensures visible { (form : Bool) → All IsVisible (encoded form (decimal n)) }
 {
@@ -155,7 +155,7 @@ fn append_unsigned(n: u64, out: &mut Text) -> Result<(), AllocError>
 
 // Appends the digits of the number, after `-` where it is negative.
 #[tactic(auto, using(crate::proofs::lemmas::write::Visible::numbers))]
-fn append_signed(n: i64, out: &mut Text) -> Result<(), AllocError>
+fn append_signed(n: i64, out: &mut TextBuffer) -> Result<(), AllocError>
     ensures ok { (form : Bool) → OnOk result (out.new ≡ out.old ++ encoded form (signed_decimal n)) }
     ensures visible { (form : Bool) → All IsVisible (encoded form (signed_decimal n)) }
 {

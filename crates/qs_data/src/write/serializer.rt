@@ -141,7 +141,7 @@ impl<S: Sink> Serializer<S> {
             × Appends (S.taken self.old.sink) (S.taken self.new.sink) (take n (text_of self.old (data_of datum.now))) }
         ensures memory_text { IsOutOfMemory result → (k : ℕ) × Appends (S.taken self.old.sink) (S.taken self.new.sink)
             (written self.old.config.form self.old.started (take k (output_of self.old (data_of datum.now)).entries)) }
-        ensures no_memory { IsBare (data_of datum.now) → IsOutOfMemory result → ⊥ }
+        ensures no_allocation { IsBare (data_of datum.now) → IsOutOfMemory result → ⊥ }
         ensures failed { IsFailed result ↔ (self.old.failed ≡ true) }
         ensures failed_keeps { IsFailed result → self.new ≡ self.old }
         ensures errors { IsWriteError result }

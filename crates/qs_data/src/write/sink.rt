@@ -40,6 +40,10 @@ pub trait Sink {
     ///
     /// A put of some bytes that takes none, or that returns an error of any kind, fails: from then
     /// on the sink has failed.
+    ///
+    /// ```
+    /// let taken = sink.put(b"a=1")?; // 0 to 3
+    /// ```
     fn put(&mut self, bytes: &[u8]) -> io::Result<usize>
         ensures bound { WritesAtMost result bytes.now }
         ensures takes { WriteAppends (taken self.old) (taken self.new) result bytes.now }
@@ -47,6 +51,12 @@ pub trait Sink {
         ensures same_writer { writer_name self.new ≡ writer_name self.old };
 
     /// Returns whether a put ever failed.
+    ///
+    /// ```
+    /// if sink.has_failed() {
+    ///     return Err(Stop::Io);
+    /// }
+    /// ```
     fn has_failed(&self) -> bool
         ensures { result ≡ failed self.now };
 }

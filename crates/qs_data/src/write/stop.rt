@@ -23,6 +23,12 @@ pub enum Stop {
 }
 
 /// What a call returns that writes a part of a value: unit, or why it stopped.
+///
+/// ```
+/// fn write_to(&self, writer: &mut Writer) -> WriteResult {
+///     writer.scalar(Scalar::Char(self.letter))
+/// }
+/// ```
 pub type WriteResult = Result<(), Stop>;
 
 impl Stop {

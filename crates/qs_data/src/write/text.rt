@@ -11,12 +11,12 @@ use std::marker::Model;
 
 /// Bytes at the front of a buffer that is longer: appending writes by index, and truncating changes a number.
 #[derive(Drop)]
-pub(crate) struct Text {
+pub(crate) struct TextBuffer {
     room: Vec<u8>,
     len: usize,
 }
 
-impl Model for Text {
+impl Model for TextBuffer {
     ghost use Rattle.std.specs.Prelude.{ℕ, ◌≤◌, List, length, take};
 
     ghost Value = { List ℕ };
@@ -26,12 +26,12 @@ impl Model for Text {
     ghost invariant = { λ t. t.len ≤ length t.room.items };
 }
 
-impl Text {
+impl TextBuffer {
     /// Returns a buffer without text. Nothing is allocated.
-    pub(crate) fn new(alloc: Global) -> Text
+    pub(crate) fn new(alloc: Global) -> TextBuffer
         ensures { result ≡ [] }
     {
-        Text {
+        TextBuffer {
             room: Vec::new(alloc),
             len: 0,
         }

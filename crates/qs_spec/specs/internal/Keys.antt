@@ -1,9 +1,10 @@
 -- Keys that are written, parsed and looked up.
 use Rattle.std.specs.Prelude.{◌≡◌, ℕ, ◌≤◌, ◌&&◌, not, List, [], ◌∷◌, Option, Some, None, if◌then◌else◌, ⊤}
 use Rattle.std.specs.declared.cmp.Ordering.TheVariants.{Less}
-use Rattle.qs_spec.specs.Segment.{Segment, number, is_index, compare_segments, is_same_segment}
+use Rattle.qs_spec.specs.Segment.{Segment, number, is_index, compare_segments}
 use Rattle.qs_spec.specs.Segment.Segment.{Int, Str}
 use Rattle.qs_spec.specs.Scalar.{has_leading_zero}
+use Rattle.qs_spec.specs.Node.{value_at_key}
 use Rattle.qs_spec.specs.Tree.{Tree, Entries}
 use Rattle.qs_spec.specs.Tree.Entries.{entry, no_entries}
 
@@ -15,15 +16,10 @@ written_segment s = if is_index s then Int (number s) else Str s
 abbrev pub printed_index : List ℕ → Option ℕ
 printed_index s = if is_index s && not (has_leading_zero s) then Some (number s) else None
 
--- the value at a key
-abbrev pub lookup : Segment → Entries → Option Tree
-lookup k no_entries = None
-lookup k (entry j mark t es) = if is_same_segment k j then Some t else lookup k es
-
 -- the value at an index, if there is one
-abbrev pub lookup_index : Option ℕ → Entries → Option Tree
-lookup_index None es = None
-lookup_index (Some n) es = lookup (Int n) es
+abbrev pub value_at_index : Option ℕ → Entries → Option Tree
+value_at_index None es = None
+value_at_index (Some n) es = value_at_key (Int n) es
 
 -- a list of one, or of none
 abbrev pub list_of : Option Tree → List Tree

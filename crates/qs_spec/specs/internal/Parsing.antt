@@ -1,7 +1,7 @@
 -- The grammar as a function: it parses the pairs of some tokens from the left, and returns what it parsed and the tokens that are left.
 use Rattle.std.specs.Prelude.{ℕ, zero, suc, Bool, true, false, List, [], ◌∷◌, ◌++◌, length, Option, Some, None, option_map}
 use Rattle.qs_spec.specs.Token.{Kind, Token, raw_of}
-use Rattle.qs_spec.specs.Segment.{Step}
+use Rattle.qs_spec.specs.Segment.{MarkedSegment}
 use Rattle.qs_spec.specs.Leaf.{Leaf, value_leaf}
 use Rattle.qs_spec.specs.Token.Kind.{Amp, Equals, Open, Close, Other}
 use Rattle.qs_spec.specs.Leaf.Leaf.{NoValue}
@@ -44,35 +44,35 @@ with_leaf pair (Some r) = Some (pair r.0, r.1)
 
 -- from a path, the bytes of an opening bracket and the tokens after it to a pair
 abbrev pub Brackets : Type 0
-Brackets = List Step → List ℕ → List Token → Rest Pair
+Brackets = List MarkedSegment → List ℕ → List Token → Rest Pair
 
 -- after a closing bracket: another bracket, or what follows a key
-abbrev pub after_close_at : Kind → Brackets → List Step → Token → List Token → Rest Pair
+abbrev pub after_close_at : Kind → Brackets → List MarkedSegment → Token → List Token → Rest Pair
 after_close_at Open brackets q u rest = brackets q u.raw rest
 after_close_at Amp brackets q u rest = with_leaf (direct q) (value_at Amp u rest)
 after_close_at Equals brackets q u rest = with_leaf (direct q) (value_at Equals u rest)
 after_close_at Close brackets q u rest = None
 after_close_at Other brackets q u rest = None
 
-abbrev pub after_close : Brackets → List Step → List Token → Rest Pair
+abbrev pub after_close : Brackets → List MarkedSegment → List Token → Rest Pair
 after_close brackets q [] = with_leaf (direct q) (parsed_value [])
 after_close brackets q (u ∷ rest) = after_close_at u.kind brackets q u rest
 
 -- after the bytes of a segment, whose closing bracket comes first
-abbrev pub after_run : Brackets → List Step → List Token → Rest Pair
+abbrev pub after_run : Brackets → List MarkedSegment → List Token → Rest Pair
 after_run brackets q [] = None
 after_run brackets q (t ∷ rest) = after_close brackets q rest
 
 -- the last key, where no more brackets may open: it goes up to `&` or `=`
-abbrev pub last_key : List Step → List ℕ → Token → List Token × List Token → Rest Pair
+abbrev pub last_key : List MarkedSegment → List ℕ → Token → List Token × List Token → Rest Pair
 last_key path bracket t c = with_leaf (direct (longer path (bracket ++ t.raw ++ raw_of c.0))) (parsed_value c.1)
 
 -- after an opening bracket, where no more may open and where more may: a push, or a key
-abbrev pub in_last : Bool → List Step → List ℕ → Token → List Token → Rest Pair
+abbrev pub in_last : Bool → List MarkedSegment → List ℕ → Token → List Token → Rest Pair
 in_last true path bracket t ts = with_leaf (pushed path) (parsed_value ts)
 in_last false path bracket t ts = last_key path bracket t (cut ends_last ts)
 
-abbrev pub in_segment : Bool → Brackets → List Step → Token → List Token → Rest Pair
+abbrev pub in_segment : Bool → Brackets → List MarkedSegment → Token → List Token → Rest Pair
 in_segment true brackets path t ts = with_leaf (pushed path) (parsed_value ts)
 in_segment false brackets path t ts = after_run brackets (longer path (raw_of (t ∷ (cut is_close ts).0))) (cut is_close ts).1
 

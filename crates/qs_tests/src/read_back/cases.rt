@@ -1,4 +1,4 @@
-//! The table of `answered`.
+//! The table of `golden`.
 
 /// Each line is a case: `query` or `form`, the depth limit, the shape, the data, their entries in a shuffled order, and the data
 /// that are read where their maps have another order. Tabs stand between. Shapes and data are written as `notation` says.

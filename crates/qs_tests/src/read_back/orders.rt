@@ -1,6 +1,6 @@
 //! Data with names that look like other things, in two orders and in both modes.
 
-use super::answered::comes_back;
+use super::golden::comes_back;
 use crate::build::Build;
 use crate::writing::writes_each;
 

@@ -16,6 +16,7 @@ query
     Struct:0 Unit
     NewtypeVariant:0 Unit
     Map:1 Text:0 Unit
+    Map:1 Text:1 Unit
     ! Struct:00 Unit
     ! NewtypeVariant:00 Unit
     ! Map:1 Text:00 Unit
@@ -165,7 +166,7 @@ fn split(case: &str) -> (&str, bool) {
 fn plain(rt: HostRuntime) {
     let b = Build::new(&rt, rt.alloc());
     let cases = tables::cases(&b, PLAIN);
-    assert_eq!(rt; cases.len(), 41);
+    assert_eq!(rt; cases.len(), 42);
     for (words, case) in &cases {
         let (data, wanted) = split(case);
         let is_plain = notation::data(&b, data).is_plain(tables::configuration(&b, words));

@@ -92,7 +92,7 @@ fn keys_of_a_nested_map(rt: HostRuntime) -> Result<(), Fail> {
 
 // The pairs at one key keep their order.
 #[test]
-fn pairs_that_meet(rt: HostRuntime) -> Result<(), Fail> {
+fn pairs_that_overlap(rt: HostRuntime) -> Result<(), Fail> {
     let alloc = rt.alloc();
     let wanted = in_order(
         alloc,

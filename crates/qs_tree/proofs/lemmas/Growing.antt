@@ -1,6 +1,6 @@
 -- What the pairs of an input make of a tree, item by item.
 use Rattle.qs_tree.proofs.Common.{◌≡◌, ℕ, ◌==◌, Bool, false, IfOk, List, [], ◌∷◌, length, refl, sym, ap, ◌∙◌, subst, Option, Some, None, option_map, option_and_then, Result, Ok, Err, none-some, Token, tokens, Pair, Tree, IsTree, HasNoTree, uninitialized, parsed_pairs, add, add_all, Error, Parse, ParsedValue, tree_of, IsParse, grown, Returns}
-use Rattle.qs_spec.proofs.RelatedIsRead.{found_pairs, are_pairs}
+use Rattle.qs_spec.proofs.RelatedIsParsed.{found_pairs, are_pairs}
 use Rattle.qs_spec.proofs.Scan.{in_place}
 
 module _ (depth : ℕ) (ts : List Token) (t : Tree) where

@@ -6,7 +6,7 @@ use Rattle.qs_spec.specs.Input.{HasPairs, IsReordered}
 use Rattle.qs_spec.proofs.Sound as sound_trees
 use Rattle.qs_spec.proofs.Equivalent as trees
 use Rattle.qs_tree.proofs.lemmas.tree.Owned.{owns_marked}
-use Rattle.qs_tree.specs.Parsing.{Parses, TakesNoMemory}
+use Rattle.qs_tree.specs.Parsing.{Parses, AllocatesNothing}
 use Rattle.qs_tree.specs.internal.Parsing.{grown, Reports}
 use Rattle.qs_tree.specs.declared.parsing.scan_error.ScanError.{ScanError}
 use Rattle.qs_tree.specs.declared.parsing.scan_error.ScanError.TheVariants as scan_error
@@ -76,8 +76,8 @@ empty_tree form depth (b ∷ bytes) e = absurd (omega (arith, eqb-true (length (
 
 -- all that is promised of a result, from what it is in terms of the tokens of the input
 module _ (form : Bool) (depth : ℕ) (bytes : List ℕ) (some : (length bytes == 0) ≡ false) (limit : ℕ) (ts : List Token) (d : limit ≡ depth) (e : ts ≡ tokens form bytes) where
-  pub parses : (r : Result ParsedValue Error) → Returns tree_of (grown limit ts uninitialized) (length bytes + 1) r → (TakesNoMemory bytes → IsOk r) → Parses form depth bytes r
-  parses r returned no_memory =
+  pub parses : (r : Result ParsedValue Error) → Returns tree_of (grown limit ts uninitialized) (length bytes + 1) r → (AllocatesNothing bytes → IsOk r) → Parses form depth bytes r
+  parses r returned no_allocation =
       let tree = result_tree form depth bytes some limit ts d e (length bytes + 1) r returned in
       let no_tree = result_rejected form depth bytes some limit ts d e (length bytes + 1) r returned in
       record {
@@ -87,7 +87,7 @@ module _ (form : Bool) (depth : ℕ) (bytes : List ℕ) (some : (length bytes ==
         rejected = rejected form depth bytes _ _ r returned tree;
         position = position form depth bytes _ _ r returned;
         errors = errors form depth bytes _ _ r returned;
-        no_memory = no_memory;
+        no_allocation = no_allocation;
         borrowed = borrowed form depth bytes r tree;
         leaves = leaves form depth bytes r tree;
         nesting = nested form depth bytes r tree;

@@ -1,8 +1,8 @@
 -- From the types of the code to those of the definitions.
-use Rattle.std.specs.Prelude.{ℕ, List, [], ◌∷◌, ◌++◌, Bool, true, false, Option, Some, None, if◌then◌else◌, map, decimal}
+use Rattle.std.specs.Prelude.{ℕ, List, [], ◌∷◌, ◌++◌, Bool, true, false, if◌then◌else◌, map, decimal}
 use Rattle.std.specs.Str.Lossy.{utf8_lossy}
 use Rattle.std.specs.declared.borrow.CowSlice.TheVariants.{Borrowed, Owned}
-use Rattle.qs_spec.specs.Segment.{Segment, Step, is_same_segment, Int, Str}
+use Rattle.qs_spec.specs.Segment.{Segment, MarkedSegment, is_same_segment, Int, Str}
 use Rattle.qs_spec.specs.Leaf.Leaf.{NoValue, Null, Text}
 use Rattle.qs_spec.specs.Tree.{Tree, Items, Entries, leaf, sequence, mapping, uninitialized, no_items, item, no_entries, entry}
 use Rattle.qs_tree.specs.declared.tree.key.Key.{Key}
@@ -24,8 +24,8 @@ key_mark (key.String (Borrowed r)) = false
 key_mark (key.String (Owned v)) = true
 
 -- a key as a segment with its mark
-abbrev pub step_of_key : Key → Step
-step_of_key k = record { seg = segment_of_key k; mark = key_mark k }
+abbrev pub marked_segment_of_key : Key → MarkedSegment
+marked_segment_of_key k = record { seg = segment_of_key k; mark = key_mark k }
 
 -- trees as the items of a sequence, and as the entries of a map
 abbrev pub items_from : List Tree → Items
@@ -62,18 +62,13 @@ abbrev pub items_of : List ParsedValue → Items
 items_of vs = items_from (map tree_of vs)
 
 -- entries as a list
-abbrev pub entry_list : Entries → List (Step × Tree)
+abbrev pub entry_list : Entries → List (MarkedSegment × Tree)
 entry_list no_entries = []
 entry_list (entry k mark t es) = (record { seg = k; mark = mark }, t) ∷ entry_list es
 
 -- the entries of a map as a list
-abbrev pub map_pairs : ParsedMap → List (Step × Tree)
+abbrev pub map_pairs : ParsedMap → List (MarkedSegment × Tree)
 map_pairs m = entry_list (entries_of_map m)
-
--- the tree at a segment
-abbrev pub find : Segment → Entries → Option Tree
-find s no_entries = None
-find s (entry k mark t es) = if is_same_segment s k then Some t else find s es
 
 -- the entries without the one at a segment
 abbrev pub take_out : Segment → Entries → Entries

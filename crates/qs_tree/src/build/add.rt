@@ -1,6 +1,6 @@
 //! Adding a pair to a tree, in place.
 ghost use Rattle.std.specs.Prelude.{◌≡◌, ◌+◌, ◌^◌, ◌<◌, ◌≤◌, [], ◌∷◌, length, drop, true, false, IsOkAnd};
-ghost use Rattle.qs_spec.specs.Tree.{empty_step, mapping};
+ghost use Rattle.qs_spec.specs.Tree.{empty_segment, mapping};
 ghost use Rattle.qs_spec.specs.internal.InPlace as in_place;
 ghost use Rattle.qs_spec.specs.internal.InPlace.{add, add_flat, update};
 ghost use Rattle.qs_tree.specs.declared.scan.pair.Manner.TheVariants.{Direct};
@@ -9,9 +9,9 @@ ghost use Rattle.std.specs.List.Sorted.{IsStrictlySortedBy};
 ghost use Rattle.std.specs.Map.{keys_of};
 ghost use Rattle.qs_tree.specs.tree.Keys.{key_cmp};
 ghost use Rattle.qs_tree.specs.internal.tree.Places.{IsPlaced};
-ghost use Rattle.qs_tree.specs.tree.Views.{step_of_key, tree_of};
+ghost use Rattle.qs_tree.specs.tree.Views.{marked_segment_of_key, tree_of};
 ghost use Rattle.qs_tree.specs.internal.scan.Pairs.{IsBare, leaf_of, is_push, pair_of, path_of};
-ghost use Rattle.qs_tree.specs.internal.build.Adding.{Adds, Gives};
+ghost use Rattle.qs_tree.specs.internal.build.Adding.{Adds, AddGives};
 
 use crate::build::add_to_value::{add_at_end, add_to_leaves, add_to_value};
 use crate::build::builder::{MapBuilder, TreeBuilder, goes_between, into_tree, place_among};
@@ -39,7 +39,7 @@ pub(crate) fn add_pair<'qs>(
     tree: &mut TreeBuilder<'qs>,
     pair: &mut Pair<'qs>,
 ) -> Result<(), AddError>
-    ensures added { let p = pair_of pair.old in Gives (λ _. built_tree tree.new) (add p.path p.push p.leaf (built_tree tree.old)) result }
+    ensures added { let p = pair_of pair.old in AddGives (λ _. built_tree tree.new) (add p.path p.push p.leaf (built_tree tree.old)) result }
     ensures fresh { IsBare pair.old → tree.old ≡ fresh → IsOkAnd result (λ _. IsFlat tree.new) }
 {
     add_along(alloc, tree, pair, 0)
@@ -56,7 +56,7 @@ fn add_along<'qs>(
 ) -> Result<(), AddError>
     requires { level ≤ length pair.old.path }
     ensures added { let push = is_push pair.old.manner in let path = path_of (drop level pair.old.path) in
-        Gives (λ _. built_tree node.new) (add path push (leaf_of pair.old.leaf) (built_tree node.old)) result }
+        AddGives (λ _. built_tree node.new) (add path push (leaf_of pair.old.leaf) (built_tree node.old)) result }
     ensures fresh { IsBare pair.old → level ≡ 0 → node.old ≡ fresh → IsOkAnd result (λ _. IsFlat node.new) }
 {
     if let TreeBuilder::Value(value) = node {
@@ -82,7 +82,7 @@ fn add_further<'qs>(
 ) -> Result<(), AddError>
     requires { level ≤ length pair.old.path }
     ensures added { let push = is_push pair.old.manner in let path = path_of (drop level pair.old.path) in
-        Gives (λ _. built_tree node.new) (add path push (leaf_of pair.old.leaf) (built_tree node.old)) result }
+        AddGives (λ _. built_tree node.new) (add path push (leaf_of pair.old.leaf) (built_tree node.old)) result }
     ensures fresh { IsBare pair.old → level ≡ 0 → node.old ≡ fresh → IsOkAnd result (λ _. IsFlat node.new) }
 {
     if level >= LEVELS {
@@ -94,7 +94,7 @@ fn add_further<'qs>(
     match node {
         TreeBuilder::Map(map) => {
             let key = pair.take_key(level);
-            add_below(alloc, map, key, pair, level + 1)
+            add_at_key(alloc, map, key, pair, level + 1)
         }
         TreeBuilder::Unsorted(leaves) if pair.is_leaf_below(level) => {
             add_unsorted(leaves, pair, level)
@@ -113,7 +113,7 @@ fn add_unsorted<'qs>(
     requires one { length pair.old.path ≡ level + 1 }
     requires direct { is_push pair.old.manner ≡ false }
     ensures { let push = is_push pair.old.manner in let path = path_of (drop level pair.old.path) in
-        Gives (λ _. mapping (unsorted_entries leaves.new)) (add path push (leaf_of pair.old.leaf) (mapping (unsorted_entries leaves.old))) result }
+        AddGives (λ _. mapping (unsorted_entries leaves.new)) (add path push (leaf_of pair.old.leaf) (mapping (unsorted_entries leaves.old))) result }
 {
     let key = pair.take_key(level);
     Ok(leaves.push(key, pair.leaf.take())?)
@@ -130,7 +130,7 @@ fn add_out_of_order<'qs>(
 ) -> Result<(), AddError>
     requires { level < length pair.old.path }
     ensures { let push = is_push pair.old.manner in let path = path_of (drop level pair.old.path) in
-        Gives (λ _. built_tree node.new) (add path push (leaf_of pair.old.leaf) (built_tree node.old)) result }
+        AddGives (λ _. built_tree node.new) (add path push (leaf_of pair.old.leaf) (built_tree node.old)) result }
 {
     if pair.is_leaf_below(level) {
         *node = mem::replace(node, TreeBuilder::fresh()).unsorted();
@@ -172,11 +172,11 @@ fn add_in_new_map<'qs>(
 ) -> Result<(), AddError>
     requires level { level < length pair.old.path }
     requires fits { level + 1 < 2 ^ 64 }
-    ensures { let push = is_push pair.old.manner in let path = step_of_key key.entry ∷ path_of (drop (level + 1) pair.old.path) in
-        Gives (λ _. built_tree node.new) (add path push (leaf_of pair.old.leaf) (built_tree node.old)) result }
+    ensures { let push = is_push pair.old.manner in let path = marked_segment_of_key key.entry ∷ path_of (drop (level + 1) pair.old.path) in
+        AddGives (λ _. built_tree node.new) (add path push (leaf_of pair.old.leaf) (built_tree node.old)) result }
 {
     let mut map = map_of(alloc, mem::replace(node, TreeBuilder::fresh()), level)?;
-    add_below(alloc, &mut map, key, pair, level + 1)?;
+    add_at_key(alloc, &mut map, key, pair, level + 1)?;
     *node = TreeBuilder::Map(map);
     Ok(())
 }
@@ -184,7 +184,7 @@ fn add_in_new_map<'qs>(
 // Adds a pair to the node at a key of a map. The node is at this level of the pair's path.
 #[cycle(adding)]
 #[inline(never)]
-fn add_below<'qs>(
+fn add_at_key<'qs>(
     alloc: Global,
     map: &mut MapBuilder<'qs>,
     key: Key<'qs>,
@@ -193,7 +193,7 @@ fn add_below<'qs>(
 ) -> Result<(), AddError>
     requires { level ≤ length pair.old.path }
     ensures { let push = is_push pair.old.manner in let path = path_of (drop level pair.old.path) in
-        Gives (λ _. built_entries map.new) (update (step_of_key key.entry) (add path push (leaf_of pair.old.leaf)) (built_entries map.old)) result }
+        AddGives (λ _. built_entries map.new) (update (marked_segment_of_key key.entry) (add path push (leaf_of pair.old.leaf)) (built_entries map.old)) result }
 {
     match map {
         MapBuilder::Vector(entries) => {
@@ -226,7 +226,7 @@ fn add_in_vector<'qs>(
     requires place { IsPlaced key_cmp key entries.old place }
     requires sorted { IsStrictlySortedBy key_cmp (keys_of entries.old) }
     ensures { let push = is_push pair.old.manner in let path = path_of (drop level pair.old.path) in
-        Gives (λ _. entries_seen entries.new) (update (step_of_key key.entry) (add path push (leaf_of pair.old.leaf)) (entries_seen entries.old)) result }
+        AddGives (λ _. entries_seen entries.new) (update (marked_segment_of_key key.entry) (add path push (leaf_of pair.old.leaf)) (entries_seen entries.old)) result }
 {
     match place {
         Ok(at) => add_along(alloc, entries.at_mut(at), pair, level),
@@ -249,7 +249,7 @@ fn add_in_tree<'qs>(
 ) -> Result<(), AddError>
     requires { level ≤ length pair.old.path }
     ensures { let push = is_push pair.old.manner in let path = path_of (drop level pair.old.path) in
-        Gives (λ _. entries_seen tree.new.entries) (update (step_of_key key.entry) (add path push (leaf_of pair.old.leaf)) (entries_seen tree.old.entries)) result }
+        AddGives (λ _. entries_seen tree.new.entries) (update (marked_segment_of_key key.entry) (add path push (leaf_of pair.old.leaf)) (entries_seen tree.old.entries)) result }
 {
     let child = tree.entry(key)?.or_insert(TreeBuilder::fresh());
     add_along(alloc, child, pair, level)
@@ -265,7 +265,7 @@ fn add_by_value<'qs>(
 ) -> Result<(), AddError>
     requires { level ≤ length pair.old.path }
     ensures { let push = is_push pair.old.manner in let path = path_of (drop level pair.old.path) in
-        Gives (λ _. built_tree node.new) (add path push (leaf_of pair.old.leaf) (built_tree node.old)) result }
+        AddGives (λ _. built_tree node.new) (add path push (leaf_of pair.old.leaf) (built_tree node.old)) result }
 {
     let top = mem::replace(node, TreeBuilder::fresh());
     let Zipper {
@@ -285,7 +285,7 @@ fn add_here<'qs>(
     node: &mut TreeBuilder<'qs>,
     pair: &mut Pair<'qs>,
 ) -> Result<(), AddError>
-    ensures added { Gives (λ _. built_tree node.new) (in_place.add_here (is_push pair.old.manner) (leaf_of pair.old.leaf) (built_tree node.old)) result }
+    ensures added { AddGives (λ _. built_tree node.new) (in_place.add_here (is_push pair.old.manner) (leaf_of pair.old.leaf) (built_tree node.old)) result }
     ensures fresh { pair.old.manner ≡ Direct → node.old ≡ fresh → IsOkAnd result (λ _. IsFlat node.new) }
 {
     match node {
@@ -310,7 +310,7 @@ impl<'qs> MapBuilder<'qs> {
     // Adds a direct leaf at the empty string key.
     #[inline(never)]
     fn add_at_empty(&mut self, alloc: Global, leaf: Leaf<'qs>, level: usize) -> Result<(), AddError>
-        ensures { Gives (λ _. built_entries self.new) (update empty_step (add_flat false (leaf_of leaf.entry)) (built_entries self.old)) result }
+        ensures { AddGives (λ _. built_entries self.new) (update empty_segment (add_flat false (leaf_of leaf.entry)) (built_entries self.old)) result }
     {
         let key = Key::from("");
         let mut node = self.take(&key);
@@ -338,7 +338,7 @@ fn add_leaf<'qs>(
     leaf: Leaf<'qs>,
     level: usize,
 ) -> Result<(), AddError>
-    ensures { Gives (λ _. built_tree node.new) (add_flat false (leaf_of leaf.entry) (built_tree node.old)) result }
+    ensures { AddGives (λ _. built_tree node.new) (add_flat false (leaf_of leaf.entry) (built_tree node.old)) result }
 {
     match node {
         TreeBuilder::Value(value) => add_to_leaves(alloc, value, leaf, level),

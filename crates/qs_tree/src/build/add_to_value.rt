@@ -1,14 +1,14 @@
 //! Adding a pair to a finished node, in place.
 ghost use Rattle.std.specs.Prelude.{◌≡◌, ◌<◌, ◌≤◌, true, false, length, drop, IfOk, IsOkAnd, Some};
-ghost use Rattle.qs_spec.specs.Tree.{empty_step, mapping, uninitialized};
+ghost use Rattle.qs_spec.specs.Tree.{empty_segment, mapping, uninitialized};
 ghost use Rattle.qs_spec.specs.internal.InPlace as in_place;
 ghost use Rattle.qs_spec.specs.internal.InPlace.{add, add_flat, update};
 ghost use Rattle.qs_tree.specs.declared.scan.pair.Manner.TheVariants.{Direct};
 ghost use Rattle.qs_tree.specs.declared.tree.value.ParsedValue.TheVariants.{Uninitialized};
-ghost use Rattle.qs_tree.specs.tree.Views.{step_of_key, tree_of, entries_of_map};
+ghost use Rattle.qs_tree.specs.tree.Views.{marked_segment_of_key, tree_of, entries_of_map};
 ghost use Rattle.qs_tree.specs.internal.scan.Pairs.{leaf_of, is_push, path_of};
 ghost use Rattle.qs_tree.specs.internal.build.Builder.{IsNoMap, entries_held};
-ghost use Rattle.qs_tree.specs.internal.build.Adding.{Adds, Gives, second};
+ghost use Rattle.qs_tree.specs.internal.build.Adding.{Adds, AddGives, second};
 
 use crate::build::builder::{goes_between, key_list, place_among};
 use crate::build::conflict::{AddError, ConflictKind};
@@ -158,7 +158,7 @@ pub(crate) fn add_at_end<'qs>(
     value: &mut ParsedValue<'qs>,
     pair: &mut Pair<'qs>,
 ) -> Result<(), AddError>
-    ensures added { Gives (λ _. tree_of value.new) (in_place.add_here (is_push pair.old.manner) (leaf_of pair.old.leaf) (tree_of value.old)) result }
+    ensures added { AddGives (λ _. tree_of value.new) (in_place.add_here (is_push pair.old.manner) (leaf_of pair.old.leaf) (tree_of value.old)) result }
     ensures fresh { pair.old.manner ≡ Direct → value.old ≡ Uninitialized → IsOkAnd result (λ _. IsNoMap (tree_of value.new)) }
 {
     let leaf = pair.leaf.take();
@@ -177,7 +177,7 @@ fn add_direct<'qs>(
     leaf: Leaf<'qs>,
     level: usize,
 ) -> Result<(), AddError>
-    ensures added { Gives (λ _. tree_of value.new) (in_place.add_here false (leaf_of leaf.entry) (tree_of value.old)) result }
+    ensures added { AddGives (λ _. tree_of value.new) (in_place.add_here false (leaf_of leaf.entry) (tree_of value.old)) result }
     ensures fresh { value.old ≡ Uninitialized → IsOkAnd result (λ _. IsNoMap (tree_of value.new)) }
 {
     match value {
@@ -195,7 +195,7 @@ pub(crate) fn add_to_leaves<'qs>(
     leaf: Leaf<'qs>,
     level: usize,
 ) -> Result<(), AddError>
-    ensures added { Gives (λ _. tree_of value.new) (add_flat false (leaf_of leaf.entry) (tree_of value.old)) result }
+    ensures added { AddGives (λ _. tree_of value.new) (add_flat false (leaf_of leaf.entry) (tree_of value.old)) result }
     ensures fresh { value.old ≡ Uninitialized → IsOkAnd result (λ _. IsNoMap (tree_of value.new)) }
 {
     match value {
@@ -221,7 +221,7 @@ fn add_second<'qs>(
     value: &mut ParsedValue<'qs>,
     leaf: Leaf<'qs>,
 ) -> Result<(), AddError>
-    ensures { Gives (λ _. tree_of value.new) (second (tree_of value.old) (leaf_of leaf.entry)) result }
+    ensures { AddGives (λ _. tree_of value.new) (second (tree_of value.old) (leaf_of leaf.entry)) result }
 {
     let first = mem::replace(value, ParsedValue::Uninitialized);
     *value = ParsedValue::Sequence(vec![in alloc; first, leaf.into_value()]?);
@@ -237,7 +237,7 @@ fn add_pushed<'qs>(
     leaf: Leaf<'qs>,
     level: usize,
 ) -> Result<(), AddError>
-    ensures { Gives (λ _. tree_of value.new) (add_flat true (leaf_of leaf.entry) (tree_of value.old)) result }
+    ensures { AddGives (λ _. tree_of value.new) (add_flat true (leaf_of leaf.entry) (tree_of value.old)) result }
 {
     match value {
         ParsedValue::Uninitialized => *value = ParsedValue::Sequence(vec![in alloc;
@@ -258,7 +258,7 @@ fn add_at_empty<'qs>(
     leaf: Leaf<'qs>,
     level: usize,
 ) -> Result<(), AddError>
-    ensures { Gives (λ _. entries_of_map map.new) (update empty_step (add_flat false (leaf_of leaf.entry)) (entries_of_map map.old)) result }
+    ensures { AddGives (λ _. entries_of_map map.new) (update empty_segment (add_flat false (leaf_of leaf.entry)) (entries_of_map map.old)) result }
 {
     add_leaf_at(alloc, &mut map.map, Key::from(""), leaf, level)
 }
@@ -271,7 +271,7 @@ pub(crate) fn add_leaf_at<'qs>(
     leaf: Leaf<'qs>,
     level: usize,
 ) -> Result<(), AddError>
-    ensures { Gives (λ _. entries_held entries.new) (update (step_of_key key.entry) (add_flat false (leaf_of leaf.entry)) (entries_held entries.old)) result }
+    ensures { AddGives (λ _. entries_held entries.new) (update (marked_segment_of_key key.entry) (add_flat false (leaf_of leaf.entry)) (entries_held entries.old)) result }
 {
     match place_among(entries.as_slice(), &key) {
         Ok(at) => add_to_leaves(alloc, entries.at_mut(at), leaf, level),

@@ -9,7 +9,7 @@ ghost use Rattle.std.specs.BTreeMap.{insert_entry};
 ghost use Rattle.qs_spec.specs.Tree.{mapping, no_entries};
 ghost use Rattle.qs_spec.specs.internal.InPlace.{update};
 ghost use Rattle.qs_tree.specs.declared.tree.key.Key.{Key};
-ghost use Rattle.qs_tree.specs.tree.Views.{step_of_key, tree_of, entries_of_map};
+ghost use Rattle.qs_tree.specs.tree.Views.{marked_segment_of_key, tree_of, entries_of_map};
 ghost use Rattle.qs_tree.specs.tree.Keys.{key_cmp};
 ghost use Rattle.qs_tree.specs.internal.tree.Places.{IsPlaced};
 ghost use Rattle.qs_tree.specs.internal.build.Builder.{built_tree, built_entries, entries_seen, fresh, as_builders, IsFlat, Takes};
@@ -122,7 +122,7 @@ impl<'qs> MapBuilder<'qs> {
         key: Key<'qs>,
         node: TreeBuilder<'qs>,
     ) -> Result<(), AllocError>
-        ensures { OnOk result (update (step_of_key key.entry) (λ _. Some (built_tree node.entry)) (built_entries self.old) ≡ Some (built_entries self.new)) }
+        ensures { OnOk result (update (marked_segment_of_key key.entry) (λ _. Some (built_tree node.entry)) (built_entries self.old) ≡ Some (built_entries self.new)) }
     {
         match self {
             MapBuilder::Vector(entries) => {
@@ -281,7 +281,7 @@ fn put_at<'qs>(
     node: TreeBuilder<'qs>,
 ) -> Result<(), AllocError>
     requires { IsPlaced key_cmp key entries.old place }
-    ensures { OnOk result (update (step_of_key key.entry) (λ _. Some (built_tree node.entry)) (entries_seen entries.old) ≡ Some (entries_seen entries.new)) }
+    ensures { OnOk result (update (marked_segment_of_key key.entry) (λ _. Some (built_tree node.entry)) (entries_seen entries.old) ≡ Some (entries_seen entries.new)) }
 {
     match place {
         Ok(at) => {
@@ -298,7 +298,7 @@ fn put_below<'qs>(
     key: Key<'qs>,
     node: TreeBuilder<'qs>,
 ) -> Result<(), AllocError>
-    ensures { OnOk result (update (step_of_key key.entry) (λ _. Some (built_tree node.entry)) (entries_seen map.old.entries) ≡ Some (entries_seen map.new.entries)) }
+    ensures { OnOk result (update (marked_segment_of_key key.entry) (λ _. Some (built_tree node.entry)) (entries_seen map.old.entries) ≡ Some (entries_seen map.new.entries)) }
 {
     Ok(insert(map, key, node)?)
 }

@@ -1,9 +1,9 @@
 //! From a node down along a path to the node at its end, and back up: a zipper.
 ghost use Rattle.std.specs.Prelude.{◌≡◌, ◌≤◌, [], length, drop, MatchResult};
-ghost use Rattle.qs_tree.specs.tree.Views.{step_of_key, tree_of};
+ghost use Rattle.qs_tree.specs.tree.Views.{marked_segment_of_key, tree_of};
 ghost use Rattle.qs_tree.specs.internal.scan.Pairs.{path_of};
 ghost use Rattle.qs_tree.specs.internal.build.Builder.{built_tree, built_entries};
-ghost use Rattle.qs_tree.specs.internal.build.Adding.{Gives, IsRejected, entries_below};
+ghost use Rattle.qs_tree.specs.internal.build.Adding.{AddGives, IsRejected, entries_below};
 ghost use Rattle.qs_tree.specs.internal.build.Descent.{IsOpen, Leads, IsBarred, put_all_back};
 
 use crate::build::builder::{MapBuilder, TreeBuilder};
@@ -66,7 +66,7 @@ pub(crate) fn rebuild<'qs>(
     maps: Vec<Frame<'qs>>,
     node: TreeBuilder<'qs>,
 ) -> Result<TreeBuilder<'qs>, AddError>
-    ensures { Gives built_tree (put_all_back maps.entry.items (built_tree node.entry)) result }
+    ensures { AddGives built_tree (put_all_back maps.entry.items (built_tree node.entry)) result }
 {
     let mut maps = maps;
     let mut node = node;
@@ -85,7 +85,7 @@ fn open<'qs>(
     level: usize,
 ) -> Result<(Frame<'qs>, TreeBuilder<'qs>), AddError>
     ensures { let before = built_tree node.entry in MatchResult result
-        (λ p. IsOpen (step_of_key key.entry) before p.0 (built_tree p.1))
+        (λ p. IsOpen (marked_segment_of_key key.entry) before p.0 (built_tree p.1))
         (λ error. IsRejected (entries_below before) error) }
 {
     let mut map = map_of(alloc, node, level)?;
@@ -102,7 +102,7 @@ pub(crate) fn map_of<'qs>(
     node: TreeBuilder<'qs>,
     level: usize,
 ) -> Result<MapBuilder<'qs>, AddError>
-    ensures { Gives built_entries (entries_below (built_tree node.entry)) result }
+    ensures { AddGives built_entries (entries_below (built_tree node.entry)) result }
 {
     match node {
         TreeBuilder::Value(value) => map_of_value(alloc, value, level),
@@ -121,7 +121,7 @@ fn map_of_value<'qs>(
     value: ParsedValue<'qs>,
     level: usize,
 ) -> Result<MapBuilder<'qs>, AddError>
-    ensures { Gives built_entries (entries_below (tree_of value.entry)) result }
+    ensures { AddGives built_entries (entries_below (tree_of value.entry)) result }
 {
     let kind = match value {
         ParsedValue::Map(map) => return Ok(MapBuilder::reopen(alloc, map)?),

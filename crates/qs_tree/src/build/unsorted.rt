@@ -5,7 +5,7 @@ ghost use Rattle.std.specs.Prelude.{◌≡◌, Some, false, IfOk, OnOk};
 ghost use Rattle.std.specs.List.{list_all};
 ghost use Rattle.std.specs.List.Sorted.{IsPermutation};
 ghost use Rattle.qs_spec.specs.internal.InPlace.{add_flat, add_here, update};
-ghost use Rattle.qs_tree.specs.tree.Views.{step_of_key, entries_of_map, tree_of};
+ghost use Rattle.qs_tree.specs.tree.Views.{marked_segment_of_key, entries_of_map, tree_of};
 ghost use Rattle.qs_tree.specs.internal.scan.Pairs.{leaf_of};
 ghost use Rattle.qs_tree.specs.internal.build.Unsorted.{AreLeaves, entries_of_leaves, is_leaf};
 
@@ -44,8 +44,8 @@ impl<'qs> Unsorted<'qs> {
     /// Adds a leaf at a key.
     #[tactic(auto, using(crate::proofs::lemmas::build::Unsorted::added_flat, crate::proofs::lemmas::build::Unsorted::added_here))]
     pub fn push(&mut self, key: Key<'qs>, leaf: Leaf<'qs>) -> Result<(), AllocError>
-        ensures flat { OnOk result (update (step_of_key key.entry) (add_flat false (leaf_of leaf.entry)) (unsorted_entries self.old) ≡ Some (unsorted_entries self.new)) }
-        ensures here { OnOk result (update (step_of_key key.entry) (add_here false (leaf_of leaf.entry)) (unsorted_entries self.old) ≡ Some (unsorted_entries self.new)) }
+        ensures flat { OnOk result (update (marked_segment_of_key key.entry) (add_flat false (leaf_of leaf.entry)) (unsorted_entries self.old) ≡ Some (unsorted_entries self.new)) }
+        ensures here { OnOk result (update (marked_segment_of_key key.entry) (add_here false (leaf_of leaf.entry)) (unsorted_entries self.old) ≡ Some (unsorted_entries self.new)) }
     {
         reserve_one(&mut self.leaves)?;
         self.leaves.push_reserved((key, leaf.into_value()));

@@ -28,11 +28,11 @@ pub(crate) fn copy_run<C: Class>(
     at: usize,
 ) -> usize
     requires some { 0 < length bytes.now }
-    requires plain { C.contains class (slice_index bytes.now 0) ≡ false }
+    requires outside { C.contains class (slice_index bytes.now 0) ≡ false }
     requires room { at + length bytes.now ≤ length room.old }
     ensures some { 0 < result }
     ensures within { result ≤ length bytes.now }
-    ensures plain { NoneBetween (C.contains class) bytes.now 0 result }
+    ensures none { NoneBetween (C.contains class) bytes.now 0 result }
     ensures text { take (at + result) room.new ≡ take at room.old ++ map (swapped from to) (take result bytes.now) }
 {
     if bytes.len() < LANES {

@@ -30,7 +30,7 @@ use std::borrow::CowSlice;
 pub fn decode(alloc: Global, bytes: &[u8]) -> Result<CowSlice<'_, u8>>
     ensures value { IfOk result (λ text. cow_slice_items text ≡ decoded bytes.now) }
     ensures owned { IfOk result (λ text. is_owned text ≡ is_marked bytes.now) }
-    ensures no_memory { is_marked bytes.now ≡ false → IsOk result }
+    ensures no_allocation { is_marked bytes.now ≡ false → IsOk result }
     ensures errors { OnlyOutOfMemory result }
 {
     Ok(unescape(alloc, bytes)?)
@@ -41,7 +41,7 @@ pub fn decode(alloc: Global, bytes: &[u8]) -> Result<CowSlice<'_, u8>>
 pub(crate) fn unescape(alloc: Global, bytes: &[u8]) -> Result<CowSlice<'_, u8>, AllocError>
     ensures value { IfOk result (λ text. cow_slice_items text ≡ decoded bytes.now) }
     ensures owned { IfOk result (λ text. is_owned text ≡ is_marked bytes.now) }
-    ensures no_memory { is_marked bytes.now ≡ false → IsOk result }
+    ensures no_allocation { is_marked bytes.now ≡ false → IsOk result }
 {
     match find_escape(bytes) {
         Some(front) => Ok(CowSlice::Owned(unescaped(alloc, bytes, front)?)),
@@ -49,20 +49,20 @@ pub(crate) fn unescape(alloc: Global, bytes: &[u8]) -> Result<CowSlice<'_, u8>, 
     }
 }
 
-/// Percent-decodes bytes as [`decode`] does. Doesn't look for `+` and `%` where it is known that there are none (`plain`).
+/// Percent-decodes bytes as [`decode`] does. Doesn't look for `+` and `%` where it is known that there are none (`is_unmarked`).
 #[inline(always)]
 #[tactic(auto, using(crate::proofs::lemmas::escape::DecodedFronts::decoded_unmarked))]
 pub(crate) fn unescape_unless(
-    plain: bool,
+    is_unmarked: bool,
     alloc: Global,
     bytes: &[u8],
 ) -> Result<CowSlice<'_, u8>, AllocError>
-    requires { IsTrue plain → is_marked bytes.now ≡ false }
+    requires { IsTrue is_unmarked → is_marked bytes.now ≡ false }
     ensures value { IfOk result (λ text. cow_slice_items text ≡ decoded bytes.now) }
     ensures owned { IfOk result (λ text. is_owned text ≡ is_marked bytes.now) }
-    ensures no_memory { is_marked bytes.now ≡ false → IsOk result }
+    ensures no_allocation { is_marked bytes.now ≡ false → IsOk result }
 {
-    if plain {
+    if is_unmarked {
         return Ok(CowSlice::Borrowed(bytes));
     }
     unescape(alloc, bytes)
@@ -72,7 +72,7 @@ pub(crate) fn unescape_unless(
 #[inline(never)]
 fn unescaped(alloc: Global, bytes: &[u8], front: usize) -> Result<Vec<u8>, AllocError>
     requires within { front ≤ length bytes.now }
-    requires plain { decoded bytes.now ≡ take front bytes.now ++ decoded (drop front bytes.now) }
+    requires same { decoded bytes.now ≡ take front bytes.now ++ decoded (drop front bytes.now) }
     ensures { IfOk result (λ text. text.items ≡ decoded bytes.now) }
 {
     let mut text = Vec::with_capacity(alloc, bytes.len())?;
@@ -86,7 +86,7 @@ fn unescaped(alloc: Global, bytes: &[u8], front: usize) -> Result<Vec<u8>, Alloc
 #[inline(always)]
 fn fill(bytes: &[u8], front: usize, room: &mut [u8]) -> usize
     requires within { front ≤ length bytes.now }
-    requires plain { decoded bytes.now ≡ take front bytes.now ++ decoded (drop front bytes.now) }
+    requires same { decoded bytes.now ≡ take front bytes.now ++ decoded (drop front bytes.now) }
     requires room { length bytes.now ≤ length room.old }
     ensures { take result room.new ≡ decoded bytes.now }
 {

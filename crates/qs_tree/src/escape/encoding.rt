@@ -93,7 +93,7 @@ fn put_byte(byte: u8, form: bool, room: &mut [u8], at: usize) -> usize
         put_escape(byte, room, at);
         return 3;
     }
-    room[at] = escaped.plain(byte);
+    room[at] = escaped.swapped(byte);
     1
 }
 

@@ -30,7 +30,7 @@ pub fn find_escape(bytes: &[u8]) -> Option<usize>
     ensures within { IfSome result (λ at. at < length bytes.now) }
     ensures found { is_some result ≡ is_marked bytes.now }
 {
-    find(Escape, bytes)
+    find_first(Escape, bytes)
 }
 
 /// Returns the index of the first `&`, or `None`.
@@ -44,24 +44,24 @@ pub fn find_ampersand(bytes: &[u8]) -> Option<usize>
     ensures first { result ≡ position is_ampersand bytes.now }
     ensures within { IfSome result (λ at. at < length bytes.now) }
 {
-    find(Byte(b'&'), bytes)
+    find_first(Byte(b'&'), bytes)
 }
 
 /// Returns the index of the first `&`, or the length, and whether it is known that `+` and `%` aren't before it.
 #[tactic(auto, using(crate::proofs::lemmas::escape::FirstPlace::none_in_front))]
 pub(crate) fn find_value_end(bytes: &[u8]) -> (usize, bool)
     ensures first { result.0 ≡ position_or_len is_ampersand bytes.now }
-    ensures plain { IsTrue result.1 → is_marked (take result.0 bytes.now) ≡ false }
+    ensures is_unmarked { IsTrue result.1 → is_marked (take result.0 bytes.now) ≡ false }
 {
     let mut at = 0;
-    let mut plain = true;
+    let mut is_unmarked = true;
     while bytes.len() - at >= LANES {
         let end = run(Byte(b'&'), bytes, at);
         if run(Escape, bytes, at) < end {
-            plain = false;
+            is_unmarked = false;
         }
         if end < LANES {
-            return (at + end, plain);
+            return (at + end, is_unmarked);
         }
         at += LANES;
     }
@@ -72,12 +72,12 @@ pub(crate) fn find_value_end(bytes: &[u8]) -> (usize, bool)
                 break;
             }
             if Escape.has(byte) {
-                plain = false;
+                is_unmarked = false;
             }
         }
         at += 1;
     }
-    (at, plain)
+    (at, is_unmarked)
 }
 
 /// Returns the index of the first byte that [`encode`](crate::encode) changes in form encoding (`form`) or query encoding, or `None`.
@@ -92,11 +92,11 @@ pub fn find_encoded(bytes: &[u8], form: bool) -> Option<usize>
     ensures first { result ≡ position (is_encoded form) bytes.now }
     ensures within { IfSome result (λ at. at < length bytes.now) }
 {
-    find(Encoded { form }, bytes)
+    find_first(Encoded { form }, bytes)
 }
 
 // Returns the index of the first byte of a class, or `None`. Tests 32 bytes at a time, and the rest one by one.
-fn find<C: Class>(class: C, bytes: &[u8]) -> Option<usize>
+fn find_first<C: Class>(class: C, bytes: &[u8]) -> Option<usize>
     ensures first { result ≡ position (C.contains class) bytes.now }
     ensures within { IfSome result (λ at. at < length bytes.now) }
 {

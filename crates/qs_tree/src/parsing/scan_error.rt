@@ -1,7 +1,7 @@
 //! Errors of parsing: their text and position, which are made only when there is an error.
 
 ghost use Rattle.std.specs.Prelude.{◌≡◌, None};
-ghost use Rattle.qs_tree.specs.declared.build.conflict.AddError.TheVariants as no_memory;
+ghost use Rattle.qs_tree.specs.declared.build.conflict.AddError.TheVariants as no_allocation;
 ghost use Rattle.qs_tree.specs.declared.parsing.scan_error.ScanError.TheVariants.{OutOfMemory};
 ghost use Rattle.qs_tree.specs.Error.{IsParseSaying};
 ghost use Rattle.qs_tree.specs.internal.Parsing.{Reports};
@@ -50,7 +50,7 @@ pub(crate) fn syntax_error<'qs>(
 /// Returns the error of a pair that wasn't added.
 #[inline(always)]
 pub(crate) fn add_error(error: AddError) -> ScanError
-    ensures { error ≡ no_memory.OutOfMemory → result ≡ OutOfMemory }
+    ensures { error ≡ no_allocation.OutOfMemory → result ≡ OutOfMemory }
 {
     match error {
         AddError::Conflict(conflict) => ScanError::Conflict(conflict),

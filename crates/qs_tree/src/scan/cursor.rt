@@ -3,7 +3,7 @@
 ghost use Rattle.std.specs.Prelude.{◌≡◌, ℕ, ◌+◌, ◌++◌, ◌<◌, ◌≤◌, ◌-◌, [], length, take, drop, IfSome, IfNone, IsTrue, true, false};
 ghost use Rattle.qs_spec.specs.Escape.{is_marked};
 ghost use Rattle.qs_spec.specs.Token.{raw_of, tokens};
-ghost use Rattle.qs_tree.specs.Parsing.{is_plain};
+ghost use Rattle.qs_tree.specs.Parsing.{is_unescaped};
 ghost use Rattle.qs_spec.specs.Grammar.{is_amp, is_equals, is_open, is_close};
 ghost use Rattle.qs_spec.specs.internal.Parsing.{cut};
 ghost use Rattle.qs_tree.specs.internal.scan.Cursor.{kind_of_token, token_of, BeginsWith, ends_of, left, spent, looks, ended_after, raw_from_token, from_token, IsPast, GoesOn, taken, to_come, IsLeft, IsLetter};
@@ -66,7 +66,7 @@ pub(crate) struct Token<'qs> {
 impl Token<'_> {
     /// Returns whether it is known to be without `+` and `%`.
     #[inline(always)]
-    pub fn is_plain(&self) -> bool
+    pub fn is_unmarked(&self) -> bool
         ensures { IsTrue result → is_marked self.now.raw.now ≡ false }
     {
         matches!(self.raw, [byte] if *byte != b'+' && *byte != b'%')
@@ -135,10 +135,10 @@ fn run_len(bytes: &[u8], form: bool, until: Until) -> (usize, bool)
     ensures within { result.0 ≤ length bytes.now }
     ensures run { take result.0 bytes.now ≡ raw_of (cut (ends_of until) (tokens form bytes.now)).0 }
     ensures stop { tokens form (drop result.0 bytes.now) ≡ (cut (ends_of until) (tokens form bytes.now)).1 }
-    ensures plain { IsTrue result.1 → is_marked (take result.0 bytes.now) ≡ false }
+    ensures is_unmarked { IsTrue result.1 → is_marked (take result.0 bytes.now) ≡ false }
 {
     let mut at = 0;
-    let mut plain = true;
+    let mut is_unmarked = true;
     while at < bytes.len() {
         if is_letter(bytes[at]) {
             at += 1;
@@ -149,9 +149,9 @@ fn run_len(bytes: &[u8], form: bool, until: Until) -> (usize, bool)
             break;
         }
         at += len;
-        plain = false;
+        is_unmarked = false;
     }
-    (at, plain)
+    (at, is_unmarked)
 }
 
 /// A cursor over an input. A step is a byte that the cursor takes, or its look at the end; the methods that take no byte count none.
@@ -163,7 +163,7 @@ pub(crate) struct Cursor<'qs> {
     ended: bool,
     form: bool,
     /// Whether the last run or value is known to be without `+` and `%`.
-    plain: bool,
+    is_unmarked: bool,
     steps: Steps,
     trail: Trail<'qs>,
 }
@@ -199,7 +199,7 @@ impl<'qs> Cursor<'qs> {
             rest: input,
             ended: false,
             form,
-            plain: false,
+            is_unmarked: false,
             steps,
             trail: Trail {
                 start: input,
@@ -223,10 +223,10 @@ impl<'qs> Cursor<'qs> {
     }
 
     /// Returns whether the last run or value is known to be without `+` and `%`.
-    pub fn is_plain(&self) -> bool
-        ensures { result ≡ self.now.plain }
+    pub fn is_unmarked(&self) -> bool
+        ensures { result ≡ self.now.is_unmarked }
     {
-        self.plain
+        self.is_unmarked
     }
 
     /// Returns the current position.
@@ -315,7 +315,7 @@ impl<'qs> Cursor<'qs> {
         ensures form { self.new.form ≡ self.old.form }
         ensures cost { spent self.new ≡ spent self.old + looks result }
         ensures ended { self.new.ended ≡ ended_after result self.old.ended }
-        ensures plain { self.new.plain ≡ self.old.plain }
+        ensures is_unmarked { self.new.is_unmarked ≡ self.old.is_unmarked }
     {
         if self.rest.is_empty() {
             self.ended = true;
@@ -344,7 +344,7 @@ impl<'qs> Cursor<'qs> {
         ensures ended { self.new.ended ≡ ended_after result.1 self.old.ended }
         ensures fewer { length self.new.rest.now ≤ length self.old.rest.now }
         ensures form { self.new.form ≡ self.old.form }
-        ensures plain { IsTrue self.new.plain → is_marked result.0.now ≡ false }
+        ensures is_unmarked { IsTrue self.new.is_unmarked → is_marked result.0.now ≡ false }
     {
         self.run_from(self.place(), until)
     }
@@ -364,10 +364,10 @@ impl<'qs> Cursor<'qs> {
         ensures ended { self.new.ended ≡ ended_after result.1 self.old.ended }
         ensures fewer { length self.new.rest.now ≤ length self.old.rest.now }
         ensures form { self.new.form ≡ self.old.form }
-        ensures plain { IsTrue self.new.plain → is_marked (raw_of (cut (ends_of until) (left self.old)).0) ≡ false }
+        ensures is_unmarked { IsTrue self.new.is_unmarked → is_marked (raw_of (cut (ends_of until) (left self.old)).0) ≡ false }
     {
-        let (len, plain) = run_len(self.rest, self.form, until);
-        self.plain = plain;
+        let (len, is_unmarked) = run_len(self.rest, self.form, until);
+        self.is_unmarked = is_unmarked;
         let (_, rest) = self.rest.split_at(len);
         self.rest = rest;
         self.steps.add(len);
@@ -379,13 +379,13 @@ impl<'qs> Cursor<'qs> {
     pub fn value(&mut self) -> &'qs [u8]
         ensures value { result.now ≡ raw_of (cut is_amp (left self.old)).0 }
         ensures past { IsPast (cut is_amp (left self.old)).1 self.new }
-        ensures plain { IsTrue (is_plain self.old.rest.now) → (is_marked result.now ≡ false) × (self.new.rest.now ≡ []) }
+        ensures is_unmarked { IsTrue (is_unescaped self.old.rest.now) → (is_marked result.now ≡ false) × (self.new.rest.now ≡ []) }
         ensures fewer { length self.new.rest.now ≤ length self.old.rest.now }
         ensures moves { self.old.ended ≡ false → GoesOn self.old self.new }
-        ensures noted { IsTrue self.new.plain → is_marked result.now ≡ false }
+        ensures noted { IsTrue self.new.is_unmarked → is_marked result.now ≡ false }
     {
-        let (end, plain) = find_value_end(self.rest);
-        self.plain = plain;
+        let (end, is_unmarked) = find_value_end(self.rest);
+        self.is_unmarked = is_unmarked;
         let (value, rest) = self.rest.split_at(end);
         self.rest = rest;
         self.steps.add(end);

@@ -8,7 +8,7 @@ ghost use Rattle.qs_spec.specs.internal.Parsing.{cut, with_leaf, parsed_value, p
 ghost use Rattle.qs_tree.specs.internal.scan.Pairs.{path_of};
 ghost use Rattle.qs_tree.specs.internal.scan.Cursor.{ends_of, left, from_token, taken, GoesOn, IsLeft, KnowsEnd};
 ghost use Rattle.qs_tree.specs.internal.scan.Parser.{IsRootStop, IsClosing, Follows, FollowsStop, IsEnd, IsMore, ParsesItem, ParsesLeaf, ParsesPair, is_nothing, root_path, from_root};
-ghost use Rattle.qs_tree.specs.Parsing.{is_plain, TakesNoMemory};
+ghost use Rattle.qs_tree.specs.Parsing.{is_unescaped, AllocatesNothing};
 ghost use Rattle.qs_tree.specs.declared.scan.parser.ParseError.TheVariants.{OutOfMemory};
 ghost use Rattle.qs_tree.specs.internal.scan.Small.{IsEqualsStop, ParsesBare, ParsesSmall};
 
@@ -82,7 +82,7 @@ pub(crate) fn parse_item<'qs>(
     ensures end { IsEnd result → cursor.new.ended ≡ true }
     ensures shorter { IsMore result → length cursor.new.rest.now < length cursor.old.rest.now }
     ensures moves { GoesOn cursor.old cursor.new }
-    ensures small { TakesNoMemory cursor.old.rest.now → ParsesSmall result cursor.new pair.new }
+    ensures small { AllocatesNothing cursor.old.rest.now → ParsesSmall result cursor.new pair.new }
 {
     if cursor.has_ended() {
         return Ok(Item::End);
@@ -133,12 +133,12 @@ fn parse_after_root<'qs>(
     requires root { IsRootStop stop }
     requires follows { FollowsStop stop cursor.old }
     requires empty { pair.old.path ≡ [] }
-    requires plain { IsTrue cursor.old.plain → is_marked key.now ≡ false }
+    requires is_unmarked { IsTrue cursor.old.is_unmarked → is_marked key.now ≡ false }
     ensures pair { ParsesPair (from_root max_depth key.now (from_token stop.entry (left cursor.old))) result cursor.new pair.new }
     ensures moves { GoesOn cursor.old cursor.new }
-    ensures bare { key.now ≡ [] → IsEqualsStop stop.entry → IsTrue (is_plain cursor.old.rest.now) → ParsesBare result cursor.new pair.new }
+    ensures bare { key.now ≡ [] → IsEqualsStop stop.entry → IsTrue (is_unescaped cursor.old.rest.now) → ParsesBare result cursor.new pair.new }
 {
-    parse_root(alloc, key, cursor.is_plain(), &mut pair.path)?;
+    parse_root(alloc, key, cursor.is_unmarked(), &mut pair.path)?;
     match stop {
         Some(token) if token.kind.is_open() => {
             cursor.keep_root(key, token.place)?;
@@ -152,16 +152,16 @@ fn parse_after_root<'qs>(
 fn parse_root<'qs>(
     alloc: Global,
     key: &'qs [u8],
-    plain: bool,
+    is_unmarked: bool,
     path: &mut Path<'qs>,
 ) -> Result<(), AllocError>
     requires empty { path.old ≡ [] }
-    requires plain { IsTrue plain → is_marked key.now ≡ false }
+    requires is_unmarked { IsTrue is_unmarked → is_marked key.now ≡ false }
     ensures path { IfOk result (λ _. path_of path.new ≡ root_path key.now) }
     ensures empty { key.now ≡ [] → IsOk result × (path.new ≡ []) }
 {
     if !key.is_empty() {
-        path.push(parse_key(alloc, key, plain)?)?;
+        path.push(parse_key(alloc, key, is_unmarked)?)?;
     }
     Ok(())
 }
@@ -177,12 +177,12 @@ fn parse_value<'qs>(
     requires follows { FollowsStop stop cursor.old }
     ensures leaf { ParsesLeaf (parsed_value (from_token stop.entry (left cursor.old))) result cursor.new }
     ensures moves { GoesOn cursor.old cursor.new }
-    ensures plain { IsEqualsStop stop.entry → IsTrue (is_plain cursor.old.rest.now) → IsOk result × (cursor.new.rest.now ≡ []) }
+    ensures is_unmarked { IsEqualsStop stop.entry → IsTrue (is_unescaped cursor.old.rest.now) → IsOk result × (cursor.new.rest.now ≡ []) }
 {
     match stop {
         Some(token) if token.kind.is_equals() => {
             let raw = cursor.value();
-            parse_leaf(alloc, raw, cursor.is_plain())
+            parse_leaf(alloc, raw, cursor.is_unmarked())
         }
         _ => Ok(Leaf::NoValue),
     }
@@ -200,7 +200,7 @@ fn parse_direct<'qs>(
     requires follows { FollowsStop stop cursor.old }
     ensures pair { ParsesPair (with_leaf (direct (path_of pair.old.path)) (parsed_value (from_token stop.entry (left cursor.old)))) result cursor.new pair.new }
     ensures moves { GoesOn cursor.old cursor.new }
-    ensures bare { pair.old.path ≡ [] → IsEqualsStop stop.entry → IsTrue (is_plain cursor.old.rest.now) → ParsesBare result cursor.new pair.new }
+    ensures bare { pair.old.path ≡ [] → IsEqualsStop stop.entry → IsTrue (is_unescaped cursor.old.rest.now) → ParsesBare result cursor.new pair.new }
 {
     pair.manner = Manner::Direct;
     pair.leaf = parse_value(alloc, cursor, stop)?;
@@ -265,8 +265,8 @@ fn parse_brackets<'qs>(
             return parse_last_key(alloc, cursor, bracket, pair);
         }
         let (segment, stop) = cursor.run_from(first.place, Until::Close);
-        let plain = first.is_plain() && cursor.is_plain();
-        pair.path.push(parse_key(alloc, segment, plain)?)?;
+        let is_unmarked = first.is_unmarked() && cursor.is_unmarked();
+        pair.path.push(parse_key(alloc, segment, is_unmarked)?)?;
         let Some(_) = stop else {
             return Err(ParseError::Syntax(SyntaxError::EndInSegment));
         };

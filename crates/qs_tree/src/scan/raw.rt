@@ -2,9 +2,9 @@
 
 ghost use Rattle.std.specs.Prelude.{◌≡◌, false, IfOk, IsOk, IsTrue};
 ghost use Rattle.qs_spec.specs.Escape.{is_marked};
-ghost use Rattle.qs_spec.specs.Segment.{step_of};
+ghost use Rattle.qs_spec.specs.Segment.{marked_segment_of};
 ghost use Rattle.qs_spec.specs.Leaf.{value_leaf};
-ghost use Rattle.qs_tree.specs.tree.Views.{step_of_key};
+ghost use Rattle.qs_tree.specs.tree.Views.{marked_segment_of_key};
 ghost use Rattle.qs_tree.specs.internal.scan.Pairs.{leaf_of};
 ghost use Rattle.qs_tree.specs.internal.scan.Raw.{index_from, index_of};
 
@@ -17,32 +17,36 @@ use std::alloc::{AllocError, Global};
 /// key with the decoded bytes otherwise.
 ///
 /// Returns an error only where an allocation failed. Borrows a string without `+` and `%`. Where it is known that there are none
-/// (`plain`), they aren't looked for.
+/// (`is_unmarked`), they aren't looked for.
 #[inline(always)]
-#[tactic(auto, using(crate::proofs::lemmas::scan::Indexes::text_key))]
-pub(crate) fn parse_key(alloc: Global, raw: &[u8], plain: bool) -> Result<Key<'_>, AllocError>
-    requires { IsTrue plain → is_marked raw.now ≡ false }
-    ensures key { IfOk result (λ key. step_of_key key ≡ step_of raw.now) }
+#[tactic(auto, using(crate::proofs::lemmas::scan::Indexes::string_key))]
+pub(crate) fn parse_key(alloc: Global, raw: &[u8], is_unmarked: bool) -> Result<Key<'_>, AllocError>
+    requires { IsTrue is_unmarked → is_marked raw.now ≡ false }
+    ensures key { IfOk result (λ key. marked_segment_of_key key ≡ marked_segment_of raw.now) }
 {
     match parse_index(raw) {
         Some(index) => Ok(Key::Int(index)),
-        None => Ok(Key::String(unescape_unless(plain, alloc, raw)?)),
+        None => Ok(Key::String(unescape_unless(is_unmarked, alloc, raw)?)),
     }
 }
 
 /// Returns the leaf of a value with these raw bytes.
 ///
 /// Returns an error only where an allocation failed. Borrows a value without `+` and `%`. Where it is known that there are none
-/// (`plain`), they aren't looked for.
-pub(crate) fn parse_leaf(alloc: Global, raw: &[u8], plain: bool) -> Result<Leaf<'_>, AllocError>
-    requires { IsTrue plain → is_marked raw.now ≡ false }
+/// (`is_unmarked`), they aren't looked for.
+pub(crate) fn parse_leaf(
+    alloc: Global,
+    raw: &[u8],
+    is_unmarked: bool,
+) -> Result<Leaf<'_>, AllocError>
+    requires { IsTrue is_unmarked → is_marked raw.now ≡ false }
     ensures leaf { IfOk result (λ leaf. leaf_of leaf ≡ value_leaf raw.now) }
-    ensures no_memory { is_marked raw.now ≡ false → IsOk result }
+    ensures no_allocation { is_marked raw.now ≡ false → IsOk result }
 {
     if raw.is_empty() {
         return Ok(Leaf::Null);
     }
-    Ok(Leaf::Text(unescape_unless(plain, alloc, raw)?))
+    Ok(Leaf::Text(unescape_unless(is_unmarked, alloc, raw)?))
 }
 
 // Returns the value of digits alone, at least one, where it fits in 32 bits, or `None`.

@@ -4,6 +4,7 @@ ghost use Rattle.std.specs.List.Sorted.{IsStrictlySortedBy};
 ghost use Rattle.std.specs.Map.{keys_of, lookup};
 ghost use Rattle.std.specs.BTreeMap.{is_at};
 ghost use Rattle.std.specs.Cmp.{on_per};
+ghost use Rattle.qs_spec.specs.Node.{value_at_key};
 ghost use Rattle.qs_spec.specs.Tree.Entries.{entry, no_entries};
 ghost use Rattle.qs_tree.specs.tree.Equality.{entries_same};
 ghost use Rattle.qs_tree.specs.internal.tree.EqualityLaws.{entries_per};
@@ -12,8 +13,7 @@ ghost use Rattle.qs_tree.specs.tree.Ordered.{AreOrdered};
 ghost use Rattle.qs_tree.specs.internal.tree.Places.{IsHit, IsGap};
 ghost use Rattle.qs_tree.specs.tree.Lookup.{binary_digits};
 ghost use Rattle.qs_tree.specs.internal.build.Builder.{entries_held};
-ghost use Rattle.qs_tree.specs.tree.Views as view;
-ghost use Rattle.qs_tree.specs.tree.Views.{segment_of_key, key_mark, step_of_key, tree_of, entries_of_map, map_pairs, take_out};
+ghost use Rattle.qs_tree.specs.tree.Views.{segment_of_key, key_mark, marked_segment_of_key, tree_of, entries_of_map, map_pairs, take_out};
 
 use crate::steps::Steps;
 use crate::tree::dropping::drop_tree;
@@ -98,7 +98,7 @@ impl<'qs> ParsedMap<'qs> {
     /// ```
     #[must_use]
     pub fn get<'k>(&self, key: &Key<'k>) -> Option<&ParsedValue<'qs>>
-        ensures value { option_map (λ v. tree_of v.now) result ≡ view.find (segment_of_key key.now) (entries_of_map self.now) }
+        ensures value { option_map (λ v. tree_of v.now) result ≡ value_at_key (segment_of_key key.now) (entries_of_map self.now) }
         ensures ordered { AreOrdered (entries_of_map self.now) }
     {
         self.get_with(key, &mut Steps::new())
@@ -112,13 +112,13 @@ impl<'qs> ParsedMap<'qs> {
     /// ```
     #[must_use]
     pub fn get_with<'k>(&self, key: &Key<'k>, steps: &mut Steps) -> Option<&ParsedValue<'qs>>
-        ensures value { option_map (λ v. tree_of v.now) result ≡ view.find (segment_of_key key.now) (entries_of_map self.now) }
+        ensures value { option_map (λ v. tree_of v.now) result ≡ value_at_key (segment_of_key key.now) (entries_of_map self.now) }
         ensures ordered { AreOrdered (entries_of_map self.now) }
         ensures most { steps.new ≤ steps.old + binary_digits (length (map_pairs self.now)) }
         ensures least { 0 < length (map_pairs self.now) → steps.old < steps.new }
         ensures grows { steps.old ≤ steps.new }
     {
-        find(self.map.as_slice(), key, steps)
+        lookup(self.map.as_slice(), key, steps)
     }
 
     /// Returns the entry at an index, in the order of keys, or `None`. Takes constant time, and doesn't allocate.
@@ -128,7 +128,7 @@ impl<'qs> ParsedMap<'qs> {
     /// ```
     #[must_use]
     pub fn at(&self, at: usize) -> Option<(&Key<'qs>, &ParsedValue<'qs>)>
-        ensures value { option_map (λ p. (step_of_key p.0.now, tree_of p.1.now)) result ≡ slice_get (map_pairs self.now) at }
+        ensures value { option_map (λ p. (marked_segment_of_key p.0.now, tree_of p.1.now)) result ≡ slice_get (map_pairs self.now) at }
         ensures ordered { AreOrdered (entries_of_map self.now) }
     {
         self.map.at(at)
@@ -142,7 +142,7 @@ impl<'qs> ParsedMap<'qs> {
     /// let name = map.remove(&Key::from("name"));
     /// ```
     pub fn remove<'k>(&mut self, key: &Key<'k>) -> Option<ParsedValue<'qs>>
-        ensures value { option_map tree_of result ≡ view.find (segment_of_key key.now) (entries_of_map self.old) }
+        ensures value { option_map tree_of result ≡ value_at_key (segment_of_key key.now) (entries_of_map self.old) }
         ensures rest { entries_of_map self.new ≡ take_out (segment_of_key key.now) (entries_of_map self.old) }
         ensures ordered { AreOrdered (entries_of_map self.old) }
     {
@@ -159,7 +159,7 @@ impl<'qs> ParsedMap<'qs> {
     /// let first = map.pop_first(); // the entry of 0 in b=1&0=2
     /// ```
     pub fn pop_first(&mut self) -> Option<(Key<'qs>, ParsedValue<'qs>)>
-        ensures value { MatchOption result ((map_pairs self.old ≡ []) × (map_pairs self.new ≡ [])) (λ p. map_pairs self.old ≡ (step_of_key p.0, tree_of p.1) ∷ map_pairs self.new) }
+        ensures value { MatchOption result ((map_pairs self.old ≡ []) × (map_pairs self.new ≡ [])) (λ p. map_pairs self.old ≡ (marked_segment_of_key p.0, tree_of p.1) ∷ map_pairs self.new) }
         ensures ordered { AreOrdered (entries_of_map self.old) }
     {
         if self.map.len() == 0 {
@@ -203,7 +203,7 @@ impl<'qs> Drop for ParsedMap<'qs> {
 }
 
 /// Returns the value at a key among sorted entries, or `None`. Adds the number of comparisons to `steps`.
-pub(crate) fn find<'e, 'k, 'qs, V>(
+pub(crate) fn lookup<'e, 'k, 'qs, V>(
     entries: &'e [(Key<'qs>, V)],
     key: &Key<'k>,
     steps: &mut Steps,

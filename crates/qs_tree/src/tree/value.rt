@@ -11,6 +11,13 @@ use crate::tree::sameness::same_nodes;
 use std::borrow::CowSlice;
 
 /// A node of the tree of a querystring. Its strings and keys may be borrowed from the input. `==` ignores ownership.
+///
+/// ```
+/// let ParsedValue::Map(map) = parse(alloc, b"a=1", Config::new())? else {
+///     return Ok(0);
+/// };
+/// Ok(map.len()) // 1
+/// ```
 #[cycle(tree)]
 #[derive(Debug, Drop)]
 pub enum ParsedValue<'qs> {

@@ -21,10 +21,10 @@ use Rattle.serde_qs.specs.Maps.{entry_data, values_by_text, nowhere, with_value,
 use Rattle.serde_qs.specs.internal.Booleans.{both_hold}
 use Rattle.qs_spec.specs.Same.{Same, SamePairs, IsNoKey, KeysDiffer, IsWith}
 
-abbrev Entries : Type 0 → Type 0
-Entries A = List (String Global × A)
+abbrev StringPairs : Type 0 → Type 0
+StringPairs A = List (String Global × A)
 
-abbrev pairs_for : {A : Type 0} → (A → Data) → Entries A → Pairs
+abbrev pairs_for : {A : Type 0} → (A → Data) → StringPairs A → Pairs
 pairs_for datum es = pairs_of (map (entry_data datum) es)
 
 -- two values at keys that differ, put in either order
@@ -86,12 +86,12 @@ taken_onto m k e v h (IsWith.later {j} {e = x} {ps} {qs} w) n f = later_onto m k
 
 -- the values of entries, put one after another
 
-abbrev over : {A V : Type 0} → (A → V) → Entries A → (List ℕ → Option V) → List ℕ → Option V
+abbrev over : {A V : Type 0} → (A → V) → StringPairs A → (List ℕ → Option V) → List ℕ → Option V
 over value [] f = f
 over value (x ∷ es) f = over value es (with_value (string_bytes x.0) (value x.1) f)
 
 pairs_back : {A V : Type 0} (datum : A → Data) (s : Shape) (meaning : Data → Option V) (value : A → V) → ComesBack datum s meaning value
-    → (es : Entries A) (qs : Pairs) (f : List ℕ → Option V) → fit_pairs KeyShape.text (fits s) (pairs_for datum es) ≡ true → KeysDiffer qs → SamePairs (pairs_for datum es) qs
+    → (es : StringPairs A) (qs : Pairs) (f : List ℕ → Option V) → fit_pairs KeyShape.text (fits s) (pairs_for datum es) ≡ true → KeysDiffer qs → SamePairs (pairs_for datum es) qs
     → pairs_onto meaning f qs ≡ Some (over value es f)
 pairs_back datum s meaning value back [] _ f h n SamePairs.pairs_end = refl
 pairs_back datum s meaning value back (x ∷ es) qs f h n (SamePairs.pairs_more {k} {d = c} {e} {ps} {rest} p w more) =
@@ -111,13 +111,13 @@ or_none : {V : Type 0} (r : Option V) → or_else r None ≡ r
 or_none (Some v) = refl
 or_none None = refl
 
-abbrev found : {A : Type 0} → List ℕ → Entries A → Option A
+abbrev found : {A : Type 0} → List ℕ → StringPairs A → Option A
 found t es = lookup (is_at (λ k. slice_cmp nat_cmp t (string_bytes k))) es
 
 differing : (a b : List ℕ) → (a ≡ b → ⊥) → bytes_eq a b ≡ false
 differing a b n = ⊎_elim (λ y. absurd (n ((bytes_eq-Decides a b).0 y))) (λ f. f) (cases_Bool (bytes_eq a b))
 
-none_found : {A : Type 0} (datum : A → Data) (k : List ℕ) (es : Entries A) → IsNoKey (d.text k) (pairs_for datum es) → found k es ≡ None
+none_found : {A : Type 0} (datum : A → Data) (k : List ℕ) (es : StringPairs A) → IsNoKey (d.text k) (pairs_for datum es) → found k es ≡ None
 none_found datum k [] n = refl
 none_found datum k (x ∷ es) n =
     cond-false (is_eq (slice_cmp nat_cmp k (string_bytes x.0))) (Some x.1) (found k es) (is_eq-slice_cmp k (string_bytes x.0) ∙ differing k (string_bytes x.0) (λ e. n.0 (ap d.text e)))
@@ -135,7 +135,7 @@ one_more : {A V : Type 0} (value : A → V) (b : Bool) (a : A) (r : Option A) (o
 one_more value true a r o n = ap (λ q. or_else (option_map value q) (Some (value a))) (n refl)
 one_more value false a r o n = refl
 
-over_is_found : {A V : Type 0} (datum : A → Data) (value : A → V) (es : Entries A) → KeysDiffer (pairs_for datum es) → (f : List ℕ → Option V) (t : List ℕ)
+over_is_found : {A V : Type 0} (datum : A → Data) (value : A → V) (es : StringPairs A) → KeysDiffer (pairs_for datum es) → (f : List ℕ → Option V) (t : List ℕ)
     → over value es f t ≡ or_else (option_map value (found t es)) (f t)
 over_is_found datum value [] n f t = refl
 over_is_found datum value (x ∷ es) n f t =

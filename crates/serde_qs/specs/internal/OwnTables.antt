@@ -1,7 +1,7 @@
 -- What a type has itself, in the words of its table.
 use Rattle.std.proofs.Common.{ap, ◌∙◌, refl, subst, sym}
 use mathlib.Core.Path.{fun_ext}
-use Rattle.std.specs.Prelude.{◌≡◌, ℕ, Bool, true, List, [], ◌∷◌, map, Option, Some, None, option_map, option_and_then}
+use Rattle.std.specs.Prelude.{◌≡◌, ℕ, Bool, List, [], ◌∷◌, map, Option, Some, None, option_map, option_and_then}
 use Rattle.std.specs.BTreeMap.{BTreeMap}
 use Rattle.std.specs.declared.alloc.Global.{Global}
 use Rattle.std.specs.declared.string.String.{String}

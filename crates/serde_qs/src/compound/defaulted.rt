@@ -29,13 +29,23 @@ pub trait OrDefault: Deserialize {
     ghost default: { Datum };
 
     /// Returns the value of a missing field. Where an allocation failed, the error is
-    /// [`OutOfMemory`](qs_data::Error::OutOfMemory).
+    /// [`OutOfMemory`](qs_data::Error::OutOfMemory), and [`Custom`](qs_data::Error::Custom) only where the data of the default mean no value.
+    ///
+    /// For a type of this crate it doesn't allocate, and takes constant time.
+    ///
+    /// ```
+    /// let page = u32::missing(alloc)?; // 0
+    /// ```
     fn missing(alloc: Global) -> Result<Self>
         ensures { Means Self.table.value result (Self.table.meaning default) };
 }
 
 /// A field that takes a default where its key is missing, and the fields after it: `(String, Defaulted<u32, ()>)` for a text and a number,
 /// which is 0 where there is none.
+///
+/// ```
+/// let Struct((text, Defaulted(page, ()))) = PagingParts::read(source, NAMES)?; // page: u32
+/// ```
 ///
 /// It is written in any case, as a field without a default is: `&self.page`.
 #[derive(Debug, PartialEq, Drop)]

@@ -21,26 +21,32 @@ use std::alloc::Global;
 
 /// The fields of a struct, each pair a field and those after it: `(A, (B, (C, ())))`.
 ///
-/// A field that may be left out is an [`Optional`](crate::Optional) in place of the pair. It is implemented for these alone; a user names them in
-/// a [`Struct`](crate::Struct).
+/// A field that may be left out is an [`Optional`](crate::Optional) in place of the pair, and one with a default a
+/// [`Defaulted`](crate::Defaulted). It is implemented for these alone; a user names them in a [`Struct`](crate::Struct).
+///
+/// ```
+/// type FilterParts = Struct<(String, Optional<u32, ()>)>; // the fields are (String, Optional<u32, ()>)
+/// ```
 pub trait Fields: Sized + Drop {
     // How they are read and written, by their names, with the proofs that belong to them.
     ghost table: { FieldsTable Self };
 
-    /// Returns the names after those of the fields.
+    /// Returns the names after those of the fields. It doesn't allocate, and takes a step for each field.
     fn skip<'a>(names: &'a [&'static str]) -> &'a [&'static str]
         ensures { texts result.now ≡ table.after (texts names.now) };
 
-    /// Returns whether one of the fields has this name.
+    /// Returns whether one of the fields has this name. It doesn't allocate, and compares one name for each field at most.
     fn has(names: &[&'static str], name: &[u8]) -> bool
         ensures { result ≡ is_field_name name.now (fields_of (table.form (texts names.now))) };
 
-    /// Returns these fields and after them what is read for the fields of these names.
+    /// Returns these fields and after them, in order, what is read for the fields of these names. The one error is
+    /// [`OutOfMemory`](qs_data::Error::OutOfMemory). It allocates for the names, which are copied, and the shapes.
     fn push_fields(alloc: Global, names: &[&'static str], fields: Vec<Field>) -> Result<Vec<Field>>
         ensures exact { IfOk result (λ all. map field_of all.items ≡ map field_of fields.items ++ table.form (texts names.now)) }
         ensures errors { OnlyOutOfMemory result };
 
-    /// Returns the fields that members mean, of which the last is the first field's.
+    /// Returns the fields that members mean, of which the last is the first field's. The errors are those of
+    /// [`from_data`](Deserialize::from_data). It allocates, and takes time, as that of each field does.
     fn from_members(
         alloc: Global,
         names: &[&'static str],
@@ -48,7 +54,8 @@ pub trait Fields: Sized + Drop {
     ) -> Result<Self>
         ensures { Means table.value result (table.meaning (texts names.now) (members_back members.items)) };
 
-    /// Returns the fields that are read by their names, from keys with their values.
+    /// Returns the fields that are read by their names, from keys with their values. The errors are those of
+    /// [`from_node`](Deserialize::from_node). It allocates as that of each field does, and looks each name up.
     fn from_entries(
         reader: Reader,
         names: &[&'static str],
@@ -59,7 +66,8 @@ pub trait Fields: Sized + Drop {
         ensures { Gives table.value (entries_are_text (entries_view entries.entry)) result
             (by_names reader.reject_duplicates (table.form (texts names.now)) (table.meaning (texts names.now)) (entries_view entries.entry)) };
 
-    /// Returns the fields that are read by their indices, from the last of so many items.
+    /// Returns the fields that are read by their indices, from the last of so many items. The errors are those of
+    /// [`from_node`](Deserialize::from_node). It allocates, and takes time, as that of each field does.
     fn from_places(
         reader: Reader,
         names: &[&'static str],

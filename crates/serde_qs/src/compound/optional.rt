@@ -11,6 +11,10 @@ use std::alloc::Global;
 
 /// A field that may be left out, and the fields after it: `(String, Optional<u32, ()>)` for a text and perhaps a number.
 ///
+/// ```
+/// let Struct((text, Optional(page, ()))) = FilterParts::read(source, NAMES)?; // page: Option<u32>
+/// ```
+///
 /// Where it is None, nothing is written of it; where its key is missing, it is read as None. Its shape is that of `T`, so
 /// `page=` for a number is rejected.
 #[derive(Debug, PartialEq, Drop)]

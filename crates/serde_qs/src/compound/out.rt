@@ -26,9 +26,20 @@ use std::alloc::Global;
 ///
 /// The one error of each method is [`OutOfMemory`](Error::OutOfMemory). With [`Exit::Writer`] and [`Exit::Nothing`] no data are made, so it is
 /// returned in any case; what the writing of the parts returned is beside the writer.
+///
+/// It allocates for the data and their names, or for the text of the writer, and takes time with the value. With [`Exit::Nothing`] it doesn't
+/// allocate.
+///
+/// ```
+/// out.fields(NAMES, (&self.x, (&self.y, ())))
+/// ```
 pub type Out<'a> = &'a mut Exit;
 
 /// What an [`Out`] leads to.
+///
+/// ```
+/// let datum = point.written(&mut Exit::Data(alloc))?;
+/// ```
 #[derive(Drop)]
 pub enum Exit {
     /// Into data that are allocated here.
@@ -40,7 +51,9 @@ pub enum Exit {
 }
 
 impl Exit {
-    /// Takes the fields of a struct, under their names.
+    /// Takes the fields of a struct, under their names, and returns the data of the struct. Errors and allocation are those of [`Out`].
+    ///
+    /// A field for which no name is left has the empty name.
     ///
     /// ```
     /// out.fields(NAMES, (&self.x, (&self.y, ())))
@@ -65,7 +78,8 @@ impl Exit {
         }
     }
 
-    /// Takes a value that stands for the whole, as the number of a type that allows only some numbers.
+    /// Takes a value that stands for the whole, as the number of a type that allows only some numbers, and returns its data. Errors and
+    /// allocation are those of [`Out`].
     ///
     /// ```
     /// out.value(&self.years)
@@ -89,7 +103,7 @@ impl Exit {
         }
     }
 
-    /// Takes the items of a tuple.
+    /// Takes the items of a tuple, and returns the data of the tuple. Errors and allocation are those of [`Out`].
     ///
     /// ```
     /// out.items((&self.0, (&self.1, ())))
@@ -113,7 +127,7 @@ impl Exit {
         }
     }
 
-    /// Takes the value of a newtype.
+    /// Takes the value of a newtype, and returns the data of the newtype. Errors and allocation are those of [`Out`].
     ///
     /// ```
     /// out.newtype(&self.0)
@@ -138,7 +152,7 @@ impl Exit {
         }
     }
 
-    /// Takes the name of a variant that holds nothing.
+    /// Takes the name of a variant that holds nothing, and returns its data. Errors and allocation are those of [`Out`].
     ///
     /// ```
     /// Sort::Relevance => out.unit_variant("Relevance"),
@@ -159,7 +173,7 @@ impl Exit {
         }
     }
 
-    /// Takes the name of a variant and the one value that it holds.
+    /// Takes the name of a variant and the one value that it holds, and returns its data. Errors and allocation are those of [`Out`].
     ///
     /// ```
     /// Sort::By(field) => out.newtype_variant("By", field),
@@ -184,7 +198,7 @@ impl Exit {
         }
     }
 
-    /// Takes the name of a variant and the items that it holds.
+    /// Takes the name of a variant and the items that it holds, and returns its data. Errors and allocation are those of [`Out`].
     ///
     /// ```
     /// Area::Circle(radius, unit) => out.tuple_variant("Circle", (radius, (unit, ()))),
@@ -212,7 +226,9 @@ impl Exit {
         }
     }
 
-    /// Takes the name of a variant and its fields, under their names.
+    /// Takes the name of a variant and its fields, under their names, and returns its data. Errors and allocation are those of [`Out`].
+    ///
+    /// A field for which no name is left has the empty name.
     ///
     /// ```
     /// Sort::Between { from, to } => out.struct_variant("Between", &["from", "to"], (from, (to, ()))),

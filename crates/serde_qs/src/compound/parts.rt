@@ -23,7 +23,11 @@ use qs_data::{Data, Reader, Result, Shape, UnknownKeys};
 use qs_tree::ParsedValue;
 use std::alloc::Global;
 
-/// What an enum is made of: one of its variants, `Enum<OneOf<(), Last<Newtype<String>>>>`.
+/// What an enum is made of: one of its variants.
+///
+/// ```
+/// type SortParts = Enum<OneOf<(), Last<Newtype<String>>>>;
+/// ```
 #[derive(Debug, PartialEq, Drop)]
 pub struct Enum<V>(pub V);
 
@@ -31,25 +35,45 @@ pub struct Enum<V>(pub V);
 ///
 /// It is implemented for [`Struct`], [`StrictStruct`](crate::StrictStruct), [`Tuple`], [`Enum`] and [`Newtype`] alone; a user names them in a type
 /// alias, for a [`Compound`](crate::Compound).
+///
+/// ```
+/// type PointParts = Struct<(i64, (i64, ()))>;
+/// ```
 pub trait Parts: Sized {
     // How they are read and written, by their names, with the proofs that belong to them. The table of a struct or an enum is made of it.
     ghost table: { PartsTable Self };
 
-    /// Returns the shape that is read for them.
+    /// Returns the shape that is read for them. The one error is [`OutOfMemory`](qs_data::Error::OutOfMemory). It allocates for the names,
+    /// which are copied, and the nested shapes, and takes time with them.
+    ///
+    /// ```
+    /// let shape = PointParts::shape(alloc, &["x", "y"])?; // Shape::Struct
+    /// ```
     fn shape(alloc: Global, names: &[&'static str]) -> Result<Shape>
         ensures exact { IfOk result (λ s. shape_of s ≡ table.form (texts names.now)) }
         ensures errors { OnlyOutOfMemory result };
 
-    /// Returns the parts that data mean.
+    /// Returns the parts that data mean. The errors are those of [`from_data`](Deserialize::from_data) of the whole. It allocates, and takes
+    /// time, as that of each part does.
+    ///
+    /// ```
+    /// let Struct((x, (y, ()))) = PointParts::from_data(alloc, NAMES, datum)?;
+    /// ```
     fn from_data(alloc: Global, names: &[&'static str], datum: Data) -> Result<Self>
         ensures { Means table.value result (table.meaning (texts names.now) (data_of datum)) };
 
-    /// Returns the parts that are read from a node of a tree, without a shape or data in between.
+    /// Returns the parts that are read from a node of a tree, without a shape or data in between. The errors are those of
+    /// [`from_node`](Deserialize::from_node) of the whole. It allocates as that of each part does, and takes time with the node.
+    ///
+    /// ```
+    /// let Struct((x, (y, ()))) = PointParts::from_node(reader, NAMES, node)?;
+    /// ```
     fn from_node(reader: Reader, names: &[&'static str], node: &ParsedValue<'_>) -> Result<Self>
         requires { is_distinct (table.form (texts names.now)) ≡ true }
         ensures node { ReadsNode table.value (table.form (texts names.now)) (table.meaning (texts names.now)) reader.reject_duplicates (tree_of node.now) result };
 
-    /// Returns the parts that come from data or from a node.
+    /// Returns the parts that come from data or from a node. Errors, allocation and time are those of [`from_data`](Parts::from_data), or of
+    /// [`from_node`](Parts::from_node).
     ///
     /// ```
     /// let Struct((x, (y, ()))) = PointParts::read(source, NAMES)?;

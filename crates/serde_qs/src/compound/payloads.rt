@@ -23,38 +23,57 @@ use qs_tree::ParsedValue;
 use std::alloc::Global;
 
 /// What a variant of one value holds, or a struct round one value, which is read and written as that value.
+///
+/// ```
+/// let Newtype(cents) = PriceParts::read(source, &[])?; // PriceParts = Newtype<u32>
+/// ```
 #[derive(Debug, PartialEq, Drop)]
 pub struct Newtype<T>(pub T);
 
 /// The fields of a struct, or of a variant with named fields, as nested pairs: `Struct<(u8, (u8, ()))>`.
+///
+/// ```
+/// let Struct((x, (y, ()))) = PointParts::read(source, NAMES)?;
+/// ```
 #[derive(Debug, PartialEq, Drop)]
 pub struct Struct<F>(pub F);
 
 /// The items of a tuple, or of a variant with items, as nested pairs: `Tuple<(u8, (u8, ()))>`.
+///
+/// ```
+/// let Tuple((first, (last, ()))) = SpanParts::read(source, &[])?;
+/// ```
 #[derive(Debug, PartialEq, Drop)]
 pub struct Tuple<I>(pub I);
 
 /// What a variant of an enum holds: `()`, a [`Newtype`], a [`Tuple`], a [`Struct`] or a [`StrictStruct`](crate::StrictStruct).
 ///
 /// It is implemented for these alone; a user names them in an [`Enum`](crate::Enum).
+///
+/// ```
+/// type SortParts = Enum<OneOf<(), Last<Newtype<String>>>>; // the first holds (), the last a Newtype<String>
+/// ```
 pub trait Payload: Sized {
     // How it is read and written, by its names, with the proofs that belong to it.
     ghost table: { PayloadTable Self };
 
-    /// Returns the names after its own.
+    /// Returns the names after its own. It doesn't allocate, and takes a step for each of its fields.
     fn skip<'a>(names: &'a [&'static str]) -> &'a [&'static str]
         ensures { texts result.now ≡ table.after (texts names.now) };
 
-    /// Returns what is read for it.
+    /// Returns what is read for it. The one error is [`OutOfMemory`](qs_data::Error::OutOfMemory). It allocates for names, which are copied,
+    /// and nested shapes.
     fn kind(alloc: Global, names: &[&'static str]) -> Result<VariantKind>
         ensures exact { IfOk result (λ k. kind_of k ≡ table.form (texts names.now)) }
         ensures errors { OnlyOutOfMemory result };
 
-    /// Returns what data of such a variant mean.
+    /// Returns what data of such a variant mean. The errors are those of [`from_data`](Deserialize::from_data). It allocates, and takes time,
+    /// as that of each part does.
     fn from_data(alloc: Global, names: &[&'static str], datum: Data) -> Result<Self>
         ensures { Means table.value result (table.meaning (texts names.now) (data_of datum)) };
 
-    /// Returns what is read from the value that such a variant holds. Where a text alone names the variant, it holds none.
+    /// Returns what is read from the value that such a variant holds. Where a text alone names the variant, it holds none. The errors are
+    /// those of [`from_node`](Deserialize::from_node). It allocates, and takes time, as that of each part does.
     fn from_node(
         reader: Reader,
         names: &[&'static str],

@@ -22,12 +22,16 @@ use std::alloc::Global;
 /// References to the fields of a struct that is written, as nested pairs: `(&self.x, (&self.y, ()))`.
 ///
 /// A field that is left out where it is None is a [`SkipNone`] in place of the reference.
+///
+/// ```
+/// struct_of(alloc, &["x", "y"], (&self.x, (SkipNone(&self.y), ())))
+/// ```
 pub trait References: Sized {
     // The members of the fields, by their names.
     ghost members: { List (List ℕ) → Self → List Named };
 
     /// Returns these members and after them those of the fields. The one error is
-    /// [`OutOfMemory`](qs_data::Error::OutOfMemory).
+    /// [`OutOfMemory`](qs_data::Error::OutOfMemory). It allocates for the data and the names, which are copied, and takes time with them.
     fn push_members(
         self,
         alloc: Global,
@@ -37,12 +41,17 @@ pub trait References: Sized {
         ensures exact { IfOk result (λ all. map (named data_of) all.items ≡ map (named data_of) before.items ++ members (texts names.now) self) }
         ensures errors { OnlyOutOfMemory result };
 
-    /// Writes the fields under their names, where the writer is.
+    /// Writes the fields under their names, where the writer is. The errors, and what was written before each, are those of
+    /// [`Writer::data`]. It allocates for the text, and as [`write_to`](Serialize::write_to) of each field does.
     fn write_members(self, names: &[&str], writer: &mut Writer) -> WriteResult
         ensures written { WritesPart result writer.old writer.new (members_part (members_of (members (texts names.now) self))) };
 }
 
-/// A field that is left out where it is None, for a field that is [`Optional`](crate::Optional): `(SkipNone(&self.page), ())`.
+/// A field that is left out where it is None, for a field that is [`Optional`](crate::Optional).
+///
+/// ```
+/// out.fields(NAMES, (&self.text, (SkipNone(&self.page), ())))
+/// ```
 #[derive(Drop)]
 pub struct SkipNone<'a, T>(pub &'a Option<T>);
 
@@ -117,6 +126,10 @@ impl<'a, T: Serialize, R: References + Drop> References for (SkipNone<'a, T>, R)
 }
 
 /// References to fields whose values come back, for [`Out::fields`](crate::Exit::fields).
+///
+/// ```
+/// out.fields(NAMES, (&self.x, (&self.y, ())))
+/// ```
 pub trait FieldReferences: References {
     // The members of the fields, by their names, in the words of the fields' tables.
     ghost own_members: { List (List ℕ) → Self → List Named };
@@ -173,12 +186,16 @@ impl<'a, T: RoundTrip, R: FieldReferences + Drop> FieldReferences for (SkipNone<
 }
 
 /// References to the items of a tuple that is written, as nested pairs: `(&self.0, (&self.1, ()))`.
+///
+/// ```
+/// tuple_struct(alloc, (&self.0, (&self.1, ())))
+/// ```
 pub trait ItemReferences: Sized {
     // The data of the items.
     ghost listed: { Self → List Datum };
 
     /// Returns these data and after them those of the items. The one error is
-    /// [`OutOfMemory`](qs_data::Error::OutOfMemory).
+    /// [`OutOfMemory`](qs_data::Error::OutOfMemory). It allocates for the data, and takes time with them.
     fn push_items(self, alloc: Global, before: Vec<Data>) -> Result<Vec<Data>>
         ensures exact { IfOk result (λ all. map data_of all.items ≡ map data_of before.items ++ listed self) }
         ensures errors { OnlyOutOfMemory result };
@@ -203,6 +220,10 @@ impl<'a, T: Serialize, R: ItemReferences + Drop> ItemReferences for (&'a T, R) {
 }
 
 /// References to items whose values come back, for [`Out::items`](crate::Exit::items).
+///
+/// ```
+/// out.items((&self.0, (&self.1, ())))
+/// ```
 pub trait ListedReferences: ItemReferences {
     // The data of the items, in the words of their tables.
     ghost own_data: { Self → List Datum };

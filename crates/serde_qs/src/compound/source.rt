@@ -9,6 +9,10 @@ use std::alloc::Global;
 
 /// Where the parts of a value come from: from data, or from a node of a tree. It is passed to [`Compound::read`](crate::Compound::read), which
 /// passes it on to its [`Parts`](crate::Parts).
+///
+/// ```
+/// let point = Point::read(Source::Data(alloc, datum))?;
+/// ```
 #[derive(Drop)]
 pub enum Source<'t, 'qs> {
     /// Data, and where memory comes from.
@@ -18,7 +22,7 @@ pub enum Source<'t, 'qs> {
 }
 
 impl Source<'_, '_> {
-    /// Returns where memory comes from.
+    /// Returns where memory comes from, in constant time. It doesn't allocate.
     ///
     /// ```
     /// let alloc = source.alloc();
@@ -36,7 +40,8 @@ impl Source<'_, '_> {
     /// let years: u8 = source.value()?;
     /// ```
     ///
-    /// The errors are those of [`from_data`](Deserialize::from_data), or of [`from_node`](Deserialize::from_node).
+    /// The errors are those of [`from_data`](Deserialize::from_data), or of [`from_node`](Deserialize::from_node). It allocates, and takes
+    /// time, as that call does.
     pub fn value<T: Deserialize>(self) -> Result<T>
         ensures { ReadsSource T.table.value T.table.form T.table.meaning self.entry result }
     {

@@ -13,6 +13,10 @@ use std::alloc::Global;
 /// The fields of a struct, or of a variant with named fields, as those of a [`Struct`](crate::Struct), where a map with a key that no
 /// field has is rejected: `StrictStruct<(u8, (u8, ()))>`.
 ///
+/// ```
+/// let StrictStruct((amount, (method, ()))) = PaymentParts::read(source, NAMES)?;
+/// ```
+///
 /// It is serde's `deny_unknown_fields`. It is written as a `Struct` is.
 #[derive(Debug, PartialEq, Drop)]
 pub struct StrictStruct<F>(pub F);

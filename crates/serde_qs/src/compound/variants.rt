@@ -41,18 +41,25 @@ pub enum OneOf<V, R> {
     Later(R),
 }
 
-/// The last variant of an enum.
+/// The last variant of an enum. An enum of one variant has it alone, as `Enum<Last<()>>`.
+///
+/// ```
+/// type SortParts = Enum<OneOf<(), Last<Newtype<String>>>>;
+/// ```
 #[derive(Debug, PartialEq, Drop)]
 pub struct Last<V>(pub V);
 
-/// The variants of an enum: `OneOf<(), OneOf<Newtype<String>, Last<Struct<(u8, (u8, ()))>>>>`.
+/// The variants of an enum. It is implemented for [`OneOf`] and [`Last`] alone; a user names them in an [`Enum`](crate::Enum).
 ///
-/// It is implemented for [`OneOf`] and [`Last`] alone.
+/// ```
+/// type SortParts = Enum<OneOf<(), OneOf<Newtype<String>, Last<Struct<(u32, (u32, ()))>>>>>;
+/// ```
 pub trait Variants: Sized {
     // How they are read and written, by their names, a variant's before those of its fields, with the proofs that belong to them.
     ghost table: { VariantsTable Self };
 
-    /// Returns these variants and after them what is read for the variants of these names.
+    /// Returns these variants and after them, in order, what is read for the variants of these names. The one error is
+    /// [`OutOfMemory`](qs_data::Error::OutOfMemory). It allocates for the names, which are copied, and the nested shapes.
     fn push_variants(
         alloc: Global,
         names: &[&'static str],
@@ -61,11 +68,13 @@ pub trait Variants: Sized {
         ensures exact { IfOk result (λ all. map variant_of all.items ≡ map variant_of variants.items ++ table.form (texts names.now)) }
         ensures errors { OnlyOutOfMemory result };
 
-    /// Returns the variant that data mean.
+    /// Returns the variant that data mean. The errors are those of [`from_data`](crate::Deserialize::from_data). It allocates as that of each
+    /// part does, and compares one name for each variant at most.
     fn from_variant(alloc: Global, names: &[&'static str], datum: Data) -> Result<Self>
         ensures { Means table.value result (table.meaning (texts names.now) (data_of datum)) };
 
-    /// Returns the variant of a name, read from the value that it holds. Where a text alone names it, it holds none.
+    /// Returns the variant of a name, read from the value that it holds. Where a text alone names it, it holds none. The errors are those of
+    /// [`from_node`](crate::Deserialize::from_node). It allocates as that of each part does, and compares one name for each variant at most.
     fn from_name(
         reader: Reader,
         names: &[&'static str],

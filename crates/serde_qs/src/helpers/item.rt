@@ -31,7 +31,12 @@ pub trait Item: Sized {
 
     /// Appends the text of this item. The one error is [`OutOfMemory`](Error::OutOfMemory), and then `out` is unchanged.
     ///
-    /// It is the text of the same value in a querystring, before it is escaped.
+    /// It is the text of the same value in a querystring, before it is escaped. It allocates where `out` has no room for it, and takes
+    /// time with its length.
+    ///
+    /// ```
+    /// true.print(&mut out)?; // true
+    /// ```
     fn print(&self, out: &mut String) -> Result<()>
         ensures ok { OnOk result (string_bytes out.new ≡ string_bytes out.old ++ printed self.now) }
         ensures err { OnErr result (string_bytes out.new ≡ string_bytes out.old) }
@@ -40,7 +45,12 @@ pub trait Item: Sized {
     /// Returns the item that a text is parsed as.
     ///
     /// Where it is no item, the error is [`Custom`](Error::Custom); where an allocation failed,
-    /// [`OutOfMemory`](Error::OutOfMemory). There is no other error.
+    /// [`OutOfMemory`](Error::OutOfMemory). There is no other error. It allocates for a string, and for the message of an error, and takes
+    /// time with the length of the text.
+    ///
+    /// ```
+    /// let item = <bool as Item>::parse(alloc, "true")?; // true; of "x" the error is: invalid item `x`
+    /// ```
     fn parse(alloc: Global, text: &str) -> Result<Self>
         ensures { Means value result (meaning text.now) };
 }

@@ -22,6 +22,10 @@ use std::marker::PhantomData;
 /// A whole number, of 8 to 64 bits.
 ///
 /// It is implemented for these eight types alone.
+///
+/// ```
+/// pub values: Delimited<i16, Comma>, // i16 is one of them
+/// ```
 pub trait WholeNumber: Item + RoundTrip {
     // What the numbers are printed as and parsed from, with the proof that they come back, as one value.
     ghost numbers: { Numbers Self };
@@ -53,25 +57,46 @@ pub trait Delimiter {
 
     ghost is_free: { is_number_delimiter delimiter ≡ true };
 
-    /// Returns the character.
+    /// Returns the character. Of the types of this crate it takes constant time and doesn't allocate.
+    ///
+    /// ```
+    /// let delimiter = Comma::delimiter(); // ','
+    /// ```
     fn delimiter() -> char
         ensures { result ≡ delimiter };
 }
 
 /// The delimiter of [`comma_separated`](crate::helpers::comma_separated).
+///
+/// ```
+/// pub values: Delimited<u32, Comma>, // values=1,2,3
+/// ```
 #[derive(Debug, PartialEq, Drop)]
 pub struct Comma;
 
 /// The delimiter of [`pipe_delimited`](crate::helpers::pipe_delimited).
+///
+/// ```
+/// pub values: Delimited<u32, Pipe>, // values=1|2|3
+/// ```
 #[derive(Debug, PartialEq, Drop)]
 pub struct Pipe;
 
 /// The delimiter of [`space_delimited`](crate::helpers::space_delimited).
+///
+/// ```
+/// pub values: Delimited<u32, Space>, // values=1+2+3
+/// ```
 #[derive(Debug, PartialEq, Drop)]
 pub struct Space;
 
-/// A list of whole numbers that is read from one text, with a delimiter between them, and written so: `values=1,2,3` for
-/// `values: Delimited<u32, Comma>`.
+/// A list of whole numbers that is read from one text, with a delimiter between them, and written so.
+///
+/// ```
+/// pub struct Chart {
+///     pub values: Delimited<u32, Comma>, // values=1,2,3
+/// }
+/// ```
 ///
 /// The empty list is the empty text, `values=`. A text with a piece that is no number is rejected: ``invalid item `x` ``.
 #[derive(Debug, PartialEq, Drop)]
@@ -81,7 +106,7 @@ pub struct Delimited<T, D> {
 }
 
 impl<T, D> Delimited<T, D> {
-    /// Returns the list of these items. It doesn't allocate.
+    /// Returns the list of these items, in constant time. It doesn't allocate.
     ///
     /// ```
     /// let values: Delimited<u32, Comma> = Delimited::new(items);

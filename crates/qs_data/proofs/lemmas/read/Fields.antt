@@ -24,17 +24,17 @@ pub field_none : (o p : Bool) (r : Reader) (ts : List Tree) (t : Tree) → ts �
 field_none o p r ts t h n = ap (read_field o p r) h ∙ ap (option_map Some) n
 
 abbrev reads_field : Bool → Field → Entries → Option (Option Data)
-reads_field st d es = read_field (field_of d).2 (is_option (field_of d).1) (reads st (field_of d).1) (found (field_of d).0 es)
+reads_field reject_duplicates d es = read_field (field_of d).2 (is_option (field_of d).1) (reads reject_duplicates (field_of d).1) (found (field_of d).0 es)
 
 -- one more field by its name
-module _ (st : Bool) (fs : List Field) (i : ℕ) (d : Field) (es : Entries) (ws : List Named) (here : i < length fs) (is : d ≡ get_or fs i d) where
-  pub names_more : (o : Option Data) → reads_field st d es ≡ Some o
-      → before ws (reads_names st (fields_in (drop i fs)) es) ≡ before ws (with_field (field_of d).0 o (reads_names st (fields_in (drop (i + 1) fs)) es))
+module _ (reject_duplicates : Bool) (fs : List Field) (i : ℕ) (d : Field) (es : Entries) (ws : List Named) (here : i < length fs) (is : d ≡ get_or fs i d) where
+  pub names_more : (o : Option Data) → reads_field reject_duplicates d es ≡ Some o
+      → before ws (reads_names reject_duplicates (fields_in (drop i fs)) es) ≡ before ws (with_field (field_of d).0 o (reads_names reject_duplicates (fields_in (drop (i + 1) fs)) es))
   unfolding reads
   names_more o r =
       let split : drop i fs ≡ d ∷ drop (i + 1) fs = drop_more fs i d here ∙ ap (λ y. y ∷ drop (i + 1) fs) (sym is) in
-      ap (λ ys. before ws (reads_names st (fields_in ys) es)) split
-      ∙ ap (λ x. before ws (option_and_then (λ y. with_field (field_of d).0 y (reads_names st (fields_in (drop (i + 1) fs)) es)) x)) r
+      ap (λ ys. before ws (reads_names reject_duplicates (fields_in ys) es)) split
+      ∙ ap (λ x. before ws (option_and_then (λ y. with_field (field_of d).0 y (reads_names reject_duplicates (fields_in (drop (i + 1) fs)) es)) x)) r
 
 -- the items after the first
 pub items_following : (i : ℕ) (ts : List ParsedValue) → items_after (items_from (map tree_of (drop i ts))) ≡ items_from (map tree_of (drop (i + 1) ts))
@@ -63,20 +63,20 @@ pub place_some : (o : Bool) (r : Reader) (xs more : Items) (t : Tree) → xs ≡
 place_some o r xs more t h = ap (read_place o r) h
 
 abbrev reads_place : Bool → Field → List ParsedValue → Option (Option Data)
-reads_place st d ts = read_place (field_of d).2 (reads st (field_of d).1) (items_from (map tree_of ts))
+reads_place reject_duplicates d ts = read_place (field_of d).2 (reads reject_duplicates (field_of d).1) (items_from (map tree_of ts))
 
 -- one more field by its place
-module _ (st : Bool) (fs : List Field) (i : ℕ) (d : Field) (ts : List ParsedValue) (ws : List Named) (here : i < length fs) (is : d ≡ get_or fs i d) where
+module _ (reject_duplicates : Bool) (fs : List Field) (i : ℕ) (d : Field) (ts : List ParsedValue) (ws : List Named) (here : i < length fs) (is : d ≡ get_or fs i d) where
   abbrev rest : Option (List Named)
-  rest = reads_places st (fields_in (drop (i + 1) fs)) (items_from (map tree_of (drop (i + 1) ts)))
+  rest = reads_places reject_duplicates (fields_in (drop (i + 1) fs)) (items_from (map tree_of (drop (i + 1) ts)))
 
-  pub places_more : (o : Option Data) → reads_place st d (drop i ts) ≡ Some o
-      → before ws (reads_places st (fields_in (drop i fs)) (items_from (map tree_of (drop i ts)))) ≡ before ws (with_field (field_of d).0 o rest)
+  pub places_more : (o : Option Data) → reads_place reject_duplicates d (drop i ts) ≡ Some o
+      → before ws (reads_places reject_duplicates (fields_in (drop i fs)) (items_from (map tree_of (drop i ts)))) ≡ before ws (with_field (field_of d).0 o rest)
   unfolding reads
   places_more o r =
       let split : drop i fs ≡ d ∷ drop (i + 1) fs = drop_more fs i d here ∙ ap (λ y. y ∷ drop (i + 1) fs) (sym is) in
-      ap (λ ys. before ws (reads_places st (fields_in ys) (items_from (map tree_of (drop i ts))))) split
-      ∙ ap (λ zs. before ws (option_and_then (λ y. with_field (field_of d).0 y (reads_places st (fields_in (drop (i + 1) fs)) zs)) (reads_place st d (drop i ts)))) (items_following i ts)
+      ap (λ ys. before ws (reads_places reject_duplicates (fields_in ys) (items_from (map tree_of (drop i ts))))) split
+      ∙ ap (λ zs. before ws (option_and_then (λ y. with_field (field_of d).0 y (reads_places reject_duplicates (fields_in (drop (i + 1) fs)) zs)) (reads_place reject_duplicates d (drop i ts)))) (items_following i ts)
       ∙ ap (λ x. before ws (option_and_then (λ y. with_field (field_of d).0 y rest) x)) r
 
 pub field_name : (d : Field) → (field_of d).0 ≡ string_bytes (out-Field d).name

@@ -1,5 +1,5 @@
 -- What a map has under a name is found by two look-ups.
-use Rattle.qs_data.proofs.Common.{◌≡◌, ℕ, ◌<◌, ◌^◌, true, false, List, [], ◌∷◌, ◌++◌, Option, Some, None, decimal, Less, Equal, Greater, refl, sym, ap, subst, ltb, ◌∙◌, inl, inr, arith, bytes_eq, is_eq, cases_Bool, false≢true, nat_tests, decimal_injective, Segment, is_same_segment, Tree, Entries, no_entries, entry, found, option_map, ParsedValue, find, tree_of, NumbersFit, value_in}
+use Rattle.qs_data.proofs.Common.{◌≡◌, ℕ, ◌<◌, ◌^◌, true, false, List, [], ◌∷◌, ◌++◌, Option, Some, None, decimal, Less, Equal, Greater, refl, sym, ap, subst, ltb, ◌∙◌, inl, inr, arith, bytes_eq, is_eq, cases_Bool, false≢true, nat_tests, decimal_injective, Segment, is_same_segment, Tree, Entries, no_entries, entry, found, option_map, ParsedValue, value_at_key, tree_of, NumbersFit, value_in}
 use Rattle.std.proofs.lemmas.Cmp.{nat_list_eq_equiv}
 use Rattle.qs_spec.proofs.VariantNames.{bytes_equal}
 use Rattle.std.specs.Cmp.{nat_cmp_is}
@@ -10,12 +10,12 @@ use Rattle.std.specs.Borrow.{Bor}
 use Rattle.qs_tree.specs.tree.Ordered.{IsBefore, AreOrdered}
 
 -- what comes after a key is not that key
-absent : (s : Segment) (es : Entries) → IsBefore s es → find s es ≡ None
+absent : (s : Segment) (es : Entries) → IsBefore s es → value_at_key s es ≡ None
 absent s no_entries h = refl
 absent s (entry k m t es) h = rw h.0 (absent s es h.1)
 
 -- no number comes after a text
-no_number : (b : List ℕ) (n : ℕ) (es : Entries) → IsBefore (Str b) es → find (Int n) es ≡ None
+no_number : (b : List ℕ) (n : ℕ) (es : Entries) → IsBefore (Str b) es → value_at_key (Int n) es ≡ None
 no_number b n no_entries h = refl
 no_number b n (entry (Int j) m t es) h = absurd cc
 no_number b n (entry (Str c) m t es) h = no_number b n es h.1
@@ -40,7 +40,7 @@ same_text : (b name : List ℕ) → is_same_segment (Str name) (Str b) ≡ bytes
 same_text b name = is_eq-slice_cmp name b ∙ nat_list_eq_equiv.symm name b
 
 -- a name that is no number
-pub found_text : (name : List ℕ) (es : Entries) → AreOrdered es → NumbersFit es → ((n : ℕ) → n < 2 ^ 32 → decimal n ≡ name → ⊥) → found name es ≡ list (find (Str name) es)
+pub found_text : (name : List ℕ) (es : Entries) → AreOrdered es → NumbersFit es → ((n : ℕ) → n < 2 ^ 32 → decimal n ≡ name → ⊥) → found name es ≡ list (value_at_key (Str name) es)
 found_text name no_entries o f h = refl
 found_text name (entry (Int j) m t es) o f h = elim (cases_Bool (bytes_eq (decimal j) name)) [
   | inl is ↦ absurd (h j f.0 (bytes_equal (decimal j) name is))
@@ -55,13 +55,13 @@ found_text name (entry (Str b) m t es) o f h = elim (cases_Bool (bytes_eq b name
 ]
 
 -- a name that is a number
-pub found_number : (name : List ℕ) (n : ℕ) (es : Entries) → AreOrdered es → NumbersFit es → n < 2 ^ 32 → decimal n ≡ name → found name es ≡ list (find (Int n) es) ++ list (find (Str name) es)
+pub found_number : (name : List ℕ) (n : ℕ) (es : Entries) → AreOrdered es → NumbersFit es → n < 2 ^ 32 → decimal n ≡ name → found name es ≡ list (value_at_key (Int n) es) ++ list (value_at_key (Str name) es)
 found_number name n no_entries o f lt is = refl
 found_number name n (entry (Int j) m t es) o f lt is = elim (cases_Bool (bytes_eq (decimal j) name)) [
   | inl here ↦
       let same : n ≡ j = decimal_injective n j (omega arith) (omega (arith, f.0)) (is ∙ sym (bytes_equal (decimal j) name here)) in
       let before : IsBefore (Int n) es = subst (λ x. IsBefore (Int x) es) (sym same) o.0 in
-      let rest : found name es ≡ list (find (Str name) es) = found_number name n es o.1 f.1 lt is ∙ ap (λ r. list r ++ list (find (Str name) es)) (absent (Int n) es before) in
+      let rest : found name es ≡ list (value_at_key (Str name) es) = found_number name n es o.1 f.1 lt is ∙ ap (λ r. list r ++ list (value_at_key (Str name) es)) (absent (Int n) es before) in
       rw (number_same n j same, here) (ap (λ ts. t ∷ ts) rest)
   | inr not ↦
       let other : n ≡ j → ⊥ = λ e. false≢true (sym not ∙ bytes_eq_same (decimal j) name (ap decimal (sym e) ∙ is)) in
@@ -70,11 +70,11 @@ found_number name n (entry (Int j) m t es) o f lt is = elim (cases_Bool (bytes_e
 found_number name n (entry (Str b) m t es) o f lt is = elim (cases_Bool (bytes_eq b name)) [
   | inl here ↦
       let before : IsBefore (Str name) es = subst (λ x. IsBefore (Str x) es) (bytes_equal b name here) o.0 in
-      let rest : found name es ≡ [] = found_number name n es o.1 f.1 lt is ∙ ap (λ r. list r ++ list (find (Str name) es)) (no_number b n es o.0) ∙ ap list (absent (Str name) es before) in
+      let rest : found name es ≡ [] = found_number name n es o.1 f.1 lt is ∙ ap (λ r. list r ++ list (value_at_key (Str name) es)) (no_number b n es o.0) ∙ ap list (absent (Str name) es before) in
       rw (same_text b name, here, no_number b n es o.0) (ap (λ ts. t ∷ ts) rest)
   | inr not ↦ rw (same_text b name, not) (found_number name n es o.1 f.1 lt is)
 ]
 
-pub value_list : (r : Option (Bor ParsedValue)) (s k : Segment) (es : Entries) → option_map (λ v. tree_of v.now) r ≡ find s es → s ≡ k → value_in r ≡ list (find k es)
-value_list None s k es h e = ap list (h ∙ ap (λ x. find x es) e)
-value_list (Some v) s k es h e = ap list (h ∙ ap (λ x. find x es) e)
+pub value_list : (r : Option (Bor ParsedValue)) (s k : Segment) (es : Entries) → option_map (λ v. tree_of v.now) r ≡ value_at_key s es → s ≡ k → value_in r ≡ list (value_at_key k es)
+value_list None s k es h e = ap list (h ∙ ap (λ x. value_at_key x es) e)
+value_list (Some v) s k es h e = ap list (h ∙ ap (λ x. value_at_key x es) e)

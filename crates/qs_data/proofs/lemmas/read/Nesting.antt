@@ -1,12 +1,13 @@
 -- Lists and maps that are being read, one within the other.
-use Rattle.qs_data.proofs.Common.{◌≡◌, ℕ, suc, ◌+◌, ◌*◌, ◌<◌, ◌≤◌, ◌&&◌, Bool, true, false, List, [], ◌∷◌, ◌++◌, slice_get, drop, map, Option, Some, None, refl, sym, ap, ◌∙◌, subst, arith, inl, inr, Result, Ok, Err, Vec, cases_Bool, All-push, All-pop, All, option_map, option_and_then, is_utf8, IsErrAnd, Global, values_of, pairs_of, key_data, Step, segment_text, KeyShape, Tree, Entries, sequence, mapping, entry, items, are_ints, placed, sequence_items, any_data, read_each, read_pairs, with_front, ReadError, entries_of_map, entry_list, Begins, Enters, Advances, Extends, entries_left, frame_data, frame_after, frame_size, frame_is_text, list_begun, map_begun, ReadRejects, items_view, first_item, are_text, entries_after, tree_size, list_size, entries_size, data_of, pair_of, is_text, entries_are_text, same_Some}
+use Rattle.qs_data.proofs.Common.{◌≡◌, ℕ, suc, ◌+◌, ◌*◌, ◌<◌, ◌≤◌, ◌&&◌, Bool, true, false, List, [], ◌∷◌, ◌++◌, slice_get, drop, map, Option, Some, None, refl, sym, ap, ◌∙◌, subst, arith, inl, inr, Result, Ok, Err, Vec, cases_Bool, All-push, All-pop, All, option_map, option_and_then, is_utf8, IsErrAnd, Global, values_of, pairs_of, key_data, MarkedSegment, segment_text, KeyShape, Tree, Entries, sequence, mapping, entry, items, are_ints, placed, sequence_items, any_data, read_each, read_pairs, with_front, ReadError, entries_of_map, entry_list, Begins, Enters, Advances, Extends, entries_left, frame_data, frame_after, frame_size, frame_is_text, list_begun, map_begun, ReadRejects, items_view, first_item, are_text, entries_after, tree_size, list_size, entries_size, data_of, pair_of, is_text, entries_are_text, same_Some}
 use Rattle.qs_spec.specs.Data.{Data}
 use Rattle.qs_data.specs.declared.data.data.Data as r
 use Rattle.qs_data.specs.declared.read.items.Items.{Items as Visited}
 use Rattle.qs_data.specs.declared.read.nested.MapFrame.{MapFrame}
 use Rattle.qs_data.specs.declared.read.nested.Frame.{Frame}
 use Rattle.qs_data.specs.declared.read.nested.Frame.TheVariants as frame
-use Rattle.qs_data.proofs.lemmas.read.Anything.{is_list, any_list, any_map}
+use Rattle.qs_spec.proofs.AnyIsRead.{map_is}
+use Rattle.qs_data.proofs.lemmas.read.Anything.{is_list, any_list}
 use Rattle.qs_data.proofs.lemmas.read.Entries.{after_some}
 use Rattle.qs_data.proofs.lemmas.read.Items.{first_some, items_bad}
 use Rattle.qs_data.proofs.lemmas.read.Errors.{and_left, and_right}
@@ -64,12 +65,12 @@ module _ (xs : List (Option Tree)) (i : ℕ) (t : Tree) (here : first_item (drop
       ap (λ ys. list_begun ws (read_each any_data ys)) item_is ∙ ap (λ o. list_begun ws (option_and_then (λ d. with_front d (read_each any_data (drop (i + 1) xs))) o)) h
 
 -- a map from the entry on that is due
-module _ (es : Entries) (i : ℕ) (x : Step × Tree) (here : slice_get (entry_list es) i ≡ Some x) where
+module _ (es : Entries) (i : ℕ) (x : MarkedSegment × Tree) (here : slice_get (entry_list es) i ≡ Some x) where
   pub entry_is : entries_after i es ≡ entry x.0.seg x.0.mark x.1 (entries_after (i + 1) es)
   entry_is = after_some i es x here
 
-  pub map_text_key : is_utf8 (segment_text x.0.seg) ≡ false → entries_are_text (entries_after i es) ≡ false
-  map_text_key n =
+  pub map_string_key : is_utf8 (segment_text x.0.seg) ≡ false → entries_are_text (entries_after i es) ≡ false
+  map_string_key n =
       ap entries_are_text entry_is
       ∙ and_left (is_utf8 (segment_text x.0.seg) && is_text x.1) (entries_are_text (entries_after (i + 1) es)) (and_left (is_utf8 (segment_text x.0.seg)) (is_text x.1) n)
 
@@ -122,7 +123,7 @@ begins_list l t xs w h value text size = record {
 pub begins_map : (l : Frame) (t : Tree) (es : Entries) → t ≡ mapping es → are_ints es ≡ false
     → frame_data l ≡ option_map (λ ps. Data.mapping (pairs_of ps)) (read_pairs KeyShape.text any_data es) → frame_is_text l ≡ entries_are_text es → frame_size l ≡ entries_size es → Begins l t
 begins_map l t es is not value text size = record {
-  value = ap any_data is ∙ any_map es not ∙ sym value;
+  value = ap any_data is ∙ map_is es not ∙ sym value;
   text = λ n. ap is_text is ∙ sym text ∙ n;
   size = let s : tree_size t ≡ suc (entries_size es) = ap tree_size is in omega arith;
 }
@@ -141,7 +142,7 @@ enters_list old inner node values i t here value text size b =
     }
 
 -- after some leaves of a map a further frame begins
-pub enters_map : (old inner : Frame) (new : MapFrame) (es : Entries) (i : ℕ) (x : Step × Tree) → slice_get (entry_list es) i ≡ Some x
+pub enters_map : (old inner : Frame) (new : MapFrame) (es : Entries) (i : ℕ) (x : MarkedSegment × Tree) → slice_get (entry_list es) i ≡ Some x
     → entries_of_map new.entries.now ≡ es → new.next ≡ i + 1 → key_data KeyShape.text (segment_text x.0.seg) ≡ Some (data_of new.key)
     → frame_data old ≡ map_begun (map pair_of new.pairs.items) (read_pairs KeyShape.text any_data (entries_after i es)) → (entries_are_text (entries_after i es) ≡ false → frame_is_text old ≡ false)
     → entries_size (entries_after i es) ≤ frame_size old → Begins inner x.1 → Enters inner old (frame.Map new)

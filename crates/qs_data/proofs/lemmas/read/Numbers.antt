@@ -9,11 +9,11 @@ use Rattle.std.proofs.lemmas.Str.Ascii.{IsAscii-nil}
 use Rattle.qs_spec.proofs.Numerals.{AreDigits, numerals}
 
 -- a numeral by the test is one by std
-numeral_holds : (ds : List ℕ) → is_numeral ds ≡ true → IsNumeral 10 ds
+pub numeral_holds : (ds : List ℕ) → is_numeral ds ≡ true → IsNumeral 10 ds
 numeral_holds [] h = absurd (search rules)
 numeral_holds (d ∷ ds) h = (omega arith, numerals.to (d ∷ ds) h)
 
-numeral_is : (ds : List ℕ) → IsNumeral 10 ds → is_numeral ds ≡ true
+pub numeral_is : (ds : List ℕ) → IsNumeral 10 ds → is_numeral ds ≡ true
 numeral_is [] h = absurd (omega (arith, h.0))
 numeral_is (d ∷ ds) h = numerals.from (d ∷ ds) h.1
 

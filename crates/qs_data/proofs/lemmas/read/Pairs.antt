@@ -1,5 +1,5 @@
 -- The pairs of a map, one after the other.
-use Rattle.qs_data.proofs.Common.{◌≡◌, ℕ, zero, suc, ◌+◌, ◌≤◌, ◌&&◌, false, List, [], ◌∷◌, ◌++◌, append-nil, slice_get, length, Option, Some, None, refl, ap, ◌∙◌, option_and_then, is_utf8, key_data, Step, segment_text, KeyShape, Tree, Entries, no_entries, entry, under_empty, Reader, read_pairs, with_front, entry_list, entries_after, is_text, entries_are_text}
+use Rattle.qs_data.proofs.Common.{◌≡◌, ℕ, zero, suc, ◌+◌, ◌≤◌, ◌&&◌, false, List, [], ◌∷◌, ◌++◌, append-nil, slice_get, length, Option, Some, None, refl, ap, ◌∙◌, option_and_then, is_utf8, key_data, MarkedSegment, segment_text, KeyShape, Tree, Entries, no_entries, entry, under_empty, Reader, read_pairs, with_front, entry_list, entries_after, is_text, entries_are_text}
 use Rattle.qs_spec.specs.Data.{Data}
 use Rattle.qs_data.proofs.lemmas.read.Entries.{after_some, after_none, after_all}
 use Rattle.qs_data.proofs.lemmas.read.Errors.{and_left, and_right}
@@ -11,7 +11,7 @@ after_bad (suc i) no_entries h = h
 after_bad (suc i) (entry k m t es) h = and_right (is_utf8 (segment_text k) && is_text t) (entries_are_text es) (after_bad i es h)
 
 -- a key or a value that isn't text stands among entries that aren't
-module _ (i : ℕ) (es : Entries) (x : Step × Tree) (here : slice_get (entry_list es) i ≡ Some x) where
+module _ (i : ℕ) (es : Entries) (x : MarkedSegment × Tree) (here : slice_get (entry_list es) i ≡ Some x) where
   pub key_bad : is_utf8 (segment_text x.0.seg) ≡ false → entries_are_text es ≡ false
   key_bad n =
       let rest = entries_are_text (entries_after (i + 1) es) in
@@ -37,7 +37,7 @@ module _ (k : KeyShape) (r : Reader) (es : Entries) (i : ℕ) (ws : List (Data �
   pub pairs_all : length (entry_list es) ≤ i → before ws (read_pairs k r (entries_after i es)) ≡ Some ws
   pairs_all h = ap (λ e. before ws (read_pairs k r e)) (after_all i es h) ∙ ap Some (append-nil ws)
 
-  module _ (x : Step × Tree) (here : slice_get (entry_list es) i ≡ Some x) where
+  module _ (x : MarkedSegment × Tree) (here : slice_get (entry_list es) i ≡ Some x) where
     abbrev rest : Option (List (Data × Data))
     rest = read_pairs k r (entries_after (i + 1) es)
 

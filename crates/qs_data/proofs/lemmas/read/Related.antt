@@ -1,5 +1,5 @@
 -- From the function of reading, of which the reader's own functions speak, to the relation, of which callers read.
-use Rattle.qs_data.proofs.Common.{◌≡◌, true, Result, Ok, Err, None, are_rejected, Shape, is_distinct, read_by, Error, Custom, Utf8, Data, data_of, is_text, Gives, Parsed, ReturnsData, SparesMemory}
+use Rattle.qs_data.proofs.Common.{◌≡◌, true, Result, Ok, Err, None, are_rejected, Shape, is_distinct, read_by, Error, Custom, Utf8, Data, data_of, is_text, Gives, Parsed, ReturnsData, AllocatesOnlyForErrors}
 use Rattle.qs_spec.specs.Relation.{ReadsNothing}
 use Rattle.qs_spec.proofs.ReadingIsRelation.{related, none_related}
 use Rattle.qs_tree.specs.declared.error.Error.TheVariants.{OutOfMemory}
@@ -16,6 +16,6 @@ returns_data parsed shape (Err (Utf8 cause)) dist g = (nothing parsed shape dist
 returns_data parsed shape (Err OutOfMemory) dist g = tt
 returns_data parsed shape (Err _) dist g = absurd g
 
-pub spares_memory : (parsed : Parsed) (shape : Shape) (result : Result Data Error) → is_distinct shape ≡ true → IsFrugal result (read_by parsed.config shape parsed.tree) → SparesMemory parsed shape result
-spares_memory parsed shape (Err OutOfMemory) dist f = nothing parsed shape dist f
-spares_memory parsed shape _ dist f = tt
+pub allocates_only_for_errors : (parsed : Parsed) (shape : Shape) (result : Result Data Error) → is_distinct shape ≡ true → IsFrugal result (read_by parsed.config shape parsed.tree) → AllocatesOnlyForErrors parsed shape result
+allocates_only_for_errors parsed shape (Err OutOfMemory) dist f = nothing parsed shape dist f
+allocates_only_for_errors parsed shape _ dist f = tt

@@ -6,22 +6,22 @@ use Rattle.qs_data.specs.declared.shape.shape.Shape.{Shape}
 use Rattle.qs_data.proofs.lemmas.read.Items.{first_some}
 use Rattle.qs_data.proofs.lemmas.read.Steps.{before, before-front}
 
-module _ (st : Bool) (ss : List Shape) (i : ℕ) (s : Shape) (xs : List (Option Tree)) (ws : List Data) (here : i < length ss) (is : s ≡ get_or ss i s) where
+module _ (reject_duplicates : Bool) (ss : List Shape) (i : ℕ) (s : Shape) (xs : List (Option Tree)) (ws : List Data) (here : i < length ss) (is : s ≡ get_or ss i s) where
   abbrev rest : Option (List Data)
-  rest = reads_tuple st (shapes_in (drop (i + 1) ss)) (drop (i + 1) xs)
+  rest = reads_tuple reject_duplicates (shapes_in (drop (i + 1) ss)) (drop (i + 1) xs)
 
   parts_at : (t : Tree) → first_item (drop i xs) ≡ Some (Some t)
-      → before ws (reads_tuple st (shapes_in (drop i ss)) (drop i xs)) ≡ before ws (option_and_then (λ d. with_front d rest) (reads st (shape_of s) t))
+      → before ws (reads_tuple reject_duplicates (shapes_in (drop i ss)) (drop i xs)) ≡ before ws (option_and_then (λ d. with_front d rest) (reads reject_duplicates (shape_of s) t))
   unfolding reads
   parts_at t h =
       let split : drop i ss ≡ s ∷ drop (i + 1) ss = drop_more ss i s here ∙ ap (λ y. y ∷ drop (i + 1) ss) (sym is) in
-      ap (λ ys. before ws (reads_tuple st (shapes_in ys) (drop i xs))) split
-      ∙ ap (λ ys. before ws (reads_tuple st (shapes_in (s ∷ drop (i + 1) ss)) ys)) (first_some xs i t h)
+      ap (λ ys. before ws (reads_tuple reject_duplicates (shapes_in ys) (drop i xs))) split
+      ∙ ap (λ ys. before ws (reads_tuple reject_duplicates (shapes_in (s ∷ drop (i + 1) ss)) ys)) (first_some xs i t h)
 
-  pub parts_more : (t : Tree) (d : Data) → first_item (drop i xs) ≡ Some (Some t) → reads st (shape_of s) t ≡ Some d
-      → before ws (reads_tuple st (shapes_in (drop i ss)) (drop i xs)) ≡ before (ws ++ d ∷ []) rest
+  pub parts_more : (t : Tree) (d : Data) → first_item (drop i xs) ≡ Some (Some t) → reads reject_duplicates (shape_of s) t ≡ Some d
+      → before ws (reads_tuple reject_duplicates (shapes_in (drop i ss)) (drop i xs)) ≡ before (ws ++ d ∷ []) rest
   parts_more t d h g = parts_at t h ∙ ap (λ o. before ws (option_and_then (λ d. with_front d rest) o)) g ∙ before-front ws d rest
 
-  pub parts_unread : (t : Tree) → first_item (drop i xs) ≡ Some (Some t) → reads st (shape_of s) t ≡ None
-      → before ws (reads_tuple st (shapes_in (drop i ss)) (drop i xs)) ≡ None
+  pub parts_unread : (t : Tree) → first_item (drop i xs) ≡ Some (Some t) → reads reject_duplicates (shape_of s) t ≡ None
+      → before ws (reads_tuple reject_duplicates (shapes_in (drop i ss)) (drop i xs)) ≡ None
   parts_unread t h g = parts_at t h ∙ ap (λ o. before ws (option_and_then (λ d. with_front d rest) o)) g

@@ -20,8 +20,8 @@ pub part_nothing : (a : Writer) → WritesPart (Ok tt) a a (λ config path. noth
 part_nothing a = record { config = refl; writes = writes_nothing a.config (state_of a) a.walk }
 
 -- an allocation failed at once
-pub part_without_memory : (a : Writer) (x : Part) → WritesPart (Err OutOfMemory) a a x
-part_without_memory a x = record { config = refl; writes = λ path at. some_none a.config.form (state_of a) (x a.config path).entries }
+pub part_out_of_memory : (a : Writer) (x : Part) → WritesPart (Err OutOfMemory) a a x
+part_out_of_memory a x = record { config = refl; writes = λ path at. some_none a.config.form (state_of a) (x a.config path).entries }
 
 -- where the writer doesn't go in
 pub part_entering : (e : Stop) (a b : Writer) (s : List ℕ) → b.config ≡ a.config → state_of b ≡ state_of a → IsBarred a.config e a.walk → (x : Part) → WritesPart (Err e) a b (under s x)

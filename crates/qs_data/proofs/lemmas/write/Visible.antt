@@ -45,8 +45,8 @@ equals_visible = all_visible (61 ∷ []) refl
 pub ruleset joined = (All-append, open_visible, close_visible, equals_visible)
 
 -- a text that is written as it is
-abbrev IsPlain : Bool → List ℕ → Type 0
-IsPlain form text = (encoded form text ≡ text) × All IsVisible (encoded form text)
+abbrev IsWrittenAsIs : Bool → List ℕ → Type 0
+IsWrittenAsIs form text = (encoded form text ≡ text) × All IsVisible (encoded form text)
 
 digits_bytes : (ds : List ℕ) → AreDigits ds → AllByRecursion (λ b. b < 256) ds
 digits_bytes [] e = tt
@@ -59,7 +59,7 @@ digits_visible (b ∷ ds) e = let h = and_both (is_between 48 57 b) (list_all (i
     let r = and_both (leb 48 b) (leb b 57) h.0 in
     All-cons IsVisible b ds (grind (arith, nat_tests), grind (arith, nat_tests)) (digits_visible ds h.1)
 
-unsigned_plain : (form : Bool) (n : ℕ) → n < 2 ^ 64 → IsPlain form (decimal n)
+unsigned_plain : (form : Bool) (n : ℕ) → n < 2 ^ 64 → IsWrittenAsIs form (decimal n)
 unsigned_plain form n l =
     let digits = digits_decimal numerals n l in
     let same = encoded_digits form (decimal n) (digits_bytes (decimal n) digits) digits in
@@ -69,7 +69,7 @@ minus : (form : Bool) → encoded_byte form 45 ≡ 45 ∷ []
 minus true = refl
 minus false = refl
 
-signed_plain : (form : Bool) (z : ℤ) → mag z + 1 < 2 ^ 64 → IsPlain form (signed_decimal z)
+signed_plain : (form : Bool) (z : ℤ) → mag z + 1 < 2 ^ 64 → IsWrittenAsIs form (signed_decimal z)
 signed_plain form (pos n) l = unsigned_plain form n (omega (arith, l))
 signed_plain form (negsuc n) l =
     let p = unsigned_plain form (suc n) (omega (arith, l)) in

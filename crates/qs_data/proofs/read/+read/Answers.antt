@@ -1,4 +1,4 @@
-use Rattle.qs_data.proofs.Common.{◌≡◌, ◌+◌, ◌<◌, ◌++◌, ◌||◌, ◌∷◌, [], ap, sym, subst, ◌∙◌, length, slice_get, map, drop, true, false, Some, None, option_map, string_bytes, rules, arith, common_steps, is_utf8, segment_text, Step, mapping, entry, are_ignored, Shape, no_items, found, as_map, under_empty, keys_are_text, keys_are_names, keys_are_allowed, items, reads_names, reads_places, reads_variant, reads_kind, read_enum, read_option, read_field, read_place, read_each, read_pairs, reads_tuple, tree_of, items_from, entries_of_map, step_of_key, data_of, named, pair_of, shape_of, field_of, fields_in, variant_of, variants_in, key_shape_of, shapes_in, is_text, items_are_text, entries_are_text, ReadGives, entries_view, entries_after, unknown_of, variant_named, key_data, Tree, false≢true, option_and_then, items_view, first_item, are_text}
+use Rattle.qs_data.proofs.Common.{◌≡◌, ◌+◌, ◌<◌, ◌++◌, ◌||◌, ◌∷◌, [], ap, sym, subst, ◌∙◌, length, slice_get, map, drop, true, false, Some, None, option_map, string_bytes, rules, arith, common_steps, is_utf8, segment_text, MarkedSegment, mapping, entry, are_ignored, Shape, no_items, found, as_map, under_empty, keys_are_text, keys_are_names, keys_are_allowed, items, reads_names, reads_places, reads_variant, reads_kind, read_enum, read_option, read_field, read_place, read_each, read_pairs, reads_tuple, tree_of, items_from, entries_of_map, marked_segment_of_key, data_of, named, pair_of, shape_of, field_of, fields_in, variant_of, variants_in, key_shape_of, shapes_in, is_text, items_are_text, entries_are_text, ReadGives, entries_view, entries_after, unknown_of, variant_named, key_data, Tree, false≢true, option_and_then, items_view, first_item, are_text}
 use Rattle.qs_spec.specs.Data as d
 use Rattle.qs_spec.specs.Shape.{is_option as is_option_shape}
 use Rattle.qs_spec.specs.internal.ReadFunction.{reads, struct_members, read_list}
@@ -149,7 +149,7 @@ pub variants::read_least-returns-in_err-place : goal.variants::read_least-return
 variants::read_least-returns-in_err-place t c =
     let ds = c.deref.result.now in
     let es = entries_of_map c.args.map.now in
-    let key = step_of_key c.in-Some.key.now in
+    let key = marked_segment_of_key c.in-Some.key.now in
     let n = tree_of c.in-Some.value.now in
     let least : es ≡ entry key.seg key.mark n (entries_after 1 es) = after_some 0 es (key, n) (sym c.in-Some.ensures.value) in
     let name = segment_text key.seg in
@@ -163,7 +163,7 @@ variants::read_least-returns t c =
     let ds = c.args.variants.now.items in
     let vs = variants_in ds in
     let es = entries_of_map c.args.map.now in
-    let key = step_of_key c.in-Some.key.now in
+    let key = marked_segment_of_key c.in-Some.key.now in
     let n = tree_of c.in-Some.value.now in
     let least : es ≡ entry key.seg key.mark n (entries_after 1 es) = after_some 0 es (key, n) (sym c.in-Some.ensures.value) in
     let name = segment_text key.seg in
@@ -280,7 +280,7 @@ maps::read_pairs-returns-in_err-key t c =
     let es = entries_of_map c.args.entries.now in
     let k = key_shape_of c.args.key_shape.now in
     let r = reads c.args.reader.reject_duplicates (shape_of c.args.part.now) in
-    let x : Step × Tree = (step_of_key c.in-Some.key.now, tree_of c.in-Some.value.now) in
+    let x : MarkedSegment × Tree = (marked_segment_of_key c.in-Some.key.now, tree_of c.in-Some.value.now) in
     let here = sym c.in-Some.ensures.value in
     gives_exit (λ v. map pair_of v.items) (is_utf8 (segment_text x.0.seg)) (entries_are_text es) c.from_residual-in_err-key.result c.in_err-key.field-0.0 (key_data k (segment_text x.0.seg)) (read_pairs k r es)
     c.from_residual-in_err-key.ensures.1 c.in_err-key.ensures (λ e. l.invariant ∙ pairs_no_key k r es l.i (map pair_of l.pairs.items) x here e) (key_bad l.i es x here)
@@ -291,7 +291,7 @@ maps::read_pairs-returns-in_err-value t c =
     let es = entries_of_map c.args.entries.now in
     let k = key_shape_of c.args.key_shape.now in
     let r = reads c.args.reader.reject_duplicates (shape_of c.args.part.now) in
-    let x : Step × Tree = (step_of_key c.in-Some.key.now, tree_of c.in-Some.value.now) in
+    let x : MarkedSegment × Tree = (marked_segment_of_key c.in-Some.key.now, tree_of c.in-Some.value.now) in
     let here = sym c.in-Some.ensures.value in
     gives_exit (λ v. map pair_of v.items) (is_text x.1) (entries_are_text es) c.from_residual-in_err-value.result c.in_err-value.field-0.0 (r x.1) (read_pairs k r es)
     c.from_residual-in_err-value.ensures.1 c.in_err-value.ensures.gives (λ e. l.invariant ∙ pairs_no_value k r es l.i (map pair_of l.pairs.items) x here e) (value_bad l.i es x here)
@@ -302,7 +302,7 @@ maps::read_pairs-loop-i-preserved t c =
     let es = entries_of_map c.args.entries.now in
     let k = key_shape_of c.args.key_shape.now in
     let r = reads c.args.reader.reject_duplicates (shape_of c.args.part.now) in
-    let x : Step × Tree = (step_of_key c.in-Some.key.now, tree_of c.in-Some.value.now) in
+    let x : MarkedSegment × Tree = (marked_segment_of_key c.in-Some.key.now, tree_of c.in-Some.value.now) in
     let ws = map pair_of l.pairs.items in
     let a = data_of c.in_ok-key.key in
     let d = data_of c.in_ok-value.value in

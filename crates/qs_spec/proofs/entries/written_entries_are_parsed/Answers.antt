@@ -1,4 +1,4 @@
-use Rattle.qs_spec.proofs.EntryRead.{written_pairs, written_pair}
+use Rattle.qs_spec.proofs.EntryParsed.{written_pairs, written_pair}
 use Rattle.qs_spec.proofs.entries.written_entries_are_parsed.Goals as goal
 
 pub returns-clause-entries : goal.returns-clause-entries

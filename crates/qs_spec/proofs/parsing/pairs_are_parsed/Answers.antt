@@ -1,4 +1,4 @@
-use Rattle.qs_spec.proofs.RelatedIsRead.{found_pairs, are_pairs}
+use Rattle.qs_spec.proofs.RelatedIsParsed.{found_pairs, are_pairs}
 use Rattle.qs_spec.proofs.ReadOn.{after_ampersand, after_pair}
 use Rattle.qs_spec.proofs.parsing.pairs_are_parsed.Goals as goal
 

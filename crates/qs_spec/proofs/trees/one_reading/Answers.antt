@@ -1,4 +1,4 @@
-use Rattle.qs_spec.proofs.RelatedIsRead.{one_list}
+use Rattle.qs_spec.proofs.RelatedIsParsed.{one_list}
 use Rattle.qs_spec.proofs.TreeOf.{one_tree}
 use Rattle.qs_spec.proofs.trees.one_reading.Goals as goal
 

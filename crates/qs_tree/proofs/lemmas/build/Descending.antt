@@ -1,17 +1,17 @@
 -- What a step of a zipper leaves.
-use Rattle.qs_tree.proofs.Common.{◌≡◌, Bool, List, [], ◌∷◌, ◌++◌, Option, Some, None, option_map, option_and_then, refl, sym, ap, subst, ◌∙◌, append-nil, Step, Leaf, Tree, Entries, mapping, uninitialized, update, add_below, add, AddError, step_of_key, built_entries, Takes, IsRejected, entries_below, put_back, put_all_back, IsOpen, Leads, IsBarred}
+use Rattle.qs_tree.proofs.Common.{◌≡◌, Bool, List, [], ◌∷◌, ◌++◌, Option, Some, None, option_map, option_and_then, refl, sym, ap, subst, ◌∙◌, append-nil, MarkedSegment, Leaf, Tree, Entries, mapping, uninitialized, update, add_below, add, AddError, marked_segment_of_key, built_entries, Takes, IsRejected, entries_below, put_back, put_all_back, IsOpen, Leads, IsBarred}
 use Rattle.qs_tree.specs.declared.build.descent.Frame.{Frame}
 use Rattle.qs_tree.proofs.lemmas.build.Turns.{rejected_too, updated, one_below}
 
 -- the node at a key is taken out of the map that a node is or becomes
 module _ (m : Frame) (before taken : Tree) (es : Entries) (is : entries_below before ≡ Some es) (takes : Takes m.key es taken (built_entries m.map)) where
-  kept : (o : Option Tree) → option_map mapping (option_and_then (λ u. update (step_of_key m.key) (λ _. Some u) es) o) ≡ option_and_then (put_back m) o
+  kept : (o : Option Tree) → option_map mapping (option_and_then (λ u. update (marked_segment_of_key m.key) (λ _. Some u) es) o) ≡ option_and_then (put_back m) o
   kept None = refl
   kept (Some u) = ap (option_map mapping) (sym (takes.rest u))
 
-  pub opened : IsOpen (step_of_key m.key) before m taken
-  opened f = one_below (step_of_key m.key) f before es is ∙ ap (option_map mapping) (updated (step_of_key m.key) f es takes.ordered)
-      ∙ ap (λ t. option_map mapping (option_and_then (λ u. update (step_of_key m.key) (λ _. Some u) es) (f t))) (sym takes.node) ∙ kept (f taken)
+  pub opened : IsOpen (marked_segment_of_key m.key) before m taken
+  opened f = one_below (marked_segment_of_key m.key) f before es is ∙ ap (option_map mapping) (updated (marked_segment_of_key m.key) f es takes.ordered)
+      ∙ ap (λ t. option_map mapping (option_and_then (λ u. update (marked_segment_of_key m.key) (λ _. Some u) es) (f t))) (sym takes.node) ∙ kept (f taken)
 
 -- maps that are put back one after the other
 itself : {A : Type 0} (o : Option A) → option_and_then (λ a. Some a) o ≡ o
@@ -31,15 +31,15 @@ put_lowest_if ms m None = refl
 put_lowest_if ms m (Some t) = sym (put_lowest ms m t)
 
 -- a zipper without frames
-pub begins : (path : List Step) (node : Tree) → Leads path node [] path node
+pub begins : (path : List MarkedSegment) (node : Tree) → Leads path node [] path node
 begins path node tail push l = sym (itself (add (path ++ tail) push l node))
 
-pub nothing_below : (s : Step) (f : Tree → Option Tree) (t : Tree) → entries_below t ≡ None → add_below s f t ≡ None
+pub nothing_below : (s : MarkedSegment) (f : Tree → Option Tree) (t : Tree) → entries_below t ≡ None → add_below s f t ≡ None
 nothing_below s f (mapping es) none = cc
 nothing_below s f uninitialized none = cc
 nothing_below s f t none = refl
 
-module _ (path : List Step) (node : Tree) (ms : List Frame) (s : Step) (rest : List Step) (end : Tree) (way : Leads path node ms (s ∷ rest) end) where
+module _ (path : List MarkedSegment) (node : Tree) (ms : List Frame) (s : MarkedSegment) (rest : List MarkedSegment) (end : Tree) (way : Leads path node ms (s ∷ rest) end) where
   -- and goes on below one map more
   pub goes_on : (m : Frame) (taken : Tree) → IsOpen s end m taken → Leads path node (ms ++ m ∷ []) rest taken
   goes_on m taken opens tail push l = way tail push l ∙ ap (option_and_then (put_all_back ms)) (opens (add (rest ++ tail) push l)) ∙ put_lowest_if ms m (add (rest ++ tail) push l taken)
@@ -49,7 +49,7 @@ module _ (path : List Step) (node : Tree) (ms : List Frame) (s : Step) (rest : L
   ends error h tail push l = λ other. way tail push l ∙ ap (option_and_then (put_all_back ms)) (nothing_below s (add (rest ++ tail) push l) end (h other))
 
 -- the new node at the end is put back, or there is a conflict
-module _ (push : Bool) (l : Leaf) (path : List Step) (node : Tree) (ms : List Frame) (end : Tree) (way : Leads path node ms [] end) where
+module _ (push : Bool) (l : Leaf) (path : List MarkedSegment) (node : Tree) (ms : List Frame) (end : Tree) (way : Leads path node ms [] end) where
   whole_way : add path push l node ≡ option_and_then (put_all_back ms) (add [] push l end)
   whole_way = ap (λ p. add p push l node) (sym (append-nil path)) ∙ way [] push l
 
@@ -63,5 +63,5 @@ module _ (push : Bool) (l : Leaf) (path : List Step) (node : Tree) (ms : List Fr
   lost_at_end made error is h = λ other. whole_way ∙ ap (option_and_then (put_all_back ms)) is ∙ h other
 
 -- a pair whose path ends here
-pub barred_at_end : (push : Bool) (l : Leaf) (path : List Step) (node : Tree) (error : AddError) → IsBarred path node error → IsRejected (add path push l node) error
+pub barred_at_end : (push : Bool) (l : Leaf) (path : List MarkedSegment) (node : Tree) (error : AddError) → IsBarred path node error → IsRejected (add path push l node) error
 barred_at_end push l path node error h = subst (λ p. IsRejected (add p push l node) error) (append-nil path) (h [] push l)

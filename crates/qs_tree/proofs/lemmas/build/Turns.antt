@@ -1,9 +1,9 @@
 -- What a step of adding a pair leaves.
-use Rattle.qs_tree.proofs.Common.{◌≡◌, Bool, false, List, ◌∷◌, Option, Some, None, option_map, option_and_then, Result, Ok, Err, Ordering, Less, Equal, Greater, refl, sym, ap, subst, ◌∙◌, same_Some, IsErrAnd, Segment, Step, compare_segments, Leaf, Tree, Entries, empty_step, mapping, uninitialized, no_entries, entry, update, update_by, add_below, add_flat, add_here, add, segments_total, AddError, find, IsBefore, AreOrdered, child, Gives, IsRejected, entries_below}
+use Rattle.qs_tree.proofs.Common.{◌≡◌, Bool, false, List, ◌∷◌, Option, Some, None, option_map, option_and_then, Result, Ok, Err, Ordering, Less, Equal, Greater, refl, sym, ap, subst, ◌∙◌, same_Some, IsErrAnd, Segment, MarkedSegment, compare_segments, Leaf, Tree, Entries, empty_segment, mapping, uninitialized, no_entries, entry, update, update_by, add_below, add_flat, add_here, add, segments_total, AddError, value_at_key, IsBefore, AreOrdered, child, AddGives, IsRejected, entries_below}
 use Rattle.qs_tree.proofs.lemmas.tree.Keys.{mapped_twice}
 
 pub gives_err : {A B : Type 0} (view : A → B) (expected : Option B) (r : Result A AddError) (e : AddError) (Q : AddError → Type 0)
-    → IsErrAnd r Q → ((y : AddError) → Q y → y ≡ e) → IsRejected expected e → Gives view expected r
+    → IsErrAnd r Q → ((y : AddError) → Q y → y ≡ e) → IsRejected expected e → AddGives view expected r
 gives_err view expected (Ok a) e Q h same rejected = absurd h
 gives_err view expected (Err y) e Q h same rejected = subst (IsRejected expected) (sym (same y h)) rejected
 
@@ -11,11 +11,11 @@ pub rejected_too : {B C : Type 0} (expected : Option B) (expected' : Option C) (
 rejected_too expected expected' e none h = λ other. none (h other)
 
 -- what is done at a segment is done to the node that is there, which is put back
-module _ (s : Step) (f : Tree → Option Tree) where
+module _ (s : MarkedSegment) (f : Tree → Option Tree) where
   abbrev put_back : Entries → Tree → Option Entries
   put_back es u = update s (λ _. Some u) es
 
-  missing : (k : Segment) (es : Entries) → compare_segments s.seg k ≡ Less → IsBefore k es → find s.seg es ≡ None
+  missing : (k : Segment) (es : Entries) → compare_segments s.seg k ≡ Less → IsBefore k es → value_at_key s.seg es ≡ None
   missing k no_entries less h = refl
   missing k (entry l m t es) less h = rw (segments_total.trans s.seg k l less h.0) (missing k es less h.1)
 
@@ -45,18 +45,18 @@ module _ (s : Step) (f : Tree → Option Tree) where
     rejected_there step = updated es ordered ∙ ap (λ t. option_and_then (put_back es) (f t)) (sym there) ∙ ap (option_and_then (put_back es)) step
 
 -- one level down from a node that is a map or becomes one
-pub one_below : (s : Step) (f : Tree → Option Tree) (t : Tree) (es : Entries) → entries_below t ≡ Some es → add_below s f t ≡ option_map mapping (update s f es)
+pub one_below : (s : MarkedSegment) (f : Tree → Option Tree) (t : Tree) (es : Entries) → entries_below t ≡ Some es → add_below s f t ≡ option_map mapping (update s f es)
 one_below s f (mapping ms) es is = rw (same_Some ms es is)
 one_below s f uninitialized es is = rw (← same_Some no_entries es is) (mapped_twice (λ u. entry s.seg s.mark u no_entries) mapping (f uninitialized))
 one_below s f t es is = cc
 
 -- what is done below a map
-pub below_map : (s : Step) (rest : List Step) (push : Bool) (l : Leaf) (es new : Entries) (r : Result (Unit {0}) AddError)
-    → Gives (λ _. new) (update s (add rest push l) es) r → Gives (λ _. mapping new) (add (s ∷ rest) push l (mapping es)) r
+pub below_map : (s : MarkedSegment) (rest : List MarkedSegment) (push : Bool) (l : Leaf) (es new : Entries) (r : Result (Unit {0}) AddError)
+    → AddGives (λ _. new) (update s (add rest push l) es) r → AddGives (λ _. mapping new) (add (s ∷ rest) push l (mapping es)) r
 below_map s rest push l es new (Ok a) h = ap (option_map mapping) h
 below_map s rest push l es new (Err e) h = rejected_too _ _ e (λ none. ap (option_map mapping) none) h
 
 -- what is done at a map's empty text
-pub at_map : (l : Leaf) (es new : Entries) (r : Result (Unit {0}) AddError) → Gives (λ _. new) (update empty_step (add_flat false l) es) r → Gives (λ _. mapping new) (add_here false l (mapping es)) r
+pub at_map : (l : Leaf) (es new : Entries) (r : Result (Unit {0}) AddError) → AddGives (λ _. new) (update empty_segment (add_flat false l) es) r → AddGives (λ _. mapping new) (add_here false l (mapping es)) r
 at_map l es new (Ok a) h = ap (option_map mapping) h
 at_map l es new (Err e) h = rejected_too _ _ e (λ none. ap (option_map mapping) none) h

@@ -1,5 +1,5 @@
 -- Leaves in no order, and the entries that they make.
-use Rattle.qs_tree.proofs.Common.{inl, inr, cases_Bool, ◌≡◌, ◌≢◌, ◌≤◌, ◌<◌, ℕ, arith, length, get_or, ⊎_elim, same_segment, Bool, true, false, not, ◌&&◌, List, [], ◌∷◌, ◌++◌, map, refl, sym, ap, ap₂, ◌∙◌, Option, Some, Ordering, Less, Greater, is_lt, filter, IsPermutation, IsStrictlySortedBy, IsStableBy, ties, keys_of, ordering_reverse, Borrowed, filter_agree, same_Some, none-some, Pair, Segment, is_same_segment, compare_segments, Int, Str, Tree, entries_of, flat, head_mark, heads, node_within, leaf, entry, add_flat, add_here, update, Key, ParsedValue, NoValue, None, entries_held, leaf_pairs, entries_of_leaves, AreLeaves, is_leaf, is_some, unwrap_or, true≢false, append-nil, append_assoc, leaf_held, leaf_in, key_cmp, segment_of_key, key_mark, step_of_key, tree_of, and_parts, cases_lt, HaveDistinctKeys, All-permutation, Perm-from, perm_map, perm_heads, total-law, is_eq}
+use Rattle.qs_tree.proofs.Common.{inl, inr, cases_Bool, ◌≡◌, ◌≢◌, ◌≤◌, ◌<◌, ℕ, arith, length, get_or, ⊎_elim, same_segment, Bool, true, false, not, ◌&&◌, List, [], ◌∷◌, ◌++◌, map, refl, sym, ap, ap₂, ◌∙◌, Option, Some, Ordering, Less, Greater, is_lt, filter, IsPermutation, IsStrictlySortedBy, IsStableBy, ties, keys_of, ordering_reverse, Borrowed, filter_agree, same_Some, none-some, Pair, Segment, is_same_segment, compare_segments, Int, Str, Tree, entries_of, flat, head_mark, heads, node_within, leaf, entry, add_flat, add_here, update, Key, ParsedValue, NoValue, None, entries_held, leaf_pairs, entries_of_leaves, AreLeaves, is_leaf, is_some, unwrap_or, true≢false, append-nil, append_assoc, leaf_held, leaf_in, key_cmp, segment_of_key, key_mark, marked_segment_of_key, tree_of, and_parts, cases_lt, HaveDistinctKeys, All-permutation, Perm-from, perm_map, perm_heads, total-law, is_eq}
 use Rattle.std.proofs.lemmas.List.Elements.{filter_passes}
 use Rattle.std.proofs.lemmas.List.Kept.{AllPairs-filter}
 use Rattle.std.proofs.lemmas.List.Sums.{AllPass-from_list_all, list_all-from_AllPass}
@@ -20,9 +20,9 @@ directs : (k : Segment) (ls : Held) → AllDirect (map event (under k (leaf_pair
 directs k [] = tt
 directs k (p ∷ ls) = elim (cases_Bool (is_same_segment k (segment_of_key p.0))) [ inl at ↦ rw at (directs k ls) | inr other ↦ rw other (directs k ls) ]
 
-leaf_pairs-last : (ls : Held) (p : Key × ParsedValue) → leaf_pairs (ls ++ p ∷ []) ≡ leaf_pairs ls ++ pair (step_of_key p.0 ∷ []) false (leaf_held p.1) ∷ []
+leaf_pairs-last : (ls : Held) (p : Key × ParsedValue) → leaf_pairs (ls ++ p ∷ []) ≡ leaf_pairs ls ++ pair (marked_segment_of_key p.0 ∷ []) false (leaf_held p.1) ∷ []
 leaf_pairs-last [] p = refl
-leaf_pairs-last (q ∷ ls) p = ap (λ ps. pair (step_of_key q.0 ∷ []) false (leaf_held q.1) ∷ ps) (leaf_pairs-last ls p)
+leaf_pairs-last (q ∷ ls) p = ap (λ ps. pair (marked_segment_of_key q.0 ∷ []) false (leaf_held q.1) ∷ ps) (leaf_pairs-last ls p)
 
 here_flat : (l : spec.Leaf) (h : List Event) → add_here false l (flat h) ≡ add_flat false l (flat h)
 here_flat l (direct o ∷ []) = refl
@@ -30,17 +30,17 @@ here_flat l h = refl
 
 -- one leaf more
 module _ (ls : Held) (key : Key) (v : ParsedValue) where
-  added : (g : Tree → Option Tree) → ((h : List Event) → g (flat h) ≡ add_flat false (leaf_held v) (flat h)) → update (step_of_key key) g (entries_of_leaves ls) ≡ Some (entries_of_leaves (ls ++ (key, v) ∷ []))
+  added : (g : Tree → Option Tree) → ((h : List Event) → g (flat h) ≡ add_flat false (leaf_held v) (flat h)) → update (marked_segment_of_key key) g (entries_of_leaves ls) ≡ Some (entries_of_leaves (ls ++ (key, v) ∷ []))
   added g same =
       let own = under (segment_of_key key) (leaf_pairs ls) in
       let made : g (flat (map event own)) ≡ Some (flat (map event own ++ direct (leaf_held v) ∷ [])) = same (map event own) ∙ direct_adds (map event own) (leaf_held v) (directs (segment_of_key key) ls) in
-      update_pairs 0 (leaf_pairs ls) (step_of_key key) [] false (leaf_held v) g (Some (flat (map event own ++ direct (leaf_held v) ∷ []))) made (λ t d. sym (same_Some _ t d) ∙ ap flat (sym (history_push own (pair [] false (leaf_held v)))))
+      update_pairs 0 (leaf_pairs ls) (marked_segment_of_key key) [] false (leaf_held v) g (Some (flat (map event own ++ direct (leaf_held v) ∷ []))) made (λ t d. sym (same_Some _ t d) ∙ ap flat (sym (history_push own (pair [] false (leaf_held v)))))
       ∙ ap (λ (ps : List Pair). Some (entries_within 0 ps)) (sym (leaf_pairs-last ls (key, v)))
 
-  pub added_flat : update (step_of_key key) (add_flat false (leaf_held v)) (entries_of_leaves ls) ≡ Some (entries_of_leaves (ls ++ (key, v) ∷ []))
+  pub added_flat : update (marked_segment_of_key key) (add_flat false (leaf_held v)) (entries_of_leaves ls) ≡ Some (entries_of_leaves (ls ++ (key, v) ∷ []))
   added_flat = added (add_flat false (leaf_held v)) (λ h. refl)
 
-  pub added_here : update (step_of_key key) (add_here false (leaf_held v)) (entries_of_leaves ls) ≡ Some (entries_of_leaves (ls ++ (key, v) ∷ []))
+  pub added_here : update (marked_segment_of_key key) (add_here false (leaf_held v)) (entries_of_leaves ls) ≡ Some (entries_of_leaves (ls ++ (key, v) ∷ []))
   added_here = added (add_here false (leaf_held v)) (here_flat (leaf_held v))
 
 -- the leaves of one key decide what its entry is
@@ -119,7 +119,7 @@ moved_distinct xs ys moved distinct = kept_leaves xs ys moved (λ k. alone (is_a
 
 -- a leaf at a key after all others
 pub at_end : (key : Key) (ks : List Key) (v : ParsedValue) (l : spec.Leaf) → leaf_in (tree_of v) ≡ Some l → (es : Held) → IsStrictlySortedBy key_cmp (keys_of es ++ key ∷ ks)
-    → update (step_of_key key) (add_flat false l) (entries_held es) ≡ Some (entries_held (es ++ (key, v) ∷ []))
+    → update (marked_segment_of_key key) (add_flat false l) (entries_held es) ≡ Some (entries_held (es ++ (key, v) ∷ []))
 unfolding IsStrictlySortedBy
 at_end key ks v l is [] sorted = ap (λ t. Some (entry (segment_of_key key) (key_mark key) t (entries_held []))) (sym (only (tree_of v) is))
   where
@@ -127,7 +127,7 @@ at_end key ks v l is [] sorted = ap (λ t. Some (entry (segment_of_key key) (key
     only (leaf o) e = ap leaf (same_Some o l e)
     only t e = absurd (none-some l e)
 at_end key ks v l is (e ∷ es) sorted =
-    let after : compare_segments (step_of_key key).seg (segment_of_key e.0) ≡ Greater = above key ks e.0 (keys_of es) sorted.0 in
+    let after : compare_segments (marked_segment_of_key key).seg (segment_of_key e.0) ≡ Greater = above key ks e.0 (keys_of es) sorted.0 in
     rw (after, at_end key ks v l is es sorted.1)
 
 -- leaves of distinct keys make their own entries
@@ -136,7 +136,7 @@ grown front [] same sorted leaves = rw append-nil same
 grown front (e ∷ es) same sorted leaves =
     let each = and_parts (is_leaf (tree_of e.1)) _ leaves in
     let put = at_end e.0 (keys_of es) e.1 (leaf_held e.1) (held (leaf_in (tree_of e.1)) each.0) front sorted in
-    let more = same_Some _ _ (sym (added_flat front e.0 e.1) ∙ ap (update (step_of_key e.0) (add_flat false (leaf_held e.1))) same ∙ put) in
+    let more = same_Some _ _ (sym (added_flat front e.0 e.1) ∙ ap (update (marked_segment_of_key e.0) (add_flat false (leaf_held e.1))) same ∙ put) in
     let all = grown (front ++ e ∷ []) es more (rw (keys-append front (e ∷ []), append_assoc) sorted) each.1 in
     rw append_assoc at all
   where

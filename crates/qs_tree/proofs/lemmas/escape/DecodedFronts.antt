@@ -10,20 +10,20 @@ decoded_plain b (c ∷ e ∷ bs) other = cond-false _ _ _ other
 -- bytes up to a `%`
 pub decoded_run : (n : ℕ) (bs : List ℕ) → n ≤ length bs → NoneBetween (λ b. b == 37) bs 0 n
     → decoded bs ≡ map (swapped 43 32) (take n bs) ++ decoded (drop n bs)
-decoded_run zero bs within plain = refl
-decoded_run (suc n) [] within plain = absurd (omega arith)
-decoded_run (suc n) (b ∷ bs) within plain =
-    decoded_plain b bs (plain 0 (omega arith) (omega arith))
-    ∙ ap (λ x. unplus b ∷ x) (decoded_run n bs (omega arith) (λ k from to. plain (suc k) (omega arith) (omega arith)))
+decoded_run zero bs within unmarked = refl
+decoded_run (suc n) [] within unmarked = absurd (omega arith)
+decoded_run (suc n) (b ∷ bs) within unmarked =
+    decoded_plain b bs (unmarked 0 (omega arith) (omega arith))
+    ∙ ap (λ x. unplus b ∷ x) (decoded_run n bs (omega arith) (λ k from to. unmarked (suc k) (omega arith) (omega arith)))
 
 -- bytes up to a `+` or `%`
 pub decoded_front : (n : ℕ) (bs : List ℕ) → n ≤ length bs → NoneBetween is_escape bs 0 n → decoded bs ≡ take n bs ++ decoded (drop n bs)
-decoded_front zero bs within plain = refl
-decoded_front (suc n) [] within plain = absurd (omega arith)
-decoded_front (suc n) (b ∷ bs) within plain =
-    let first = or_both (b == 43) (b == 37) (plain 0 (omega arith) (omega arith)) in
+decoded_front zero bs within unmarked = refl
+decoded_front (suc n) [] within unmarked = absurd (omega arith)
+decoded_front (suc n) (b ∷ bs) within unmarked =
+    let first = or_both (b == 43) (b == 37) (unmarked 0 (omega arith) (omega arith)) in
     decoded_plain b bs first.1 ∙ ap (λ x. x ∷ decoded bs) (cond-false _ _ _ first.0)
-    ∙ ap (λ x. b ∷ x) (decoded_front n bs (omega arith) (λ k from to. plain (suc k) (omega arith) (omega arith)))
+    ∙ ap (λ x. b ∷ x) (decoded_front n bs (omega arith) (λ k from to. unmarked (suc k) (omega arith) (omega arith)))
 
 pub decoded_unmarked : (bs : List ℕ) → is_marked bs ≡ false → decoded bs ≡ bs
 decoded_unmarked [] unmarked = refl

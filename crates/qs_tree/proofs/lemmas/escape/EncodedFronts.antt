@@ -34,11 +34,11 @@ byte_not_escaped false b is =
 -- bytes up to an escape
 pub encoded_run : (form : Bool) (n : ℕ) (bs : List ℕ) → n ≤ length bs → NoneBetween (is_escaped form) bs 0 n
     → encoded form bs ≡ map (swapped 32 43) (take n bs) ++ encoded form (drop n bs)
-encoded_run form zero bs within plain = refl
-encoded_run form (suc n) [] within plain = absurd (omega arith)
-encoded_run form (suc n) (b ∷ bs) within plain =
-    ap (λ x. x ++ encoded form bs) (byte_not_escaped form b (plain 0 (omega arith) (omega arith)))
-    ∙ ap (λ x. swapped 32 43 b ∷ x) (encoded_run form n bs (omega arith) (λ k from to. plain (suc k) (omega arith) (omega arith)))
+encoded_run form zero bs within unmarked = refl
+encoded_run form (suc n) [] within unmarked = absurd (omega arith)
+encoded_run form (suc n) (b ∷ bs) within unmarked =
+    ap (λ x. x ++ encoded form bs) (byte_not_escaped form b (unmarked 0 (omega arith) (omega arith)))
+    ∙ ap (λ x. swapped 32 43 b ∷ x) (encoded_run form n bs (omega arith) (λ k from to. unmarked (suc k) (omega arith) (omega arith)))
 
 -- after an escape
 pub encoded_escape : (form : Bool) (bs : List ℕ) → 0 < length bs → is_escaped form (get_or bs 0 0) ≡ true
@@ -53,7 +53,7 @@ length_encoded form (b ∷ bs) =
     let counted = sum_by-cons (λ x. cond (is_escaped form x) 1 0) b bs in
     elim (cases_Bool (is_escaped form b)) [
       | inl escaped ↦ omega (arith, length-append (encoded_byte form b) (encoded form bs), ap length (byte_escaped form b escaped), length_encoded form bs, cond-true {A = ℕ} (is_escaped form b) 1 0 escaped)
-      | inr plain ↦ omega (arith, length-append (encoded_byte form b) (encoded form bs), ap length (byte_not_escaped form b plain), length_encoded form bs, cond-false {A = ℕ} (is_escaped form b) 1 0 plain)
+      | inr unmarked ↦ omega (arith, length-append (encoded_byte form b) (encoded form bs), ap length (byte_not_escaped form b unmarked), length_encoded form bs, cond-false {A = ℕ} (is_escaped form b) 1 0 unmarked)
     ]
 
 -- each byte takes at most three

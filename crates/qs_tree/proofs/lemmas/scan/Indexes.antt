@@ -1,5 +1,5 @@
 -- The number of a raw segment, read from left to right.
-use Rattle.qs_tree.proofs.Common.{◌≡◌, ◌≢◌, ℕ, ◌+◌, ◌-◌, ◌*◌, ◌≤◌, ◌==◌, Bool, true, false, cond, ◌&&◌, ◌||◌, nat_le, List, [], ◌∷◌, refl, sym, ap, ap₂, ◌∙◌, arith, Some, None, fold, list_all, le-leb, lt-leb, leb-true, leb-false, is_between, is_marked, decoded, is_index, number, segment_of, step_of, Int, Str, and_both, same_Some, CowSlice, Borrowed, Owned, segment_of_key, key_mark, step_of_key, index_of, index_from, eqb-true, Global}
+use Rattle.qs_tree.proofs.Common.{◌≡◌, ◌≢◌, ℕ, ◌+◌, ◌-◌, ◌*◌, ◌≤◌, ◌==◌, Bool, true, false, cond, ◌&&◌, ◌||◌, nat_le, List, [], ◌∷◌, refl, sym, ap, ap₂, ◌∙◌, arith, Some, None, fold, list_all, le-leb, lt-leb, leb-true, leb-false, is_between, is_marked, decoded, is_index, number, segment_of, marked_segment_of, Int, Str, and_both, same_Some, CowSlice, Borrowed, Owned, segment_of_key, key_mark, marked_segment_of_key, index_of, index_from, eqb-true, Global}
 use Rattle.std.specs.Cow.{cow_slice_items}
 use Rattle.qs_tree.specs.declared.tree.key.Key.TheVariants as variant
 use Rattle.qs_tree.specs.escape.Copies.{is_owned}
@@ -50,18 +50,18 @@ index_plain : (raw : List ℕ) → is_index raw ≡ true → is_marked raw ≡ f
 index_plain [] e = refl
 index_plain (b ∷ raw) e = digits_plain (b ∷ raw) (and_both (list_all (is_between 48 57) (b ∷ raw)) _ e).0
 
-pub number_key : (raw : List ℕ) (n : ℕ) → Some n ≡ index_of raw → step_of_key (variant.Int n) ≡ step_of raw
+pub number_key : (raw : List ℕ) (n : ℕ) → Some n ≡ index_of raw → marked_segment_of_key (variant.Int n) ≡ marked_segment_of raw
 number_key raw n e = by (is_index raw) refl e
   where
-    by : (x : Bool) → is_index raw ≡ x → Some n ≡ cond x (Some (number raw)) None → step_of_key (variant.Int n) ≡ step_of raw
+    by : (x : Bool) → is_index raw ≡ x → Some n ≡ cond x (Some (number raw)) None → marked_segment_of_key (variant.Int n) ≡ marked_segment_of raw
     by true i e =
         let same : n ≡ number raw = same_Some n (number raw) e in
         let seg : Int n ≡ segment_of raw = ap Int same ∙ sym (ap (λ y. cond y (Int (number raw)) (Str (decoded raw))) i) in
         ap₂ (λ s m. record { seg = s; mark = m }) seg (sym (index_plain raw i))
     by false i e = cc
 
-pub text_key : (raw : List ℕ) (text : CowSlice ℕ Global) → None ≡ index_of raw → cow_slice_items text ≡ decoded raw → is_owned text ≡ is_marked raw → step_of_key (variant.String text) ≡ step_of raw
-text_key raw text e d m = by (is_index raw) refl e
+pub string_key : (raw : List ℕ) (text : CowSlice ℕ Global) → None ≡ index_of raw → cow_slice_items text ≡ decoded raw → is_owned text ≡ is_marked raw → marked_segment_of_key (variant.String text) ≡ marked_segment_of raw
+string_key raw text e d m = by (is_index raw) refl e
   where
     seg_of : (text : CowSlice ℕ Global) → segment_of_key (variant.String text) ≡ Str (cow_slice_items text)
     seg_of (Borrowed r) = refl
@@ -71,7 +71,7 @@ text_key raw text e d m = by (is_index raw) refl e
     mark_of (Borrowed r) = refl
     mark_of (Owned v) = refl
 
-    by : (x : Bool) → is_index raw ≡ x → None ≡ cond x (Some (number raw)) None → step_of_key (variant.String text) ≡ step_of raw
+    by : (x : Bool) → is_index raw ≡ x → None ≡ cond x (Some (number raw)) None → marked_segment_of_key (variant.String text) ≡ marked_segment_of raw
     by true i e = cc
     by false i e =
         let seg : segment_of_key (variant.String text) ≡ segment_of raw = seg_of text ∙ ap Str d ∙ sym (ap (λ y. cond y (Int (number raw)) (Str (decoded raw))) i) in

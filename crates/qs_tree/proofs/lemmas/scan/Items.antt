@@ -1,5 +1,5 @@
 -- One item of what is left, and the pairs after it.
-use Rattle.qs_tree.proofs.Common.{inl, inr, cases_Bool, ◌≡◌, ℕ, zero, suc, Bool, true, false, ◌&&◌, ◌==◌, List, [], ◌∷◌, ◌++◌, length, refl, sym, ap, ◌∙◌, subst, arith, Option, Some, None, Result, Ok, Err, option_map, eqb-true, length-append, IsErrAnd, Kind, Token, tokens, raw_of, Amp, Equals, Open, step_of, Pair, direct, root, is_amp, ends_root, Rest, cut, cut_at, with_leaf, value_at, parsed_brackets, after_root, after_root_at, named, parsed_pairs, and_pairs, and_both, pair_of, kind_of_token, token_of, from_token, left, IsPast, is_nothing, IsParseError, ParsesPair, ParsesItem, root_path, from_root, from_root_at}
+use Rattle.qs_tree.proofs.Common.{inl, inr, cases_Bool, ◌≡◌, ℕ, zero, suc, Bool, true, false, ◌&&◌, ◌==◌, List, [], ◌∷◌, ◌++◌, length, refl, sym, ap, ◌∙◌, subst, arith, Option, Some, None, Result, Ok, Err, option_map, eqb-true, length-append, IsErrAnd, Kind, Token, tokens, raw_of, Amp, Equals, Open, marked_segment_of, Pair, direct, root, is_amp, ends_root, Rest, cut, cut_at, with_leaf, value_at, parsed_brackets, after_root, after_root_at, named, parsed_pairs, and_pairs, and_both, pair_of, kind_of_token, token_of, from_token, left, IsPast, is_nothing, IsParseError, ParsesPair, ParsesItem, root_path, from_root, from_root_at}
 use Rattle.qs_spec.specs.Leaf.{NoValue}
 use Rattle.qs_spec.proofs.ReadOn.{after_ampersand, after_pair}
 use Rattle.qs_tree.specs.declared.scan.cursor.Token as code
@@ -47,7 +47,7 @@ module _ (depth : ℕ) where
   -- a root key as raw bytes
   root_is : (key : List Token) → HasBytes key → root key ≡ root_path (raw_of key)
   root_is [] h = refl
-  root_is (t ∷ key) h = subst (λ raw. step_of (raw ++ raw_of key) ∷ [] ≡ root_path (raw ++ raw_of key)) (sym h.2) refl
+  root_is (t ∷ key) h = subst (λ raw. marked_segment_of (raw ++ raw_of key) ∷ [] ≡ root_path (raw ++ raw_of key)) (sym h.2) refl
 
   cut_bytes : (ts : List Token) → HasBytes ts → HasBytes (cut (ends_root depth) ts).0
   cut_bytes [] h = tt

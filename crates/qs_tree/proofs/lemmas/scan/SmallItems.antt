@@ -1,5 +1,5 @@
 -- Items of inputs for which nothing is allocated.
-use Rattle.qs_tree.proofs.Common.{◌≡◌, ℕ, zero, suc, Bool, true, false, cond, ◌&&◌, ◌||◌, ◌==◌, List, [], ◌∷◌, ◌++◌, length, refl, sym, ap, ap₂, ◌∙◌, subst, Option, Some, None, Result, eqb-true, ◌<◌, arith, inl, inr, list_all-append, Kind, Token, tokens, byte_token, byte_kind, raw_of, Amp, Equals, Open, Close, is_amp, is_equals, is_open, ends_root, cut, cut_at, and_both, TreeBuilder, IsFlat, fresh, is_ampersand, kind_of_token, token_of, raw_from_token, from_token, is_nothing, is_ampersands, is_plain, is_plain_value, TakesNoMemory, IsEqualsStop, ParsesSmall, StaysSmall, IsNoMap, built_tree}
+use Rattle.qs_tree.proofs.Common.{◌≡◌, ℕ, zero, suc, Bool, true, false, cond, ◌&&◌, ◌||◌, ◌==◌, List, [], ◌∷◌, ◌++◌, length, refl, sym, ap, ap₂, ◌∙◌, subst, Option, Some, None, Result, eqb-true, ◌<◌, arith, inl, inr, list_all-append, Kind, Token, tokens, byte_token, byte_kind, raw_of, Amp, Equals, Open, Close, is_amp, is_equals, is_open, ends_root, cut, cut_at, and_both, TreeBuilder, IsFlat, fresh, is_ampersand, kind_of_token, token_of, raw_from_token, from_token, is_nothing, is_ampersands, is_unescaped, is_unescaped_value, AllocatesNothing, IsEqualsStop, ParsesSmall, StaysSmall, IsNoMap, built_tree}
 use Rattle.qs_tree.proofs.lemmas.Views.{built_tree-fresh}
 use Rattle.qs_tree.specs.declared.scan.cursor.Token as code
 use Rattle.qs_tree.specs.declared.scan.cursor.Cursor as cursor
@@ -51,19 +51,19 @@ module _ (depth : ℕ) (form : Bool) where
   module _ (key : List ℕ) (stop : Option code.Token) (rest : List Token) (after : List ℕ) where
     -- an `&` with nothing before it
     pub small_nothing : (bytes : List ℕ) (t : code.Token) → key ≡ raw_of (cut (ends_root depth) (tokens form bytes)).0 → (cut (ends_root depth) (tokens form bytes)).1 ≡ from_token stop rest → bytes ≡ key ++ raw_from_token stop after
-        → TakesNoMemory bytes → is_nothing key stop ≡ true → stop ≡ Some t → is_ampersands after ≡ true
+        → AllocatesNothing bytes → is_nothing key stop ≡ true → stop ≡ Some t → is_ampersands after ≡ true
     small_nothing bytes t run token whole small nothing is = by (is_ampersands bytes) refl small
       where
-        value : (bytes : List ℕ) → is_plain_value bytes ≡ true → key ≡ raw_of (cut (ends_root depth) (tokens form bytes)).0 → (cut (ends_root depth) (tokens form bytes)).1 ≡ from_token stop rest → bytes ≡ key ++ raw_from_token stop after → ⊥
+        value : (bytes : List ℕ) → is_unescaped_value bytes ≡ true → key ≡ raw_of (cut (ends_root depth) (tokens form bytes)).0 → (cut (ends_root depth) (tokens form bytes)).1 ≡ from_token stop rest → bytes ≡ key ++ raw_from_token stop after → ⊥
         value [] e run token whole = cc
         value (b ∷ v) e run token whole =
-            let parts = and_both (b == 61) (is_plain v) e in
+            let parts = and_both (b == 61) (is_unescaped v) e in
             let k : byte_kind b ≡ Equals = ap byte_kind (eqb-true b 61 parts.0) in
             let h = begins b v key stop rest after run token whole (other_than b 61 parts.0 refl) (ap (λ k. is_amp k || is_equals k) k) in
             let amp = and_both _ (is_amp (kind_of_token h.token.kind)) (sym (ap (is_nothing key) h.is) ∙ nothing) in
             let w : is_amp Equals ≡ true = sym (ap is_amp (h.kind ∙ k)) ∙ amp.1 in cc
 
-        by : (x : Bool) → is_ampersands bytes ≡ x → (x || is_plain_value bytes) ≡ true → is_ampersands after ≡ true
+        by : (x : Bool) → is_ampersands bytes ≡ x → (x || is_unescaped_value bytes) ≡ true → is_ampersands after ≡ true
         by true e s =
             let all = sym (list_all-append is_ampersand key (raw_from_token stop after)) ∙ ap is_ampersands (sym whole) ∙ e in
             let past_key = and_both (is_ampersands key) (is_ampersands (raw_from_token stop after)) all in
@@ -73,7 +73,7 @@ module _ (depth : ℕ) (form : Bool) where
 
     -- an empty key before `=` and a value that is decoded to itself
     pub small_value : (bytes : List ℕ) → key ≡ raw_of (cut (ends_root depth) (tokens form bytes)).0 → (cut (ends_root depth) (tokens form bytes)).1 ≡ from_token stop rest → bytes ≡ key ++ raw_from_token stop after
-        → TakesNoMemory bytes → is_nothing key stop ≡ false → (key ≡ []) × IsEqualsStop stop × (is_plain after ≡ true)
+        → AllocatesNothing bytes → is_nothing key stop ≡ false → (key ≡ []) × IsEqualsStop stop × (is_unescaped after ≡ true)
     small_value [] run token whole small some = absurd (by stop token (sym (ap (λ k. is_nothing k stop) run) ∙ some))
       where
         by : (stop : Option code.Token) → [] ≡ from_token stop rest → is_nothing [] stop ≡ false → ⊥
@@ -81,7 +81,7 @@ module _ (depth : ℕ) (form : Bool) where
         by (Some t) e d = cc
     small_value (b ∷ v) run token whole small some = by (is_ampersands (b ∷ v)) refl small
       where
-        by : (x : Bool) → is_ampersands (b ∷ v) ≡ x → (x || is_plain_value (b ∷ v)) ≡ true → (key ≡ []) × IsEqualsStop stop × (is_plain after ≡ true)
+        by : (x : Bool) → is_ampersands (b ∷ v) ≡ x → (x || is_unescaped_value (b ∷ v)) ≡ true → (key ≡ []) × IsEqualsStop stop × (is_unescaped after ≡ true)
         by true e s =
             let parts = and_both (b == 38) (is_ampersands v) e in
             let k : byte_kind b ≡ Amp = ap byte_kind (eqb-true b 38 parts.0) in
@@ -90,28 +90,28 @@ module _ (depth : ℕ) (form : Bool) where
             let amp : is_amp (kind_of_token h.token.kind) ≡ true = ap is_amp (h.kind ∙ k) in
             absurd (cc)
         by false e s =
-            let parts = and_both (b == 61) (is_plain v) s in
+            let parts = and_both (b == 61) (is_unescaped v) s in
             let k : byte_kind b ≡ Equals = ap byte_kind (eqb-true b 61 parts.0) in
             let h = begins b v key stop rest after run token whole (other_than b 61 parts.0 refl) (ap (λ k. is_amp k || is_equals k) k) in
-            (h.empty, subst IsEqualsStop (sym h.is) (ap is_equals (h.kind ∙ k)), ap is_plain h.left ∙ parts.1)
+            (h.empty, subst IsEqualsStop (sym h.is) (ap is_equals (h.kind ∙ k)), ap is_unescaped h.left ∙ parts.1)
 
 -- one item more of what is left of such an input
-pub small_start : (rest : List ℕ) (tree : TreeBuilder) → TakesNoMemory rest → tree ≡ fresh → StaysSmall rest tree
+pub small_start : (rest : List ℕ) (tree : TreeBuilder) → AllocatesNothing rest → tree ≡ fresh → StaysSmall rest tree
 small_start rest tree small fresh = inr (small, fresh)
 
 pub small_end : (rest : List ℕ) (tree : TreeBuilder) → rest ≡ [] → IsFlat tree → StaysSmall rest tree
 small_end rest tree none flat = inl (none, flat)
 
-small_read : (rest : List ℕ) (tree : TreeBuilder) → StaysSmall rest tree → TakesNoMemory rest
-small_read rest tree (inl h) = subst TakesNoMemory (sym h.0) refl
+small_read : (rest : List ℕ) (tree : TreeBuilder) → StaysSmall rest tree → AllocatesNothing rest
+small_read rest tree (inl h) = subst AllocatesNothing (sym h.0) refl
 small_read rest tree (inr h) = h.0
 
-pub small_goes : (rest : List ℕ) (tree : TreeBuilder) (o : Result item.Item parse_error.ParseError) (new : cursor.Cursor) (p : code_pair.Pair) → StaysSmall rest tree → (TakesNoMemory rest → ParsesSmall o new p) → ParsesSmall o new p
+pub small_goes : (rest : List ℕ) (tree : TreeBuilder) (o : Result item.Item parse_error.ParseError) (new : cursor.Cursor) (p : code_pair.Pair) → StaysSmall rest tree → (AllocatesNothing rest → ParsesSmall o new p) → ParsesSmall o new p
 small_goes rest tree o new p h f = f (small_read rest tree h)
 
 pub small_ampersand : (old new : List ℕ) (tree : TreeBuilder) → length new < length old → StaysSmall old tree → is_ampersands new ≡ true → StaysSmall new tree
 small_ampersand old new tree shorter (inl h) amp = absurd (omega (arith, ap length h.0))
-small_ampersand old new tree shorter (inr h) amp = inr (ap (λ x. x || is_plain_value new) amp, h.1)
+small_ampersand old new tree shorter (inr h) amp = inr (ap (λ x. x || is_unescaped_value new) amp, h.1)
 
 pub small_fresh : (old new : List ℕ) (tree : TreeBuilder) → length new < length old → StaysSmall old tree → tree ≡ fresh
 small_fresh old new tree shorter (inl h) = absurd (omega (arith, ap length h.0))

@@ -1,5 +1,5 @@
 -- A value that is found by its first `&`, and the tokens that it is.
-use Rattle.qs_tree.proofs.Common.{inl, inr, cases_Bool, ◌≡◌, ℕ, suc, ◌+◌, ◌==◌, Bool, true, false, cond, not, ◌&&◌, ◌||◌, List, [], ◌∷◌, ◌++◌, length, take, drop, eqb-true, refl, sym, ap, ap₂, ◌∙◌, le_refl, subst, arith, Option, Some, None, IfNone, position_or_len, take-length, drop_all, is_marked, and_both, Kind, Token, tokens, byte_token, byte_kind, is_escaped_bracket, raw_of, Amp, Equals, Open, Close, Other, is_amp, cut, cut_at, is_ampersand, kind_of_token, token_of, raw_from_token, from_token, left, IsPast, is_plain}
+use Rattle.qs_tree.proofs.Common.{inl, inr, cases_Bool, ◌≡◌, ℕ, suc, ◌+◌, ◌==◌, Bool, true, false, cond, not, ◌&&◌, ◌||◌, List, [], ◌∷◌, ◌++◌, length, take, drop, eqb-true, refl, sym, ap, ap₂, ◌∙◌, le_refl, subst, arith, Option, Some, None, IfNone, position_or_len, take-length, drop_all, is_marked, and_both, Kind, Token, tokens, byte_token, byte_kind, is_escaped_bracket, raw_of, Amp, Equals, Open, Close, Other, is_amp, cut, cut_at, is_ampersand, kind_of_token, token_of, raw_from_token, from_token, left, IsPast, is_unescaped}
 use Rattle.qs_tree.specs.declared.scan.cursor.Token as code
 use Rattle.qs_tree.specs.declared.scan.cursor.Cursor as cursor
 
@@ -78,8 +78,8 @@ value_cut form (b ∷ c ∷ e ∷ rest) = by form (is_escaped_bracket b c e) ref
     by false x i h g = byte_before false b (c ∷ e ∷ rest) (λ _. refl) g
     by true true i h g = subst (IsValueCut true (b ∷ c ∷ e ∷ rest)) (sym (ap (λ y. cond y (record { kind = cond (e == 66) Open Close; raw = b ∷ c ∷ e ∷ [] } ∷ tokens true rest) (byte_token b ∷ tokens true (c ∷ e ∷ rest))) i)) (bracket_before true b c e rest (e == 66) i h)
     by true false i h g =
-        let plain : tokens true (b ∷ c ∷ e ∷ rest) ≡ byte_token b ∷ tokens true (c ∷ e ∷ rest) = ap (λ y. cond y (record { kind = cond (e == 66) Open Close; raw = b ∷ c ∷ e ∷ [] } ∷ tokens true rest) (byte_token b ∷ tokens true (c ∷ e ∷ rest))) i in
-        subst (IsValueCut true (b ∷ c ∷ e ∷ rest)) (sym plain) (byte_before true b (c ∷ e ∷ rest) (λ _. plain) g)
+        let unmarked : tokens true (b ∷ c ∷ e ∷ rest) ≡ byte_token b ∷ tokens true (c ∷ e ∷ rest) = ap (λ y. cond y (record { kind = cond (e == 66) Open Close; raw = b ∷ c ∷ e ∷ [] } ∷ tokens true rest) (byte_token b ∷ tokens true (c ∷ e ∷ rest))) i in
+        subst (IsValueCut true (b ∷ c ∷ e ∷ rest)) (sym unmarked) (byte_before true b (c ∷ e ∷ rest) (λ _. unmarked) g)
 value_cut form (b ∷ bytes) = byte_before form b bytes (λ _. refl) (value_cut form bytes)
 
 -- what follows a run ends it
@@ -101,20 +101,20 @@ value_past ts None new e end = subst (λ l. IsPast l new) (sym e) end
 value_past ts (Some t) new e end = subst (λ l. IsPast l new) (sym e) (is_amp_of (kind_of_token t.kind) (stop_ends is_amp ts (token_of t) (left new) e), refl)
 
 -- bytes without `&`, `+` and `%` are one value, which is decoded to itself
-plain_parts : (b : ℕ) (bytes : List ℕ) → is_plain (b ∷ bytes) ≡ true → ((b == 38) ≡ false) × ((b == 43 || b == 37) ≡ false) × (is_plain bytes ≡ true)
+plain_parts : (b : ℕ) (bytes : List ℕ) → is_unescaped (b ∷ bytes) ≡ true → ((b == 38) ≡ false) × ((b == 43 || b == 37) ≡ false) × (is_unescaped bytes ≡ true)
 plain_parts b bytes e =
-    let parts = and_both (not (b == 38 || b == 43 || b == 37)) (is_plain bytes) e in
+    let parts = and_both (not (b == 38 || b == 43 || b == 37)) (is_unescaped bytes) e in
     by (b == 38) (b == 43) (b == 37) parts.0 parts.1
   where
-    by : (x y z : Bool) → not (x || y || z) ≡ true → is_plain bytes ≡ true → (x ≡ false) × ((y || z) ≡ false) × (is_plain bytes ≡ true)
+    by : (x y z : Bool) → not (x || y || z) ≡ true → is_unescaped bytes ≡ true → (x ≡ false) × ((y || z) ≡ false) × (is_unescaped bytes ≡ true)
     by false false false e h = (refl, refl, h)
     by x y z e h = cc
 
-plain_end : (bytes : List ℕ) → is_plain bytes ≡ true → value_end bytes ≡ length bytes
+plain_end : (bytes : List ℕ) → is_unescaped bytes ≡ true → value_end bytes ≡ length bytes
 plain_end [] e = refl
 plain_end (b ∷ bytes) e = let parts = plain_parts b bytes e in other_byte b bytes parts.0 ∙ ap suc (plain_end bytes parts.2)
 
-plain_marked : (bytes : List ℕ) → is_plain bytes ≡ true → is_marked bytes ≡ false
+plain_marked : (bytes : List ℕ) → is_unescaped bytes ≡ true → is_marked bytes ≡ false
 plain_marked [] e = refl
 plain_marked (b ∷ bytes) e = let parts = plain_parts b bytes e in ap₂ ◌||◌ parts.1 (plain_marked bytes parts.2)
 
@@ -122,7 +122,7 @@ no_bytes : (front back : List ℕ) → [] ≡ front ++ back → back ≡ []
 no_bytes [] back e = sym e
 no_bytes (b ∷ front) back e = cc
 
-pub plain_value : (bytes value rest : List ℕ) (found : Option code.Token) (new : List ℕ) → is_plain bytes ≡ true → value ≡ take (value_end bytes) bytes → rest ≡ drop (value_end bytes) bytes
+pub plain_value : (bytes value rest : List ℕ) (found : Option code.Token) (new : List ℕ) → is_unescaped bytes ≡ true → value ≡ take (value_end bytes) bytes → rest ≡ drop (value_end bytes) bytes
     → rest ≡ raw_from_token found new → IfNone found (new ≡ []) → (is_marked value ≡ false) × (new ≡ [])
 plain_value bytes value rest found new e front back past_it end =
     let whole = plain_end bytes e in (

@@ -8,8 +8,8 @@ returns-in-End-clause-end c =
     let ended = c.in-Ok.ensures.end (subst (λ i. IsEnd (Ok i)) (sym c.in-End.is) tt) in
     omega (arith, ap to_come ended, ap length (c.in-Ok.ensures.moves.end ended))
 
-pub returns-in-End-clause-no_memory : goal.returns-in-End-clause-no_memory
-returns-in-End-clause-no_memory c = λ small fresh. small_flat c.loop-item.cursor.rest.now c.loop-item.tree (c.loop-item.invariant.small small fresh)
+pub returns-in-End-clause-no_allocation : goal.returns-in-End-clause-no_allocation
+returns-in-End-clause-no_allocation c = λ small fresh. small_flat c.loop-item.cursor.rest.now c.loop-item.tree (c.loop-item.invariant.small small fresh)
 
 pub loop-item-preserved-in-Ampersand : goal.loop-item-preserved-in-Ampersand
 loop-item-preserved-in-Ampersand c =

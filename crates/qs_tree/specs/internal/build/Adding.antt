@@ -11,9 +11,9 @@ abbrev pub IsRejected : {B : Type 0} → Option B → AddError → Type 0
 IsRejected expected e = e ≢ OutOfMemory → expected ≡ None
 
 -- the call returns what is expected, or an error where nothing is
-abbrev pub Gives : {A B : Type 0} → (A → B) → Option B → Result A AddError → Type 0
-Gives view expected (Ok a) = expected ≡ Some (view a)
-Gives view expected (Err e) = IsRejected expected e
+abbrev pub AddGives : {A B : Type 0} → (A → B) → Option B → Result A AddError → Type 0
+AddGives view expected (Ok a) = expected ≡ Some (view a)
+AddGives view expected (Err e) = IsRejected expected e
 
 -- the node and the pair are as they were
 pub record IsKept (old new : Tree) (before after : Pair) : Type 0 where

@@ -10,7 +10,8 @@ use Rattle.qs_tree.specs.declared.build.unsorted.Unsorted.{Unsorted}
 use Rattle.qs_tree.specs.declared.tree.key.Key.{Key}
 use Rattle.qs_tree.specs.declared.tree.value.ParsedValue.{ParsedValue}
 use Rattle.qs_tree.specs.declared.tree.value.ParsedValue.TheVariants.{Uninitialized}
-use Rattle.qs_tree.specs.tree.Views.{segment_of_key, step_of_key, tree_of, entries_from, find}
+use Rattle.qs_tree.specs.tree.Views.{segment_of_key, marked_segment_of_key, tree_of, entries_from}
+use Rattle.qs_spec.specs.Node.{value_at_key}
 use Rattle.qs_tree.specs.tree.Ordered.{AreOrdered}
 use Rattle.qs_spec.specs.internal.InPlace.{update}
 use Rattle.qs_tree.specs.internal.build.Unsorted.{entries_of_leaves}
@@ -54,12 +55,12 @@ as_builders es = map (λ p. (p.0, Value p.1)) es
 
 -- the node at a segment of a map, which may be missing
 abbrev pub child : Segment → Entries → Tree
-child s es = unwrap_or (find s es) uninitialized
+child s es = unwrap_or (value_at_key s es) uninitialized
 
 -- the node at a key is taken, and the other entries aren't changed
 pub record Takes (k : Key) (old : Entries) (taken : Tree) (new : Entries) : Type 0 where
   pub node : taken ≡ child (segment_of_key k) old
-  pub rest : (u : Tree) → update (step_of_key k) (λ _. Some u) new ≡ update (step_of_key k) (λ _. Some u) old
+  pub rest : (u : Tree) → update (marked_segment_of_key k) (λ _. Some u) new ≡ update (marked_segment_of_key k) (λ _. Some u) old
   pub ordered : AreOrdered old
 
 -- the node is no map

@@ -9,7 +9,7 @@ use Rattle.qs_spec.specs.Tree.{Tree, Entries, entries_of, head_mark, heads, node
 use Rattle.qs_tree.specs.declared.tree.key.Key.{Key}
 use Rattle.qs_tree.specs.declared.tree.value.ParsedValue.{ParsedValue}
 use Rattle.qs_tree.specs.internal.scan.Pairs.{leaf_in}
-use Rattle.qs_tree.specs.tree.Views.{step_of_key, tree_of}
+use Rattle.qs_tree.specs.tree.Views.{marked_segment_of_key, tree_of}
 
 -- the leaf that a value is, or `NoValue` for another value
 abbrev pub leaf_held : ParsedValue → Leaf
@@ -17,7 +17,7 @@ leaf_held v = unwrap_or (leaf_in (tree_of v)) NoValue
 
 -- the pairs of direct leaves
 abbrev pub leaf_pairs : List (Key × ParsedValue) → List Pair
-leaf_pairs ls = map (λ p. record { path = step_of_key p.0 ∷ []; push = false; leaf = leaf_held p.1 }) ls
+leaf_pairs ls = map (λ p. record { path = marked_segment_of_key p.0 ∷ []; push = false; leaf = leaf_held p.1 }) ls
 
 -- the entries of a map with these pairs alone
 abbrev pub entries_of_leaves : List (Key × ParsedValue) → Entries

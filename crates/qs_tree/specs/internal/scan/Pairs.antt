@@ -1,7 +1,7 @@
 -- From the types of a pair to those of the definitions.
 use Rattle.std.specs.Prelude.{◌≡◌, [], List, Bool, true, false, map, Option, Some, None}
 use Rattle.std.specs.declared.borrow.CowSlice.TheVariants.{Borrowed, Owned}
-use Rattle.qs_spec.specs.Segment.{Step}
+use Rattle.qs_spec.specs.Segment.{MarkedSegment}
 use Rattle.qs_spec.specs.Leaf.{Leaf, NoValue, Null, Text}
 use Rattle.qs_spec.specs.Grammar as grammar
 use Rattle.qs_spec.specs.Tree.{Tree, leaf}
@@ -11,7 +11,7 @@ use Rattle.qs_tree.specs.declared.scan.pair.Leaf.TheVariants as variant
 use Rattle.qs_tree.specs.declared.scan.pair.Manner.{Manner}
 use Rattle.qs_tree.specs.declared.scan.pair.Manner.TheVariants.{Direct, Push}
 use Rattle.qs_tree.specs.declared.scan.pair.Pair.{Pair}
-use Rattle.qs_tree.specs.tree.Views.{step_of_key}
+use Rattle.qs_tree.specs.tree.Views.{marked_segment_of_key}
 
 -- an owned string is marked
 abbrev pub leaf_of : code.Leaf → Leaf
@@ -29,8 +29,8 @@ abbrev pub is_push : Manner → Bool
 is_push Direct = false
 is_push Push = true
 
-abbrev pub path_of : List Key → List Step
-path_of keys = map step_of_key keys
+abbrev pub path_of : List Key → List MarkedSegment
+path_of keys = map marked_segment_of_key keys
 
 abbrev pub pair_of : Pair → grammar.Pair
 pair_of p = record { path = path_of p.path; push = is_push p.manner; leaf = leaf_of p.leaf }

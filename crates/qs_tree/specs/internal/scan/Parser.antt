@@ -1,7 +1,7 @@
 -- What the functions that parse a pair return.
 use Rattle.std.specs.Prelude.{◌≡◌, ℕ, List, [], ◌∷◌, ◌++◌, Option, Some, None, Result, Ok, Err, option_map, IsTrue, Bool, true, false, ◌&&◌, ◌==◌, length}
 use Rattle.qs_spec.specs.Token.{Kind, Token, Amp, Equals, Open, Close, Other}
-use Rattle.qs_spec.specs.Segment.{Step, step_of}
+use Rattle.qs_spec.specs.Segment.{MarkedSegment, marked_segment_of}
 use Rattle.qs_spec.specs.Leaf.{Leaf}
 use Rattle.qs_spec.specs.Grammar.{Pair, is_amp, direct, ends_last, ends_root}
 use Rattle.qs_spec.specs.internal.Parsing.{Rest, with_leaf, parsed_value, parsed_brackets, parsed_pairs}
@@ -73,12 +73,12 @@ is_nothing raw None = length raw == 0
 is_nothing raw (Some t) = length raw == 0 && is_amp (kind_of_token t.kind)
 
 -- the path of a root key with these raw bytes
-abbrev pub root_path : List ℕ → List Step
+abbrev pub root_path : List ℕ → List MarkedSegment
 root_path [] = []
-root_path (b ∷ raw) = step_of (b ∷ raw) ∷ []
+root_path (b ∷ raw) = marked_segment_of (b ∷ raw) ∷ []
 
 -- what is found after a root key with these raw bytes
-abbrev pub from_root_at : Kind → ℕ → List Step → Token → List Token → Rest Pair
+abbrev pub from_root_at : Kind → ℕ → List MarkedSegment → Token → List Token → Rest Pair
 from_root_at Open depth path t rest = parsed_brackets depth path t.raw rest
 from_root_at Amp depth path t rest = with_leaf (direct path) (parsed_value (t ∷ rest))
 from_root_at Equals depth path t rest = with_leaf (direct path) (parsed_value (t ∷ rest))

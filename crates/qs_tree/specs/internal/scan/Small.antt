@@ -8,7 +8,7 @@ use Rattle.qs_tree.specs.declared.scan.parser.Item as item
 use Rattle.qs_tree.specs.declared.scan.parser.ParseError as parse_error
 use Rattle.qs_tree.specs.declared.build.builder.TreeBuilder.{TreeBuilder}
 use Rattle.qs_tree.specs.internal.build.Builder.{IsFlat, fresh}
-use Rattle.qs_tree.specs.Parsing.{is_ampersands, TakesNoMemory}
+use Rattle.qs_tree.specs.Parsing.{is_ampersands, AllocatesNothing}
 use Rattle.qs_tree.specs.internal.scan.Cursor.{kind_of_token}
 use Rattle.qs_tree.specs.internal.scan.Pairs.{IsBare}
 
@@ -31,4 +31,4 @@ ParsesSmall (Err f) new p = ⊥
 
 -- nothing is left, and the tree is no map; or the tree is empty, and what is left is such an input
 abbrev pub StaysSmall : List ℕ → TreeBuilder → Type 0
-StaysSmall rest tree = ((rest ≡ []) × IsFlat tree) ⊎ (TakesNoMemory rest × (tree ≡ fresh))
+StaysSmall rest tree = ((rest ≡ []) × IsFlat tree) ⊎ (AllocatesNothing rest × (tree ≡ fresh))

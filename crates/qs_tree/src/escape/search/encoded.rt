@@ -42,7 +42,7 @@ impl Escaped {
     /// Returns what is written for a byte that isn't escaped.
     #[inline(always)]
     #[tactic(auto, using(crate::proofs::lemmas::escape::Tables::form_plain, crate::proofs::lemmas::escape::Tables::query_plain))]
-    pub(crate) fn plain(self, byte: u8) -> u8
+    pub(crate) fn swapped(self, byte: u8) -> u8
         requires { is_escaped self.form byte ≡ false }
         ensures { result ≡ swapped 32 43 byte }
     {

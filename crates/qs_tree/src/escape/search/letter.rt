@@ -20,7 +20,7 @@ static LETTERS: [u8; 256] = *b"\
 #[tactic(auto, using(crate::proofs::lemmas::escape::Letters::letter_alone))]
 pub(crate) fn is_letter(byte: u8) -> bool
     ensures letter { IsTrue result → IsLetter byte }
-    ensures plain { IsTrue result → is_escape byte ≡ false }
+    ensures is_unmarked { IsTrue result → is_escape byte ≡ false }
 {
     LETTERS[byte as usize] == b'.'
 }

@@ -1,4 +1,4 @@
-use Rattle.qs_data.proofs.Common.{◌≡◌, ◌+◌, sym, subst, entry, entries_of_map, step_of_key, tree_of, entries_after}
+use Rattle.qs_data.proofs.Common.{◌≡◌, ◌+◌, sym, subst, entry, entries_of_map, marked_segment_of_key, tree_of, entries_after}
 use Rattle.qs_data.proofs.lemmas.read.Entries.{Tested, after_some, tested_more}
 use Rattle.qs_data.proofs.read.key_test.test_map.Goals as goal
 
@@ -6,7 +6,7 @@ pub loop-i-preserved : goal.loop-i-preserved
 loop-i-preserved c =
     let es = entries_of_map c.args.map.now in
     let i = c.loop-i.i in
-    let key = step_of_key c.in-Some.key.now in
+    let key = marked_segment_of_key c.in-Some.key.now in
     let t = tree_of c.in-Some.field-0-1.now in
     let more = entries_after (i + 1) es in
     let here : entries_after i es ≡ entry key.seg key.mark t more = after_some i es (key, t) (sym c.in-Some.ensures.value) in

@@ -1,4 +1,4 @@
-use Rattle.qs_tree.proofs.Common.{drop, ◌+◌, ◌≡◌, ap, sym, ◌∙◌, unwrap_or, rules, refl, Global, BTreeMap, add, Key, TreeBuilder, is_push, leaf_of, path_of, built_tree, built_entries, entries_seen, fresh, step_of_key, Ok, Err, same_Some, key_cmp}
+use Rattle.qs_tree.proofs.Common.{drop, ◌+◌, ◌≡◌, ap, sym, ◌∙◌, unwrap_or, rules, refl, Global, BTreeMap, add, Key, TreeBuilder, is_push, leaf_of, path_of, built_tree, built_entries, entries_seen, fresh, marked_segment_of_key, Ok, Err, same_Some, key_cmp}
 use Rattle.qs_tree.proofs.lemmas.Views.{built_tree-Map, built_tree-fresh}
 use Rattle.qs_tree.proofs.lemmas.tree.Places.{hit_value, hit_insert, gap_lookup}
 use Rattle.qs_tree.proofs.lemmas.build.Turns.{gives_err, below_map}
@@ -33,8 +33,8 @@ add_in_vector-returns-in_ok-insert_at-in-Err t c =
     (at_key built_tree fresh built_tree-fresh c.args.key es c.requires.sorted fresh (sym (ap (λ o. unwrap_or o fresh) (gap_lookup key_cmp c.args.key es c.in-Err.at gap))) _ _ refl
     (add (path_of (drop c.args.level pair.path)) (is_push pair.manner) (leaf_of pair.leaf)) c.add_along-in-Err.new.node refl (Ok (tt {0})) (rw c.fresh-node.ensures at c.in_ok-add_along-in-Err.ensures.added))
 
-pub add_below-returns-in_err-add_in_tree-in-Vector : goal.add_below-returns-in_err-add_in_tree-in-Vector
-add_below-returns-in_err-add_in_tree-in-Vector t c =
+pub add_at_key-returns-in_err-add_in_tree-in-Vector : goal.add_at_key-returns-in_err-add_in_tree-in-Vector
+add_at_key-returns-in_err-add_in_tree-in-Vector t c =
     let same : entries_seen c.in_ok-tree-in-Vector.tree.entries ≡ built_entries c.args.map.now =
     ap entries_seen (c.in_ok-tree-in-Vector.ensures ∙ search rules) ∙ sym (ap built_entries c.in-Vector.is ∙ built_entries-Vector c.in-Vector.entries) in
     gives_err _ _ c.from_residual-in_err-add_in_tree-in-Vector.result c.in_err-add_in_tree-in-Vector.field-0.0 _ c.from_residual-in_err-add_in_tree-in-Vector.ensures.1 (λ y p. p)
@@ -54,7 +54,7 @@ add_in_tree-returns t c =
 pub add_further-returns-in-Map-clause-added : goal.add_further-returns-in-Map-clause-added
 add_further-returns-in-Map-clause-added t c =
     let pair = c.take_key-key.new.self in
-    let h = rw (c.take_key-key.ensures.manner, c.take_key-key.ensures.leaf) at c.add_below.ensures in
-    rw (c.in-Map.is, c.take_key-key.ensures.key, built_tree-Map c.in-Map.map, built_tree-Map c.add_below.new.map)
-    (below_map (step_of_key c.take_key-key.result) (path_of (drop (c.args.level + 1) pair.path)) (is_push c.args.pair.now.manner) (leaf_of c.args.pair.now.leaf)
-    (built_entries c.in-Map.map) (built_entries c.add_below.new.map) c.add_below.result h)
+    let h = rw (c.take_key-key.ensures.manner, c.take_key-key.ensures.leaf) at c.add_at_key.ensures in
+    rw (c.in-Map.is, c.take_key-key.ensures.key, built_tree-Map c.in-Map.map, built_tree-Map c.add_at_key.new.map)
+    (below_map (marked_segment_of_key c.take_key-key.result) (path_of (drop (c.args.level + 1) pair.path)) (is_push c.args.pair.now.manner) (leaf_of c.args.pair.now.leaf)
+    (built_entries c.in-Map.map) (built_entries c.add_at_key.new.map) c.add_at_key.result h)

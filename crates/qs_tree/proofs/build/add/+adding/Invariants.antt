@@ -8,8 +8,8 @@ decreases-add_along l = 7 * (length l.pair.now.path - l.level) + 1
 abbrev pub decreases-add_further : goal.decreases-add_further
 decreases-add_further l = 7 * (length l.pair.now.path - l.level)
 
-abbrev pub decreases-add_below : goal.decreases-add_below
-decreases-add_below l = 7 * (length l.pair.now.path - l.level) + 4
+abbrev pub decreases-add_at_key : goal.decreases-add_at_key
+decreases-add_at_key l = 7 * (length l.pair.now.path - l.level) + 4
 
 abbrev pub decreases-add_in_tree : goal.decreases-add_in_tree
 decreases-add_in_tree l = 7 * (length l.pair.now.path - l.level) + 2

@@ -1,4 +1,4 @@
-use Rattle.qs_tree.proofs.Common.{◌≡◌, Some, None, ap, rules, ◌∙◌, option_map, segment_of_key, find, built_tree, entries_seen}
+use Rattle.qs_tree.proofs.Common.{◌≡◌, Some, None, ap, rules, ◌∙◌, option_map, segment_of_key, value_at_key, built_tree, entries_seen}
 use Rattle.qs_tree.proofs.lemmas.tree.Keys.{seen-lookup}
 use Rattle.qs_tree.proofs.lemmas.tree.Ordered.{ordered_seen}
 use Rattle.qs_tree.proofs.lemmas.Views.{built_tree-fresh}
@@ -8,7 +8,7 @@ use Rattle.qs_tree.proofs.build.builder.take_below.Goals as goal
 pub returns-in-Some : goal.returns-in-Some
 returns-in-Some c =
     let es = c.args.map.now.entries in
-    let found : Some (built_tree c.in-Some.node.now) ≡ find (segment_of_key c.args.key.now) (entries_seen es) =
+    let found : Some (built_tree c.in-Some.node.now) ≡ value_at_key (segment_of_key c.args.key.now) (entries_seen es) =
     ap (option_map built_tree) c.in-Some.ensures.value ∙ seen-lookup built_tree c.args.key.now es in
     let written = (c.get_mut.follows.holds c.replace.new.dest).0 in
     record {
@@ -20,7 +20,7 @@ returns-in-Some c =
 pub returns-in-None : goal.returns-in-None
 returns-in-None c =
     let es = c.args.map.now.entries in
-    let missing : None ≡ find (segment_of_key c.args.key.now) (entries_seen es) =
+    let missing : None ≡ value_at_key (segment_of_key c.args.key.now) (entries_seen es) =
     ap (option_map built_tree) c.in-None.ensures.value ∙ seen-lookup built_tree c.args.key.now es in
     let kept = c.get_mut.follows.holds-at-none in
     record { node = rw (c.fresh-in-None.ensures, built_tree-fresh, ← missing); rest = λ u. search rules; ordered = ordered_seen built_tree es c.in-None.ensures.ordered }

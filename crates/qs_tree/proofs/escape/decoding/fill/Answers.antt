@@ -7,4 +7,4 @@ returns c =
     let bytes = c.args.bytes.now in
     let rest : take (length bytes - front) (drop front bytes) ≡ drop front bytes = take_all (length bytes - front) (drop front bytes) (omega (arith, length-drop front bytes)) in
     let begin : front ≡ 0 + front = omega arith in
-    c.fill_after.ensures ∙ ap₂ (λ x y. x ++ decoded y) (ap (λ n. take n c.put_raw.new.room) begin ∙ c.put_raw.ensures.text) rest ∙ sym c.requires.plain
+    c.fill_after.ensures ∙ ap₂ (λ x y. x ++ decoded y) (ap (λ n. take n c.put_raw.new.room) begin ∙ c.put_raw.ensures.text) rest ∙ sym c.requires.same

@@ -30,7 +30,7 @@ returns-clause-room c =
     let bytes = c.args.bytes.now in
     let len = c.copy_run-len.result in
     let front = map (swapped 32 43) (take len bytes) in
-    let whole = ap length (encoded_run c.args.form len bytes c.copy_run-len.ensures.within c.copy_run-len.ensures.plain) in
+    let whole = ap length (encoded_run c.args.form len bytes c.copy_run-len.ensures.within c.copy_run-len.ensures.none) in
     omega (arith, whole, length-append front (encoded c.args.form (drop len bytes)), length-map (take len bytes) (swapped 32 43), length-take-le len bytes c.copy_run-len.ensures.within)
 
 pub returns-clause-text : goal.returns-clause-text
@@ -38,6 +38,6 @@ returns-clause-text c =
     let bytes = c.args.bytes.now in
     let len = c.copy_run-len.result in
     let rest = encoded c.args.form (drop len bytes) in
-    let whole = encoded_run c.args.form len bytes c.copy_run-len.ensures.within c.copy_run-len.ensures.plain in
+    let whole = encoded_run c.args.form len bytes c.copy_run-len.ensures.within c.copy_run-len.ensures.none in
     let front = take c.args.at c.args.room.now in
     ap (λ x. x ++ rest) c.copy_run-len.ensures.text ∙ append_assoc front _ rest ∙ ap (λ x. front ++ x) (sym whole)

@@ -6,9 +6,9 @@ use Rattle.qs_tree.proofs.scan.cursor.run_len.Goals as goal
 pub loop-at-preserved-then-is_letter : goal.loop-at-preserved-then-is_letter
 loop-at-preserved-then-is_letter c = (
   letter_on (ends_of c.args.until) c.args.form c.args.bytes.now c.loop-at.at (other c.args.until) c.loop-at.invariant.0 (omega (arith, c.loop-at-test.true)) (c.if-is_letter.ensures.letter refl),
-  λ plain k from to. elim (cases_lt k c.loop-at.at) [
-    | inl early ↦ c.loop-at.invariant.1 plain k from early
-    | inr late ↦ ap (λ n. is_escape (slice_index c.args.bytes.now n)) (omega (arith, late, to)) ∙ c.if-is_letter.ensures.plain refl
+  λ unmarked k from to. elim (cases_lt k c.loop-at.at) [
+    | inl early ↦ c.loop-at.invariant.1 unmarked k from early
+    | inr late ↦ ap (λ n. is_escape (slice_index c.args.bytes.now n)) (omega (arith, late, to)) ∙ c.if-is_letter.ensures.is_unmarked refl
   ],
 )
   where

@@ -1,4 +1,4 @@
-use Rattle.qs_tree.proofs.Common.{◌≡◌, [], true, false, sym, ap, ap₂, ◌∙◌, subst, tokens, raw_of, ends_root, cut, parsed_pairs, and_pairs, left, from_token, is_nothing, from_root, TakesNoMemory, is_plain, IsEqualsStop}
+use Rattle.qs_tree.proofs.Common.{◌≡◌, [], true, false, sym, ap, ap₂, ◌∙◌, subst, tokens, raw_of, ends_root, cut, parsed_pairs, and_pairs, left, from_token, is_nothing, from_root, AllocatesNothing, is_unescaped, IsEqualsStop}
 use Rattle.qs_tree.proofs.lemmas.scan.AfterKeys.{has_bytes}
 use Rattle.qs_tree.proofs.lemmas.scan.Items.{end_pairs, ampersand_pairs, pair_pairs, pair_item, error_item}
 use Rattle.qs_tree.proofs.lemmas.scan.SmallItems.{small_nothing, small_value}
@@ -29,11 +29,11 @@ pairs w some =
     ∙ ap (λ raw. and_pairs depth (from_root depth raw (from_token w.run.result.1 (left w.run.new.self)))) (sym (key w))
 
 -- a value alone, for which nothing is allocated
-bare : (w : After-is_nothing) → w.is_nothing.result ≡ false → TakesNoMemory w.args.cursor.now.rest.now → (w.run.result.0.now ≡ []) × IsEqualsStop w.run.result.1 × (is_plain w.run.new.self.rest.now ≡ true)
+bare : (w : After-is_nothing) → w.is_nothing.result ≡ false → AllocatesNothing w.args.cursor.now.rest.now → (w.run.result.0.now ≡ []) × IsEqualsStop w.run.result.1 × (is_unescaped w.run.new.self.rest.now ≡ true)
 bare w some taken =
     let old = w.begin_pair.new.self in
     let new = w.run.new.self in
-    small_value w.args.max_depth old.form w.run.result.0.now w.run.result.1 (left new) new.rest.now old.rest.now (key w) (stop w) w.run.ensures.bytes (subst TakesNoMemory (sym w.begin_pair.ensures.rest) taken) (sym w.is_nothing.ensures ∙ some)
+    small_value w.args.max_depth old.form w.run.result.0.now w.run.result.1 (left new) new.rest.now old.rest.now (key w) (stop w) w.run.ensures.bytes (subst AllocatesNothing (sym w.begin_pair.ensures.rest) taken) (sym w.is_nothing.ensures ∙ some)
 
 pub returns-in-None-clause-item : goal.returns-in-None-clause-item
 returns-in-None-clause-item c =
@@ -62,7 +62,7 @@ returns-in-Some-clause-small c = λ taken.
     let w = (goal.at.returns-in-Some-clause-small c).After-is_nothing in
     let old = c.begin_pair.new.self in
     let new = c.run.new.self in
-    small_nothing c.args.max_depth old.form c.run.result.0.now c.run.result.1 (left new) new.rest.now old.rest.now c.in-Some.field-0 (key w) (stop w) c.run.ensures.bytes (subst TakesNoMemory (sym c.begin_pair.ensures.rest) taken) (sym c.is_nothing.ensures ∙ c.if-is_nothing.true) c.in-Some.is
+    small_nothing c.args.max_depth old.form c.run.result.0.now c.run.result.1 (left new) new.rest.now old.rest.now c.in-Some.field-0 (key w) (stop w) c.run.ensures.bytes (subst AllocatesNothing (sym c.begin_pair.ensures.rest) taken) (sym c.is_nothing.ensures ∙ c.if-is_nothing.true) c.in-Some.is
 
 pub returns-clause-small : goal.returns-clause-small
 returns-clause-small c = λ taken.

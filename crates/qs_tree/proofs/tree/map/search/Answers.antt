@@ -9,7 +9,7 @@ loop-low-preserved g c =
     let more : against key_cmp c.args.key.now c.args.entries.now middle ≡ Greater = rw (key_at c.args.entries.now middle (get_or c.args.entries.now middle c.index-entries-middle.result) c.args.key.now in_range (ap (get_or c.args.entries.now middle) c.index-entries-middle.is)) (sym c.in-Greater.ensures.order) in
     let fewer = halved (c.loop-low.high - c.loop-low.low) (c.loop-low.high - (middle + 1)) (omega arith) (omega arith) in
     record {
-      meet = omega arith;
+      ordered = omega arith;
       within = omega arith;
       before = before_middle total-law c.args.key.now c.args.entries.now c.requires middle in_range more;
       after = c.loop-low.invariant.after;
@@ -25,7 +25,7 @@ loop-low-preserved-in-Less g c =
     let less : against key_cmp c.args.key.now c.args.entries.now middle ≡ Less = rw (key_at c.args.entries.now middle (get_or c.args.entries.now middle c.index-entries-middle.result) c.args.key.now in_range (ap (get_or c.args.entries.now middle) c.index-entries-middle.is)) (sym c.in-Less.ensures.order) in
     let fewer = halved (c.loop-low.high - c.loop-low.low) (middle - c.loop-low.low) (omega arith) (omega arith) in
     record {
-      meet = omega arith;
+      ordered = omega arith;
       within = omega arith;
       before = c.loop-low.invariant.before;
       after = after_middle total-law c.args.key.now c.args.entries.now c.requires middle less;
@@ -48,7 +48,7 @@ returns-in-Equal-clause-most g c =
 
 pub returns-clause-absent : goal.returns-clause-absent
 returns-clause-absent g c =
-    let meet : c.loop-low.low ≡ c.loop-low.high = omega arith in
+    let ordered : c.loop-low.low ≡ c.loop-low.high = omega arith in
     record {
       in_range = omega arith;
       before = c.loop-low.invariant.before;

@@ -3,7 +3,7 @@ use Rattle.qs_tree.proofs.tree.map.search.Given as goal
 
 abbrev pub invariant-loop-low : goal.invariant-loop-low
 invariant-loop-low g l = record {
-  meet : l.low ≤ l.high;
+  ordered : l.low ≤ l.high;
   within : l.high ≤ length l.entries;
   before : (j : ℕ) → j < l.low → against key_cmp l.key l.entries j ≡ Greater;
   after : (j : ℕ) → l.high ≤ j → j < length l.entries → against key_cmp l.key l.entries j ≡ Less;

@@ -18,23 +18,23 @@ returns-in_err-fields g c =
     let t = g.F.Fields.table in
     let es = entries_view c.args.entries in
     let u = unknown_of c.args.unknown in
-    let st = c.args.reader.reject_duplicates in
+    let reject_duplicates = c.args.reader.reject_duplicates in
     let fs = t.form (texts c.args.names.now) in
     let m = t.meaning (texts c.args.names.now) in
-    narrowed_exit t.value (entries_are_text es) (entries_are_text es) c.from_residual.result c.in_err-fields.field-0.0 (by_names st fs m es) (names_read u st fs m es)
-    c.from_residual.ensures.1 c.in_err-fields.ensures (names_unread u st fs m es) (λ f. f)
+    narrowed_exit t.value (entries_are_text es) (entries_are_text es) c.from_residual.result c.in_err-fields.field-0.0 (by_names reject_duplicates fs m es) (names_read u reject_duplicates fs m es)
+    c.from_residual.ensures.1 c.in_err-fields.ensures (names_unread u reject_duplicates fs m es) (λ f. f)
 
 pub returns-in_err-reject : goal.returns-in_err-reject
 returns-in_err-reject g c =
     let t = g.F.Fields.table in
     let es = entries_view c.args.entries in
     let u = unknown_of c.args.unknown in
-    let st = c.args.reader.reject_duplicates in
+    let reject_duplicates = c.args.reader.reject_duplicates in
     let fs = t.form (texts c.args.names.now) in
     let m = t.meaning (texts c.args.names.now) in
     let known = keys_are_names (fields_of fs) es || are_ignored u in
-    narrowed_exit t.value (keys_are_text es) (entries_are_text es) c.from_residual-in_err-reject.result c.in_err-reject.field-0.0 (when known) (names_read u st fs m es)
-    c.from_residual-in_err-reject.ensures.1 c.in_err-reject.ensures (λ none. names_disallowed u st fs m es (and_right (keys_are_text es) known (fails known none))) (keys_bad es)
+    narrowed_exit t.value (keys_are_text es) (entries_are_text es) c.from_residual-in_err-reject.result c.in_err-reject.field-0.0 (when known) (names_read u reject_duplicates fs m es)
+    c.from_residual-in_err-reject.ensures.1 c.in_err-reject.ensures (λ none. names_disallowed u reject_duplicates fs m es (and_right (keys_are_text es) known (fails known none))) (keys_bad es)
 
 pub returns-in-Ok : goal.returns-in-Ok
 returns-in-Ok g c =
@@ -50,8 +50,8 @@ returns-in-Err g c =
     let t = g.F.Fields.table in
     let es = entries_view c.args.entries in
     let u = unknown_of c.args.unknown in
-    let st = c.args.reader.reject_duplicates in
+    let reject_duplicates = c.args.reader.reject_duplicates in
     let fs = t.form (texts c.args.names.now) in
     let m = t.meaning (texts c.args.names.now) in
-    narrowed_rejects (entries_are_text es) c.from.result c.into_error.result (names_read u st fs m es) c.from.ensures
-    (names_broken u st fs m es c.into_error.result c.in-Err.ensures.text c.into_error.ensures)
+    narrowed_rejects (entries_are_text es) c.from.result c.into_error.result (names_read u reject_duplicates fs m es) c.from.ensures
+    (names_broken u reject_duplicates fs m es c.into_error.result c.in-Err.ensures.text c.into_error.ensures)

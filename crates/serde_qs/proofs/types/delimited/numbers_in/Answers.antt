@@ -1,6 +1,4 @@
 use Rattle.std.proofs.Common.{Bool, map}
-use Rattle.std.specs.declared.alloc.Global.{Global}
-use Rattle.std.specs.declared.vec.Vec.{Vec}
 use Rattle.qs_data.specs.data.Views.{data_of}
 use Rattle.serde_qs.specs.Fits.{fits}
 use Rattle.serde_qs.specs.Items.{list_in}

@@ -1,8 +1,8 @@
-use Rattle.qs_data.proofs.Common.{◌≡◌, ◌+◌, ◌≤◌, length, [], ◌∷◌, ◌++◌, map, ap, sym, subst, ◌∙◌, Some, Ok, option_map, arith, common_steps, is_utf8, any_data, read_pairs, key_data, Step, segment_text, KeyShape, Tree, tree_of, entries_of_map, step_of_key, entry_list, entries_after, Visits, map_begun, is_text, data_of, pair_of}
+use Rattle.qs_data.proofs.Common.{◌≡◌, ◌+◌, ◌≤◌, length, [], ◌∷◌, ◌++◌, map, ap, sym, subst, ◌∙◌, Some, Ok, option_map, arith, common_steps, is_utf8, any_data, read_pairs, key_data, MarkedSegment, segment_text, KeyShape, Tree, tree_of, entries_of_map, marked_segment_of_key, entry_list, entries_after, Visits, map_begun, is_text, data_of, pair_of}
 use Rattle.qs_spec.specs.Data as d
 use Rattle.qs_data.specs.declared.read.nested.Frame.TheVariants as frame
 use Rattle.qs_data.specs.declared.read.nested.Visited.{Visited}
-use Rattle.qs_data.proofs.lemmas.read.Nesting.{enters_map, advance_exit, map_text_key, map_text, map_text_after, map_parts}
+use Rattle.qs_data.proofs.lemmas.read.Nesting.{enters_map, advance_exit, map_string_key, map_text, map_text_after, map_parts}
 use Rattle.qs_data.proofs.lemmas.read.Pairs.{pairs_more, pairs_no_key, pairs_no_value, pairs_end, pairs_all}
 use Rattle.qs_data.proofs.read.nested.MapFrame.advance.Goals as goal
 use Rattle.qs_data.proofs.read.nested.MapFrame.advance.Goals.{else-loop-place-test, then-loop-place-test+in_default}
@@ -11,18 +11,18 @@ pub returns-in_err-key : goal.returns-in_err-key
 returns-in_err-key c =
     let l = c.loop-place in
     let es = entries_of_map l.self.entries.now in
-    let x : Step × Tree = (step_of_key c.in-Some.key.now, tree_of c.in-Some.value.now) in
+    let x : MarkedSegment × Tree = (marked_segment_of_key c.in-Some.key.now, tree_of c.in-Some.value.now) in
     let here = sym c.in-Some.ensures.value in
     let whole = option_map (λ ps. d.Data.mapping (d.pairs_of ps)) in
     advance_exit (is_utf8 (segment_text x.0.seg)) c.from_residual.result c.in_err-key.field-0.0 (key_data KeyShape.text (segment_text x.0.seg)) (frame.Map c.args.self.now) (frame.Map l.self)
     c.from_residual.ensures.1 c.in_err-key.ensures (λ e. l.invariant.value ∙ ap whole (pairs_no_key KeyShape.text any_data es l.place (map pair_of l.self.pairs.items) x here e))
-    (λ e. l.invariant.text (map_text_key es l.place x here e))
+    (λ e. l.invariant.text (map_string_key es l.place x here e))
 
 pub returns-in_err-data : goal.returns-in_err-data
 returns-in_err-data c =
     let l = c.loop-place in
     let es = entries_of_map l.self.entries.now in
-    let x : Step × Tree = (step_of_key c.in-Some.key.now, tree_of c.in-Some.value.now) in
+    let x : MarkedSegment × Tree = (marked_segment_of_key c.in-Some.key.now, tree_of c.in-Some.value.now) in
     let here = sym c.in-Some.ensures.value in
     let whole = option_map (λ ps. d.Data.mapping (d.pairs_of ps)) in
     advance_exit (is_text x.1) c.from_residual-in_err-data.result c.in_err-data.field-0.0 (any_data x.1) (frame.Map c.args.self.now) (frame.Map l.self) c.from_residual-in_err-data.ensures.1
@@ -33,7 +33,7 @@ pub returns-in-Inner : goal.returns-in-Inner
 returns-in-Inner c =
     let l = c.loop-place in
     let es = entries_of_map l.self.entries.now in
-    let x : Step × Tree = (step_of_key c.in-Some.key.now, tree_of c.in-Some.value.now) in
+    let x : MarkedSegment × Tree = (marked_segment_of_key c.in-Some.key.now, tree_of c.in-Some.value.now) in
     let P : Visited → Type 0 = λ node. Visits (Ok node) x.1 in
     let begun = subst P c.in-Inner.is c.in_ok-data.ensures in
     let w = c.keep_key in
@@ -46,7 +46,7 @@ pub loop-place-preserved : goal.loop-place-preserved
 loop-place-preserved c =
     let l = c.loop-place in
     let es = entries_of_map l.self.entries.now in
-    let x : Step × Tree = (step_of_key c.in-Some.key.now, tree_of c.in-Some.value.now) in
+    let x : MarkedSegment × Tree = (marked_segment_of_key c.in-Some.key.now, tree_of c.in-Some.value.now) in
     let here = sym c.in-Some.ensures.value in
     let ws = map pair_of l.self.pairs.items in
     let a = data_of c.in_ok-key.key in

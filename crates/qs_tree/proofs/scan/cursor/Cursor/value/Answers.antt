@@ -16,9 +16,9 @@ returns-clause-past c =
     ((value_cut old.form old.rest.now).rest ∙ sym (ap (tokens old.form) (c.split_at.ensures.back ∙ ap (λ n. drop n old.rest.now) end)) ∙ c.next.ensures.token)
     c.next.ensures.end
 
-pub returns-clause-plain : goal.returns-clause-plain
-returns-clause-plain c =
+pub returns-clause-is_unmarked : goal.returns-clause-is_unmarked
+returns-clause-is_unmarked c =
     let old = c.args.self.now in
     let end = c.find_value_end-end.ensures.first in
-    λ plain. plain_value old.rest.now c.split_at.result.0.now c.split_at.result.1.now c.next.result c.next.new.self.rest.now plain
+    λ unmarked. plain_value old.rest.now c.split_at.result.0.now c.split_at.result.1.now c.next.result c.next.new.self.rest.now unmarked
     (c.split_at.ensures.front ∙ ap (λ n. take n old.rest.now) end) (c.split_at.ensures.back ∙ ap (λ n. drop n old.rest.now) end) c.next.ensures.bytes c.next.ensures.end

@@ -13,44 +13,44 @@ pub from_places-requires : goal.from_places-requires
 from_places-requires g c =
     let t = g.T.Deserialize.table in
     let r = g.R.Fields.table in
-    let st = c.args.reader.reject_duplicates in
+    let reject_duplicates = c.args.reader.reject_duplicates in
     let names = texts c.args.names.now in
-    others_differ t.meaning r.meaning st t.form r.form names c.split.result.0.now (texts c.split.result.1.now) c.split.ensures.first c.split.ensures.others c.requires
+    others_differ t.meaning r.meaning reject_duplicates t.form r.form names c.split.result.0.now (texts c.split.result.1.now) c.split.ensures.first c.split.ensures.others c.requires
 
 pub returns-in_err-first : goal.returns-in_err-first
 returns-in_err-first g c =
     let t = g.T.Deserialize.table in
     let r = g.R.Fields.table in
-    let st = c.args.reader.reject_duplicates in
+    let reject_duplicates = c.args.reader.reject_duplicates in
     let names = texts c.args.names.now in
     let xs = items_from (map tree_of c.args.items.now) in
-    let whole = defaulted_placed t.meaning r.meaning st t.form r.form names c.split.result.0.now (texts c.split.result.1.now) c.split.ensures.first c.split.ensures.others c.requires g.T.OrDefault.default xs in
-    first_unread _ (items_are_text xs) (items_are_text xs) c.from_residual.result c.in_err-first.field-0.0 _ (value_placed t.meaning (t.meaning g.T.OrDefault.default) (reads st t.form) xs)
-    (by_places st (r.form (texts c.split.result.1.now)) (r.meaning (texts c.split.result.1.now)) (items_after xs)) c.from_residual.ensures.1 c.in_err-first.ensures whole (λ f. f)
+    let whole = defaulted_placed t.meaning r.meaning reject_duplicates t.form r.form names c.split.result.0.now (texts c.split.result.1.now) c.split.ensures.first c.split.ensures.others c.requires g.T.OrDefault.default xs in
+    first_unread _ (items_are_text xs) (items_are_text xs) c.from_residual.result c.in_err-first.field-0.0 _ (value_placed t.meaning (t.meaning g.T.OrDefault.default) (reads reject_duplicates t.form) xs)
+    (by_places reject_duplicates (r.form (texts c.split.result.1.now)) (r.meaning (texts c.split.result.1.now)) (items_after xs)) c.from_residual.ensures.1 c.in_err-first.ensures whole (λ f. f)
 
 pub returns-in_err-others : goal.returns-in_err-others
 returns-in_err-others g c =
     let t = g.T.Deserialize.table in
     let r = g.R.Fields.table in
-    let st = c.args.reader.reject_duplicates in
+    let reject_duplicates = c.args.reader.reject_duplicates in
     let names = texts c.args.names.now in
     let xs = items_from (map tree_of c.args.items.now) in
     let ys = items_from (map tree_of c.after.result.now) in
     let named = r.meaning (texts c.split.result.1.now) in
     let fs = r.form (texts c.split.result.1.now) in
-    let whole = defaulted_placed t.meaning r.meaning st t.form r.form names c.split.result.0.now (texts c.split.result.1.now) c.split.ensures.first c.split.ensures.others c.requires g.T.OrDefault.default xs in
-    others_unread _ (items_are_text ys) (items_are_text xs) c.from_residual-in_err-others.result c.in_err-others.field-0.0 _ (value_placed t.meaning (t.meaning g.T.OrDefault.default) (reads st t.form) xs)
-    (by_places st fs named ys) c.from_residual-in_err-others.ensures.1 c.in_err-others.ensures
-    (whole ∙ ap (λ zs. both (value_placed t.meaning (t.meaning g.T.OrDefault.default) (reads st t.form) xs) (by_places st fs named zs)) (sym c.after.ensures)) (after_bad xs ys c.after.ensures)
+    let whole = defaulted_placed t.meaning r.meaning reject_duplicates t.form r.form names c.split.result.0.now (texts c.split.result.1.now) c.split.ensures.first c.split.ensures.others c.requires g.T.OrDefault.default xs in
+    others_unread _ (items_are_text ys) (items_are_text xs) c.from_residual-in_err-others.result c.in_err-others.field-0.0 _ (value_placed t.meaning (t.meaning g.T.OrDefault.default) (reads reject_duplicates t.form) xs)
+    (by_places reject_duplicates fs named ys) c.from_residual-in_err-others.ensures.1 c.in_err-others.ensures
+    (whole ∙ ap (λ zs. both (value_placed t.meaning (t.meaning g.T.OrDefault.default) (reads reject_duplicates t.form) xs) (by_places reject_duplicates fs named zs)) (sym c.after.ensures)) (after_bad xs ys c.after.ensures)
 
 pub returns : goal.returns
 returns g c =
     let t = g.T.Deserialize.table in
     let r = g.R.Fields.table in
-    let st = c.args.reader.reject_duplicates in
+    let reject_duplicates = c.args.reader.reject_duplicates in
     let names = texts c.args.names.now in
     let xs = items_from (map tree_of c.args.items.now) in
     let named = r.meaning (texts c.split.result.1.now) in
     let fs = r.form (texts c.split.result.1.now) in
-    let whole = defaulted_placed t.meaning r.meaning st t.form r.form names c.split.result.0.now (texts c.split.result.1.now) c.split.ensures.first c.split.ensures.others c.requires g.T.OrDefault.default xs in
-    both_read _ _ _ _ _ whole c.in_ok-first.ensures (ap (by_places st fs named) (sym c.after.ensures) ∙ c.in_ok-others.ensures)
+    let whole = defaulted_placed t.meaning r.meaning reject_duplicates t.form r.form names c.split.result.0.now (texts c.split.result.1.now) c.split.ensures.first c.split.ensures.others c.requires g.T.OrDefault.default xs in
+    both_read _ _ _ _ _ whole c.in_ok-first.ensures (ap (by_places reject_duplicates fs named) (sym c.after.ensures) ∙ c.in_ok-others.ensures)

@@ -34,25 +34,25 @@ pub returns-in_err-first : goal.returns-in_err-first
 returns-in_err-first g c =
     let t = g.T.Deserialize.table in
     let r = g.R.Items.table in
-    let st = c.args.reader.reject_duplicates in
+    let reject_duplicates = c.args.reader.reject_duplicates in
     let xs = items_view c.args.items in
     let i = c.args.place in
     let n = tree_of c.in-Some.item.now in
     let h : first_item (drop i xs) ≡ Some (Some n) = c.in_ok-item.ensures ∙ ap (λ o. Some (option_map (λ v. tree_of v.now) o)) c.in-Some.is in
-    first_unread _ (is_text n) (are_text xs) c.from_residual-in_err-first.result c.in_err-first.field-0.0 _ (option_and_then t.meaning (reads st t.form n)) (by_shapes st r.form r.meaning (drop (i + 1) xs))
-    c.from_residual-in_err-first.ensures.1 c.in_err-first.ensures.node (item_read t.meaning r.meaning st t.form r.form xs i n h) (due_bad i xs n h)
+    first_unread _ (is_text n) (are_text xs) c.from_residual-in_err-first.result c.in_err-first.field-0.0 _ (option_and_then t.meaning (reads reject_duplicates t.form n)) (by_shapes reject_duplicates r.form r.meaning (drop (i + 1) xs))
+    c.from_residual-in_err-first.ensures.1 c.in_err-first.ensures.node (item_read t.meaning r.meaning reject_duplicates t.form r.form xs i n h) (due_bad i xs n h)
 
 pub returns-in_err-others : goal.returns-in_err-others
 returns-in_err-others g c =
     let t = g.T.Deserialize.table in
     let r = g.R.Items.table in
-    let st = c.args.reader.reject_duplicates in
+    let reject_duplicates = c.args.reader.reject_duplicates in
     let xs = items_view c.args.items in
     let i = c.args.place in
     let n = tree_of c.in-Some.item.now in
     let h : first_item (drop i xs) ≡ Some (Some n) = c.in_ok-item.ensures ∙ ap (λ o. Some (option_map (λ v. tree_of v.now) o)) c.in-Some.is in
-    others_unread _ (are_text xs) (are_text xs) c.from_residual-in_err-others.result c.in_err-others.field-0.0 _ (option_and_then t.meaning (reads st t.form n)) (by_shapes st r.form r.meaning (drop (i + 1) xs))
-    c.from_residual-in_err-others.ensures.1 c.in_err-others.ensures (item_read t.meaning r.meaning st t.form r.form xs i n h) (λ f. f)
+    others_unread _ (are_text xs) (are_text xs) c.from_residual-in_err-others.result c.in_err-others.field-0.0 _ (option_and_then t.meaning (reads reject_duplicates t.form n)) (by_shapes reject_duplicates r.form r.meaning (drop (i + 1) xs))
+    c.from_residual-in_err-others.ensures.1 c.in_err-others.ensures (item_read t.meaning r.meaning reject_duplicates t.form r.form xs i n h) (λ f. f)
 
 pub returns : goal.returns
 returns g c =

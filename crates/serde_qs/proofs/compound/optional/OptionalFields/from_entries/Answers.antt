@@ -15,38 +15,38 @@ pub from_entries-requires-clause-differ : goal.from_entries-requires-clause-diff
 from_entries-requires-clause-differ g c =
     let t = g.T.Deserialize.table in
     let r = g.R.Fields.table in
-    let st = c.args.reader.reject_duplicates in
+    let reject_duplicates = c.args.reader.reject_duplicates in
     let names = texts c.args.names.now in
-    others_differ t.meaning r.meaning st t.form r.form names c.split.result.0.now (texts c.split.result.1.now) c.split.ensures.first c.split.ensures.others c.requires.differ
+    others_differ t.meaning r.meaning reject_duplicates t.form r.form names c.split.result.0.now (texts c.split.result.1.now) c.split.ensures.first c.split.ensures.others c.requires.differ
 
 pub returns-in_err-first : goal.returns-in_err-first
 returns-in_err-first g c =
     let t = g.T.Deserialize.table in
     let r = g.R.Fields.table in
-    let st = c.args.reader.reject_duplicates in
+    let reject_duplicates = c.args.reader.reject_duplicates in
     let names = texts c.args.names.now in
     let es = entries_view c.args.entries in
-    let whole = optional_named t.meaning r.meaning st t.form r.form names c.split.result.0.now (texts c.split.result.1.now) c.split.ensures.first c.split.ensures.others c.requires.differ es in
-    first_unread _ (entries_are_text es) (entries_are_text es) c.from_residual.result (error_of c.in_err-first.field-0.0) _ (value_found (λ x. option_map Some (t.meaning x)) (Some None) (reads st t.form) (found c.split.result.0.now es))
-    (by_names st (r.form (texts c.split.result.1.now)) (r.meaning (texts c.split.result.1.now)) es) c.from_residual.ensures.1 c.in_err-first.ensures whole (λ f. f)
+    let whole = optional_named t.meaning r.meaning reject_duplicates t.form r.form names c.split.result.0.now (texts c.split.result.1.now) c.split.ensures.first c.split.ensures.others c.requires.differ es in
+    first_unread _ (entries_are_text es) (entries_are_text es) c.from_residual.result (error_of c.in_err-first.field-0.0) _ (value_found (λ x. option_map Some (t.meaning x)) (Some None) (reads reject_duplicates t.form) (found c.split.result.0.now es))
+    (by_names reject_duplicates (r.form (texts c.split.result.1.now)) (r.meaning (texts c.split.result.1.now)) es) c.from_residual.ensures.1 c.in_err-first.ensures whole (λ f. f)
 
 pub returns-in_err-others : goal.returns-in_err-others
 returns-in_err-others g c =
     let t = g.T.Deserialize.table in
     let r = g.R.Fields.table in
-    let st = c.args.reader.reject_duplicates in
+    let reject_duplicates = c.args.reader.reject_duplicates in
     let names = texts c.args.names.now in
     let es = entries_view c.args.entries in
-    let whole = optional_named t.meaning r.meaning st t.form r.form names c.split.result.0.now (texts c.split.result.1.now) c.split.ensures.first c.split.ensures.others c.requires.differ es in
-    others_unread _ (entries_are_text es) (entries_are_text es) c.from_residual-in_err-others.result c.in_err-others.field-0.0 _ (value_found (λ x. option_map Some (t.meaning x)) (Some None) (reads st t.form) (found c.split.result.0.now es))
-    (by_names st (r.form (texts c.split.result.1.now)) (r.meaning (texts c.split.result.1.now)) es) c.from_residual-in_err-others.ensures.1 c.in_err-others.ensures whole (λ f. f)
+    let whole = optional_named t.meaning r.meaning reject_duplicates t.form r.form names c.split.result.0.now (texts c.split.result.1.now) c.split.ensures.first c.split.ensures.others c.requires.differ es in
+    others_unread _ (entries_are_text es) (entries_are_text es) c.from_residual-in_err-others.result c.in_err-others.field-0.0 _ (value_found (λ x. option_map Some (t.meaning x)) (Some None) (reads reject_duplicates t.form) (found c.split.result.0.now es))
+    (by_names reject_duplicates (r.form (texts c.split.result.1.now)) (r.meaning (texts c.split.result.1.now)) es) c.from_residual-in_err-others.ensures.1 c.in_err-others.ensures whole (λ f. f)
 
 pub returns : goal.returns
 returns g c =
     let t = g.T.Deserialize.table in
     let r = g.R.Fields.table in
-    let st = c.args.reader.reject_duplicates in
+    let reject_duplicates = c.args.reader.reject_duplicates in
     let names = texts c.args.names.now in
     let es = entries_view c.args.entries in
-    let whole = optional_named t.meaning r.meaning st t.form r.form names c.split.result.0.now (texts c.split.result.1.now) c.split.ensures.first c.split.ensures.others c.requires.differ es in
+    let whole = optional_named t.meaning r.meaning reject_duplicates t.form r.form names c.split.result.0.now (texts c.split.result.1.now) c.split.ensures.first c.split.ensures.others c.requires.differ es in
     both_read _ _ _ _ _ whole c.in_ok-first.ensures c.in_ok-others.ensures

@@ -13,10 +13,10 @@ pub returns-in_err-fields_of_struct : goal.returns-in_err-fields_of_struct
 returns-in_err-fields_of_struct g c =
     let t = g.F.Fields.table in
     let n = tree_of c.args.node.now in
-    let st = c.args.reader.reject_duplicates in
+    let reject_duplicates = c.args.reader.reject_duplicates in
     let fs = t.form (texts c.args.names.now) in
     let m = t.meaning (texts c.args.names.now) in
-    record { node = gives_exit _ (is_text n) (is_text n) c.from_residual.result (error_of c.in_err-fields_of_struct.field-0.0) (members_read UnknownKeys.ignored st fs m n) _ c.from_residual.ensures.1 c.in_err-fields_of_struct.ensures (λ none. sym (struct_read UnknownKeys.ignored st fs m n) ∙ none) (λ f. f) }
+    record { node = gives_exit _ (is_text n) (is_text n) c.from_residual.result (error_of c.in_err-fields_of_struct.field-0.0) (members_read UnknownKeys.ignored reject_duplicates fs m n) _ c.from_residual.ensures.1 c.in_err-fields_of_struct.ensures (λ none. sym (struct_read UnknownKeys.ignored reject_duplicates fs m n) ∙ none) (λ f. f) }
 
 pub returns : goal.returns
 returns g c =

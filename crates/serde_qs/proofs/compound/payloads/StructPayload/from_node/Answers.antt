@@ -15,21 +15,21 @@ use Rattle.serde_qs.proofs.compound.payloads.StructPayload.from_node.Goals as go
 pub returns-in_err-fields_of_variant : goal.returns-in_err-fields_of_variant
 returns-in_err-fields_of_variant g c = λ name.
     let t = g.F.Fields.table in
-    let st = c.args.reader.reject_duplicates in
+    let reject_duplicates = c.args.reader.reject_duplicates in
     let fs = t.form (texts c.args.names.now) in
     let m = t.meaning (texts c.args.names.now) in
     let o = option_map (λ v. tree_of v.now) c.args.held in
     let n = tree_of c.in_ok-node.node.now in
     let here : o ≡ Some n = c.in_ok-node.ensures in
-    gives_exit _ (is_text n) (held_is_text o) c.from_residual-in_err-fields_of_variant.result (error_of c.in_err-fields_of_variant.field-0.0) (members_read UnknownKeys.ignored st fs m (as_map n)) _
+    gives_exit _ (is_text n) (held_is_text o) c.from_residual-in_err-fields_of_variant.result (error_of c.in_err-fields_of_variant.field-0.0) (members_read UnknownKeys.ignored reject_duplicates fs m (as_map n)) _
     c.from_residual-in_err-fields_of_variant.ensures.1 c.in_err-fields_of_variant.ensures
-    (λ none. struct_held m UnknownKeys.ignored st fs name o ∙ ap (option_and_then (λ x. members_read UnknownKeys.ignored st fs m (as_map x))) here ∙ none) (λ f. ap held_is_text here ∙ f)
+    (λ none. struct_held m UnknownKeys.ignored reject_duplicates fs name o ∙ ap (option_and_then (λ x. members_read UnknownKeys.ignored reject_duplicates fs m (as_map x))) here ∙ none) (λ f. ap held_is_text here ∙ f)
 
 pub returns : goal.returns
 returns g c = λ name.
     let t = g.F.Fields.table in
-    let st = c.args.reader.reject_duplicates in
+    let reject_duplicates = c.args.reader.reject_duplicates in
     let fs = t.form (texts c.args.names.now) in
     let m = t.meaning (texts c.args.names.now) in
     let o = option_map (λ v. tree_of v.now) c.args.held in
-    struct_held m UnknownKeys.ignored st fs name o ∙ ap (option_and_then (λ x. members_read UnknownKeys.ignored st fs m (as_map x))) c.in_ok-node.ensures ∙ c.in_ok-fields_of_variant.ensures
+    struct_held m UnknownKeys.ignored reject_duplicates fs name o ∙ ap (option_and_then (λ x. members_read UnknownKeys.ignored reject_duplicates fs m (as_map x))) c.in_ok-node.ensures ∙ c.in_ok-fields_of_variant.ensures

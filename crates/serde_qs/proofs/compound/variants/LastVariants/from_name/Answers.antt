@@ -12,15 +12,15 @@ use Rattle.serde_qs.proofs.compound.variants.LastVariants.from_name.Goals as goa
 pub returns-in_err-from_node : goal.returns-in_err-from_node
 returns-in_err-from_node g c =
     let t = g.V.Payload.table in
-    let st = c.args.reader.reject_duplicates in
+    let reject_duplicates = c.args.reader.reject_duplicates in
     let name = c.args.name.now in
     let o = option_map (λ v. tree_of v.now) c.args.held in
     let own = c.split.result.0.now in
     let rest = texts c.split.result.1.now in
     let same : bytes_eq own name ≡ true = ap (λ x. bytes_eq x name) (sym c.as_bytes.ensures.value) ∙ sym c.if-eq.ensures in
-    gives_exit _ (held_is_text o) (is_utf8 name && held_is_text o) c.from_residual.result c.in_err-from_node.field-0.0 (option_and_then (t.meaning rest) (kind_held st (t.form rest) own o)) _
+    gives_exit _ (held_is_text o) (is_utf8 name && held_is_text o) c.from_residual.result c.in_err-from_node.field-0.0 (option_and_then (t.meaning rest) (kind_held reject_duplicates (t.form rest) own o)) _
     c.from_residual.ensures.1 (c.in_err-from_node.ensures own)
-    (λ none. last_here t.meaning t.form st (texts c.args.names.now) name o own rest c.split.ensures.first c.split.ensures.others same ∙ none) (and_right (is_utf8 name) (held_is_text o))
+    (λ none. last_here t.meaning t.form reject_duplicates (texts c.args.names.now) name o own rest c.split.ensures.first c.split.ensures.others same ∙ none) (and_right (is_utf8 name) (held_is_text o))
 
 pub returns-in_ok-from_node : goal.returns-in_ok-from_node
 returns-in_ok-from_node g c =

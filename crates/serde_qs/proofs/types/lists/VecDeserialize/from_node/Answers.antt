@@ -21,11 +21,11 @@ pub returns-in_err-items : goal.returns-in_err-items
 returns-in_err-items g c =
     let n = tree_of c.args.node.now in
     let m = g.T.Deserialize.table.meaning in
-    let st = c.args.reader.reject_duplicates in
+    let reject_duplicates = c.args.reader.reject_duplicates in
     record {
       node = gives_exit (λ (xs : Vec g.row.T.Denot Global). map g.T.Deserialize.table.value xs.items) true (is_text n) c.from_residual.result c.in_err-items.field-0.0 (items n)
-          (option_and_then (sequence_in m) (reads st (s.Shape.sequence g.T.Deserialize.table.form) n)) c.from_residual.ensures.1 c.in_err-items.ensures.exact
-          (λ none. sequence_read m st g.T.Deserialize.table.form n ∙ ap (option_and_then (each_value (λ t. option_and_then m (reads st g.T.Deserialize.table.form t)))) none)
+          (option_and_then (sequence_in m) (reads reject_duplicates (s.Shape.sequence g.T.Deserialize.table.form) n)) c.from_residual.ensures.1 c.in_err-items.ensures.exact
+          (λ none. sequence_read m reject_duplicates g.T.Deserialize.table.form n ∙ ap (option_and_then (each_value (λ t. option_and_then m (reads reject_duplicates g.T.Deserialize.table.form t)))) none)
           (λ f. absurd (false≢true (sym f)));
     }
 
@@ -33,11 +33,11 @@ pub returns : goal.returns
 returns g c =
     let n = tree_of c.args.node.now in
     let m = g.T.Deserialize.table.meaning in
-    let st = c.args.reader.reject_duplicates in
+    let reject_duplicates = c.args.reader.reject_duplicates in
     let xs = items_view c.in_ok-items.items in
-    let r : Tree → Option g.T.Deserialize.table.Value = λ t. option_and_then m (reads st g.T.Deserialize.table.form t) in
+    let r : Tree → Option g.T.Deserialize.table.Value = λ t. option_and_then m (reads reject_duplicates g.T.Deserialize.table.form t) in
     record {
       node = widened (λ (ys : Vec g.row.T.Denot Global). map g.T.Deserialize.table.value ys.items) (are_text xs) (is_text n) c.values_of.result (each_value r xs)
-          (option_and_then (sequence_in m) (reads st (s.Shape.sequence g.T.Deserialize.table.form) n)) c.values_of.ensures
-          (sym (sequence_read m st g.T.Deserialize.table.form n ∙ ap (option_and_then (each_value r)) c.in_ok-items.ensures.exact)) c.in_ok-items.ensures.text;
+          (option_and_then (sequence_in m) (reads reject_duplicates (s.Shape.sequence g.T.Deserialize.table.form) n)) c.values_of.ensures
+          (sym (sequence_read m reject_duplicates g.T.Deserialize.table.form n ∙ ap (option_and_then (each_value r)) c.in_ok-items.ensures.exact)) c.in_ok-items.ensures.text;
     }

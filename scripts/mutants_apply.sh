@@ -1,9 +1,9 @@
 #!/usr/bin/env bash
-# Whether each of the edits crates/*/inner-edits/*.edit still applies: each text that it takes away stands in its file exactly once.
-# scripts/support/try_inner_edits.sh has the prover try them.
+# Whether each of the edits crates/*/mutants/*.edit still applies: each text that it takes away stands in its file exactly once.
+# scripts/support/try_mutants.sh has the prover try them.
 set -u
 root=$(cd "$(dirname "${BASH_SOURCE[0]}")/.." && pwd) || exit 1
-python3 - "$root"/crates/*/inner-edits/*.edit <<'END'
+python3 - "$root"/crates/*/mutants/*.edit <<'END'
 import pathlib, sys
 
 failed = 0
@@ -21,6 +21,6 @@ for edit in map(pathlib.Path, sys.argv[1:]):
     if pairs == 0 or count != 1:
         failed += 1
         print(f"  FAILED: {edit.parent.parent.name}/{edit.name} does not apply")
-print(f"inner_edits: {len(sys.argv) - 1 - failed} passed, {failed} failed")
+print(f"mutants_apply: {len(sys.argv) - 1 - failed} passed, {failed} failed")
 sys.exit(failed > 0)
 END

@@ -1,6 +1,6 @@
 use Rattle.qs_tree.proofs.Common.{◌+◌, ◌<◌, arith, length, inl, inr, sym, ◌∙◌, cases_lt}
 use Rattle.qs_tree.proofs.lemmas.escape.FirstPlace.{position-some, position-none}
-use Rattle.qs_tree.proofs.escape.search.find.Goals as goal
+use Rattle.qs_tree.proofs.escape.search.find_first.Goals as goal
 
 pub returns-then-run-lt-LANES-clause-first : goal.returns-then-run-lt-LANES-clause-first
 returns-then-run-lt-LANES-clause-first g c =

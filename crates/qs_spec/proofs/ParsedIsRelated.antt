@@ -2,7 +2,7 @@
 use Rattle.std.proofs.Common.{◌≡◌, ℕ, zero, suc, Bool, true, false, not, ◌&&◌, List, [], ◌∷◌, ◌++◌, refl, sym, ap, ap₂, ◌∙◌, subst, Option, Some, None, option_map, append_assoc}
 use Rattle.std.specs.List.{list_all}
 use Rattle.qs_spec.specs.Token.{Kind, Token, raw_of}
-use Rattle.qs_spec.specs.Segment.{Step}
+use Rattle.qs_spec.specs.Segment.{MarkedSegment}
 use Rattle.qs_spec.specs.Leaf.{Leaf}
 use Rattle.qs_spec.specs.Token.Kind.{Amp, Equals, Open, Close, Other}
 use Rattle.qs_spec.specs.Grammar.{Pair, direct, pushed, is_amp, is_open, is_close, ends_last, ends_root, IsRun, root, longer, IsValue, IsBrackets, IsPair, IsEnd, ArePairs}
@@ -37,7 +37,7 @@ cut_run ends (t ∷ run) rest r s =
     ap₂ (λ b c. cut_at b t (run ++ rest) c) (not_of (ends t.kind) parts.0) (cut_run ends run rest parts.1 s)
 
 -- what was read is a front with this property, and then an end
-pub record Reads {A : Type 0} (Is : List Token → A → Type 0) (ts : List Token) (a : A) (rest : List Token) : Type 0 where
+pub record Parses {A : Type 0} (Is : List Token → A → Type 0) (ts : List Token) (a : A) (rest : List Token) : Type 0 where
   pub front : List Token
   pub is : Is front a
   pub end : IsEnd rest
@@ -57,7 +57,7 @@ end_of (t ∷ ts) s = amp_of t.kind s
 -- what a reader found, if anything, is so
 abbrev pub Found : {A : Type 0} → (List Token → A → Type 0) → List Token → Rest A → Type 0
 Found Is ts None = Unit {0}
-Found Is ts (Some r) = Reads Is ts r.0 r.1
+Found Is ts (Some r) = Parses Is ts r.0 r.1
 
 close_of : (k : Kind) → is_close k ≡ true → k ≡ Close
 close_of Amp e = cc
@@ -66,9 +66,9 @@ close_of Open e = cc
 close_of Close e = refl
 close_of Other e = cc
 
-value_reads : (ts : List Token) → Found IsValue ts (parsed_value ts)
-value_reads [] = record { front = []; is = IsValue.none; end = tt; whole = refl }
-value_reads (t ∷ ts) = by t.kind refl
+value_parsed : (ts : List Token) → Found IsValue ts (parsed_value ts)
+value_parsed [] = record { front = []; is = IsValue.none; end = tt; whole = refl }
+value_parsed (t ∷ ts) = by t.kind refl
   where
     by : (k : Kind) → t.kind ≡ k → Found IsValue (t ∷ ts) (value_at k t ts)
     by Amp e = record { front = []; is = IsValue.none; end = e; whole = refl }
@@ -81,7 +81,7 @@ value_reads (t ∷ ts) = by t.kind refl
 
 -- after some tokens a reader reads what it reads
 module _ {A B : Type 0} (Is : List Token → A → Type 0) (Are : List Token → B → Type 0) (pre : List Token → List Token) (law : (f r : List Token) → pre (f ++ r) ≡ pre f ++ r) where
-  pub following : (of : A → B) → ((front : List Token) (a : A) → Is front a → Are (pre front) (of a)) → (ts : List Token) (a : A) (rest : List Token) → Reads Is ts a rest → Reads Are (pre ts) (of a) rest
+  pub following : (of : A → B) → ((front : List Token) (a : A) → Is front a → Are (pre front) (of a)) → (ts : List Token) (a : A) (rest : List Token) → Parses Is ts a rest → Parses Are (pre ts) (of a) rest
   following of f ts a rest h = record { front = pre h.front; is = f h.front a h.is; end = h.end; whole = ap pre h.whole ∙ law h.front rest }
 
 leaf_following : (Is : List Token → Pair → Type 0) (pre : List Token → List Token) → ((f r : List Token) → pre (f ++ r) ≡ pre f ++ r) → (pair : Leaf → Pair)
@@ -102,11 +102,11 @@ run_more : (ends : Kind → Bool) (t : Token) (run : List Token) → ends t.kind
 run_more ends t run e h = ap (λ b. not b && list_all (λ t. not (ends t.kind)) run) e ∙ h
 
 abbrev AllFound : ℕ → Type 0
-AllFound room = (path : List Step) (bracket : List ℕ) (ts : List Token) → Found (IsBrackets room path bracket) ts (parsed_brackets room path bracket ts)
+AllFound room = (path : List MarkedSegment) (bracket : List ℕ) (ts : List Token) → Found (IsBrackets room path bracket) ts (parsed_brackets room path bracket ts)
 
-closed : (room : ℕ) (path : List Step) (bracket : List ℕ) (s t : Token) (run rest : List Token) → IsRun is_close (s ∷ run) → t.kind ≡ Close → AllFound room
+closed : (room : ℕ) (path : List MarkedSegment) (bracket : List ℕ) (s t : Token) (run rest : List Token) → IsRun is_close (s ∷ run) → t.kind ≡ Close → AllFound room
     → Found (IsBrackets (suc room) path bracket) (s ∷ run ++ t ∷ rest) (after_close (parsed_brackets room) (longer path (raw_of (s ∷ run))) rest)
-closed room path bracket s t run [] r e h = leaf_following (IsBrackets (suc room) path bracket) (λ l. s ∷ run ++ t ∷ l) (λ f g. after (s ∷ run) (t ∷ f) g) (direct (longer path (raw_of (s ∷ run)))) (λ value leaf v. IsBrackets.segment s t run value r e v) [] (parsed_value []) (value_reads [])
+closed room path bracket s t run [] r e h = leaf_following (IsBrackets (suc room) path bracket) (λ l. s ∷ run ++ t ∷ l) (λ f g. after (s ∷ run) (t ∷ f) g) (direct (longer path (raw_of (s ∷ run)))) (λ value leaf v. IsBrackets.segment s t run value r e v) [] (parsed_value []) (value_parsed [])
 closed room path bracket s t run (u ∷ rest) r e h = by u.kind refl
   where
     by : (k : Kind) → u.kind ≡ k → Found (IsBrackets (suc room) path bracket) (s ∷ run ++ t ∷ u ∷ rest) (after_close_at k (parsed_brackets room) (longer path (raw_of (s ∷ run))) u rest)
@@ -118,21 +118,21 @@ closed room path bracket s t run (u ∷ rest) r e h = by u.kind refl
     by Close d = tt
     by Other d = tt
 
-pushes : (room : ℕ) (path : List Step) (bracket : List ℕ) (t : Token) (ts : List Token) → is_close t.kind ≡ true → Found (IsBrackets room path bracket) (t ∷ ts) (with_leaf (pushed path) (parsed_value ts))
-pushes room path bracket t ts e = leaf_following (IsBrackets room path bracket) (λ l. t ∷ l) (λ f g. refl) (pushed path) (λ value leaf v. IsBrackets.push (close_of t.kind e) v) ts (parsed_value ts) (value_reads ts)
+pushes : (room : ℕ) (path : List MarkedSegment) (bracket : List ℕ) (t : Token) (ts : List Token) → is_close t.kind ≡ true → Found (IsBrackets room path bracket) (t ∷ ts) (with_leaf (pushed path) (parsed_value ts))
+pushes room path bracket t ts e = leaf_following (IsBrackets room path bracket) (λ l. t ∷ l) (λ f g. refl) (pushed path) (λ value leaf v. IsBrackets.push (close_of t.kind e) v) ts (parsed_value ts) (value_parsed ts)
 
-brackets_read : (room : ℕ) → AllFound room
-brackets_read zero path bracket [] = tt
-brackets_read zero path bracket (t ∷ ts) = by (is_close t.kind) refl
+brackets_parsed : (room : ℕ) → AllFound room
+brackets_parsed zero path bracket [] = tt
+brackets_parsed zero path bracket (t ∷ ts) = by (is_close t.kind) refl
   where
     by : (b : Bool) → is_close t.kind ≡ b → Found (IsBrackets zero path bracket) (t ∷ ts) (in_last b path bracket t ts)
     by true e = pushes zero path bracket t ts e
     by false e =
         let c = is_cut ends_last ts in
         subst (λ l. Found (IsBrackets zero path bracket) (t ∷ l) (last_key path bracket t (cut ends_last ts))) (sym c.whole)
-        (leaf_following (IsBrackets zero path bracket) (λ l. t ∷ (cut ends_last ts).0 ++ l) (after (t ∷ (cut ends_last ts).0)) (direct (longer path (bracket ++ t.raw ++ raw_of (cut ends_last ts).0))) (λ value leaf v. IsBrackets.last t (cut ends_last ts).0 value e c.run v) (cut ends_last ts).1 (parsed_value (cut ends_last ts).1) (value_reads (cut ends_last ts).1))
-brackets_read (suc room) path bracket [] = tt
-brackets_read (suc room) path bracket (t ∷ ts) = by (brackets_read room) (is_close t.kind) refl
+        (leaf_following (IsBrackets zero path bracket) (λ l. t ∷ (cut ends_last ts).0 ++ l) (after (t ∷ (cut ends_last ts).0)) (direct (longer path (bracket ++ t.raw ++ raw_of (cut ends_last ts).0))) (λ value leaf v. IsBrackets.last t (cut ends_last ts).0 value e c.run v) (cut ends_last ts).1 (parsed_value (cut ends_last ts).1) (value_parsed (cut ends_last ts).1))
+brackets_parsed (suc room) path bracket [] = tt
+brackets_parsed (suc room) path bracket (t ∷ ts) = by (brackets_parsed room) (is_close t.kind) refl
   where
     following_run : AllFound room → (run rest : List Token) → IsRun is_close (t ∷ run) → Stops is_close rest → Found (IsBrackets (suc room) path bracket) (t ∷ run ++ rest) (after_run (parsed_brackets room) (longer path (raw_of (t ∷ run))) rest)
     following_run h run [] r s = tt
@@ -159,12 +159,12 @@ pair_at depth key (u ∷ rest) r s = by u.kind refl
     by Equals e =
         let c = is_cut is_amp rest in
         record { front = key ++ u ∷ (cut is_amp rest).0; is = IsPair.value u key (cut is_amp rest).0 r (IsValue.some e c.run); end = end_of _ c.stops; whole = ap (λ l. key ++ u ∷ l) c.whole ∙ after key (u ∷ (cut is_amp rest).0) (cut is_amp rest).1 }
-    by Open e = pair_following (IsBrackets depth (root key) u.raw) (IsPair depth) (λ l. key ++ u ∷ l) (λ f g. after key (u ∷ f) g) (λ front p b. IsPair.brackets u key front r (ap is_open e) (sym (ap (ends_root depth) e) ∙ s) b) rest (parsed_brackets depth (root key) u.raw rest) (brackets_read depth (root key) u.raw rest)
+    by Open e = pair_following (IsBrackets depth (root key) u.raw) (IsPair depth) (λ l. key ++ u ∷ l) (λ f g. after key (u ∷ f) g) (λ front p b. IsPair.brackets u key front r (ap is_open e) (sym (ap (ends_root depth) e) ∙ s) b) rest (parsed_brackets depth (root key) u.raw rest) (brackets_parsed depth (root key) u.raw rest)
     by Close e = tt
     by Other e = tt
 
-pub pair_reads : (depth : ℕ) (ts : List Token) → Found (IsPair depth) ts (parsed_pair depth ts)
-pair_reads depth ts =
+pub pair_parsed : (depth : ℕ) (ts : List Token) → Found (IsPair depth) ts (parsed_pair depth ts)
+pair_parsed depth ts =
     let c = is_cut (ends_root depth) ts in
     subst (λ l. Found (IsPair depth) l (parsed_pair depth ts)) (sym c.whole) (pair_at depth (cut (ends_root depth) ts).0 (cut (ends_root depth) ts).1 c.run c.stops)
 
@@ -172,17 +172,17 @@ abbrev pub Finds : ℕ → List Token → Option (List Pair) → Type 0
 Finds depth ts None = Unit {0}
 Finds depth ts (Some ps) = ArePairs depth ts ps
 
-pub pairs_read : (depth n : ℕ) (ts : List Token) → Finds depth ts (parsed_pairs_within depth n ts)
-pairs_read depth zero [] = ArePairs.none
-pairs_read depth zero (t ∷ ts) = tt
-pairs_read depth (suc n) [] = ArePairs.none
-pairs_read depth (suc n) (t ∷ ts) = by (pairs_read depth n) (is_amp t.kind) refl (parsed_pair depth (t ∷ ts)) (pair_reads depth (t ∷ ts))
+pub pairs_parsed : (depth n : ℕ) (ts : List Token) → Finds depth ts (parsed_pairs_within depth n ts)
+pairs_parsed depth zero [] = ArePairs.none
+pairs_parsed depth zero (t ∷ ts) = tt
+pairs_parsed depth (suc n) [] = ArePairs.none
+pairs_parsed depth (suc n) (t ∷ ts) = by (pairs_parsed depth n) (is_amp t.kind) refl (parsed_pair depth (t ∷ ts)) (pair_parsed depth (t ∷ ts))
   where
     skip : t.kind ≡ Amp → (o : Option (List Pair)) → Finds depth ts o → Finds depth (t ∷ ts) o
     skip e None h = tt
     skip e (Some ps) h = ArePairs.amp e h
 
-    more : (p : Pair) (rest : List Token) → Reads (IsPair depth) (t ∷ ts) p rest → (o : Option (List Pair)) → Finds depth rest o → Finds depth (t ∷ ts) (option_map (λ ps. p ∷ ps) o)
+    more : (p : Pair) (rest : List Token) → Parses (IsPair depth) (t ∷ ts) p rest → (o : Option (List Pair)) → Finds depth rest o → Finds depth (t ∷ ts) (option_map (λ ps. p ∷ ps) o)
     more p rest r None h = tt
     more p rest r (Some ps) h = subst (λ l. ArePairs depth l (p ∷ ps)) (sym r.whole) (ArePairs.pair r.front rest r.is r.end h)
 

@@ -2,13 +2,13 @@
 use Rattle.std.proofs.Common.{◌≡◌, ℕ, zero, suc, length, ◌≤◌, arith, Option, Some, None, ◌+◌, Bool, true, false, cond, not, ◌&&◌, List, [], ◌∷◌, ◌++◌, map, refl, sym, ap, ap₂, ◌∙◌, subst, append_assoc, append-nil}
 use Rattle.std.specs.List.{list_all, AllByRecursion}
 use Rattle.qs_spec.specs.Escape.{encoded}
-use Rattle.qs_spec.specs.Segment.{Step, step_of}
+use Rattle.qs_spec.specs.Segment.{MarkedSegment, marked_segment_of}
 use Rattle.qs_spec.specs.Leaf.{value_leaf}
 use Rattle.qs_spec.specs.Token.{tokens, byte_token, Token, Kind, raw_of}
 use Rattle.qs_spec.specs.Token.Kind.{Other}
 use Rattle.qs_spec.specs.Entry.{Path, Entry}
 use Rattle.qs_spec.specs.Written.{open_bytes, close_bytes, value_text, brackets_text, path_text, has_key, entry_text, written}
-use Rattle.qs_spec.specs.internal.Entries.{entry_leaf, steps, entry_pair, IsSegment, IsValueOf, IsWritable, HasPath}
+use Rattle.qs_spec.specs.internal.WrittenEntries.{entry_leaf, marked_path, entry_pair, IsSegment, IsValueOf, IsWritable, HasKey}
 use Rattle.qs_spec.specs.Leaf.Leaf.{NoValue}
 use Rattle.qs_spec.specs.Grammar.{Pair, direct, is_close, ends_root, IsRun, root, longer, IsValue, IsBrackets, IsPair, ArePairs}
 use Rattle.qs_spec.proofs.EncodedTokens.{token_of_byte, no_bracket, is_other, encoded_tokens, open_token, close_token, open_first, close_first, clear_value, Front, value_front, segment_tokens}
@@ -49,28 +49,28 @@ other_run ends e (t ∷ ts) h =
     of Kind.Open h = cc
     of Kind.Close h = cc
 
-pub joins : (path : List Step) (s : Step) (more : List Step) → (path ++ s ∷ []) ++ more ≡ path ++ s ∷ more
+pub joins : (path : List MarkedSegment) (s : MarkedSegment) (more : List MarkedSegment) → (path ++ s ∷ []) ++ more ≡ path ++ s ∷ more
 joins path s more = append_assoc path (s ∷ []) more
 
 -- a segment in brackets, in front of one more opening bracket and what follows it
-pub brackets_more : (form : Bool) (room : ℕ) (pair : List Step → Pair) (path : List Step) (bracket s tail rest : List ℕ) (more : List Step) → IsSegment form s
-    → ((longer : List Step) → Front (λ ts. IsBrackets room longer (open_bytes form) ts (pair (longer ++ more))) form tail rest)
-    → Front (λ ts. IsBrackets (suc room) path bracket ts (pair (path ++ step_of (encoded form s) ∷ more))) form (encoded form s ++ (close_bytes form ++ (open_bytes form ++ tail))) rest
+pub brackets_more : (form : Bool) (room : ℕ) (pair : List MarkedSegment → Pair) (path : List MarkedSegment) (bracket s tail rest : List ℕ) (more : List MarkedSegment) → IsSegment form s
+    → ((longer : List MarkedSegment) → Front (λ ts. IsBrackets room longer (open_bytes form) ts (pair (longer ++ more))) form tail rest)
+    → Front (λ ts. IsBrackets (suc room) path bracket ts (pair (path ++ marked_segment_of (encoded form s) ∷ more))) form (encoded form s ++ (close_bytes form ++ (open_bytes form ++ tail))) rest
 brackets_more form room pair path bracket s tail rest more h follows =
     let g = segment_tokens form s (close_bytes form ++ (open_bytes form ++ (tail ++ rest))) h in
     let w = follows (longer path (raw_of (g.first ∷ g.more))) in
     record {
       toks = g.first ∷ g.more ++ close_token form ∷ open_token form ∷ w.toks;
-      is = subst (λ (p : List Step). IsBrackets (suc room) path bracket (g.first ∷ g.more ++ close_token form ∷ open_token form ∷ w.toks) (pair p))
-          (ap (λ (raw : List ℕ). longer path raw ++ more) g.raw ∙ joins path (step_of (encoded form s)) more)
+      is = subst (λ (p : List MarkedSegment). IsBrackets (suc room) path bracket (g.first ∷ g.more ++ close_token form ∷ open_token form ∷ w.toks) (pair p))
+          (ap (λ (raw : List ℕ). longer path raw ++ more) g.raw ∙ joins path (marked_segment_of (encoded form s)) more)
           (IsBrackets.more g.first (close_token form) (open_token form) g.more w.toks (other_run is_close refl (g.first ∷ g.more) g.run) refl refl w.is);
       whole = ap (tokens form) (append_assoc (encoded form s) (close_bytes form ++ (open_bytes form ++ tail)) rest ∙ ap (λ l. encoded form s ++ l) (append_assoc (close_bytes form) (open_bytes form ++ tail) rest ∙ ap (λ l. close_bytes form ++ l) (append_assoc (open_bytes form) tail rest)))
           ∙ g.whole ∙ ap (λ l. g.first ∷ g.more ++ l) (close_first form (open_bytes form ++ (tail ++ rest)) ∙ ap (λ l. close_token form ∷ l) (open_first form (tail ++ rest) ∙ ap (λ l. open_token form ∷ l) w.whole))
           ∙ sym (append_assoc (g.first ∷ g.more) (close_token form ∷ open_token form ∷ w.toks) (tokens form rest));
     }
 
-brackets_front : (form : Bool) (room : ℕ) (segs : List (List ℕ)) (s : List ℕ) (v : Option (List ℕ)) (path : List Step) (bracket rest : List ℕ) → suc (length segs) ≤ room → IsSegment form s → AllByRecursion (IsSegment form) segs → IsValueOf ([] ∷ []) v
-    → Front (λ ts. IsBrackets room path bracket ts (direct (path ++ steps form (s ∷ segs)) (entry_leaf form v))) form (encoded form s ++ (close_bytes form ++ brackets_then form segs (value_text form v))) rest
+brackets_front : (form : Bool) (room : ℕ) (segs : List (List ℕ)) (s : List ℕ) (v : Option (List ℕ)) (path : List MarkedSegment) (bracket rest : List ℕ) → suc (length segs) ≤ room → IsSegment form s → AllByRecursion (IsSegment form) segs → IsValueOf ([] ∷ []) v
+    → Front (λ ts. IsBrackets room path bracket ts (direct (path ++ marked_path form (s ∷ segs)) (entry_leaf form v))) form (encoded form s ++ (close_bytes form ++ brackets_then form segs (value_text form v))) rest
 brackets_front form zero segs s v path bracket rest l h hs i = absurd (omega arith)
 brackets_front form (suc room) [] s v path bracket rest l h hs i =
     let w = value_front form v rest i in
@@ -84,7 +84,7 @@ brackets_front form (suc room) [] s v path bracket rest l h hs i =
           ∙ sym (append_assoc (g.first ∷ g.more) (close_token form ∷ w.toks) (tokens form rest));
     }
 brackets_front form (suc room) (s2 ∷ segs) s v path bracket rest l h hs i =
-    brackets_more form room (λ p. direct p (entry_leaf form v)) path bracket s (encoded form s2 ++ (close_bytes form ++ brackets_then form segs (value_text form v))) rest (steps form (s2 ∷ segs)) h
+    brackets_more form room (λ p. direct p (entry_leaf form v)) path bracket s (encoded form s2 ++ (close_bytes form ++ brackets_then form segs (value_text form v))) rest (marked_path form (s2 ∷ segs)) h
     (λ p. brackets_front form room segs s2 v p (open_bytes form) rest (omega arith) hs.0 hs.1 i)
 
 pub root_run : (depth : ℕ) (ts : List Token) → list_all (λ t. is_other t.kind) ts ≡ true → IsRun (ends_root depth) ts
@@ -97,12 +97,12 @@ some_value (s ∷ segs) None k h = h
 some_value (s ∷ segs) (Some v) k h = h
 
 key_value : (form : Bool) (depth : ℕ) (s : List ℕ) (v : Option (List ℕ)) (rest : List ℕ) → IsSegment form s → IsValueOf ([] ∷ []) v
-    → Front (λ ts. IsPair depth ts (direct (step_of (encoded form s) ∷ []) (entry_leaf form v))) form (encoded form s ++ value_text form v) rest
+    → Front (λ ts. IsPair depth ts (direct (marked_segment_of (encoded form s) ∷ []) (entry_leaf form v))) form (encoded form s ++ value_text form v) rest
 key_value form depth s None rest h i =
     let g = segment_tokens form s rest h in
     record {
       toks = g.first ∷ g.more;
-      is = subst (λ (raw : List ℕ). IsPair depth (g.first ∷ g.more) (direct (step_of raw ∷ []) NoValue)) g.raw (IsPair.name (root_run depth (g.first ∷ g.more) g.run));
+      is = subst (λ (raw : List ℕ). IsPair depth (g.first ∷ g.more) (direct (marked_segment_of raw ∷ []) NoValue)) g.raw (IsPair.name (root_run depth (g.first ∷ g.more) g.run));
       whole = ap (λ l. tokens form (l ++ rest)) (append-nil (encoded form s)) ∙ g.whole;
     }
 key_value form depth s (Some v) rest h i =
@@ -110,8 +110,8 @@ key_value form depth s (Some v) rest h i =
     let g = segment_tokens form s (value_text form (Some v) ++ rest) h in
     record {
       toks = g.first ∷ g.more ++ byte_token 61 ∷ t.toks;
-      is = subst (λ (raw : List ℕ). IsPair depth (g.first ∷ g.more ++ byte_token 61 ∷ t.toks) (direct (step_of (encoded form s) ∷ []) (value_leaf raw))) t.raw
-          (subst (λ (raw : List ℕ). IsPair depth (g.first ∷ g.more ++ byte_token 61 ∷ t.toks) (direct (step_of raw ∷ []) (value_leaf (raw_of t.toks)))) g.raw
+      is = subst (λ (raw : List ℕ). IsPair depth (g.first ∷ g.more ++ byte_token 61 ∷ t.toks) (direct (marked_segment_of (encoded form s) ∷ []) (value_leaf raw))) t.raw
+          (subst (λ (raw : List ℕ). IsPair depth (g.first ∷ g.more ++ byte_token 61 ∷ t.toks) (direct (marked_segment_of raw ∷ []) (value_leaf (raw_of t.toks)))) g.raw
           (IsPair.value (byte_token 61) (g.first ∷ g.more) t.toks (root_run depth (g.first ∷ g.more) g.run) (IsValue.some refl t.suit)));
       whole = ap (tokens form) (append_assoc (encoded form s) (value_text form (Some v)) rest)
           ∙ g.whole ∙ ap (λ l. g.first ∷ g.more ++ l) (token_of_byte form 61 (encoded form v ++ rest) (no_bracket form 61 (encoded form v ++ rest) refl) ∙ ap (λ l. byte_token 61 ∷ l) t.whole)
@@ -119,15 +119,15 @@ key_value form depth s (Some v) rest h i =
     }
 
 -- a root key in front of an opening bracket and what follows it
-pub key_more : (form : Bool) (depth : ℕ) (pair : List Step → Pair) (s tail rest : List ℕ) (more : List Step) → IsSegment form s
-    → ((path : List Step) → Front (λ ts. IsBrackets (suc depth) path (open_bytes form) ts (pair (path ++ more))) form tail rest)
-    → Front (λ ts. IsPair (suc depth) ts (pair (step_of (encoded form s) ∷ more))) form (encoded form s ++ (open_bytes form ++ tail)) rest
+pub key_more : (form : Bool) (depth : ℕ) (pair : List MarkedSegment → Pair) (s tail rest : List ℕ) (more : List MarkedSegment) → IsSegment form s
+    → ((path : List MarkedSegment) → Front (λ ts. IsBrackets (suc depth) path (open_bytes form) ts (pair (path ++ more))) form tail rest)
+    → Front (λ ts. IsPair (suc depth) ts (pair (marked_segment_of (encoded form s) ∷ more))) form (encoded form s ++ (open_bytes form ++ tail)) rest
 key_more form depth pair s tail rest more h follows =
     let g = segment_tokens form s (open_bytes form ++ (tail ++ rest)) h in
     let w = follows (root (g.first ∷ g.more)) in
     record {
       toks = g.first ∷ g.more ++ open_token form ∷ w.toks;
-      is = subst (λ (raw : List ℕ). IsPair (suc depth) (g.first ∷ g.more ++ open_token form ∷ w.toks) (pair (step_of raw ∷ more))) g.raw
+      is = subst (λ (raw : List ℕ). IsPair (suc depth) (g.first ∷ g.more ++ open_token form ∷ w.toks) (pair (marked_segment_of raw ∷ more))) g.raw
           (IsPair.brackets (open_token form) (g.first ∷ g.more) w.toks (root_run (suc depth) (g.first ∷ g.more) g.run) refl refl w.is);
       whole = ap (tokens form) (append_assoc (encoded form s) (open_bytes form ++ tail) rest ∙ ap (λ l. encoded form s ++ l) (append_assoc (open_bytes form) tail rest))
           ∙ g.whole ∙ ap (λ l. g.first ∷ g.more ++ l) (open_first form (tail ++ rest) ∙ ap (λ l. open_token form ∷ l) w.whole)
@@ -135,21 +135,21 @@ key_more form depth pair s tail rest more h follows =
     }
 
 key_brackets : (form : Bool) (depth : ℕ) (s s2 : List ℕ) (segs : List (List ℕ)) (v : Option (List ℕ)) (rest : List ℕ) → suc (length segs) ≤ depth → IsSegment form s → IsSegment form s2 → AllByRecursion (IsSegment form) segs → IsValueOf ([] ∷ []) v
-    → Front (λ ts. IsPair depth ts (direct (step_of (encoded form s) ∷ steps form (s2 ∷ segs)) (entry_leaf form v))) form (encoded form s ++ brackets_then form (s2 ∷ segs) (value_text form v)) rest
+    → Front (λ ts. IsPair depth ts (direct (marked_segment_of (encoded form s) ∷ marked_path form (s2 ∷ segs)) (entry_leaf form v))) form (encoded form s ++ brackets_then form (s2 ∷ segs) (value_text form v)) rest
 key_brackets form zero s s2 segs v rest l h h2 hs i = absurd (omega arith)
 key_brackets form (suc depth) s s2 segs v rest l h h2 hs i =
-    key_more form depth (λ p. direct p (entry_leaf form v)) s (encoded form s2 ++ (close_bytes form ++ brackets_then form segs (value_text form v))) rest (steps form (s2 ∷ segs)) h
+    key_more form depth (λ p. direct p (entry_leaf form v)) s (encoded form s2 ++ (close_bytes form ++ brackets_then form segs (value_text form v))) rest (marked_path form (s2 ∷ segs)) h
     (λ p. brackets_front form (suc depth) segs s2 v p (open_bytes form) rest l h2 hs i)
 
 pub entry_front : (form : Bool) (depth : ℕ) (path : List (List ℕ)) (v : Option (List ℕ)) (rest : List ℕ) → AllByRecursion (IsSegment form) path → length path ≤ depth + 1 → IsValueOf path v → has_key path ≡ true
-    → Front (λ ts. IsPair depth ts (direct (steps form path) (entry_leaf form v))) form (key_then form path (value_text form v)) rest
+    → Front (λ ts. IsPair depth ts (direct (marked_path form path) (entry_leaf form v))) form (key_then form path (value_text form v)) rest
 entry_front form depth [] v rest h l i k = cc
 entry_front form depth (s ∷ []) v rest h l i k = key_value form depth s v rest h.0 (some_value (s ∷ []) v refl i)
 entry_front form depth (s ∷ s2 ∷ segs) v rest h l i k = key_brackets form depth s s2 segs v rest (omega arith) h.0 h.1.0 h.1.1 (some_value (s ∷ s2 ∷ segs) v refl i)
 
 -- an entry with a path as a pair, in front of what follows
-entry_read : (form : Bool) (depth : ℕ) (e : Entry) (rest : List ℕ) → IsWritable form depth e → HasPath e → Front (λ ts. IsPair depth ts (entry_pair form e)) form (path_text form e.path ++ value_text form e.value) rest
-entry_read form depth e rest w k =
+entry_parsed : (form : Bool) (depth : ℕ) (e : Entry) (rest : List ℕ) → IsWritable form depth e → HasKey e → Front (λ ts. IsPair depth ts (entry_pair form e)) form (path_text form e.path ++ value_text form e.value) rest
+entry_parsed form depth e rest w k =
     let f = entry_front form depth e.path e.value rest w.segments w.short w.value k in
     record { toks = f.toks; is = f.is; whole = ap (λ l. tokens form (l ++ rest)) (key_first form e.path (value_text form e.value)) ∙ f.whole }
 
@@ -176,32 +176,32 @@ before {form} {depth} {text} {rest} {p} {ps} f more =
     (ArePairs.pair f.toks (byte_token 38 ∷ tokens form rest) f.is refl (ArePairs.amp refl more))
 
 -- entries with paths, after nothing and after another one
-pub text_of_first : (form : Bool) (e : Entry) (es : List Entry) → HasPath e → written form false (e ∷ es) ≡ (path_text form e.path ++ value_text form e.value) ++ written form true es
+pub text_of_first : (form : Bool) (e : Entry) (es : List Entry) → HasKey e → written form false (e ∷ es) ≡ (path_text form e.path ++ value_text form e.value) ++ written form true es
 unfolding written entry_text
 text_of_first form e es k = ap (λ b. (cond b [] [] ++ (path_text form e.path ++ value_text form e.value)) ++ written form b es) k
 
-pub text_of_next : (form : Bool) (e : Entry) (es : List Entry) → HasPath e → written form true (e ∷ es) ≡ 38 ∷ written form false (e ∷ es)
+pub text_of_next : (form : Bool) (e : Entry) (es : List Entry) → HasKey e → written form true (e ∷ es) ≡ 38 ∷ written form false (e ∷ es)
 unfolding written entry_text
 text_of_next form e es k =
     ap (λ b. (cond b (38 ∷ []) [] ++ (path_text form e.path ++ value_text form e.value)) ++ written form true es) k
     ∙ ap (λ l. 38 ∷ l) (sym (text_of_first form e es k))
 
 -- What is written of entries with paths is parsed as their pairs.
-pub written_pairs : (form : Bool) (depth : ℕ) (es : List Entry) → AllByRecursion (IsWritable form depth) es → AllByRecursion HasPath es → ArePairs depth (tokens form (written form false es)) (map (entry_pair form) es)
+pub written_pairs : (form : Bool) (depth : ℕ) (es : List Entry) → AllByRecursion (IsWritable form depth) es → AllByRecursion HasKey es → ArePairs depth (tokens form (written form false es)) (map (entry_pair form) es)
 unfolding written
 written_pairs form depth [] h k = ArePairs.none
 written_pairs form depth (e ∷ []) h k =
-    subst (λ (text : List ℕ). ArePairs depth (tokens form text) (entry_pair form e ∷ [])) (sym (text_of_first form e [] k.0 ∙ append-nil _)) (alone (entry_read form depth e [] h.0 k.0))
+    subst (λ (text : List ℕ). ArePairs depth (tokens form text) (entry_pair form e ∷ [])) (sym (text_of_first form e [] k.0 ∙ append-nil _)) (alone (entry_parsed form depth e [] h.0 k.0))
 written_pairs form depth (e ∷ f ∷ es) h k =
     subst (λ (text : List ℕ). ArePairs depth (tokens form text) (map (entry_pair form) (e ∷ f ∷ es)))
     (sym (text_of_first form e (f ∷ es) k.0 ∙ ap (λ l. (path_text form e.path ++ value_text form e.value) ++ l) (text_of_next form f es k.1.0)))
-    (before (entry_read form depth e (38 ∷ written form false (f ∷ es)) h.0 k.0) (written_pairs form depth (f ∷ es) h.1 k.1))
+    (before (entry_parsed form depth e (38 ∷ written form false (f ∷ es)) h.0 k.0) (written_pairs form depth (f ∷ es) h.1 k.1))
 
 -- So is what is written of a single entry, with a path or without one.
 pub written_pair : (form : Bool) (depth : ℕ) (e : Entry) → IsWritable form depth e → ArePairs depth (tokens form (written form false (e ∷ []))) (entry_pair form e ∷ [])
 unfolding written entry_text path_text
 written_pair form depth e w = by e.path e.value w
   where
-    by : (path : Path) (value : Option (List ℕ)) → IsWritable form depth (record { path = path; value = value }) → ArePairs depth (tokens form (written form false (record { path = path; value = value } ∷ []))) (direct (steps form path) (entry_leaf form value) ∷ [])
+    by : (path : Path) (value : Option (List ℕ)) → IsWritable form depth (record { path = path; value = value }) → ArePairs depth (tokens form (written form false (record { path = path; value = value } ∷ []))) (direct (marked_path form path) (entry_leaf form value) ∷ [])
     by [] value w = subst (λ (text : List ℕ). ArePairs depth (tokens form text) (direct [] (entry_leaf form value) ∷ [])) (sym (append-nil (value_text form value))) (alone (value_pair form depth value w.value))
     by (s ∷ path) value w = written_pairs form depth (record { path = s ∷ path; value = value } ∷ []) (w, tt) (refl, tt)

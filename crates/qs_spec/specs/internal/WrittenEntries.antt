@@ -3,7 +3,7 @@ use Rattle.std.specs.Prelude.{◌≡◌, true, ℕ, ◌+◌, ◌<◌, ◌≤◌,
 use Rattle.std.specs.List.{AllByRecursion}
 use Rattle.qs_spec.specs.Escape.{encoded}
 use Rattle.qs_spec.specs.Token.{is_bracket}
-use Rattle.qs_spec.specs.Segment.{Step, step_of}
+use Rattle.qs_spec.specs.Segment.{MarkedSegment, marked_segment_of}
 use Rattle.qs_spec.specs.Leaf.{Leaf, value_leaf}
 use Rattle.qs_spec.specs.Leaf.Leaf.{NoValue}
 use Rattle.qs_spec.specs.Grammar.{Pair, direct}
@@ -15,12 +15,12 @@ abbrev pub entry_leaf : Bool → Option (List ℕ) → Leaf
 entry_leaf form None = NoValue
 entry_leaf form (Some bytes) = value_leaf (encoded form bytes)
 
-abbrev pub steps : Bool → Path → List Step
-steps form path = map (λ s. step_of (encoded form s)) path
+abbrev pub marked_path : Bool → Path → List MarkedSegment
+marked_path form path = map (λ s. marked_segment_of (encoded form s)) path
 
 -- the pair as which an entry is parsed
 abbrev pub entry_pair : Bool → Entry → Pair
-entry_pair form e = direct (steps form e.path) (entry_leaf form e.value)
+entry_pair form e = direct (marked_path form e.path) (entry_leaf form e.value)
 
 -- a segment that is some bytes, and in form mode holds no bracket
 abbrev pub IsSegment : Bool → List ℕ → Type 0
@@ -41,5 +41,5 @@ pub record IsWritable (form : Bool) (depth : ℕ) (e : Entry) : Type 0 where
   pub value : IsValueOf e.path e.value
 
 -- the entry has a key
-abbrev pub HasPath : Entry → Type 0
-HasPath e = has_key e.path ≡ true
+abbrev pub HasKey : Entry → Type 0
+HasKey e = has_key e.path ≡ true

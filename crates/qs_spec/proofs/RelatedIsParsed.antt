@@ -3,13 +3,13 @@ use Rattle.std.proofs.Common.{◌≡◌, ℕ, zero, suc, ◌≤◌, Bool, true, 
 use Rattle.std.specs.List.{list_all}
 use Rattle.std.proofs.lemmas.Option.{none-some, same_Some}
 use Rattle.qs_spec.specs.Token.{Kind, Token, raw_of}
-use Rattle.qs_spec.specs.Segment.{Step}
+use Rattle.qs_spec.specs.Segment.{MarkedSegment}
 use Rattle.qs_spec.specs.Leaf.{Leaf}
 use Rattle.qs_spec.specs.Token.Kind.{Amp, Equals, Open, Close, Other}
 use Rattle.qs_spec.specs.Leaf.Leaf.{NoValue}
 use Rattle.qs_spec.specs.Grammar.{Pair, direct, pushed, is_amp, is_open, is_close, ends_last, ends_root, IsRun, root, longer, IsValue, IsBrackets, IsPair, IsEnd, ArePairs}
 use Rattle.qs_spec.specs.internal.Parsing.{valued, value_at, parsed_value, with_leaf, Brackets, after_close_at, after_close, after_run, last_key, in_last, in_segment, parsed_brackets, after_root_at, after_root, parsed_pair, parsed_pairs_at, parsed_pairs_within, parsed_pairs}
-use Rattle.qs_spec.proofs.ReadIsRelated.{Stops, cut_run, Finds, pairs_read}
+use Rattle.qs_spec.proofs.ParsedIsRelated.{Stops, cut_run, Finds, pairs_parsed}
 use Rattle.qs_spec.proofs.Booleans.{and_both, not_of}
 
 -- completeness: each derivation is what the function reads
@@ -25,24 +25,24 @@ value_found _ _ rest (IsValue.some {t} {v} e r) h = ap (λ k. value_at k t (v ++
 close_at : (k : Kind) → k ≡ Close → is_close k ≡ true
 close_at k e = ap is_close e
 
-push_found : (room : ℕ) (path : List Step) (bracket : List ℕ) (t : Token) (ts : List Token) → t.kind ≡ Close → parsed_brackets room path bracket (t ∷ ts) ≡ with_leaf (pushed path) (parsed_value ts)
+push_found : (room : ℕ) (path : List MarkedSegment) (bracket : List ℕ) (t : Token) (ts : List Token) → t.kind ≡ Close → parsed_brackets room path bracket (t ∷ ts) ≡ with_leaf (pushed path) (parsed_value ts)
 push_found zero path bracket t ts e = ap (λ b. in_last b path bracket t ts) (close_at t.kind e)
 push_found (suc room) path bracket t ts e = ap (λ b. in_segment b (parsed_brackets room) path t ts) (close_at t.kind e)
 
 -- a value after a segment doesn't begin with a bracket
-after_value : (brackets : Brackets) (q : List Step) (value rest : List Token) (leaf : Leaf) → IsValue value leaf → IsEnd rest → after_close brackets q (value ++ rest) ≡ Some (direct q leaf, rest)
+after_value : (brackets : Brackets) (q : List MarkedSegment) (value rest : List Token) (leaf : Leaf) → IsValue value leaf → IsEnd rest → after_close brackets q (value ++ rest) ≡ Some (direct q leaf, rest)
 after_value brackets q _ [] _ IsValue.none h = refl
 after_value brackets q _ (t ∷ rest) _ IsValue.none h = ap (λ k. after_close_at k brackets q t rest) h
 after_value brackets q _ rest _ (IsValue.some {t} {v} e r) h = ap (λ k. after_close_at k brackets q t (v ++ rest)) e ∙ ap (λ c. with_leaf (direct q) (valued c)) (cut_run is_amp v rest r (stops_at is_amp refl rest h))
 
-segment_found : (room : ℕ) (path : List Step) (bracket : List ℕ) (s t : Token) (run more : List Token) → IsRun is_close (s ∷ run) → t.kind ≡ Close
+segment_found : (room : ℕ) (path : List MarkedSegment) (bracket : List ℕ) (s t : Token) (run more : List Token) → IsRun is_close (s ∷ run) → t.kind ≡ Close
     → parsed_brackets (suc room) path bracket (s ∷ (run ++ t ∷ more)) ≡ after_close (parsed_brackets room) (longer path (raw_of (s ∷ run))) more
 segment_found room path bracket s t run more r e =
     let parts = and_both (not (is_close s.kind)) (list_all (λ t. not (is_close t.kind)) run) r in
     ap (λ b. in_segment b (parsed_brackets room) path s (run ++ t ∷ more)) (not_of (is_close s.kind) parts.0)
     ∙ ap (λ (c : List Token × List Token). after_run (parsed_brackets room) (longer path (raw_of (s ∷ c.0))) c.1) (cut_run is_close run (t ∷ more) parts.1 (close_at t.kind e))
 
-brackets_found : {room : ℕ} {path : List Step} {bracket : List ℕ} {ts : List Token} {p : Pair} (rest : List Token) → IsBrackets room path bracket ts p → IsEnd rest → parsed_brackets room path bracket (ts ++ rest) ≡ Some (p, rest)
+brackets_found : {room : ℕ} {path : List MarkedSegment} {bracket : List ℕ} {ts : List Token} {p : Pair} (rest : List Token) → IsBrackets room path bracket ts p → IsEnd rest → parsed_brackets room path bracket (ts ++ rest) ≡ Some (p, rest)
 brackets_found rest (IsBrackets.push {room} {path} {bracket} {t} {value} {leaf} e v) h = push_found room path bracket t (value ++ rest) e ∙ ap (with_leaf (pushed path)) (value_found value leaf rest v h)
 brackets_found rest (IsBrackets.segment {room} {path} {bracket} {leaf} s t run value r e v) h =
     ap (parsed_brackets (suc room) path bracket) (append_assoc (s ∷ run) (t ∷ value) rest)
@@ -146,7 +146,7 @@ found_pairs {depth} {ts} h = pairs_found h (length ts) (le_refl (length ts))
 
 -- what the function reads, the grammar relates
 pub are_pairs : (depth : ℕ) (ts : List Token) (ps : List Pair) → parsed_pairs depth ts ≡ Some ps → ArePairs depth ts ps
-are_pairs depth ts ps e = let P : Option (List Pair) → Type 0 = Finds depth ts in subst P e (pairs_read depth (length ts) ts)
+are_pairs depth ts ps e = let P : Option (List Pair) → Type 0 = Finds depth ts in subst P e (pairs_parsed depth (length ts) ts)
 
 -- tokens are at most one list of pairs
 pub one_list : (depth : ℕ) (ts : List Token) (ps qs : List Pair) → ArePairs depth ts ps → ArePairs depth ts qs → ps ≡ qs

@@ -1,6 +1,6 @@
 use Rattle.qs_tree.proofs.Common.{slice_get-get_or, key_cmp}
 use Rattle.qs_tree.proofs.lemmas.tree.Places.{hit_lookup, gap_lookup}
-use Rattle.qs_tree.proofs.tree.map.find.Goals as goal
+use Rattle.qs_tree.proofs.tree.map.lookup.Goals as goal
 
 pub returns-in-Ok-clause-value : goal.returns-in-Ok-clause-value
 returns-in-Ok-clause-value g c =

@@ -6,7 +6,7 @@ use Rattle.qs_spec.specs.Relation.{ReadsNothing}
 use Rattle.qs_data.specs.read.Parsed.{parsed_of}
 use Rattle.qs_tool.specs.Line.IsFaultyBy.{not_read}
 use Rattle.qs_tool.proofs.Errors.{nothing_read}
-use Rattle.qs_tool.proofs.printing.shown.Goals as goal
+use Rattle.qs_tool.proofs.printing.printed_any.Goals as goal
 
 pub returns-in_err-value-clause-fault : goal.returns-in_err-value-clause-fault
 returns-in_err-value-clause-fault c =

@@ -1,5 +1,5 @@
 use Rattle.qs_tree.proofs.Common.{length, ◌-◌, ◌≤◌, NoneBetween}
-use Rattle.qs_tree.proofs.escape.search.find.Given as goal
+use Rattle.qs_tree.proofs.escape.search.find_first.Given as goal
 
 abbrev pub invariant-loop-at : goal.invariant-loop-at
 invariant-loop-at g l = (l.at ≤ length l.bytes) × NoneBetween (g.C.Class.contains l.class) l.bytes 0 l.at

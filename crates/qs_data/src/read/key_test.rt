@@ -83,6 +83,7 @@ fn test_map<'t>(map: &'t ParsedMap<'_>) -> Result<(), BrokenKey<'t>>
 
 /// Returns whether the keys of a map are UTF-8. All keys are looked at, as by `test_map`.
 #[tactic(auto, using(crate::proofs::lemmas::read::Entries::after_none, crate::proofs::lemmas::read::Entries::after_all, crate::proofs::lemmas::read::Entries::passed_all, crate::proofs::lemmas::read::Entries::passed_done, crate::proofs::lemmas::read::Entries::passed_fit))]
+#[inline(always)]
 pub(crate) fn keys_are_text(map: &ParsedMap<'_>) -> bool
     ensures text { result ≡ keys_are_text (entries_of_map map.now) }
     ensures fit { NumbersFit (entries_of_map map.now) }

@@ -200,6 +200,7 @@ pub(crate) fn find<'t, 'qs>(entries: Entries<'t, 'qs>, name: &str) -> Found<'t, 
 }
 
 // Returns the value under a name in a map: by the text, and by the integer that is written so.
+#[inline(always)]
 fn find_in_map<'t, 'qs>(map: &'t ParsedMap<'qs>, name: &str) -> Found<'t, 'qs>
     requires { NumbersFit (entries_of_map map.now) }
     ensures { Finds result (found name.now (entries_of_map map.now)) }

@@ -108,7 +108,7 @@ fn parse_tree<'qs>(
     }
 }
 
-// Adds the pairs of an input to a tree one by one. Each is read into `pair`.
+// Adds the pairs of an input to a tree one by one. Each is parsed into `pair`.
 #[inline(always)]
 fn scan<'qs>(
     alloc: Global,

@@ -42,7 +42,7 @@ pub(crate) fn read_key(alloc: Global, shape: &KeyShape, key: &Key<'_>) -> Result
 
 /// Returns the text of a key; that of a number is its digits. The error of a key that holds a bracket has a hint.
 #[tactic(auto, using(crate::proofs::lemmas::read::FirstEntry::utf8_is, crate::proofs::lemmas::read::Numbers::decimal_text))]
-pub(crate) fn key_text(alloc: Global, key: &Key<'_>) -> Result<String>
+pub(crate) fn key_string(alloc: Global, key: &Key<'_>) -> Result<String>
     ensures { ReadGives string_bytes (is_utf8 (segment_text (segment_of_key key.now))) result (utf8_text (segment_text (segment_of_key key.now))) }
 {
     match key {

@@ -12,7 +12,7 @@ ghost use Rattle.qs_data.specs.read.internal.Keys.{ParsesNumber, value_in};
 
 use crate::read::by_shape::Reader;
 use crate::read::error::Result;
-use crate::read::key::key_text;
+use crate::read::key::key_string;
 use crate::read::key_test::{BrokenKey, keys_are_text, test_keys};
 use itoa::Buffer;
 use qs_tree::{Error, Key, ParsedMap, ParsedValue};
@@ -176,7 +176,7 @@ fn entry_at<'t, 'qs>(
     let Some((key, value)) = map.at(place) else {
         return Ok(None);
     };
-    let text = key_text(alloc, key)?;
+    let text = key_string(alloc, key)?;
     Ok(Some((text, value)))
 }
 

@@ -76,6 +76,6 @@ take_out s no_entries = no_entries
 take_out s (entry k mark t es) = if is_same_segment s k then es else entry k mark t (take_out s es)
 
 -- what `Display` writes of a key: an integer in decimal, or a string between double quotes, with U+FFFD for what isn't UTF-8
-abbrev pub key_text : Segment → List ℕ
-key_text (Int n) = decimal n
-key_text (Str bytes) = 34 ∷ utf8_lossy bytes ++ 34 ∷ []
+abbrev pub displayed_key : Segment → List ℕ
+displayed_key (Int n) = decimal n
+displayed_key (Str bytes) = 34 ∷ utf8_lossy bytes ++ 34 ∷ []

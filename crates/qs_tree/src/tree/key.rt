@@ -6,7 +6,7 @@ ghost use Rattle.std.specs.Cmp.{on_per, on_equiv, on_po, on_total, partial_equiv
 ghost use Rattle.qs_spec.proofs.Order.{segments_total};
 ghost use Rattle.std.specs.Fmt.{WritesOnOk};
 ghost use Rattle.std.specs.Str.Lossy.{utf8_lossy};
-ghost use Rattle.qs_tree.specs.tree.Views.{segment_of_key, marked_segment_of_key, key_text};
+ghost use Rattle.qs_tree.specs.tree.Views.{segment_of_key, marked_segment_of_key, displayed_key};
 
 use crate::tree::byte_order::compare_bytes;
 use std::borrow::CowSlice;
@@ -109,7 +109,7 @@ impl<'a> From<u32> for Key<'a> {
 /// Writes an integer in decimal, and a string between double quotes, with U+FFFD for what isn't UTF-8, as in
 /// `String::from_utf8_lossy`.
 impl fmt::Display for Key<'_> {
-    ghost output = { λ key. Some (key_text (segment_of_key key)) };
+    ghost output = { λ key. Some (displayed_key (segment_of_key key)) };
 
     fn fmt<W: fmt::Write>(&self, f: &mut fmt::Formatter<W>) -> fmt::Result {
         match self {

@@ -70,10 +70,10 @@ pub first_token : (place raw old new kept : List ℕ) → place ≡ old → old 
 first_token place raw old new kept at bytes same = at ∙ bytes ∙ ap (λ l. raw ++ l) (sym same)
 
 -- a segment whose key was put to the path
-pub segment_read : (room : ℕ) (keys new : List Key) (key : Key) (bracket raw : List ℕ) (t : Token) (ts stop : List Token) → 0 < room → is_close t.kind ≡ false
+pub segment_parsed : (room : ℕ) (keys new : List Key) (key : Key) (bracket raw : List ℕ) (t : Token) (ts stop : List Token) → 0 < room → is_close t.kind ≡ false
     → raw ≡ t.raw ++ raw_of (cut is_close ts).0 → (cut is_close ts).1 ≡ stop → new ≡ keys ++ key ∷ [] → marked_segment_of_key key ≡ marked_segment_of raw
     → parsed_brackets room (path_of keys) bracket (t ∷ ts) ≡ after_run (parsed_brackets (room - 1)) (path_of new) stop
-segment_read room keys new key bracket raw t ts stop h e run token items k =
+segment_parsed room keys new key bracket raw t ts stop h e run token items k =
     segment_found room (path_of keys) bracket t ts h e
     ∙ ap₂ (after_run (parsed_brackets (room - 1))) (ap (longer (path_of keys)) (sym run) ∙ sym (path_more keys new key raw items k)) token
 

@@ -28,10 +28,10 @@ from n (b ∷ raw) h = by (is_between 48 57 b) (nat_le (digit n b) 4294967295) r
         none false = refl
         none true = lt-leb _ 4294967295 (omega (arith, leb-false (digit n b) 4294967295 e, grows (digit n b) raw))
 
--- what is read from left to right is the number of an index
-pub index_read : (raw : List ℕ) → raw ≢ [] → index_from 0 raw ≡ index_of raw
-index_read [] n = absurd (n refl)
-index_read (b ∷ raw) n = from 0 (b ∷ raw) (omega arith)
+-- what is parsed from left to right is the number of an index
+pub index_parsed : (raw : List ℕ) → raw ≢ [] → index_from 0 raw ≡ index_of raw
+index_parsed [] n = absurd (n refl)
+index_parsed (b ∷ raw) n = from 0 (b ∷ raw) (omega arith)
 
 -- digits are no escapes
 digits_plain : (raw : List ℕ) → list_all (is_between 48 57) raw ≡ true → is_marked raw ≡ false

@@ -102,12 +102,12 @@ small_start rest tree small fresh = inr (small, fresh)
 pub small_end : (rest : List ℕ) (tree : TreeBuilder) → rest ≡ [] → IsFlat tree → StaysSmall rest tree
 small_end rest tree none flat = inl (none, flat)
 
-small_read : (rest : List ℕ) (tree : TreeBuilder) → StaysSmall rest tree → AllocatesNothing rest
-small_read rest tree (inl h) = subst AllocatesNothing (sym h.0) refl
-small_read rest tree (inr h) = h.0
+small_parsed : (rest : List ℕ) (tree : TreeBuilder) → StaysSmall rest tree → AllocatesNothing rest
+small_parsed rest tree (inl h) = subst AllocatesNothing (sym h.0) refl
+small_parsed rest tree (inr h) = h.0
 
 pub small_goes : (rest : List ℕ) (tree : TreeBuilder) (o : Result item.Item parse_error.ParseError) (new : cursor.Cursor) (p : code_pair.Pair) → StaysSmall rest tree → (AllocatesNothing rest → ParsesSmall o new p) → ParsesSmall o new p
-small_goes rest tree o new p h f = f (small_read rest tree h)
+small_goes rest tree o new p h f = f (small_parsed rest tree h)
 
 pub small_ampersand : (old new : List ℕ) (tree : TreeBuilder) → length new < length old → StaysSmall old tree → is_ampersands new ≡ true → StaysSmall new tree
 small_ampersand old new tree shorter (inl h) amp = absurd (omega (arith, ap length h.0))

@@ -1,5 +1,5 @@
 use Rattle.qs_tree.proofs.Common.{◌≡◌, ◌-◌, ◌++◌, length, List, ◌∷◌, sym, ap, ap₂, ◌∙◌, arith, refl, append_assoc, Token, tokens, raw_of, Pair, Rest, direct, is_close, ends_last, cut, with_leaf, parsed_value, parsed_brackets, after_close, after_run, kind_of_token, token_of, looks, ended_after, left, from_token, taken, path_of}
-use Rattle.qs_tree.proofs.lemmas.scan.AfterKeys.{pair_as, push_found, last_found, first_token, rest_left, front_taken, segment_read, next_closing, next_open, next_close, next_other, closes}
+use Rattle.qs_tree.proofs.lemmas.scan.AfterKeys.{pair_as, push_found, last_found, first_token, rest_left, front_taken, segment_parsed, next_closing, next_open, next_close, next_other, closes}
 use Rattle.qs_tree.proofs.scan.parser.parse_brackets.Goals as goal
 use Rattle.qs_tree.proofs.scan.parser.parse_brackets.Goals.{In_ok-keep_spot, In_ok-push, In-Some-stop}
 
@@ -28,7 +28,7 @@ segment w =
     let kept = w.keep_spot.new.self in
     let first_bytes = first_token w.in-Some.first.place.rest.now first.raw w.loop-first.cursor.rest.now w.next.new.self.rest.now kept.rest.now w.in-Some.ensures.place w.in-Some.ensures.bytes w.in_ok-keep_spot.ensures.rest in
     let run = w.run_from.ensures.run ∙ ap (λ l. l ++ raw_of (cut is_close (left kept)).0) (front_taken w.in-Some.first.place.rest.now first.raw kept.rest.now first_bytes) in
-    segment_read w.loop-first.room w.loop-first.pair.path w.push.new.self w.in_ok-parse_key.field-0 w.loop-first.bracket.raw.now w.run_from.result.0.now first (left kept) (from_token w.run_from.result.1 (left w.run_from.new.self)) (omega arith)
+    segment_parsed w.loop-first.room w.loop-first.pair.path w.push.new.self w.in_ok-parse_key.field-0 w.loop-first.bracket.raw.now w.run_from.result.0.now first (left kept) (from_token w.run_from.result.1 (left w.run_from.new.self)) (omega arith)
     (sym w.is_close.ensures ∙ w.if-is_close.false) run w.run_from.ensures.token w.in_ok-push.ensures w.in_ok-parse_key.ensures.key
 
 -- and its closing bracket

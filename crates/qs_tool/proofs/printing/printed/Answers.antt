@@ -51,7 +51,7 @@ pub returns-in-Params-false-clause-fault : goal.returns-in-Params-false-clause-f
 returns-in-Params-false-clause-fault c = as_faulty c.args.request TheParams false c.in-Params-false.is-0 c.in-Params-false.is-1 c.args.input.now c.rewritten-in-Params-false.result c.rewritten-in-Params-false.ensures.fault
 
 pub returns-in-Any-default-clause-text : goal.returns-in-Any-default-clause-text
-returns-in-Any-default-clause-text c = as_printed c.args.request Any c.args.request.strict c.in-Any-default.is-0 refl c.args.input.now c.shown.result c.shown.ensures.text
+returns-in-Any-default-clause-text c = as_printed c.args.request Any c.args.request.strict c.in-Any-default.is-0 refl c.args.input.now c.printed_any.result c.printed_any.ensures.text
 
 pub returns-in-Any-default-clause-fault : goal.returns-in-Any-default-clause-fault
-returns-in-Any-default-clause-fault c = as_faulty c.args.request Any c.args.request.strict c.in-Any-default.is-0 refl c.args.input.now c.shown.result c.shown.ensures.fault
+returns-in-Any-default-clause-fault c = as_faulty c.args.request Any c.args.request.strict c.in-Any-default.is-0 refl c.args.input.now c.printed_any.result c.printed_any.ensures.fault

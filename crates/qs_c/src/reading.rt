@@ -30,7 +30,7 @@ use std::alloc::Global;
 ///
 /// - 2: an allocation failed; there is no text.
 /// - 3: a number in the settings is too large.
-/// - 4: the querystring has no tree. The position is how many bytes were read, and one more where the end was read.
+/// - 4: the querystring has no tree. The position is how many bytes were parsed, and one more where the end was reached.
 /// - 5 or 6: it has one, from which nothing is read.
 ///
 /// It allocates for the tree, the data and the JSON, and frees them before it returns. The time grows with the input and the JSON.
@@ -64,7 +64,7 @@ pub extern "C" fn qs_parse(
 ///
 /// What it returns is as that of [`qs_parse`], with one more error, which comes before those of the querystring:
 ///
-/// - 7: the text isn't a shape. The position is how many of its bytes were read.
+/// - 7: the text isn't a shape. The position is how many of its bytes were parsed.
 ///
 /// It allocates for the shape too, and frees it before it returns. The time grows with the text of the shape, the input and the JSON.
 ///

@@ -23,10 +23,10 @@ pub struct PairRange {
 }
 
 /// Returns where the pair stands at which parsing was given up, under the configuration that the input was parsed by, from the
-/// position of the error, which is [`Parse`](qs_data::Error::Parse): the number of bytes that were read.
+/// position of the error, which is [`Parse`](qs_data::Error::Parse): the number of bytes that were parsed.
 ///
-/// The last byte that was read lies in the pair, or is the `&` or the end of the input after it. `&` and `=` in brackets are bytes
-/// of the key, so where brackets aren't closed the pair goes on over each `&` that was read after them, and all of it is its key.
+/// The last byte that was parsed lies in the pair, or is the `&` or the end of the input after it. `&` and `=` in brackets are bytes
+/// of the key, so where brackets aren't closed the pair goes on over each `&` that was parsed after them, and all of it is its key.
 /// What follows the error wasn't parsed: the pair goes on there to the next `&`, and its key to the first `=` as if there were no
 /// error. Doesn't allocate, and looks at each byte of the input up to the end of the pair at most twice.
 ///

@@ -15,7 +15,8 @@ most_tree_time=60
 declare -A most_bytes=([pairs]=320 [maps]=1200)
 # A shorter run counts as one of so many seconds: the program's start is most of it.
 least_seconds=0.01
-# A run that took longer is tried again, so often in all: another process may have been in the way.
+# A run that took longer is tried again together with its measure, so often in all: another process may have been in the way, or the
+# processor's clock may have changed between the two.
 most_runs=8
 # The command that the measures are run by.
 measure=any
@@ -41,33 +42,39 @@ is_over() {
     awk -v left="$1" -v right="$2" 'BEGIN { exit !(left > right) }'
 }
 
-# taken_by MEASURE: what the input $room/measure took, in seconds and KiB: $least_time and $least_memory. It is run once for each measure.
+# taken_by MEASURE: what the input $room/MEASURE took, in seconds and KiB: $least_time and $least_memory. It is run where no run of it is kept.
 taken_by() {
     local status
-    [ -n "${measures[$1]:-}" ] || measures[$1]=$(measured "$room/measure" "$measure")
+    [ -n "${measures[$1]:-}" ] || measures[$1]=$(measured "$room/$1" "$measure")
     read -r status least_time least_memory <<<"${measures[$1]}"
     is_over "$least_time" "$least_seconds" || least_time=$least_seconds
 }
 
-# plain_taken INPUT: what a plain input takes that is as long.
-plain_taken() {
+# by_plain INPUT: the measure $held_by is a plain input that is as long.
+by_plain() {
     local bytes
     bytes=$(wc -c <"$1")
-    [ -n "${measures[plain=$bytes]:-}" ] || { printf 'a='; times "$bytes" v; } | head -c "$bytes" >"$room/measure"
-    taken_by "plain=$bytes"
+    held_by=plain=$bytes
+    [ -f "$room/$held_by" ] || { printf 'a='; times "$bytes" v; } | head -c "$bytes" >"$room/$held_by"
 }
 
-# tree_taken MEASURE: what a tree in order takes, `pairs=N` or `maps=N`. The first time it is held against its plain input.
-tree_taken() {
-    local kind=${1%=*} count=${1#*=} time memory bytes
-    if [ -n "${measures[$1]:-}" ]; then
-        taken_by "$1"
-        return
+# by_tree MEASURE: the measure $held_by is this tree in order, `pairs=N` or `maps=N`. The first time it is held against its plain input.
+by_tree() {
+    local kind=${1%=*} count=${1#*=}
+    if [ ! -f "$room/$1" ]; then
+        numbers "$count" 'in order' | sed "s/.*/k&${below[$kind]}=v/" | joined '&' >"$room/$1"
+        hold_tree "$kind" "$count"
     fi
-    numbers "$count" 'in order' | sed "s/.*/k&${below[$kind]}=v/" | joined '&' >"$room/measure"
-    taken_by "$1"
+    held_by=$1
+}
+
+# hold_tree KIND COUNT: a tree in order may take so much more than a plain input.
+hold_tree() {
+    local kind=$1 count=$2 time memory bytes
+    taken_by "$kind=$count"
     time=$least_time memory=$least_memory
-    plain_taken "$room/measure"
+    by_plain "$room/$kind=$count"
+    taken_by "$held_by"
     time=$(quotient "$time" "$least_time")
     bytes=$(((memory - least_memory) * 1024 / count))
     if is_over "$time" $most_tree_time; then
@@ -78,25 +85,26 @@ tree_taken() {
         pass
     fi
     [ -z "${SHOW_LOADS:-}" ] || echo "$count $kind in order: $time times the time of a plain input, and $bytes bytes more for each"
-    taken_by "$1"
 }
 
 # load NAME STATUS MEASURE COMMAND OPTION..: what the command prints for $room/input has to be the line $room/wanted.
 load() {
     local name=$1 wanted=$2 kind=${3%=*} runs=0 status seconds memory time wide
     if [ "$kind" = plain ]; then
-        plain_taken "$room/input"
+        by_plain "$room/input"
     else
-        tree_taken "$3"
+        by_tree "$3"
     fi
     shift 3
     while :; do
+        taken_by "$held_by"
         read -r status seconds memory <<<"$(measured "$room/input" "$@")"
         runs=$((runs + 1))
         time=$(quotient "$seconds" "$least_time")
         if [ "$runs" -eq "$most_runs" ] || ! is_over "$time" "${most_time[$kind]}"; then
             break
         fi
+        unset "measures[$held_by]"
     done
     wide=$(quotient "$memory" "$least_memory")
     if [ "$status" -ne "$wanted" ]; then

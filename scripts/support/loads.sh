@@ -15,9 +15,9 @@ most_tree_time=60
 declare -A most_bytes=([pairs]=320 [maps]=1200)
 # A shorter run counts as one of so many seconds: the program's start is most of it.
 least_seconds=0.01
-# A run that took longer is tried again together with its measure, so often in all: another process may have been in the way, or the
-# processor's clock may have changed between the two.
-most_runs=8
+# Where a run took longer there are so many in all, each but the first beside a new run of its measure, and the median of their quotients
+# counts: another process may have been in the way, or the processor's clock may have changed between the two.
+most_runs=7
 # The command that the measures are run by.
 measure=any
 declare -A measures=()
@@ -35,6 +35,11 @@ measured() {
 # quotient NUMBER OTHER: with two digits after the point.
 quotient() {
     awk -v number="$1" -v other="$2" 'BEGIN { printf "%.2f", number / other }'
+}
+
+# median NUMBER..: that of an odd count of numbers.
+median() {
+    printf '%s\n' "$@" | sort -n | sed -n "$((($# + 1) / 2))p"
 }
 
 # is_over LEFT RIGHT: the number LEFT is over RIGHT.
@@ -89,7 +94,7 @@ hold_tree() {
 
 # load NAME STATUS MEASURE COMMAND OPTION..: what the command prints for $room/input has to be the line $room/wanted.
 load() {
-    local name=$1 wanted=$2 kind=${3%=*} runs=0 status seconds memory time wide
+    local name=$1 wanted=$2 kind=${3%=*} quotients=() status seconds memory time wide
     if [ "$kind" = plain ]; then
         by_plain "$room/input"
     else
@@ -99,20 +104,20 @@ load() {
     while :; do
         taken_by "$held_by"
         read -r status seconds memory <<<"$(measured "$room/input" "$@")"
-        runs=$((runs + 1))
-        time=$(quotient "$seconds" "$least_time")
-        if [ "$runs" -eq "$most_runs" ] || ! is_over "$time" "${most_time[$kind]}"; then
+        quotients+=("$(quotient "$seconds" "$least_time")")
+        if [ "${#quotients[@]}" -eq "$most_runs" ] || ! is_over "${quotients[0]}" "${most_time[$kind]}"; then
             break
         fi
         unset "measures[$held_by]"
     done
+    time=$(median "${quotients[@]}")
     wide=$(quotient "$memory" "$least_memory")
     if [ "$status" -ne "$wanted" ]; then
         fail "$name: status $status, and not $wanted"
     elif ! cmp -s "$room/output" "$room/wanted"; then
         fail "$name: wrote '$(head -c 100 "$room/output")', and not '$(head -c 100 "$room/wanted")'"
     elif is_over "$time" "${most_time[$kind]}"; then
-        fail "$name: $seconds s, $time times the time of its measure, and not ${most_time[$kind]}"
+        fail "$name: $time times the time of its measure, and not ${most_time[$kind]}"
     elif is_over "$wide" "$most_memory"; then
         fail "$name: $wide times the memory of its measure, and not $most_memory"
     else

@@ -1,4 +1,4 @@
-# What is built, and whether it is up to date. A script that knows `root` sources this.
+# What is built, whether it is up to date, and what goes on meanwhile. A script that knows `root` sources this.
 
 # is_newer FILE PATH..: the file is there, and was made after the last edit of what lies at the paths.
 is_newer() {
@@ -60,6 +60,14 @@ is_made() {
     else
         (cd "$root/crates" && is_newer "$2" ../crates.txt $(parts_of "$1")) && note_made "$1" "$2" "$sum"
     fi
+}
+
+# tell NAME [LOG]: from now on a process says on standard error what goes on, in lines that begin with that name, until `telling` is killed.
+tell() {
+    python3 "$root/scripts/support/progress.py" "$@" </dev/null >&2 &
+    telling=$!
+    # Its end is then no news.
+    disown "$telling" 2>/dev/null
 }
 
 # build_program NAME: proves and builds the program of that crate, where it is missing or out of date, and runs it once without input.

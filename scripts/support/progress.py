@@ -23,16 +23,15 @@ def text_of(path):
 
 def processes_below(top):
     """Returns the words and the folder of each."""
-    parts, found = {}, []
+    inner, found, inside = {}, [], [top]
     for number in filter(str.isdigit, os.listdir("/proc")):
         try:
-            parts.setdefault(int(text_of(f"/proc/{number}/stat").rpartition(")")[2].split()[1]), []).append(int(number))
+            inner.setdefault(int(text_of(f"/proc/{number}/stat").rpartition(")")[2].split()[1]), []).append(int(number))
             found.append((int(number), text_of(f"/proc/{number}/cmdline").split("\0"), os.readlink(f"/proc/{number}/cwd")))
         except OSError:
-            continue  # It has ended, or is another user's.
-    inside = [top]
+            pass  # It has ended, or is another user's.
     for number in inside:
-        inside += parts.get(number, [])
+        inside += inner.get(number, [])
     return [(words, folder) for number, words, folder in found if number in inside[1:]]
 
 
@@ -40,30 +39,26 @@ def functions_in(folder):
     return sum(len(FUNCTION.findall(text_of(file))) for file in glob.glob(f"{folder}/src/**/*.rt", recursive=True))
 
 
-def proof_of(name, folder):
-    """Returns the name with the number of functions, and of those that are proved, where a check keeps them: that of `rt run` does, and that of `rt ci` doesn't."""
-    of, proved = functions_in(folder), len(glob.glob(f"{folder}/out/incremental/*/*-proofs.*.Met.oantt"))
-    return f"{name} ({f'{min(proved, of)} of ' if proved else ''}{of} functions)"
-
-
-def at_work(processes):
-    compiled, proofs, mutants, scripts = set(), set(), set(), set()
-    for words, folder in processes:
-        scripts.update(it[1] for it in (re.search(r"scripts/(\w+)\.sh$", word) for word in words[:3]) if it)
-        if os.path.basename(words[0]) == "rattle" and "--crate-name" in words:
-            name = words[words.index("--crate-name") + 1]
-            if "/rt-edit-" in folder:
-                mutants.add(name)
-            elif "--only" in words or "--crate-checked" in words:
-                compiled.add(name)
-            else:
-                proofs.add(f"the tests of {name}" if "--test" in words else proof_of(name, folder))
-    said = [("compiling", compiled), ("proving", proofs), ("trying mutants of", mutants), ("running", scripts)]
-    return [f"{what} {', '.join(sorted(those))}" for what, those in said if those]
+def work_of(words, folder):
+    """Returns the kind of work and its subject. How many functions are proved shows only where a check keeps them, as that of `rt run` does, not that of `rt ci`."""
+    script = re.search(r"scripts/(\w+)\.sh$", " ".join(words[:2]))
+    if script:
+        return "running", script[1]
+    if os.path.basename(words[0]) != "rattle" or "--crate-name" not in words:
+        return None
+    name = words[words.index("--crate-name") + 1]
+    if "/rt-edit-" in folder:
+        return "trying mutants of", name
+    if "--only" in words or "--crate-checked" in words:
+        return "compiling", name
+    if "--test" in words:
+        return "proving", f"the tests of {name}"
+    proved, count = len(glob.glob(f"{folder}/out/incremental/*/*-proofs.*.Met.oantt")), functions_in(folder)
+    return "proving", f"{name} ({f'{min(proved, count)} of ' if proved else ''}{count} functions)"
 
 
 def ended(log):
-    """Returns how many crates `rt ci` has done with, and how many functions these have."""
+    """Returns how many crates `rt ci` is done with, and how many functions these have."""
     done = set(re.findall(r"^rt: (\w+) (?:proved|is kept|NOT PROVED)", text_of(log), re.M))
     counts = {os.path.basename(it): functions_in(it) for it in glob.glob(f"{ROOT}/crates/*") if os.path.isdir(f"{it}/src")}
     of = sum(counts.get(it, 0) for it in done)
@@ -74,12 +69,12 @@ def main(name, log=None):
     top, began, last, when = os.getppid(), time.monotonic(), "", 0.0
     while os.getppid() == top:
         processes, now = processes_below(top), time.monotonic()
-        work = at_work(processes)
-        text = "; ".join(work + (ended(log) if log else [])) if work else ""
-        # The script of the mutants says itself what it is at.
-        if any("scripts/mutants.py" in word for words, _ in processes for word in words[:3]):
-            text = ""
-        if text and (text != last or now - when >= 60):
+        work = sorted({it for it in (work_of(*each) for each in processes) if it})
+        said = [f"{kind} {', '.join(of for other, of in work if other == kind)}" for kind in dict.fromkeys(kind for kind, _ in work)]
+        text = "; ".join(said + (ended(log) if log else []))
+        # The script of the mutants says itself what goes on.
+        is_silent = not work or any("scripts/mutants.py" in " ".join(words[:2]) for words, _ in processes)
+        if not is_silent and (text != last or now - when >= 60):
             print(f"{name}: {int(now - began) // 60} min: {text}", file=sys.stderr, flush=True)
             last, when = text, now
         time.sleep(EVERY if last else 2)

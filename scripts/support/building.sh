@@ -1,4 +1,4 @@
-# What is built, and whether it is up to date. A script that knows `root` sources this.
+# What is built, whether it is up to date, and what goes on meanwhile. A script that knows `root` sources this.
 
 # is_newer FILE PATH..: the file is there, and was made after the last edit of what lies at the paths.
 is_newer() {
@@ -7,36 +7,101 @@ is_newer() {
     [ -e "$file" ] && [ -z "$(find "$@" -newer "$file" -print -quit 2>/dev/null)" ]
 }
 
+# lines_of NAME: the crate's line of crates.txt, without its colon, and those of the crates below it.
+lines_of() {
+    awk -v top="$1" '
+        function show(name, words, count, at) {
+            if (name in line && !shown[name]++) {
+                print line[name]
+                count = split(line[name], words)
+                for (at = 2; at <= count; at++) show(words[at])
+            }
+        }
+        { sub(/#.*/, ""); gsub(":", " "); $1 = $1; if ($1 != "") line[$1] = $0 }
+        END { show(top) }' "$root/crates.txt"
+}
+
+# parts_of NAME: the folders with what the crate and those below it are made from, below crates/.
+parts_of() {
+    local name
+    for name in $(lines_of "$1" | cut -d ' ' -f 1); do
+        echo "$name"/{src,specs,proofs}
+    done
+}
+
+# made_from NAME: a sum of what the crate is made from: those lines, and the files in those folders.
+made_from() {
+    {
+        lines_of "$1"
+        (cd "$root/crates" && find $(parts_of "$1") -type f -print0 2>/dev/null | LC_ALL=C sort -z | xargs -0 sha256sum)
+    } | sha256sum
+}
+
+# sum_of FILE: of a built library, the file that has the sums of its others.
+sum_of() {
+    local file=$1
+    [ -d "$file" ] && file+=/format
+    sha256sum <"$file"
+}
+
+# note_made NAME FILE SUM: notes that what was built of the crate is this file, made from what has that sum.
+note_made() {
+    printf '%s\n' "$3" "$(sum_of "$2")" >"$root/crates/$1/out/$1.made"
+}
+
+# is_made NAME FILE: what was built of the crate is this file, and nothing that it was made from has changed. Where rt ci built it, which leaves no
+# note, the file's time says so, and the note is made here.
+is_made() {
+    local note=$root/crates/$1/out/$1.made sum
+    [ -e "$2" ] || return 1
+    sum=$(made_from "$1")
+    if [ -e "$note" ]; then
+        [ "$(cat "$note")" = "$sum"$'\n'"$(sum_of "$2")" ]
+    else
+        (cd "$root/crates" && is_newer "$2" ../crates.txt $(parts_of "$1")) && note_made "$1" "$2" "$sum"
+    fi
+}
+
+# tell NAME [LOG]: from now on a process says on standard error what goes on, in lines that begin with that name, until `telling` is killed.
+tell() {
+    python3 "$root/scripts/support/progress.py" "$@" </dev/null >&2 &
+    telling=$!
+    # Its end is then no news.
+    disown "$telling" 2>/dev/null
+}
+
 # build_program NAME: proves and builds the program of that crate, where it is missing or out of date, and runs it once without input.
 # What the build says goes to standard error.
 build_program() {
-    local name=$1 program=$root/crates/$1/out/$1 began status
-    is_newer "$program" "$root/crates.txt" "$root"/crates/*/{src,specs,proofs} && return 0
-    began=$(mktemp) || return 1
+    local name=$1 program=$root/crates/$1/out/$1 sum
+    is_made "$name" "$program" && return 0
+    # A crate that is edited meanwhile has another sum than this one.
+    sum=$(made_from "$name")
     rm -f "$program"
     (cd "$root/crates/$name" && rt run) </dev/null >&2
-    [ -x "$program" ] && touch -r "$began" "$program"
-    status=$?
-    rm -f "$began"
-    return $status
+    [ -x "$program" ] && note_made "$name" "$program" "$sum"
 }
 
-# is_left NAME: rt ci has proved the library and left it, and nothing of it was edited since.
+# is_left NAME: rt ci has proved the library and left it, and nothing that it was made from has changed since.
 is_left() {
     local built=$root/crates/$1/out/rlib
-    [ ! -e "$built/stamp" ] && is_newer "$built/$1.rlib" "$root/crates.txt" "$root/crates/$1"/{src,specs,proofs}
+    [ ! -e "$built/stamp" ] && [ -e "$built/$1.rlib/format" ] && is_made "$1" "$built/$1.rlib"
 }
 
-# build_static NAME LIBRARY..: proves and builds the static library of that crate over the libraries, which are proved once more only where rt ci
-# has not just left them. What the build says goes to standard error.
+# build_static NAME LIBRARY..: proves and builds the static library of that crate over the libraries, where it is missing or out of date. The libraries
+# are proved once more only where rt ci has not just left them. What the build says goes to standard error.
 build_static() {
-    local name=$1 library kit
+    local name=$1 static=$root/crates/$1/out/lib$1.a library kit sum
+    is_made "$name" "$static" && return 0
     shift
+    sum=$(made_from "$name")
     kit=$(dirname "$(dirname "$(readlink -f "$(command -v rt)")")")
     for library; do
         is_left "$library" || break
         shift
     done
-    [ $# -eq 0 ] && python3 "$root/scripts/support/build_static.py" "$root" "$name" "$kit" </dev/null >&2 && return
-    (cd "$root/crates/$name" && rt lib) </dev/null >&2
+    {
+        [ $# -eq 0 ] && python3 "$root/scripts/support/build_static.py" "$root" "$name" "$kit" ||
+            (cd "$root/crates/$name" && rt lib)
+    } </dev/null >&2 && touch "$static" && note_made "$name" "$static" "$sum"
 }

@@ -120,6 +120,8 @@ def report(trials):
         count = Counter()
         for mutant in trial.chosen:
             verdict, why = trial.results.get(mutant, (Verdict.UNDECIDED, "it was not tried"))
+            if mutant.is_survivor and not edits.is_rejected_elsewhere(mutant):
+                verdict, why = Verdict.BAD, f"it names no test or script that is there: {mutant.rejected_by}"
             is_right = verdict is (Verdict.SURVIVES if mutant.is_survivor else Verdict.REJECTED)
             count["survive as listed" if is_right and mutant.is_survivor else verdict.value] += 1
             if not is_right:

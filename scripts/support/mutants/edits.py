@@ -1,11 +1,16 @@
 """Mutants as they stand in files: crates/NAME/must-fail, crates/NAME/mutants and crates/NAME/survivors, one edit a file.
 
 An edit has lines `file: PATH` (below the crate's folder), `old: TEXT`, `new: TEXT`. Each old text stands in its file exactly once; further pairs apply to
-what the earlier ones made. A survivor has a line `rejected by: WHAT` before these: the test or script that rejects it, since no contract does.
+what the earlier ones made. A survivor has a line before these that says what rejects it, since no contract does:
+
+    rejected by: test CRATE PATH        a test of the crate, by the path of its function
+    rejected by: script NAME            scripts/NAME.sh
+    rejected by: nothing, REASON        it changes only time, memory or stack
 """
 
 import hashlib
 import pathlib
+import re
 from dataclasses import dataclass, field
 
 
@@ -55,6 +60,17 @@ def read(crate, path):
         elif word == "rejected by":
             mutant.rejected_by = rest.strip()
     return mutant
+
+
+def is_rejected_elsewhere(mutant):
+    """Whether the test or script that a survivor names is there."""
+    crates = mutant.path.parent.parent.parent
+    if test := re.fullmatch(r"test (\w+) ([\w:]+)::(\w+)", mutant.rejected_by):
+        file = crates / test[1] / "src" / f"{test[2].replace('::', '/')}.rt"
+        return file.is_file() and f"#[test]\nfn {test[3]}(" in file.read_text(encoding="utf-8")
+    if script := re.fullmatch(r"script (\w+)", mutant.rejected_by):
+        return (crates.parent / "scripts" / f"{script[1]}.sh").is_file()
+    return mutant.rejected_by.startswith("nothing, ")
 
 
 def of_crate(folder):

@@ -84,7 +84,8 @@ def make(root):
     (root / "HANDLES").write_text("Handles allowed: none.\n")
     (crate / "src/lib.rt").write_text(SOURCE)
     for folder, name, old, new, _ in MUTANTS:
-        (crate / folder / f"{name}.edit").write_text(f"file: src/lib.rt\nold: {old}\nnew: {new}\n")
+        rejected = "rejected by: nothing, it means the same\n" * (folder == "survivors")
+        (crate / folder / f"{name}.edit").write_text(f"{rejected}file: src/lib.rt\nold: {old}\nnew: {new}\n")
     return crate
 
 

@@ -66,6 +66,15 @@ fn long_texts_escaped(rt: HostRuntime) -> Result<(), Fail> {
 }
 
 #[test]
+fn long_escapes_are_decoded(rt: HostRuntime) -> Result<(), Fail> {
+    let bytes = "%41b+".repeat(rt.alloc(), 2_000)?;
+    let wanted = "Ab ".repeat(rt.alloc(), 2_000)?;
+    let text = decode(rt.alloc(), bytes.as_bytes())?;
+    assert!(rt; text.as_slice() == wanted.as_bytes());
+    Ok(())
+}
+
+#[test]
 fn plain_bytes_are_borrowed(rt: HostRuntime) -> Result<(), Fail> {
     for bytes in [
         b"".as_slice(),

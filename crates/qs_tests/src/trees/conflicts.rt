@@ -22,6 +22,23 @@ fn below_a_leaf(rt: HostRuntime) -> Result<(), Fail> {
     reject(&rt, rt.alloc(), Config::new(), &rows)
 }
 
+// A path of a hundred keys is in conflict where a short one is.
+#[test]
+fn below_a_leaf_by_a_long_path(rt: HostRuntime) -> Result<(), Fail> {
+    let alloc = rt.alloc();
+    let brackets = "[b]".repeat(alloc, 100)?;
+    let rows = [
+        ("a=1", 7, VALUE_AND_MAP),
+        ("a[]=1", 9, SEQUENCE_AND_MAP),
+        ("a=", 6, UNIT_AND_MAP),
+    ];
+    for (first, position, text) in rows {
+        let input = format!(in alloc; "{first}&a{brackets}=2")?;
+        reject_bytes(&rt, alloc, query(1000), input.as_bytes(), position, text)?;
+    }
+    Ok(())
+}
+
 #[test]
 fn below_the_root(rt: HostRuntime) -> Result<(), Fail> {
     let rows = [
@@ -75,6 +92,35 @@ fn a_push_at_a_map(rt: HostRuntime) -> Result<(), Fail> {
             12,
             "invalid input: the key `` appears in the input as both a sequence and a map (with keys 7, \"a\", \"b\")",
         ),
+    ];
+    reject(&rt, rt.alloc(), Config::new(), &rows)
+}
+
+// Twenty keys that come from the last to the first are listed in their order.
+#[test]
+fn a_push_at_a_map_of_many_keys(rt: HostRuntime) -> Result<(), Fail> {
+    let alloc = rt.alloc();
+    let text =
+        "invalid input: the key `m` appears in the input as both a sequence and a map (with keys \
+        \"a\", \"b\", \"c\", \"d\", \"e\", \"f\", \"g\", \"h\", \"i\", \"j\", \"k\", \"l\", \"m\", \"n\", \"o\", \"p\", \"q\", \"r\", \"s\", \"t\")";
+    for end in ["", "[x]"] {
+        let mut input = String::new(alloc);
+        for key in ('a'..='t').rev() {
+            input.push_str(&format!(in alloc; "m[{key}]{end}&")?)?;
+        }
+        let position = input.len().saturating_add(3);
+        input.push_str("m[]=1")?;
+        reject_bytes(&rt, alloc, Config::new(), input.as_bytes(), position, text)?;
+    }
+    Ok(())
+}
+
+// The conflict comes before what is wrong after the push.
+#[test]
+fn before_an_error_after_a_push(rt: HostRuntime) -> Result<(), Fail> {
+    let rows = [
+        ("a=1&a[][b]=2", 7, VALUE_AND_SEQUENCE),
+        ("a=1&a[]x=2", 7, VALUE_AND_SEQUENCE),
     ];
     reject(&rt, rt.alloc(), Config::new(), &rows)
 }

@@ -9,6 +9,7 @@ use serde_qs::{
 };
 use std::alloc::Global;
 use std::collections::BTreeMap;
+use std::io;
 use std::process::Abort;
 
 const WHOLE: &[u8; 10] = b"a=1&b[0]=2";
@@ -56,6 +57,41 @@ fn stops_in_mid_stream(rt: HostRuntime) {
             }
         }
     }
+}
+
+// The error is the writer's own, and that of a write that took nothing is std's for it.
+#[test]
+fn the_cause_is_reported(rt: HostRuntime) {
+    let build = Build::new(&rt, rt.alloc());
+    let alloc = rt.alloc();
+    let datum = number_and_list(&build);
+    let rows = [
+        (Stop::Fails, io::ErrorKind::BrokenPipe),
+        (Stop::IsInterrupted, io::ErrorKind::Interrupted),
+        (Stop::TakesNothing, io::ErrorKind::WriteZero),
+    ];
+    for (stop, kind) in rows {
+        let mut writer = Narrow::new(alloc, 1, 3, stop).expect(&rt, "memory");
+        let mut serializer = Serializer::new(&mut writer, Config::new());
+        let error = serializer.serialize(alloc, &datum).expect_err(&rt, "room");
+        let wanted = io::Error::from(kind).to_string(alloc).expect(&rt, "memory");
+        let said = error.to_string(alloc).expect(&rt, "memory");
+        assert_eq!(rt; said.as_str(), wanted.as_str(), "{stop:?}");
+    }
+}
+
+// The text of an entry is put whole, however long its key is.
+#[test]
+fn long_keys_are_put(rt: HostRuntime) {
+    let build = Build::new(&rt, rt.alloc());
+    let alloc = rt.alloc();
+    let name = "n".repeat(alloc, 5_000).expect(&rt, "memory");
+    let datum = build.one(name.as_str(), Data::Unsigned(7));
+    let mut serializer = Serializer::over(ByWrite::new(Vec::new(alloc)), Config::new());
+    assert!(rt; serializer.serialize(alloc, &datum).is_ok());
+    let written = serializer.into_sink().into_writer();
+    let wanted = format!(in alloc; "{name}=7").expect(&rt, "memory");
+    assert!(rt; written.as_slice() == wanted.as_bytes());
 }
 
 #[test]

@@ -42,8 +42,8 @@ class Mutant:
 
     @property
     def sum(self):
-        """The checksum of the edit's text, for what is kept of earlier runs."""
-        return hashlib.sha256(self.path.read_bytes() + self.path.parent.name.encode()).hexdigest()
+        """The checksum of what it changes, for what is kept of earlier runs."""
+        return hashlib.sha256(repr(self.pairs).encode()).hexdigest()
 
 
 def read(crate, path):

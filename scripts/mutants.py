@@ -13,9 +13,9 @@ A mutant is a file of crates/NAME/mutants, or of crates/NAME/must-fail, which `r
 
 Why one check can try many mutants: a check proves each function from the contracts of those that it calls, never from their bodies, and goes on past one that
 it can't prove. An edit of a body leaves the contract as it was. So what the check says of one function doesn't depend on the edits of others, as long as no two
-are in one function, or in functions that call one another, which have one proof. A function that the check doesn't come to, since it waits for another one's
-proof, is undecided, and is tried again, at last alone. A mutant is rejected where a goal of its own function is left unproved, or a proof of that function
-fails at a goal's type. Where only a name was lost that a proof cites, or the text doesn't compile, nothing was learned of the contract: such a mutant is bad.
+are in one function. Functions that call one another have one proof: where two of them are edited, only a goal of the lines of one says that its mutant is rejected.
+A function that the check doesn't come to, since it waits for another one's proof, is undecided, and is tried again, at last alone. A mutant is rejected where
+a goal of its own function is left unproved, or a proof of that function fails at a goal's type. Where only a name was lost that a proof cites, or the text doesn't compile, nothing was learned of the contract: such a mutant is bad.
 
 An edit of anything else (a definition, a type, a constant) can show anywhere, so it is tried alone, and an error anywhere rejects it.
 """
@@ -88,7 +88,7 @@ class Trial:
             with self.lanes.take(1), self.progress.of(self.crate.name, f"{len(batch)} mutants") as watch:
                 _, said = self.room.check(changed, watch=watch)
             if answers.has_verdict(said):
-                found += [(one, answers.verdict(said, self.crate.name, one.functions)) for one in batch]
+                found += [(one, answers.verdict(said, self.crate.name, one.functions, batches.shares_a_cycle(one, batch))) for one in batch]
                 break
             lost = answers.not_compiling(said, self.sources, batch) or batch
             found += [(one, (Verdict.UNDECIDED, "a batch with it didn't compile")) for one in lost]

@@ -19,6 +19,8 @@ class Verdict(Enum):
 
 # An error of a proof file that names what an edit took away, or that stands on such a proof. It says nothing of a contract.
 LOST = re.compile(r"has no field|is not in scope|has no `|that can be named|was not admitted|was not checked|is no name")
+# What says that a loop or a recursion ends.
+ENDING = re.compile(r"\bends\b|measure")
 FUNCTION = re.compile(r"^fn (\w+)::(\S+): (.*)$", re.M)
 IN_SOURCE = re.compile(r"^(?:note: )?(?:\./)?(src/\S+?\.rt):(\d+):\d+: (.*)$", re.M)
 IN_PROOF = re.compile(r"^(?:note: )?(?:\./)?(proofs/\S+?)\.antt:\d+:\d+: (error.*)$", re.M)
@@ -37,19 +39,20 @@ def lines_of(answer, crate):
     return {path: said for of, path, said in FUNCTION.findall(answer) if of == crate}
 
 
-def verdict(answer, crate, functions):
-    """Returns the verdict on a mutant that edits these functions, with the line that says it. Another mutant of the batch edits none of them."""
+def verdict(answer, crate, functions, is_shared=False):
+    """Returns the verdict on a mutant that edits these functions, with the line that says it. Another mutant of the batch edits none of them. Where one edits a
+    function of the same cycle (`is_shared`), only a goal of the functions' own lines counts, and not that the calls of the cycle end, nor a proof of the cycle."""
     said = lines_of(answer, crate)
     named = [path for function in functions for path in function.named(said)]
     for function in functions:
         for file, line, text in IN_SOURCE.findall(answer):
-            if file == function.file and function.begins <= int(line) <= function.ends and "warning" not in text:
+            if file == function.file and function.begins <= int(line) <= function.ends and "warning" not in text and not (is_shared and ENDING.search(text)):
                 return Verdict.REJECTED, f"{file}:{line}: {text}"
     if named and all(said[path] == "proved" for path in named):
         return Verdict.SURVIVES, f"fn {named[0]}: proved"
     lost = ""
     for path, text in IN_PROOF.findall(answer):
-        if any(is_proof_of(path, function, named) for function in functions):
+        if not is_shared and any(is_proof_of(path, function, named) for function in functions):
             if not LOST.search(text):
                 return Verdict.REJECTED, f"{path}: {text}"
             lost = lost or f"{path}: {text}"

@@ -1,4 +1,4 @@
-"""Which mutants of a crate one check can try: at most one a function, and one a cycle of functions that call one another."""
+"""Which mutants of a crate one check can try: at most one a function."""
 
 import edits
 from functions import at_line, functions_of
@@ -30,7 +30,7 @@ class Edited:
     """A mutant, and what it edits: functions' bodies, and lines of imports beside them; or anything else, and then it is tried alone."""
 
     def __init__(self, sources, mutant):
-        self.mutant, self.functions, self.keys, self.lines = mutant, [], set(), set()
+        self.mutant, self.functions, self.keys, self.cycles, self.lines = mutant, [], set(), set(), set()
         self.alone = False
         try:
             places = edits.places(sources.text, mutant)
@@ -43,7 +43,8 @@ class Edited:
             self.lines.add((file, line))
             if function:
                 self.functions.append(function)
-                self.keys.add(function.key)
+                self.keys.add((file, function.begins))
+                self.cycles |= {function.cycle} - {""}
             elif old.lstrip().startswith("use ") and file.startswith("src/"):
                 self.keys.add((file, line))
             else:
@@ -52,19 +53,23 @@ class Edited:
 
 
 def planned(edited, most):
-    """Returns the batches: lists of at most so many mutants, of which no two edit one function, cycle or line of imports. Survivors have batches of their
-    own, since they alone have to be proved."""
+    """Returns the batches: lists of at most so many mutants, of which no two edit one function or line of imports. Survivors have batches of their own,
+    since they alone have to be proved."""
     batches = []
     for one in edited:
         if one.alone:
             batches.append([one])
             continue
         for batch in batches:
-            others = set().union(*(it.keys for it in batch))
             fits = len(batch) < most and not batch[0].alone and batch[0].mutant.is_survivor == one.mutant.is_survivor
-            if fits and not one.keys & others:
+            if fits and not any(one.keys & it.keys for it in batch):
                 batch.append(one)
                 break
         else:
             batches.append([one])
     return batches
+
+
+def shares_a_cycle(one, batch):
+    """Whether another mutant of the batch edits a function of one of its cycles: functions that call one another, which have one proof."""
+    return any(one.cycles & it.cycles for it in batch if it is not one)

@@ -23,11 +23,6 @@ class Function:
     trait: str
 
     @property
-    def key(self):
-        """What at most one edit of a batch may be in: the function, or its cycle of calls."""
-        return self.cycle or (self.file, self.begins)
-
-    @property
     def module(self):
         """The path of its module, as the check writes it behind the name of the crate."""
         path = self.file.removeprefix("src/").removesuffix(".rt").removesuffix("/mod").replace("/", "::")

@@ -64,6 +64,7 @@ fn small::first: not proved
 fn small::second: proved
 logic=not-proved functions=2
 """
+UNENDING = "src/lib.rt:11:5: it is not proved that the loop ends, by its measure\n" + LOST
 LEFT = "src/lib.rt:11:5: it is not proved that `result ≡ one`\n" + LOST
 
 passed = failed = 0
@@ -106,6 +107,7 @@ def try_answers():
     expect("a lost name counts as a rejection", answers.verdict(LOST, "small", [first])[0] is Verdict.UNDECIDED)
     expect("a lost name counts alone", answers.verdict_alone(LOST, 1)[0] is Verdict.BAD)
     expect("a goal that is left is passed over", answers.verdict(LEFT, "small", [first])[0] is Verdict.REJECTED)
+    expect("a loop that may not end counts beside another of its cycle", answers.verdict(UNENDING, "small", [first], True)[0] is Verdict.UNDECIDED)
     expect("a goal of another function counts", answers.verdict(LEFT, "small", [second])[0] is Verdict.SURVIVES)
 
 

@@ -6,6 +6,7 @@
     scripts/mutants.py NAME/EDIT..        these alone
     --anew                                takes no verdict of an earlier run on this machine
     --plan                                says what would be tried together, and tries nothing
+    --tests                               runs, of the survivors among them, the test that each names, with the survivor in place: a minute or two each
     --root=FOLDER                         another repository than this one
 
 A mutant is a file of crates/NAME/mutants, or of crates/NAME/must-fail, which `rt ci` tries too; a survivor is one of crates/NAME/survivors
@@ -21,6 +22,7 @@ An edit of anything else (a definition, a type, a constant) can show anywhere, s
 """
 
 import pathlib
+import resource
 import sys
 import threading
 from collections import Counter
@@ -33,6 +35,7 @@ import batches  # noqa: E402
 import checks  # noqa: E402
 import edits  # noqa: E402
 import kept  # noqa: E402
+import tests  # noqa: E402
 from answers import Verdict  # noqa: E402
 from lanes import Lanes, Progress, ending_room  # noqa: E402
 
@@ -49,9 +52,10 @@ class Trial:
         self.kept, self.chosen = kept.Kept(crate, anew), chosen
         found = {mutant: self.kept.get(mutant) for mutant in chosen}
         self.results = {mutant: said for mutant, said in found.items() if said}
+        self.known = len(self.results)
         self.left = [batches.Edited(self.sources, mutant) for mutant in chosen if mutant not in self.results]
         self.room = room
-        progress.begin(crate.name, len(chosen), len(self.results))
+        progress.begin(crate.name, len(chosen), self.known)
 
     def run(self):
         """Tries what isn't known, first in batches, then what is undecided in further ones, and at last alone."""
@@ -145,6 +149,16 @@ def chosen_of(crate, names):
     return [mutant for mutant in every if mutant.name in names]
 
 
+def try_tests(root, chosen):
+    """Prints, of each survivor that names a test, whether that test fails with it."""
+    found = [(mutant, tests.verdict(root, mutant)) for mutant in chosen if mutant.is_survivor and mutant.rejected_by.startswith("test ")]
+    for mutant, (verdict, why) in found:
+        print(f"{mutant.name}: {verdict.value}: {why}")
+    failed = sum(verdict is not Verdict.REJECTED for _, (verdict, _) in found)
+    print(f"{len(found) - failed} passed, {failed} failed")
+    return 1 if failed else 0
+
+
 def main(words):
     anew, is_plan = "--anew" in words, "--plan" in words
     names = [word.removesuffix(".edit") for word in words if not word.startswith("--")]
@@ -154,6 +168,8 @@ def main(words):
     if not found:
         print(f"no mutant is named so: {' '.join(names)}\n0 passed, 1 failed")
         return 2
+    if "--tests" in words:
+        return try_tests(root, [mutant for _, chosen in found for mutant in chosen])
     with ending_room() as room, Lanes() as lanes, Progress() as progress:
         trials = [Trial(crate, chosen, checks.Room(crate, room), lanes, progress, anew) for crate, chosen in found]
         if is_plan:
@@ -171,6 +187,9 @@ def main(words):
         for thread in threads:
             thread.join()
     kept.drop_old()
+    used = resource.getrusage(resource.RUSAGE_CHILDREN)
+    tried = sum(len(trial.chosen) - trial.known for trial in trials)
+    print(f"tried in this run: {tried}, in {(used.ru_utime + used.ru_stime) / 60:.0f} min of processor time; the others are kept from earlier runs on this machine")
     passed, failed = report(trials)
     print(f"{passed} passed, {failed} failed")
     return 1 if failed else 0

@@ -1,5 +1,6 @@
 #!/usr/bin/env bash
 # Each allocation of a run fails in turn: the right line is printed, or the status is 3, with the line that says so or with nothing.
+# And a long vector is not asked for more room at each entry: a run with many keys makes few allocations.
 source "$(dirname "${BASH_SOURCE[0]}")/support/counting.sh"
 
 failing=$room/fail_allocation.so
@@ -44,6 +45,20 @@ fail_each() {
     done
     fail "$(basename "$program") $*: no end of its allocations"
 }
+
+# allocates_few MOST LINE ARGUMENTS..: for $room/input, where no allocation fails if the one after MOST would.
+allocates_few() {
+    local most=$1 line=$2
+    shift 2
+    FAILING_ALLOCATION=$((most + 1)) LD_PRELOAD=$failing "$program" "$@" <"$room/input" >"$room/output" 2>/dev/null 9>"$room/failed"
+    status=$?
+    [ ! -s "$room/failed" ] || fail "$(basename "$program") $*: more than $most allocations"
+    expect "$(basename "$program") $* with many keys" 0 "$line"$'\n'
+}
+
+# 20,000 keys that no field has: a vector of them that grew by one would be asked for room as often.
+{ printf 'name=a&age=1&occupation=b'; seq -f '&k%05.0f=v' 1 20000 | tr -d '\n'; } >"$room/input"
+allocates_few 200 'name=a&age=1&occupation=b&note' flat
 
 long=$(printf '%*s' 20000 '' | tr ' ' x)
 fail_each 'age=24&occupation=Student&name=Alice+B.' 0 'name=Alice+B.&age=24&occupation=Student&note' flat

@@ -54,7 +54,7 @@ class Trial:
         self.results = {mutant: said for mutant, said in found.items() if said}
         self.known = len(self.results)
         self.left = [batches.Edited(self.sources, mutant) for mutant in chosen if mutant not in self.results]
-        self.room = room
+        self.room, self.lines = room, crate.count(rb"\n")
         progress.begin(crate.name, len(chosen), self.known)
 
     def run(self):
@@ -75,7 +75,7 @@ class Trial:
 
     def prove(self):
         jobs = 2 if self.crate.is_large() else 1
-        with self.lanes.take(jobs), self.progress.of(self.crate.name, "its proof") as watch:
+        with self.lanes.take(jobs, self.lines), self.progress.of(self.crate.name, "its proof") as watch:
             is_proved, said = self.room.prove(jobs, watch)
         if not is_proved:
             self.results.update({one.mutant: (Verdict.UNDECIDED, f"the crate is not proved: {said.strip()[-300:]}") for one in self.left})
@@ -89,7 +89,7 @@ class Trial:
                 found.append((batch[0], self.alone(batch[0])))
                 break
             changed = edits.applied_at_once(self.sources.text, [one.mutant for one in batch])
-            with self.lanes.take(1), self.progress.of(self.crate.name, f"{len(batch)} mutants") as watch:
+            with self.lanes.take(1, self.lines * len(batch) / MOST), self.progress.of(self.crate.name, f"{len(batch)} mutants") as watch:
                 _, said = self.room.check(changed, watch=watch)
             if answers.has_verdict(said):
                 found += [(one, answers.verdict(said, self.crate.name, one.functions, batches.shares_a_cycle(one, batch))) for one in batch]
@@ -106,7 +106,7 @@ class Trial:
             changed = edits.applied_in_turn(self.sources.text, one.mutant)
         except edits.BadEdit as error:
             return Verdict.BAD, str(error)
-        with self.lanes.take(1), self.progress.of(self.crate.name, one.mutant.path.stem) as watch:
+        with self.lanes.take(1, self.lines / MOST), self.progress.of(self.crate.name, one.mutant.path.stem) as watch:
             status, said = self.room.check(changed, watch=watch)
         return answers.verdict_alone(said, status)
 
@@ -180,8 +180,7 @@ def main(words):
         if not checks.libraries_are_ready([trial.crate for trial in trials if trial.left]):
             print("a library below isn't proved\n0 passed, 1 failed")
             return 1
-        # (the largest first, since the end waits for them)
-        threads = [threading.Thread(target=trial.run) for trial in sorted(trials, key=lambda trial: -trial.crate.count(rb"\n"))]
+        threads = [threading.Thread(target=trial.run) for trial in trials]
         for thread in threads:
             thread.start()
         for thread in threads:

@@ -24,11 +24,11 @@ def at_a_time():
 
 
 class Lanes:
-    """Processors, of which each check takes some, first come, first served."""
+    """Processors, of which each check takes some: first the checks that have most to do, since the end waits for them."""
 
     def __init__(self):
         self.number = self.free = at_a_time()
-        self.turn, self.changed = threading.Lock(), threading.Condition()
+        self.waiting, self.changed = [], threading.Condition()
 
     def __enter__(self):
         return self
@@ -37,11 +37,14 @@ class Lanes:
         return False
 
     @contextlib.contextmanager
-    def take(self, number):
-        number = min(number, self.number)
-        with self.turn, self.changed:
-            self.changed.wait_for(lambda: self.free >= number)
+    def take(self, number, work):
+        number, mine = min(number, self.number), (-work, time.monotonic(), threading.get_ident())
+        with self.changed:
+            self.waiting.append(mine)
+            self.changed.wait_for(lambda: self.free >= number and min(self.waiting) == mine)
+            self.waiting.remove(mine)
             self.free -= number
+            self.changed.notify_all()
         try:
             yield
         finally:

@@ -19,6 +19,8 @@ class Verdict(Enum):
 
 # An error of a proof file that names what an edit took away, or that stands on such a proof. It says nothing of a contract.
 LOST = re.compile(r"has no field|is not in scope|has no `|that can be named|was not admitted|was not checked|is no name")
+# What is said of a function without a proof file, where a goal of its is left.
+UNFOUND = "`search` did not prove"
 # What says that a loop or a recursion ends.
 ENDING = re.compile(r"\bends\b|measure")
 FUNCTION = re.compile(r"^fn (\w+)::(\S+): (.*)$", re.M)
@@ -48,6 +50,9 @@ def verdict(answer, crate, functions, is_shared=False):
         for file, line, text in IN_SOURCE.findall(answer):
             if file == function.file and function.begins <= int(line) <= function.ends and "warning" not in text and not (is_shared and ENDING.search(text)):
                 return Verdict.REJECTED, f"{file}:{line}: {text}"
+    for path in named:
+        if UNFOUND in said[path]:
+            return Verdict.REJECTED, f"fn {path}: {said[path]}"
     if named and all(said[path] == "proved" for path in named):
         return Verdict.SURVIVES, f"fn {named[0]}: proved"
     lost = ""
@@ -76,6 +81,7 @@ def verdict_alone(answer, status):
         return Verdict.BAD, error
     errors = [(where, text) for where, _, text in IN_SOURCE.findall(answer) if "warning" not in text]
     errors += IN_PROOF.findall(answer) + IN_SPECS.findall(answer)
+    errors += [(f"fn {path}", said) for _, path, said in FUNCTION.findall(answer) if UNFOUND in said]
     for where, text in errors:
         if not LOST.search(text):
             return Verdict.REJECTED, f"{where}: {text}"

@@ -1,5 +1,6 @@
 #!/usr/bin/env bash
-# Each allocation of a run fails in turn: the right line is printed, or the status is 3, with the line that says so or with nothing.
+# Each allocation of a run fails in turn: the right line is printed, or the status is 3, with the line that says so. The program for tests may also
+# write nothing then; the program itself only where an allocation for the words of its arguments failed.
 # And a long vector is not asked for more room at each entry: a run with many keys makes few allocations.
 source "$(dirname "${BASH_SOURCE[0]}")/support/counting.sh"
 
@@ -18,10 +19,26 @@ if [ ! -e "$failing" ]; then
     exit 1
 fi
 
+# count_silent ARGUMENTS..: $silent is the number of the last allocation of the words, which may fail without a line. A run with as many words,
+# of which the first is no command, allocates them and writes the usage line.
+count_silent() {
+    local at
+    silent=0
+    for ((at = 1; at <= 100; at++)); do
+        FAILING_ALLOCATION=$at LD_PRELOAD=$failing "$program" none "${@:2}" </dev/null >"$room/output" 2>/dev/null 9>"$room/failed"
+        if [ -s "$room/output" ] || [ ! -s "$room/failed" ]; then
+            return
+        fi
+        silent=$at
+    done
+    fail "$(basename "$program") $*: more than 100 allocations for its words"
+}
+
 # fail_each INPUT STATUS LINE ARGUMENTS..
 fail_each() {
-    local input=$1 wanted=$2 line=$3 at
+    local input=$1 wanted=$2 line=$3 at silent=1000
     shift 3
+    [ "$is_tool" = no ] || count_silent "$@"
     printf '%s\n' "$line" >"$room/right"
     printf 'error: out of memory\n' >"$room/memory"
     for ((at = 1; at <= 1000; at++)); do
@@ -31,7 +48,7 @@ fail_each() {
         status=$?
         if [ "$status" -eq "$wanted" ] && cmp -s "$room/output" "$room/right"; then
             pass
-        elif [ "$status" -eq 3 ] && [ -s "$room/failed" ] && { [ ! -s "$room/output" ] || cmp -s "$room/output" "$room/memory"; }; then
+        elif [ "$status" -eq 3 ] && [ -s "$room/failed" ] && { { [ ! -s "$room/output" ] && [ "$at" -le "$silent" ]; } || cmp -s "$room/output" "$room/memory"; }; then
             pass
         else
             fail "$(basename "$program") $* with allocation $at failing: status $status, wrote '$(head -c 200 "$room/output")'"
@@ -60,6 +77,7 @@ allocates_few() {
 { printf 'name=a&age=1&occupation=b'; seq -f '&k%05.0f=v' 1 20000 | tr -d '\n'; } >"$room/input"
 allocates_few 200 'name=a&age=1&occupation=b&note' flat
 
+is_tool=yes
 long=$(printf '%*s' 20000 '' | tr ' ' x)
 fail_each 'age=24&occupation=Student&name=Alice+B.' 0 'name=Alice+B.&age=24&occupation=Student&note' flat
 fail_each 'age=24&occupation=%53tudent&name=Alice+B.&note=n&active&x=1&x=2' 0 \
@@ -112,6 +130,7 @@ fail_each 'a[4294967296]=p&a[4294967295]=q' 0 "{'a':{'4294967295':'q','429496729
 fail_each '' 2 'usage: qs_tool flat|params|any [--form] [--strict] [--depth N] [--format indexed|empty|unindexed] [--duplicates last|error]' round
 
 # Typed calls, over structs, maps, lists and enums of users, and lists in one text.
+is_tool=no
 program=${2:-$root/crates/qs_tests/out/qs_tests}
 [ -x "$program" ] || fail "there is no program $program: run 'rt run' in crates/qs_tests once"
 fail_each 'name=Alice&age=24&occupation=Student' 0 'name=Alice&age=24&occupation=Student' query

@@ -6,6 +6,8 @@
     scripts/mutants.py NAME/EDIT..        these alone
     --anew                                takes no verdict of an earlier run on this machine
     --plan                                says what would be tried together, and tries nothing
+    --beside=LOG                          tries them while an `rt ci` of the repository runs that writes what it says to this file: each crate's once it is proved,
+                                          over what that proof has checked
     --tests                               runs, of the survivors among them, the test that each names, with the survivor in place: a minute or two each
     --root=FOLDER                         another repository than this one
 
@@ -16,11 +18,14 @@ Why one check can try many mutants: a check proves each function from the contra
 it can't prove. An edit of a body leaves the contract as it was. So what the check says of one function doesn't depend on the edits of others, as long as no two
 are in one function. Functions that call one another have one proof: where two of them are edited, only a goal of the lines of one says that its mutant is rejected.
 A function that the check doesn't come to, since it waits for another one's proof, is undecided, and is tried again, at last alone. A mutant is rejected where
-a goal of its own function is left unproved, or a proof of that function fails at a goal's type. Where only a name was lost that a proof cites, or the text doesn't compile, nothing was learned of the contract: such a mutant is bad.
+a goal of its own function is left unproved, or a proof of that function fails at a goal's type: mostly since the contract excludes the body, but also where the
+prover doesn't find the proof of a body that it allows. Where only a name was lost that a proof cites, or the text doesn't compile, nothing was learned of the
+contract: such a mutant is bad.
 
 An edit of anything else (a definition, a type, a constant) can show anywhere, so it is tried alone, and an error anywhere rejects it.
 """
 
+import os
 import pathlib
 import resource
 import sys
@@ -37,7 +42,9 @@ import edits  # noqa: E402
 import kept  # noqa: E402
 import tests  # noqa: E402
 from answers import Verdict  # noqa: E402
+from handed import Handed  # noqa: E402
 from lanes import Lanes, Progress, ending_room  # noqa: E402
+from libraries import Libraries  # noqa: E402
 
 # The most mutants of one check. More would save little: what each check does once is a few seconds of some ten minutes.
 MOST = 60
@@ -57,9 +64,12 @@ class Trial:
         self.room, self.lines = room, crate.count(rb"\n")
         progress.begin(crate.name, len(chosen), self.known)
 
-    def run(self):
+    def run(self, libraries):
         """Tries what isn't known, first in batches, then what is undecided in further ones, and at last alone."""
         if not self.left:
+            return
+        if not libraries.are_there(self.crate):
+            self.results.update({one.mutant: (Verdict.UNDECIDED, "a library below isn't proved") for one in self.left})
             return
         if not self.prove():
             return
@@ -141,9 +151,9 @@ def report(trials):
     return rejected + listed - max(0, failed - bad - sum(total.values())), failed
 
 
-def chosen_of(crate, names):
+def chosen_of(root, crate, names):
     """Returns the mutants of the crate that the words of the command line choose."""
-    every = edits.of_crate(pathlib.Path(crate.folder))
+    every = edits.of_crate(root / "crates" / crate.name)
     if not names or crate.name in names:
         return every
     return [mutant for mutant in every if mutant.name in names]
@@ -159,32 +169,33 @@ def try_tests(root, chosen):
     return 1 if failed else 0
 
 
+def option(words, name):
+    """Returns what stands behind an option's `=`, if it is given."""
+    return next((word.partition("=")[2] for word in words if word.startswith(f"{name}=")), None)
+
+
 def main(words):
-    anew, is_plan = "--anew" in words, "--plan" in words
     names = [word.removesuffix(".edit") for word in words if not word.startswith("--")]
-    root = next((word.removeprefix("--root=") for word in words if word.startswith("--root=")), ROOT)
-    found = [(crate, chosen_of(crate, names)) for crate in checks.crates(root)]
-    found = [(crate, chosen) for crate, chosen in found if chosen]
-    if not found:
-        print(f"no mutant is named so: {' '.join(names)}\n0 passed, 1 failed")
-        return 2
-    if "--tests" in words:
-        return try_tests(root, [mutant for _, chosen in found for mutant in chosen])
+    root, log = pathlib.Path(option(words, "--root") or ROOT), option(words, "--beside")
     with ending_room() as room, Lanes() as lanes, Progress() as progress:
-        trials = [Trial(crate, chosen, checks.Room(crate, room), lanes, progress, anew) for crate, chosen in found]
-        if is_plan:
-            for trial in trials:
-                for batch in batches.planned(trial.left, MOST):
-                    print(f"{trial.crate.name}: {' '.join(one.mutant.path.stem for one in batch)}")
+        copies = checks.copied(root, room)
+        found = [(crate, chosen_of(root, crate, names)) for crate in copies]
+        found = [(crate, chosen) for crate, chosen in found if chosen]
+        if not found:
+            print(f"no mutant is named so: {' '.join(names)}\n0 passed, 1 failed")
+            return 2
+        if "--tests" in words:
+            return try_tests(root, [mutant for _, chosen in found for mutant in chosen])
+        if log:
+            # What runs beside is what the end waits for.
+            os.nice(10)
+        handed = Handed(root, room) if log else None
+        rooms = [checks.Room(crate, room, kept_of(root, crate.name, handed)) for crate, _ in found]
+        trials = [Trial(crate, chosen, at, lanes, progress, "--anew" in words) for (crate, chosen), at in zip(found, rooms)]
+        if "--plan" in words:
+            tell_plan(trials)
             return 0
-        if not checks.libraries_are_ready([trial.crate for trial in trials if trial.left]):
-            print("a library below isn't proved\n0 passed, 1 failed")
-            return 1
-        threads = [threading.Thread(target=trial.run) for trial in trials]
-        for thread in threads:
-            thread.start()
-        for thread in threads:
-            thread.join()
+        try_all(trials, Libraries(root, copies, log, handed))
     kept.drop_old()
     used = resource.getrusage(resource.RUSAGE_CHILDREN)
     tried = sum(len(trial.chosen) - trial.known for trial in trials)
@@ -192,6 +203,28 @@ def main(words):
     passed, failed = report(trials)
     print(f"{passed} passed, {failed} failed")
     return 1 if failed else 0
+
+
+def kept_of(root, name, handed):
+    """Returns the folders in which a check of the crate may have kept what it has checked."""
+    return [root / "crates" / name / "out/incremental", *([handed.of(name)] if handed else [])]
+
+
+def tell_plan(trials):
+    for trial in trials:
+        for batch in batches.planned(trial.left, MOST):
+            print(f"{trial.crate.name}: {' '.join(one.mutant.path.stem for one in batch)}")
+
+
+def try_all(trials, libraries):
+    threads = [threading.Thread(target=trial.run, args=(libraries,)) for trial in trials]
+    for thread in threads:
+        thread.start()
+    if not libraries.log:
+        libraries.build([trial.crate for trial in trials if trial.left])
+        libraries.end()
+    for thread in threads:
+        thread.join()
 
 
 if __name__ == "__main__":

@@ -78,7 +78,7 @@ def kind_term(text):
 def key_shape_term(text):
     word, inner = parts_of(text)
     if word == "Variants":
-        return f"(KeyShape.variants {' ∷ '.join([bytes_term(unescaped(it)) for it in split(inner)] + ['[]'])})"
+        return f"(KeyShape.variants ({' ∷ '.join([bytes_term(unescaped(it)) for it in split(inner)] + ['[]'])}))"
     return f"(KeyShape.{PLAIN_SHAPES[word]})"
 
 

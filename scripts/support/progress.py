@@ -46,6 +46,8 @@ def work_of(words, folder):
         return "running", script[1]
     if os.path.basename(words[0]) != "rattle" or "--crate-name" not in words:
         return None
+    if "/mutants-" in folder:
+        return None  # The script of the mutants says itself what goes on.
     name = words[words.index("--crate-name") + 1]
     if "/rt-edit-" in folder:
         return "trying mutants of", name
@@ -72,9 +74,7 @@ def main(name, log=None):
         work = sorted({it for it in (work_of(*each) for each in processes) if it})
         said = [f"{kind} {', '.join(of for other, of in work if other == kind)}" for kind in dict.fromkeys(kind for kind, _ in work)]
         text = "; ".join(said + (ended(log) if log else []))
-        # The script of the mutants says itself what goes on.
-        is_silent = not work or any("scripts/mutants.py" in " ".join(words[:2]) for words, _ in processes)
-        if not is_silent and (text != last or now - when >= 60):
+        if work and (text != last or now - when >= 60):
             print(f"{name}: {int(now - began) // 60} min: {text}", file=sys.stderr, flush=True)
             last, when = text, now
         time.sleep(EVERY if last else 2)

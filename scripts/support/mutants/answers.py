@@ -24,7 +24,8 @@ UNFOUND = "`search` did not prove"
 # What says that a loop or a recursion ends.
 ENDING = re.compile(r"\bends\b|measure")
 FUNCTION = re.compile(r"^fn (\w+)::(\S+): (.*)$", re.M)
-IN_SOURCE = re.compile(r"^(?:note: )?(?:\./)?(src/\S+?\.rt):(\d+):\d+: (.*)$", re.M)
+# A goal that is left in a source file (which is told as a note), or an error there. Other notes and warnings say nothing of a verdict.
+IN_SOURCE = re.compile(r"^(?:note: )?(?:\./)?(src/\S+?\.rt):(\d+):\d+: (error.*|it is not proved.*)$", re.M)
 IN_PROOF = re.compile(r"^(?:note: )?(?:\./)?(proofs/\S+?)\.antt:\d+:\d+: (error.*)$", re.M)
 IN_SPECS = re.compile(r"^(?:note: )?(?:\./)?(specs/\S+?)\.antt:\d+:\d+: (error.*)$", re.M)
 COMPILING = re.compile(r"^(?:\./)?(src/\S+?\.rt):(\d+):\d+: error\[", re.M)
@@ -46,15 +47,15 @@ def verdict(answer, crate, functions, is_shared=False):
     function of the same cycle (`is_shared`), only a goal of the functions' own lines counts, and not that the calls of the cycle end, nor a proof of the cycle."""
     said = lines_of(answer, crate)
     named = [path for function in functions for path in function.named(said)]
+    if named and all(said[path] == "proved" for path in named):
+        return Verdict.SURVIVES, f"fn {named[0]}: proved"
     for function in functions:
         for file, line, text in IN_SOURCE.findall(answer):
-            if file == function.file and function.begins <= int(line) <= function.ends and "warning" not in text and not (is_shared and ENDING.search(text)):
+            if file == function.file and function.begins <= int(line) <= function.ends and not (is_shared and ENDING.search(text)):
                 return Verdict.REJECTED, f"{file}:{line}: {text}"
     for path in named:
         if UNFOUND in said[path]:
             return Verdict.REJECTED, f"fn {path}: {said[path]}"
-    if named and all(said[path] == "proved" for path in named):
-        return Verdict.SURVIVES, f"fn {named[0]}: proved"
     lost = ""
     for path, text in IN_PROOF.findall(answer):
         if not is_shared and any(is_proof_of(path, function, named) for function in functions):
@@ -79,7 +80,7 @@ def verdict_alone(answer, status):
     if not has_verdict(answer):
         error = next((line for line in answer.splitlines() if "error" in line), answer.strip()[-200:])
         return Verdict.BAD, error
-    errors = [(where, text) for where, _, text in IN_SOURCE.findall(answer) if "warning" not in text]
+    errors = [(where, text) for where, _, text in IN_SOURCE.findall(answer)]
     errors += IN_PROOF.findall(answer) + IN_SPECS.findall(answer)
     errors += [(f"fn {path}", said) for _, path, said in FUNCTION.findall(answer) if UNFOUND in said]
     for where, text in errors:

@@ -15,25 +15,50 @@ import rtlib  # noqa: E402
 GUARD = rtlib.guarded()
 
 
+# What makes up a crate: besides its parts, what its program reads and prints tells what it is.
+COPIED = (*rtlib.PARTS, "stdin", "stdout", "args", "status", "data")
+
+
 def crates(root):
     """Returns the crates of the repository, lowest first."""
     return rtlib.crates_below(str(root))
 
 
-def linked(seed, to):
-    """Copies a folder of kept proofs by links: a check replaces such a file, and changes none."""
+def copied(root, to):
+    """Copies the crates of a repository, without what was built of them, and returns those of the copy, lowest first: what is tried doesn't change with what is
+    edited meanwhile, nor with what `rt ci` sets aside."""
+    to = pathlib.Path(to)
+    for name in ("crates.txt", "HANDLES"):
+        shutil.copy(f"{root}/{name}", to / name)
+    for folder in pathlib.Path(root, "crates").iterdir():
+        for part in COPIED:
+            if (folder / part).is_dir():
+                shutil.copytree(folder / part, to / "crates" / folder.name / part)
+            elif (folder / part).is_file():
+                shutil.copy(folder / part, to / "crates" / folder.name / part)
+    return crates(to)
+
+
+def linked(seed, to, is_new=lambda name: False):
+    """Copies a folder by links, where nothing changes its files in place, but replaces them."""
 
     def copy(one, other):
-        os.link(one, other) if one.endswith(".oantt") else shutil.copy2(one, other)
+        shutil.copy2(one, other) if is_new(one) else os.link(one, other)
 
-    shutil.copytree(seed, to, copy_function=copy)
+    try:
+        shutil.copytree(seed, to, copy_function=copy)
+    except shutil.Error:
+        # (another disk)
+        shutil.rmtree(to, ignore_errors=True)
+        shutil.copytree(seed, to)
 
 
 class Room:
-    """A folder for the checks of one crate: what its own check proved (the seed), and a copy of its files for each check."""
+    """A folder for the checks of one crate: what its own check proved (the seed), and a copy of its files for each check. `begun` has the folders where
+    that check may find what earlier ones kept; the first is taken that is there."""
 
-    def __init__(self, crate, root):
-        self.crate, self.at = crate, pathlib.Path(root) / crate.name
+    def __init__(self, crate, root, begun):
+        self.crate, self.at, self.begun = crate, pathlib.Path(root) / crate.name, begun
         self.at.mkdir()
         self.seed = self.at / "seed"
 
@@ -52,7 +77,7 @@ class Room:
             kept = self.seed
             if not over_seed:
                 kept = pathlib.Path(room, "kept")
-                linked(self.seed, kept)
+                linked(self.seed, kept, is_written)
             words = [*GUARD, *self.words(jobs), "--progress", "--incremental", str(kept)]
             how = {"stdin": subprocess.DEVNULL, "stdout": subprocess.PIPE, "stderr": subprocess.STDOUT, "text": True, "errors": "replace"}
             said = []
@@ -63,14 +88,19 @@ class Room:
             return run.returncode, "".join(said)
 
     def prove(self, jobs, watch):
-        """Makes the seed: proves the crate as it stands, over what a check of it kept in its folder. Returns whether it is proved, and what was said."""
-        begun = pathlib.Path(self.crate.folder, "out/incremental")
-        if begun.is_dir():
-            linked(begun, self.seed)
+        """Makes the seed: proves the crate as it stands, over what a check of it kept. Returns whether it is proved, and what was said."""
+        begun = next((it for it in self.begun if it.is_dir()), None)
+        if begun:
+            linked(begun, self.seed, is_written)
         else:
             self.seed.mkdir()
         status, said = self.check({}, jobs, watch=watch, over_seed=True)
         return status == 0, said
+
+
+def is_written(file):
+    """Whether a check writes into such a file of what it keeps: it replaces those of proofs."""
+    return not file.endswith(".oantt")
 
 
 def is_left(crate):
@@ -79,9 +109,3 @@ def is_left(crate):
         return False
     made = os.stat(crate.rlib).st_mtime
     return all(os.stat(file).st_mtime <= made for file in rtlib.files_of(crate.folder))
-
-
-def libraries_are_ready(some):
-    """Proves the libraries below these crates, where neither `rt ci` nor an earlier check has left them, and returns whether all are there."""
-    lacking = {dep.name: dep for crate in some for dep in crate.below() if not is_left(dep) and not dep.is_built()}
-    return all(subprocess.run(["rt", "lib"], cwd=dep.folder, stdout=sys.stderr).returncode == 0 for dep in lacking.values())

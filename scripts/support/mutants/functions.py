@@ -40,12 +40,19 @@ class Function:
                 continue
             if not self.type:
                 found += [path] * (owner == self.module)
-            elif last == self.type or self.trait and last.startswith(self.type) and self.trait in last:
-                found.append((module == self.module, path) if self.type else path)
+            elif self.is_owner(last):
+                found.append((module == self.module, path))
         if self.type:
             own = [path for is_own, path in found if is_own]
             return own or [path for _, path in found]
         return found
+
+
+    def is_owner(self, name):
+        """Whether the check means the function's type by this name, or its `impl` of a trait: as `Any`, where the type is a parameter of one letter."""
+        type = "Any" if re.fullmatch(r"[A-Z]", self.type) else self.type[:1].upper() + self.type[1:]
+        rest = name.removeprefix(type)
+        return name == type or bool(self.trait) and rest != name and rest[:1].isupper() and self.trait in rest
 
 
 def owner_of(line):
@@ -75,6 +82,8 @@ def functions_of(file, text):
         body = body_of(lines, number, ends, indent)
         if body is None:
             continue
+        if lines[body - 1].strip() == "{}":
+            ends = body
         begins, cycle = number, ""
         while begins > 1 and re.match(rf"{indent}(#\[|//)", lines[begins - 2]):
             begins -= 1

@@ -12,7 +12,9 @@ from checks import KIT, rtlib
 PLACE = pathlib.Path(os.environ.get("XDG_CACHE_HOME") or pathlib.Path.home() / ".cache") / "serde_qs_mutants"
 DAYS = 30
 # To be raised where a verdict comes to mean something else.
-FORM = 1
+FORM = 3
+# What a later run needn't find again. That an edit is bad can lie in this run.
+LEARNED = (Verdict.REJECTED, Verdict.SURVIVES)
 
 
 def sum_of(crate):
@@ -31,24 +33,28 @@ class Kept:
 
     def __init__(self, crate, anew):
         self.file = PLACE / f"{crate.name}-{sum_of(crate)}.json"
-        self.known = {}
+        self.known = {} if anew else self.read()
+
+    def read(self):
         try:
-            self.known = {} if anew else json.loads(self.file.read_text(encoding="utf-8"))
+            found = json.loads(self.file.read_text(encoding="utf-8"))
             os.utime(self.file)
+            return found
         except (OSError, ValueError):
-            pass
+            return {}
 
     def get(self, mutant):
         found = self.known.get(mutant.sum)
         return (Verdict(found[0]), found[1]) if found else None
 
     def put(self, results):
-        """Keeps these verdicts of mutants. Where the disk refuses, the next run tries them again."""
-        self.known.update({mutant.sum: (verdict.value, why) for mutant, (verdict, why) in results if verdict is not Verdict.UNDECIDED})
+        """Keeps what was learned of these mutants. Where the disk refuses, the next run tries them again."""
+        self.known.update({mutant.sum: (verdict.value, why) for mutant, (verdict, why) in results if verdict in LEARNED})
         try:
             PLACE.mkdir(parents=True, exist_ok=True)
             new = self.file.with_suffix(f".{os.getpid()}")
-            new.write_text(json.dumps(self.known), encoding="utf-8")
+            # (another run may have kept some meanwhile)
+            new.write_text(json.dumps({**self.read(), **self.known}), encoding="utf-8")
             new.replace(self.file)
         except OSError:
             pass

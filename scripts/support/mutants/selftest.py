@@ -9,6 +9,7 @@ sys.path.insert(0, str(pathlib.Path(__file__).parent))
 import answers  # noqa: E402
 import batches  # noqa: E402
 import edits  # noqa: E402
+import handed  # noqa: E402
 from answers import Verdict  # noqa: E402
 from functions import functions_of  # noqa: E402
 
@@ -64,8 +65,28 @@ fn small::first: not proved
 fn small::second: proved
 logic=not-proved functions=2
 """
-UNENDING = "src/lib.rt:11:5: it is not proved that the loop ends, by its measure\n" + LOST
-LEFT = "src/lib.rt:11:5: it is not proved that `result ≡ one`\n" + LOST
+UNENDING = "note: src/lib.rt:11:5: it is not proved that the loop ends, by its measure\n" + LOST
+LEFT = "note: src/lib.rt:11:5: it is not proved that `result ≡ one`\n" + LOST
+NOTED = "note: src/lib.rt:11:5: large solution\n" + LOST
+
+# Functions of one name, and the paths by which the check means them.
+NAMED = """\
+impl<C: Compound> Serialize for C {
+    fn write(&self) {
+    }
+}
+
+impl Serialize for BTreeMap<String, u8> {
+    fn write(&self) {
+    }
+}
+
+impl Config {
+    fn write(&self) {
+    }
+}
+"""
+PATHS = ["AnySerialize::write", "other::CharSerialize::write", "BTreeMapStringSerialize::write", "Config::write", "ConfigDisplay::write"]
 
 passed = failed = 0
 
@@ -108,7 +129,35 @@ def try_answers():
     expect("a lost name counts alone", answers.verdict_alone(LOST, 1)[0] is Verdict.BAD)
     expect("a goal that is left is passed over", answers.verdict(LEFT, "small", [first])[0] is Verdict.REJECTED)
     expect("a loop that may not end counts beside another of its cycle", answers.verdict(UNENDING, "small", [first], True)[0] is Verdict.UNDECIDED)
+    expect("a note counts", answers.verdict(NOTED, "small", [first])[0] is Verdict.UNDECIDED)
     expect("a goal of another function counts", answers.verdict(LEFT, "small", [second])[0] is Verdict.SURVIVES)
+
+
+def try_names():
+    """Each function is meant by its own path alone."""
+    found = [function.named(PATHS) for function in functions_of("src/lib.rt", NAMED)]
+    expect(f"functions are taken for others: {found}", found == [["AnySerialize::write"], ["BTreeMapStringSerialize::write"], ["Config::write"]])
+
+
+def try_handed(root):
+    """What a process has checked of the crate is taken, and of its tests or of another repository nothing."""
+    with tempfile.TemporaryDirectory() as room:
+        tempfile.tempdir = room
+        taken = handed.Handed(root, pathlib.Path(room, "room"))
+        asleep = [sys.executable, "-c", "import time; time.sleep(60)", "--crate-name", "small"]
+        runs = [(root / "crates/small", []), (root / "crates/small", ["--test"]), (room, [])]
+        running = [subprocess.Popen([*asleep, *more], cwd=folder) for folder, more in runs]
+        for number, run in enumerate(running):
+            folder = pathlib.Path(room, f"rattle-logic-built-locked-{run.pid}-0")
+            folder.mkdir()
+            (folder / f"{number}.oantt").write_text("")
+        taken.look()
+        found = sorted(file.name for file in taken.of("small").glob("*/*"))
+        for run in running:
+            run.kill()
+            run.wait()
+        tempfile.tempdir = None
+    expect(f"what was checked is not handed on: {found}", found == ["0.oantt"])
 
 
 def try_prover(root):
@@ -127,6 +176,8 @@ def main():
         crate = make(pathlib.Path(room))
         try_plan(crate)
         try_answers()
+        try_names()
+        try_handed(pathlib.Path(room))
         try_prover(room)
     print(f"mutants_selftest: {passed} passed, {failed} failed")
     return failed > 0

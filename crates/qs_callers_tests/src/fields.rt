@@ -1,32 +1,49 @@
 //! Fields of users' types: a list in one text, a checked value.
 
+use crate::claims::{
+    are_rejected, gives_text, holds, is_equal, is_rejected, is_written_and_read, is_written_as_read,
+};
 use crate::round_trips::comes_back;
-use crate::values::{is_custom, list, text};
+use crate::values::{list, text};
 use qs_callers::{Age, Chart, Columns, Page, Paging, Pair, Place, Price, Profile, Sort, Span};
-use serde_qs::{Config, ConfigExt, Delimited, Result, from_str, to_string};
+use serde_qs::{Config, ConfigExt, Delimited, from_str};
+use std::alloc::Global;
+use std::process::Abort;
 
 #[test]
 fn a_list_in_one_text(rt: HostRuntime) {
     let alloc = rt.alloc();
     let rows = [("title=Rain&values=1,2,3", 3), ("title=Rain&values=", 0)];
     for (input, count) in rows {
-        let chart: Chart = from_str(alloc, input).expect(&rt, "a chart");
+        let chart: Chart = is_written_as_read(&rt, alloc, input);
         assert!(rt; chart.values.items.len() == count, "{input}");
-        let written = to_string(alloc, &chart).expect(&rt, "a text");
-        assert!(rt; written.as_str() == input, "{written}");
     }
-    let chart = Chart {
-        title: text(&rt, alloc, "Rain"),
-        values: Delimited::new(list(&rt, alloc, [7, 8])),
-    };
-    comes_back(&rt, alloc, &chart);
+    let rows = [
+        ("title=Rain&values=1,x", "invalid item `x`"),
+        (
+            "title=Rain&values[a]=1",
+            "invalid type: map, expected a string",
+        ),
+    ];
+    are_rejected::<_, Chart>(&rt, alloc, &rows);
+}
+
+// Returns a chart of two values.
+fn chart<R: Abort>(rt: &R, alloc: Global) -> Chart {
+    Chart {
+        title: text(rt, alloc, "Rain"),
+        values: Delimited::new(list(rt, alloc, [7, 8])),
+    }
+}
+
+#[test]
+fn a_list_in_one_text_comes_back(rt: HostRuntime) {
+    let alloc = rt.alloc();
+    let chart = chart(&rt, alloc);
     let config = Config::new().use_form_encoding(true);
-    let written = config.serialize_string(alloc, &chart).expect(&rt, "a text");
-    assert!(rt; written.as_str() == "title=Rain&values=7%2C8", "{written}");
-    let result: Result<Chart> = from_str(alloc, "title=Rain&values=1,x");
-    assert!(rt; is_custom(&result, "invalid item `x`"));
-    let result: Result<Chart> = from_str(alloc, "title=Rain&values[a]=1");
-    assert!(rt; is_custom(&result, "invalid type: map, expected a string"));
+    let written = config.serialize_string(alloc, &chart);
+    gives_text(&rt, written, "title=Rain&values=7%2C8");
+    comes_back(&rt, alloc, chart);
 }
 
 #[test]
@@ -36,41 +53,32 @@ fn other_delimiters(rt: HostRuntime) {
         left: Delimited::new(list(&rt, alloc, [-1i8, 2])),
         right: Delimited::new(list(&rt, alloc, [3u64, 4])),
     };
-    let written = to_string(alloc, &columns).expect(&rt, "a text");
-    assert!(rt; written.as_str() == "a=-1|2&b=3+4", "{written}");
-    comes_back(&rt, alloc, &columns);
+    is_written_and_read(&rt, alloc, columns, "a=-1|2&b=3+4");
 }
+
+const AGES: &[(&str, &str)] = &[
+    ("a=150&b=7", "invalid type: data, expected an age below 150"),
+    ("a=256&b=7", "invalid type: string, expected u8"),
+    ("b=7", "missing field `a`"),
+];
 
 #[test]
 fn an_age_below_150(rt: HostRuntime) {
     let alloc = rt.alloc();
     let pair: Pair<Age, Price> = from_str(alloc, "a=149&b=7").expect(&rt, "a pair");
-    assert!(rt; pair.a.years() == 149);
-    comes_back(&rt, alloc, &pair);
-    let rows = [
-        ("a=150&b=7", "invalid type: data, expected an age below 150"),
-        ("a=256&b=7", "invalid type: string, expected u8"),
-        ("b=7", "missing field `a`"),
-    ];
-    for (input, wanted) in rows {
-        let result: Result<Pair<Age, Price>> = from_str(alloc, input);
-        assert!(rt; is_custom(&result, wanted), "{input}");
-    }
+    is_equal(&rt, pair.a.years(), 149);
+    comes_back(&rt, alloc, pair);
+    are_rejected::<_, Pair<Age, Price>>(&rt, alloc, AGES);
 }
 
 #[test]
 fn values_without_names(rt: HostRuntime) {
-    let alloc = rt.alloc();
     let pair = Pair {
         a: Place::At(-1, 2),
         b: Span(3, 9),
     };
-    let written = to_string(alloc, &pair).expect(&rt, "a text");
-    assert!(rt;
-        written.as_str() == "a[At][0]=-1&a[At][1]=2&b[0]=3&b[1]=9",
-        "{written}"
-    );
-    comes_back(&rt, alloc, &pair);
+    let wanted = "a[At][0]=-1&a[At][1]=2&b[0]=3&b[1]=9";
+    is_written_and_read(&rt, rt.alloc(), pair, wanted);
 }
 
 #[test]
@@ -87,25 +95,24 @@ fn fields_with_a_default(rt: HostRuntime) {
             paging.page == Page(page) && paging.is_short == is_short,
             "{input}"
         );
-        let written = to_string(alloc, &paging).expect(&rt, "a text");
-        assert!(rt; written.as_str() == wanted, "{written}");
-        comes_back(&rt, alloc, &paging);
+        is_written_and_read(&rt, alloc, paging, wanted);
     }
-    let result: Result<Paging> = from_str(alloc, "text=a&page=");
-    assert!(rt; is_custom(&result, "invalid type: string, expected u32"));
+    let wanted = "invalid type: string, expected u32";
+    is_rejected::<_, Paging>(&rt, alloc, "text=a&page=", wanted);
 }
+
+const PROFILE: &str =
+    "name=Alice&age=24&city=Ely&zip=7&langs[0]=en&langs[1]=fr&sort[By]=price&size&dark=true&news=false&visits=3";
 
 #[test]
 fn ten_fields(rt: HostRuntime) {
     let alloc = rt.alloc();
-    let input =
-        "name=Alice&age=24&city=Ely&zip=7&langs[0]=en&langs[1]=fr&sort[By]=price&size&dark=true&news=false&visits=3";
-    let profile: Profile = from_str(alloc, input).expect(&rt, "a profile");
-    assert!(rt; profile.langs.len() == 2 && profile.visits == 3);
-    assert!(rt; profile.sort == Sort::By(text(&rt, alloc, "price")) && profile.size.is_none());
-    let written = to_string(alloc, &profile).expect(&rt, "a text");
-    assert!(rt; written.as_str() == input, "{written}");
-    comes_back(&rt, alloc, &profile);
-    let result: Result<Profile> = from_str(alloc, "name=Alice&age=24&city=Ely&zip=7&langs=");
-    assert!(rt; is_custom(&result, "missing field `sort`"));
+    let profile: Profile = is_written_as_read(&rt, alloc, PROFILE);
+    is_equal(&rt, profile.langs.len(), 2);
+    is_equal(&rt, profile.visits, 3);
+    is_equal(&rt, &profile.sort, &Sort::By(text(&rt, alloc, "price")));
+    holds(&rt, profile.size.is_none(), "no size");
+    comes_back(&rt, alloc, profile);
+    let input = "name=Alice&age=24&city=Ely&zip=7&langs=";
+    is_rejected::<_, Profile>(&rt, alloc, input, "missing field `sort`");
 }

@@ -1,5 +1,6 @@
 //! What a form's page says of the field that is wrong.
 
+use crate::claims::{holds, is_text};
 use qs_callers::{FieldError, Order, Query, explained, submitted};
 use std::alloc::Global;
 use std::process::Abort;
@@ -12,65 +13,74 @@ fn rejected<R: Abort>(rt: &R, alloc: Global, form: &[u8]) -> FieldError {
     }
 }
 
+// Claims that the page names this field of the form, and says this of it.
+fn is_reported<R: Abort>(rt: &R, alloc: Global, form: &[u8], field: &str, message: &str) {
+    let report = rejected(rt, alloc, form);
+    assert!(rt; report.field.as_str() == field, "{report:?}");
+    assert!(rt; report.message.as_str() == message, "{report:?}");
+}
+
+// Claims that the page names this field of the form.
+fn is_field<R: Abort>(rt: &R, alloc: Global, form: &[u8], field: &str) {
+    is_text(rt, rejected(rt, alloc, form).field.as_str(), field);
+}
+
+const WRONG_FIELDS: &[(&[u8], &str, &str)] = &[
+    (
+        b"name=Alice&address[street]=High+Street&address[city]=Ely&items[]=7&items[]=x",
+        "items[1]",
+        "expected u32, found the text \"x\"",
+    ),
+    (
+        b"name=Alice&address[street]=High+Street&items[]=7",
+        "address[city]",
+        "expected a text, found nothing",
+    ),
+    (
+        b"name=Alice&address=Ely&items[]=7",
+        "address",
+        "expected fields, found the text \"Ely\"",
+    ),
+];
+
 #[test]
 fn fields_with_what_is_wrong(rt: HostRuntime) {
     let alloc = rt.alloc();
     let good = b"name=Alice&address[street]=High+Street&address[city]=Ely&items[]=7";
-    assert!(rt;
-        matches!(submitted::<Order>(alloc, good), Ok(Ok(_))),
-        "an order"
-    );
-    let cases: [(&[u8], &str, &str); 3] = [
-        (
-            b"name=Alice&address[street]=High+Street&address[city]=Ely&items[]=7&items[]=x",
-            "items[1]",
-            "expected u32, found the text \"x\"",
-        ),
-        (
-            b"name=Alice&address[street]=High+Street&items[]=7",
-            "address[city]",
-            "expected a text, found nothing",
-        ),
-        (
-            b"name=Alice&address=Ely&items[]=7",
-            "address",
-            "expected fields, found the text \"Ely\"",
-        ),
-    ];
-    for (form, field, message) in cases {
-        let report = rejected(&rt, alloc, form);
-        assert!(rt; report.field.as_str() == field, "{report:?}");
-        assert!(rt; report.message.as_str() == message, "{report:?}");
+    let read = submitted::<Order>(alloc, good);
+    holds(&rt, matches!(read, Ok(Ok(_))), "an order");
+    for &(form, field, message) in WRONG_FIELDS {
+        is_reported(&rt, alloc, form, field, message);
     }
 }
 
 #[test]
 fn keys_and_brackets(rt: HostRuntime) {
     let alloc = rt.alloc();
-    let conflict = rejected(&rt, alloc, b"name=Alice&name[first]=Bob");
-    assert!(rt; conflict.field.as_str() == "name[first]", "{conflict:?}");
-    let open = rejected(&rt, alloc, b"name=Alice&items[=1&address[city=Ely");
-    assert!(rt; open.field.as_str() == "items[", "{open:?}");
-    let hinted = rejected(&rt, alloc, b"name=Alice&address%5bcity%5d=Ely");
-    assert!(rt; hinted.field.as_str() == "address", "{hinted:?}");
-    assert!(rt;
-        hinted.message.as_str()
-            == "expected fields, found nothing; the escaped bracket before position 21 is part of the key: form mode reads `%5B` and `%5D` in upper case",
-        "{hinted:?}"
+    is_field(&rt, alloc, b"name=Alice&name[first]=Bob", "name[first]");
+    is_field(
+        &rt,
+        alloc,
+        b"name=Alice&items[=1&address[city=Ely",
+        "items[",
     );
+    let form = b"name=Alice&address%5bcity%5d=Ely";
+    let message =
+        "expected fields, found nothing; the escaped bracket before position 21 is part of the key: form mode reads `%5B` and `%5D` in upper case";
+    is_reported(&rt, alloc, form, "address", message);
 }
 
 #[test]
 fn one_line_for_the_user(rt: HostRuntime) {
     let alloc = rt.alloc();
     let read = explained::<Query>(alloc, "age=24&name=Alice&occupation=Student");
-    assert!(rt; matches!(read, Ok(Ok(_))), "a query");
-    let Ok(Err(line)) = explained::<Query>(alloc, "age=300&name=Alice&occupation=Student") else {
-        assert!(rt; false, "no line");
-        return;
-    };
-    assert!(rt;
-        line.as_str() == "age: expected u8, found the text \"300\"",
-        "{line}"
-    );
+    holds(&rt, matches!(read, Ok(Ok(_))), "a query");
+    match explained::<Query>(alloc, "age=300&name=Alice&occupation=Student") {
+        Ok(Err(line)) => is_text(
+            &rt,
+            line.as_str(),
+            "age: expected u8, found the text \"300\"",
+        ),
+        _ => holds(&rt, false, "no line"),
+    }
 }

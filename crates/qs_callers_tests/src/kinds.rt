@@ -5,13 +5,14 @@ ghost use Rattle.qs_callers_tests.specs.declared.kinds.TheConstants.{MESSAGE_NAM
 ghost use Rattle.serde_qs.specs.declared.compound.variants.OneOf.TheVariants.{First, Later};
 ghost use Rattle.serde_qs.specs.PartTables.{made_of};
 
-use crate::round_trips::comes_back;
+use crate::claims::is_written_and_read;
+use crate::round_trips::pair_comes_back;
 use crate::values::{list, text};
 use qs_callers::Pair;
 use serde_qs::OneOf::{First, Later};
 use serde_qs::{
     Compound, Data, Enum, Last, Newtype, OneOf, Out, Parts, Result, Shape, Source, Struct, Tuple,
-    fields, to_string,
+    fields,
 };
 use std::alloc::Global;
 
@@ -119,15 +120,6 @@ impl Compound for Person {
 #[test]
 fn every_kind_of_variant(rt: HostRuntime) {
     let alloc = rt.alloc();
-    let newtype = Message::Newtype(text(&rt, alloc, "hello"));
-    comes_back(
-        &rt,
-        alloc,
-        &Pair {
-            a: Message::Unit,
-            b: newtype,
-        },
-    );
     let named = Message::Struct {
         x: text(&rt, alloc, "3.14"),
         y: text(&rt, alloc, "test"),
@@ -136,15 +128,18 @@ fn every_kind_of_variant(rt: HostRuntime) {
         a: Message::Tuple(42, true),
         b: named,
     };
-    let written = to_string(alloc, &pair).expect(&rt, "a text");
-    assert!(rt;
-        written.as_str() == "a[Tuple][0]=42&a[Tuple][1]=true&b[Struct][x]=3.14&b[Struct][y]=test",
-        "{written}"
-    );
-    comes_back(&rt, alloc, &pair);
+    let wanted = "a[Tuple][0]=42&a[Tuple][1]=true&b[Struct][x]=3.14&b[Struct][y]=test";
+    is_written_and_read(&rt, alloc, pair, wanted);
+}
+
+#[test]
+fn variants_of_few_parts(rt: HostRuntime) {
+    let alloc = rt.alloc();
+    let newtype = Message::Newtype(text(&rt, alloc, "hello"));
+    pair_comes_back(&rt, alloc, Message::Unit, newtype);
     let within = Message::Newtype(text(&rt, alloc, "in vec"));
     let messages = list(&rt, alloc, [Message::Unit, within]);
-    comes_back(&rt, alloc, &Pair { a: messages, b: () });
+    pair_comes_back(&rt, alloc, messages, ());
 }
 
 #[test]
@@ -155,16 +150,10 @@ fn names_of_other_programs(rt: HostRuntime) {
         two: text(&rt, alloc, "LOUD"),
         nested: Some(text(&rt, alloc, "NESTED")),
     };
-    let written = to_string(alloc, &loud).expect(&rt, "a text");
-    assert!(rt;
-        written.as_str() == "FIELD_ONE=42&FIELD_TWO=LOUD&NESTED_FIELD=NESTED",
-        "{written}"
-    );
-    comes_back(&rt, alloc, &loud);
+    let wanted = "FIELD_ONE=42&FIELD_TWO=LOUD&NESTED_FIELD=NESTED";
+    is_written_and_read(&rt, alloc, loud, wanted);
     let person = Person {
         name: text(&rt, alloc, "John Doe"),
     };
-    let written = to_string(alloc, &person).expect(&rt, "a text");
-    assert!(rt; written.as_str() == "full+name=John+Doe", "{written}");
-    comes_back(&rt, alloc, &person);
+    is_written_and_read(&rt, alloc, person, "full+name=John+Doe");
 }

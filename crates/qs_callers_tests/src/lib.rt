@@ -4,6 +4,8 @@
 #[cfg(test)]
 mod by_hand;
 #[cfg(test)]
+mod claims;
+#[cfg(test)]
 mod fields;
 #[cfg(test)]
 mod first_errors;

@@ -1,40 +1,48 @@
 //! Nodes of a tree, each read by itself.
 
-use crate::values::{is_custom, list, text};
+use crate::claims::{fails, gives, holds, is_equal, is_not_utf8, is_text};
+use crate::values::{list, text, tree};
 use qs_callers::Query;
 use qs_data::{
     Data, Entries, Error, Field, FieldNames, Found, Reader, Result, Shape, UnknownKeys, find_value,
     read_value,
 };
-use qs_tree::{Config, ParsedValue, parse};
+use qs_tree::{Config, ParsedValue};
 use serde_qs::Deserialize;
 use std::alloc::Global;
 use std::collections::BTreeMap;
+use std::process::Abort;
 
-const INPUT: &[u8] = b"age=24&ids[]=7&ids[]=8&name=Alice&occupation=Student";
+const INPUT: &str = "age=24&ids[]=7&ids[]=8&name=Alice&occupation=Student";
 
 #[test]
 fn by_a_type(rt: HostRuntime) {
     let alloc = rt.alloc();
-    let tree = parse(alloc, INPUT, Config::new()).expect(&rt, "a tree");
+    let tree = tree(&rt, alloc, INPUT);
     let reader = Reader::new(alloc, Config::new());
     let query = Query::from_node(reader, &tree).expect(&rt, "a query");
-    assert_eq!(rt; query.name.as_str(), "Alice");
-    assert_eq!(rt; query.age, 24);
-    let missing: Result<u8> = u8::from_missing(reader, "age");
-    assert!(rt; is_custom(&missing, "missing field `age`"));
-    let none: Option<u8> = Option::from_missing(reader, "age").expect(&rt, "None");
-    assert!(rt; none.is_none());
+    is_text(&rt, query.name.as_str(), "Alice");
+    is_equal(&rt, query.age, 24);
+}
+
+#[test]
+fn without_a_node(rt: HostRuntime) {
+    let reader = Reader::new(rt.alloc(), Config::new());
+    let wanted = "missing field `age`";
+    fails(&rt, u8::from_missing(reader, "age"), wanted);
+    let none: Result<Option<u8>> = Option::from_missing(reader, "age");
+    gives(&rt, none, None);
 }
 
 #[test]
 fn by_its_parts(rt: HostRuntime) {
     let alloc = rt.alloc();
-    let tree = parse(alloc, INPUT, Config::new()).expect(&rt, "a tree");
+    let tree = tree(&rt, alloc, INPUT);
     let reader = Reader::new(alloc, Config::new());
-    let second = second_id(reader, &tree).expect(&rt, "a number");
-    assert!(rt; second == Some(Data::Unsigned(8)));
-    assert!(rt; Shape::Option(Box::new(alloc, Shape::U8).expect(&rt, "memory")).is_option());
+    let wanted = Some(Data::Unsigned(8));
+    gives(&rt, second_id(reader, &tree), wanted);
+    let part = Box::new(alloc, Shape::U8).expect(&rt, "memory");
+    holds(&rt, Shape::Option(part).is_option(), "an option");
 }
 
 // Returns the second of `ids`.
@@ -59,37 +67,59 @@ fn second_id(reader: Reader, tree: &ParsedValue<'_>) -> Result<Option<Data>> {
 #[test]
 fn by_its_entries(rt: HostRuntime) {
     let alloc = rt.alloc();
-    let tree = parse(alloc, b"b=2&a=1", Config::new()).expect(&rt, "a tree");
+    let tree = tree(&rt, alloc, "b=2&a=1");
     let reader = Reader::new(alloc, Config::new());
     let entries = reader.entries(&tree).expect(&rt, "a map");
-    assert_eq!(rt; entries.len(), 2);
+    is_equal(&rt, entries.len(), 2);
     let first = entries.get(reader, 0).expect(&rt, "a string");
     let (key, node) = first.expect(&rt, "an entry");
-    assert_eq!(rt; key.as_str(), "a");
-    assert!(rt; matches!(u8::from_node(reader, node), Ok(1)));
-    assert!(rt; matches!(entries.get(reader, 2), Ok(None)));
+    is_text(&rt, key.as_str(), "a");
+    gives(&rt, u8::from_node(reader, node), 1);
+    let third = entries.get(reader, 2);
+    holds(&rt, matches!(third, Ok(None)), "no third entry");
+}
+
+#[test]
+fn by_a_type_of_maps(rt: HostRuntime) {
+    let alloc = rt.alloc();
+    let tree = tree(&rt, alloc, "b=2&a=1");
+    let reader = Reader::new(alloc, Config::new());
     let map: BTreeMap<String, u8> = BTreeMap::from_node(reader, &tree).expect(&rt, "a map");
-    assert_eq!(rt; map.len(), 2);
+    is_equal(&rt, map.len(), 2);
     let list = ParsedValue::Sequence(Vec::new(alloc));
-    assert!(rt;
-        is_custom(
-            &reader.entries(&list),
-            "invalid type: sequence, expected a map"
-        )
-    );
+    let wanted = "invalid type: sequence, expected a map";
+    fails(&rt, reader.entries(&list), wanted);
 }
 
 #[test]
 fn by_a_name(rt: HostRuntime) {
     let alloc = rt.alloc();
-    let tree = parse(alloc, b"b=2&1=3&%31=4", Config::new()).expect(&rt, "a tree");
-    assert!(rt; matches!(number_of(alloc, &tree, "b"), Ok(Some(Data::Unsigned(2)))));
-    assert!(rt; matches!(number_of(alloc, &tree, "c"), Ok(None)));
+    let tree = tree(&rt, alloc, "b=2&1=3&%31=4");
+    let two = Some(Data::Unsigned(2));
+    gives(&rt, number_of(alloc, &tree, "b"), two);
+    gives(&rt, number_of(alloc, &tree, "c"), None);
     // the integer and the string key have one text
-    assert!(rt; matches!(number_of(alloc, &tree, "1"), Ok(None)));
-    let tree = parse(alloc, b"%FF=1", Config::new()).expect(&rt, "a tree");
+    gives(&rt, number_of(alloc, &tree, "1"), None);
+}
+
+#[test]
+fn keys_that_are_no_text(rt: HostRuntime) {
+    let alloc = rt.alloc();
+    let tree = tree(&rt, alloc, "%FF=1");
     let entries = Reader::new(alloc, Config::new()).entries(&tree);
-    assert!(rt; !entries.expect(&rt, "a map").keys_are_text());
+    let are_text = entries.expect(&rt, "a map").keys_are_text();
+    holds(&rt, !are_text, "a key is no text");
+    is_not_utf8(&rt, tested(alloc, &tree), "%FF=1");
+}
+
+// Returns the error of a map with a key that isn't UTF-8.
+fn tested(alloc: Global, tree: &ParsedValue<'_>) -> Result<()> {
+    let ParsedValue::Map(map) = tree else {
+        return Ok(());
+    };
+    Entries::Map(map)
+        .test()
+        .map_err(|key| key.into_error(alloc))
 }
 
 // Returns the number under a name, if there is one value alone.
@@ -106,94 +136,85 @@ fn number_of(alloc: Global, tree: &ParsedValue<'_>, name: &str) -> Result<Option
 #[test]
 fn unknown_keys(rt: HostRuntime) {
     let alloc = rt.alloc();
-    let tree = parse(alloc, b"b=2&a=1", Config::new()).expect(&rt, "a tree");
-    let reader = Reader::new(alloc, Config::new());
-    let entries = reader.entries(&tree).expect(&rt, "a map");
     let a = Field {
         name: text(&rt, alloc, "a"),
         shape: Shape::U8,
         optional: false,
     };
     let fields = list(&rt, alloc, [a]);
-    assert!(rt; fields.has(b"a") && !fields.has(b"b"));
-    assert!(rt;
-        UnknownKeys::Ignored
-            .reject(reader, &fields, entries)
-            .is_ok()
-    );
+    holds(&rt, fields.has(b"a"), "`a` is known");
+    holds(&rt, !fields.has(b"b"), "`b` is unknown");
+    let tree = tree(&rt, alloc, "b=2&a=1");
+    let reader = Reader::new(alloc, Config::new());
+    let entries = reader.entries(&tree).expect(&rt, "a map");
+    let ignored = UnknownKeys::Ignored.reject(reader, &fields, entries);
+    gives(&rt, ignored, ());
     let rejected = UnknownKeys::Rejected.reject(reader, &fields, entries);
-    assert!(rt; is_custom(&rejected, "unknown field `b`"));
+    fails(&rt, rejected, "unknown field `b`");
 }
 
 #[test]
 fn what_a_variant_holds(rt: HostRuntime) {
     let alloc = rt.alloc();
     let reader = Reader::new(alloc, Config::new());
-    let tree = parse(alloc, b"0=7&1=8", Config::new()).expect(&rt, "a tree");
+    let tree = tree(&rt, alloc, "0=7&1=8");
     let items = reader.tuple(2, &tree).expect(&rt, "items");
-    assert_eq!(rt; items.len(), 2);
+    is_equal(&rt, items.len(), 2);
     let items = reader.tuple_variant(Some(&tree)).expect(&rt, "items");
-    assert_eq!(rt; items.len(), 2);
-    assert!(rt; matches!(reader.newtype_variant(Some(&tree)), Ok(ParsedValue::Map(_))));
-    assert!(rt; matches!(reader.struct_variant(Some(&tree)), Ok(ParsedValue::Map(_))));
-    let rows = [
-        (
-            reader.newtype_variant(None),
-            "invalid type: unit variant, expected newtype variant",
-        ),
-        (
-            reader.struct_variant(None),
-            "invalid type: unit variant, expected struct variant",
-        ),
-    ];
-    for (result, wanted) in rows {
-        assert!(rt; is_custom(&result, wanted), "{wanted}");
-    }
-    assert!(rt;
-        is_custom(
-            &reader.tuple_variant(None),
-            "invalid type: unit variant, expected tuple variant"
-        )
-    );
+    is_equal(&rt, items.len(), 2);
+}
+
+// Claims that the node is a map.
+fn is_map<R: Abort>(rt: &R, node: Result<&ParsedValue<'_>>) {
+    holds(rt, matches!(node, Ok(ParsedValue::Map(_))), "a map");
+}
+
+#[test]
+fn a_map_that_a_variant_holds(rt: HostRuntime) {
+    let alloc = rt.alloc();
+    let reader = Reader::new(alloc, Config::new());
+    let tree = tree(&rt, alloc, "0=7&1=8");
+    is_map(&rt, reader.newtype_variant(Some(&tree)));
+    is_map(&rt, reader.struct_variant(Some(&tree)));
+}
+
+#[test]
+fn a_variant_without_a_node(rt: HostRuntime) {
+    let reader = Reader::new(rt.alloc(), Config::new());
+    let wanted = "invalid type: unit variant, expected newtype variant";
+    fails(&rt, reader.newtype_variant(None), wanted);
+    let wanted = "invalid type: unit variant, expected struct variant";
+    fails(&rt, reader.struct_variant(None), wanted);
+    let wanted = "invalid type: unit variant, expected tuple variant";
+    fails(&rt, reader.tuple_variant(None), wanted);
+}
+
+// Claims that the error is a `Custom` with this message.
+fn says<R: Abort>(rt: &R, error: Error, wanted: &str) {
+    fails::<R, ()>(rt, Err(error), wanted);
 }
 
 #[test]
 fn errors(rt: HostRuntime) {
-    let alloc = rt.alloc();
-    let reader = Reader::new(alloc, Config::new());
-    let rows = [
-        (reader.missing_field("age"), "missing field `age`"),
-        (reader.duplicate_field("age"), "duplicate field `age`"),
-        (reader.missing_item(1), "invalid length 1"),
-        (
-            reader.nothing(),
-            "internal error: attempted to deserialize unitialised value",
-        ),
-        (
-            reader.not_a_struct(&ParsedValue::NoValue),
-            "invalid type: unit value, expected a struct",
-        ),
-        (
-            reader.not_an_enum(&ParsedValue::NoValue),
-            "invalid type: unit value, expected an enum",
-        ),
-        (reader.unknown_variant(b"Fast"), "unknown variant `Fast`"),
-    ];
-    for (error, wanted) in rows {
-        let result: Result<()> = Err(error);
-        assert!(rt; is_custom(&result, wanted), "{wanted}");
-    }
-    let tree = parse(alloc, b"%FF=1", Config::new()).expect(&rt, "a tree");
-    assert!(rt; is_not_utf8(alloc, &tree));
+    let reader = Reader::new(rt.alloc(), Config::new());
+    let nothing = "internal error: attempted to deserialize unitialised value";
+    says(&rt, reader.nothing(), nothing);
+    says(&rt, reader.missing_item(1), "invalid length 1");
+    let missing = reader.missing_field("age");
+    says(&rt, missing, "missing field `age`");
+    let duplicate = reader.duplicate_field("age");
+    says(&rt, duplicate, "duplicate field `age`");
 }
 
-// Returns whether a map with a key that isn't UTF-8 gives the error that says so.
-fn is_not_utf8(alloc: Global, tree: &ParsedValue<'_>) -> bool {
-    let ParsedValue::Map(map) = tree else {
-        return false;
-    };
-    match Entries::Map(map).test() {
-        Ok(()) => false,
-        Err(key) => matches!(key.into_error(alloc), Error::Utf8(_)),
-    }
+#[test]
+fn errors_of_a_type(rt: HostRuntime) {
+    let reader = Reader::new(rt.alloc(), Config::new());
+    let error = reader.not_a_struct(&ParsedValue::NoValue);
+    let wanted = "invalid type: unit value, expected a struct";
+    says(&rt, error, wanted);
+    let error = reader.not_an_enum(&ParsedValue::NoValue);
+    let wanted = "invalid type: unit value, expected an enum";
+    says(&rt, error, wanted);
+    let error = reader.unknown_variant(b"Fast");
+    says(&rt, error, "unknown variant `Fast`");
 }

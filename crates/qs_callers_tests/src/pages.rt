@@ -1,7 +1,8 @@
 //! A search page, a posted form, links, a client with its server, and the leaves of a tree.
 
+use crate::claims::{gives, gives_text, holds, is_equal, is_text};
 use crate::round_trips::comes_back;
-use crate::values::text;
+use crate::values::{list, text};
 use qs_callers::{
     Address, Filter, Link, Order, Products, Query, exchanged, leaf_paths, next_page, ordered,
     served, target,
@@ -21,10 +22,22 @@ fn a_search_page(rt: HostRuntime) {
         ("filter&shops=", "filter=&shops=&page=2"),
     ];
     for (input, wanted) in rows {
-        let next = next_page(alloc, input).expect(&rt, input);
-        assert!(rt; next.as_str() == wanted, "{next}");
+        gives_text(&rt, next_page(alloc, input), wanted);
         let products: Products = from_str(alloc, wanted).expect(&rt, wanted);
-        comes_back(&rt, alloc, &products);
+        comes_back(&rt, alloc, products);
+    }
+}
+
+// Returns the order of the form.
+fn order<R: Abort>(rt: &R, alloc: Global) -> Order {
+    let address = Address {
+        street: text(rt, alloc, "No. 11"),
+        city: text(rt, alloc, "Carrot City"),
+    };
+    Order {
+        name: text(rt, alloc, "Acme"),
+        address,
+        items: list(rt, alloc, [7, 9]),
     }
 }
 
@@ -33,17 +46,9 @@ fn a_posted_form(rt: HostRuntime) {
     let alloc = rt.alloc();
     let body =
         b"items%5B%5D=7&address%5Bcity%5D=Carrot+City&name=Acme&items%5B%5D=9&address%5Bstreet%5D=No.+11";
-    let order = Order {
-        name: text(&rt, alloc, "Acme"),
-        address: Address {
-            street: text(&rt, alloc, "No. 11"),
-            city: text(&rt, alloc, "Carrot City"),
-        },
-        items: crate::values::list(&rt, alloc, [7, 9]),
-    };
     let posted = ordered(alloc, body).expect(&rt, "an order").into_inner();
-    assert!(rt; posted == order);
-    comes_back(&rt, alloc, &order);
+    is_equal(&rt, posted, order(&rt, alloc));
+    comes_back(&rt, alloc, order(&rt, alloc));
 }
 
 // Returns a link with two parameters, each under its name, in this order or the other.
@@ -61,30 +66,27 @@ fn link(alloc: Global, is_page_first: bool) -> Result<String> {
     }
 }
 
+// Claims that this link is written, and that the server reads both parameters.
+fn is_link<R: Abort>(rt: &R, alloc: Global, is_page_first: bool, wanted: &str) {
+    gives_text(rt, link(alloc, is_page_first), wanted);
+    let filter: Filter = served(alloc, wanted).expect(rt, wanted);
+    is_text(rt, filter.text.as_str(), "red & blue");
+    is_equal(rt, filter.page, Some(2));
+}
+
 #[test]
 fn a_link(rt: HostRuntime) {
     let alloc = rt.alloc();
-    let rows = [
-        (true, "/found?page=2&text=red+%26+blue"),
-        (false, "/found?text=red+%26+blue&page=2"),
-    ];
-    for (is_page_first, wanted) in rows {
-        let link = link(alloc, is_page_first).expect(&rt, wanted);
-        assert!(rt; link.as_str() == wanted, "{link}");
-        let filter: Filter = served(alloc, &link).expect(&rt, wanted);
-        assert!(rt; filter.text.as_str() == "red & blue");
-        assert!(rt; filter.page == Some(2));
-    }
+    is_link(&rt, alloc, true, "/found?page=2&text=red+%26+blue");
+    is_link(&rt, alloc, false, "/found?text=red+%26+blue&page=2");
 }
 
-// Asserts that the server reads what the client wrote, and the value is written as before.
-fn is_served<R: Abort>(rt: &R, alloc: Global, query: &Query, wanted: &str) {
-    let sent = target(alloc, "/users", query).expect(rt, wanted);
-    assert!(rt; sent.as_str() == wanted, "{sent}");
-    let read: Query = served(alloc, &sent).expect(rt, wanted);
-    assert!(rt; read == *query);
-    let read = exchanged(alloc, query).expect(rt, wanted);
-    assert!(rt; read == *query);
+// Claims that the server reads what the client wrote, and the value is written as before.
+fn is_served<R: Abort>(rt: &R, alloc: Global, query: Query, wanted: &str) {
+    gives_text(rt, target(alloc, "/users", &query), wanted);
+    let again = exchanged(alloc, &query).expect(rt, wanted);
+    is_equal(rt, &again, &query);
+    gives(rt, served(alloc, wanted), query);
 }
 
 #[test]
@@ -96,9 +98,9 @@ fn a_client_and_its_server(rt: HostRuntime) {
         occupation: text(&rt, alloc, "a=b&c"),
     };
     let wanted = "/users?name=Alice+%5BB.%5D&age=24&occupation=a%3Db%26c";
-    is_served(&rt, alloc, &query, wanted);
     let written = to_string(alloc, &query).expect(&rt, wanted);
-    assert!(rt; wanted.ends_with(written.as_str()));
+    holds(&rt, wanted.ends_with(written.as_str()), written.as_str());
+    is_served(&rt, alloc, query, wanted);
 }
 
 #[test]
@@ -112,8 +114,7 @@ fn leaves_of_a_tree(rt: HostRuntime) {
         ("a[]=&1=x", "[1]\n[\"a\"][0]\n"),
     ];
     for (input, wanted) in rows {
-        let found = leaf_paths(alloc, input).expect(&rt, input);
-        assert!(rt; found.as_str() == wanted, "{found}");
+        gives_text(&rt, leaf_paths(alloc, input), wanted);
     }
-    assert!(rt; leaf_paths(alloc, "a[b").is_err());
+    holds(&rt, leaf_paths(alloc, "a[b").is_err(), "an error");
 }

@@ -1,5 +1,6 @@
 //! Text that is written part by part.
 
+use crate::claims::{holds, is_equal};
 use serde_qs::{Config, Data, Error, Scalar, Serialize, Stop, WriteResult, Writer};
 
 // Writes a part by each call of a writer.
@@ -23,26 +24,30 @@ fn parts(writer: &mut Writer) -> WriteResult {
 #[test]
 fn each_part(rt: HostRuntime) {
     let mut writer = Writer::new(rt.alloc(), Config::new()).expect(&rt, "memory");
-    let result = parts(&mut writer);
-    assert!(rt; result.is_ok());
+    holds(&rt, parts(&mut writer).is_ok(), "parts");
     let whole = writer.take();
-    assert!(rt; writer.into_text().is_empty());
+    holds(&rt, writer.into_text().is_empty(), "nothing is left");
     let wanted = "a+b[0]=%C3%A9&a+b[-1]&a+b=&a+b=7&true=true";
-    assert!(rt; whole.into_text().as_slice() == wanted.as_bytes());
+    is_equal(&rt, whole.into_text().as_slice(), wanted.as_bytes());
 }
 
 #[test]
 fn each_stop(rt: HostRuntime) {
     let config = Config::new().max_depth(0);
     let mut writer = Writer::new(rt.alloc(), config).expect(&rt, "memory");
-    assert!(rt; matches!(parts(&mut writer), Err(Stop::TooDeep)));
-    assert!(rt; writer.into_text().is_empty());
-    assert!(rt;
-        matches!(
-            Stop::TooDeep.into_error(config),
-            Error::MaxSerializationDepthExceeded(0)
-        )
-    );
-    assert!(rt; matches!(Stop::BadKey.into_error(config), Error::Unsupported));
-    assert!(rt; matches!(Stop::OutOfMemory.into_error(config), Error::OutOfMemory));
+    let result = parts(&mut writer);
+    holds(&rt, matches!(result, Err(Stop::TooDeep)), "too deep");
+    holds(&rt, writer.into_text().is_empty(), "nothing is written");
+}
+
+#[test]
+fn the_error_of_each_stop(rt: HostRuntime) {
+    let config = Config::new().max_depth(0);
+    let error = Stop::TooDeep.into_error(config);
+    let is_too_deep = matches!(error, Error::MaxSerializationDepthExceeded(0));
+    holds(&rt, is_too_deep, "too deep");
+    let error = Stop::BadKey.into_error(config);
+    holds(&rt, matches!(error, Error::Unsupported), "a bad key");
+    let error = Stop::OutOfMemory.into_error(config);
+    holds(&rt, matches!(error, Error::OutOfMemory), "memory");
 }

@@ -3,10 +3,11 @@
 ghost use Rattle.serde_qs.specs.PartTables.{made_of};
 ghost use Rattle.std.specs.Prelude.{[]};
 
-use crate::round_trips::comes_back;
+use crate::claims::is_written_and_read;
+use crate::round_trips::pair_comes_back;
 use crate::values::{list, text};
 use qs_callers::Pair;
-use serde_qs::{Compound, Data, Out, Parts, Result, RoundTrip, Shape, Source, Tuple, to_string};
+use serde_qs::{Compound, Data, Out, Parts, Result, RoundTrip, Shape, Source, Tuple};
 use std::alloc::Global;
 
 /// Two values.
@@ -58,46 +59,29 @@ impl<A: RoundTrip + Drop, B: RoundTrip + Drop, C: RoundTrip + Drop> Compound for
 #[test]
 fn tuples_of_scalars(rt: HostRuntime) {
     let alloc = rt.alloc();
-    let numbers = Three(1u8, 2u8, 3u8);
-    let texts = Two(text(&rt, alloc, "first"), text(&rt, alloc, "second"));
     let pair = Pair {
-        a: numbers,
-        b: texts,
+        a: Three(1u8, 2u8, 3u8),
+        b: Two(text(&rt, alloc, "first"), text(&rt, alloc, "second")),
     };
-    let written = to_string(alloc, &pair).expect(&rt, "a text");
-    assert!(rt;
-        written.as_str() == "a[0]=1&a[1]=2&a[2]=3&b[0]=first&b[1]=second",
-        "{written}"
-    );
-    comes_back(&rt, alloc, &pair);
+    let wanted = "a[0]=1&a[1]=2&a[2]=3&b[0]=first&b[1]=second";
+    is_written_and_read(&rt, alloc, pair, wanted);
+}
+
+#[test]
+fn tuples_of_many_types(rt: HostRuntime) {
+    let alloc = rt.alloc();
     let answer = Two(42u32, text(&rt, alloc, "answer"));
     let float = Three(true, text(&rt, alloc, "3.14"), 255u8);
-    comes_back(
-        &rt,
-        alloc,
-        &Pair {
-            a: answer,
-            b: float,
-        },
-    );
+    pair_comes_back(&rt, alloc, answer, float);
     let named = Three(100u32, text(&rt, alloc, "tuple struct"), false);
-    comes_back(&rt, alloc, &Pair { a: named, b: () });
+    pair_comes_back(&rt, alloc, named, ());
 }
 
 #[test]
 fn tuples_and_lists(rt: HostRuntime) {
     let alloc = rt.alloc();
-    let nested = Two(
-        Two(text(&rt, alloc, "nested"), -100i32),
-        list(&rt, alloc, [1u8, 2, 3]),
-    );
+    let within = Two(text(&rt, alloc, "nested"), -100i32);
+    let nested = Two(within, list(&rt, alloc, [1u8, 2, 3]));
     let pairs = list(&rt, alloc, [Two(1u8, 2u8), Two(3, 4), Two(5, 6)]);
-    comes_back(
-        &rt,
-        alloc,
-        &Pair {
-            a: nested,
-            b: pairs,
-        },
-    );
+    pair_comes_back(&rt, alloc, nested, pairs);
 }

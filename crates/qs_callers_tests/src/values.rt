@@ -1,9 +1,24 @@
-//! Values in memory of their own, and a look at an error.
+//! Values in memory of their own, and those that many tests read.
 
-use serde_qs::{Error, Result};
+use qs_callers::Query;
+use qs_tree::{Config, ParsedValue, parse};
+use serde_qs::from_str;
 use std::alloc::Global;
 use std::collections::BTreeMap;
 use std::process::Abort;
+
+/// The text of a query.
+pub const ALICE: &str = "name=Alice&age=24&occupation=Student";
+
+/// Returns the query of this text.
+pub fn alice<R: Abort>(rt: &R, alloc: Global) -> Query {
+    from_str(alloc, ALICE).expect(rt, "a query")
+}
+
+/// Returns the tree of an input.
+pub fn tree<'qs, R: Abort>(rt: &R, alloc: Global, input: &'qs str) -> ParsedValue<'qs> {
+    parse(alloc, input.as_bytes(), Config::new()).expect(rt, "a tree")
+}
 
 /// Returns the string, in memory of its own.
 pub fn text<R: Abort>(rt: &R, alloc: Global, text: &str) -> String {
@@ -31,12 +46,4 @@ pub fn with<R: Abort, T: Drop>(
 /// Returns the map with one entry.
 pub fn one<R: Abort, T: Drop>(rt: &R, alloc: Global, key: &str, value: T) -> BTreeMap<String, T> {
     with(rt, alloc, BTreeMap::new(alloc), key, value)
-}
-
-/// Returns the message of a `Custom`.
-pub fn is_custom<T>(outcome: &Result<T>, wanted: &str) -> bool {
-    match outcome {
-        Err(Error::Custom(message)) => message.as_str() == wanted,
-        _ => false,
-    }
 }

@@ -1,46 +1,54 @@
 //! Typed calls that write.
 
-use crate::values::{list, one, text};
-use qs_callers::{Account, Filter, Pair, Price, Query, Search, Sort, rewritten};
-use serde_qs::{Config, ConfigExt, Error, from_str, to_string, to_writer};
+use crate::claims::{gives_text, holds, is_written};
+use crate::values::{ALICE, alice, list, one, text};
+use qs_callers::{Account, Filter, Pair, Price, Search, Sort, rewritten};
+use serde_qs::{Config, ConfigExt, Error, Result, to_string, to_writer};
+use std::alloc::Global;
 use std::process::Abort;
 
-const TEXT: &str = "name=Alice&age=24&occupation=Student";
+// Claims that the query is written as the text, into a string and by a writer.
+fn is_written_by<R: Abort>(rt: &R, alloc: Global, config: Config) {
+    let query = alice(rt, alloc);
+    gives_text(rt, config.serialize_string(alloc, &query), ALICE);
+    let mut out = Vec::new(alloc);
+    let result = config.serialize_to_writer(alloc, &query, &mut out);
+    is_put(rt, result, out, ALICE);
+}
+
+// Claims that all was put, and is this text.
+fn is_put<R: Abort>(rt: &R, outcome: Result<()>, out: Vec<u8>, wanted: &str) {
+    outcome.expect(rt, wanted);
+    gives_text(rt, String::from_utf8(out).map_err(Error::FromUtf8), wanted);
+}
+
+// Claims that the depth limit stopped the writer.
+fn is_too_deep<R: Abort, T: Drop>(rt: &R, outcome: Result<T>) {
+    let is_so = matches!(outcome, Err(Error::MaxSerializationDepthExceeded(0)));
+    holds(rt, is_so, "too deep");
+}
 
 #[test]
 fn each_call_writes(rt: HostRuntime) {
     let alloc = rt.alloc();
-    let query: Query = from_str(alloc, TEXT).expect(&rt, "a query");
-    let written = to_string(alloc, &query).expect(&rt, "a text");
-    assert!(rt; written.as_str() == TEXT);
-    let written = Config::new()
-        .serialize_string(alloc, &query)
-        .expect(&rt, "a text");
-    assert!(rt; written.as_str() == TEXT);
+    let query = alice(&rt, alloc);
+    gives_text(&rt, to_string(alloc, &query), ALICE);
     let mut out = Vec::new(alloc);
-    to_writer(alloc, &query, &mut out).expect(&rt, "a text");
-    assert!(rt; out.as_slice() == TEXT.as_bytes());
-    let mut out = Vec::new(alloc);
-    Config::new()
-        .serialize_to_writer(alloc, &query, &mut out)
-        .expect(&rt, "a text");
-    assert!(rt; out.as_slice() == TEXT.as_bytes());
-    let written = rewritten(alloc, "occupation=Student&age=24&name=Alice").expect(&rt, "a text");
-    assert!(rt; written.as_str() == TEXT);
+    let result = to_writer(alloc, &query, &mut out);
+    is_put(&rt, result, out, ALICE);
+    let written = rewritten(alloc, "occupation=Student&age=24&name=Alice");
+    gives_text(&rt, written, ALICE);
+}
+
+#[test]
+fn each_call_of_a_configuration_writes(rt: HostRuntime) {
+    is_written_by(&rt, rt.alloc(), Config::new());
 }
 
 #[test]
 fn in_form_mode(rt: HostRuntime) {
-    let alloc = rt.alloc();
-    let query: Query = from_str(alloc, TEXT).expect(&rt, "a query");
     let config = Config::new().use_form_encoding(true);
-    let written = config.serialize_string(alloc, &query).expect(&rt, "a text");
-    assert!(rt; written.as_str() == TEXT);
-    let mut out = Vec::new(alloc);
-    config
-        .serialize_to_writer(alloc, &query, &mut out)
-        .expect(&rt, "a text");
-    assert!(rt; out.as_slice() == TEXT.as_bytes());
+    is_written_by(&rt, rt.alloc(), config);
 }
 
 #[test]
@@ -51,8 +59,8 @@ fn other_names(rt: HostRuntime) {
         last_name: text(&rt, alloc, "Doe"),
         id: 12345,
     };
-    let written = to_string(alloc, &account).expect(&rt, "a text");
-    assert!(rt; written.as_str() == "firstName=John&lastName=Doe&user-id=12345");
+    let wanted = "firstName=John&lastName=Doe&user-id=12345";
+    is_written(&rt, alloc, &account, wanted);
 }
 
 #[test]
@@ -64,10 +72,8 @@ fn nested_values(rt: HostRuntime) {
         ranges: list(&rt, alloc, [list(&rt, alloc, [-1, 2])]),
         labels: one(&rt, alloc, "lang", text(&rt, alloc, "en")),
     };
-    let written = to_string(alloc, &search).expect(&rt, "a text");
-    assert!(rt;
-        written.as_str() == "text=a+b&page=2&ranges[0][0]=-1&ranges[0][1]=2&labels[lang]=en"
-    );
+    let wanted = "text=a+b&page=2&ranges[0][0]=-1&ranges[0][1]=2&labels[lang]=en";
+    is_written(&rt, alloc, &search, wanted);
 }
 
 #[test]
@@ -77,14 +83,13 @@ fn variants(rt: HostRuntime) {
         a: Sort::Between { from: 2, to: 9 },
         b: Price(250),
     };
-    let written = to_string(alloc, &pair).expect(&rt, "a text");
-    assert!(rt; written.as_str() == "a[Between][from]=2&a[Between][to]=9&b=250");
+    let wanted = "a[Between][from]=2&a[Between][to]=9&b=250";
+    is_written(&rt, alloc, &pair, wanted);
     let pair = Pair {
         a: Sort::Relevance,
         b: Sort::By(text(&rt, alloc, "price")),
     };
-    let written = to_string(alloc, &pair).expect(&rt, "a text");
-    assert!(rt; written.as_str() == "a=Relevance&b[By]=price");
+    is_written(&rt, alloc, &pair, "a=Relevance&b[By]=price");
 }
 
 #[test]
@@ -95,8 +100,7 @@ fn absent_fields_are_left_out(rt: HostRuntime) {
         page: None,
         size: Some(10),
     };
-    let written = to_string(alloc, &filter).expect(&rt, "a text");
-    assert!(rt; written.as_str() == "text=qs&size=10");
+    is_written(&rt, alloc, &filter, "text=qs&size=10");
 }
 
 #[test]
@@ -107,10 +111,9 @@ fn too_deep(rt: HostRuntime) {
         b: list(&rt, alloc, [2u8]),
     };
     let config = Config::new().max_depth(0);
-    let result = config.serialize_string(alloc, &pair);
-    assert!(rt; matches!(result, Err(Error::MaxSerializationDepthExceeded(0))));
+    is_too_deep(&rt, config.serialize_string(alloc, &pair));
     let mut out = Vec::new(alloc);
     let result = config.serialize_to_writer(alloc, &pair, &mut out);
-    assert!(rt; matches!(result, Err(Error::MaxSerializationDepthExceeded(0))));
-    assert!(rt; out.as_slice() == b"a=1".as_slice());
+    is_too_deep(&rt, result);
+    holds(&rt, out.as_slice() == b"a=1".as_slice(), "what is written");
 }

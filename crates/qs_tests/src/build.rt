@@ -1,5 +1,6 @@
 //! Small shapes and data.
 
+use crate::claims::made;
 use serde_qs::{Data, Field, KeyShape, Shape, Variant, VariantKind};
 use std::alloc::Global;
 use std::process::Abort;
@@ -19,17 +20,17 @@ impl<'r, R: Abort> Build<'r, R> {
 
     // Returns the data in a box.
     fn boxed<T: Drop>(&self, value: T) -> Box<T> {
-        Box::new(self.alloc, value).expect(self.rt, "memory")
+        made(self.rt, Box::new(self.alloc, value))
     }
 
     // Returns the items as a vector.
     fn vec<T: Drop, const N: usize>(&self, values: [T; N]) -> Vec<T> {
-        Vec::from_array(self.alloc, values).expect(self.rt, "memory")
+        made(self.rt, Vec::from_array(self.alloc, values))
     }
 
     // Returns the text as a string.
     fn name(&self, name: &str) -> String {
-        String::from_str(self.alloc, name).expect(self.rt, "memory")
+        made(self.rt, String::from_str(self.alloc, name))
     }
 
     /// Returns a member of a struct.

@@ -1,6 +1,7 @@
 //! Data of 200,000 levels are discarded, and data of 2,000 are compared.
 
 use crate::build::Build;
+use crate::claims::holds;
 use serde_qs::Data;
 use std::process::Abort;
 
@@ -55,9 +56,9 @@ fn deep_list<R: Abort>(b: &Build<'_, R>, levels: usize, bottom: Data) -> Data {
 
 // Asserts that the first two are the same, and the third is another.
 fn compared<R: Abort>(rt: &R, datum: Data, same: Data, other: Data) {
-    assert!(rt; datum == same);
-    assert!(rt; datum != other);
-    assert!(rt; other != same);
+    holds(rt, datum == same, "the same data");
+    holds(rt, datum != other, "other data");
+    holds(rt, other != same, "other data");
     datum.discard();
     same.discard();
     other.discard();

@@ -1,133 +1,112 @@
 //! What errors print, and what makers make.
 
+use crate::claims::{fails, holds, is_text, made};
 use qs_data::ReadError;
 use qs_tree::Error;
 use std::alloc::Global;
 use std::process::Abort;
-use std::test::Fail;
 use std::{io, str};
 
-#[test]
-fn prints_texts(rt: HostRuntime) -> Result<(), Fail> {
-    let alloc = rt.alloc();
-    let rows = [
-        (
-            Error::Custom(String::from_str(alloc, "missing field `a`")?),
-            "missing field `a`",
-        ),
-        (
-            Error::MaxSerializationDepthExceeded(5),
-            "Maximum serialization depth `5` exceeded",
-        ),
-        (
-            Error::Parse(String::from_str(alloc, "no key")?, 12),
-            "parsing failed with error: 'no key' at position: 12",
-        ),
-        (Error::Unsupported, "unsupported type for serialization"),
-        (Error::OutOfMemory, "out of memory"),
-        (Error::Failed, "serializer has failed"),
-    ];
-    for (error, expected) in &rows {
-        let text = error.to_string(alloc)?;
-        assert_eq!(rt; text.as_str(), *expected);
-    }
-    Ok(())
+// Returns this text in memory of its own.
+fn owned<R: Abort>(rt: &R, alloc: Global, text: &str) -> String {
+    made(rt, String::from_str(alloc, text))
 }
 
-// Asserts that the error prints this text, which isn't empty.
-fn prints<R: Abort>(rt: &R, alloc: Global, error: &Error, wanted: &str) -> Result<(), Fail> {
-    assert!(rt; !wanted.is_empty());
-    assert_eq!(rt; error.to_string(alloc)?.as_str(), wanted);
-    Ok(())
+// Claims that the error prints this text, which isn't empty.
+fn prints<R: Abort>(rt: &R, alloc: Global, error: Error, wanted: &str) {
+    holds(rt, !wanted.is_empty(), "a text is wanted");
+    let text = made(rt, error.to_string(alloc));
+    is_text(rt, &text, wanted, "an error");
 }
 
 #[test]
-fn reading_has_three_errors(rt: HostRuntime) -> Result<(), Fail> {
+fn prints_texts(rt: HostRuntime) {
     let alloc = rt.alloc();
     let missing = "missing field `a`";
-    let custom = ReadError::from(Error::Custom(String::from_str(alloc, missing)?));
-    prints(&rt, alloc, &Error::from(custom), missing)?;
-    let Err(cause) = str::from_utf8(b"\xFF") else {
-        return Err(Fail::from("a text"));
-    };
-    let text = cause.to_string(alloc)?;
-    prints(
-        &rt,
-        alloc,
-        &Error::from(ReadError::from(Error::Utf8(cause))),
-        &text,
-    )?;
-    let other = ReadError::from(Error::Failed);
-    prints(&rt, alloc, &Error::from(other), "out of memory")
+    let custom = Error::Custom(owned(&rt, alloc, missing));
+    prints(&rt, alloc, custom, missing);
+    let depth = "Maximum serialization depth `5` exceeded";
+    prints(&rt, alloc, Error::MaxSerializationDepthExceeded(5), depth);
+    let parse = Error::Parse(owned(&rt, alloc, "no key"), 12);
+    let text = "parsing failed with error: 'no key' at position: 12";
+    prints(&rt, alloc, parse, text);
+    prints_constant_texts(&rt, alloc);
+}
+
+// Claims that the errors that hold nothing print their texts.
+fn prints_constant_texts<R: Abort>(rt: &R, alloc: Global) {
+    let text = "unsupported type for serialization";
+    prints(rt, alloc, Error::Unsupported, text);
+    prints(rt, alloc, Error::OutOfMemory, "out of memory");
+    prints(rt, alloc, Error::Failed, "serializer has failed");
+}
+
+// Returns the error of bytes that are no text, and what it prints.
+fn no_text<R: Abort>(rt: &R, alloc: Global) -> (str::Utf8Error, String) {
+    let cause = fails(rt, str::from_utf8(b"\xFF"));
+    let text = made(rt, cause.to_string(alloc));
+    (cause, text)
+}
+
+// Claims that the error of reading becomes one that prints this text.
+fn prints_of_reading<R: Abort>(rt: &R, alloc: Global, error: Error, wanted: &str) {
+    prints(rt, alloc, Error::from(ReadError::from(error)), wanted);
 }
 
 #[test]
-fn prints_that_bytes_are_no_text(rt: HostRuntime) -> Result<(), Fail> {
+fn reading_has_three_errors(rt: HostRuntime) {
     let alloc = rt.alloc();
-    let Err(cause) = str::from_utf8(b"\xFF") else {
-        return Err(Fail::from("a text"));
-    };
-    let text = cause.to_string(alloc)?;
-    prints(&rt, alloc, &Error::from(cause), &text)
+    let missing = "missing field `a`";
+    let custom = Error::Custom(owned(&rt, alloc, missing));
+    prints_of_reading(&rt, alloc, custom, missing);
+    let (cause, text) = no_text(&rt, alloc);
+    prints_of_reading(&rt, alloc, Error::Utf8(cause), &text);
+    prints_of_reading(&rt, alloc, Error::Failed, "out of memory");
 }
 
 #[test]
-fn prints_that_a_vector_is_no_text(rt: HostRuntime) -> Result<(), Fail> {
+fn prints_that_bytes_are_no_text(rt: HostRuntime) {
+    let (cause, text) = no_text(&rt, rt.alloc());
+    prints(&rt, rt.alloc(), Error::from(cause), &text);
+}
+
+#[test]
+fn prints_that_a_vector_is_no_text(rt: HostRuntime) {
     let alloc = rt.alloc();
-    let Err(cause) = String::from_utf8(Vec::from_slice(alloc, b"\xFF")?) else {
-        return Err(Fail::from("a text"));
-    };
-    let text = cause.to_string(alloc)?;
-    prints(&rt, alloc, &Error::from(cause), &text)
+    let bytes = made(&rt, Vec::from_slice(alloc, b"\xFF"));
+    let cause = fails(&rt, String::from_utf8(bytes));
+    let text = made(&rt, cause.to_string(alloc));
+    prints(&rt, alloc, Error::from(cause), &text);
 }
 
 #[test]
-fn prints_that_a_text_is_no_number(rt: HostRuntime) -> Result<(), Fail> {
+fn prints_that_a_text_is_no_number(rt: HostRuntime) {
     let alloc = rt.alloc();
-    let Err(cause) = "x".parse::<u8>() else {
-        return Err(Fail::from("a number"));
-    };
-    let text = cause.to_string(alloc)?;
-    prints(&rt, alloc, &Error::from(cause), &text)
+    let cause = fails(&rt, "x".parse::<u8>());
+    let text = made(&rt, cause.to_string(alloc));
+    prints(&rt, alloc, Error::from(cause), &text);
 }
 
 #[test]
-fn prints_why_a_write_failed(rt: HostRuntime) -> Result<(), Fail> {
+fn prints_why_a_write_failed(rt: HostRuntime) {
     let alloc = rt.alloc();
     let cause = io::Error::from(io::ErrorKind::WriteZero);
-    let text = cause.to_string(alloc)?;
-    prints(&rt, alloc, &Error::from(cause), &text)
+    let text = made(&rt, cause.to_string(alloc));
+    prints(&rt, alloc, Error::from(cause), &text);
 }
 
 #[test]
-fn makes_errors(rt: HostRuntime) -> Result<(), Fail> {
+fn makes_errors(rt: HostRuntime) {
     let alloc = rt.alloc();
-    let rows = [
-        (
-            Error::top_level(alloc, "primitive"),
-            "cannot deserialize primitive at the top level.Try deserializing into a struct.",
-        ),
-        (
-            Error::custom(
-                alloc,
-                format_args!("missing index, expected: {} got {}", 1, 2),
-                &(),
-            ),
-            "missing index, expected: 1 got 2",
-        ),
-        (Error::custom(alloc, "m", &1u8), "m"),
-        (
-            Error::parse_err(alloc, "m", 3),
-            "parsing failed with error: 'm' at position: 3",
-        ),
-        (
-            Error::parse_err(alloc, "query string ended before expected", 3),
-            "parsing failed with error: 'query string ended before expected' at position: 3",
-        ),
-    ];
-    for (error, expected) in &rows {
-        let text = error.to_string(alloc)?;
-        assert_eq!(rt; text.as_str(), *expected);
-    }
-    Ok(())
+    let text = "cannot deserialize primitive at the top level.Try deserializing into a struct.";
+    prints(&rt, alloc, Error::top_level(alloc, "primitive"), text);
+    let message = format_args!("missing index, expected: {} got {}", 1, 2);
+    let text = "missing index, expected: 1 got 2";
+    prints(&rt, alloc, Error::custom(alloc, message, &()), text);
+    prints(&rt, alloc, Error::custom(alloc, "m", &1u8), "m");
+    let text = "parsing failed with error: 'm' at position: 3";
+    prints(&rt, alloc, Error::parse_err(alloc, "m", 3), text);
+    let text = "parsing failed with error: 'query string ended before expected' at position: 3";
+    let error = Error::parse_err(alloc, "query string ended before expected", 3);
+    prints(&rt, alloc, error, text);
 }

@@ -1,6 +1,7 @@
 //! Explanations, as they are printed.
 
 use crate::build::Build;
+use crate::claims::{holds, is_equal, is_text, made, present};
 use crate::{notation, tables};
 use qs_explain::{Explanation, Hint, explain, find_hint, find_pair};
 use qs_tree::{Config, Error};
@@ -82,23 +83,22 @@ StrictStruct:age U8
     age=3&%0D%7F%C3%A9=1 | unexpected key \"\\u{d}\\u{7f}é\"
 ";
 
-// Asserts that an input is explained by this line under the default configuration: by the empty one where it is read.
+// Claims that an input is explained by this line under the default configuration: by the empty one where it is read.
 fn says<R: Abort>(b: &Build<'_, R>, shape: &Shape, input: &str, line: &str) {
-    let explained = explain(b.alloc, Config::new(), shape, input.as_bytes()).expect(b.rt, "memory");
-    let text = match explained {
-        Some(explanation) => explanation.to_string(b.alloc).expect(b.rt, "a text"),
+    let explained = explain(b.alloc, Config::new(), shape, input.as_bytes());
+    let text = match made(b.rt, explained) {
+        Some(explanation) => made(b.rt, explanation.to_string(b.alloc)),
         None => String::new(b.alloc),
     };
-    assert!(b.rt; text.as_str() == line, "{input}: {text}");
+    is_text(b.rt, &text, line, input);
 }
 
 #[test]
 fn each_case(rt: HostRuntime) {
     let b = Build::new(&rt, rt.alloc());
-    let cases = tables::cases(&b, EXPLAINED);
-    assert_eq!(rt; cases.len(), 41);
+    let cases = tables::cases(&b, EXPLAINED, 41);
     for (shape, case) in &cases {
-        let (input, line) = case.split_once('|').expect(&rt, case);
+        let (input, line) = present(&rt, case.split_once('|'), case);
         says(&b, &notation::shape(&b, shape), input.trim(), line.trim());
     }
 }
@@ -114,119 +114,106 @@ fn a_control_character_in_an_error(rt: HostRuntime) {
 #[test]
 fn inputs_without_a_tree(rt: HostRuntime) {
     let input = b"name=Alice&name[x]=1";
-    let explained = explain(rt.alloc(), Config::new(), &Shape::Ignored, input).expect(
-        &rt, "memory",
-    );
-    assert!(rt;
-        matches!(&explained, Some(Explanation::Syntax(_))),
-        "a conflict"
-    );
+    let explained = explain(rt.alloc(), Config::new(), &Shape::Ignored, input);
+    let explained = made(&rt, explained);
+    let conflict = matches!(&explained, Some(Explanation::Syntax(_)));
+    holds(&rt, conflict, "a conflict");
 }
 
 #[test]
 fn escaped_brackets(rt: HostRuntime) {
     let query = Config::new();
     let form = Config::new().use_form_encoding(true);
-    assert!(rt;
-        find_hint(query, b"user%5Bage%5D=7") == Some(Hint::Escaped(7)),
-        "upper case"
-    );
-    assert!(rt;
-        find_hint(query, b"a=%5B&b%5d=1") == Some(Hint::Escaped(10)),
-        "lower case"
-    );
-    assert!(rt;
-        find_hint(query, b"q=%5Bx%5D&user[age]=7") == None,
-        "in a value"
-    );
-    assert!(rt;
-        find_hint(form, b"user%5bage%5d=7") == Some(Hint::LowerCase(7)),
-        "lower case"
-    );
-    assert!(rt;
-        find_hint(form, b"user%5Bage%5D=7") == None,
-        "read as brackets"
-    );
+    hints(&rt, query, b"user%5Bage%5D=7", Some(Hint::Escaped(7)));
+    hints(&rt, query, b"a=%5B&b%5d=1", Some(Hint::Escaped(10)));
+    // in a value
+    hints(&rt, query, b"q=%5Bx%5D&user[age]=7", None);
+    hints(&rt, form, b"user%5bage%5d=7", Some(Hint::LowerCase(7)));
+    // read as brackets
+    hints(&rt, form, b"user%5Bage%5D=7", None);
+}
+
+// Claims that the input has this hint.
+fn hints<R: Abort>(rt: &R, config: Config, input: &[u8], wanted: Option<Hint>) {
+    is_equal(rt, find_hint(config, input), wanted, input);
 }
 
 #[test]
 fn hints_as_text(rt: HostRuntime) {
-    let alloc = rt.alloc();
-    let text = Hint::LowerCase(7).to_string(alloc).expect(&rt, "a text");
-    assert!(rt;
-        text.as_str()
-            == "the escaped bracket before position 7 is part of the key: form mode reads `%5B` and `%5D` in upper case",
-        "{text}"
-    );
+    let text = made(&rt, Hint::LowerCase(7).to_string(rt.alloc()));
+    let wanted =
+        "the escaped bracket before position 7 is part of the key: form mode reads `%5B` and `%5D` in upper case";
+    is_text(&rt, &text, wanted, "a hint");
 }
 
-// Returns where the pair of the error of an input without a tree stands: its start, the end of its key, and its end.
-fn wrong_pair<R: Abort>(
-    rt: &R,
-    alloc: Global,
-    config: Config,
-    input: &[u8],
-) -> (usize, usize, usize) {
-    let explained = explain(alloc, config, &Shape::Ignored, input).expect(rt, "memory");
-    let Some(Explanation::Syntax(Error::Parse(_, position))) = &explained else {
-        rt.abort();
-    };
-    let pair = find_pair(config, input, *position);
-    (pair.start, pair.key_end, pair.end)
+/// The place of a pair: its start, the end of its key, and its end.
+type Place = (usize, usize, usize);
+
+// Claims that the pair at this position has this place.
+fn has_place<R: Abort>(rt: &R, config: Config, input: &[u8], position: usize, wanted: Place) {
+    let pair = find_pair(config, input, position);
+    let place = (pair.start, pair.key_end, pair.end);
+    is_equal(rt, place, wanted, input);
 }
 
-#[test]
-fn pairs_of_errors(rt: HostRuntime) {
-    let alloc = rt.alloc();
-    let cases: [(&[u8], (usize, usize, usize), &str); 6] = [
-        (b"a=1&a[b]=2&c=3", (4, 8, 10), "a[b]=2"),
-        (b"a[b]c=1&d=2", (0, 5, 7), "a[b]c=1"),
-        // an `&` in brackets is a byte of the key
-        (b"a=1&b[c&d=2", (4, 11, 11), "b[c&d=2"),
-        (b"a=[&b[c]=1&d[e&f", (11, 16, 16), "d[e&f"),
-        // after brackets, and at the root after the value that closes a pair
-        (b"a[b]&a[]=1", (5, 8, 10), "a[]=1"),
-        (b"=1&a=2&b", (3, 4, 6), "a=2"),
-    ];
-    for (input, wanted, pair) in cases {
-        let found = wrong_pair(&rt, alloc, Config::new(), input);
-        assert!(rt; found == wanted, "{pair}: {found:?}");
+// Claims that the input has no tree, and that the pair with the error has this place.
+fn is_wrong<R: Abort>(rt: &R, alloc: Global, config: Config, input: &[u8], wanted: Place) {
+    let explained = explain(alloc, config, &Shape::Ignored, input);
+    match &made(rt, explained) {
+        Some(Explanation::Syntax(Error::Parse(_, position))) => {
+            has_place(rt, config, input, *position, wanted);
+        }
+        other => panic!(rt; "no error of syntax: {other:?}"),
     }
 }
 
-// A `=` in brackets is a byte of the key.
+/// Inputs, each with the place of its first wrong pair. The comment after a row shows that pair.
+const WRONG_PAIRS: [(&[u8], Place); 6] = [
+    (b"a=1&a[b]=2&c=3", (4, 8, 10)), // a[b]=2
+    (b"a[b]c=1&d=2", (0, 5, 7)), // a[b]c=1
+    // an `&` in brackets is a byte of the key
+    (b"a=1&b[c&d=2", (4, 11, 11)), // b[c&d=2
+    (b"a=[&b[c]=1&d[e&f", (11, 16, 16)), // d[e&f
+    // after brackets, and at the root after the value that closes a pair
+    (b"a[b]&a[]=1", (5, 8, 10)), // a[]=1
+    (b"=1&a=2&b", (3, 4, 6)), // a=2
+];
+
+#[test]
+fn pairs_of_errors(rt: HostRuntime) {
+    for (input, wanted) in &WRONG_PAIRS {
+        is_wrong(&rt, rt.alloc(), Config::new(), input, *wanted);
+    }
+}
+
+/// Whether form mode is used, an input, and the place of the first wrong pair, whose key stands at the end of the line. A `=` in
+/// brackets is a byte of the key.
+const WRONG_KEYS: [(bool, &[u8], Place); 14] = [
+    (false, b"a[b=c]=1&a[b=c][x]=2", (9, 18, 20)), // a[b=c][x]
+    (false, b"a[b]=[=]&a[b][c]==1", (9, 16, 19)), // a[b][c]
+    (false, b"a[=]x=1&b", (0, 5, 7)), // a[=]x
+    // brackets that aren't closed
+    (false, b"a=1&b[c=2", (4, 9, 9)), // b[c=2
+    (false, b"a[=1&c", (0, 6, 6)), // a[=1&c
+    (false, b"a[b=][=c=1", (0, 10, 10)), // a[b=][=c=1
+    // pushed
+    (false, b"a=1&a[]=2", (4, 7, 9)), // a[]
+    (false, b"a=1&a[]=", (4, 7, 8)), // a[]
+    // form mode
+    (true, b"a%5Bb=c%5D=1&a%5Bb=c%5D%5Bx%5D=2", (13, 30, 32)), // a%5Bb=c%5D%5Bx%5D
+    (true, b"a%5B=1&c", (0, 8, 8)), // a%5B=1&c
+    (true, b"a%5Bb=%5d=1&c", (0, 13, 13)), // a%5Bb=%5d=1&c
+    (true, b"a=1&a%5B%5D=", (4, 11, 12)), // a%5B%5D
+    // an escaped bracket, which query mode doesn't read as one
+    (true, b"c=1&c[%5D=x", (4, 9, 11)), // c[%5D
+    (false, b"c=1&c[%5D=x", (4, 11, 11)), // c[%5D=x
+];
+
 #[test]
 fn keys_of_pairs_with_errors(rt: HostRuntime) {
-    let alloc = rt.alloc();
-    let cases: [(bool, &[u8], (usize, usize, usize), &str); 14] = [
-        (false, b"a[b=c]=1&a[b=c][x]=2", (9, 18, 20), "a[b=c][x]"),
-        (false, b"a[b]=[=]&a[b][c]==1", (9, 16, 19), "a[b][c]"),
-        (false, b"a[=]x=1&b", (0, 5, 7), "a[=]x"),
-        // brackets that aren't closed
-        (false, b"a=1&b[c=2", (4, 9, 9), "b[c=2"),
-        (false, b"a[=1&c", (0, 6, 6), "a[=1&c"),
-        (false, b"a[b=][=c=1", (0, 10, 10), "a[b=][=c=1"),
-        // pushed
-        (false, b"a=1&a[]=2", (4, 7, 9), "a[]"),
-        (false, b"a=1&a[]=", (4, 7, 8), "a[]"),
-        // form mode
-        (
-            true,
-            b"a%5Bb=c%5D=1&a%5Bb=c%5D%5Bx%5D=2",
-            (13, 30, 32),
-            "a%5Bb=c%5D%5Bx%5D",
-        ),
-        (true, b"a%5B=1&c", (0, 8, 8), "a%5B=1&c"),
-        (true, b"a%5Bb=%5d=1&c", (0, 13, 13), "a%5Bb=%5d=1&c"),
-        (true, b"a=1&a%5B%5D=", (4, 11, 12), "a%5B%5D"),
-        // an escaped bracket, which query mode doesn't read as one
-        (true, b"c=1&c[%5D=x", (4, 9, 11), "c[%5D"),
-        (false, b"c=1&c[%5D=x", (4, 11, 11), "c[%5D=x"),
-    ];
-    for (form, input, wanted, key) in cases {
-        let config = Config::new().use_form_encoding(form);
-        let found = wrong_pair(&rt, alloc, config, input);
-        assert!(rt; found == wanted, "{key}: {found:?}");
+    for (form, input, wanted) in &WRONG_KEYS {
+        let config = Config::new().use_form_encoding(*form);
+        is_wrong(&rt, rt.alloc(), config, input, *wanted);
     }
 }
 
@@ -234,35 +221,18 @@ fn keys_of_pairs_with_errors(rt: HostRuntime) {
 #[test]
 fn keys_at_the_depth_limit(rt: HostRuntime) {
     let alloc = rt.alloc();
-    let config = Config::new().max_depth(1);
-    let found = wrong_pair(&rt, alloc, config, b"a[b]=1&a[b][=c=2");
-    assert!(rt; found == (7, 14, 16), "{found:?}");
-    let form = config.use_form_encoding(true);
-    let found = wrong_pair(&rt, alloc, form, b"a[b]=1&a%5Bb%5D%5B=c=2");
-    assert!(rt; found == (7, 20, 22), "{found:?}");
+    let query = Config::new().max_depth(1);
+    let form = query.use_form_encoding(true);
+    is_wrong(&rt, alloc, query, b"a[b]=1&a[b][=c=2", (7, 14, 16));
+    is_wrong(&rt, alloc, form, b"a[b]=1&a%5Bb%5D%5B=c=2", (7, 20, 22));
 }
 
 // At the depth limit a key goes on to its end, and its first byte may be an `&`.
 #[test]
 fn pairs_at_the_depth_limit(rt: HostRuntime) {
-    let config = Config::new().max_depth(1);
-    let pair = find_pair(config, b"a[b][&c=1&d[", 13);
-    assert!(rt;
-        (pair.start, pair.key_end, pair.end) == (10, 12, 12),
-        "{pair:?}"
-    );
-    let pair = find_pair(
-        config.use_form_encoding(true),
-        b"a%5Bb%5D%5B&c=1&d%5Be&f",
-        24,
-    );
-    assert!(rt;
-        (pair.start, pair.key_end, pair.end) == (16, 23, 23),
-        "{pair:?}"
-    );
-    let pair = find_pair(config.max_depth(0), b"a[b&=1&c=1", 7);
-    assert!(rt;
-        (pair.start, pair.key_end, pair.end) == (4, 4, 6),
-        "{pair:?}"
-    );
+    let query = Config::new().max_depth(1);
+    let form = query.use_form_encoding(true);
+    has_place(&rt, query, b"a[b][&c=1&d[", 13, (10, 12, 12));
+    has_place(&rt, form, b"a%5Bb%5D%5B&c=1&d%5Be&f", 24, (16, 23, 23));
+    has_place(&rt, query.max_depth(0), b"a[b&=1&c=1", 7, (4, 4, 6));
 }

@@ -12,6 +12,8 @@ mod answers;
 #[cfg(test)]
 mod build;
 #[cfg(test)]
+mod claims;
+#[cfg(test)]
 mod configurations;
 #[cfg(test)]
 mod deep;

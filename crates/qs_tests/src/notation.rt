@@ -5,37 +5,43 @@
 //! the place of `struct` for one that rejects unknown keys.
 
 use crate::build::Build;
+use crate::claims::{made, present};
 use qs_tree::decode;
 use serde_qs::{Data, Field, KeyShape, Shape, Variant, VariantKind};
 use std::process::Abort;
 
 // Returns what a text with escapes is decoded to.
 fn bytes<R: Abort>(b: &Build<'_, R>, text: &str) -> Vec<u8> {
-    let decoded = decode(b.alloc, text.as_bytes()).expect(b.rt, "memory");
-    Vec::from_slice(b.alloc, decoded.as_slice()).expect(b.rt, "memory")
+    let decoded = made(b.rt, decode(b.alloc, text.as_bytes()));
+    made(b.rt, Vec::from_slice(b.alloc, &decoded))
 }
 
 // Returns the text of a word, decoded.
 fn string<R: Abort>(b: &Build<'_, R>, text: &str) -> String {
-    String::from_utf8(bytes(b, text)).expect(b.rt, "UTF-8")
+    made(b.rt, String::from_utf8(bytes(b, text)))
 }
 
 // Removes the last part, and returns it.
 fn part<R: Abort, T: Drop>(b: &Build<'_, R>, parts: &mut Vec<T>) -> T {
-    parts.pop().expect(b.rt, "a part")
+    present(b.rt, parts.pop(), "a part")
 }
 
 // Removes the last part, and returns it in a box.
 fn boxed<R: Abort, T: Drop>(b: &Build<'_, R>, parts: &mut Vec<T>) -> Box<T> {
-    Box::new(b.alloc, part(b, parts)).expect(b.rt, "memory")
+    made(b.rt, Box::new(b.alloc, part(b, parts)))
+}
+
+// Returns the count that the text says.
+fn number_of<R: Abort>(b: &Build<'_, R>, count: &str) -> u32 {
+    made(b.rt, count.parse::<u32>())
 }
 
 // Returns as many parts as the text says, from the last one on.
 fn counted<R: Abort, T: Drop>(b: &Build<'_, R>, count: &str, parts: &mut Vec<T>) -> Vec<T> {
     let mut counted = Vec::new(b.alloc);
-    for _ in 0..count.parse::<u32>().expect(b.rt, "a count") {
+    for _ in 0..number_of(b, count) {
         let part = part(b, parts);
-        counted.push(part).expect(b.rt, "memory");
+        made(b.rt, counted.push(part));
     }
     counted
 }
@@ -49,14 +55,18 @@ fn fields<R: Abort>(
 ) -> Vec<Field> {
     let mut fields = Vec::new(b.alloc);
     for text in word.split(':').skip(first) {
-        let shape = part(b, shapes);
-        let field = match text.strip_suffix('?') {
-            Some(name) => b.optional(string(b, name).as_str(), shape),
-            None => b.required(string(b, text).as_str(), shape),
-        };
-        fields.push(field).expect(b.rt, "memory");
+        let field = field(b, text, part(b, shapes));
+        made(b.rt, fields.push(field));
     }
     fields
+}
+
+// Returns the field of this name and shape, which may be left out if `?` ends the name.
+fn field<R: Abort>(b: &Build<'_, R>, text: &str, shape: Shape) -> Field {
+    match text.strip_suffix('?') {
+        Some(name) => b.optional(&string(b, name), shape),
+        None => b.required(&string(b, text), shape),
+    }
 }
 
 // Returns the shape of a key of that name.
@@ -73,15 +83,18 @@ fn key<R: Abort>(b: &Build<'_, R>, word: &str) -> KeyShape {
         "I64" => KeyShape::I64,
         "Char" => KeyShape::Char,
         "Text" => KeyShape::Text,
-        _ => {
-            let (_, words) = word.split_once(':').expect(b.rt, word);
-            let mut names = Vec::new(b.alloc);
-            for name in words.split(':') {
-                names.push(string(b, name)).expect(b.rt, "memory");
-            }
-            KeyShape::Variants(names)
-        }
+        _ => KeyShape::Variants(variant_names(b, word)),
     }
+}
+
+// Returns the names after the first text of the word.
+fn variant_names<R: Abort>(b: &Build<'_, R>, word: &str) -> Vec<String> {
+    let (_, words) = present(b.rt, word.split_once(':'), word);
+    let mut names = Vec::new(b.alloc);
+    for name in words.split(':') {
+        made(b.rt, names.push(string(b, name)));
+    }
+    names
 }
 
 // Returns the variant of this word, where it is one.
@@ -96,7 +109,7 @@ fn variant<R: Abort>(b: &Build<'_, R>, word: &str, shapes: &mut Vec<Shape>) -> O
         "strict" => VariantKind::StrictStruct(fields(b, word, 2, shapes)),
         _ => return None,
     };
-    Some(b.variant(string(b, name).as_str(), kind))
+    Some(b.variant(&string(b, name), kind))
 }
 
 // Returns the shape of a scalar.
@@ -127,11 +140,11 @@ pub fn shape<R: Abort>(b: &Build<'_, R>, words: &str) -> Shape {
     let mut variants = Vec::new(b.alloc);
     for word in words.rsplit(' ') {
         if let Some(variant) = variant(b, word, &mut shapes) {
-            variants.push(variant).expect(b.rt, "memory");
+            made(b.rt, variants.push(variant));
             continue;
         }
         let next = next_shape(b, word, &mut shapes, &mut variants);
-        shapes.push(next).expect(b.rt, "memory");
+        made(b.rt, shapes.push(next));
     }
     part(b, &mut shapes)
 }
@@ -167,7 +180,7 @@ fn members<R: Abort>(
     let mut members = Vec::new(b.alloc);
     for name in word.split(':').skip(first) {
         let member = (string(b, name), part(b, data));
-        members.push(member).expect(b.rt, "memory");
+        made(b.rt, members.push(member));
     }
     members
 }
@@ -175,9 +188,9 @@ fn members<R: Abort>(
 // Returns as many keys, each with its value, as the text says.
 fn pairs<R: Abort>(b: &Build<'_, R>, count: &str, data: &mut Vec<Data>) -> Vec<(Data, Data)> {
     let mut pairs = Vec::new(b.alloc);
-    for _ in 0..count.parse::<u32>().expect(b.rt, "a count") {
+    for _ in 0..number_of(b, count) {
         let pair = (part(b, data), part(b, data));
-        pairs.push(pair).expect(b.rt, "memory");
+        made(b.rt, pairs.push(pair));
     }
     pairs
 }
@@ -195,12 +208,17 @@ fn holding<R: Abort>(b: &Build<'_, R>, word: &str, data: &mut Vec<Data>) -> Data
     }
 }
 
+// Returns the first character of a text, decoded.
+fn character<R: Abort>(b: &Build<'_, R>, text: &str) -> char {
+    present(b.rt, string(b, text).chars().next(), text)
+}
+
 /// Returns the data that these words are.
 pub fn data<R: Abort>(b: &Build<'_, R>, words: &str) -> Data {
     let mut data = Vec::new(b.alloc);
     for word in words.rsplit(' ') {
         let next = next_data(b, word, &mut data);
-        data.push(next).expect(b.rt, "memory");
+        made(b.rt, data.push(next));
     }
     part(b, &mut data)
 }
@@ -212,9 +230,9 @@ fn next_data<R: Abort>(b: &Build<'_, R>, word: &str, data: &mut Vec<Data>) -> Da
         "Unit" => Data::Unit,
         "None" => Data::None,
         "Bool" => Data::Bool(rest == "true"),
-        "Unsigned" => Data::Unsigned(rest.parse::<u64>().expect(b.rt, word)),
-        "Signed" => Data::Signed(rest.parse::<i64>().expect(b.rt, word)),
-        "Char" => Data::Char(string(b, rest).chars().next().expect(b.rt, word)),
+        "Unsigned" => Data::Unsigned(made(b.rt, rest.parse::<u64>())),
+        "Signed" => Data::Signed(made(b.rt, rest.parse::<i64>())),
+        "Char" => Data::Char(character(b, rest)),
         "Text" => Data::Text(string(b, rest)),
         "Bytes" => Data::Bytes(bytes(b, rest)),
         "UnitVariant" => Data::UnitVariant(string(b, rest)),

@@ -1,6 +1,8 @@
 //! A row: an input, a shape, and what is read or said.
 
 use crate::build::Build;
+use crate::claims::{holds, is_equal, is_text, made};
+use crate::tables::last_column;
 use crate::{notation, tables};
 use serde_qs::{Config, Data, Deserializer, Error, Result, Shape};
 use std::alloc::Global;
@@ -13,18 +15,17 @@ const HINT: &str =
 /// How a table says that the error is `Utf8`.
 const NOT_UTF8: &str = "not UTF-8";
 
-/// Tries each case of a table, and returns how many there are.
+/// Tries each case of a table, of which there are so many.
 ///
 /// A heading is a shape. The inputs under it stand before a bar, each with the data that the shape reads from it, or with `!` and the text
 /// of the error: `not UTF-8` for `Utf8`, and `+ hint` at the end for the hint at form encoding. A configuration and a bar may stand in
 /// front.
-pub fn reads_each<R: Abort>(b: &Build<'_, R>, table: &str) -> usize {
-    let rows = Rows::new(b.rt, b.alloc);
-    let cases = tables::cases(b, table);
+pub fn reads_each<R: Abort>(rt: &R, alloc: Global, table: &str, count: usize) {
+    let rows = Rows::new(rt, alloc);
+    let cases = tables::cases(&rows.build, table, count);
     for (shape, case) in &cases {
-        rows.try_case(&notation::shape(b, shape), case);
+        rows.try_case(&notation::shape(&rows.build, shape), case);
     }
-    cases.len()
 }
 
 /// Tries rows under a configuration.
@@ -67,83 +68,88 @@ impl<'r, R: Abort> Rows<'r, R> {
 
     // Tries a case of a table.
     fn try_case(&self, shape: &Shape, case: &str) {
-        let b = &self.build;
-        let mut columns = case.rsplit('|').map(|column| column.trim());
-        let outcome = columns.next().unwrap_or("");
-        let input = columns.next().unwrap_or("");
-        let config = tables::configuration(b, columns.next().unwrap_or(""));
-        let rows = self.with(config);
-        let Some(error) = outcome.strip_prefix("! ") else {
-            return rows.reads(input, shape, notation::data(b, outcome));
-        };
+        let (rest, outcome) = last_column(case);
+        let (rest, input) = last_column(rest);
+        let (_, words) = last_column(rest);
+        let rows = self.with(tables::configuration(&self.build, words));
+        match outcome.strip_prefix("! ") {
+            Some(error) => rows.rejects(input, shape, error),
+            None => rows.reads(input, shape, notation::data(&self.build, outcome)),
+        }
+    }
+
+    // Claims that the shape reads nothing from the input, and that the error is the one that a table names.
+    fn rejects(&self, input: &str, shape: &Shape, error: &str) {
         match error.strip_suffix(" + hint") {
-            Some(NOT_UTF8) => rows.breaks_and_hints(input, shape),
-            Some(text) => rows.hints(input, shape, text),
-            None if error == NOT_UTF8 => rows.breaks(input, shape),
-            None => rows.says(input, shape, error),
+            Some(NOT_UTF8) => self.breaks_and_hints(input, shape),
+            Some(text) => self.hints(input, shape, text),
+            None if error == NOT_UTF8 => self.breaks(input, shape),
+            None => self.says(input, shape, error),
         }
     }
 
     // Returns what the shape reads from the input.
     fn read(&self, input: &str, shape: &Shape) -> Result<Data> {
-        let rt = self.build.rt;
         let alloc = self.build.alloc;
-        assert!(rt; shape.is_distinct(), "{input}");
+        if !shape.is_distinct() {
+            self.build.rt.panic(input);
+        }
         Deserializer::with_config(alloc, self.config, input.as_bytes())?.read(alloc, shape)
     }
 
-    /// Asserts that the shape reads these data from the input, and that they can be copied.
+    /// Claims that the shape reads these data from the input, and that they can be copied.
     pub fn reads(&self, input: &str, shape: &Shape, wanted: Data) {
-        let rt = self.build.rt;
-        let alloc = self.build.alloc;
         match self.read(input, shape) {
-            Ok(data) => {
-                assert_eq!(rt; data, wanted, "{input}");
-                let copy = data.try_clone(alloc).expect(rt, "memory");
-                assert_eq!(rt; copy, wanted, "{input}");
-            }
-            Err(error) => panic!(rt; "{input}: {error}"),
+            Ok(data) => are_copied(&self.build, input, data, wanted),
+            Err(error) => panic!(self.build.rt; "{input}: {error}"),
         }
     }
 
-    /// Asserts that the shape reads nothing from the input, and that this is said.
+    // Claims that the shape reads nothing from the input, and returns the error.
+    fn fails(&self, input: &str, shape: &Shape) -> Error {
+        match self.read(input, shape) {
+            Ok(data) => panic!(self.build.rt; "{input}: {data:?}"),
+            Err(error) => error,
+        }
+    }
+
+    /// Claims that the shape reads nothing from the input, and that this is said.
     pub fn says(&self, input: &str, shape: &Shape, wanted: &str) {
         let rt = self.build.rt;
-        let alloc = self.build.alloc;
-        match self.read(input, shape) {
-            Ok(data) => panic!(rt; "{input}: {data:?}"),
-            Err(error) => {
-                let said = format!(in alloc; "{error}").expect(rt, "memory");
-                assert_eq!(rt; said.as_str(), wanted, "{input}");
-            }
-        }
+        let error = self.fails(input, shape);
+        let said = made(rt, error.to_string(self.build.alloc));
+        is_text(rt, &said, wanted, input);
     }
 
-    // Asserts that the shape reads nothing from the input, and that this is said, and then the hint.
+    // Claims that the shape reads nothing from the input, and that this is said, and then the hint.
     fn hints(&self, input: &str, shape: &Shape, wanted: &str) {
-        let rt = self.build.rt;
-        let alloc = self.build.alloc;
-        let wanted = format!(in alloc; "{wanted}{HINT}").expect(rt, "memory");
+        let wanted = made(
+            self.build.rt,
+            format!(in self.build.alloc; "{wanted}{HINT}"),
+        );
         self.says(input, shape, &wanted);
     }
 
-    // Asserts that the input is rejected since a text or a key that is read isn't UTF-8.
+    // Claims that the input is rejected since a text or a key that is read isn't UTF-8.
     fn breaks(&self, input: &str, shape: &Shape) {
-        let rt = self.build.rt;
-        match self.read(input, shape) {
-            Err(Error::Utf8(_)) => {}
-            Err(error) => panic!(rt; "{input}: {error}"),
-            Ok(data) => panic!(rt; "{input}: {data:?}"),
+        match self.fails(input, shape) {
+            Error::Utf8(_) => {}
+            error => panic!(self.build.rt; "{input}: {error}"),
         }
     }
 
-    // Asserts that the input is rejected since a key with a bracket isn't UTF-8, and that the hint is given.
+    // Claims that the input is rejected since a key with a bracket isn't UTF-8, and that the hint is given.
     fn breaks_and_hints(&self, input: &str, shape: &Shape) {
-        let rt = self.build.rt;
-        match self.read(input, shape) {
-            Err(Error::Custom(said)) => assert!(rt; said.ends_with(HINT), "{input}: {said}"),
-            Err(error) => panic!(rt; "{input}: {error}"),
-            Ok(data) => panic!(rt; "{input}: {data:?}"),
+        match self.fails(input, shape) {
+            Error::Custom(said) => holds(self.build.rt, said.ends_with(HINT), (input, said)),
+            error => panic!(self.build.rt; "{input}: {error}"),
         }
     }
+}
+
+// Claims that the data that were read are the wanted ones, and that a copy of them is too.
+fn are_copied<R: Abort>(b: &Build<'_, R>, input: &str, data: Data, wanted: Data) {
+    is_equal(b.rt, &data, &wanted, input);
+    let copy = made(b.rt, data.try_clone(b.alloc));
+    is_equal(b.rt, &copy, &wanted, input);
 }

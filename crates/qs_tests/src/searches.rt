@@ -1,8 +1,8 @@
 //! Searches held against a plain loop, at every length up to 100 and every index.
 
+use crate::claims::{is_equal, made};
 use qs_tree::{encode, find_ampersand, find_encoded, find_escape};
 use std::process::Abort;
-use std::test::Fail;
 
 /// What is searched for.
 #[derive(Clone, Copy, Debug)]
@@ -59,31 +59,37 @@ impl Class {
 // Asserts that the search for each class returns what the plain one does.
 fn agree<R: Abort>(rt: &R, bytes: &[u8]) {
     for class in CLASSES {
-        assert_eq!(rt;
-            class.find(bytes),
-            class.find_plainly(bytes),
-            "{class:?} in {bytes:?}"
-        );
+        let case = (class, bytes);
+        is_equal(rt, class.find(bytes), class.find_plainly(bytes), case);
+    }
+}
+
+// Claims that nothing is found in the bytes.
+fn have_none<R: Abort>(rt: &R, bytes: &[u8]) {
+    for class in CLASSES {
+        is_equal(rt, class.find(bytes), None, (class, bytes));
+    }
+}
+
+// Claims that each search returns what the plain one does where one byte of so many letters is another.
+fn agree_at<R: Abort>(rt: &R, bytes: &mut [u8]) {
+    for index in 0..bytes.len() {
+        for byte in [b'+', b'%', b'&', b'[', b' '] {
+            bytes[index] = byte;
+            agree(rt, bytes);
+        }
+        bytes[index] = b'a';
     }
 }
 
 #[test]
-fn each_index(rt: HostRuntime) -> Result<(), Fail> {
+fn each_index(rt: HostRuntime) {
     let mut bytes = Vec::new(rt.alloc());
-    for len in 0..=100usize {
-        for class in CLASSES {
-            assert_eq!(rt; class.find(&bytes), None, "{class:?} in {len}");
-        }
-        for index in 0..bytes.len() {
-            for byte in [b'+', b'%', b'&', b'[', b' '] {
-                bytes[index] = byte;
-                agree(&rt, &bytes);
-            }
-            bytes[index] = b'a';
-        }
-        bytes.push(b'a')?;
+    for _ in 0..=100 {
+        have_none(&rt, &bytes);
+        agree_at(&rt, &mut bytes);
+        made(&rt, bytes.push(b'a'));
     }
-    Ok(())
 }
 
 #[test]
@@ -93,19 +99,18 @@ fn each_byte(rt: HostRuntime) {
         bytes[20] = byte;
         for class in CLASSES {
             let wanted = if class.has(byte) { Some(20) } else { None };
-            assert_eq!(rt; class.find(&bytes), wanted, "{class:?} of {byte}");
+            is_equal(&rt, class.find(&bytes), wanted, (class, byte));
         }
     }
 }
 
 #[test]
-fn letters_stand_for_themselves(rt: HostRuntime) -> Result<(), Fail> {
+fn letters_stand_for_themselves(rt: HostRuntime) {
     let letters = [b'a'; 64];
     for form in [false, true] {
-        let mut out = Vec::from_slice(rt.alloc(), b"x=")?;
-        encode(&letters, form, &mut out)?;
-        assert_eq!(rt; out.len(), 66);
-        assert_eq!(rt; &out[2..], letters.as_slice());
+        let mut out = made(&rt, Vec::from_slice(rt.alloc(), b"x="));
+        made(&rt, encode(&letters, form, &mut out));
+        is_equal(&rt, out.len(), 66, "the length");
+        is_equal(&rt, out.get(2..), Some(letters.as_slice()), "letters");
     }
-    Ok(())
 }

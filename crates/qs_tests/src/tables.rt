@@ -2,11 +2,16 @@
 //! Lines that begin with `#` are comments.
 
 use crate::build::Build;
+use crate::claims::{is_equal, made, present};
 use serde_qs::{ArrayFormat, Config, DuplicateKeyBehavior};
 use std::process::Abort;
 
-/// Returns each case of a table with its heading.
-pub fn cases<'t, R: Abort>(b: &Build<'_, R>, table: &'t str) -> Vec<(&'t str, &'t str)> {
+/// Returns each case of a table with its heading. Claims that there are so many.
+pub fn cases<'t, R: Abort>(
+    b: &Build<'_, R>,
+    table: &'t str,
+    count: usize,
+) -> Vec<(&'t str, &'t str)> {
     let mut headings = Vec::new(b.alloc);
     let mut cases = Vec::new(b.alloc);
     for line in table.lines() {
@@ -15,13 +20,22 @@ pub fn cases<'t, R: Abort>(b: &Build<'_, R>, table: &'t str) -> Vec<(&'t str, &'
             continue;
         }
         if line.starts_with(' ') {
-            let heading = headings.last().copied().expect(b.rt, case);
-            cases.push((heading, case)).expect(b.rt, "memory");
+            let heading = present(b.rt, headings.last().copied(), case);
+            made(b.rt, cases.push((heading, case)));
         } else {
-            headings.push(case).expect(b.rt, "memory");
+            made(b.rt, headings.push(case));
         }
     }
+    is_equal(b.rt, cases.len(), count, "the cases of a table");
     cases
+}
+
+/// Returns what stands before the last bar of a case, and what stands after it: nothing before it, where there is no bar.
+pub fn last_column(case: &str) -> (&str, &str) {
+    match case.rsplit_once('|') {
+        Some((rest, column)) => (rest, column.trim()),
+        None => ("", case.trim()),
+    }
 }
 
 /// Returns the configuration that these words with commas between are: `form, depth 2, reject duplicates`. `empty` and `unindexed` are
@@ -29,17 +43,25 @@ pub fn cases<'t, R: Abort>(b: &Build<'_, R>, table: &'t str) -> Vec<(&'t str, &'
 pub fn configuration<R: Abort>(b: &Build<'_, R>, words: &str) -> Config {
     let mut config = Config::new();
     for word in words.split(", ") {
-        config = match word {
-            "" | "query" => config,
-            "form" => config.use_form_encoding(true),
-            "reject duplicates" => config.duplicate_key_behavior(DuplicateKeyBehavior::Error),
-            "empty" => config.array_format(ArrayFormat::EmptyIndexed),
-            "unindexed" => config.array_format(ArrayFormat::Unindexed),
-            _ => {
-                let depth = word.strip_prefix("depth ").expect(b.rt, word);
-                config.max_depth(depth.parse::<usize>().expect(b.rt, word))
-            }
-        };
+        config = configured(b, config, word);
     }
     config
+}
+
+// Returns the configuration with what this word sets.
+fn configured<R: Abort>(b: &Build<'_, R>, config: Config, word: &str) -> Config {
+    match word {
+        "" | "query" => config,
+        "form" => config.use_form_encoding(true),
+        "reject duplicates" => config.duplicate_key_behavior(DuplicateKeyBehavior::Error),
+        "empty" => config.array_format(ArrayFormat::EmptyIndexed),
+        "unindexed" => config.array_format(ArrayFormat::Unindexed),
+        _ => config.max_depth(depth_of(b, word)),
+    }
+}
+
+// Returns the depth limit that the word sets.
+fn depth_of<R: Abort>(b: &Build<'_, R>, word: &str) -> usize {
+    let depth = present(b.rt, word.strip_prefix("depth "), word);
+    made(b.rt, depth.parse::<usize>())
 }

@@ -11,13 +11,13 @@ mod pushes;
 mod rejected;
 mod values;
 
+use crate::claims::{is_equal, is_text, made};
 use crate::tree_line::{Texts, line};
 use qs_tree::{Config, Error, parse};
 use serde_qs::ConfigExt;
 use std::alloc::Global;
 use std::collections::BTreeMap;
 use std::process::Abort;
-use std::test::Fail;
 
 // the texts of errors that several tests name
 const VALUE_AND_MAP: &str = "invalid input: the same key is used for both a value and a nested map";
@@ -50,10 +50,10 @@ fn form(max_depth: usize) -> Config {
     query(max_depth).use_form_encoding(true)
 }
 
-// Returns the tree of an input as a line, or its error.
-fn tree(alloc: Global, config: Config, input: &[u8]) -> Result<String, Error> {
-    let tree = parse(alloc, input, config)?;
-    Ok(line(alloc, &tree, Texts::Quoted)?)
+// Returns the tree of an input as a line.
+fn tree<R: Abort>(rt: &R, alloc: Global, config: Config, input: &[u8]) -> String {
+    let tree = made(rt, parse(alloc, input, config));
+    made(rt, line(alloc, &tree, Texts::Quoted))
 }
 
 // Returns where a typed call finds that an input has no tree.
@@ -65,56 +65,41 @@ fn typed_position(alloc: Global, config: Config, input: &[u8]) -> Option<usize> 
     }
 }
 
-// Asserts that each input has its tree.
-fn accept(
-    rt: &impl Abort,
-    alloc: Global,
-    config: Config,
-    rows: &[(&str, &str)],
-) -> Result<(), Fail> {
+// Claims that each input has its tree.
+fn accept<R: Abort>(rt: &R, alloc: Global, config: Config, rows: &[(&str, &str)]) {
     for (input, wanted) in rows {
-        let found = tree(alloc, config, input.as_bytes())?;
-        assert_eq!(rt; found.as_str(), *wanted, "{input}");
-        assert_eq!(rt;
-            typed_position(alloc, config, input.as_bytes()),
-            None,
-            "{input}"
-        );
+        has_tree(rt, alloc, config, input, wanted);
     }
-    Ok(())
 }
 
-// Asserts that each input is rejected at its position with its text.
-fn reject(
-    rt: &impl Abort,
-    alloc: Global,
-    config: Config,
-    rows: &[(&str, usize, &str)],
-) -> Result<(), Fail> {
+// Claims that the input has this tree, and that a typed call finds one.
+fn has_tree<R: Abort>(rt: &R, alloc: Global, config: Config, input: &str, wanted: &str) {
+    let found = tree(rt, alloc, config, input.as_bytes());
+    is_text(rt, &found, wanted, input);
+    let position = typed_position(alloc, config, input.as_bytes());
+    is_equal(rt, position, None, input);
+}
+
+// Claims that each input is rejected at its position with its text.
+fn reject<R: Abort>(rt: &R, alloc: Global, config: Config, rows: &[(&str, usize, &str)]) {
     for (input, position, text) in rows {
-        reject_bytes(rt, alloc, config, input.as_bytes(), *position, text)?;
+        reject_bytes(rt, alloc, config, input.as_bytes(), *position, text);
     }
-    Ok(())
 }
 
-// Asserts that the input is rejected at the position with the text.
-fn reject_bytes(
-    rt: &impl Abort,
+// Claims that the input is rejected at the position with the text.
+fn reject_bytes<R: Abort>(
+    rt: &R,
     alloc: Global,
     config: Config,
     input: &[u8],
     position: usize,
     text: &str,
-) -> Result<(), Fail> {
-    let Err(Error::Parse(said, at)) = parse(alloc, input, config) else {
-        return Err(Fail::from("no error"));
-    };
-    assert_eq!(rt; said.as_str(), text, "{input:?}");
-    assert_eq!(rt; at, position, "{input:?}");
-    assert_eq!(rt;
-        typed_position(alloc, config, input),
-        Some(position),
-        "{input:?}"
-    );
-    Ok(())
+) {
+    match parse(alloc, input, config) {
+        Err(Error::Parse(said, at)) => is_equal(rt, (said.as_str(), at), (text, position), input),
+        other => panic!(rt; "{input:?}: {other:?}"),
+    }
+    let typed = typed_position(alloc, config, input);
+    is_equal(rt, typed, Some(position), input);
 }

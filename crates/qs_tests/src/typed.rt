@@ -1,5 +1,6 @@
 //! Typed calls on depth, long keys, escapes, and texts that aren't UTF-8.
 
+use crate::claims::{fails, holds, is_equal, is_text, made};
 use crate::escapes::decoded;
 use serde_qs::{
     Comma, Config, ConfigExt, Delimited, Deserialize, Error, Result, from_bytes, from_str,
@@ -7,92 +8,116 @@ use serde_qs::{
 use std::alloc::Global;
 use std::collections::BTreeMap;
 use std::process::Abort;
-use std::test::Fail;
 
 type Map<T> = BTreeMap<String, T>;
 
 /// Maps in maps, as deep as the default configuration goes.
 type Deep = Map<Map<Map<Map<Map<Map<Map<String>>>>>>>;
 
-#[test]
-fn two_hundred_brackets(rt: HostRuntime) -> std::result::Result<(), Fail> {
-    let alloc = rt.alloc();
-    let brackets = "[b]".repeat(alloc, 200)?;
-    let input = format!(in alloc; "a{brackets}=1")?;
-    let read: Deep = from_str(alloc, input.as_str()).expect(&rt, "maps");
-    let written = Config::new()
-        .max_depth(usize::MAX)
-        .serialize_string(alloc, &read)
-        .expect(&rt, "a text");
-    let last_key = "%5Bb%5D".repeat(alloc, 195)?;
-    let wanted = format!(in alloc; "a[b][b][b][b][b][{last_key}]=1")?;
-    assert_eq!(rt; written, wanted);
-    Ok(())
+// Returns the querystring of the maps that are read from this input.
+fn rewritten<R: Abort>(rt: &R, alloc: Global, input: &str) -> String {
+    let read: Deep = made(rt, from_str(alloc, input));
+    let config = Config::new().max_depth(usize::MAX);
+    made(rt, config.serialize_string(alloc, &read))
 }
 
 #[test]
-fn a_thousand_digits(rt: HostRuntime) -> std::result::Result<(), Fail> {
+fn two_hundred_brackets(rt: HostRuntime) {
     let alloc = rt.alloc();
-    let zeros = "0".repeat(alloc, 1000)?;
-    let input = format!(in alloc; "a[{zeros}]=x")?;
-    let read: Map<Vec<String>> = from_str(alloc, input.as_str()).expect(&rt, "lists");
-    assert!(rt; read.get("a").is_some_and(|items| items.len() == 1));
-    let input = format!(in alloc; "a[{zeros}1]=x")?;
-    let read: Result<Map<Vec<String>>> = from_str(alloc, input.as_str());
-    assert!(rt;
-        matches!(&read, Err(Error::Custom(said)) if said.as_str() == "missing index, expected: 0 got 1")
+    let brackets = made(&rt, "[b]".repeat(alloc, 200));
+    let input = made(&rt, format!(in alloc; "a{brackets}=1"));
+    let last_key = made(&rt, "%5Bb%5D".repeat(alloc, 195));
+    let wanted = made(&rt, format!(in alloc; "a[b][b][b][b][b][{last_key}]=1"));
+    is_text(
+        &rt,
+        &rewritten(&rt, alloc, &input),
+        &wanted,
+        "two hundred brackets",
     );
-    let nines = "9".repeat(alloc, 1000)?;
-    let input = format!(in alloc; "{nines}=x")?;
-    let read: Map<String> = from_str(alloc, input.as_str()).expect(&rt, "a map");
-    assert!(rt; read.get(nines.as_str()).is_some());
-    Ok(())
 }
 
-// Asserts that each input has a text that is asked for and isn't UTF-8.
+// Claims that a list at this index alone is read.
+fn has_one_item<R: Abort>(rt: &R, alloc: Global, index: &str) {
+    let input = made(rt, format!(in alloc; "a[{index}]=x"));
+    let read: Map<Vec<String>> = made(rt, from_str(alloc, &input));
+    let len = read.get("a").map(|items| items.len());
+    is_equal(rt, len, Some(1), index);
+}
+
+// Claims that no list is read at this index alone, and that this is said.
+fn has_no_first_item<R: Abort>(rt: &R, alloc: Global, index: &str, wanted: &str) {
+    let input = made(rt, format!(in alloc; "a[{index}]=x"));
+    let read: Result<Map<Vec<String>>> = from_str(alloc, &input);
+    match fails(rt, read) {
+        Error::Custom(said) => is_text(rt, &said, wanted, index),
+        other => panic!(rt; "{index}: {other}"),
+    }
+}
+
+// Claims that the key is read.
+fn has_key<R: Abort>(rt: &R, alloc: Global, key: &str) {
+    let input = made(rt, format!(in alloc; "{key}=x"));
+    let read: Map<String> = made(rt, from_str(alloc, &input));
+    holds(rt, read.get(key).is_some(), key);
+}
+
+#[test]
+fn a_thousand_digits(rt: HostRuntime) {
+    let alloc = rt.alloc();
+    let zeros = made(&rt, "0".repeat(alloc, 1000));
+    has_one_item(&rt, alloc, &zeros);
+    let one = made(&rt, format!(in alloc; "{zeros}1"));
+    has_no_first_item(&rt, alloc, &one, "missing index, expected: 0 got 1");
+    let nines = made(&rt, "9".repeat(alloc, 1000));
+    has_key(&rt, alloc, &nines);
+}
+
+// Claims that each input has a text that is asked for and isn't UTF-8.
 fn breaks<R: Abort, T: Deserialize + Drop>(rt: &R, alloc: Global, inputs: &[&str]) {
     for input in inputs {
         let read: Result<T> = from_str(alloc, input);
-        assert!(rt; matches!(read, Err(Error::Utf8(_))), "{input}");
+        holds(rt, matches!(read, Err(Error::Utf8(_))), *input);
     }
 }
 
 #[test]
 fn broken_texts(rt: HostRuntime) {
     let alloc = rt.alloc();
-    breaks::<_, Map<String>>(
-        &rt,
-        alloc,
-        &["a=%FF", "a=%C3", "a=x%E2%82", "%FF=1", "x=1&%C3=2"],
-    );
+    breaks::<_, Map<String>>(&rt, alloc, &BROKEN);
     breaks::<_, Map<Option<String>>>(&rt, alloc, &["a=%FF", "%FF"]);
-    breaks::<_, Map<Vec<String>>>(&rt, alloc, &["a[]=%FF", "a[0]=%FF", "a=x&a=%FF", "%FF[]=x"]);
+    breaks::<_, Map<Vec<String>>>(&rt, alloc, &BROKEN_LISTS);
     breaks::<_, Map<Map<String>>>(&rt, alloc, &["a[b]=%FF", "a[%FF]=1", "%FF[b]=1"]);
     breaks::<_, Map<Delimited<u8, Comma>>>(&rt, alloc, &["a=%FF", "a=1,%FF"]);
     let read: Result<Map<String>> = from_str(alloc, "%5B%FF=1");
-    assert!(rt; matches!(read, Err(Error::Custom(_))));
+    holds(&rt, matches!(read, Err(Error::Custom(_))), "%5B%FF=1");
+}
+
+const BROKEN: [&str; 5] = ["a=%FF", "a=%C3", "a=x%E2%82", "%FF=1", "x=1&%C3=2"];
+
+const BROKEN_LISTS: [&str; 4] = ["a[]=%FF", "a[0]=%FF", "a=x&a=%FF", "%FF[]=x"];
+
+// Claims that what `%` and these two bytes are decoded to is read as a value, or rejected as no text.
+fn is_read_after_a_percent_sign<R: Abort>(rt: &R, alloc: Global, first: u8, second: u8) {
+    let bytes = made(rt, decoded(alloc, first, second));
+    let wanted = String::from_utf8(bytes).ok();
+    let read: Result<Map<String>> = from_bytes(alloc, &[b'k', b'=', b'%', first, second]);
+    match &read {
+        Ok(map) => holds(rt, map.get("k") == wanted.as_ref(), (first, second)),
+        Err(error) => {
+            let is_broken = wanted.is_none() && matches!(error, Error::Utf8(_));
+            holds(rt, is_broken, (first, second));
+        }
+    }
 }
 
 #[test]
-fn every_two_bytes_after_a_percent_sign(rt: HostRuntime) -> std::result::Result<(), Fail> {
-    let alloc = rt.alloc();
+fn every_two_bytes_after_a_percent_sign(rt: HostRuntime) {
     for first in 0..=u8::MAX {
         for second in 0..=u8::MAX {
             // a value ends there
-            if first == b'&' || second == b'&' {
-                continue;
-            }
-            let input = [b'k', b'=', b'%', first, second];
-            let wanted = String::from_utf8(decoded(alloc, first, second)?).ok();
-            let read: Result<Map<String>> = from_bytes(alloc, &input);
-            match &read {
-                Ok(map) => assert!(rt; map.get("k") == wanted.as_ref(), "{input:?}"),
-                Err(error) => assert!(rt;
-                    wanted.is_none() && matches!(error, Error::Utf8(_)),
-                    "{input:?}"
-                ),
+            if first != b'&' && second != b'&' {
+                is_read_after_a_percent_sign(&rt, rt.alloc(), first, second);
             }
         }
     }
-    Ok(())
 }

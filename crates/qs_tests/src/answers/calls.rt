@@ -28,20 +28,40 @@ fn number(alloc: Global, input: &[u8]) -> Result<String> {
     Ok(format!(in alloc; "{number}")?)
 }
 
+// Returns the items, after they were written and read with bars between.
+fn between_bars(alloc: Global, items: &[String]) -> Result<Vec<String>> {
+    let data = pipe_delimited::serialize(alloc, items)?;
+    pipe_delimited::deserialize(alloc, data)
+}
+
+// Returns the items, after they were written and read with spaces between.
+fn between_spaces(alloc: Global, items: &[String]) -> Result<Vec<String>> {
+    let data = space_delimited::serialize(alloc, items)?;
+    space_delimited::deserialize(alloc, data)
+}
+
+// Returns the items, after they were written and read with dots between.
+fn between_dots(alloc: Global, items: &[String]) -> Result<Vec<String>> {
+    let data = generic_delimiter::serialize(alloc, items, '.')?;
+    generic_delimiter::deserialize(alloc, data, '.')
+}
+
+// Returns the items between commas.
+fn between_commas(alloc: Global, items: &[String]) -> Result<String> {
+    match comma_separated::serialize(alloc, items)? {
+        Data::Text(text) => Ok(text),
+        _ => Err(Error::Unsupported),
+    }
+}
+
 // Returns the items between commas again, after they were written and read with each other delimiter.
 fn relisted(alloc: Global, input: &[u8]) -> Result<String> {
     let data = Data::Text(owned_text(alloc, input)?);
     let items: Vec<String> = comma_separated::deserialize(alloc, data)?;
-    let data = pipe_delimited::serialize(alloc, &items)?;
-    let items: Vec<String> = pipe_delimited::deserialize(alloc, data)?;
-    let data = space_delimited::serialize(alloc, &items)?;
-    let items: Vec<String> = space_delimited::deserialize(alloc, data)?;
-    let data = generic_delimiter::serialize(alloc, &items, '.')?;
-    let items: Vec<String> = generic_delimiter::deserialize(alloc, data, '.')?;
-    match comma_separated::serialize(alloc, &items)? {
-        Data::Text(text) => Ok(text),
-        _ => Err(Error::Unsupported),
-    }
+    let items = between_bars(alloc, &items)?;
+    let items = between_spaces(alloc, &items)?;
+    let items = between_dots(alloc, &items)?;
+    between_commas(alloc, &items)
 }
 
 // Returns the texts of copies of the input, wrapped as a query and as a form.

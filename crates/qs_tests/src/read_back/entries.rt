@@ -1,9 +1,11 @@
 //! Ten entries in each rotation, in reverse, and in a hundred shuffles.
 
 use crate::build::Build;
+use crate::claims::{holds, made, present};
 use crate::notation;
 use crate::rows::Rows;
-use serde_qs::{Config, Serializer};
+use crate::writing::writes;
+use serde_qs::Config;
 use std::process::Abort;
 
 const ENTRIES: [&str; 10] = [
@@ -34,28 +36,24 @@ fn text<R: Abort>(b: &Build<'_, R>, indices: &[usize]) -> String {
     let mut text = String::new(b.alloc);
     for index in indices {
         if !text.is_empty() {
-            text.push('&').expect(b.rt, "memory");
+            made(b.rt, text.push('&'));
         }
-        let entry = ENTRIES.get(*index).expect(b.rt, "an entry");
-        text.push_str(entry).expect(b.rt, "memory");
+        let entry = present(b.rt, ENTRIES.get(*index), "an entry");
+        made(b.rt, text.push_str(entry));
     }
     text
 }
 
 #[test]
 fn written(rt: HostRuntime) {
-    let t = Rows::new(&rt, rt.alloc());
-    let b = &t.build;
-    let data = notation::data(b, DATA);
-    assert!(&rt; data.is_plain(Config::new()));
-    assert!(&rt; notation::shape(b, SHAPE).fits(&data));
-    let mut serializer = Serializer::new(Vec::new(b.alloc), Config::new());
-    assert!(&rt; serializer.serialize(b.alloc, &data).is_ok());
-    let written = serializer.into_sink().into_writer();
-    assert_eq!(&rt; written.as_slice(), text(b, &IN_ORDER).as_bytes());
+    let b = Build::new(&rt, rt.alloc());
+    let data = notation::data(&b, DATA);
+    holds(&rt, data.is_plain(Config::new()), "plain");
+    holds(&rt, notation::shape(&b, SHAPE).fits(&data), "fitting");
+    writes(&b, Config::new(), &data, &text(&b, &IN_ORDER));
 }
 
-// Asserts that the user is read from the entries at these indices.
+// Claims that the user is read from the entries at these indices.
 fn is_read<R: Abort>(b: &Build<'_, R>, indices: &[usize]) {
     let t = Rows::new(b.rt, b.alloc);
     let shape = notation::shape(b, SHAPE);

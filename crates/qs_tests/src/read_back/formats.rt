@@ -1,6 +1,7 @@
 //! Lists in the formats that write no indices, and what they lose.
 
 use crate::build::Build;
+use crate::claims::is_equal;
 use crate::notation;
 use crate::rows::reads_each;
 use crate::writing::writes_each;
@@ -113,28 +114,27 @@ const LISTED: [(&str, bool, bool); 17] = [
 
 #[test]
 fn written(rt: HostRuntime) {
-    let b = Build::new(&rt, rt.alloc());
-    assert_eq!(rt; writes_each(&b, WRITTEN), 12);
+    writes_each(&rt, rt.alloc(), WRITTEN, 12);
 }
 
 #[test]
 fn read(rt: HostRuntime) {
-    assert_eq!(rt; reads_each(&Build::new(&rt, rt.alloc()), READ), 17);
+    reads_each(&rt, rt.alloc(), READ, 17);
 }
 
-// Returns whether the lists of data come back in this format.
-fn is_listed<R: Abort>(b: &Build<'_, R>, data: &str, format: ArrayFormat) -> bool {
-    notation::data(b, data).is_listed(Config::new().array_format(format))
+// Claims whether the lists of data come back in this format.
+fn is_listed<R: Abort>(b: &Build<'_, R>, data: &str, format: ArrayFormat, wanted: bool) {
+    let config = Config::new().array_format(format);
+    let is_listed = notation::data(b, data).is_listed(config);
+    is_equal(b.rt, is_listed, wanted, (data, format));
 }
 
 #[test]
 fn listed(rt: HostRuntime) {
     let b = Build::new(&rt, rt.alloc());
-    for (data, brackets, nothing) in LISTED {
-        assert!(rt; is_listed(&b, data, ArrayFormat::Indexed), "{data}");
-        let empty = is_listed(&b, data, ArrayFormat::EmptyIndexed);
-        assert_eq!(rt; empty, brackets, "{data}");
-        let unindexed = is_listed(&b, data, ArrayFormat::Unindexed);
-        assert_eq!(rt; unindexed, nothing, "{data}");
+    for (data, brackets, nothing) in &LISTED {
+        is_listed(&b, data, ArrayFormat::Indexed, true);
+        is_listed(&b, data, ArrayFormat::EmptyIndexed, *brackets);
+        is_listed(&b, data, ArrayFormat::Unindexed, *nothing);
     }
 }

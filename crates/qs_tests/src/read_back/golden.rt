@@ -3,40 +3,56 @@
 
 use super::cases::CASES;
 use crate::build::Build;
+use crate::claims::{holds, is_equal, made, present};
 use crate::notation;
 use crate::rows::Rows;
-use serde_qs::Config;
+use serde_qs::{Config, Shape};
+use std::alloc::Global;
 use std::process::Abort;
 
-/// Asserts that the data of the case are plain, fit its shape, and are read from its text.
-pub fn comes_back<R: Abort>(b: &Build<'_, R>, case: &str) {
-    let t = Rows::new(b.rt, b.alloc);
-    let mut fields = case.split('\t');
-    let mut field = || fields.next().expect(b.rt, case);
-    let form = field() == "form";
-    let depth = field().parse::<usize>().expect(b.rt, case);
-    let shape = notation::shape(b, field());
-    let written = field();
-    let text = field();
-    let read = fields.next().unwrap_or(written);
-    let data = notation::data(b, written);
-    assert!(b.rt;
-        data.is_plain(Config::new().use_form_encoding(form)),
-        "{case}"
-    );
-    assert!(b.rt; shape.fits(&data), "{case}");
-    let wanted = notation::data(b, read);
-    match form {
-        true => t.deep(depth).form().reads(text, &shape, wanted),
-        false => t.deep(depth).reads(text, &shape, wanted),
+/// Claims that each line is a case whose data come back, and that there are so many.
+pub fn come_back<R: Abort>(rt: &R, alloc: Global, cases: &str, count: usize) {
+    let b = Build::new(rt, alloc);
+    is_equal(rt, cases.lines().count(), count, "the cases of a table");
+    for case in cases.lines() {
+        comes_back(&b, case);
     }
+}
+
+// Claims that the data of the case are plain, fit its shape, and are read from its text.
+fn comes_back<R: Abort>(b: &Build<'_, R>, case: &str) {
+    let (mode, rest) = column(b, case);
+    let (depth, rest) = column(b, rest);
+    let (shape, rest) = column(b, rest);
+    let (written, rest) = column(b, rest);
+    let (text, read) = rest.split_once('\t').unwrap_or((rest, written));
+    let t = rows(b, mode == "form", depth);
+    let shape = notation::shape(b, shape);
+    is_plain(b, &shape, written, mode == "form");
+    t.reads(text, &shape, notation::data(b, read));
+}
+
+// Returns the first column of a case, and those after it.
+fn column<'t, R: Abort>(b: &Build<'_, R>, case: &'t str) -> (&'t str, &'t str) {
+    present(b.rt, case.split_once('\t'), case)
+}
+
+// Returns rows in this mode, with the depth limit that a case has.
+fn rows<'r, R: Abort>(b: &Build<'r, R>, form: bool, depth: &str) -> Rows<'r, R> {
+    let depth = made(b.rt, depth.parse::<usize>());
+    let rows = Rows::new(b.rt, b.alloc).deep(depth);
+    if form { rows.form() } else { rows }
+}
+
+// Claims that the data are plain, and fit the shape.
+fn is_plain<R: Abort>(b: &Build<'_, R>, shape: &Shape, words: &str, form: bool) {
+    let data = notation::data(b, words);
+    let config = Config::new().use_form_encoding(form);
+    holds(b.rt, data.is_plain(config), words);
+    holds(b.rt, shape.fits(&data), words);
 }
 
 #[test]
 fn each_case(rt: HostRuntime) {
-    let b = Build::new(&rt, rt.alloc());
-    assert_eq!(rt; CASES.lines().count(), 300);
-    for case in CASES.lines() {
-        comes_back(&b, case);
-    }
+    come_back(&rt, rt.alloc(), CASES, 300);
 }

@@ -1,9 +1,11 @@
 //! Data that aren't plain: what is read in their place.
 
 use crate::build::Build;
+use crate::claims::holds;
 use crate::notation;
 use crate::rows::reads_each;
 use serde_qs::Config;
+use std::process::Abort;
 
 /// Shapes, and data that fit them.
 const LOST: [(&str, &str); 3] = [
@@ -22,13 +24,18 @@ Struct:s Struct
      | ! missing field `s`
 ";
 
+// Claims that the data fit the shape, and aren't plain.
+fn is_lost<R: Abort>(b: &Build<'_, R>, shape: &str, data: &str) {
+    let lost = notation::data(b, data);
+    holds(b.rt, !lost.is_plain(Config::new()), data);
+    holds(b.rt, notation::shape(b, shape).fits(&lost), data);
+}
+
 #[test]
 fn each_case(rt: HostRuntime) {
     let b = Build::new(&rt, rt.alloc());
-    for (shape, data) in LOST {
-        let lost = notation::data(&b, data);
-        assert!(rt; !lost.is_plain(Config::new()), "{data}");
-        assert!(rt; notation::shape(&b, shape).fits(&lost), "{data}");
+    for (shape, data) in &LOST {
+        is_lost(&b, shape, data);
     }
-    assert_eq!(rt; reads_each(&b, READ), 3);
+    reads_each(&rt, rt.alloc(), READ, 3);
 }

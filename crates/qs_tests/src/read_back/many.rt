@@ -1,6 +1,7 @@
 //! Data of more keys and names than are compared two by two.
 
 use crate::build::Build;
+use crate::claims::{is_equal, made};
 use serde_qs::{Config, Data};
 use std::process::Abort;
 
@@ -14,9 +15,9 @@ fn map<R: Abort>(b: &Build<'_, R>, last: Data) -> Data {
     let mut pairs = Vec::new(b.alloc);
     for place in 0..COUNT {
         let key = Data::Unsigned(place * STEP % COUNT);
-        pairs.push((key, Data::Unit)).expect(b.rt, "memory");
+        made(b.rt, pairs.push((key, Data::Unit)));
     }
-    pairs.push((last, Data::Unit)).expect(b.rt, "memory");
+    made(b.rt, pairs.push((last, Data::Unit)));
     Data::Map(pairs)
 }
 
@@ -24,40 +25,38 @@ fn map<R: Abort>(b: &Build<'_, R>, last: Data) -> Data {
 fn structure<R: Abort>(b: &Build<'_, R>, last: &str) -> Data {
     let mut members = Vec::new(b.alloc);
     for place in 0..COUNT {
-        let name = format!(in b.alloc; "k{}", place * STEP % COUNT).expect(b.rt, "memory");
-        members.push((name, Data::Unit)).expect(b.rt, "memory");
+        let number = place * STEP % COUNT;
+        let name = made(b.rt, format!(in b.alloc; "k{number}"));
+        made(b.rt, members.push((name, Data::Unit)));
     }
-    members
-        .push(b.member(last, Data::Unit))
-        .expect(b.rt, "memory");
+    made(b.rt, members.push(b.member(last, Data::Unit)));
     Data::Struct(members)
+}
+
+// Claims whether the data are plain.
+fn is_plain<R: Abort>(b: &Build<'_, R>, data: Data, wanted: bool) {
+    let is_plain = data.is_plain(Config::new());
+    is_equal(b.rt, is_plain, wanted, data);
 }
 
 #[test]
 fn keys(rt: HostRuntime) {
     let b = Build::new(&rt, rt.alloc());
-    for (last, wanted) in [
-        (b.text("a"), true),
-        (b.text("50"), true),
-        (b.text("0"), false),
-        (b.text("49"), false),
-        (Data::Signed(-7), true),
-        (Data::Signed(7), false),
-        (Data::Char('9'), false),
-        (Data::Bool(true), true),
-    ] {
-        let data = map(&b, last);
-        assert!(&rt; data.is_plain(Config::new()) == wanted, "{data:?}");
-    }
+    is_plain(&b, map(&b, b.text("a")), true);
+    is_plain(&b, map(&b, b.text("50")), true);
+    is_plain(&b, map(&b, b.text("0")), false);
+    is_plain(&b, map(&b, b.text("49")), false);
+    is_plain(&b, map(&b, Data::Signed(-7)), true);
+    is_plain(&b, map(&b, Data::Signed(7)), false);
+    is_plain(&b, map(&b, Data::Char('9')), false);
+    is_plain(&b, map(&b, Data::Bool(true)), true);
 }
 
 #[test]
 fn names(rt: HostRuntime) {
     let b = Build::new(&rt, rt.alloc());
-    for (last, wanted) in [("k", true), ("k50", true), ("k0", false), ("k49", false)] {
-        assert!(&rt;
-            structure(&b, last).is_plain(Config::new()) == wanted,
-            "{last}"
-        );
-    }
+    is_plain(&b, structure(&b, "k"), true);
+    is_plain(&b, structure(&b, "k50"), true);
+    is_plain(&b, structure(&b, "k0"), false);
+    is_plain(&b, structure(&b, "k49"), false);
 }

@@ -1,7 +1,6 @@
 //! Data with names that look like other things, in two orders and in both modes.
 
-use super::golden::comes_back;
-use crate::build::Build;
+use super::golden::come_back;
 use crate::writing::writes_each;
 
 /// Written as the golden cases are.
@@ -18,11 +17,7 @@ query\t5\tSeq Enum:4 unit:u newtype:0 I8 tuple:t:2 U8 Char struct:s:x:y? Bool By
 
 #[test]
 fn each_case(rt: HostRuntime) {
-    let b = Build::new(&rt, rt.alloc());
-    assert_eq!(rt; CASES.lines().count(), 8);
-    for case in CASES.lines() {
-        comes_back(&b, case);
-    }
+    come_back(&rt, rt.alloc(), CASES, 8);
 }
 
 const NUMBERS_AS_KEYS: &str = "\
@@ -33,6 +28,5 @@ Map:2 Unsigned:1 Text:one Unsigned:2 Text:two
 
 #[test]
 fn numbers_as_keys(rt: HostRuntime) {
-    let b = Build::new(&rt, rt.alloc());
-    assert_eq!(rt; writes_each(&b, NUMBERS_AS_KEYS), 2);
+    writes_each(&rt, rt.alloc(), NUMBERS_AS_KEYS, 2);
 }

@@ -1,7 +1,9 @@
 //! Which data are plain, and which fit a shape. Before those that aren't or don't stands `!`.
 
 use crate::build::Build;
+use crate::claims::is_equal;
 use crate::{notation, tables};
+use std::process::Abort;
 
 /// Data, under the words of a configuration.
 const PLAIN: &str = "\
@@ -162,26 +164,35 @@ fn split(case: &str) -> (&str, bool) {
     }
 }
 
+// Claims whether the data are plain under the configuration of these words.
+fn is_plain<R: Abort>(b: &Build<'_, R>, words: &str, data: &str, wanted: bool) {
+    let config = tables::configuration(b, words);
+    let is_plain = notation::data(b, data).is_plain(config);
+    is_equal(b.rt, is_plain, wanted, (words, data));
+}
+
 #[test]
 fn plain(rt: HostRuntime) {
     let b = Build::new(&rt, rt.alloc());
-    let cases = tables::cases(&b, PLAIN);
-    assert_eq!(rt; cases.len(), 42);
+    let cases = tables::cases(&b, PLAIN, 42);
     for (words, case) in &cases {
         let (data, wanted) = split(case);
-        let is_plain = notation::data(&b, data).is_plain(tables::configuration(&b, words));
-        assert_eq!(rt; is_plain, wanted, "{words} {case}");
+        is_plain(&b, words, data, wanted);
     }
+}
+
+// Claims whether the data fit the shape.
+fn fits<R: Abort>(b: &Build<'_, R>, shape: &str, data: &str, wanted: bool) {
+    let fits = notation::shape(b, shape).fits(&notation::data(b, data));
+    is_equal(b.rt, fits, wanted, (shape, data));
 }
 
 #[test]
 fn fitting(rt: HostRuntime) {
     let b = Build::new(&rt, rt.alloc());
-    let cases = tables::cases(&b, FITS);
-    assert_eq!(rt; cases.len(), 58);
+    let cases = tables::cases(&b, FITS, 58);
     for (shape, case) in &cases {
         let (data, wanted) = split(case);
-        let fits = notation::shape(&b, shape).fits(&notation::data(&b, data));
-        assert_eq!(rt; fits, wanted, "{shape} {case}");
+        fits(&b, shape, data, wanted);
     }
 }

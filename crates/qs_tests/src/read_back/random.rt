@@ -1,6 +1,7 @@
 //! Random plain data of every kind, written, read back from their entries in another order.
 
 use crate::build::Build;
+use crate::claims::{holds, made, present};
 use crate::notation;
 use crate::rows::Rows;
 use serde_qs::{Config, Data, Serializer, Shape};
@@ -115,8 +116,8 @@ fn filled<R: Abort>(b: &Build<'_, R>, words: &str, names: [&str; 2], x: &str, y:
             "y" => y,
             _ => "",
         };
-        filled.push_str(text).expect(b.rt, "memory");
-        filled.push_str(rest).expect(b.rt, "memory");
+        made(b.rt, filled.push_str(text));
+        made(b.rt, filled.push_str(rest));
     }
     filled
 }
@@ -129,13 +130,21 @@ fn whole<R: Abort>(
     x: &Words,
     y: &Words,
 ) -> Words {
-    let (shape, data) = *WHOLES
-        .get(random.below(WHOLES.len()))
-        .expect(b.rt, "a whole");
-    let names = *NAMES.get(random.below(names)).expect(b.rt, "names");
+    let (shape, data) = present(b.rt, WHOLES.get(random.below(WHOLES.len())), "a whole");
+    let names = present(b.rt, NAMES.get(random.below(names)), "names");
     Words {
-        shape: filled(b, shape, names, x.shape.as_str(), y.shape.as_str()),
-        data: filled(b, data, names, x.data.as_str(), y.data.as_str()),
+        shape: filled(b, shape, *names, &x.shape, &y.shape),
+        data: filled(b, data, *names, &x.data, &y.data),
+    }
+}
+
+// Returns a random scalar.
+fn scalar<R: Abort>(b: &Build<'_, R>, random: &mut Random) -> Words {
+    let scalar = SCALARS.get(random.below(SCALARS.len()));
+    let (shape, data) = present(b.rt, scalar, "a scalar");
+    Words {
+        shape: made(b.rt, String::from_str(b.alloc, shape)),
+        data: made(b.rt, String::from_str(b.alloc, data)),
     }
 }
 
@@ -143,14 +152,8 @@ fn whole<R: Abort>(
 fn scalars<R: Abort>(b: &Build<'_, R>, random: &mut Random) -> Vec<Words> {
     let mut scalars = Vec::new(b.alloc);
     for _ in 0..32 {
-        let (shape, data) = *SCALARS
-            .get(random.below(SCALARS.len()))
-            .expect(b.rt, "a scalar");
-        let scalar = Words {
-            shape: String::from_str(b.alloc, shape).expect(b.rt, "memory"),
-            data: String::from_str(b.alloc, data).expect(b.rt, "memory"),
-        };
-        scalars.push(scalar).expect(b.rt, "memory");
+        let scalar = scalar(b, random);
+        made(b.rt, scalars.push(scalar));
     }
     scalars
 }
@@ -161,7 +164,7 @@ fn nested<R: Abort>(b: &Build<'_, R>, random: &mut Random, names: usize, depth: 
     for _ in 0..depth {
         parts = wholes(b, random, names, parts);
     }
-    parts.pop().expect(b.rt, "a whole")
+    present(b.rt, parts.pop(), "a whole")
 }
 
 // Returns a whole of each two parts that follow one another.
@@ -173,10 +176,10 @@ fn wholes<R: Abort>(
 ) -> Vec<Words> {
     let mut wholes = Vec::new(b.alloc);
     for _ in 0..parts.len() / 2 {
-        let x = parts.pop().expect(b.rt, "a part");
-        let y = parts.pop().expect(b.rt, "a part");
+        let x = present(b.rt, parts.pop(), "a part");
+        let y = present(b.rt, parts.pop(), "a part");
         let whole = whole(b, random, names, &x, &y);
-        wholes.push(whole).expect(b.rt, "memory");
+        made(b.rt, wholes.push(whole));
     }
     wholes
 }
@@ -184,9 +187,10 @@ fn wholes<R: Abort>(
 /// Returns the data as they are written.
 pub fn written<R: Abort>(b: &Build<'_, R>, config: Config, data: &Data) -> String {
     let mut serializer = Serializer::new(Vec::new(b.alloc), config);
-    let written = serializer.serialize(b.alloc, data);
-    assert!(b.rt; written.is_ok(), "{data:?}");
-    String::from_utf8(serializer.into_sink().into_writer()).expect(b.rt, "UTF-8")
+    let outcome = serializer.serialize(b.alloc, data);
+    holds(b.rt, outcome.is_ok(), data);
+    let bytes = serializer.into_sink().into_writer();
+    made(b.rt, String::from_utf8(bytes))
 }
 
 // Returns the text with its entries in another order: each is put before or after those so far.
@@ -198,7 +202,7 @@ fn shuffled<R: Abort>(b: &Build<'_, R>, random: &mut Random, text: &str) -> Stri
             (_, 0) => format!(in b.alloc; "{entry}&{shuffled}"),
             _ => format!(in b.alloc; "{shuffled}&{entry}"),
         };
-        shuffled = both.expect(b.rt, "memory");
+        shuffled = made(b.rt, both);
     }
     shuffled
 }
@@ -218,14 +222,14 @@ pub fn fitting<R: Abort>(
     depth: u32,
 ) -> (Shape, Data) {
     let words = nested(b, random, plain_names(form), depth);
-    let shape = notation::shape(b, words.shape.as_str());
-    let data = notation::data(b, words.data.as_str());
-    assert!(b.rt; data.is_plain(config), "{data:?}");
-    assert!(b.rt; shape.fits(&data), "{data:?}");
+    let shape = notation::shape(b, &words.shape);
+    let data = notation::data(b, &words.data);
+    holds(b.rt, data.is_plain(config), &data);
+    holds(b.rt, shape.fits(&data), &data);
     (shape, data)
 }
 
-// Asserts that data from each of some seeds come back, so deep.
+// Claims that data from each of some seeds come back, so deep.
 fn come_back<R: Abort>(rt: &R, alloc: Global, form: bool, depth: u32) {
     let config = Config::new().max_depth(10).use_form_encoding(form);
     let t = rows(rt, alloc, form);
@@ -233,8 +237,8 @@ fn come_back<R: Abort>(rt: &R, alloc: Global, form: bool, depth: u32) {
     for seed in 0..20 {
         let mut random = Random::new(seed);
         let (shape, data) = fitting(b, &mut random, config, form, depth);
-        let text = shuffled(b, &mut random, written(b, config, &data).as_str());
-        t.reads(text.as_str(), &shape, data);
+        let text = shuffled(b, &mut random, &written(b, config, &data));
+        t.reads(&text, &shape, data);
     }
 }
 

@@ -1,6 +1,6 @@
 //! Whatever is there: inputs as data of no shape, and inputs that are passed over.
 
-use crate::build::Build;
+use crate::claims::made;
 use crate::notation;
 use crate::rows::{Rows, reads_each};
 
@@ -69,15 +69,15 @@ Struct:a Ignored
 
 #[test]
 fn each_case(rt: HostRuntime) {
-    assert_eq!(rt; reads_each(&Build::new(&rt, rt.alloc()), CASES), 39);
+    reads_each(&rt, rt.alloc(), CASES, 39);
 }
 
 #[test]
 fn a_number_with_a_thousand_zeros(rt: HostRuntime) {
     let t = Rows::new(&rt, rt.alloc());
     let b = &t.build;
-    let zeros = "0".repeat(rt.alloc(), 1000).expect(&rt, "memory");
-    let input = format!(in rt.alloc(); "a[{zeros}1]=x").expect(&rt, "memory");
+    let zeros = made(&rt, "0".repeat(rt.alloc(), 1000));
+    let input = made(&rt, format!(in rt.alloc(); "a[{zeros}1]=x"));
     let said = "missing index, expected: 0 got 1";
     t.says(&input, &notation::shape(b, "Any"), said);
     let shape = notation::shape(b, "Struct:a Map:Text Text");

@@ -1,6 +1,5 @@
 //! The empty input, and ampersands alone.
 
-use crate::build::Build;
 use crate::rows::reads_each;
 
 const CASES: &str = "\
@@ -99,5 +98,5 @@ Ignored
 
 #[test]
 fn each_case(rt: HostRuntime) {
-    assert_eq!(rt; reads_each(&Build::new(&rt, rt.alloc()), CASES), 41);
+    reads_each(&rt, rt.alloc(), CASES, 41);
 }

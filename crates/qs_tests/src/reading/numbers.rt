@@ -1,6 +1,5 @@
 //! Numbers.
 
-use crate::build::Build;
 use crate::rows::reads_each;
 
 const CASES: &str = "\
@@ -74,5 +73,5 @@ Struct:x I64
 
 #[test]
 fn each_case(rt: HostRuntime) {
-    assert_eq!(rt; reads_each(&Build::new(&rt, rt.alloc()), CASES), 42);
+    reads_each(&rt, rt.alloc(), CASES, 42);
 }

@@ -1,6 +1,5 @@
 //! Booleans, characters, texts, bytes and units.
 
-use crate::build::Build;
 use crate::rows::reads_each;
 
 const CASES: &str = "\
@@ -75,5 +74,5 @@ Newtype U8
 
 #[test]
 fn each_case(rt: HostRuntime) {
-    assert_eq!(rt; reads_each(&Build::new(&rt, rt.alloc()), CASES), 41);
+    reads_each(&rt, rt.alloc(), CASES, 41);
 }

@@ -3,8 +3,10 @@
 ghost use Rattle.std.specs.Prelude.{◌≡◌, ◌≤◌, [], length, codes, IfOk};
 ghost use Rattle.qs_tree.specs.tree.Views.{map_pairs};
 
-use super::{Config, Error, Fail, Global};
+use super::{Config, Error, Global};
+use crate::claims::{is_equal, made};
 use qs_tree::{Key, ParsedMap, ParsedValue, Steps, parse, parse_with};
+use std::process::Abort;
 
 // Returns the steps that an input takes.
 fn steps_of(alloc: Global, input: &[u8]) -> Result<Steps, Error>
@@ -32,31 +34,41 @@ fn comparisons_of(map: &ParsedMap<'_>, key: &Key<'_>) -> Steps
 }
 
 #[test]
-fn steps(rt: HostRuntime) -> Result<(), Fail> {
+fn steps(rt: HostRuntime) {
     for input in ["", "=%", "a=1", "a=1&"] {
-        let _ = steps_of(rt.alloc(), input.as_bytes())?;
+        let _ = made(&rt, steps_of(rt.alloc(), input.as_bytes()));
     }
-    Ok(())
+}
+
+// Returns an input with the keys below this number.
+fn numbers<R: Abort>(rt: &R, alloc: Global, count: u32) -> String {
+    let mut input = String::new(alloc);
+    for number in 0..count {
+        let key = made(rt, format!(in alloc; "{number}&"));
+        made(rt, input.push_str(&key));
+    }
+    input
+}
+
+// Claims that the map has the keys below this number alone.
+fn has_numbers<R: Abort>(rt: &R, map: &ParsedMap<'_>, count: u32) {
+    is_equal(rt, map.len(), count as usize, "keys");
+    for number in 0..=count {
+        let key = Key::from(number);
+        let _ = comparisons_of(map, &key);
+        let found = map.get_with(&key, &mut Steps::new());
+        is_equal(rt, found.is_some(), number < count, number);
+    }
 }
 
 #[test]
-fn comparisons(rt: HostRuntime) -> Result<(), Fail> {
+fn comparisons(rt: HostRuntime) {
     let _ = comparisons_of(&ParsedMap::new(rt.alloc()), &Key::from("a"));
-    for len in [1u32, 3, 4, 1000] {
-        let mut input = String::new(rt.alloc());
-        for number in 0..len {
-            input.push_str(&format!(in rt.alloc(); "{number}&")?)?;
-        }
-        let ParsedValue::Map(map) = parse(rt.alloc(), input.as_bytes(), Config::new())? else {
-            return Err(Fail::from("no map"));
-        };
-        assert!(rt; map.len() == len as usize);
-        for number in 0..=len {
-            let key = Key::from(number);
-            let _ = comparisons_of(&map, &key);
-            let mut steps = Steps::new();
-            assert_eq!(rt; map.get_with(&key, &mut steps).is_some(), number < len);
+    for count in [1u32, 3, 4, 1000] {
+        let input = numbers(&rt, rt.alloc(), count);
+        match made(&rt, parse(rt.alloc(), input.as_bytes(), Config::new())) {
+            ParsedValue::Map(map) => has_numbers(&rt, &map, count),
+            other => panic!(rt; "no map: {other:?}"),
         }
     }
-    Ok(())
 }

@@ -1,7 +1,6 @@
 //! Keys of maps, and names of fields.
 
 use super::writes_each;
-use crate::build::Build;
 
 const CASES: &str = "\
 # texts
@@ -44,5 +43,5 @@ Struct:point Map:2 UnitVariant:Lt Unsigned:321 UnitVariant:Gt Unsigned:123
 
 #[test]
 fn each_case(rt: HostRuntime) {
-    assert_eq!(rt; writes_each(&Build::new(&rt, rt.alloc()), CASES), 16);
+    writes_each(&rt, rt.alloc(), CASES, 16);
 }

@@ -2,10 +2,9 @@
 
 use super::{writes, writes_each};
 use crate::build::Build;
+use crate::claims::made;
 use serde_qs::Config;
-use std::alloc::AllocError;
 use std::process::Abort;
-use std::test::Fail;
 
 const CASES: &str = "\
 # texts
@@ -69,24 +68,22 @@ Text:foo
 
 #[test]
 fn each_case(rt: HostRuntime) {
-    assert_eq!(rt; writes_each(&Build::new(&rt, rt.alloc()), CASES), 29);
+    writes_each(&rt, rt.alloc(), CASES, 29);
 }
 
 // Asserts that a field with so many letters and spaces is written.
-fn is_written<R: Abort>(b: &Build<'_, R>, count: usize) -> Result<(), AllocError> {
-    let value = "\u{e9} ".repeat(b.alloc, count)?;
-    let encoded = "%C3%A9+".repeat(b.alloc, count)?;
-    let wanted = format!(in b.alloc; "a={encoded}")?;
+fn is_written<R: Abort>(b: &Build<'_, R>, count: usize) {
+    let value = made(b.rt, "\u{e9} ".repeat(b.alloc, count));
+    let encoded = made(b.rt, "%C3%A9+".repeat(b.alloc, count));
+    let wanted = made(b.rt, format!(in b.alloc; "a={encoded}"));
     writes(b, Config::new(), &b.one("a", b.text(&value)), &wanted);
-    Ok(())
 }
 
 // Values on both sides of the length from which one is put in pieces, which may end within a character.
 #[test]
-fn long(rt: HostRuntime) -> Result<(), Fail> {
+fn long(rt: HostRuntime) {
     let build = Build::new(&rt, rt.alloc());
     for count in [341, 342, 1_000] {
-        is_written(&build, count)?;
+        is_written(&build, count);
     }
-    Ok(())
 }

@@ -1,5 +1,5 @@
 -- Lines that are right, where the input is known.
-use Rattle.std.proofs.Common.{◌≡◌, ◌≢◌, ℕ, arith, List, [], ◌++◌, take, Option, None, Some, refl, sym, subst, inl, inr, append-nil}
+use Rattle.std.proofs.Common.{◌≡◌, ◌≢◌, ℕ, arith, List, [], ◌++◌, take, Option, None, Some, refl, sym, subst, append-nil}
 use Rattle.std.specs.Option.{IfSome}
 use Rattle.std.specs.Io.KnownBytes.{Appends}
 use Rattle.qs_tool.specs.Arguments.{Word, asked}
@@ -25,11 +25,6 @@ right_line words request input line status e p = subst (λ asked. IsLineOf asked
 
 pub two_goes_on : ◌≢◌ {A = ℕ} 2 3
 two_goes_on e = absurd (omega (arith, e))
-
--- a result has status 0 or 1
-pub never_stopped : (request : Request) (input line : List ℕ) (status : ℕ) → IsAnswer request input line status → status ≢ 3
-never_stopped request input line status (inl (text, printed, same, ended)) e = absurd (omega (arith, ended, e))
-never_stopped request input line status (inr (faulty, error, ended)) e = absurd (omega (arith, ended, e))
 
 pub usage_is_right : (words : List Word) (input : List ℕ) → None ≡ asked words → IsLine words input usage_line 2
 usage_is_right words input e = subst (λ asked. IsLineOf asked input usage_line 2) e (refl, refl)

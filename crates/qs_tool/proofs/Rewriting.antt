@@ -57,7 +57,7 @@ module _ {A V : Type 0} (value : A → V) (datum : A → Data) (form : Shape) (m
 
   pub faulty : (e : Error) → ReturnsValue value config form meaning input (Err e) → is_memory e ≡ false → IsFaultyBy config form (rewritten config) input
   faulty (Custom message) report other = unread report
-  faulty (Utf8 cause) report other = unread report
-  faulty (Parse message position) report other = no_tree report
+  faulty (Utf8 cause) report other = unread report.0
+  faulty (Parse message position) report other = no_tree report.0
   faulty OutOfMemory report other = cc
   faulty _ report other = absurd report

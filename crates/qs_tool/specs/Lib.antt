@@ -7,4 +7,5 @@ pub mod Line
 pub mod Misuse
 pub mod Shapes
 pub mod Shown
+pub mod Streams
 pub mod internal

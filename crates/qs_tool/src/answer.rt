@@ -1,11 +1,14 @@
 //! The result of an input: a line and a status.
 
-ghost use Rattle.std.specs.Prelude.{◌≡◌, IfOk, IfSome, OnOk};
+ghost use Rattle.std.specs.Prelude.{◌≡◌, ◌≢◌, IfErr, IfOk, IfSome, OnOk};
 ghost use Rattle.std.specs.Io.KnownBytes.{IsAtEnd};
+ghost use Rattle.qs_tool.specs.declared.input.State.TheVariants.{Ended};
 ghost use Rattle.qs_tool.specs.InputError.{is_memory};
 ghost use Rattle.qs_tool.specs.Line.{IsAnswer, IsErrorLine, IsLineOfError, without_newline};
+ghost use Rattle.qs_tool.specs.Streams.{IsReason};
 
 use crate::arguments::Request;
+use crate::input::Input;
 use crate::printing::printed;
 use crate::streams::{Stop, read_input};
 use serde_qs::Error;
@@ -19,14 +22,20 @@ pub struct Answer {
     pub status: u8,
 }
 
-/// Returns the result of the reader's input.
-pub fn respond<R: Read>(alloc: Global, request: Request, reader: &mut R) -> Result<Answer, Stop>
-    ensures answer { IfOk result (λ answer. IfSome (R.remaining reader.old)
-        (λ input. IsAnswer request (without_newline input) answer.line.items answer.status)) }
-    ensures ended { OnOk result (IsAtEnd (R.remaining reader.new)) }
+/// Returns the result of the input.
+pub fn respond<R: Read>(
+    alloc: Global,
+    request: Request,
+    input: &mut Input<R>,
+) -> Result<Answer, Stop>
+    ensures answer { IfOk result (λ answer. IfSome (R.remaining input.old.reader)
+        (λ known. IsAnswer request (without_newline known) answer.line.items answer.status)) }
+    ensures status { IfOk result (λ answer. answer.status ≢ 3) }
+    ensures ended { OnOk result ((input.new.state ≡ Ended) × IsAtEnd (R.remaining input.new.reader)) }
+    ensures reason { IfErr result (IsReason input.new) }
 {
-    let input = read_input(alloc, reader)?;
-    Ok(answer_to(alloc, request, before_newline(input.as_slice()))?)
+    let bytes = read_input(alloc, input)?;
+    Ok(answer_to(alloc, request, before_newline(bytes.as_slice()))?)
 }
 
 // Returns the result of this input.

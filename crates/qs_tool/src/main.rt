@@ -5,7 +5,9 @@ mod answer;
 mod arguments;
 mod flat;
 mod information;
+mod input;
 mod misuse;
+mod output;
 mod params;
 mod printing;
 mod program;
@@ -17,6 +19,8 @@ mod tests;
 
 use crate::arguments::Request;
 use crate::information::Information;
+use crate::input::Input;
+use crate::output::Output;
 use crate::program::{finish, run};
 use std::alloc::AllocError;
 use std::process::ExitCode;
@@ -37,12 +41,12 @@ fn main(rt: HostRuntime) -> ExitCode {
         return ExitCode::from(3);
     };
     let words = words.as_slice();
-    let mut writer = io::writer(&rt);
+    let mut output = Output::new(io::writer(&rt));
     if let Some(information) = Information::asked(words) {
-        return ExitCode::from(finish(&mut writer, information.text().as_bytes(), 0));
+        return ExitCode::from(finish(&mut output, information.text().as_bytes(), 0));
     }
-    let mut reader = rt.reader();
-    let status = run(rt.alloc(), words, &mut reader, &mut writer);
+    let mut input = Input::new(rt.reader());
+    let status = run(rt.alloc(), words, &mut input, &mut output);
     if let Err(misuse) = Request::parse(words) {
         let _ = eprintln!(rt; "qs_tool: {misuse}");
     }

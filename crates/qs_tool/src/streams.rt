@@ -1,16 +1,14 @@
 //! The input taken whole, and the line put whole.
 
-ghost use Rattle.std.specs.Prelude.{◌≡◌, ℕ, ◌<◌, length, take, IfOk, IfSome, OnOk, OnErr};
+ghost use Rattle.std.specs.Prelude.{◌≡◌, ℕ, ◌<◌, true, length, take, IfErr, IfOk, IfSome, OnOk, OnErr};
 ghost use Rattle.std.specs.Io.KnownBytes.{Appends, IsAtEnd};
+ghost use Rattle.qs_tool.specs.declared.input.State.TheVariants.{Ended};
+ghost use Rattle.qs_tool.specs.Streams.{IsReason};
 
+use crate::input::{Input, READ_SIZE};
+use crate::output::Output;
 use std::alloc::{AllocError, Global};
 use std::io::{Read, Write};
-
-/// How many reads there are at most.
-const MAX_READS: usize = 1_000_000;
-
-/// How many bytes a read takes at most.
-const READ_SIZE: usize = 8192;
 
 /// Why a run ends without its line.
 #[derive(Debug, PartialEq, Eq, Drop)]
@@ -32,37 +30,38 @@ impl From<AllocError> for Stop {
     }
 }
 
-/// Returns all that the reader has, by as many reads as are allowed.
-pub fn read_input<R: Read>(alloc: Global, reader: &mut R) -> Result<Vec<u8>, Stop>
-    ensures all { IfOk result (λ bytes. IfSome (R.remaining reader.old) (λ input. bytes.items ≡ input)) }
-    ensures ended { OnOk result (IsAtEnd (R.remaining reader.new)) }
+/// Returns all that the input has, by as many reads as are left.
+pub fn read_input<R: Read>(alloc: Global, input: &mut Input<R>) -> Result<Vec<u8>, Stop>
+    ensures all { IfOk result (λ bytes. IfSome (R.remaining input.old.reader) (λ known. bytes.items ≡ known)) }
+    ensures ended { OnOk result ((input.new.state ≡ Ended) × IsAtEnd (R.remaining input.new.reader)) }
+    ensures reason { IfErr result (IsReason input.new) }
 {
-    let mut input = Vec::new(alloc);
+    let mut bytes = Vec::new(alloc);
     let mut buffer = [0u8; READ_SIZE];
-    for _ in 0..MAX_READS {
-        let Ok(count) = reader.read(&mut buffer) else {
+    loop {
+        let Some(count) = input.read(&mut buffer) else {
             return Err(Stop::Stream);
         };
         if count == 0 {
-            return Ok(input);
+            return Ok(bytes);
         }
-        input.extend_from_slice(&buffer[..count])?;
+        bytes.extend_from_slice(&buffer[..count])?;
     }
-    Err(Stop::Stream)
 }
 
 /// Writes these bytes, by one write after another, none of which is repeated.
-pub fn write_all<W: Write>(writer: &mut W, bytes: &[u8]) -> Result<(), Stop>
-    ensures whole { OnOk result (Appends (W.contents writer.old) (W.contents writer.new) bytes.now) }
+pub fn write_all<W: Write>(output: &mut Output<W>, bytes: &[u8]) -> Result<(), Stop>
+    ensures whole { OnOk result (Appends (W.contents output.old.writer) (W.contents output.new.writer) bytes.now) }
     ensures part { OnErr result ((n : ℕ) × (n < length bytes.now)
-        × Appends (W.contents writer.old) (W.contents writer.new) (take n bytes.now)) }
+        × Appends (W.contents output.old.writer) (W.contents output.new.writer) (take n bytes.now)) }
+    ensures failed { OnErr result (output.new.has_failed ≡ true) }
 {
     let mut rest = bytes;
     while !rest.is_empty() {
-        match writer.write(rest) {
-            Ok(count) if count > 0 => rest = &rest[count..],
-            _ => return Err(Stop::Stream),
-        }
+        let Some(count) = output.write(rest) else {
+            return Err(Stop::Stream);
+        };
+        rest = &rest[count..];
     }
     Ok(())
 }

@@ -7,8 +7,11 @@ mod params;
 mod streams;
 mod strict;
 
+use crate::input::Input;
+use crate::output::Output;
 use crate::program::run;
 use std::alloc::{AllocError, Global};
+use std::io::{Read, Write};
 use std::process::Abort;
 use std::test::Fail;
 
@@ -21,14 +24,29 @@ fn words(alloc: Global, line: &str) -> Result<Vec<String>, AllocError> {
     Ok(words)
 }
 
+// Runs the program with these arguments, and returns the status.
+fn status_of<R: Read + Drop, W: Write>(
+    alloc: Global,
+    words: &[String],
+    reader: R,
+    writer: &mut W,
+) -> u8 {
+    run(
+        alloc,
+        words,
+        &mut Input::new(reader),
+        &mut Output::new(writer),
+    )
+}
+
 // Asserts that runs over memory write these lines and end with this status. A row is the arguments, the input and the line, with ` | ` between.
 fn expect(rt: &impl Abort, alloc: Global, status: u8, rows: &[&str]) -> Result<(), Fail> {
     for row in rows {
         let mut parts = row.split(" | ");
         let words = words(alloc, parts.next().unwrap_or(""))?;
-        let mut reader = parts.next().unwrap_or("").as_bytes();
+        let reader = parts.next().unwrap_or("").as_bytes();
         let mut writer = Vec::new(alloc);
-        let ended = run(alloc, words.as_slice(), &mut reader, &mut writer);
+        let ended = status_of(alloc, words.as_slice(), reader, &mut writer);
         let line = format!(in alloc; "{}\n", parts.next().unwrap_or(""))?;
         assert_eq!(rt; writer.as_slice(), line.as_bytes(), "{row}");
         assert_eq!(rt; ended, status, "{row}");

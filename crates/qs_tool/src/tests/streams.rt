@@ -1,8 +1,7 @@
 //! Readers and writers that fail in mid-stream.
 ghost use Rattle.std.specs.Prelude.{◌≡◌, IfOk};
 
-use super::words;
-use crate::program::run;
+use super::{status_of, words};
 use std::io;
 use std::io::{Read, Write};
 use std::test::Fail;
@@ -97,13 +96,13 @@ fn reads_that_fail(rt: HostRuntime) -> Result<(), Fail> {
     let words = words(rt.alloc(), "flat")?;
     for end in [End::Fails, End::IsInterrupted] {
         for count in 0..=INPUT.len() {
-            let mut reader = Source {
+            let reader = Source {
                 rest: &INPUT[..count],
                 end,
             };
             let mut writer = Vec::new(rt.alloc());
             assert_eq!(rt;
-                run(rt.alloc(), words.as_slice(), &mut reader, &mut writer),
+                status_of(rt.alloc(), words.as_slice(), reader, &mut writer),
                 3,
                 "{count}"
             );
@@ -118,7 +117,7 @@ fn an_input_without_end(rt: HostRuntime) -> Result<(), Fail> {
     let words = words(rt.alloc(), "flat")?;
     let mut writer = Vec::new(rt.alloc());
     assert_eq!(rt;
-        run(rt.alloc(), words.as_slice(), &mut Endless, &mut writer),
+        status_of(rt.alloc(), words.as_slice(), Endless, &mut writer),
         3
     );
     assert_eq!(rt; writer.len(), 0);
@@ -132,13 +131,13 @@ fn as_many_reads_as_are_allowed(rt: HostRuntime) -> Result<(), Fail> {
     let mut input = Vec::from_slice(rt.alloc(), INPUT)?;
     input.resize(999_999, b'&')?;
     for (line, status) in [(LINE, 0), (b"".as_slice(), 3)] {
-        let mut reader = Source {
+        let reader = Source {
             rest: input.as_slice(),
             end: End::TakesNothing,
         };
         let mut writer = Vec::new(rt.alloc());
         assert_eq!(rt;
-            run(rt.alloc(), words.as_slice(), &mut reader, &mut writer),
+            status_of(rt.alloc(), words.as_slice(), reader, &mut writer),
             status
         );
         assert_eq!(rt; writer.as_slice(), line);
@@ -152,7 +151,7 @@ fn writes_that_fail(rt: HostRuntime) -> Result<(), Fail> {
     let words = words(rt.alloc(), "flat")?;
     for end in [End::Fails, End::IsInterrupted, End::TakesNothing] {
         for room in 0..LINE.len() {
-            let mut reader = INPUT;
+            let reader = INPUT;
             let mut writer = Target {
                 held: Vec::new(rt.alloc()),
                 step: 5,
@@ -160,7 +159,7 @@ fn writes_that_fail(rt: HostRuntime) -> Result<(), Fail> {
                 end,
             };
             assert_eq!(rt;
-                run(rt.alloc(), words.as_slice(), &mut reader, &mut writer),
+                status_of(rt.alloc(), words.as_slice(), reader, &mut writer),
                 3,
                 "{room}"
             );
@@ -173,7 +172,7 @@ fn writes_that_fail(rt: HostRuntime) -> Result<(), Fail> {
 #[test]
 fn a_byte_at_a_time(rt: HostRuntime) -> Result<(), Fail> {
     let words = words(rt.alloc(), "flat")?;
-    let mut reader = Source {
+    let reader = Source {
         rest: INPUT,
         end: End::TakesNothing,
     };
@@ -184,7 +183,7 @@ fn a_byte_at_a_time(rt: HostRuntime) -> Result<(), Fail> {
         end: End::Fails,
     };
     assert_eq!(rt;
-        run(rt.alloc(), words.as_slice(), &mut reader, &mut writer),
+        status_of(rt.alloc(), words.as_slice(), reader, &mut writer),
         0
     );
     assert_eq!(rt; writer.held.as_slice(), LINE);

@@ -11,8 +11,8 @@ lifted (Some input) items P e p = subst P e p
 pub returns-clause-answer : goal.returns-clause-answer
 returns-clause-answer g c =
     let answer = c.in_ok-answer_to.field-0 in
-    let input = c.in_ok-input.input.items in
+    let input = c.in_ok-bytes.bytes.items in
     let text = c.before_newline.ensures ∙ ap without_newline c.as_slice.ensures.value in
     let P : List ℕ → Type 0 = λ input. IsAnswer c.args.request (without_newline input) answer.line.items answer.status in
     let R : List ℕ → Type 0 = λ t. IsAnswer c.args.request t answer.line.items answer.status in
-    lifted (g.R.Read.remaining c.args.reader.now) input P c.in_ok-input.ensures.all (subst R text c.in_ok-answer_to.ensures)
+    lifted (g.R.Read.remaining c.args.input.now.reader) input P c.in_ok-bytes.ensures.all (subst R text c.in_ok-answer_to.ensures)

@@ -7,7 +7,7 @@ abbrev pub invariant-loop-rest : goal.invariant-loop-rest
 invariant-loop-rest g l = record {
   left : length l.rest ≤ length l.bytes;
   rest_is : l.rest ≡ drop (length l.bytes - length l.rest) l.bytes;
-  taken : Appends (g.W.Write.contents l.fn.writer) (g.W.Write.contents l.writer) (take (length l.bytes - length l.rest) l.bytes);
+  taken : Appends (g.W.Write.contents l.fn.output.writer) (g.W.Write.contents l.output.writer) (take (length l.bytes - length l.rest) l.bytes);
 }
 
 abbrev pub decreases-loop-rest : goal.decreases-loop-rest

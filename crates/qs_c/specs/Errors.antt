@@ -1,11 +1,12 @@
--- The kind and the position of an error of the other crates.
-use Rattle.std.specs.Prelude.{◌≡◌, ◌⊎◌, ℕ}
+-- The kind, the position and the text of an error of the other crates.
+use Rattle.std.specs.Prelude.{◌≡◌, ◌⊎◌, ℕ, List, IfSome}
+use Rattle.qs_tree.specs.Error.{error_text}
 use Rattle.qs_tree.specs.declared.error.Error.{Error}
 use Rattle.qs_tree.specs.declared.error.Error.TheVariants as e
 use Rattle.qs_c.specs.declared.failure.Failure.{Failure}
 use Rattle.qs_c.specs.declared.failure.FailureKind.{FailureKind}
 use Rattle.qs_c.specs.declared.failure.FailureKind.TheVariants.{OutOfMemory, Parse, Mismatch, NotUtf8, TooDeep}
-use Rattle.qs_c.specs.Status.{IsOutOfMemory}
+use Rattle.qs_c.specs.Status.{text_of, IsOutOfMemory}
 
 -- a write to memory fails only where an allocation does
 abbrev pub kind_of : Error → FailureKind
@@ -21,6 +22,10 @@ abbrev pub position_of : Error → ℕ
 position_of (e.Parse message position) = position
 position_of _ = 0
 
+-- the text is what the error's `Display` writes, where that is specified
+abbrev pub IsTextOf : Error → List ℕ → Type 0
+IsTextOf error text = IfSome (error_text error) (λ bytes. text ≡ bytes)
+
 -- it is the error's, unless an allocation for the error's text failed
 abbrev pub IsFailureOf : Failure → Error → Type 0
-IsFailureOf failure error = IsOutOfMemory failure ⊎ ((failure.kind ≡ kind_of error) × (failure.position ≡ position_of error))
+IsFailureOf failure error = IsOutOfMemory failure ⊎ ((failure.kind ≡ kind_of error) × (failure.position ≡ position_of error) × IsTextOf error (text_of failure))

@@ -1,6 +1,7 @@
 //! What a call leaves with its caller.
 
 ghost use Rattle.std.specs.Prelude.{◌≡◌, ◌<◌, ◌≤◌, ◌++◌, length, drop, IsTrue, IsFalse};
+ghost use Rattle.std.specs.Str.{IsUtf8};
 ghost use Rattle.qs_c.specs.Answer.{IsHandedOut, IsLaidOut};
 ghost use Rattle.qs_c.specs.Status.{code_of, text_of, IsDone};
 
@@ -33,10 +34,12 @@ pub(crate) fn give(text: &[u8], out: &mut [u8], answer: &mut Answer) -> u32
 }
 
 /// Copies the error's text to the front of `out`, where it fits there, and returns the error's status.
+#[tactic(auto, using(crate::proofs::Messages::text_is_utf8))]
 pub(crate) fn fail(failure: Failure, out: &mut [u8], answer: &mut Answer) -> u32
     ensures failed { result ≡ code_of failure.kind }
     ensures fails { IsDone result → ⊥ }
     ensures text { IsLaidOut (text_of failure) out.old out.new answer.new.len }
+    ensures utf8 { IsUtf8 (text_of failure) }
     ensures position { answer.new.position ≡ failure.position }
 {
     answer.position = failure.position;

@@ -9,6 +9,7 @@ use qs_data::Error;
 use std::alloc::Global;
 
 /// Returns the failure that the error is, with its text. That an allocation failed has none.
+#[tactic(auto, using(crate::proofs::Messages::same_text))]
 pub(crate) fn failure_of(alloc: Global, error: Error) -> Failure
     ensures failure { IsFailureOf result error }
     ensures memory { MemoryHasNoText result }

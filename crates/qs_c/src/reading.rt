@@ -1,12 +1,14 @@
 //! Reading.
 
 ghost use Rattle.std.specs.Prelude.{◌≡◌, true, List, ℕ, IfOk, IfErr};
+ghost use Rattle.std.specs.Str.{IsUtf8};
 ghost use Rattle.qs_spec.specs.Shape.{is_distinct};
 ghost use Rattle.qs_spec.specs.Shape.Shape.{any};
 ghost use Rattle.qs_data.specs.data.Views.{data_of};
 ghost use Rattle.qs_data.specs.shape.Views.{shape_of};
 ghost use Rattle.qs_c.specs.Answer.{IsHandedOut, IsLaidOut, LeavesNothing};
 ghost use Rattle.qs_c.specs.Errors.{kind_of, position_of};
+ghost use Rattle.qs_c.specs.Messages.{SaysNotRead, SaysUnread};
 ghost use Rattle.qs_c.specs.Notation.{IsNoNotation};
 ghost use Rattle.qs_c.specs.Outcomes.{IsRead, IsReadBy, IsReadByText, WhyNotParsed, WhyNotRead, WhyUnread};
 ghost use Rattle.qs_c.specs.Settings.{config_of, AreNone};
@@ -50,7 +52,8 @@ pub extern "C" fn qs_parse(
         × IsHandedOut text out.old out.new result answer.new.len }
     ensures position { IsDone result → answer.new.position ≡ 0 }
     ensures failed { (IsDone result → ⊥) → (kind : FailureKind) × (result ≡ code_of kind) × WhyNotParsed kind answer.new.position settings.now input.now }
-    ensures message { (IsDone result → ⊥) → (text : List ℕ) × IsLaidOut text out.old out.new answer.new.len }
+    ensures message { (IsDone result → ⊥) → (kind : FailureKind) × (text : List ℕ) × (result ≡ code_of kind) × SaysNotRead kind answer.new.position settings.now text
+        × IsUtf8 text × IsLaidOut text out.old out.new answer.new.len }
     ensures memory { result ≡ 2 → LeavesNothing out.old out.new answer.new }
     ensures settings { AreNone settings.now → IsStoppedEarly result }
 {
@@ -84,7 +87,8 @@ pub extern "C" fn qs_read(
         × IsHandedOut text out.old out.new result answer.new.len }
     ensures position { IsDone result → answer.new.position ≡ 0 }
     ensures failed { (IsDone result → ⊥) → (kind : FailureKind) × (result ≡ code_of kind) × WhyNotRead kind answer.new.position settings.now shape.now input.now }
-    ensures message { (IsDone result → ⊥) → (text : List ℕ) × IsLaidOut text out.old out.new answer.new.len }
+    ensures message { (IsDone result → ⊥) → (kind : FailureKind) × (text : List ℕ) × (result ≡ code_of kind) × SaysNotRead kind answer.new.position settings.now text
+        × IsUtf8 text × IsLaidOut text out.old out.new answer.new.len }
     ensures memory { result ≡ 2 → LeavesNothing out.old out.new answer.new }
     ensures settings { AreNone settings.now → IsStoppedEarly result }
     ensures reason { result ≡ code_of kind.Shape → (reason : List ℕ) × IsNoNotation shape.now reason answer.new.position × IsLaidOut reason out.old out.new answer.new.len }
@@ -96,9 +100,11 @@ pub extern "C" fn qs_read(
 }
 
 // Returns the JSON of what `any` reads.
+#[tactic(auto, using(crate::proofs::Messages::read_result))]
 fn parsed(alloc: Global, settings: &Settings, input: &[u8]) -> Result<Vec<u8>, Failure>
     ensures text { IfOk result (λ text. IsRead (config_of settings.now) any input.now text.items) }
     ensures none { IfErr result (λ failure. WhyNotParsed failure.kind failure.position settings.now input.now) }
+    ensures says { IfErr result (λ failure. SaysNotRead failure.kind failure.position settings.now (text_of failure)) }
     ensures memory { IfErr result MemoryHasNoText }
     ensures sound { IfOk result (λ text. AreNone settings.now → ⊥) }
     ensures early { IfErr result (λ failure. AreNone settings.now → IsStoppedEarly (code_of failure.kind)) }
@@ -108,9 +114,11 @@ fn parsed(alloc: Global, settings: &Settings, input: &[u8]) -> Result<Vec<u8>, F
 }
 
 // Returns the JSON of what the shape in the notation reads.
+#[tactic(auto, using(crate::proofs::Messages::read_result))]
 fn read(alloc: Global, settings: &Settings, shape: &[u8], input: &[u8]) -> Result<Vec<u8>, Failure>
     ensures text { IfOk result (λ text. IsReadByText (config_of settings.now) shape.now input.now text.items) }
     ensures none { IfErr result (λ failure. WhyNotRead failure.kind failure.position settings.now shape.now input.now) }
+    ensures says { IfErr result (λ failure. SaysNotRead failure.kind failure.position settings.now (text_of failure)) }
     ensures memory { IfErr result MemoryHasNoText }
     ensures sound { IfOk result (λ text. AreNone settings.now → ⊥) }
     ensures early { IfErr result (λ failure. AreNone settings.now → IsStoppedEarly (code_of failure.kind)) }
@@ -122,10 +130,12 @@ fn read(alloc: Global, settings: &Settings, shape: &[u8], input: &[u8]) -> Resul
 }
 
 // Returns the JSON of the data that the shape reads.
+#[tactic(auto, using(crate::proofs::Messages::failure_unread))]
 fn read_json(alloc: Global, config: Config, shape: &Shape, input: &[u8]) -> Result<Vec<u8>, Failure>
     requires { is_distinct (shape_of shape.now) ≡ true }
     ensures text { IfOk result (λ text. IsRead config (shape_of shape.now) input.now text.items) }
     ensures none { IfErr result (λ failure. WhyUnread failure.kind failure.position config (shape_of shape.now) input.now) }
+    ensures says { IfErr result (λ failure. SaysUnread failure.kind failure.position (text_of failure)) }
     ensures memory { IfErr result MemoryHasNoText }
 {
     match read_data(alloc, config, shape, input) {

@@ -4,7 +4,8 @@ ghost use Rattle.std.specs.Prelude.{◌≡◌, ◌<◌, ◌≤◌, ◌⊎◌, If
 ghost use Rattle.qs_tree.specs.Settings.{array_format_of, duplicates_of as behavior_of};
 ghost use Rattle.qs_c.specs.Settings.{config_of, format_of, duplicates_of, most_levels, AreNone};
 ghost use Rattle.qs_c.specs.declared.failure.FailureKind.TheVariants.{Settings as BadSettings};
-ghost use Rattle.qs_c.specs.Status.{IsOutOfMemory};
+ghost use Rattle.qs_c.specs.Messages.{array_format_text, settings_text};
+ghost use Rattle.qs_c.specs.Status.{text_of, IsOutOfMemory};
 
 use crate::failure::{Failure, FailureKind, failure_at};
 use qs_data::{ArrayFormat, Config, DuplicateKeyBehavior};
@@ -37,7 +38,7 @@ impl Settings {
         ensures config { IfOk result (λ config. config ≡ config_of self.now) }
         ensures sound { IfOk result (λ config. AreNone self.now → ⊥) }
         ensures limit { IfOk result (λ config. config.max_depth ≤ most_levels) }
-        ensures none { IfErr result (λ failure. IsOutOfMemory failure ⊎ ((failure.kind ≡ BadSettings) × (failure.position ≡ 0) × AreNone self.now)) }
+        ensures none { IfErr result (λ failure. IsOutOfMemory failure ⊎ ((failure.kind ≡ BadSettings) × (failure.position ≡ 0) × AreNone self.now × (text_of failure ≡ settings_text self.now))) }
     {
         if self.max_depth > MOST_DEPTH {
             return Err(failure_at(
@@ -61,7 +62,7 @@ impl Settings {
     fn elements(&self, alloc: Global) -> Result<ArrayFormat, Failure>
         ensures format { IfOk result (λ format. array_format_of format ≡ format_of self.now.array_format) }
         ensures sound { IfOk result (λ format. 2 < self.now.array_format → ⊥) }
-        ensures none { IfErr result (λ failure. IsOutOfMemory failure ⊎ ((failure.kind ≡ BadSettings) × (failure.position ≡ 0) × (2 < self.now.array_format))) }
+        ensures none { IfErr result (λ failure. IsOutOfMemory failure ⊎ ((failure.kind ≡ BadSettings) × (failure.position ≡ 0) × (2 < self.now.array_format) × (text_of failure ≡ array_format_text))) }
     {
         match self.array_format {
             0 => Ok(ArrayFormat::Indexed),

@@ -4,7 +4,8 @@ ghost use Rattle.std.specs.Prelude.{◌≡◌, ◌⊎◌, map, None, IfOk, IfErr
 ghost use Rattle.std.specs.Str.{IsUtf8};
 ghost use Rattle.json.specs.Json.{document};
 ghost use Rattle.qs_data.specs.data.Views.{data_of, pair_of};
-ghost use Rattle.qs_c.specs.Status.{IsOutOfMemory};
+ghost use Rattle.qs_c.specs.Messages.{not_json_text};
+ghost use Rattle.qs_c.specs.Status.{text_of, IsOutOfMemory};
 ghost use Rattle.qs_c.specs.Taken.{item_data, member_data, IsJsonOf};
 ghost use Rattle.qs_c.specs.declared.failure.FailureKind.TheVariants as kind;
 
@@ -14,9 +15,10 @@ use qs_data::Data;
 use std::alloc::{AllocError, Global};
 
 /// Returns the data that the JSON is.
+#[tactic(auto, using(crate::proofs::Messages::text_of_json))]
 pub(crate) fn taken(alloc: Global, text: &[u8]) -> Result<Data, Failure>
     ensures json { IfOk result (λ datum. IsJsonOf text.now (data_of datum)) }
-    ensures none { IfErr result (λ failure. IsOutOfMemory failure ⊎ ((failure.kind ≡ kind.Json) × (IsUtf8 text.now → document text.now ≡ None))) }
+    ensures none { IfErr result (λ failure. IsOutOfMemory failure ⊎ ((failure.kind ≡ kind.Json) × (IsUtf8 text.now → document text.now ≡ None) × (text_of failure ≡ not_json_text text.now))) }
 {
     let Ok(text) = std::str::from_utf8(text) else {
         return Err(failure_at(alloc, FailureKind::Json, "the JSON isn't UTF-8", 0));

@@ -1,14 +1,17 @@
 //! Writing.
 
 ghost use Rattle.std.specs.Prelude.{◌≡◌, None, false, List, ℕ, IfOk, IfErr};
+ghost use Rattle.std.specs.Str.{IsUtf8};
 ghost use Rattle.qs_spec.specs.Entry.{entries};
 ghost use Rattle.qs_spec.specs.Written.{written};
 ghost use Rattle.qs_data.specs.data.Views.{data_of};
 ghost use Rattle.qs_c.specs.Answer.{IsHandedOut, IsLaidOut, LeavesNothing};
 ghost use Rattle.qs_c.specs.Errors.{kind_of, position_of};
+ghost use Rattle.qs_c.specs.Messages.{SaysNotWritten};
 ghost use Rattle.qs_c.specs.Outcomes.{IsWritten, WhyNotWritten, WhyUnwritten};
 ghost use Rattle.qs_c.specs.Settings.{config_of, AreNone};
-ghost use Rattle.qs_c.specs.Status.{code_of, IsDone, IsStoppedEarly, MemoryHasNoText};
+ghost use Rattle.qs_c.specs.internal.Unwritten.{IsUnwritten};
+ghost use Rattle.qs_c.specs.Status.{code_of, text_of as message_of, IsDone, IsStoppedEarly, MemoryHasNoText};
 ghost use Rattle.qs_c.specs.declared.failure.FailureKind.{FailureKind};
 
 use crate::answer::{Answer, fail, give};
@@ -47,7 +50,8 @@ pub extern "C" fn qs_write(
         × IsHandedOut text out.old out.new result answer.new.len }
     ensures position { IsDone result → answer.new.position ≡ 0 }
     ensures failed { (IsDone result → ⊥) → (kind : FailureKind) × (result ≡ code_of kind) × WhyNotWritten kind answer.new.position settings.now json.now }
-    ensures message { (IsDone result → ⊥) → (text : List ℕ) × IsLaidOut text out.old out.new answer.new.len }
+    ensures message { (IsDone result → ⊥) → (kind : FailureKind) × (text : List ℕ) × (result ≡ code_of kind) × SaysNotWritten kind settings.now json.now text
+        × IsUtf8 text × IsLaidOut text out.old out.new answer.new.len }
     ensures memory { result ≡ 2 → LeavesNothing out.old out.new answer.new }
     ensures settings { AreNone settings.now → IsStoppedEarly result }
 {
@@ -58,9 +62,11 @@ pub extern "C" fn qs_write(
 }
 
 // Returns the querystring of data that are JSON.
+#[tactic(auto, using(crate::proofs::Messages::failure_unwritten))]
 fn written(alloc: Global, settings: &Settings, json: &[u8]) -> Result<Vec<u8>, Failure>
     ensures text { IfOk result (λ text. IsWritten (config_of settings.now) json.now text.items) }
     ensures none { IfErr result (λ failure. WhyNotWritten failure.kind failure.position settings.now json.now) }
+    ensures says { IfErr result (λ failure. SaysNotWritten failure.kind settings.now json.now (message_of failure)) }
     ensures memory { IfErr result MemoryHasNoText }
     ensures sound { IfOk result (λ text. AreNone settings.now → ⊥) }
     ensures early { IfErr result (λ failure. AreNone settings.now → IsStoppedEarly (code_of failure.kind)) }
@@ -78,6 +84,7 @@ fn text_of(alloc: Global, config: Config, datum: &Data) -> qs_data::Result<Vec<u
     ensures whole { IfOk result (λ text. (entries config (data_of datum.now)).error ≡ None) }
     ensures text { IfOk result (λ text. text.items ≡ written config.form false (entries config (data_of datum.now)).entries) }
     ensures none { IfErr result (λ error. WhyUnwritten (kind_of error) (position_of error) config (data_of datum.now)) }
+    ensures errors { IfErr result (IsUnwritten config.max_depth) }
 {
     let text = Vec::with_capacity(alloc, 128)?;
     let mut serializer = Serializer::new(text, config);

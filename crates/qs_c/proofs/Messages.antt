@@ -1,0 +1,122 @@
+-- What the text of an error says.
+use Rattle.std.proofs.Common.{◌≡◌, ◌⊎◌, inl, inr, ℕ, List, [], Bool, true, false, Result, Ok, Err, Option, Some, None, refl, sym, ap, subst, codes}
+use Rattle.std.proofs.lemmas.Str.{IsUtf8-nil, IsUtf8-string_bytes, IsUtf8-from_is_utf8, is_utf8-from_IsUtf8}
+use Rattle.std.specs.Prelude.{cond, IfErr}
+use Rattle.std.specs.Str.{IsUtf8, is_utf8}
+use Rattle.std.specs.declared.alloc.Global.{Global}
+use Rattle.std.specs.declared.string.String.{String}
+use Rattle.qs_spec.specs.Config.{Config}
+use Rattle.qs_spec.specs.Shape.{Shape}
+use Rattle.qs_tree.specs.declared.error.Error.{Error}
+use Rattle.qs_tree.specs.declared.error.Error.TheVariants as e
+use Rattle.qs_c.specs.declared.failure.Failure.{Failure}
+use Rattle.qs_c.specs.declared.failure.FailureKind.{FailureKind}
+use Rattle.qs_c.specs.declared.failure.FailureKind.TheVariants as kind
+use Rattle.qs_c.specs.declared.settings.Settings.{Settings}
+use Rattle.qs_c.specs.Errors.{kind_of, position_of, IsFailureOf, IsTextOf}
+use Rattle.qs_c.specs.internal.Unwritten.{IsUnwritten}
+use Rattle.qs_c.specs.Messages.{IsErrorText, SaysUnread, SaysNotRead, SaysUnwritten, SaysNotWritten, not_json_text}
+use Rattle.qs_c.specs.Outcomes.{WhyUnread}
+use Rattle.qs_c.specs.Settings.{config_of}
+use Rattle.qs_c.specs.Status.{text_of, text_or_none, MemoryHasNoText}
+
+-- it is UTF-8
+utf8_or_none : (text : Option (String Global)) → IsUtf8 (text_or_none text)
+utf8_or_none (Some text) = IsUtf8-string_bytes text
+utf8_or_none None = IsUtf8-nil
+
+pub text_is_utf8 : (failure : Failure) → IsUtf8 (text_of failure)
+text_is_utf8 failure = utf8_or_none failure.text
+
+-- it is the error's where it is the same as one that is
+pub same_text : (error : Error) (text other : List ℕ) → text ≡ other → IsTextOf error other → IsTextOf error text
+same_text error text other same is = subst (IsTextOf error) (sym same) is
+
+-- which of the two texts a text has that isn't read as JSON
+abbrev chosen : Bool → List ℕ
+chosen b = cond b (codes "the JSON is invalid") (codes "the JSON isn't UTF-8")
+
+not_utf8 : (json : List ℕ) (b : Bool) → is_utf8 json ≡ b → (IsUtf8 json → ⊥) → not_json_text json ≡ codes "the JSON isn't UTF-8"
+not_utf8 json true is h = absurd (h (IsUtf8-from_is_utf8 json is))
+not_utf8 json false is h = ap chosen is
+
+pub text_of_bytes : (json : List ℕ) → (IsUtf8 json → ⊥) → not_json_text json ≡ codes "the JSON isn't UTF-8"
+text_of_bytes json h = not_utf8 json (is_utf8 json) refl h
+
+pub text_of_text : (json : List ℕ) → IsUtf8 json → not_json_text json ≡ codes "the JSON is invalid"
+text_of_text json h = ap chosen (is_utf8-from_IsUtf8 json h)
+
+pub ruleset text_of_json = (text_of_bytes, text_of_text)
+
+-- of an input that isn't read, by the kind of the error
+unread : (k : FailureKind) (position : ℕ) (config : Config) (shape : Shape) (input text : List ℕ)
+    → WhyUnread k position config shape input → (k ≡ kind.OutOfMemory → text ≡ []) → IsErrorText k position text → SaysUnread k position text
+unread kind.OutOfMemory position config shape input text w m is = m refl
+unread kind.Settings position config shape input text w m is = absurd w
+unread kind.Parse position config shape input text w m is = is
+unread kind.Mismatch position config shape input text w m is = is
+unread kind.NotUtf8 position config shape input text w m is = is
+unread kind.Shape position config shape input text w m is = absurd w
+unread kind.Json position config shape input text w m is = absurd w
+unread kind.TooDeep position config shape input text w m is = absurd w
+
+pub failure_unread : (failure : Failure) (error : Error) (config : Config) (shape : Shape) (input : List ℕ)
+    → IsFailureOf failure error → MemoryHasNoText failure → WhyUnread (kind_of error) (position_of error) config shape input → SaysUnread failure.kind failure.position (text_of failure)
+failure_unread failure error config shape input (inl memory) m w = subst (λ k. SaysUnread k failure.position (text_of failure)) (sym memory.kind) memory.text
+failure_unread failure error config shape input (inr is) m w =
+    let at : WhyUnread (kind_of error) failure.position config shape input = subst (λ p. WhyUnread (kind_of error) p config shape input) (sym is.1) w in
+    let why : WhyUnread failure.kind failure.position config shape input = subst (λ k. WhyUnread k failure.position config shape input) (sym is.0) at in
+    unread failure.kind failure.position config shape input (text_of failure) why m (record {
+      error = error;
+      is_kind = is.0;
+      is_position = is.1;
+      is_text = is.2;
+    })
+
+not_read : (k : FailureKind) (position : ℕ) (settings : Settings) (text : List ℕ) → SaysUnread k position text → SaysNotRead k position settings text
+not_read kind.OutOfMemory position settings text is = is
+not_read kind.Settings position settings text is = absurd is
+not_read kind.Parse position settings text is = is
+not_read kind.Mismatch position settings text is = is
+not_read kind.NotUtf8 position settings text is = is
+not_read kind.Shape position settings text is = absurd is
+not_read kind.Json position settings text is = absurd is
+not_read kind.TooDeep position settings text is = absurd is
+
+pub read_result : {A : Type 0} (r : Result A Failure) (settings : Settings)
+    → IfErr r (λ failure. SaysUnread failure.kind failure.position (text_of failure)) → IfErr r (λ failure. SaysNotRead failure.kind failure.position settings (text_of failure))
+read_result (Ok a) settings h = tt
+read_result (Err failure) settings h = not_read failure.kind failure.position settings (text_of failure) h
+
+-- of data that aren't written, by the error
+module _ (failure : Failure) (n : ℕ) where
+  by_kind : (k : FailureKind) → failure.kind ≡ k → SaysUnwritten k n (text_of failure) → SaysUnwritten failure.kind n (text_of failure)
+  by_kind k is says = subst (λ k. SaysUnwritten k n (text_of failure)) (sym is) says
+
+  unwritten : (error : Error) → failure.kind ≡ kind_of error → IsTextOf error (text_of failure) → MemoryHasNoText failure → IsUnwritten n error → SaysUnwritten failure.kind n (text_of failure)
+  unwritten (e.Custom message) is text m u = absurd u
+  unwritten (e.MaxSerializationDepthExceeded depth) is text m u = by_kind kind.TooDeep is (subst (λ d. IsTextOf (e.MaxSerializationDepthExceeded d) (text_of failure)) u text)
+  unwritten (e.Parse message position) is text m u = absurd u
+  unwritten e.Unsupported is text m u = by_kind kind.Mismatch is text
+  unwritten (e.FromUtf8 cause) is text m u = absurd u
+  unwritten (e.Io cause) is text m u = by_kind kind.OutOfMemory is (m is)
+  unwritten (e.ParseInt cause) is text m u = absurd u
+  unwritten (e.Utf8 cause) is text m u = absurd u
+  unwritten e.OutOfMemory is text m u = by_kind kind.OutOfMemory is (m is)
+  unwritten e.Failed is text m u = absurd u
+
+not_written : (k : FailureKind) (settings : Settings) (json text : List ℕ) → SaysUnwritten k settings.max_depth text → SaysNotWritten k settings json text
+not_written kind.OutOfMemory settings json text is = is
+not_written kind.Settings settings json text is = absurd is
+not_written kind.Parse settings json text is = absurd is
+not_written kind.Mismatch settings json text is = is
+not_written kind.NotUtf8 settings json text is = absurd is
+not_written kind.Shape settings json text is = absurd is
+not_written kind.Json settings json text is = absurd is
+not_written kind.TooDeep settings json text is = is
+
+pub failure_unwritten : (failure : Failure) (error : Error) (config : Config) (settings : Settings) (json : List ℕ)
+    → config ≡ config_of settings → IsFailureOf failure error → MemoryHasNoText failure → IsUnwritten config.max_depth error → SaysNotWritten failure.kind settings json (text_of failure)
+failure_unwritten failure error config settings json same (inl memory) m u = subst (λ k. SaysNotWritten k settings json (text_of failure)) (sym memory.kind) memory.text
+failure_unwritten failure error config settings json same (inr is) m u =
+    not_written failure.kind settings json (text_of failure) (unwritten failure settings.max_depth error is.0 is.2 m (subst (λ c. IsUnwritten c.max_depth error) same u))

@@ -1,0 +1,57 @@
+-- What the text of an error says.
+use Rattle.std.specs.Prelude.{◌≡◌, ⊤, ℕ, nat_lt, cond, List, [], codes}
+use Rattle.std.specs.Str.{is_utf8}
+use Rattle.qs_tree.specs.Error.{error_text}
+use Rattle.qs_tree.specs.declared.error.Error.{Error}
+use Rattle.qs_tree.specs.declared.error.Error.TheVariants as e
+use Rattle.qs_c.specs.declared.failure.FailureKind.{FailureKind}
+use Rattle.qs_c.specs.declared.failure.FailureKind.TheVariants as kind
+use Rattle.qs_c.specs.declared.settings.Settings.{Settings}
+use Rattle.qs_c.specs.Errors.{kind_of, position_of, IsTextOf}
+use Rattle.qs_c.specs.Settings.{most_levels}
+
+-- of an array format that is none
+abbrev pub array_format_text : List ℕ
+array_format_text = codes "array_format is none of 0, 1 and 2"
+
+-- of settings that are none: the depth comes first
+abbrev pub settings_text : Settings → List ℕ
+settings_text s = cond (nat_lt most_levels s.max_depth) (codes "max_depth is more than 100") array_format_text
+
+-- of a text that isn't read as JSON
+abbrev pub not_json_text : List ℕ → List ℕ
+not_json_text json = cond (is_utf8 json) (codes "the JSON is invalid") (codes "the JSON isn't UTF-8")
+
+-- The text is that of an error of the library that has this kind and this position.
+pub record IsErrorText (k : FailureKind) (position : ℕ) (text : List ℕ) : Type 0 where
+  pub error : Error
+  pub is_kind : k ≡ kind_of error
+  pub is_position : position ≡ position_of error
+  pub is_text : IsTextOf error text
+
+-- what the text of an error of this kind at this position says of an input that is read
+abbrev pub SaysUnread : FailureKind → ℕ → List ℕ → Type 0
+SaysUnread kind.OutOfMemory position text = text ≡ []
+SaysUnread kind.Parse position text = IsErrorText kind.Parse position text
+SaysUnread kind.Mismatch position text = IsErrorText kind.Mismatch position text
+SaysUnread kind.NotUtf8 position text = IsErrorText kind.NotUtf8 position text
+SaysUnread _ position text = ⊥
+
+-- the same where the settings may be none; of a shape that is none `IsNoNotation` says the text
+abbrev pub SaysNotRead : FailureKind → ℕ → Settings → List ℕ → Type 0
+SaysNotRead kind.Settings position settings text = text ≡ settings_text settings
+SaysNotRead kind.Shape position settings text = ⊤
+SaysNotRead k position settings text = SaysUnread k position text
+
+-- what the text of an error of this kind says of data that are written
+abbrev pub SaysUnwritten : FailureKind → ℕ → List ℕ → Type 0
+SaysUnwritten kind.OutOfMemory max_depth text = text ≡ []
+SaysUnwritten kind.TooDeep max_depth text = IsTextOf (e.MaxSerializationDepthExceeded max_depth) text
+SaysUnwritten kind.Mismatch max_depth text = IsTextOf e.Unsupported text
+SaysUnwritten _ max_depth text = ⊥
+
+-- what the text of an error of this kind says of JSON that is written
+abbrev pub SaysNotWritten : FailureKind → Settings → List ℕ → List ℕ → Type 0
+SaysNotWritten kind.Settings settings json text = text ≡ settings_text settings
+SaysNotWritten kind.Json settings json text = text ≡ not_json_text json
+SaysNotWritten k settings json text = SaysUnwritten k settings.max_depth text

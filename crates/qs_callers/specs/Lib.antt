@@ -1,3 +1,4 @@
 -- The words that a reader must believe, beside those of serde_qs: all modules. They say what the examples of callers promise.
 pub mod Query
 pub mod Guard
+pub mod Client

@@ -1,5 +1,9 @@
 //! The reply to a web form: the value that was sent, or what its page says beside the field that is wrong.
 
+ghost use Rattle.std.specs.Prelude.{IfOk, true};
+ghost use Rattle.qs_spec.specs.Config.{default};
+ghost use Rattle.serde_qs.specs.Typed.{IsRead};
+
 use qs_explain::{Explanation, Mismatch, explain, find_hint, find_pair};
 use serde_qs::{Config, ConfigExt, Deserialize, Error, Result};
 use std::alloc::Global;
@@ -23,7 +27,10 @@ pub struct FieldError {
 pub fn submitted<T: Deserialize>(
     alloc: Global,
     form: &[u8],
-) -> Result<std::result::Result<T, FieldError>> {
+) -> Result<std::result::Result<T, FieldError>>
+    ensures { IfOk result (λ reply. IfOk reply (λ value.
+        IsRead (record default { form = true }) T.table.form T.table.meaning form.now (T.table.value value))) }
+{
     let config = Config::new().use_form_encoding(true);
     let error = match config.deserialize_bytes(alloc, form) {
         Ok(value) => return Ok(Ok(value)),

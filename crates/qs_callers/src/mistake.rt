@@ -1,11 +1,18 @@
 //! One line for the user that says which part of an input is wrong.
 
+ghost use Rattle.std.specs.Prelude.{IfOk};
+ghost use Rattle.qs_spec.specs.Config.{default};
+ghost use Rattle.serde_qs.specs.Typed.{IsRead};
+
 use qs_explain::explain;
 use serde_qs::{Config, Deserialize, Error, from_str};
 use std::alloc::Global;
 
 /// Returns a value, or one line for the user that says which part of the input is wrong.
-pub fn explained<T: Deserialize>(alloc: Global, input: &str) -> Result<Result<T, String>, Error> {
+pub fn explained<T: Deserialize>(alloc: Global, input: &str) -> Result<Result<T, String>, Error>
+    ensures { IfOk result (λ reply. IfOk reply (λ value.
+        IsRead default T.table.form T.table.meaning input.now (T.table.value value))) }
+{
     let error = match from_str(alloc, input) {
         Ok(value) => return Ok(Ok(value)),
         Err(error) => error,

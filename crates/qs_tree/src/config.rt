@@ -93,8 +93,8 @@ impl Config {
         Config {
             max_depth: 5,
             form: false,
-            array_format: ArrayFormat::Indexed,
-            duplicates: DuplicateKeyBehavior::TakeLast,
+            array_format: ArrayFormat::default(),
+            duplicates: DuplicateKeyBehavior::default(),
         }
     }
 

@@ -43,6 +43,6 @@ module _ {X V : Type 0} (view : X → V) (config : Config) (form : Shape) (meani
   pub returns_value : (result : Result X Error) → ReadsNode view form meaning reject_duplicates tree result → ReturnsValue view config form meaning input result
   returns_value (Ok x) g = read (view x) g
   returns_value (Err (Custom message)) g = unread g
-  returns_value (Err (Utf8 cause)) g = unread g.0
+  returns_value (Err (Utf8 cause)) g = (unread g.0, (tree, has_tree, g.1))
   returns_value (Err OutOfMemory) g = tt
   returns_value (Err _) g = absurd g

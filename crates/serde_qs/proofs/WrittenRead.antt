@@ -23,8 +23,8 @@ returned : {X V : Type 0} (view : X → V) (config : Config) (form : Shape) (mea
 returned view config form meaning input (Ok y) dist g x b =
     (g.datum, subst (Same x) (one_data (are_rejected config.duplicates) form g.tree b.answer g.datum dist (from_tree config form x input b g.tree g.has_tree) g.is_read) b.same, g.is_meant)
 returned view config form meaning input (Err (Custom m)) dist g x b = (b.answer, b.same, g.is_unread b.answer (from_tree config form x input b g.tree g.has_tree))
-returned view config form meaning input (Err (Utf8 m)) dist g x b = (b.answer, b.same, g.is_unread b.answer (from_tree config form x input b g.tree g.has_tree))
-returned view config form meaning input (Err (Parse m n)) dist g x b = g b.tree b.is_tree
+returned view config form meaning input (Err (Utf8 m)) dist g x b = (b.answer, b.same, g.0.is_unread b.answer (from_tree config form x input b g.0.tree g.0.has_tree))
+returned view config form meaning input (Err (Parse m n)) dist g x b = g.0 b.tree b.is_tree
 returned view config form meaning input (Err OutOfMemory) dist g x b = tt
 returned view config form meaning input (Err _) dist g x b = absurd g
 

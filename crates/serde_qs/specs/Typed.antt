@@ -1,7 +1,8 @@
 -- What calls return.
-use Rattle.std.specs.Prelude.{◌≡◌, true, false, ℕ, List, ⊤, Result, Ok, Err, Option, Some, None}
+use Rattle.std.specs.Prelude.{◌≡◌, ◌≤◌, ◌+◌, true, false, ℕ, List, length, ⊤, Result, Ok, Err, Option, Some, None}
 use Rattle.qs_tree.specs.declared.error.Error.{Error}
 use Rattle.qs_data.specs.read.Gives.{Gives}
+use Rattle.qs_data.specs.read.TreeText.{is_text}
 use Rattle.qs_tree.specs.declared.error.Error.TheVariants.{Custom, Parse, Utf8, OutOfMemory}
 use Rattle.qs_spec.specs.Config.{Config}
 use Rattle.qs_spec.specs.Shape.{Shape}
@@ -33,13 +34,18 @@ pub record IsUnread {V : Type 0} (config : Config) (form : Shape) (meaning : Dat
   pub has_tree : IsTree config.form config.max_depth input tree
   pub is_unread : (d : Data) → ReadsBy config form tree d → meaning d ≡ None
 
--- what a typed call returns: the value that the input is read as, a Parse error exactly where it has no tree, a Custom or Utf8 error
--- exactly where it has one but is read as no value, or that an allocation failed
+-- it has a tree in which a text or a key isn't UTF-8
+abbrev pub HasOtherBytes : Config → List ℕ → Type 0
+HasOtherBytes config input = (t : Tree) × IsTree config.form config.max_depth input t × (is_text t ≡ false)
+
+-- what a typed call returns: the value that the input is read as; a Parse error exactly where it has no tree, with a position in the input
+-- or right behind its end; a Custom or Utf8 error exactly where it has one but is read as no value, and Utf8 only where a text or a key
+-- isn't UTF-8; or that an allocation failed
 abbrev pub ReturnsValue : {X V : Type 0} → (X → V) → Config → Shape → (Data → Option V) → List ℕ → Result X Error → Type 0
 ReturnsValue view config form meaning input (Ok x) = IsRead config form meaning input (view x)
 ReturnsValue view config form meaning input (Err (Custom m)) = IsUnread config form meaning input
-ReturnsValue view config form meaning input (Err (Utf8 m)) = IsUnread config form meaning input
-ReturnsValue view config form meaning input (Err (Parse m n)) = HasNoTree config.form config.max_depth input
+ReturnsValue view config form meaning input (Err (Utf8 m)) = IsUnread config form meaning input × HasOtherBytes config input
+ReturnsValue view config form meaning input (Err (Parse m n)) = HasNoTree config.form config.max_depth input × (n ≤ length input + 1)
 ReturnsValue view config form meaning input (Err OutOfMemory) = ⊤
 ReturnsValue view config form meaning input (Err _) = ⊥
 

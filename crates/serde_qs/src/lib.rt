@@ -74,10 +74,10 @@ pub use compound::{
 pub use laws::value_comes_back;
 pub use limits::{LimitError, Limits};
 pub use qs_data::{
-    ByWrite, Data, Deserializer, Deserializer as QsDeserializer, Field, KeyShape, Scalar,
+    ByWrite, Data, Deserializer, Deserializer as QsDeserializer, Field, KeyShape, Reader, Scalar,
     Serializer, Serializer as QsSerializer, Shape, Sink, Stop, Variant, VariantKind, WriteResult,
     Writer,
 };
-pub use qs_tree::{ArrayFormat, Config, DuplicateKeyBehavior, Error, Result};
+pub use qs_tree::{ArrayFormat, Config, DuplicateKeyBehavior, Error, ParsedValue, Result};
 pub use traits::{Deserialize, RoundTrip, Serialize, unexpected};
 pub use types::{Comma, Delimited, Delimiter, Pipe, Space, WholeNumber};

@@ -12,7 +12,8 @@ impl Shape {
     /// Returns whether names differ: those of the fields in each struct and struct variant, and those of the variants in each
     /// enum and key shape, at every depth. Only such a shape can be read.
     ///
-    /// Each name is compared with the ones after it in its list. It takes stack with the depth of the shape, and doesn't allocate.
+    /// Each name is compared with the ones after it in its list, so ten times as many names in one list take a hundred times as long:
+    /// 1,000 take milliseconds, and 100,000 many seconds. It takes stack with the depth of the shape, and doesn't allocate.
     ///
     /// ```
     /// if !shape.is_distinct() {

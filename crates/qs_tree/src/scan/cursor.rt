@@ -155,8 +155,8 @@ fn run_len(bytes: &[u8], form: bool, until: Until) -> (usize, bool)
 }
 
 /// A cursor over an input. A step is a byte that the cursor takes, or its look at the end; the methods that take no byte count none.
-/// Other looks aren't counted: at the bytes after a `%`, which may be a bracket's, and at what was taken, for an index, for escapes
-/// and for comparisons.
+/// Other looks aren't counted: at the bytes after a `%`, which may be a bracket's; at what was taken, for an index, for escapes and
+/// for comparisons; and at up to 31 bytes behind the `&` that ends a value, since the search for it tests 32 bytes at a time.
 #[derive(Drop)]
 pub(crate) struct Cursor<'qs> {
     rest: &'qs [u8],

@@ -1,9 +1,9 @@
 //! Typed calls that read.
 
-ghost use Rattle.std.specs.Prelude.{◌≡◌, IfOk};
+ghost use Rattle.std.specs.Prelude.{◌≡◌, ◌≤◌, ◌+◌, IfOk, length};
 ghost use Rattle.qs_spec.specs.Config.{are_rejected, default};
 ghost use Rattle.qs_spec.specs.Tree.{IsTree, HasNoTree};
-ghost use Rattle.qs_tree.specs.Error.{IsParse, OnlyParseOrOutOfMemory};
+ghost use Rattle.qs_tree.specs.Error.{IfParse, IsParse, OnlyParseOrOutOfMemory};
 ghost use Rattle.qs_data.specs.shape.Views.{shape_of};
 ghost use Rattle.qs_tree.specs.tree.Views.{tree_of};
 ghost use Rattle.serde_qs.specs.Nodes.{ReadsNode};
@@ -37,9 +37,11 @@ pub fn from_bytes<T: Deserialize>(alloc: Global, input: &[u8]) -> Result<T>
 ///
 /// # Errors
 ///
-/// - [`Parse`](qs_data::Error::Parse): the querystring has no tree, as `a[b` has none. The position is that of the first error.
+/// - [`Parse`](qs_data::Error::Parse): the querystring has no tree, as `a[b` has none. The position is that of the first error: at
+///   most the length and one.
 /// - [`Custom`](qs_data::Error::Custom) or [`Utf8`](qs_data::Error::Utf8): it has one, but the type's shape reads nothing from
-///   it, as where a field is missing or a text is no number, or the data mean no value.
+///   it, as where a field is missing or a text is no number, or the data mean no value. `Utf8` only where a text or a key isn't
+///   UTF-8.
 /// - [`OutOfMemory`](qs_data::Error::OutOfMemory): an allocation failed.
 ///
 /// The first two are returned exactly in these cases, and there is no other error. It allocates for the tree and the value. The time
@@ -122,6 +124,7 @@ fn read_tree<T: Deserialize>(alloc: Global, config: Config, input: &[u8]) -> Res
 fn tree<'qs>(alloc: Global, config: Config, input: &'qs [u8]) -> Result<ParsedValue<'qs>>
     ensures tree { IfOk result (λ t. IsTree config.form config.max_depth input.now (tree_of t)) }
     ensures no_tree { IsParse result → HasNoTree config.form config.max_depth input.now }
+    ensures position { IfParse result (λ position. position ≤ length input.now + 1) }
     ensures errors { OnlyParseOrOutOfMemory result }
 {
     parse(alloc, input, config)

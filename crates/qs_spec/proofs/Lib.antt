@@ -55,5 +55,6 @@ pub mod ReadBack
 pub mod Fitting
 pub mod PartOrders
 pub mod WrittenBack
+pub mod EntriesApart
 pub mod SameAsOne
 pub mod StableBack

@@ -1,36 +1,30 @@
 -- What is written of plain data, in any order that keeps lists, has a tree, from which a fitting shape reads data that are the same.
-use Rattle.std.proofs.Common.{◌≡◌, ℕ, ◌+◌, ◌≤◌, Bool, true, false, ◌&&◌, ◌||◌, ◌⊎◌, inl, inr, List, [], ◌∷◌, ◌++◌, map, length, refl, sym, ap, ap₂, ◌∙◌, subst, arith, Option, Some, None, le_refl, append-nil}
+use Rattle.std.proofs.Common.{◌≡◌, ℕ, ◌+◌, ◌≤◌, Bool, true, false, ◌&&◌, ◌⊎◌, inl, inr, List, [], ◌∷◌, ◌++◌, map, length, refl, sym, ap, ap₂, ◌∙◌, subst, arith, Option, Some, None, le_refl}
 use Rattle.std.specs.List.{AllByRecursion}
 use Rattle.std.specs.List.Sorted.{IsPermutation}
-use Rattle.std.specs.Str.{bytes_eq}
 use Rattle.std.proofs.lemmas.Option.{same_Some}
 use Rattle.qs_spec.specs.Config.{Config, ArrayFormat, indexed, empty_indexed, unindexed, are_rejected}
 use Rattle.qs_spec.specs.Token.{tokens}
-use Rattle.qs_spec.specs.Segment.{marked_segment_of, is_same_segment}
-use Rattle.qs_spec.specs.Escape.{encoded}
 use Rattle.qs_spec.specs.Grammar.{Pair, ArePairs}
 use Rattle.qs_spec.specs.Tree.{node, longest, IsTree}
-use Rattle.qs_spec.specs.Order.{is_front}
 use Rattle.qs_spec.specs.Data.{Data, Values, no_values, one_value, Pairs, no_pairs, one_pair, Members, no_members, one_member}
 use Rattle.qs_spec.specs.Shape.{Shape, is_distinct}
-use Rattle.qs_spec.specs.Entry.{Path, Entry, entries, entries_at}
+use Rattle.qs_spec.specs.Entry.{Entry, entries, entries_at}
 use Rattle.qs_spec.specs.Written.{has_key, written, entry_text, path_text}
-use Rattle.qs_spec.specs.internal.WrittenEntries.{marked_path, IsValueOf}
-use Rattle.qs_spec.proofs.Order.{is_itself}
+use Rattle.qs_spec.specs.internal.WrittenEntries.{IsValueOf}
 use Rattle.qs_spec.proofs.Reorder.{Swaps}
-use Rattle.qs_spec.proofs.Booleans.{and_both, or_both}
-use Rattle.qs_spec.proofs.VariantNames.{bytes_equal}
+use Rattle.qs_spec.proofs.Booleans.{and_both}
 use Rattle.qs_spec.proofs.RelatedIsParsed.{found_pairs}
 use Rattle.qs_spec.proofs.EntryParsed.{written_pair}
 use Rattle.qs_spec.specs.Listed.{is_placed, is_list, is_listed, are_listed, are_listed_pairs, are_listed_members}
-use Rattle.qs_spec.specs.internal.Parts.{Part, entry_of, part_pair, end_segment, leaf_part, under_segment, Branch, branches, parts, value_parts, value_branches, pair_branches, member_branches}
-use Rattle.qs_spec.specs.ReadBack.{IsPlainFor, IsReadBack, is_prefix, ArePathsApart, KeepsPaths}
+use Rattle.qs_spec.specs.internal.Parts.{Part, entry_of, part_pair, leaf_part, under_segment, Branch, branches, parts, value_parts, value_branches, pair_branches, member_branches}
+use Rattle.qs_spec.specs.ReadBack.{IsPlainFor, IsReadBack, KeepsPaths}
 use Rattle.qs_spec.proofs.Fitting.{fitting}
 use Rattle.qs_spec.proofs.Permuted.{Perm, Perm-from, perm_map, perm_all, perm_one}
 use Rattle.qs_spec.proofs.Placed.{after, parts_at}
 use Rattle.qs_spec.proofs.Nodes.{HasSomePair}
 use Rattle.qs_spec.proofs.Branches.{pairs, all_both, some_pairs}
-use Rattle.qs_spec.proofs.Tidy.{Tidy, AllTidy, AllCompatible, pairs_compatible, compatible_permitted}
+use Rattle.qs_spec.proofs.Tidy.{AllTidy, AllCompatible, pairs_compatible, compatible_permitted}
 use Rattle.qs_spec.proofs.GoodParts.{IsFine, IsByteValue, good}
 use Rattle.qs_spec.proofs.ReadBack.{back}
 use Rattle.qs_spec.proofs.PushParsed.{IsParseable, parts_parsed}
@@ -213,98 +207,3 @@ read_back config shape d es e dist w p =
     let o = lifted (parts fm d) es (subst (λ (l : List Entry). Perm l es) r.0 (Perm-from (entries config d).entries es p)) in
     subst (λ (l : List Entry). IsReadBack config shape d (written form false l)) (sym o.1)
     (parts_back config shape d o.0 dist w li o.2 (perm_swaps form o.2 (subst (λ f. AllTidy f form (parts fm d)) e g.tidy)))
-
--- a path that begins another does so with its marks
-front_path : (form : Bool) (p q : Path) → is_prefix p q ≡ true → is_front (marked_path form p) (marked_path form q) ≡ true
-front_path form [] q e = refl
-front_path form (s ∷ p) [] e = cc
-front_path form (s ∷ p) (t ∷ q) e =
-    let h = and_both (bytes_eq s t) (is_prefix p q) e in
-    ap₂ (λ a b. a && b) (ap (λ (x : List ℕ). is_same_segment (marked_segment_of (encoded form s)).seg (marked_segment_of (encoded form x)).seg) (sym (bytes_equal s t h.0)) ∙ is_itself (marked_segment_of (encoded form s)).seg) (front_path form p q h.1)
-
-no_front : (form : Bool) (p q : Path) → is_front (marked_path form p) (marked_path form q) ≡ false → is_prefix p q ≡ false
-no_front form p q e = by (is_prefix p q) refl
-  where
-    by : (b : Bool) → is_prefix p q ≡ b → is_prefix p q ≡ false
-    by true d = let w = sym e ∙ front_path form p q d in cc
-    by false d = d
-
--- with indices written no part pushes
-abbrev NonePush : List Part → Type 0
-NonePush ps = AllByRecursion (λ (p : Part). p.push ≡ false) ps
-
-none_join : (xs ys : List Part) → NonePush xs → NonePush ys → NonePush (xs ++ ys)
-none_join [] ys h i = i
-none_join (x ∷ xs) ys h i = (h.0, none_join xs ys h.1 i)
-
-none_segment : (s : List ℕ) (ps : List Part) → NonePush ps → NonePush (map (under_segment s) ps)
-none_segment s [] h = tt
-none_segment s (p ∷ ps) h = (h.0, none_segment s ps h.1)
-
-none_branches : (bs : List Branch) → AllByRecursion (λ (b : Branch). NonePush b.1) bs → NonePush (branches bs)
-none_branches [] h = tt
-none_branches (b ∷ bs) h = none_join (map (under_segment b.0) b.1) (branches bs) (none_segment b.0 b.1 h.0) (none_branches bs h.1)
-
-mutual
-  no_push : (d : Data) → NonePush (parts indexed d)
-  no_push Data.unit = (refl, tt)
-  no_push Data.none = (refl, tt)
-  no_push (Data.some d) = no_push d
-  no_push (Data.boolean b) = (refl, tt)
-  no_push (Data.unsigned n) = (refl, tt)
-  no_push (Data.signed n) = (refl, tt)
-  no_push (Data.character c) = (refl, tt)
-  no_push (Data.text t) = (refl, tt)
-  no_push (Data.bytes b) = (refl, tt)
-  no_push (Data.sequence no_values) = (refl, tt)
-  no_push (Data.sequence (one_value d ds)) = none_branches (value_branches indexed 0 (one_value d ds)) (no_pushes 0 (one_value d ds))
-  no_push (Data.tuple no_values) = (refl, tt)
-  no_push (Data.tuple (one_value d ds)) = none_branches (value_branches indexed 0 (one_value d ds)) (no_pushes 0 (one_value d ds))
-  no_push (Data.mapping no_pairs) = (refl, tt)
-  no_push (Data.mapping (one_pair k d ps)) = none_branches (pair_branches indexed (one_pair k d ps)) (no_pair_pushes (one_pair k d ps))
-  no_push (Data.struct ms) = none_branches (member_branches indexed ms) (no_member_pushes ms)
-  no_push (Data.newtype d) = no_push d
-  no_push (Data.unit_variant name) = (refl, tt)
-  no_push (Data.newtype_variant name d) = none_branches ((name, parts indexed d) ∷ []) (no_push d, tt)
-  no_push (Data.tuple_variant name ds) = none_branches ((name, branches (value_branches indexed 0 ds)) ∷ []) (none_branches (value_branches indexed 0 ds) (no_pushes 0 ds), tt)
-  no_push (Data.struct_variant name ms) = none_branches ((name, branches (member_branches indexed ms)) ∷ []) (none_branches (member_branches indexed ms) (no_member_pushes ms), tt)
-
-  no_pushes : (i : ℕ) (ds : Values) → AllByRecursion (λ (b : Branch). NonePush b.1) (value_branches indexed i ds)
-  no_pushes i no_values = tt
-  no_pushes i (one_value d ds) = (no_push d, no_pushes (i + 1) ds)
-
-  no_pair_pushes : (ps : Pairs) → AllByRecursion (λ (b : Branch). NonePush b.1) (pair_branches indexed ps)
-  no_pair_pushes no_pairs = tt
-  no_pair_pushes (one_pair k d ps) = (no_push d, no_pair_pushes ps)
-
-  no_member_pushes : (ms : Members) → AllByRecursion (λ (b : Branch). NonePush b.1) (member_branches indexed ms)
-  no_member_pushes no_members = tt
-  no_member_pushes (one_member n d ms) = (no_push d, no_member_pushes ms)
-
-whole_path : (p : Part) → p.push ≡ false → (entry_of p).path ≡ p.path
-whole_path p e = ap (λ b. p.path ++ end_segment b) e ∙ append-nil p.path
-
-paths_apart : (form : Bool) (ps : List Part) → NonePush ps → AllTidy indexed form ps → ArePathsApart (map entry_of ps)
-paths_apart form [] n h = tt
-paths_apart form (p ∷ ps) n h = (each ps n.1 h.0, paths_apart form ps n.1 h.1)
-  where
-    no : true ≡ false → ⊥
-    no e = cc
-
-    two : (q : Part) → q.push ≡ false → Tidy indexed form p q → (is_prefix (entry_of p).path (entry_of q).path || is_prefix (entry_of q).path (entry_of p).path) ≡ false
-    two q m (inl a) = absurd (no a.0)
-    two q m (inr t) =
-        let o = or_both (is_front (marked_path form p.path) (marked_path form q.path)) (is_front (marked_path form q.path) (marked_path form p.path)) t in
-        ap₂ (λ (x y : Path). is_prefix x y || is_prefix y x) (whole_path p n.0) (whole_path q m)
-        ∙ ap₂ (λ a b. a || b) (no_front form p.path q.path o.0) (no_front form q.path p.path o.1)
-
-    each : (qs : List Part) → NonePush qs → AllByRecursion (Tidy indexed form p) qs → AllByRecursion (λ (f : Entry). (is_prefix (entry_of p).path f.path || is_prefix f.path (entry_of p).path) ≡ false) (map entry_of qs)
-    each [] m t = tt
-    each (q ∷ qs) m t = (two q m.0 t.0, each qs m.1 t.1)
-
--- No entry of plain data has the path of another, or one that begins it.
-pub entries_apart : (config : Config) (shape : Shape) (d : Data) → config.array_format ≡ indexed → IsPlainFor config shape d → ArePathsApart (entries config d).entries
-entries_apart config shape d e w =
-    let r = parts_of config.max_depth config.array_format d (in_format config d e) w.whole in
-    let is : (entries config d).entries ≡ map entry_of (parts indexed d) = r.0 ∙ ap (λ f. map entry_of (parts f d)) e in
-    subst ArePathsApart (sym is) (paths_apart config.form (parts indexed d) (no_push d) (good indexed config.form (fitting shape d w.fits) w.plain).tidy)

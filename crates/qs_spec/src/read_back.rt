@@ -48,9 +48,9 @@ pub fn stable_trees_come_back()
         → ReadsBy config Shape.any t d → (entries config d).error ≡ None → IsPermutation (entries config d).entries es → AreEquivalent config.form config.max_depth input (written config.form false es) }
 {}
 
-/// In the indexed format no entry of such data has the path of another, or one that begins it.
+/// In the indexed format no entry of plain data has the path of another, or one that begins it. This also holds of the entries before an error.
 pub fn entries_are_apart()
-    ensures { (config : Config) (shape : Shape) (d : Data) → config.array_format ≡ indexed → IsPlainFor config shape d → ArePathsApart (entries config d).entries }
+    ensures { (config : Config) (d : Data) → config.array_format ≡ indexed → is_plain config.form d ≡ true → ArePathsApart (entries config d).entries }
 {}
 
 /// Data whose names and keys are digits, spaces and separators: plain, fitting, and written without an error.

@@ -53,7 +53,7 @@ fn whole_shape(alloc: Global, cursor: &mut Cursor<'_>) -> Result<Shape>
     if cursor.len() > 0 {
         return Err(Stop::Fault("the shape has ended here"));
     }
-    if !shape.is_distinct() {
+    if !shape.is_distinct_by_sorting() {
         return Err(Stop::Fault("two fields or variants have the same name"));
     }
     Ok(shape)

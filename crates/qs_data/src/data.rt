@@ -10,3 +10,4 @@ mod sameness;
 
 pub use data::Data;
 pub use data_laws::equality_of_data;
+pub(crate) use plain::add_text;

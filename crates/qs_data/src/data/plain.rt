@@ -245,8 +245,12 @@ fn is_written_key(text: &[u8], pairs: &[(Data, Data)]) -> bool
     false
 }
 
-// Adds a text to a set, and returns whether it wasn't there.
-fn add_text(text: &[u8], alloc: Global, texts: &mut BTreeSet<Vec<u8>>) -> Result<bool, AllocError>
+/// Adds a text to a set, and returns whether it wasn't there.
+pub(crate) fn add_text(
+    text: &[u8],
+    alloc: Global,
+    texts: &mut BTreeSet<Vec<u8>>,
+) -> Result<bool, AllocError>
     ensures added { IfOk result (λ added. added ≡ not (holds_text texts.old text.now)) }
     ensures set { OnOk result ((t : List ℕ) → holds_text texts.new t ≡ (bytes_eq text.now t || holds_text texts.old t)) }
 {

@@ -176,6 +176,7 @@ fail_each "v=$long&w=1" 0 "v=$long&w=1" map serialize_to_writer 30000
 fail_each "$(seq -s, 20)" 0 'true true' plain
 fail_each "$(seq -s, 20),7" 0 'false false' plain
 fail_each '' 0 'c=%C3%A4&b=%FF+%26 and then: unsupported type for serialization' data
+fail_each 'bytes=hello,+world!' 0 'bytes=hello,+world! bytes=hello%2C%20world%21' bytes
 fail_each 'no such page' 1 'error: no such page' custom
 fail_each 'no digit' 1 "error: parsing failed with error: 'no digit' at position: 7" parse_err
 fail_each '' 1 'error: cannot deserialize bool at the top level.Try deserializing into a struct.' top_level

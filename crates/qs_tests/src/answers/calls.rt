@@ -1,9 +1,9 @@
 //! Calls without a user's type: errors that callers make, lists in one string, wrappers, data.
 
-use super::written::written_data;
+use super::written::{text_of, written_data};
 use serde_qs::helpers::{comma_separated, generic_delimiter, pipe_delimited, space_delimited};
 use serde_qs::web::{QsForm, QsQuery};
-use serde_qs::{Config, Data, Error, Result};
+use serde_qs::{Config, Data, Deserializer, Error, KeyShape, Result, Shape};
 use std::alloc::Global;
 use std::str;
 
@@ -98,6 +98,15 @@ fn plainness(alloc: Global, input: &[u8]) -> Result<String> {
     Ok(format!(in alloc; "{map} {structure}")?)
 }
 
+// Returns the texts of the bytes at each key of the input, in query mode and at form encoding.
+fn bytes(alloc: Global, input: &[u8]) -> Result<String> {
+    let shape = Shape::Map(KeyShape::Text, Box::new(alloc, Shape::Bytes)?);
+    let data = Deserializer::new(alloc, input)?.read(alloc, &shape)?;
+    let query = text_of(alloc, Config::new(), &data)?;
+    let form = text_of(alloc, Config::new().use_form_encoding(true), &data)?;
+    Ok(format!(in alloc; "{query} {form}")?)
+}
+
 /// Returns what the call of this name makes of the input, if there is one.
 ///
 /// | name | line |
@@ -107,6 +116,7 @@ fn plainness(alloc: Global, input: &[u8]) -> Result<String> {
 /// | `helpers` | the items between commas, after they were written and read with each other delimiter |
 /// | `web` | the texts of copies of a query and a form |
 /// | `plain` | whether a map and a struct are plain whose keys and names are the items between commas |
+/// | `bytes` | the bytes at each key of the input, written in query mode and at form encoding |
 /// | `data` | data with a character, bytes, and a key that isn't written, as the text of their entries |
 pub fn answer(alloc: Global, name: &str, input: &[u8]) -> Option<Result<String>> {
     match name {
@@ -116,6 +126,7 @@ pub fn answer(alloc: Global, name: &str, input: &[u8]) -> Option<Result<String>>
         "helpers" => Some(relisted(alloc, input)),
         "web" => Some(wrapped(alloc, input)),
         "plain" => Some(plainness(alloc, input)),
+        "bytes" => Some(bytes(alloc, input)),
         "data" => Some(written_data(alloc)),
         _ => None,
     }

@@ -108,6 +108,13 @@ fn data(alloc: Global) -> Result<Data> {
     Ok(Data::Struct(members))
 }
 
+/// Returns the text of the data under a configuration.
+pub fn text_of(alloc: Global, config: Config, data: &Data) -> Result<String> {
+    let mut writer = Narrow::new(alloc, 1, 1000, Stop::Fails)?;
+    Serializer::new(&mut writer, config).serialize(alloc, data)?;
+    Ok(String::from_utf8(writer.held)?)
+}
+
 /// Returns what a writer holds to which a copy of data was written that no type has, and the error of the call.
 pub fn written_data(alloc: Global) -> Result<String> {
     let copy = data(alloc)?.try_clone(alloc)?;

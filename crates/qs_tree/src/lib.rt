@@ -16,14 +16,13 @@ mod error;
 mod escape;
 mod parsing;
 mod scan;
-mod steps;
 mod tree;
 
 pub use crate::config::{ArrayFormat, Config, DuplicateKeyBehavior};
 pub use crate::error::{Error, Result};
 pub use crate::escape::{decode, encode, encode_to, find_ampersand, find_encoded, find_escape};
 pub use crate::parsing::{parse, parse_with};
-pub use crate::steps::Steps;
+pub use crate::scan::cursor::Steps;
 pub use crate::tree::key::Key;
 pub use crate::tree::map::ParsedMap;
 pub use crate::tree::value::ParsedValue;

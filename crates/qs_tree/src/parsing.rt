@@ -10,6 +10,7 @@ ghost use Rattle.qs_tree.specs.internal.scan.Pairs.{IsBare, pair_of};
 ghost use Rattle.qs_tree.specs.internal.scan.Cursor.{left, KnowsEnd, in_all};
 ghost use Rattle.qs_tree.specs.internal.build.Builder.{built_tree, fresh, IsFlat};
 ghost use Rattle.qs_tree.specs.internal.Parsing.{grown, Finds};
+ghost use Rattle.qs_tree.specs.Error.{IfParse};
 ghost use Rattle.qs_tree.specs.Parsing.{Parses, AllocatesNothing};
 
 use crate::build::add::add_pair;
@@ -17,10 +18,9 @@ use crate::build::builder::TreeBuilder;
 use crate::config::Config;
 use crate::error::Result;
 use crate::parsing::scan_error::{ScanError, add_error, syntax_error};
-use crate::scan::cursor::Cursor;
+use crate::scan::cursor::{Cursor, Steps};
 use crate::scan::pair::Pair;
 use crate::scan::parser::{Item, ParseError, parse_item};
-use crate::steps::Steps;
 use crate::tree::value::ParsedValue;
 use std::alloc::Global;
 use std::mem;
@@ -54,7 +54,10 @@ pub fn parse(alloc: Global, input: &[u8], config: Config) -> Result<ParsedValue<
 /// Parses a querystring as [`parse`] does, and adds to `steps` how many steps that took, after an error too.
 ///
 /// A step is a byte that the parser takes, or its look at the end. So an input without an error takes as many steps as its length and
-/// one. What was taken may be looked at again for an index, for escapes and for comparisons, which isn't counted.
+/// one, and one with an [`Error::Parse`] at least as many as the error's position. Only what takes the bytes counts them.
+///
+/// Further looks aren't counted: a byte may be looked at more than once while it is taken, up to 31 bytes are looked at after a value,
+/// and what was taken is looked at again for an index, for escapes, for comparisons and for the text of an error.
 ///
 /// ```
 /// let mut steps = Steps::new();
@@ -70,19 +73,16 @@ pub fn parse_with<'qs>(
     ensures grows { steps.old ≤ steps.new }
     ensures most { steps.new ≤ steps.old + length input.now + 1 }
     ensures exact { IfOk result (λ _. steps.new ≡ steps.old + length input.now + 1) }
+    ensures least { IfParse result (λ position. steps.old + position ≤ steps.new) }
 {
-    if input.is_empty() {
-        steps.add(1);
-        return Ok(ParsedValue::NoValue);
-    }
     let taken = mem::replace(steps, Steps::new());
     let mut cursor = Cursor::new(alloc, input, config.get_form(), taken);
-    let all = input.len() + 1;
     let tree = parse_tree(alloc, &mut cursor, config.get_max_depth());
     *steps = cursor.take_steps();
     match tree {
+        Ok(_) if input.is_empty() => Ok(ParsedValue::NoValue),
         Ok(tree) => Ok(tree),
-        Err(error) => Err(error.into_error(alloc, &cursor, all)),
+        Err(error) => Err(error.into_error(alloc, &cursor, input.len() + 1)),
     }
 }
 

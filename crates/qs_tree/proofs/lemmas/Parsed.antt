@@ -74,6 +74,10 @@ pub empty_tree : (form : Bool) (depth : ℕ) (bytes : List ℕ) → (length byte
 empty_tree form depth [] e = search (rules, the_lemmas)
 empty_tree form depth (b ∷ bytes) e = absurd (omega (arith, eqb-true (length (b ∷ bytes)) 0 e))
 
+pub empty_is_small : (bytes : List ℕ) → (length bytes == 0) ≡ true → AllocatesNothing bytes
+empty_is_small [] e = refl
+empty_is_small (b ∷ bytes) e = absurd (omega (arith, eqb-true (length (b ∷ bytes)) 0 e))
+
 -- all that is promised of a result, from what it is in terms of the tokens of the input
 module _ (form : Bool) (depth : ℕ) (bytes : List ℕ) (some : (length bytes == 0) ≡ false) (limit : ℕ) (ts : List Token) (d : limit ≡ depth) (e : ts ≡ tokens form bytes) where
   pub parses : (r : Result ParsedValue Error) → Returns tree_of (grown limit ts uninitialized) (length bytes + 1) r → (AllocatesNothing bytes → IsOk r) → Parses form depth bytes r
@@ -101,3 +105,16 @@ pub reported : (expected : Option Tree) (bound : ℕ) (e : ScanError) (error : E
 reported expected bound e (Parse message at) none h = (none h.0, h.1)
 reported expected bound e OutOfMemory none h = tt
 reported expected bound e error none h = absurd h
+
+-- such an error under a greater bound
+pub reports_within : (e : ScanError) (bound more : ℕ) → bound ≤ more → (error : Error) → Reports e bound error → Reports e more error
+reports_within e bound more le (Parse message at) h = (h.0, omega (arith, h.1, le))
+reports_within e bound more le OutOfMemory h = tt
+reports_within e bound more le error h = absurd h
+
+-- the position of an error, where so many steps were taken
+pub reports_steps : (e : ScanError) (bound before after : ℕ) → before + bound ≤ after → (error : Error) → Reports e bound error
+    → IfParse {T = ParsedValue} (Err error) (λ position. before + position ≤ after)
+reports_steps e bound before after le (Parse message at) h = omega (arith, h.1, le)
+reports_steps e bound before after le OutOfMemory h = tt
+reports_steps e bound before after le error h = absurd h

@@ -2,7 +2,7 @@
 //!
 //! It is a finished tree, to which pairs are added in place. Only the maps on the way to what that doesn't suit are in a form of their
 //! own: a map with many entries that gets keys in no order, or a path of many keys.
-ghost use Rattle.std.specs.Prelude.{◌≡◌, true, Some, IfOk, IsOk, OnOk, MatchResult};
+ghost use Rattle.std.specs.Prelude.{◌≡◌, ◌+◌, ◌<◌, ◌≤◌, length, true, Some, Err, IfOk, IsOk, OnOk, MatchResult};
 ghost use Rattle.std.specs.List.Sorted.{IsStrictlySortedBy};
 ghost use Rattle.std.specs.Map.{keys_of};
 ghost use Rattle.std.specs.BTreeMap.{insert_entry};
@@ -11,12 +11,13 @@ ghost use Rattle.qs_spec.specs.internal.InPlace.{update};
 ghost use Rattle.qs_tree.specs.declared.tree.key.Key.{Key};
 ghost use Rattle.qs_tree.specs.tree.Views.{marked_segment_of_key, tree_of, entries_of_map};
 ghost use Rattle.qs_tree.specs.tree.Keys.{key_cmp};
+ghost use Rattle.qs_tree.specs.tree.Lookup.{binary_digits};
 ghost use Rattle.qs_tree.specs.internal.tree.Places.{IsPlaced};
 ghost use Rattle.qs_tree.specs.internal.build.Builder.{built_tree, built_entries, entries_seen, fresh, as_builders, IsFlat, Takes};
 
 use crate::build::dropping::drop_builder;
 use crate::build::unsorted::{Unsorted, are_leaves};
-use crate::steps::Steps;
+use crate::scan::cursor::Steps;
 use crate::tree::entries::Entries;
 use crate::tree::key::Key;
 use crate::tree::map::{ParsedMap, search};
@@ -241,14 +242,30 @@ pub(crate) fn place_among<'qs, V>(entries: &[(Key<'qs>, V)], key: &Key<'qs>) -> 
     requires { IsStrictlySortedBy key_cmp (keys_of entries.now) }
     ensures { IsPlaced key_cmp key.now entries.now result }
 {
+    place_with(entries, key, &mut Steps::new())
+}
+
+// Does the same, and adds the number of comparisons to `steps`: one for a key after all others.
+#[inline(always)]
+fn place_with<'qs, V>(
+    entries: &[(Key<'qs>, V)],
+    key: &Key<'qs>,
+    steps: &mut Steps,
+) -> Result<usize, usize>
+    requires { IsStrictlySortedBy key_cmp (keys_of entries.now) }
+    ensures placed { IsPlaced key_cmp key.now entries.now result }
+    ensures most { steps.new ≤ steps.old + 1 + binary_digits (length entries.now) }
+    ensures after_all { result ≡ Err (length entries.now) → steps.new ≤ steps.old + 1 }
+    ensures least { 0 < length entries.now → steps.old < steps.new }
+{
     let len = entries.len();
     if len == 0 {
         return Err(0);
     }
-    match key.compare(&entries[len - 1].0) {
+    match steps.compare(key, &entries[len - 1].0) {
         Ordering::Greater => Err(len),
         Ordering::Equal => Ok(len - 1),
-        Ordering::Less => search(entries, key, &mut Steps::new()),
+        Ordering::Less => search(entries, key, steps),
     }
 }
 

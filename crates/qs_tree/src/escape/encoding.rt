@@ -5,8 +5,8 @@ ghost use Rattle.qs_spec.specs.Escape.{encoded, decoded, escape, encoded_byte};
 ghost use Rattle.qs_tree.specs.Error.{OnlyOutOfMemory};
 
 use crate::error::Result;
-use crate::escape::copying::copy_run;
-use crate::escape::search::{Class, Escaped, LANES, count};
+use crate::escape::copying::{copy_run, put};
+use crate::escape::search::{Class, Escaped, LANES, count, find_encoded};
 use percent_encoding::percent_encode_byte;
 
 /// Percent-encodes bytes, and appends them to `out`.
@@ -15,6 +15,8 @@ use percent_encoding::percent_encode_byte;
 /// encoding escapes the query percent-encode set of that section without the space, and `%`, `+`, `[`, `]`, `=` and `&`; it writes a
 /// space as `+`. An escape is `%` and two upper case hexadecimal digits, as in RFC 3986, section 2.1. [`decode`](crate::decode)
 /// returns the same bytes.
+///
+/// Of 32 bytes or more, those before the first that changes, which [`find_encoded`](crate::find_encoded) finds, are copied at once.
 ///
 /// Allocates room in `out` first. The only error is [`OutOfMemory`](crate::Error::OutOfMemory), where that failed; `out` isn't changed
 /// then. Takes linear time.
@@ -25,7 +27,7 @@ use percent_encoding::percent_encode_byte;
 /// encode(b"100% a+b", false, &mut out)?; // appends `100%25+a%2Bb`
 /// encode(b"100% a+b", true, &mut out)?; // appends `100%25%20a%2Bb`
 /// ```
-#[tactic(auto, using(crate::proofs::lemmas::escape::EncodedFronts::encoded_few, crate::proofs::lemmas::escape::EncodedFronts::comes_back))]
+#[tactic(auto, using(crate::proofs::lemmas::escape::EncodedFronts::encoded_few, crate::proofs::lemmas::escape::EncodedFronts::comes_back, crate::proofs::lemmas::escape::EncodedFronts::from_first, crate::proofs::lemmas::escape::EncodedFronts::none_encoded))]
 pub fn encode(bytes: &[u8], form: bool, out: &mut Vec<u8>) -> Result<()>
     ensures ok { OnOk result (out.new.items ≡ out.old.items ++ encoded form bytes.now) }
     ensures err { OnErr result (out.new.items ≡ out.old.items) }
@@ -37,9 +39,26 @@ pub fn encode(bytes: &[u8], form: bool, out: &mut Vec<u8>) -> Result<()>
         let len = encode_to(bytes, form, &mut room, 0);
         return Ok(out.extend_from_slice(&room[..len])?);
     }
+    match find_encoded(bytes, form) {
+        Some(at) => append_from(bytes, form, at, out),
+        None => Ok(out.extend_from_slice(bytes)?),
+    }
+}
+
+// Encodes bytes of which the first `at` aren't changed, and appends them to `out`.
+fn append_from(bytes: &[u8], form: bool, at: usize, out: &mut Vec<u8>) -> Result<()>
+    requires within { at ≤ length bytes.now }
+    requires unchanged { encoded form bytes.now ≡ take at bytes.now ++ encoded form (drop at bytes.now) }
+    ensures ok { OnOk result (out.new.items ≡ out.old.items ++ encoded form bytes.now) }
+    ensures err { OnErr result (out.new.items ≡ out.old.items) }
+    ensures errors { OnlyOutOfMemory result }
+{
+    let (unchanged, rest) = bytes.split_at(at);
     let begin = out.len();
-    out.resize(begin.saturating_add(encoded_len(bytes, form)), 0)?;
-    encode_to(bytes, form, out, begin);
+    let len = at.saturating_add(encoded_len(rest, form));
+    out.resize(begin.saturating_add(len), 0)?;
+    put(unchanged, out, begin);
+    encode_to(rest, form, out, begin + at);
     Ok(())
 }
 

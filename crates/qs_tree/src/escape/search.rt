@@ -35,7 +35,8 @@ pub fn find_escape(bytes: &[u8]) -> Option<usize>
 
 /// Returns the index of the first `&`, or `None`.
 ///
-/// Doesn't allocate. Tests 32 bytes at a time, each once.
+/// This is how the parser finds the end of a value, so it tests for `+` and `%` too. Doesn't allocate. Tests 32 bytes at a time, each
+/// once.
 ///
 /// ```
 /// find_ampersand(b"a=1&b=2") // Some(3)
@@ -44,7 +45,8 @@ pub fn find_ampersand(bytes: &[u8]) -> Option<usize>
     ensures first { result ≡ position is_ampersand bytes.now }
     ensures within { IfSome result (λ at. at < length bytes.now) }
 {
-    find_first(Byte(b'&'), bytes)
+    let (end, _) = find_value_end(bytes);
+    if end < bytes.len() { Some(end) } else { None }
 }
 
 /// Returns the index of the first `&`, or the length, and whether it is known that `+` and `%` aren't before it.
@@ -81,7 +83,7 @@ pub(crate) fn find_value_end(bytes: &[u8]) -> (usize, bool)
 }
 
 /// Returns the index of the first byte that [`encode`](crate::encode) changes in form encoding (`form`) or query encoding, or `None`.
-/// A space is such a byte in both.
+/// A space is such a byte in both. `encode` begins there with 32 bytes or more, and copies those before it.
 ///
 /// Doesn't allocate. Tests 32 bytes at a time, each once.
 ///

@@ -1,10 +1,11 @@
 //! Errors of parsing: their text and position, which are made only when there is an error.
 
-ghost use Rattle.std.specs.Prelude.{◌≡◌, None};
+ghost use Rattle.std.specs.Prelude.{◌≡◌, ◌+◌, ◌-◌, None, length};
 ghost use Rattle.qs_tree.specs.declared.build.conflict.AddError.TheVariants as no_allocation;
 ghost use Rattle.qs_tree.specs.declared.parsing.scan_error.ScanError.TheVariants.{OutOfMemory};
 ghost use Rattle.qs_tree.specs.Error.{IsParseSaying};
 ghost use Rattle.qs_tree.specs.internal.Parsing.{Reports};
+ghost use Rattle.qs_tree.specs.internal.scan.Cursor.{to_come};
 
 use crate::build::add::add_pair;
 use crate::build::builder::TreeBuilder;
@@ -83,10 +84,11 @@ fn conflict_before<'qs>(
 }
 
 impl ScanError {
-    /// Returns the error of an input that takes `all` steps, where the cursor is. Allocates its text.
+    /// Returns the error of an input that takes `all` steps, where the cursor is. Its position is at most the number of steps that were
+    /// taken. Allocates its text.
     #[inline(never)]
     pub fn into_error(self, alloc: Global, cursor: &Cursor<'_>, all: usize) -> Error
-        ensures { Reports self all result }
+        ensures { Reports self (all - (length cursor.now.rest.now + to_come cursor.now.ended)) result }
     {
         match self {
             ScanError::Syntax(error) => {

@@ -1,5 +1,8 @@
 //! A cursor over an input, which takes it token by token and counts the steps.
 
+mod steps;
+mod trail;
+
 ghost use Rattle.std.specs.Prelude.{◌≡◌, ℕ, ◌+◌, ◌++◌, ◌<◌, ◌≤◌, ◌-◌, [], length, take, drop, IfSome, IfNone, IsTrue, true, false};
 ghost use Rattle.qs_spec.specs.Escape.{is_marked};
 ghost use Rattle.qs_spec.specs.Token.{raw_of, tokens};
@@ -8,10 +11,11 @@ ghost use Rattle.qs_spec.specs.Grammar.{is_amp, is_equals, is_open, is_close};
 ghost use Rattle.qs_spec.specs.internal.Parsing.{cut};
 ghost use Rattle.qs_tree.specs.internal.scan.Cursor.{kind_of_token, token_of, BeginsWith, ends_of, left, spent, looks, ended_after, raw_from_token, from_token, IsPast, GoesOn, taken, to_come, IsLeft, IsLetter};
 
+pub use self::steps::Steps;
+use self::trail::Trail;
 use crate::escape::{find_value_end, is_letter};
-use crate::scan::spots::{Spot, Spots};
-use crate::steps::Steps;
-use std::alloc::{AllocError, Global};
+use crate::scan::spots::Spots;
+use std::alloc::Global;
 use std::mem;
 
 /// The kind of a token.
@@ -154,9 +158,16 @@ fn run_len(bytes: &[u8], form: bool, until: Until) -> (usize, bool)
     (at, is_unmarked)
 }
 
-/// A cursor over an input. A step is a byte that the cursor takes, or its look at the end; the methods that take no byte count none.
-/// Other looks aren't counted: at the bytes after a `%`, which may be a bracket's; at what was taken, for an index, for escapes and
-/// for comparisons; and at up to 31 bytes behind the `&` that ends a value, since the search for it tests 32 bytes at a time.
+/// A cursor over an input. A step is a byte that the cursor takes, or its look at the end; the methods that take no byte count none,
+/// and hand out only bytes that were taken.
+///
+/// Other looks aren't counted. All of them are these:
+///
+/// - A method may look several times at a byte that it takes: whether it is a letter, whether an escape, which token it begins; and at
+///   the token that ends a run or a value again when it takes that. Where nothing is left it compares lengths alone.
+/// - In form encoding it looks at the two bytes after a `%`, which may be a bracket's.
+/// - It looks at up to 31 bytes after the `&` that ends a value, since the search for it tests 32 bytes at a time.
+/// - What was taken is looked at again: for an index, for escapes, for comparisons of keys, and for the text of an error.
 #[derive(Drop)]
 pub(crate) struct Cursor<'qs> {
     rest: &'qs [u8],
@@ -166,24 +177,6 @@ pub(crate) struct Cursor<'qs> {
     is_unmarked: bool,
     steps: Steps,
     trail: Trail<'qs>,
-}
-
-/// What the error of a conflict needs of the current pair.
-#[derive(Drop)]
-struct Trail<'qs> {
-    /// The input from the pair's first byte on.
-    start: &'qs [u8],
-    /// One for each level of the pair's path.
-    spots: Spots,
-}
-
-/// The key and position of a conflict's error.
-#[derive(Clone, Copy)]
-pub(crate) struct Site<'qs> {
-    /// The bytes of the pair before the bracket at which the conflict is.
-    pub key: &'qs [u8],
-    /// How many steps remain.
-    pub to_come: usize,
 }
 
 impl<'qs> Cursor<'qs> {
@@ -210,7 +203,9 @@ impl<'qs> Cursor<'qs> {
 
     /// Takes the steps so far.
     pub fn take_steps(&mut self) -> Steps
-        ensures { result ≡ self.old.steps }
+        ensures steps { result ≡ self.old.steps }
+        ensures rest { self.new.rest.now ≡ self.old.rest.now }
+        ensures ended { self.new.ended ≡ self.old.ended }
     {
         mem::replace(&mut self.steps, Steps::new())
     }
@@ -241,58 +236,6 @@ impl<'qs> Cursor<'qs> {
         ensures { result ≡ length self.now.rest.now + to_come self.now.ended }
     {
         self.rest.len() + usize::from(!self.ended)
-    }
-
-    /// Starts a pair at the current position.
-    pub fn begin_pair(&mut self)
-        ensures rest { self.new.rest.now ≡ self.old.rest.now }
-        ensures form { self.new.form ≡ self.old.form }
-        ensures ended { self.new.ended ≡ self.old.ended }
-        ensures steps { self.new.steps ≡ self.old.steps }
-    {
-        self.trail.start = self.rest;
-        self.trail.spots.clear();
-    }
-
-    /// Stores the current position for a conflict at the next level of the pair's path, whose bracket is at `bracket`.
-    pub fn keep_spot(&mut self, bracket: Place<'qs>) -> Result<(), AllocError>
-        ensures rest { self.new.rest.now ≡ self.old.rest.now }
-        ensures form { self.new.form ≡ self.old.form }
-        ensures ended { self.new.ended ≡ self.old.ended }
-        ensures steps { self.new.steps ≡ self.old.steps }
-    {
-        let key_len = self.trail.start.len().saturating_sub(bracket.rest.len());
-        let to_come = self.to_come();
-        self.trail.spots.push(Spot { key_len, to_come })
-    }
-
-    /// Stores the position for a conflict at the root key. Does nothing for an empty key, which isn't in the path.
-    pub fn keep_root(&mut self, key: &[u8], bracket: Place<'qs>) -> Result<(), AllocError>
-        ensures rest { self.new.rest.now ≡ self.old.rest.now }
-        ensures form { self.new.form ≡ self.old.form }
-        ensures ended { self.new.ended ≡ self.old.ended }
-        ensures steps { self.new.steps ≡ self.old.steps }
-    {
-        if key.is_empty() {
-            return Ok(());
-        }
-        self.keep_spot(bracket)
-    }
-
-    /// Returns the key and position of a conflict at a level of the pair's path: the current position where no bracket is stored for
-    /// it.
-    pub fn site(&self, level: usize) -> Site<'qs> {
-        let Trail { start, spots } = &self.trail;
-        match spots.get(level) {
-            Some(spot) => Site {
-                key: start.get(..spot.key_len).unwrap_or(start),
-                to_come: spot.to_come,
-            },
-            None => Site {
-                key: start,
-                to_come: self.to_come(),
-            },
-        }
     }
 
     /// Returns the bytes that were taken since a position.

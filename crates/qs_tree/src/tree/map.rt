@@ -15,7 +15,7 @@ ghost use Rattle.qs_tree.specs.tree.Lookup.{binary_digits};
 ghost use Rattle.qs_tree.specs.internal.build.Builder.{entries_held};
 ghost use Rattle.qs_tree.specs.tree.Views.{segment_of_key, key_mark, marked_segment_of_key, tree_of, entries_of_map, map_pairs, take_out};
 
-use crate::steps::Steps;
+use crate::scan::cursor::Steps;
 use crate::tree::dropping::drop_tree;
 use crate::tree::entries::Entries;
 use crate::tree::key::Key;
@@ -238,20 +238,11 @@ pub(crate) fn search<'k, 'qs, V>(
     let mut high = entries.len();
     while low < high {
         let middle = low + (high - low) / 2;
-        match compared(key, &entries[middle].0, steps) {
+        match steps.compare(key, &entries[middle].0) {
             Ordering::Less => high = middle,
             Ordering::Equal => return Ok(middle),
             Ordering::Greater => low = middle + 1,
         }
     }
     Err(low)
-}
-
-// Compares two keys, which is a step.
-fn compared<'k, 'qs>(key: &Key<'k>, other: &Key<'qs>, steps: &mut Steps) -> Ordering
-    ensures order { result ≡ key_cmp key.now other.now }
-    ensures cost { steps.new ≡ steps.old + 1 }
-{
-    steps.add(1);
-    key.compare(other)
 }

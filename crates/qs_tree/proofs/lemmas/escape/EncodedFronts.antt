@@ -1,6 +1,8 @@
 -- How many bytes `encoded` has, and what it is up to an escape, and after one.
-use Rattle.qs_tree.proofs.Common.{count_by-le-length, ◌≡◌, ℕ, zero, suc, ◌+◌, ◌*◌, ◌/◌, ◌%◌, ◌<◌, ◌≤◌, true, false, Bool, List, [], ◌∷◌, ◌++◌, map, length, get_or, take, drop, refl, sym, ap, ◌∙◌, arith, ◌||◌, ◌==◌, inl, inr, Fits, w8, cond, count_by, AllByRecursion, digit_glyph, sum_by-cons, cond-true, cond-false, not-true, not-false, cases_Bool, or_both, decoded, encoded, encoded_byte, escape, is_kept_in_query, is_escaped, NoneBetween, swapped, length-append, eqb-true}
+use Rattle.qs_tree.proofs.Common.{count_by-le-length, Some, None, position, position-Some, append-nil, is_encoded, ◌≡◌, ℕ, zero, suc, ◌+◌, ◌*◌, ◌/◌, ◌%◌, ◌<◌, ◌≤◌, true, false, Bool, List, [], ◌∷◌, ◌++◌, map, length, get_or, take, drop, refl, sym, ap, ◌∙◌, arith, ◌||◌, ◌==◌, inl, inr, Fits, w8, cond, count_by, AllByRecursion, digit_glyph, sum_by-cons, cond-true, cond-false, not-true, not-false, cases_Bool, or_both, decoded, encoded, encoded_byte, escape, is_kept_in_query, is_escaped, NoneBetween, swapped, length-append, eqb-true}
 use Rattle.qs_spec.proofs.Unescaped.{decoded-encoded}
+use Rattle.qs_tree.proofs.lemmas.escape.FirstPlace.{all_fail}
+use Rattle.std.proofs.Math.Seq.{take-length, drop-length}
 use Rattle.percent_encoding.specs.Percent.{percent_encode_byte}
 
 pub escape_is : (b : ℕ) → b < 256 → percent_encode_byte b ≡ escape b
@@ -39,6 +41,30 @@ encoded_run form (suc n) [] within unmarked = absurd (omega arith)
 encoded_run form (suc n) (b ∷ bs) within unmarked =
     ap (λ x. x ++ encoded form bs) (byte_not_escaped form b (unmarked 0 (omega arith) (omega arith)))
     ∙ ap (λ x. swapped 32 43 b ∷ x) (encoded_run form n bs (omega arith) (λ k from to. unmarked (suc k) (omega arith) (omega arith)))
+
+-- bytes that aren't changed
+byte_kept : (form : Bool) (b : ℕ) → is_encoded form b ≡ false → encoded_byte form b ≡ b ∷ []
+byte_kept true b is = cond-true _ _ _ (not-false _ is)
+byte_kept false b is = cond-true _ _ _ (not-false _ is)
+
+kept_run : (form : Bool) (n : ℕ) (bs : List ℕ) → n ≤ length bs → NoneBetween (is_encoded form) bs 0 n → encoded form bs ≡ take n bs ++ encoded form (drop n bs)
+kept_run form zero bs within kept = refl
+kept_run form (suc n) [] within kept = absurd (omega arith)
+kept_run form (suc n) (b ∷ bs) within kept =
+    ap (λ x. x ++ encoded form bs) (byte_kept form b (kept 0 (omega arith) (omega arith)))
+    ∙ ap (λ x. b ∷ x) (kept_run form n bs (omega arith) (λ k from to. kept (suc k) (omega arith) (omega arith)))
+
+-- bytes up to the first that is changed
+pub from_first : (form : Bool) (bs : List ℕ) (n : ℕ) → Some n ≡ position (is_encoded form) bs → encoded form bs ≡ take n bs ++ encoded form (drop n bs)
+from_first form bs n is =
+    let at = position-Some (is_encoded form) bs n 0 (sym is) in
+    kept_run form n bs (omega (arith, at.0)) (λ k from to. at.2 k to)
+
+-- bytes none of which is changed
+pub none_encoded : (form : Bool) (bs : List ℕ) → None ≡ position (is_encoded form) bs → encoded form bs ≡ bs
+none_encoded form bs is =
+    kept_run form (length bs) bs (omega arith) (λ k from to. all_fail (is_encoded form) bs is k to)
+    ∙ ap (λ rest. take (length bs) bs ++ encoded form rest) (drop-length bs) ∙ append-nil _ ∙ take-length bs
 
 -- after an escape
 pub encoded_escape : (form : Bool) (bs : List ℕ) → 0 < length bs → is_escaped form (get_or bs 0 0) ≡ true

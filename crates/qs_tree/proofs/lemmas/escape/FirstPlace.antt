@@ -13,7 +13,7 @@ position-none p xs none =
     sym (cond-false _ _ _ (le-ltb (position_or_len p xs) (length xs) (omega (arith, at))))
 
 -- where none was found, each element fails
-all_fail : (p : ℕ → Bool) (xs : List ℕ) → None ≡ position p xs → (k : ℕ) → k < length xs → p (get_or xs k 0) ≡ false
+pub all_fail : (p : ℕ → Bool) (xs : List ℕ) → None ≡ position p xs → (k : ℕ) → k < length xs → p (get_or xs k 0) ≡ false
 all_fail p xs is k below =
     elim (cases_Bool (ltb (position_or_len p xs) (length xs))) [
       | inl found ↦ let at = is ∙ cond-true _ _ _ found in absurd (cc)

@@ -2,11 +2,11 @@
 use Rattle.qs_tree.proofs.Common.{vstruct, vnil, Logic, ‵, raw, ◌$◌, ◌∵◌, !, qed, move, suffices, done, no_more, returns, enter, agg, alloc_all, pass_all, free_all, look_at, sets, Ura, SProp, ent, emp, via, fst∗, Memory, Routine, Calls, Loops, WpFn, Tables, Fun, WpFn-mono, pure_i, on_entry, alive, Meets, triple_of, entered, says, Stays, walk_of, Walks, ends_at, walked, walk_Meets, refl, [], ◌∷◌}
 use contract.Running.{tables, tables_of}
 use denote.RattleType.{owns}
-use Rattle.qs_tree.specs.contracts.steps.Steps.new.Key.{name as key}
-use Rattle.qs_tree.specs.contracts.steps.Steps.new as f
-use Rattle.qs_tree.proofs.steps.Steps.new.Statement as stated
-use Rattle.qs_tree.proofs.steps.Steps.new.Code as code
-use Rattle.qs_tree.specs.contracts.steps.Steps as made
+use Rattle.qs_tree.specs.contracts.scan.cursor.steps.Steps.new.Key.{name as key}
+use Rattle.qs_tree.specs.contracts.scan.cursor.steps.Steps.new as f
+use Rattle.qs_tree.proofs.scan.cursor.steps.Steps.new.Statement as stated
+use Rattle.qs_tree.proofs.scan.cursor.steps.Steps.new.Code as code
+use Rattle.qs_tree.specs.contracts.scan.cursor.steps.Steps as made
 
 abbrev stayed : Stays (f.ended).signature.params (f.ended).kept
 stayed = tt

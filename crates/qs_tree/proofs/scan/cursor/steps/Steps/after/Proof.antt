@@ -8,11 +8,11 @@ use contract.Running.{tables, tables_of}
 use denote.RattleType.{owns}
 use denote.Ref.{shr_vals, shr_Tells}
 use denote.Signature.{plain, types_at}
-use Rattle.qs_tree.specs.contracts.steps.Steps.after.Key.{name as key}
-use Rattle.qs_tree.specs.contracts.steps.Steps.after as f
-use Rattle.qs_tree.proofs.steps.Steps.after.Statement as stated
-use Rattle.qs_tree.proofs.steps.Steps.after.Code as code
-use Rattle.qs_tree.specs.contracts.steps.Steps as trail
+use Rattle.qs_tree.specs.contracts.scan.cursor.steps.Steps.after.Key.{name as key}
+use Rattle.qs_tree.specs.contracts.scan.cursor.steps.Steps.after as f
+use Rattle.qs_tree.proofs.scan.cursor.steps.Steps.after.Statement as stated
+use Rattle.qs_tree.proofs.scan.cursor.steps.Steps.after.Code as code
+use Rattle.qs_tree.specs.contracts.scan.cursor.steps.Steps as trail
 use denote.Builtin.{usize}
 use Prim.Native.Nat.{◌+◌}
 

@@ -2,10 +2,15 @@
 
 ghost use Rattle.std.specs.Prelude.{◌≡◌, ℕ, ◌+◌};
 ghost use Rattle.std.specs.Borrow.{ftrue};
+ghost use Rattle.qs_tree.specs.tree.Keys.{key_cmp};
 
+use crate::tree::key::Key;
+use std::cmp::Ordering;
 use std::marker::Model;
 
 /// A number of steps. Contracts see a natural number; at run time it has no bytes.
+///
+/// Only the cursor of a parse adds to it, and a comparison of two keys in a search.
 ///
 /// ```
 /// let mut steps = Steps::new();
@@ -36,8 +41,18 @@ impl Steps {
         Steps {}
     }
 
-    /// Adds `taken` steps.
-    pub(crate) fn add(&mut self, taken: usize)
+    /// Compares two keys, which is a step.
+    #[inline(always)]
+    pub(crate) fn compare<'k, 'qs>(&mut self, key: &Key<'k>, other: &Key<'qs>) -> Ordering
+        ensures order { result ≡ key_cmp key.now other.now }
+        ensures cost { self.new ≡ self.old + 1 }
+    {
+        self.add(1);
+        key.compare(other)
+    }
+
+    /// Adds `taken` steps. Only the cursor sees this.
+    pub(super) fn add(&mut self, taken: usize)
         ensures { self.new ≡ self.old + taken }
     {
         *self = Steps::after(self, &taken);

@@ -10,6 +10,7 @@ ghost use Rattle.qs_tree.specs.internal.scan.Pairs.{leaf_of};
 ghost use Rattle.qs_tree.specs.internal.build.Unsorted.{AreLeaves, entries_of_leaves, is_leaf};
 
 use crate::build::add_to_value::add_leaf_at;
+use crate::build::conflict::AddError;
 use crate::build::distinct::have_distinct_keys;
 use crate::scan::pair::Leaf;
 use crate::tree::entries::{Entries, reserve_one};
@@ -78,10 +79,12 @@ impl<'qs> Unsorted<'qs> {
     {
         let mut entries = Entries::with_capacity(alloc, leaves.len())?;
         for entry in leaves {
-            // Leaves are in no conflict with one another.
-            let Ok(()) = add_leaf_at(alloc, &mut entries, entry.0, Leaf::of(entry.1), 0) else {
-                return Err(AllocError);
-            };
+            match add_leaf_at(alloc, &mut entries, entry.0, Leaf::of(entry.1), 0) {
+                Ok(()) => {}
+                Err(AddError::OutOfMemory) => return Err(AllocError),
+                // Leaves are in no conflict with one another.
+                Err(AddError::Conflict(_)) => unreachable!(),
+            }
         }
         Ok(entries)
     }

@@ -1,4 +1,4 @@
-use Rattle.qs_tree.proofs.Common.{nil_from_length, ◌++◌, ◌∷◌, [], length, sym, ap, ◌∙◌, append-nil, append_assoc, arith, false, same_Some, into_iter_items, add_flat, update, marked_segment_of_key, leaf_held, entries_held, entries_of_leaves}
+use Rattle.qs_tree.proofs.Common.{nil_from_length, ◌++◌, ◌∷◌, [], length, sym, ap, ◌∙◌, append-nil, append_assoc, arith, false, same_Some, none-some, into_iter_items, add_flat, update, marked_segment_of_key, leaf_held, entries_held, entries_of_leaves}
 use Rattle.qs_tree.proofs.lemmas.build.Unsorted.{added_flat}
 use Rattle.qs_tree.proofs.build.unsorted.Unsorted.merge.Goals as goal
 
@@ -30,3 +30,12 @@ returns c =
     let front = c.loop-entry.invariant.front in
     let none = nil_from_length (into_iter_items c.loop-entry.entry-iterator) (sym c.loop-entry.invariant.size ∙ c.in-None.ensures.steps.0) in
     c.loop-entry.invariant.same ∙ ap entries_of_leaves (sym (append-nil front)) ∙ rw none at c.loop-entry.invariant.all
+
+pub unreachable-requires : goal.unreachable-requires
+unreachable-requires c =
+    let entry = c.in-Some.entry in
+    let front = c.loop-entry.invariant.front in
+    let is = c.in-Err-Conflict.field-0-is in
+    let rejected = rw c.of.ensures at c.in-Err-Conflict.ensures in
+    let added = ap (update (marked_segment_of_key entry.0) (add_flat false (leaf_held entry.1))) c.loop-entry.invariant.same ∙ added_flat front entry.0 entry.1 in
+    none-some _ (sym (rejected (λ memory. absurd (cc (is, memory)))) ∙ added)

@@ -39,6 +39,7 @@ pub fn submitted<T: Deserialize>(
     let wrong = match explain(alloc, config, &T::shape(alloc)?, form)? {
         Some(Explanation::Mismatch(mismatch)) => of_mismatch(alloc, &mismatch)?,
         Some(Explanation::Syntax(error)) => of_syntax(alloc, config, form, &error)?,
+        Some(Explanation::NoPairs) => of_the_whole(alloc, &Explanation::NoPairs)?,
         None => return Err(error),
     };
     Ok(Err(with_hint(alloc, config, form, wrong)?))
@@ -58,6 +59,13 @@ fn of_mismatch(alloc: Global, mismatch: &Mismatch) -> Result<FieldError> {
         }
     }
     let message = mismatch.problem.to_string(alloc)?;
+    Ok(FieldError { field, message })
+}
+
+// Returns the error of a form of which no field can be named.
+fn of_the_whole(alloc: Global, explanation: &Explanation) -> Result<FieldError> {
+    let field = String::new(alloc);
+    let message = explanation.to_string(alloc)?;
     Ok(FieldError { field, message })
 }
 

@@ -3,5 +3,6 @@ pub mod Held
 pub mod ItemsThere
 pub mod KeysAllowed
 pub mod OneByOne
+pub mod Parsed
 pub mod Parts
 pub mod Related

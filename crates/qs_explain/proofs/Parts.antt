@@ -10,18 +10,18 @@ use Rattle.qs_tree.specs.tree.Views.{tree_of}
 use Rattle.qs_spec.specs.Segment.{Segment}
 use Rattle.qs_spec.specs.Leaf.Leaf.{NoValue, Null, Text}
 use Rattle.qs_spec.specs.Shape.{Shape}
-use Rattle.qs_spec.specs.Config.{Config, are_rejected}
 use Rattle.qs_spec.specs.internal.ReadFunction.{reads}
-use Rattle.qs_spec.specs.Tree.{Tree, IsTree}
-use Rattle.qs_explain.specs.declared.explanation.Explanation.TheVariants as e
+use Rattle.qs_spec.specs.Tree.{Tree}
 use Rattle.qs_spec.specs.Node.{IsFull}
 use Rattle.qs_explain.specs.Children.{Child, children}
 use Rattle.qs_explain.specs.Parts.{ReadsSome, IsChild, Part, IsPathTo, AreRead}
-use Rattle.qs_explain.specs.Explains.{Explains, IsMismatch, PartsAreRead, path_of, segment_of, IsProblem, Says}
+use Rattle.qs_explain.specs.Explains.{IsMismatch, PartsAreRead, path_of, segment_of, IsProblem, Says}
 use Rattle.qs_explain.specs.internal.Finding.{FindsMismatch, FindsAmong, FindsInside, IsBelow, IsHere}
 use Rattle.qs_explain.specs.declared.explanation.Mismatch.{Mismatch}
+use Rattle.qs_explain.specs.declared.explanation.Problem.{Problem}
+use Rattle.qs_explain.specs.declared.explanation.Problem.TheVariants.{Unfit, UnexpectedKey}
 use Rattle.qs_explain.specs.declared.expected.Expected.{Expected}
-use Rattle.qs_explain.specs.Expected.{expected_of}
+use Rattle.qs_explain.specs.Expected.{Expects}
 use Rattle.qs_explain.specs.Unexpected.{unexpected_key}
 
 no_child : (c : Child) (cs : List Child) → cs ≡ [] → IsChild c cs → ⊥
@@ -106,8 +106,15 @@ among_is E rd s n o p e h f = among {E = E} rd s n (Ok p) h (subst (λ q. FindsA
 pub below : (rd : Bool) (key first : Segment) (s : Shape) (n : Tree) (inner m : Mismatch) → IsMismatch rd s n inner → path_of m ≡ first ∷ path_of inner → first ≡ key → m.problem ≡ inner.problem → IsBelow rd key s n m
 below rd key first s n inner m mismatch path is problem = record { inner = inner; mismatch = mismatch; path = path ∙ ap (λ x. x ∷ path_of inner) is; problem = problem }
 
+-- what is expected is said by what holds of it
+says_of : (P : Expected → Type 0) (expected : Expected) (key : Option Segment) (n : Tree) (p : Problem) → P expected → Says key (λ x. x ≡ expected) n p → Says key P n p
+says_of P expected None n (Unfit x found) holds h = (subst P (sym h.0) holds, h.1)
+says_of P expected None n (UnexpectedKey k x) holds h = h
+says_of P expected (Some key) n (Unfit x found) holds h = h
+says_of P expected (Some key) n (UnexpectedKey k x) holds h = (h.0, subst P (sym h.1) holds)
+
 -- the node itself is what is wrong
-pub mismatch_at : (rd : Bool) (unexpected : Option Segment) (expected : Expected) (s : Shape) (n : Tree) (m : Mismatch) → unexpected ≡ unexpected_key s n → expected ≡ expected_of s → reads rd s n ≡ None → PartsAreRead rd s n → IsHere unexpected expected n m
+pub mismatch_at : (rd : Bool) (unexpected : Option Segment) (expected : Expected) (s : Shape) (n : Tree) (m : Mismatch) → unexpected ≡ unexpected_key s n → Expects s expected → reads rd s n ≡ None → PartsAreRead rd s n → IsHere unexpected expected n m
     → IsMismatch rd s n m
 mismatch_at rd unexpected expected s n m key kind unread innermost here = record {
   part = s;
@@ -115,7 +122,7 @@ mismatch_at rd unexpected expected s n m key kind unread innermost here = record
   leads = subst (λ xs. IsPathTo (map segment_of xs) s n s n) (sym here.0) IsPathTo.here;
   unread = unread;
   innermost = innermost;
-  problem = subst (λ x. Says x (expected_of s) n m.problem) key (subst (λ x. Says unexpected x n m.problem) kind here.1);
+  problem = subst (λ x. Says x (Expects s) n m.problem) key (says_of (Expects s) expected unexpected n m.problem kind here.1);
 }
 
 -- what is found in the part is found in the whole, where the part is all that the whole has
@@ -140,15 +147,5 @@ full_as rd s n m r e full f = full_found rd s n r (subst IsFull (sym e) full) f
 pub text_full : (t : CowSlice ℕ Global) → IsFull (tree_of (value.String t))
 text_full (Borrowed r) = let e : tree_of (value.String (Borrowed r)) ≡ Tree.leaf (Text r.now false) = search (rules, value.the_lemmas) in subst IsFull (sym e) tt
 text_full (Owned v) = let e : tree_of (value.String (Owned v)) ≡ Tree.leaf (Text v.items true) = search (rules, value.the_lemmas) in subst IsFull (sym e) tt
-
--- what is found in the tree of an input explains it
-pub is_read_from : (config : Config) (s : Shape) (input : List ℕ) (n : Tree) → IsTree config.form config.max_depth input n → ReadsSome (are_rejected config.duplicates) s n → Explains {E = AllocError} config s input (Ok None)
-is_read_from config s input n tree read = (n, tree, read)
-
-pub is_explained : (config : Config) (s : Shape) (input : List ℕ) (n : Tree) (m : Mismatch) → IsTree config.form config.max_depth input n → (reads (are_rejected config.duplicates) s n ≡ None) × IsMismatch (are_rejected config.duplicates) s n m
-    → Explains {E = AllocError} config s input (Ok (Some (e.Mismatch m)))
-is_explained config s input n m tree found = (n, tree, found.0, found.1)
-
-pub ruleset explained = (is_read_from, is_explained)
 
 pub ruleset parts = (absent_parts, uninitialized_parts, null_found, full_found, newtype_found)

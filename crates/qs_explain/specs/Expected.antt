@@ -1,6 +1,6 @@
 -- What is expected of a part, and what stands there.
-use Rattle.std.specs.Prelude.{◌≡◌, ⊤}
-use Rattle.qs_spec.specs.Shape.{Shape}
+use Rattle.std.specs.Prelude.{◌≡◌, ℕ, ⊤, List, [], ◌∷◌, map, string_bytes}
+use Rattle.qs_spec.specs.Shape.{Shape, Variants, no_variants, one_variant}
 use Rattle.qs_spec.specs.Leaf as l
 use Rattle.qs_spec.specs.Tree.{Tree}
 use Rattle.qs_explain.specs.declared.expected.Expected.{Expected}
@@ -8,24 +8,34 @@ use Rattle.qs_explain.specs.declared.expected.Expected.TheVariants as e
 use Rattle.qs_explain.specs.declared.found.Found.{Found}
 use Rattle.qs_explain.specs.declared.found.Found.TheVariants as f
 
--- the kind of a shape; an option and a newtype expect what their part does
-abbrev pub expected_of : Shape → Expected
-expected_of Shape.unit = e.Unit
-expected_of Shape.boolean = e.Bool
-expected_of (Shape.unsigned bits) = e.Unsigned bits
-expected_of (Shape.signed bits) = e.Signed bits
-expected_of Shape.character = e.Char
-expected_of Shape.text = e.Text
-expected_of Shape.bytes = e.Bytes
-expected_of (Shape.option s) = expected_of s
-expected_of (Shape.sequence s) = e.List
-expected_of (Shape.tuple ss) = e.Tuple
-expected_of (Shape.mapping k s) = e.Map
-expected_of (Shape.struct u fs) = e.Struct
-expected_of (Shape.newtype s) = expected_of s
-expected_of (Shape.enumeration vs) = e.Enum
-expected_of Shape.any = e.Anything
-expected_of Shape.ignored = e.Anything
+-- the names of variants
+abbrev pub variant_names : Variants → List (List ℕ)
+variant_names no_variants = []
+variant_names (one_variant name k vs) = name ∷ variant_names vs
+
+-- it is one of these names that is expected
+abbrev pub IsOneOf : List (List ℕ) → Expected → Type 0
+IsOneOf names (e.OneOf listed) = map string_bytes listed.items ≡ names
+IsOneOf names _ = ⊥
+
+-- this is expected by a shape: its kind, and of an enum the names of its variants; an option and a newtype expect what their part does
+abbrev pub Expects : Shape → Expected → Type 0
+Expects Shape.unit expected = expected ≡ e.Unit
+Expects Shape.boolean expected = expected ≡ e.Bool
+Expects (Shape.unsigned bits) expected = expected ≡ e.Unsigned bits
+Expects (Shape.signed bits) expected = expected ≡ e.Signed bits
+Expects Shape.character expected = expected ≡ e.Char
+Expects Shape.text expected = expected ≡ e.Text
+Expects Shape.bytes expected = expected ≡ e.Bytes
+Expects (Shape.option s) expected = Expects s expected
+Expects (Shape.sequence s) expected = expected ≡ e.List
+Expects (Shape.tuple ss) expected = expected ≡ e.Tuple
+Expects (Shape.mapping k s) expected = expected ≡ e.Map
+Expects (Shape.struct u fs) expected = expected ≡ e.Struct
+Expects (Shape.newtype s) expected = Expects s expected
+Expects (Shape.enumeration vs) expected = IsOneOf (variant_names vs) expected
+Expects Shape.any expected = expected ≡ e.Anything
+Expects Shape.ignored expected = expected ≡ e.Anything
 
 -- this is what stands at a node, and of a text its bytes
 abbrev pub Stands : Found → Tree → Type 0

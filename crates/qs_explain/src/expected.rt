@@ -1,18 +1,20 @@
 //! What is expected of a part.
 
-ghost use Rattle.std.specs.Prelude.{◌≡◌};
-ghost use Rattle.qs_data.specs.shape.Views.{shape_of};
-ghost use Rattle.qs_explain.specs.Expected.{expected_of};
+ghost use Rattle.std.specs.Prelude.{◌≡◌, IfOk, map, string_bytes};
+ghost use Rattle.qs_data.specs.shape.Views.{shape_of, variants_in};
+ghost use Rattle.qs_explain.specs.Expected.{Expects, variant_names};
 
-use qs_data::Shape;
+use crate::line::write_bytes;
+use qs_data::{Shape, Variant};
+use std::alloc::{AllocError, Global};
 use std::fmt;
 
-/// What is expected of a part: the kind of its shape.
+/// What is expected of a part: the kind of its shape, and of an enum its variants.
 ///
 /// ```
 /// let text = Expected::Unsigned(8).to_string(alloc)?; // u8
 /// ```
-#[derive(Debug, Clone, Copy, PartialEq, Eq)]
+#[derive(Debug, PartialEq, Eq, Drop)]
 pub enum Expected {
     /// No value.
     Unit,
@@ -36,18 +38,18 @@ pub enum Expected {
     Map,
     /// The fields of a struct.
     Struct,
-    /// One of the variants of an enum.
-    Enum,
+    /// One of the variants of an enum, which have these names.
+    OneOf(Vec<String>),
     /// Any value.
     Anything,
 }
 
 impl Expected {
-    /// Returns what a shape expects. An option and a newtype expect what their part does.
-    pub(crate) fn of(shape: &Shape) -> Expected
-        ensures { result ≡ expected_of (shape_of shape.now) }
+    /// Returns what a shape expects. An option and a newtype expect what their part does. It allocates for the names of variants.
+    pub(crate) fn of(alloc: Global, shape: &Shape) -> Result<Expected, AllocError>
+        ensures { IfOk result (λ expected. Expects (shape_of shape.now) expected) }
     {
-        match shape {
+        Ok(match shape {
             Shape::Unit => Expected::Unit,
             Shape::Bool => Expected::Bool,
             Shape::U8 => Expected::Unsigned(8),
@@ -61,15 +63,26 @@ impl Expected {
             Shape::Char => Expected::Char,
             Shape::Text => Expected::Text,
             Shape::Bytes => Expected::Bytes,
-            Shape::Option(part) | Shape::Newtype(part) => Expected::of(part),
+            Shape::Option(part) | Shape::Newtype(part) => return Expected::of(alloc, part),
             Shape::Seq(_) => Expected::List,
             Shape::Tuple(_) => Expected::Tuple,
             Shape::Map(_, _) => Expected::Map,
             Shape::Struct(_) | Shape::StrictStruct(_) => Expected::Struct,
-            Shape::Enum(_) => Expected::Enum,
+            Shape::Enum(variants) => Expected::OneOf(names_of(alloc, variants)?),
             Shape::Any | Shape::Ignored => Expected::Anything,
-        }
+        })
     }
+}
+
+// Returns the names of variants.
+fn names_of(alloc: Global, variants: &[Variant]) -> Result<Vec<String>, AllocError>
+    ensures { IfOk result (λ names. map string_bytes names.items ≡ variant_names (variants_in variants.now)) }
+{
+    let mut names = Vec::new(alloc);
+    for variant in variants {
+        names.push(variant.name.clone()?)?;
+    }
+    Ok(names)
 }
 
 impl fmt::Display for Expected {
@@ -77,6 +90,10 @@ impl fmt::Display for Expected {
         let name = match self {
             Expected::Unsigned(bits) => return write!(f, "u{bits}"),
             Expected::Signed(bits) => return write!(f, "i{bits}"),
+            Expected::OneOf(names) => {
+                let names = OneOfNames(names);
+                return write!(f, "{names}");
+            }
             Expected::Unit => "no value",
             Expected::Bool => "a boolean",
             Expected::Char => "a character",
@@ -86,9 +103,27 @@ impl fmt::Display for Expected {
             Expected::Tuple => "a list of fixed length",
             Expected::Map => "keys and values",
             Expected::Struct => "fields",
-            Expected::Enum => "a variant",
             Expected::Anything => "a value",
         };
         f.write_str(name)
+    }
+}
+
+/// Names of variants, which are printed as ``one of "Card", "Cash"``.
+#[derive(Drop)]
+pub(crate) struct OneOfNames<'a>(pub(crate) &'a [String]);
+
+impl fmt::Display for OneOfNames<'_> {
+    fn fmt<W: fmt::Write>(&self, f: &mut fmt::Formatter<W>) -> fmt::Result {
+        if self.0.is_empty() {
+            return f.write_str("a variant");
+        }
+        f.write_str("one of ")?;
+        for (i, name) in self.0.iter().enumerate() {
+            f.write_str(if i == 0 { "\"" } else { ", \"" })?;
+            write_bytes(name.as_bytes(), f)?;
+            f.write_str("\"")?;
+        }
+        Ok(())
     }
 }

@@ -1,21 +1,24 @@
 //! Explaining why an input isn't read.
 
 ghost use Rattle.std.specs.Prelude.{◌≡◌, true};
+ghost use Rattle.qs_spec.specs.Config.{are_rejected};
 ghost use Rattle.qs_spec.specs.Shape.{is_distinct};
+ghost use Rattle.qs_tree.specs.tree.Views.{tree_of};
 ghost use Rattle.qs_data.specs.shape.Views.{shape_of};
 ghost use Rattle.qs_explain.specs.Explains.{Explains, ExplainsUnread};
+ghost use Rattle.qs_explain.specs.internal.Parsed.{ExplainsParsed, ExplainsTree};
 
 use crate::explanation::Explanation;
 use crate::walk::find_mismatch;
 use qs_data::{Config, Error, Shape};
-use qs_tree::parse;
+use qs_tree::{ParsedValue, parse};
 use std::alloc::{AllocError, Global};
 
 /// Explains why an input isn't read by a shape under a configuration. It returns `None` exactly where the input is read.
 ///
-/// The path of a [`Mismatch`](crate::Mismatch) leads to the innermost part that isn't read. The input is parsed once and read at
-/// most once for each level of the path, and once more. It allocates what that takes, and the explanation; the only error is that
-/// an allocation failed.
+/// Of an input without a tree it returns the very error that parsing returned. The path of a [`Mismatch`](crate::Mismatch) leads to the
+/// innermost part that isn't read. The input is parsed once and read at most once for each level of the path, and once more. It allocates
+/// what that takes, and the explanation; the only error is that an allocation failed.
 ///
 /// ```
 /// let explained = explain(alloc, Config::new(), &shape, b"ids[]=1&ids[]=x")?; // ids[1]: expected u8, found the text "x"
@@ -29,26 +32,39 @@ pub fn explain(
     ensures exact { Explains config (shape_of shape.now) input.now result }
     ensures related { is_distinct (shape_of shape.now) ≡ true → ExplainsUnread config (shape_of shape.now) input.now result }
 {
-    find_explanation(alloc, config, shape, input)
+    explain_parsed(alloc, config, shape, parse(alloc, input, config))
 }
 
-// Finds the explanation, if the input isn't read.
-#[tactic(auto, using(crate::proofs::Parts::explained))]
-fn find_explanation(
+// Explains why what was parsed isn't read: by the error of parsing, or by the tree.
+fn explain_parsed(
     alloc: Global,
     config: Config,
     shape: &Shape,
-    input: &[u8],
+    parsed: Result<ParsedValue<'_>, Error>,
 ) -> Result<Option<Explanation>, AllocError>
-    ensures { Explains config (shape_of shape.now) input.now result }
+    ensures { ExplainsParsed (are_rejected config.duplicates) (shape_of shape.now) parsed.entry result }
 {
-    let tree = match parse(alloc, input, config) {
-        Ok(tree) => tree,
-        Err(Error::OutOfMemory) => return Err(AllocError),
-        Err(error) => return Ok(Some(Explanation::Syntax(error))),
+    match parsed {
+        Ok(tree) => explain_tree(alloc, config, shape, &tree),
+        Err(Error::OutOfMemory) => Err(AllocError),
+        Err(error) => Ok(Some(Explanation::Syntax(error))),
+    }
+}
+
+// Explains why a tree isn't read.
+fn explain_tree(
+    alloc: Global,
+    config: Config,
+    shape: &Shape,
+    tree: &ParsedValue<'_>,
+) -> Result<Option<Explanation>, AllocError>
+    ensures { ExplainsTree (are_rejected config.duplicates) (shape_of shape.now) (tree_of tree.now) result }
+{
+    let Some(mismatch) = find_mismatch(alloc, config, shape, tree)? else {
+        return Ok(None);
     };
-    match find_mismatch(alloc, config, shape, &tree)? {
-        Some(mismatch) => Ok(Some(Explanation::Mismatch(mismatch))),
-        None => Ok(None),
+    match tree {
+        ParsedValue::Uninitialized => Ok(Some(Explanation::NoPairs)),
+        _ => Ok(Some(Explanation::Mismatch(mismatch))),
     }
 }

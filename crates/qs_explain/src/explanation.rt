@@ -3,7 +3,7 @@
 ghost use Rattle.std.specs.Prelude.{◌≡◌, ◌∷◌, IfOk};
 ghost use Rattle.qs_explain.specs.Explains.{path_of, segment_of};
 
-use crate::expected::Expected;
+use crate::expected::{Expected, OneOfNames};
 use crate::found::Found;
 use crate::line::OneLine;
 use crate::segment::Segment;
@@ -18,13 +18,16 @@ use std::fmt::Write;
 /// match explain(alloc, Config::new(), &shape, input)? {
 ///     Some(Explanation::Mismatch(mismatch)) => show(&mismatch.path, &mismatch.problem),
 ///     Some(Explanation::Syntax(error)) => show_error(&error),
+///     Some(Explanation::NoPairs) => ask_again(),
 ///     None => accept(),
 /// }
 /// ```
 #[derive(Debug, Drop)]
 pub enum Explanation {
-    /// It has no tree, by this error, which is [`Parse`](Error::Parse).
+    /// It has no tree, by this error, which is the one that parsing returned: [`Parse`](Error::Parse).
     Syntax(Error),
+    /// It has no pairs, though it isn't empty: it is `&` alone. No shape reads that.
+    NoPairs,
     /// A part of its tree isn't read by its shape.
     Mismatch(Mismatch),
 }
@@ -52,8 +55,8 @@ pub enum Problem {
     /// This is expected, and that stands there.
     Unfit(Expected, Found),
     /// The part has this key, which its shape doesn't allow: no field or variant has it, the key shape of a map doesn't read it,
-    /// or it isn't UTF-8.
-    UnexpectedKey(Segment),
+    /// or it isn't UTF-8. What is expected of the part stands beside it: of an enum its variants.
+    UnexpectedKey(Segment, Expected),
 }
 
 impl Mismatch {
@@ -68,12 +71,13 @@ impl Mismatch {
     }
 }
 
-/// One line: the error of an input without a tree, or the path and the problem, as `age: expected u8, found the text "300"`. A control
-/// character of the input stands as its escape.
+/// One line: the error of an input without a tree, that the query has no pairs, or the path and the problem, as
+/// `age: expected u8, found the text "300"`. A control character of the input stands as its escape.
 impl fmt::Display for Explanation {
     fn fmt<W: fmt::Write>(&self, f: &mut fmt::Formatter<W>) -> fmt::Result {
         match self {
             Explanation::Syntax(error) => write!(OneLine(f), "{error}"),
+            Explanation::NoPairs => f.write_str("the query has no pairs"),
             Explanation::Mismatch(mismatch) => write!(f, "{mismatch}"),
         }
     }
@@ -101,7 +105,11 @@ impl fmt::Display for Problem {
     fn fmt<W: fmt::Write>(&self, f: &mut fmt::Formatter<W>) -> fmt::Result {
         match self {
             Problem::Unfit(expected, found) => write!(f, "expected {expected}, found {found}"),
-            Problem::UnexpectedKey(key) => write!(f, "unexpected key \"{key}\""),
+            Problem::UnexpectedKey(key, Expected::OneOf(names)) => {
+                let expected = OneOfNames(names);
+                write!(f, "unexpected key \"{key}\", expected {expected}")
+            }
+            Problem::UnexpectedKey(key, _) => write!(f, "unexpected key \"{key}\""),
         }
     }
 }

@@ -40,7 +40,7 @@ pub(crate) fn find_mismatch(
         Some(mismatch) => Ok(Some(mismatch)),
         None => {
             let unexpected = find_unexpected_key(alloc, config, shape, node)?;
-            let expected = Expected::of(shape);
+            let expected = Expected::of(alloc, shape)?;
             Ok(Some(mismatch_here(alloc, unexpected, expected, node)?))
         }
     }
@@ -121,7 +121,7 @@ fn find_in_option(
     }
 }
 
-/// Returns the mismatch of a node itself: an unexpected key, or else what is expected and what stands there.
+/// Returns the mismatch of a node itself: what is expected, and an unexpected key or else what stands there.
 pub(crate) fn mismatch_here(
     alloc: Global,
     unexpected: Option<Segment>,
@@ -131,7 +131,7 @@ pub(crate) fn mismatch_here(
     ensures { IfOk result (IsHere (option_map segment_of unexpected) expected (tree_of node.now)) }
 {
     let problem = match unexpected {
-        Some(key) => Problem::UnexpectedKey(key),
+        Some(key) => Problem::UnexpectedKey(key, expected),
         None => Problem::Unfit(expected, Found::at(alloc, node)?),
     };
     let path = Vec::new(alloc);

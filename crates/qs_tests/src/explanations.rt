@@ -54,8 +54,12 @@ Struct:prices Map:Text U8
 Struct:by Enum:1 newtype:Card U8
     by[Card]=7 |
     by[Card]=x | by[Card]: expected u8, found the text \"x\"
-    by[Cash]=1 | by: unexpected key \"Cash\"
-    by=Cash    | by: expected a variant, found the text \"Cash\"
+    by[Cash]=1 | by: unexpected key \"Cash\", expected one of \"Card\"
+    by=Cash    | by: expected one of \"Card\", found the text \"Cash\"
+Enum:2 unit:Open unit:Closed
+    =Open  |
+    =Ajar  | expected one of \"Open\", \"Closed\", found the text \"Ajar\"
+    Ajar=1 | unexpected key \"Ajar\", expected one of \"Open\", \"Closed\"
 
 # tuples of variants
 Struct:place Enum:2 tuple:At:2 I8 I8 unit:Nowhere
@@ -65,7 +69,9 @@ Struct:place Enum:2 tuple:At:2 I8 I8 unit:Nowhere
     place[At][]=1               | place[At][1]: expected i8, found nothing
     place[At][]=1&place[At][]=x | place[At][1]: expected i8, found the text \"x\"
     place[At][x]=1              | place[At]: expected a list of fixed length, found nested keys
-    place=At                    | place: expected a variant, found the text \"At\"
+    place=At                    | place: expected one of \"At\", \"Nowhere\", found the text \"At\"
+    place                       | place: expected one of \"At\", \"Nowhere\", found no value
+    other=1                     | place: expected one of \"At\", \"Nowhere\", found nothing
 
 # fields of variants
 Struct:who Enum:2 struct:Lax:name:age Text U8 strict:Strict:zip U32
@@ -74,7 +80,18 @@ Struct:who Enum:2 struct:Lax:name:age Text U8 strict:Strict:zip U32
     who[Lax][name]=Alice                                 | who[Lax][age]: expected u8, found nothing
     who[Strict][zip]=1&who[Strict][zap]=2                | who[Strict]: unexpected key \"zap\"
     who[Strict][]=1&who[Strict][]=2                      |
-    who[Lax]=x                                           | who: expected a variant, found nested keys
+    who[Lax]=x                                           | who: expected one of \"Lax\", \"Strict\", found nested keys
+
+# no pairs: the empty input has none either, but its tree is read
+Struct:age U8
+    &   | the query has no pairs
+    &&& | the query has no pairs
+        | age: expected u8, found nothing
+Struct:age Option U8
+    &   | the query has no pairs
+        |
+Any
+    &   | the query has no pairs
 
 # a control character stands as its escape, and a byte that is no UTF-8 as U+FFFD
 Struct:age U8
@@ -96,7 +113,7 @@ fn says<R: Abort>(b: &Build<'_, R>, shape: &Shape, input: &str, line: &str) {
 #[test]
 fn each_case(rt: HostRuntime) {
     let b = Build::new(&rt, rt.alloc());
-    let cases = tables::cases(&b, EXPLAINED, 41);
+    let cases = tables::cases(&b, EXPLAINED, 52);
     for (shape, case) in &cases {
         let (input, line) = present(&rt, case.split_once('|'), case);
         says(&b, &notation::shape(&b, shape), input.trim(), line.trim());

@@ -197,8 +197,8 @@ walk::find_mismatch-returns-in_ok-mismatch_here-in-None t c =
     let unread = subst (λ b. Tests rd s n b) c.if-branch.false c.in_ok-is_read.ensures in
     let innermost = subst (λ o. FindsInside {E = AllocError} rd s n (Ok o)) c.in-None.is c.in_ok-mismatch.ensures in (
       unread,
-      mismatch_at rd (option_map segment_of c.in_ok-unexpected-in-None.unexpected) c.of-expected.result s n c.in_ok-mismatch_here-in-None.field-0
-          c.in_ok-unexpected-in-None.ensures c.of-expected.ensures unread innermost c.in_ok-mismatch_here-in-None.ensures,
+      mismatch_at rd (option_map segment_of c.in_ok-unexpected-in-None.unexpected) c.in_ok-expected-in-None.expected s n c.in_ok-mismatch_here-in-None.field-0
+          c.in_ok-unexpected-in-None.ensures c.in_ok-expected-in-None.ensures unread innermost c.in_ok-mismatch_here-in-None.ensures,
     )
 
 pub walk::find_in_option-returns-in-Null : goal.walk::find_in_option-returns-in-Null

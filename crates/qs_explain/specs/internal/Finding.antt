@@ -16,7 +16,7 @@ use Rattle.qs_explain.specs.Explains.{path_of, Says, PartsAreRead, IsMismatch}
 
 -- the mismatch of the node itself
 abbrev pub IsHere : Option segments.Segment → Expected → Tree → Mismatch → Type 0
-IsHere unexpected expected n m = (m.path.items ≡ []) × Says unexpected expected n m.problem
+IsHere unexpected expected n m = (m.path.items ≡ []) × Says unexpected (λ e. e ≡ expected) n m.problem
 
 -- whether the shape reads something from the node
 abbrev pub Tests : Bool → Shape → Tree → Bool → Type 0

@@ -2,3 +2,5 @@
 pub mod Query
 pub mod Guard
 pub mod Client
+pub mod Products
+pub mod Link

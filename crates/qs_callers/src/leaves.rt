@@ -1,5 +1,10 @@
 //! A tree that is walked without any shape.
 
+ghost use Rattle.std.specs.Prelude.{◌⊎◌};
+ghost use Rattle.qs_spec.specs.Config.{default};
+ghost use Rattle.qs_spec.specs.Tree.{HasNoTree};
+ghost use Rattle.qs_tree.specs.Error.{IsParse, IsOutOfMemory};
+
 use qs_tree::{Config, ParsedMap, ParsedValue, Result, parse};
 use std::alloc::{AllocError, Global};
 
@@ -10,8 +15,11 @@ struct Place<'t, 'qs> {
     node: &'t ParsedValue<'qs>,
 }
 
-/// Returns the paths of a querystring's leaves, a line each, as `["user"]["ids"][0]` for `user[ids][0]=7`.
-pub fn leaf_paths(alloc: Global, input: &str) -> Result<String> {
+/// Returns the paths of a querystring's leaves, a line each, as `["user"]["ids"][0]` for `user[ids][0]=7`. The errors are those of `parse`.
+pub fn leaf_paths(alloc: Global, input: &str) -> Result<String>
+    ensures no_tree { IsParse result → HasNoTree default.form default.max_depth input.now }
+    ensures rejected { HasNoTree default.form default.max_depth input.now → IsParse result ⊎ IsOutOfMemory result }
+{
     let tree = parse(alloc, input.as_bytes(), Config::new())?;
     let mut lines = String::new(alloc);
     let root = Place {

@@ -1,12 +1,18 @@
 //! A page of products that were searched for.
 
+ghost use Rattle.std.specs.Prelude.{◌≡◌, IfOk, string_bytes};
+ghost use Rattle.qs_spec.specs.Config.{default};
+ghost use Rattle.qs_callers.specs.Products.{page_after, turned};
+ghost use Rattle.qs_callers.specs.declared.products.Products.{Products};
 ghost use Rattle.qs_callers.specs.declared.products.TheConstants.{NAMES};
 ghost use Rattle.serde_qs.specs.PartTables.{made_of};
+ghost use Rattle.serde_qs.specs.Typed.{IsRead};
+ghost use Rattle.serde_qs.specs.WrittenText.{text_of};
 
 use crate::range::Range;
 use serde_qs::{
-    Comma, Compound, Data, Delimited, Optional, Out, Parts, Result, Shape, Source, Struct, fields,
-    from_str, to_string,
+    Comma, Compound, Data, Delimited, Deserialize, Optional, Out, Parts, Result, Serialize, Shape,
+    Source, Struct, fields, from_str, to_string,
 };
 use std::alloc::Global;
 use std::collections::BTreeMap;
@@ -52,9 +58,19 @@ impl Compound for Products {
     }
 }
 
-/// Returns the querystring of the next page.
-pub fn next_page(alloc: Global, input: &str) -> Result<String> {
+/// Returns the querystring of the page after that of the input.
+pub fn next_page(alloc: Global, input: &str) -> Result<String>
+    ensures { IfOk result (λ text. (found : Products) × IsRead default ⟦<Products as Deserialize>⟧.table.form ⟦<Products as Deserialize>⟧.table.meaning input.now (⟦<Products as Deserialize>⟧.table.value found)
+        × (string_bytes text ≡ text_of default (⟦<Products as Serialize>⟧.datum (turned found)))) }
+{
     let mut products: Products = from_str(alloc, input)?;
-    products.page = Some(products.page.unwrap_or(1).saturating_add(1));
+    products.page = Some(page_after(products.page));
     to_string(alloc, &products)
+}
+
+// Returns the number of the page after one. Without a number it is the first.
+fn page_after(page: Option<u32>) -> u32
+    ensures { result ≡ page_after page }
+{
+    page.unwrap_or(1).saturating_add(1)
 }

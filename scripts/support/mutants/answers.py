@@ -86,7 +86,9 @@ def verdict_alone(answer, status):
     for where, text in errors:
         if not LOST.search(text):
             return Verdict.REJECTED, f"{where}: {text}"
-    return Verdict.BAD, f"only names were lost: {errors[0][0]}: {errors[0][1]}" if errors else answer.strip()[-200:]
+    if errors:
+        return Verdict.BAD, f"only names were lost: {errors[0][0]}: {errors[0][1]}"
+    return Verdict.BAD, next((line for line in answer.splitlines() if line.startswith("ahead of the check")), answer.strip()[-200:])
 
 
 def not_compiling(answer, sources, batch):

@@ -120,9 +120,9 @@ alone_at path s es h = (below_under path s es h.0, h.1)
 -- entries below a segment, and an output beside it, unless there is an error before it
 then_at : (path : Path) (s : List ℕ) (a b : Output) → AllBelow path s a.entries × ArePathsApart a.entries → AllBeside path s b.entries → AreApartAt path b.entries → AreApartAt path (and_then a b).entries
 then_at path s a b h c i = (
-    all_follow (Under path) a.entries a.error b (below_under path s a.entries h.0) i.0,
-    both_apart path s a.entries a.error b h.0 c h.1 i.1,
-  )
+  all_follow (Under path) a.entries a.error b (below_under path s a.entries h.0) i.0,
+  both_apart path s a.entries a.error b h.0 c h.1 i.1,
+)
 
 -- the same of what is beside one segment
 then_beside : (path : Path) (s t : List ℕ) (a b : Output) → (s ≡ t → ⊥) → AllBelow path t a.entries → AllBeside path s b.entries → AllBeside path s (and_then a b).entries

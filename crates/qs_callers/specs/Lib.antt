@@ -4,3 +4,4 @@ pub mod Guard
 pub mod Client
 pub mod Products
 pub mod Link
+pub mod PerPage

@@ -5,7 +5,9 @@ use crate::claims::{
 };
 use crate::round_trips::comes_back;
 use crate::values::{list, text};
-use qs_callers::{Age, Chart, Columns, Page, Paging, Pair, Place, Price, Profile, Sort, Span};
+use qs_callers::{
+    Age, Chart, Columns, Page, Paging, Pair, PerPage, Place, Price, Profile, Sort, Span,
+};
 use serde_qs::{Config, ConfigExt, Delimited, from_str};
 use std::alloc::Global;
 use std::process::Abort;
@@ -69,6 +71,28 @@ fn an_age_below_150(rt: HostRuntime) {
     is_equal(&rt, pair.a.years(), 149);
     comes_back(&rt, alloc, pair);
     are_rejected::<_, Pair<Age, Price>>(&rt, alloc, AGES);
+}
+
+const COUNTS: &[(&str, &str)] = &[
+    (
+        "a=0&b=7",
+        "invalid type: data, expected how many results are on a page, which is a number from 1 to 100",
+    ),
+    (
+        "a=101&b=7",
+        "invalid type: data, expected how many results are on a page, which is a number from 1 to 100",
+    ),
+];
+
+#[test]
+fn results_on_a_page(rt: HostRuntime) {
+    let alloc = rt.alloc();
+    for (input, count) in [("a=1&b=7", 1), ("a=100&b=7", 100)] {
+        let pair: Pair<PerPage, Price> = from_str(alloc, input).expect(&rt, "a pair");
+        is_equal(&rt, pair.a.count(), count);
+        comes_back(&rt, alloc, pair);
+    }
+    are_rejected::<_, Pair<PerPage, Price>>(&rt, alloc, COUNTS);
 }
 
 #[test]

@@ -172,7 +172,8 @@ pub trait RoundTrip: Serialize + Deserialize {
 /// Returns the error of data that mean no value of a type: [`Custom`](Error::Custom) with the message `invalid type: data,
 /// expected ..`, or [`OutOfMemory`](Error::OutOfMemory) where the allocation of the message failed.
 ///
-/// It is for a [`from_data`](Deserialize::from_data) that is written by hand. It allocates the message.
+/// It is for a [`from_data`](Deserialize::from_data) or a [`read`](crate::Compound::read) that is written by hand. It allocates the message. Call it in a
+/// function of its own, with the same clause, where `expected` has 20 characters or more: the prover doesn't find proofs over longer texts.
 ///
 /// ```
 /// match datum {

@@ -18,6 +18,7 @@ pub mod Nodes
 pub mod Held
 pub mod Sources
 pub mod Exits
+pub mod Explained
 pub mod WrittenText
 pub mod Wrappers
 pub mod Items

@@ -15,11 +15,13 @@ use Rattle.serde_qs.specs.declared.compound.source.Source.TheVariants as from
 abbrev pub source_data : Shape → Source → Option Data
 source_data form (from.Data alloc datum) = Some (data_of datum)
 source_data form (from.Node reader node) = reads reader.reject_duplicates form (tree_of node.now)
+source_data form (from.Traced reader node path) = reads reader.reject_duplicates form (tree_of node.now)
 
 -- all that is read is text
 abbrev pub source_text : Source → Bool
 source_text (from.Data alloc datum) = true
 source_text (from.Node reader node) = is_text (tree_of node.now)
+source_text (from.Traced reader node path) = is_text (tree_of node.now)
 
 -- By view, the result is what these data mean: of data that are there what `Means` says, and of a node what `ReadsNode` says.
 abbrev pub ReadsSource : {X V : Type 0} → (X → V) → Shape → (Data → Option V) → Source → Result X Error → Type 0

@@ -13,6 +13,7 @@ mod payloads;
 mod references;
 mod source;
 mod strict;
+pub(crate) mod trace;
 mod variants;
 mod written;
 
@@ -29,6 +30,7 @@ ghost use Rattle.qs_spec.specs.Shape.{is_distinct};
 ghost use Rattle.serde_qs.specs.Sources.{ReadsSource};
 ghost use Rattle.serde_qs.specs.declared.compound.out.Exit.TheVariants.{Nothing};
 
+use crate::path::Path;
 use crate::traits::{Deserialize, RoundTrip, Serialize};
 pub use defaulted::{Defaulted, OrDefault};
 pub use fields::Fields;
@@ -153,6 +155,10 @@ impl<C: Compound> Deserialize for C {
 
     fn from_node(reader: Reader, node: &ParsedValue<'_>) -> Result<C> {
         C::read(Source::Node(reader, node))
+    }
+
+    fn from_traced(reader: Reader, node: &ParsedValue<'_>, path: &mut Path) -> Result<C> {
+        C::read(Source::Traced(reader, node, path))
     }
 
     fn from_node_by(reader: Reader, _shape: &Shape, node: &ParsedValue<'_>) -> Result<C> {

@@ -60,11 +60,12 @@ pub mod helpers;
 mod laws;
 mod limits;
 mod parts;
+mod path;
 mod traits;
 mod types;
 pub mod web;
 
-pub use calls::{ConfigExt, from_bytes, from_str, read_by, to_string, to_writer};
+pub use calls::{ConfigExt, from_bytes, from_str, read_by, read_explained, to_string, to_writer};
 pub use compound::{
     Compound, Defaulted, Enum, Exit, FieldReferences, Fields, ItemReferences, Items, Last,
     ListedReferences, Newtype, OneOf, Optional, OrDefault, Out, Parts, Payload, References,
@@ -73,6 +74,7 @@ pub use compound::{
 };
 pub use laws::value_comes_back;
 pub use limits::{LimitError, Limits};
+pub use path::{Path, Rejection, Step};
 pub use qs_data::{
     ByWrite, Data, Deserializer, Deserializer as QsDeserializer, Field, KeyShape, Reader, Scalar,
     Serializer, Serializer as QsSerializer, Shape, Sink, Stop, Variant, VariantKind, WriteResult,

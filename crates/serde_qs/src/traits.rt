@@ -14,6 +14,7 @@ ghost use Rattle.serde_qs.specs.Tables.{Table};
 ghost use Rattle.serde_qs.specs.Typed.{Means};
 
 use crate::parts::write_made;
+use crate::path::Path;
 use qs_data::{Data, Error, Reader, Result, Shape, WriteResult, Writer};
 use qs_tree::ParsedValue;
 use std::alloc::Global;
@@ -108,6 +109,22 @@ pub trait Deserialize: Sized {
         let shape = Self::shape(reader.alloc)?;
         let datum = reader.read(&shape, node)?;
         Self::from_data(reader.alloc, datum)
+    }
+
+    /// Returns the same value. Where there is none, it puts into the path what leads to the part that isn't read, as far as is known:
+    /// [`read_explained`](crate::read_explained) reads by this function after an error.
+    ///
+    /// The errors are those of [`from_node`](Deserialize::from_node). Unless a type has a function of its own, the path isn't changed. Options,
+    /// lists, maps, and the structs and enums of [`Compound`](crate::Compound) read each part to find the first that isn't read, so a part is read
+    /// once for each level above it. No clause speaks of the path.
+    ///
+    /// ```
+    /// let query = Query::from_traced(reader, node, &mut path)?;
+    /// ```
+    fn from_traced(reader: Reader, node: &ParsedValue<'_>, _path: &mut Path) -> Result<Self>
+        ensures node { ReadsNode table.value table.form table.meaning reader.reject_duplicates (tree_of node.now) result }
+    {
+        Self::from_node(reader, node)
     }
 
     /// Returns the same value by a shape that the caller keeps: that of the type. [`read_by`](crate::read_by) reads by this function.

@@ -120,8 +120,8 @@ fn read_tree<T: Deserialize>(alloc: Global, config: Config, input: &[u8]) -> Res
     read_root(alloc, config, &tree)
 }
 
-// Returns the tree of a querystring, by a contract in the words of a typed call.
-fn tree<'qs>(alloc: Global, config: Config, input: &'qs [u8]) -> Result<ParsedValue<'qs>>
+/// Returns the tree of a querystring, by a contract in the words of a typed call.
+pub(super) fn tree<'qs>(alloc: Global, config: Config, input: &'qs [u8]) -> Result<ParsedValue<'qs>>
     ensures tree { IfOk result (λ t. IsTree config.form config.max_depth input.now (tree_of t)) }
     ensures no_tree { IsParse result → HasNoTree config.form config.max_depth input.now }
     ensures position { IfParse result (λ position. position ≤ length input.now + 1) }

@@ -5,11 +5,12 @@ ghost use Rattle.serde_qs.specs.PartTables.{defaulted_field};
 ghost use Rattle.serde_qs.specs.Typed.{Means};
 
 use super::fields::{Fields, push_field, split};
-use super::nodes;
+use super::{nodes, trace};
+use crate::path::Path;
 use crate::traits::Deserialize;
 use qs_data::{Data, Entries, Field, Reader, Result};
 use qs_tree::ParsedValue;
-use std::alloc::Global;
+use std::alloc::{AllocError, Global};
 
 /// A type with a value for a field whose key is missing: zero, false, an empty string, list or map.
 ///
@@ -113,5 +114,18 @@ impl<T: OrDefault + Drop, R: Fields> Fields for Defaulted<T, R> {
         let first = nodes::defaulted_by_place(reader, items)?;
         let others = R::from_places(reader, rest, nodes::after(items), count)?;
         Ok(Defaulted(first, others))
+    }
+
+    fn trace(
+        reader: Reader,
+        names: &[&'static str],
+        entries: Entries<'_, '_>,
+        path: &mut Path,
+    ) -> Result<(), AllocError> {
+        let (name, rest) = split(names);
+        if trace::is_unread::<T>(reader, name, true, entries, path)? {
+            return Ok(());
+        }
+        R::trace(reader, rest, entries, path)
     }
 }

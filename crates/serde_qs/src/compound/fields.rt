@@ -13,11 +13,12 @@ ghost use Rattle.serde_qs.specs.PartTables.{FieldsTable, field, no_fields};
 ghost use Rattle.serde_qs.specs.Records.{field_form, first_of, members_back, others_of, texts};
 ghost use Rattle.serde_qs.specs.Typed.{Means};
 
-use super::nodes;
+use super::{nodes, trace};
+use crate::path::Path;
 use crate::traits::{Deserialize, unexpected};
 use qs_data::{Data, Entries, Field, Reader, Result};
 use qs_tree::ParsedValue;
-use std::alloc::Global;
+use std::alloc::{AllocError, Global};
 
 /// The fields of a struct, each pair a field and those after it: `(A, (B, (C, ())))`.
 ///
@@ -77,6 +78,16 @@ pub trait Fields: Sized + Drop {
         requires { field_names_differ (fields_of (table.form (texts names.now))) ≡ true }
         ensures { Gives table.value (items_are_text (items_from (map tree_of items.now))) result
             (by_places reader.reject_duplicates (table.form (texts names.now)) (table.meaning (texts names.now)) (items_from (map tree_of items.now))) };
+
+    /// Puts into the path what leads to the first field that isn't read by its name, if there is one. The one error is that an allocation
+    /// failed. It reads each field up to that one.
+    fn trace(
+        reader: Reader,
+        names: &[&'static str],
+        entries: Entries<'_, '_>,
+        path: &mut Path,
+    ) -> Result<(), AllocError>
+        requires { NumbersFit (entries_view entries) };
 }
 
 impl Fields for () {
@@ -126,6 +137,15 @@ impl Fields for () {
         _items: &[ParsedValue<'_>],
         _count: usize,
     ) -> Result<()> {
+        Ok(())
+    }
+
+    fn trace(
+        _reader: Reader,
+        _names: &[&'static str],
+        _entries: Entries<'_, '_>,
+        _path: &mut Path,
+    ) -> Result<(), AllocError> {
         Ok(())
     }
 }
@@ -191,6 +211,19 @@ impl<T: Deserialize + Drop, R: Fields> Fields for (T, R) {
         let first = nodes::by_place(reader, items, count)?;
         let others = R::from_places(reader, rest, nodes::after(items), count)?;
         Ok((first, others))
+    }
+
+    fn trace(
+        reader: Reader,
+        names: &[&'static str],
+        entries: Entries<'_, '_>,
+        path: &mut Path,
+    ) -> Result<(), AllocError> {
+        let (name, rest) = split(names);
+        if trace::is_unread::<T>(reader, name, false, entries, path)? {
+            return Ok(());
+        }
+        R::trace(reader, rest, entries, path)
     }
 }
 

@@ -10,9 +10,11 @@ ghost use Rattle.serde_qs.specs.PartTables.{ItemsTable, item, no_items};
 ghost use Rattle.serde_qs.specs.Tuples.{values_back};
 ghost use Rattle.serde_qs.specs.Typed.{Means};
 
+use super::trace;
+use crate::path::Path;
 use crate::traits::{Deserialize, unexpected};
 use qs_data::{Data, Items as NodeItems, Reader, Result, Shape};
-use std::alloc::Global;
+use std::alloc::{AllocError, Global};
 
 /// The items of a tuple, each pair an item and those after it: `(A, (B, (C, ())))`.
 ///
@@ -45,6 +47,15 @@ pub trait Items: Sized {
     fn from_places(reader: Reader, items: NodeItems<'_, '_>, place: usize) -> Result<Self>
         ensures { Gives table.value (are_text (items_view items.entry)) result
             (by_shapes reader.reject_duplicates table.form table.meaning (drop place (items_view items.entry))) };
+
+    /// Puts into the path what leads to the first item from an index on that isn't read, if there is one. The one error is that an
+    /// allocation failed. It reads each item up to that one.
+    fn trace(
+        reader: Reader,
+        items: NodeItems<'_, '_>,
+        place: usize,
+        path: &mut Path,
+    ) -> Result<(), AllocError>;
 }
 
 impl Items for () {
@@ -67,6 +78,15 @@ impl Items for () {
 
     #[tactic(auto, unfolding(qs_spec::specs::internal::ReadFunction::reads))]
     fn from_places(_reader: Reader, _items: NodeItems<'_, '_>, _place: usize) -> Result<()> {
+        Ok(())
+    }
+
+    fn trace(
+        _reader: Reader,
+        _items: NodeItems<'_, '_>,
+        _place: usize,
+        _path: &mut Path,
+    ) -> Result<(), AllocError> {
         Ok(())
     }
 }
@@ -100,5 +120,17 @@ impl<T: Deserialize + Drop, R: Items> Items for (T, R) {
         let first = T::from_node(reader, item)?;
         let others = R::from_places(reader, items, place + 1)?;
         Ok((first, others))
+    }
+
+    fn trace(
+        reader: Reader,
+        items: NodeItems<'_, '_>,
+        place: usize,
+        path: &mut Path,
+    ) -> Result<(), AllocError> {
+        if trace::is_unread_item::<T>(reader, items, place, path)? {
+            return Ok(());
+        }
+        R::trace(reader, items, place.saturating_add(1), path)
     }
 }

@@ -3,11 +3,12 @@
 ghost use Rattle.serde_qs.specs.PartTables.{optional_field};
 
 use super::fields::{Fields, push_field, split};
-use super::nodes;
+use super::{nodes, trace};
+use crate::path::Path;
 use crate::traits::Deserialize;
 use qs_data::{Data, Entries, Field, Reader, Result};
 use qs_tree::ParsedValue;
-use std::alloc::Global;
+use std::alloc::{AllocError, Global};
 
 /// A field that may be left out, and the fields after it: `(String, Optional<u32, ()>)` for a text and perhaps a number.
 ///
@@ -80,5 +81,18 @@ impl<T: Deserialize + Drop, R: Fields> Fields for Optional<T, R> {
         let first = nodes::optional_by_place(reader, items)?;
         let others = R::from_places(reader, rest, nodes::after(items), count)?;
         Ok(Optional(first, others))
+    }
+
+    fn trace(
+        reader: Reader,
+        names: &[&'static str],
+        entries: Entries<'_, '_>,
+        path: &mut Path,
+    ) -> Result<(), AllocError> {
+        let (name, rest) = split(names);
+        if trace::is_unread::<T>(reader, name, true, entries, path)? {
+            return Ok(());
+        }
+        R::trace(reader, rest, entries, path)
     }
 }

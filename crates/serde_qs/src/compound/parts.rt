@@ -14,10 +14,11 @@ ghost use Rattle.serde_qs.specs.Typed.{Means};
 
 use super::fields::Fields;
 use super::items::Items;
-use super::nodes;
 use super::payloads::{Newtype, Struct, Tuple};
 use super::source::Source;
 use super::variants::{Variants, variant_of};
+use super::{nodes, trace};
+use crate::path::Path;
 use crate::traits::{Deserialize, unexpected};
 use qs_data::{Data, Reader, Result, Shape, UnknownKeys};
 use qs_tree::ParsedValue;
@@ -72,6 +73,21 @@ pub trait Parts: Sized {
         requires { is_distinct (table.form (texts names.now)) ≡ true }
         ensures node { ReadsNode table.value (table.form (texts names.now)) (table.meaning (texts names.now)) reader.reject_duplicates (tree_of node.now) result };
 
+    /// Returns the same parts. Where there are none, it puts into the path what leads to the first part that isn't read. The errors are those
+    /// of [`from_traced`](Deserialize::from_traced) of the whole.
+    ///
+    /// ```
+    /// let Struct((x, (y, ()))) = PointParts::from_traced(reader, NAMES, node, path)?;
+    /// ```
+    fn from_traced(
+        reader: Reader,
+        names: &[&'static str],
+        node: &ParsedValue<'_>,
+        path: &mut Path,
+    ) -> Result<Self>
+        requires { is_distinct (table.form (texts names.now)) ≡ true }
+        ensures node { ReadsNode table.value (table.form (texts names.now)) (table.meaning (texts names.now)) reader.reject_duplicates (tree_of node.now) result };
+
     /// Returns the parts that come from data or from a node. Errors, allocation and time are those of [`from_data`](Parts::from_data), or of
     /// [`from_node`](Parts::from_node).
     ///
@@ -86,6 +102,9 @@ pub trait Parts: Sized {
         let (reader, node) = match source {
             Source::Data(alloc, datum) => return Self::from_data(alloc, names, datum),
             Source::Node(reader, node) => (reader, node),
+            Source::Traced(reader, node, path) => {
+                return Self::from_traced(reader, names, node, path);
+            }
         };
         Self::from_node(reader, names, node)
     }
@@ -111,6 +130,16 @@ impl<F: Fields> Parts for Struct<F> {
     ) -> Result<Struct<F>> {
         let unknown = UnknownKeys::Ignored;
         Ok(Struct(nodes::fields_of_struct(reader, unknown, names, node)?))
+    }
+
+    fn from_traced(
+        reader: Reader,
+        names: &[&'static str],
+        node: &ParsedValue<'_>,
+        path: &mut Path,
+    ) -> Result<Struct<F>> {
+        trace::trace_struct::<F>(reader, names, node, path)?;
+        Self::from_node(reader, names, node)
     }
 }
 
@@ -150,6 +179,16 @@ impl<V: Variants> Parts for Enum<V> {
     ) -> Result<Enum<V>> {
         Ok(Enum(variant_of(reader, names, node)?))
     }
+
+    fn from_traced(
+        reader: Reader,
+        names: &[&'static str],
+        node: &ParsedValue<'_>,
+        path: &mut Path,
+    ) -> Result<Enum<V>> {
+        trace::trace_variant(reader.alloc, node, path)?;
+        Self::from_node(reader, names, node)
+    }
 }
 
 impl<T: Deserialize> Parts for Newtype<T> {
@@ -173,6 +212,16 @@ impl<T: Deserialize> Parts for Newtype<T> {
         node: &ParsedValue<'_>,
     ) -> Result<Newtype<T>> {
         Ok(Newtype(T::from_node(reader, node)?))
+    }
+
+    #[tactic(auto, unfolding(qs_spec::specs::internal::ReadFunction::reads))]
+    fn from_traced(
+        reader: Reader,
+        _names: &[&'static str],
+        node: &ParsedValue<'_>,
+        path: &mut Path,
+    ) -> Result<Newtype<T>> {
+        Ok(Newtype(T::from_traced(reader, node, path)?))
     }
 }
 
@@ -199,5 +248,15 @@ impl<I: Items> Parts for Tuple<I> {
     ) -> Result<Tuple<I>> {
         let items = reader.tuple(I::count(), node)?;
         Ok(Tuple(I::from_places(reader, items, 0)?))
+    }
+
+    fn from_traced(
+        reader: Reader,
+        names: &[&'static str],
+        node: &ParsedValue<'_>,
+        path: &mut Path,
+    ) -> Result<Tuple<I>> {
+        trace::trace_tuple::<I>(reader, node, path)?;
+        Self::from_node(reader, names, node)
     }
 }

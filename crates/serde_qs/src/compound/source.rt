@@ -2,6 +2,7 @@
 
 ghost use Rattle.serde_qs.specs.Sources.{ReadsSource};
 
+use crate::path::Path;
 use crate::traits::Deserialize;
 use qs_data::{Data, Reader, Result};
 use qs_tree::ParsedValue;
@@ -19,6 +20,8 @@ pub enum Source<'t, 'qs> {
     Data(Global, Data),
     /// A node, and how it is read.
     Node(Reader, &'t ParsedValue<'qs>),
+    /// The same, and what is to lead to the part that isn't read.
+    Traced(Reader, &'t ParsedValue<'qs>, &'t mut Path),
 }
 
 impl Source<'_, '_> {
@@ -30,7 +33,7 @@ impl Source<'_, '_> {
     pub fn alloc(&self) -> Global {
         match self {
             Source::Data(alloc, _) => *alloc,
-            Source::Node(reader, _) => reader.alloc,
+            Source::Node(reader, _) | Source::Traced(reader, _, _) => reader.alloc,
         }
     }
 
@@ -48,6 +51,7 @@ impl Source<'_, '_> {
         match self {
             Source::Data(alloc, datum) => T::from_data(alloc, datum),
             Source::Node(reader, node) => T::from_node(reader, node),
+            Source::Traced(reader, node, path) => T::from_traced(reader, node, path),
         }
     }
 }

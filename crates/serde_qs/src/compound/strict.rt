@@ -3,9 +3,10 @@
 ghost use Rattle.serde_qs.specs.PartTables.{strict_parts, strict_payload};
 
 use super::fields::Fields;
-use super::nodes;
 use super::parts::{Parts, struct_fields};
 use super::payloads::{Payload, variant_fields};
+use super::{nodes, trace};
+use crate::path::Path;
 use qs_data::{Data, Reader, Result, Shape, UnknownKeys, VariantKind};
 use qs_tree::ParsedValue;
 use std::alloc::Global;
@@ -41,6 +42,16 @@ impl<F: Fields> Parts for StrictStruct<F> {
     ) -> Result<StrictStruct<F>> {
         let unknown = UnknownKeys::Rejected;
         Ok(StrictStruct(nodes::fields_of_struct(reader, unknown, names, node)?))
+    }
+
+    fn from_traced(
+        reader: Reader,
+        names: &[&'static str],
+        node: &ParsedValue<'_>,
+        path: &mut Path,
+    ) -> Result<StrictStruct<F>> {
+        trace::trace_struct::<F>(reader, names, node, path)?;
+        <Self as Parts>::from_node(reader, names, node)
     }
 }
 

@@ -15,7 +15,9 @@ ghost use Rattle.serde_qs.specs.Meaning.{values_meant};
 ghost use Rattle.serde_qs.specs.internal.OwnTables.{sequence_datum};
 ghost use Rattle.serde_qs.specs.Tables.{sequence_table};
 
+use crate::compound::trace::trace_items;
 use crate::parts::write_element;
+use crate::path::Path;
 use crate::traits::{Deserialize, RoundTrip, Serialize, unexpected};
 use qs_data::{Data, Items, Reader, Result, Shape, WriteResult, Writer};
 use qs_tree::ParsedValue;
@@ -67,6 +69,11 @@ impl<T: Deserialize + Drop> Deserialize for Vec<T> {
     fn from_node(reader: Reader, node: &ParsedValue<'_>) -> Result<Vec<T>> {
         let items = reader.items(node)?;
         values_of(reader, items)
+    }
+
+    fn from_traced(reader: Reader, node: &ParsedValue<'_>, path: &mut Path) -> Result<Vec<T>> {
+        trace_items::<T>(reader, node, path)?;
+        Self::from_node(reader, node)
     }
 }
 

@@ -14,7 +14,9 @@ ghost use Rattle.serde_qs.specs.Maps.{entry_data, values_by_text, pair_onto, pai
 ghost use Rattle.serde_qs.specs.internal.OwnTables.{mapping_datum};
 ghost use Rattle.serde_qs.specs.Tables.{mapping_table};
 
+use crate::compound::trace::trace_values;
 use crate::parts::write_under;
+use crate::path::Path;
 use crate::traits::{Deserialize, RoundTrip, Serialize, unexpected};
 use qs_data::{Data, Entries, KeyShape, Reader, Result, Scalar, Shape, WriteResult, Writer};
 use qs_tree::ParsedValue;
@@ -68,6 +70,15 @@ impl<T: Deserialize + Drop> Deserialize for BTreeMap<String, T> {
     fn from_node(reader: Reader, node: &ParsedValue<'_>) -> Result<BTreeMap<String, T>> {
         let entries = reader.entries(node)?;
         entries_of(reader, entries)
+    }
+
+    fn from_traced(
+        reader: Reader,
+        node: &ParsedValue<'_>,
+        path: &mut Path,
+    ) -> Result<BTreeMap<String, T>> {
+        trace_values::<T>(reader, node, path)?;
+        Self::from_node(reader, node)
     }
 }
 

@@ -5,6 +5,7 @@ ghost use Rattle.serde_qs.specs.Meaning.{option_data};
 ghost use Rattle.serde_qs.specs.internal.OwnTables.{option_datum};
 ghost use Rattle.serde_qs.specs.Tables.{option_table};
 
+use crate::path::Path;
 use crate::traits::{Deserialize, RoundTrip, Serialize, unexpected};
 use qs_data::{Data, Reader, Result, Shape, WriteResult, Writer};
 use qs_tree::ParsedValue;
@@ -52,6 +53,18 @@ impl<T: Deserialize + Drop> Deserialize for Option<T> {
             ParsedValue::Null => Ok(Some(T::from_node(reader, &ParsedValue::NoValue)?)),
             ParsedValue::String(_) | ParsedValue::Sequence(_) | ParsedValue::Map(_) => {
                 Ok(Some(T::from_node(reader, node)?))
+            }
+        }
+    }
+
+    #[tactic(auto, unfolding(qs_spec::specs::internal::ReadFunction::reads))]
+    fn from_traced(reader: Reader, node: &ParsedValue<'_>, path: &mut Path) -> Result<Option<T>> {
+        match node {
+            ParsedValue::Uninitialized => Err(reader.nothing()),
+            ParsedValue::NoValue => Ok(None),
+            ParsedValue::Null => { Ok(Some(T::from_traced(reader, &ParsedValue::NoValue, path)?)) }
+            ParsedValue::String(_) | ParsedValue::Sequence(_) | ParsedValue::Map(_) => {
+                Ok(Some(T::from_traced(reader, node, path)?))
             }
         }
     }

@@ -2,8 +2,7 @@
 
 ghost use Rattle.std.specs.Prelude.{◌≡◌, IfOk, string_bytes};
 ghost use Rattle.qs_spec.specs.Config.{default};
-ghost use Rattle.qs_spec.specs.ReadBack.{IsPlainFor};
-ghost use Rattle.serde_qs.specs.Typed.{ReturnsValue};
+ghost use Rattle.serde_qs.specs.Typed.{IsPlainWithin, ReturnsValue};
 ghost use Rattle.serde_qs.specs.WrittenText.{text_of};
 ghost use Rattle.qs_callers.specs.Client.{IsValue, query_behind, target_with};
 
@@ -29,7 +28,7 @@ pub fn served<T: RoundTrip>(alloc: Global, target: &str) -> Result<T>
 /// Returns what the server reads of the client's query: the client's value, where its data are plain and within the depth limit.
 /// With such data the only error is that an allocation failed.
 pub fn exchanged<T: RoundTrip>(alloc: Global, value: &T) -> Result<T>
-    ensures { IsPlainFor default T.table.form (T.datum value.now) → IsValue T.table.value (T.table.value value.now) result }
+    ensures { IsPlainWithin default (T.datum value.now) → IsValue T.table.value (T.table.value value.now) result }
 {
     value.fits();
     let query = to_string(alloc, value)?;

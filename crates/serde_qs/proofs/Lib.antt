@@ -1,3 +1,4 @@
+pub mod InRange
 pub mod Levels
 pub mod Narrowed
 pub mod NodeEntries

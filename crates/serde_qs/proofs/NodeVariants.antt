@@ -16,11 +16,10 @@ use Rattle.qs_spec.specs.Node.{as_map, items, keys_are_allowed}
 use Rattle.qs_spec.specs.internal.ReadFunction.{read_enum, reads, reads_names, reads_places, reads_tuple, reads_variant, struct_members}
 use Rattle.qs_data.specs.read.TreeText.{entries_are_text, is_text}
 use Rattle.qs_data.proofs.lemmas.read.Errors.{and_left}
-use Rattle.serde_qs.specs.Fits.{name_in}
 use Rattle.serde_qs.specs.Held.{by_shapes, kind_held, variant_held}
 use Rattle.serde_qs.specs.Records.{first_of, others_of}
 use Rattle.serde_qs.specs.Tuples.{tuple_variant_in}
-use Rattle.serde_qs.specs.Variants.{last_form, last_in, newtype_variant_in, struct_variant_in, unit_variant_in, variant_form, variant_in}
+use Rattle.serde_qs.specs.Variants.{last_form, last_in, name_in, newtype_variant_in, struct_variant_in, unit_variant_in, variant_form, variant_in}
 use Rattle.serde_qs.specs.declared.compound.variants.OneOf.TheVariants.{First, Later}
 use Rattle.serde_qs.specs.internal.NodeParts.{members_read}
 use Rattle.serde_qs.proofs.NodeTuples.{tuple_items}

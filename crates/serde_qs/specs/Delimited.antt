@@ -1,20 +1,13 @@
 -- Lists of whole numbers in one text, as fields of a struct.
-use Rattle.std.specs.Prelude.{◌≡◌, ◌<◌, ℕ, ◌==◌, Bool, true, false, not, ◌&&◌, List, length, map, Option, Some, if◌then◌else◌}
-use Rattle.std.specs.List.{All, list_all}
+use Rattle.std.specs.Prelude.{◌≡◌, ◌<◌, ℕ, ◌==◌, Bool, true, false, not, ◌&&◌, List, length, Option, Some}
+use Rattle.std.specs.List.{All}
 use Rattle.std.specs.Str.{IsUtf8, chars}
 use lib.Utf8.{scalar}
-use Rattle.qs_spec.specs.Data.{Data}
-use Rattle.qs_spec.specs.Data.Data.{unit, text}
 use Rattle.qs_spec.specs.Escape.{is_between}
-use Rattle.serde_qs.specs.Items.{joined}
 
 -- a character that is neither a digit nor `-`
 abbrev pub is_number_delimiter : ℕ → Bool
 is_number_delimiter c = scalar c && (not (is_between 48 57 c) && not (c == 45))
-
--- The data of a list: one text of its items. Each item of a program is in range; a list with one that isn't has no text.
-abbrev pub list_data : {A : Type 0} → (A → Bool) → (A → List ℕ) → ℕ → List A → Data
-list_data in_range printed delimiter xs = if list_all in_range xs then text (joined delimiter (map printed xs)) else unit
 
 -- a text of at least one byte, and without the delimiter
 pub record IsPiece (delimiter : ℕ) (t : List ℕ) : Type 0 where

@@ -1,9 +1,9 @@
 -- The words that a reader must believe, beside those of qs_spec and the views of qs_data: all modules but `internal`. They say which data
 -- a type's values are written as, which value data mean, and what each call returns. `internal` has steps of proofs;
 -- a `RoundTrip` that is written by hand may cite those of `internal.ComesBack`.
-pub mod Fits
 pub mod Meaning
 pub mod Maps
+pub mod Names
 pub mod Records
 pub mod ComesBack
 pub mod Optional

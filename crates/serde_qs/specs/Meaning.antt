@@ -1,5 +1,5 @@
 -- What data mean as a value.
-use Rattle.std.specs.Prelude.{ℕ, ◌-◌, ◌^◌, ℤ, pos, neg_ℤ, int_le, Bool, ◌&&◌, List, [], ◌∷◌, Option, Some, None, option_map, option_and_then, nat_le, if◌then◌else◌}
+use Rattle.std.specs.Prelude.{ℕ, ◌-◌, ◌^◌, ℤ, pos, neg_ℤ, int_le, Bool, true, ◌&&◌, List, [], ◌∷◌, Option, Some, None, option_map, option_and_then, nat_le, if◌then◌else◌}
 use Rattle.qs_spec.specs.Data.{Data, Values, no_values, one_value}
 use Rattle.qs_spec.specs.Data.Data.{unit, none, some, boolean, unsigned, signed, character, text, sequence, newtype}
 
@@ -21,6 +21,10 @@ unsigned_in most _ = None
 abbrev pub signed_between : ℤ → ℤ → Data → Option ℤ
 signed_between low high (signed z) = if int_le low z && int_le z high then Some z else None
 signed_between low high _ = None
+
+-- z is one of the signed numbers of these bits
+abbrev pub is_signed : ℕ → ℤ → Bool
+is_signed bits z = int_le (neg_ℤ (pos (2 ^ (bits - 1)))) z && int_le z (pos (2 ^ (bits - 1) - 1))
 
 -- a signed number of so many bits
 abbrev pub signed_in : ℕ → Data → Option ℤ
@@ -44,6 +48,11 @@ abbrev pub option_in : {A : Type 0} → (Data → Option A) → Data → Option 
 option_in m none = Some None
 option_in m (some d) = option_map Some (m d)
 option_in m _ = None
+
+-- the value, if there is one, passes a test
+abbrev pub option_all : {A : Type 0} → (A → Bool) → Option A → Bool
+option_all f None = true
+option_all f (Some x) = f x
 
 -- a list, by its values
 abbrev pub values_meant : {A : Type 0} → (Data → Option A) → Values → Option (List A)

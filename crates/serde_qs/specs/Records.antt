@@ -1,15 +1,16 @@
 -- Structs by their fields.
-use Rattle.std.specs.Prelude.{ℕ, ◌==◌, Bool, ◌&&◌, List, length, [], ◌∷◌, Option, Some, None, map, if◌then◌else◌, reverse}
+use Rattle.std.specs.Prelude.{ℕ, ◌==◌, Bool, true, ◌&&◌, List, length, [], ◌∷◌, Option, Some, None, map, if◌then◌else◌, reverse}
 use Rattle.std.specs.Borrow.{Bor}
 use Rattle.std.specs.Str.{bytes_eq}
 use Rattle.std.specs.declared.string.String.{String}
 use Rattle.std.specs.declared.alloc.Global.{Global}
 use Rattle.qs_spec.specs.Data.{Named, Members, no_members, one_member, members_of}
 use Rattle.qs_spec.specs.Data as v
-use Rattle.qs_spec.specs.Shape.{Shape, Field, fields_of, field_names_differ}
+use Rattle.qs_spec.specs.Shape.{Shape, Field, Fields, no_fields, one_field, fields_of, field_names_differ}
 use Rattle.qs_data.specs.data.Views.{named, data_of}
 use Rattle.qs_data.specs.declared.data.data.Data.{Data}
 use Rattle.serde_qs.specs.Meaning.{both}
+use Rattle.serde_qs.specs.Names.{is_text}
 
 -- names of a program as bytes
 abbrev pub texts : List (Bor (List ℕ)) → List (List ℕ)
@@ -35,9 +36,14 @@ field_form s optional rest names = (first_of names, s, optional) ∷ rest (other
 abbrev pub member_data : v.Data → (List (List ℕ) → List Named) → List (List ℕ) → List Named
 member_data x rest names = (first_of names, x) ∷ rest (others_of names)
 
--- as many names as there are fields, and no two are equal
+-- the name of each field is UTF-8
+abbrev pub are_text_names : Fields → Bool
+are_text_names no_fields = true
+are_text_names (one_field n s optional fs) = is_text n && are_text_names fs
+
+-- as many names as there are fields, no two are equal, and each is UTF-8
 abbrev pub are_names : List (List ℕ) → ℕ → List Field → Bool
-are_names names count fields = (length names == count) && field_names_differ (fields_of fields)
+are_names names count fields = (length names == count) && (field_names_differ (fields_of fields) && are_text_names (fields_of fields))
 
 -- no field, where no member is left
 abbrev pub nothing_in : Members → Option (Unit {0})

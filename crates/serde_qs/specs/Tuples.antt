@@ -1,12 +1,12 @@
 -- Tuples by their items.
-use Rattle.std.specs.Prelude.{◌≡◌, true, List, Option, Some, None, map, reverse}
+use Rattle.std.specs.Prelude.{◌≡◌, Bool, true, List, Option, Some, None, map, reverse}
 use Rattle.qs_spec.specs.Data as v
 use Rattle.qs_spec.specs.Data.{Values, no_values, one_value, values_of}
+use Rattle.qs_spec.specs.Fits.{fits_tuple}
 use Rattle.qs_spec.specs.Same.{SameValues}
 use Rattle.qs_spec.specs.Shape.{Shape, shapes_of}
 use Rattle.qs_data.specs.data.Views.{data_of}
 use Rattle.qs_data.specs.declared.data.data.Data.{Data}
-use Rattle.serde_qs.specs.Fits.{fit_parts}
 use Rattle.serde_qs.specs.Meaning.{both}
 
 -- values in reverse order
@@ -32,7 +32,10 @@ abbrev pub tuple_variant_in : {A : Type 0} → (Values → Option A) → v.Data 
 tuple_variant_in m (v.tuple_variant n ds) = m ds
 tuple_variant_in m _ = None
 
--- from values that are the same as those of items which fit, those items come back
-abbrev pub ItemsComeBack : {A V : Type 0} → List Shape → (A → List v.Data) → (Values → Option V) → (A → V) → Type 0
-ItemsComeBack {A} form written meaning value = (x : A) (es : Values)
-    → fit_parts (shapes_of form) (values_of (written x)) ≡ true → SameValues (values_of (written x)) es → meaning es ≡ Some (value x)
+-- the data of valid items fit their shapes
+abbrev pub ItemsFit : {A : Type 0} → (A → Bool) → List Shape → (A → List v.Data) → Type 0
+ItemsFit {A} is_valid form written = (x : A) → is_valid x ≡ true → fits_tuple (shapes_of form) (values_of (written x)) ≡ true
+
+-- from values that are the same as those of valid items, those items come back
+abbrev pub ItemsComeBack : {A V : Type 0} → (A → Bool) → (A → List v.Data) → (Values → Option V) → (A → V) → Type 0
+ItemsComeBack {A} is_valid written meaning value = (x : A) (es : Values) → is_valid x ≡ true → SameValues (values_of (written x)) es → meaning es ≡ Some (value x)

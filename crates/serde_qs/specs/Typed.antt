@@ -9,7 +9,8 @@ use Rattle.qs_spec.specs.Shape.{Shape}
 use Rattle.qs_spec.specs.Data.{Data}
 use Rattle.qs_spec.specs.Tree.{Tree, IsTree, HasNoTree}
 use Rattle.qs_spec.specs.Relation.{ReadsBy}
-use Rattle.qs_spec.specs.Entry.{Entry}
+use Rattle.qs_spec.specs.Entry.{Entry, entries}
+use Rattle.qs_spec.specs.Plain.{is_plain}
 use Rattle.qs_spec.specs.Written.{written}
 use Rattle.qs_spec.specs.ReadBack.{IsPlainFor}
 use Rattle.qs_data.specs.read.ReadBack.{IsOrder}
@@ -27,6 +28,11 @@ pub record IsRead {V : Type 0} (config : Config) (form : Shape) (meaning : Data 
   pub has_tree : IsTree config.form config.max_depth input tree
   pub is_read : ReadsBy config form tree datum
   pub is_meant : meaning datum ≡ Some value
+
+-- the data are plain, and are written without an error
+pub record IsPlainWithin (config : Config) (d : Data) : Type 0 where
+  pub plain : is_plain config.form d ≡ true
+  pub whole : (entries config d).error ≡ None
 
 -- it has a tree, and no data that the shape reads from it mean a value
 pub record IsUnread {V : Type 0} (config : Config) (form : Shape) (meaning : Data → Option V) (input : List ℕ) : Type 0 where

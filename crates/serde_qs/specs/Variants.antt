@@ -1,14 +1,24 @@
 -- Enums by their variants.
 use Rattle.std.specs.Prelude.{◌≡◌, ℕ, ◌==◌, Bool, true, not, ◌&&◌, List, length, [], ◌∷◌, Option, Some, None, option_map, if◌then◌else◌}
-use Rattle.std.specs.Str.{bytes_eq}
+use Rattle.std.specs.Str.{bytes_eq, is_utf8}
 use Rattle.qs_spec.specs.Data as d
 use Rattle.qs_spec.specs.Data.{Data, Members}
 use Rattle.qs_spec.specs.Shape.{Shape, field_names_differ, Variant, Variants, no_variants, one_variant, variants_of, is_variant_name, is_distinct, is_distinct_kind, VariantKind, unit_kind, newtype_kind, tuple_kind, struct_kind}
-use Rattle.serde_qs.specs.Fits.{fit_kind, fit_variant, name_in}
-use Rattle.serde_qs.specs.Records.{first_of, others_of}
+use Rattle.qs_data.specs.shape.internal.Fitting.{fits_variant}
+use Rattle.qs_spec.specs.Fits.{variant_kind}
+use Rattle.serde_qs.specs.Names.{is_text}
+use Rattle.serde_qs.specs.Records.{are_text_names, first_of, others_of}
 use Rattle.qs_spec.specs.Same.{Same}
 use Rattle.serde_qs.specs.declared.compound.variants.OneOf.{OneOf}
 use Rattle.serde_qs.specs.declared.compound.variants.OneOf.TheVariants.{First, Later}
+
+-- the name of a variant
+abbrev pub name_in : Data → List ℕ
+name_in (d.unit_variant n) = n
+name_in (d.newtype_variant n x) = n
+name_in (d.tuple_variant n xs) = n
+name_in (d.struct_variant n ms) = n
+name_in _ = []
 
 -- the names of its fields differ
 abbrev pub kind_differs : VariantKind → Bool
@@ -22,9 +32,21 @@ abbrev pub variants_differ : Variants → Bool
 variants_differ no_variants = true
 variants_differ (one_variant n k vs) = not (is_variant_name n vs) && (kind_differs k && variants_differ vs)
 
--- as many names as the variants and their fields need, which differ
+-- the names of its fields are UTF-8
+abbrev pub kind_is_text : VariantKind → Bool
+kind_is_text unit_kind = true
+kind_is_text (newtype_kind s) = true
+kind_is_text (tuple_kind ss) = true
+kind_is_text (struct_kind u fs) = are_text_names fs
+
+-- the names of the variants and of their fields are UTF-8
+abbrev pub variants_are_text : Variants → Bool
+variants_are_text no_variants = true
+variants_are_text (one_variant n k vs) = is_text n && (kind_is_text k && variants_are_text vs)
+
+-- as many names as the variants and their fields need, which differ and are UTF-8
 abbrev pub are_variants : List (List ℕ) → ℕ → List Variant → Bool
-are_variants names count vs = (length names == count) && variants_differ (variants_of vs)
+are_variants names count vs = (length names == count) && (variants_differ (variants_of vs) && variants_are_text (variants_of vs))
 
 -- what data mean as a variant of a kind, whatever its name
 
@@ -71,11 +93,15 @@ abbrev pub variant_in : {A B : Type 0} → (List (List ℕ) → Data → Option 
 variant_in m after rest names x =
     if bytes_eq (name_in x) (first_of names) then option_map First (m (others_of names) x) else option_map Later (rest (after (others_of names)) x)
 
--- a variant of a kind comes back
+-- a variant of a kind fits, and comes back
 
-abbrev pub KindComesBack : {A V : Type 0} → (List (List ℕ) → VariantKind) → (List ℕ → List (List ℕ) → A → Data) → (List (List ℕ) → Data → Option V) → (A → V) → Type 0
-KindComesBack {A} form written meaning value = (n : List ℕ) (names : List (List ℕ)) (x : A) (e : Data)
-    → kind_differs (form names) ≡ true → fit_kind (form names) (written n names x) ≡ true → Same (written n names x) e → meaning names e ≡ Some (value x)
+abbrev pub KindFits : {A : Type 0} → (A → Bool) → (List (List ℕ) → VariantKind) → (List ℕ → List (List ℕ) → A → Data) → Type 0
+KindFits {A} is_valid form written = (n : List ℕ) (names : List (List ℕ)) (x : A)
+    → kind_differs (form names) ≡ true → kind_is_text (form names) ≡ true → is_valid x ≡ true → fits_variant (Some (form names)) (written n names x) ≡ true
+
+abbrev pub KindComesBack : {A V : Type 0} → (A → Bool) → (List (List ℕ) → VariantKind) → (List ℕ → List (List ℕ) → A → Data) → (List (List ℕ) → Data → Option V) → (A → V) → Type 0
+KindComesBack {A} is_valid form written meaning value = (n : List ℕ) (names : List (List ℕ)) (x : A) (e : Data)
+    → kind_differs (form names) ≡ true → is_valid x ≡ true → Same (written n names x) e → meaning names e ≡ Some (value x)
 
 -- a variant that is written has the name that it was given, and that of one of the variants
 
@@ -85,11 +111,19 @@ KindIsNamed {A} written = (n : List ℕ) (names : List (List ℕ)) (x : A) → n
 abbrev pub AreNamed : {A : Type 0} → (List (List ℕ) → List Variant) → (List (List ℕ) → A → Data) → Type 0
 AreNamed {A} form written = (names : List (List ℕ)) (x : A) → is_variant_name (name_in (written names x)) (variants_of (form names)) ≡ true
 
--- an enum comes back
+-- an enum fits, and comes back
 
-abbrev pub VariantsComeBack : {A V : Type 0} → (List (List ℕ) → List Variant) → (List (List ℕ) → A → Data) → (List (List ℕ) → Data → Option V) → (A → V) → Type 0
-VariantsComeBack {A} form written meaning value = (names : List (List ℕ)) (x : A) (e : Data)
-    → variants_differ (variants_of (form names)) ≡ true → fit_variant (variants_of (form names)) (written names x) ≡ true → Same (written names x) e → meaning names e ≡ Some (value x)
+-- the data are one of these variants, and what it holds fits
+abbrev pub fits_one_of : Variants → Data → Bool
+fits_one_of vs x = is_utf8 (name_in x) && fits_variant (variant_kind (name_in x) vs) x
+
+abbrev pub VariantsFit : {A : Type 0} → (A → Bool) → (List (List ℕ) → List Variant) → (List (List ℕ) → A → Data) → Type 0
+VariantsFit {A} is_valid form written = (names : List (List ℕ)) (x : A) → variants_differ (variants_of (form names)) ≡ true → variants_are_text (variants_of (form names)) ≡ true
+    → is_valid x ≡ true → fits_one_of (variants_of (form names)) (written names x) ≡ true
+
+abbrev pub VariantsComeBack : {A V : Type 0} → (A → Bool) → (List (List ℕ) → List Variant) → (List (List ℕ) → A → Data) → (List (List ℕ) → Data → Option V) → (A → V) → Type 0
+VariantsComeBack {A} is_valid form written meaning value = (names : List (List ℕ)) (x : A) (e : Data)
+    → variants_differ (variants_of (form names)) ≡ true → is_valid x ≡ true → Same (written names x) e → meaning names e ≡ Some (value x)
 
 -- where the names differ, the shape is distinct
 

@@ -4,7 +4,9 @@ pub mod ComesBack
 pub mod Compound
 pub mod Defaulted
 pub mod DelimitedComesBack
+pub mod Fits
 pub mod MapsComeBack
+pub mod Names
 pub mod NodeEntries
 pub mod NodeParts
 pub mod NumberLists
@@ -12,6 +14,7 @@ pub mod OnlyRead
 pub mod Optional
 pub mod OwnTables
 pub mod Pieces
+pub mod Ranges
 pub mod Records
 pub mod Tuples
 pub mod Variants

@@ -24,7 +24,6 @@ ghost use Rattle.qs_data.specs.shape.Views.{shape_of};
 ghost use Rattle.qs_data.specs.write.Parts.{data_part};
 ghost use Rattle.serde_qs.specs.Compound.{data_by};
 ghost use Rattle.serde_qs.specs.Exits.{PartsWritten};
-ghost use Rattle.serde_qs.specs.Fits.{fits};
 ghost use Rattle.serde_qs.specs.Tables.{Table, closed};
 ghost use Rattle.qs_spec.specs.Shape.{is_distinct};
 ghost use Rattle.serde_qs.specs.Sources.{ReadsSource};
@@ -107,7 +106,7 @@ pub trait Compound: Sized {
         ensures exact { ReadsSource table.value table.form table.meaning source.entry result };
 
     /// Passes the parts to `out`, and returns their data under their names. The one error is
-    /// [`OutOfMemory`](qs_data::Error::OutOfMemory). Where they go to a writer, they are written; where they go nowhere, it shows that they fit.
+    /// [`OutOfMemory`](qs_data::Error::OutOfMemory). Where they go to a writer, they are written; where they go nowhere, it shows that they are valid.
     /// It allocates, and takes time, as the method of [`Out`] does that it calls.
     ///
     /// ```
@@ -116,7 +115,7 @@ pub trait Compound: Sized {
     fn written(&self, out: Out) -> Result<Data>
         ensures exact { IfOk result (λ d. data_of d ≡ table.datum self.now) }
         ensures errors { OnlyOutOfMemory result }
-        ensures fits { out.old ≡ Nothing → fits table.form (table.datum self.now) ≡ true }
+        ensures fits { out.old ≡ Nothing → table.is_valid self.now ≡ true }
         ensures written { PartsWritten out.old out.new (data_part (table.datum self.now)) };
 }
 
@@ -169,7 +168,7 @@ impl<C: Compound> Deserialize for C {
 impl<C: Compound> RoundTrip for C {
     ghost same_datum = { λ _. refl };
 
-    #[tactic(auto, unfolding(crate::specs::Compound::data_by))]
+    #[tactic(auto, unfolding(crate::specs::Compound::valid_by))]
     fn fits(&self) {
         let _nothing = self.written(&mut Exit::Nothing);
     }

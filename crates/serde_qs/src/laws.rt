@@ -3,14 +3,13 @@
 ghost use Rattle.std.specs.Prelude.{List, false};
 ghost use Rattle.qs_spec.specs.Config.{Config as Settings};
 ghost use Rattle.qs_spec.specs.Entry.{Entry};
-ghost use Rattle.qs_spec.specs.ReadBack.{IsPlainFor};
 ghost use Rattle.qs_spec.specs.Written.{written};
 ghost use Rattle.qs_data.specs.read.ReadBack.{IsOrder};
-ghost use Rattle.serde_qs.specs.Typed.{IsRead};
+ghost use Rattle.serde_qs.specs.Typed.{IsPlainWithin, IsRead};
 
 use crate::traits::RoundTrip;
 
-/// The text of a value's entries is read as that value, if its data are plain and within the depth limit: in the indexed format in
+/// The text of a value's entries is read as that value, if its data are plain and within the depth limit, for they fit its shape: in the indexed format in
 /// any order, and where lists hold scalars, in every format, in an order that keeps entries with one path in order.
 ///
 /// It calls [`fits`](RoundTrip::fits) and does nothing else.
@@ -19,7 +18,7 @@ use crate::traits::RoundTrip;
 /// value_comes_back(&query); // from here on a proof knows what is read from the text of `query`
 /// ```
 pub fn value_comes_back<T: RoundTrip>(value: &T)
-    ensures { (config : Settings) (es : List Entry) → IsPlainFor config T.table.form (T.datum value.now) → IsOrder config (T.datum value.now) es
+    ensures { (config : Settings) (es : List Entry) → IsPlainWithin config (T.datum value.now) → IsOrder config (T.datum value.now) es
         → IsRead config T.table.form T.table.meaning (written config.form false es) (T.table.value value.now) }
 {
     value.fits();

@@ -8,7 +8,6 @@ ghost use Rattle.qs_data.specs.data.Views.{data_of};
 ghost use Rattle.qs_data.specs.write.Parts.{WritesPart, data_part};
 ghost use Rattle.qs_data.specs.shape.Views.{shape_of};
 ghost use Rattle.qs_tree.specs.tree.Views.{tree_of};
-ghost use Rattle.serde_qs.specs.Fits.{fits};
 ghost use Rattle.serde_qs.specs.Nodes.{ReadsNode, missing_data};
 ghost use Rattle.serde_qs.specs.Tables.{Table};
 ghost use Rattle.serde_qs.specs.Typed.{Means};
@@ -174,13 +173,14 @@ pub trait Deserialize: Sized {
 /// let same: Query = from_str(alloc, text.as_str())?; // the value of `query`, where its data are plain
 /// ```
 pub trait RoundTrip: Serialize + Deserialize {
-    /// Shows that the data of this value fit the shape. It does nothing when it runs.
+    /// Shows that this value is valid: that its numbers are in the range of their types, and its texts UTF-8. So its data fit the shape. It does
+    /// nothing when it runs.
     ///
     /// ```
     /// value.fits(); // from here on a proof knows that the data of `value` fit
     /// ```
     fn fits(&self)
-        ensures { fits Self.table.form (Self.datum self.now) ≡ true };
+        ensures { Self.table.is_valid self.now ≡ true };
 
     // The data that are written are those of the table, from which the value comes back.
     ghost same_datum: { (x : Self) → Self.table.datum x ≡ Self.datum x };

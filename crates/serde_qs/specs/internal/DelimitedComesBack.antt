@@ -1,25 +1,19 @@
 -- A list of whole numbers comes back from its one text.
-use Rattle.std.proofs.Common.{◌≡◌, ℕ, Bool, true, false, List, [], ◌∷◌, ◌++◌, map, Option, Some, refl, ap, ◌∙◌}
-use Rattle.std.specs.Prelude.{if◌then◌else◌}
-use Rattle.std.proofs.lemmas.Bool.{false≢true}
+use Rattle.std.proofs.Common.{◌≡◌, ℕ, Bool, true, List, [], ◌∷◌, ◌++◌, map, Option, Some, refl}
 use Rattle.std.proofs.lemmas.List.Elements.{All-nil, All-cons, All-head, All-tail}
 use Rattle.std.proofs.lemmas.Str.{IsUtf8-append, IsUtf8-encode, is_utf8-from_IsUtf8}
 use Rattle.std.specs.Char.{encode_utf8}
 use Rattle.std.specs.List.{All, list_all}
 use Rattle.std.specs.Str.{IsUtf8}
 use Rattle.qs_spec.specs.Data.{Data}
-use Rattle.qs_spec.specs.Data.Data.{unit, text}
+use Rattle.qs_spec.specs.Data.Data.{text}
+use Rattle.qs_spec.specs.Fits.{fits}
 use Rattle.qs_spec.specs.Shape.{Shape}
 use Rattle.qs_spec.specs.Same.{Same}
-use Rattle.serde_qs.specs.Delimited.{NumberComesBack, NumbersComeBack, is_number_delimiter, list_data}
-use Rattle.serde_qs.specs.Fits.{fits}
+use Rattle.serde_qs.specs.Delimited.{NumberComesBack, NumbersComeBack, is_number_delimiter}
 use Rattle.serde_qs.specs.Items.{each_after, joined, list_in}
 use Rattle.serde_qs.specs.internal.Booleans.{both_hold}
 use Rattle.serde_qs.specs.internal.NumberLists.{list_back, number_delimiter}
-
-only_text : (b : Bool) (t : List ℕ) (e : Data) → fits Shape.text (if b then text t else unit) ≡ true → Same (if b then text t else unit) e → (b ≡ true) × (e ≡ text t)
-only_text true t _ h Same.text = (refl, refl)
-only_text false t e h p = absurd (false≢true h)
 
 module _ {A V : Type 0} (in_range : A → Bool) (meaning : List ℕ → Option V) (printed : A → List ℕ) (value : A → V) (items : NumbersComeBack in_range meaning printed value)
     (delimiter : ℕ) (free : is_number_delimiter delimiter ≡ true) where
@@ -32,11 +26,8 @@ module _ {A V : Type 0} (in_range : A → Bool) (meaning : List ℕ → Option V
       let parts = both_hold (in_range x) (list_all in_range xs) h in
       All-cons Back x xs (items delimiter x free parts.0) (each_back xs parts.1)
 
-  pub list_comes_back : (xs : List A) (e : Data) → fits Shape.text (list_data in_range printed delimiter xs) ≡ true → Same (list_data in_range printed delimiter xs) e
-      → list_in meaning delimiter e ≡ Some (map value xs)
-  list_comes_back xs e h p =
-      let kept = only_text (list_all in_range xs) (joined delimiter (map printed xs)) e h p in
-      ap (list_in meaning delimiter) kept.1 ∙ list_back meaning printed value delimiter xs (number_delimiter delimiter free).is_scalar (each_back xs kept.0)
+  pub list_comes_back : (xs : List A) (e : Data) → list_all in_range xs ≡ true → Same (text (joined delimiter (map printed xs))) e → list_in meaning delimiter e ≡ Some (map value xs)
+  list_comes_back xs _ h Same.text = list_back meaning printed value delimiter xs (number_delimiter delimiter free).is_scalar (each_back xs h)
 
   each_text : (xs : List A) → All Back xs → IsUtf8 (each_after (encode_utf8 delimiter) (map printed xs))
   each_text [] h = ([], (refl, refl))
@@ -50,7 +41,5 @@ module _ {A V : Type 0} (in_range : A → Bool) (meaning : List ℕ → Option V
   joined_text (x ∷ xs) h =
       IsUtf8-append (printed x) (each_after (encode_utf8 delimiter) (map printed xs)) (All-head Back x xs h).piece.is_text (each_text xs (All-tail Back x xs h))
 
-  pub list_fits : (xs : List A) → list_all in_range xs ≡ true → fits Shape.text (list_data in_range printed delimiter xs) ≡ true
-  list_fits xs h =
-      let t = joined delimiter (map printed xs) in
-      ap (λ b. fits Shape.text (if b then text t else unit)) h ∙ is_utf8-from_IsUtf8 t (joined_text xs (each_back xs h))
+  pub list_fits : (xs : List A) → list_all in_range xs ≡ true → fits Shape.text (text (joined delimiter (map printed xs))) ≡ true
+  list_fits xs h = is_utf8-from_IsUtf8 (joined delimiter (map printed xs)) (joined_text xs (each_back xs h))

@@ -1,8 +1,6 @@
 -- Lists of whole numbers come back from their text.
 use Rattle.std.proofs.Common.{◌≡◌, ℕ, zero, suc, ◌==◌, ◌-◌, ◌^◌, ◌<◌, ◌≤◌, ◌≢◌, true, false, List, [], ◌∷◌, ◌++◌, append-nil, length, length-append, map, Option, Some, None, ℤ, pos, negsuc, neg_ℤ, ◌≤ℤ◌, ◌<ℤ◌, inl, inr, refl, sym, ap, ◌∙◌, subst, arith, eqb-true, eq-eqb, ne_eqb, pow_mono, pow_pos, not, ◌&&◌, Bool}
-use Rattle.std.specs.Prelude.{nat_le, int_le}
-use lib.Dec.{T}
-use lib.Signed.{le_z_yes}
+use Rattle.std.specs.Prelude.{nat_le}
 use lib.Utf8.{scalar}
 use Rattle.std.specs.Char.{IsScalar, encode_utf8}
 use Rattle.std.specs.Fmt.{decimal, signed_decimal}
@@ -17,6 +15,7 @@ use Rattle.std.proofs.lemmas.List.Elements.{All-nil, All-cons, All-head, All-tai
 use Rattle.std.proofs.lemmas.Str.{IsUtf8-from_ascii, chars-IsAscii}
 use Rattle.qs_spec.specs.Data.{Data}
 use Rattle.qs_spec.specs.Escape.{is_between}
+use Rattle.qs_spec.specs.Fits.{fits_signed, fits_unsigned}
 use Rattle.qs_spec.specs.Scalar.{unsigned_number, signed_number}
 use Rattle.qs_spec.proofs.Booleans.{and_both}
 use Rattle.qs_spec.proofs.Numerals.{AreDigits, numerals}
@@ -24,8 +23,8 @@ use Rattle.qs_spec.proofs.ScalarsBack.{unsigned_back, positive_back, negative_ba
 use Rattle.serde_qs.specs.Items.{each_after, joined, pieces, items_in, list_in}
 use Rattle.serde_qs.specs.internal.Pieces.{Differs, first_piece, last_piece, listed_pieces}
 use Rattle.serde_qs.specs.Delimited.{IsPiece, NumberComesBack, NumbersComeBack, is_number_delimiter}
-use Rattle.serde_qs.specs.Fits.{is_signed}
 use Rattle.serde_qs.specs.internal.Booleans.{both_hold}
+use Rattle.serde_qs.specs.internal.Ranges.{signed_bounds, unsigned_below}
 
 module _ {A V : Type 0} (m : List ℕ → Option V) (show : A → List ℕ) (value : A → V) (delimiter : ℕ) where
   abbrev Back : A → Type 0
@@ -176,22 +175,15 @@ number_delimiter delimiter h =
     let free = both_hold (not (is_between 48 57 delimiter)) (not (delimiter == 45)) whole.1 in
     record { is_scalar = whole.0; no_digit = not_true (is_between 48 57 delimiter) free.0; no_sign = unequal delimiter 45 free.1 }
 
-pub unsigned_items : (bits : ℕ) → nat_le bits 64 ≡ true → NumbersComeBack (λ n. nat_le n (2 ^ bits - 1)) (unsigned_number bits) decimal (λ n. n)
-unsigned_items bits le delimiter n h l =
-    let below : n < 2 ^ bits = omega (arith, leb-true n (2 ^ bits - 1) l, pow_pos bits) in
-    unsigned_item bits delimiter n (leb-true bits 64 le) (number_delimiter delimiter h).no_digit below
-
-in_order : (a b : ℤ) → int_le a b ≡ true → a ≤ℤ b
-in_order a b h = le_z_yes (subst T (sym h) tt)
+pub unsigned_items : (bits : ℕ) → nat_le bits 64 ≡ true → NumbersComeBack (fits_unsigned bits) (unsigned_number bits) decimal (λ n. n)
+unsigned_items bits le delimiter n h l = unsigned_item bits delimiter n (leb-true bits 64 le) (number_delimiter delimiter h).no_digit (unsigned_below bits n l)
 
 below : (k : ℕ) (z : ℤ) → 0 < k → z ≤ℤ pos (k - 1) → z <ℤ pos k
 below k (pos n) some h = omega (arith, ints, some, h)
 below k (negsuc n) some h = omega (arith, ints)
 
-pub signed_items : (bits : ℕ) → nat_le bits 64 ≡ true → NumbersComeBack (is_signed bits) (signed_number bits) signed_decimal (λ z. z)
+pub signed_items : (bits : ℕ) → nat_le bits 64 ≡ true → NumbersComeBack (fits_signed bits) (signed_number bits) signed_decimal (λ z. z)
 signed_items bits le delimiter z h l =
     let free = number_delimiter delimiter h in
-    let ends = both_hold (int_le (neg_ℤ (pos (2 ^ (bits - 1)))) z) (int_le z (pos (2 ^ (bits - 1) - 1))) l in
-    let low = in_order (neg_ℤ (pos (2 ^ (bits - 1)))) z ends.0 in
-    let high = in_order z (pos (2 ^ (bits - 1) - 1)) ends.1 in
-    signed_item bits delimiter z (leb-true bits 64 le) free.no_digit free.no_sign (low, below (2 ^ (bits - 1)) z (pow_pos (bits - 1)) high)
+    let bounds = signed_bounds bits z l in
+    signed_item bits delimiter z (leb-true bits 64 le) free.no_digit free.no_sign (bounds.0, below (2 ^ (bits - 1)) z (pow_pos (bits - 1)) bounds.1)

@@ -7,8 +7,7 @@ use Rattle.std.specs.Str.{bytes_eq}
 use Rattle.qs_spec.specs.Data.{Data, Members, no_members, one_member, members_of, Named}
 use Rattle.qs_spec.specs.Shape.{Shape, Field, Fields, one_field, fields_of, is_field_name, field_names_differ}
 use Rattle.serde_qs.specs.ComesBack.{ComesBack, FieldsComeBack}
-use Rattle.serde_qs.specs.Fits.{fits, fit_fields}
-use Rattle.serde_qs.specs.Meaning.{both}
+use Rattle.serde_qs.specs.Meaning.{both, option_all}
 use Rattle.serde_qs.specs.internal.Booleans.{both_hold}
 use Rattle.serde_qs.specs.Records.{first_of, others_of, field_form, member_data}
 use Rattle.qs_spec.specs.Same.{SameMembers}
@@ -43,36 +42,30 @@ other_field n k fs absent present =
     (λ f. f)
     (cases_Bool (bytes_eq k n))
 
-absent_back : {A W : Type 0} (s : Shape) (meaning : Data → Option A) (others : List (List ℕ) → Members → Option W) (names : List (List ℕ)) (fs : Fields) (v : W) (ws ms : Members)
-    → not (is_field_name (first_of names) fs) ≡ true → is_first_named fs ws ≡ true → fit_fields (one_field (first_of names) s true fs) ws ≡ true
-    → (fit_fields fs ws ≡ true → others (others_of names) ms ≡ Some v) → SameMembers ws ms → optional_in meaning others names ms ≡ Some (None, v)
-absent_back s meaning others names fs v _ _ absent named h more SameMembers.members_end = ap (λ r. option_map (λ y. (None, y)) r) (more h)
-absent_back s meaning others names fs v _ _ absent named h more (SameMembers.members_more {name = k} {d} {e} {ms} {ns} p ps) =
-    let n = first_of names in
+absent_back : {A W : Type 0} (meaning : Data → Option A) (others : List (List ℕ) → Members → Option W) (names : List (List ℕ)) (fs : Fields) (v : W) (ws ms : Members)
+    → not (is_field_name (first_of names) fs) ≡ true → is_first_named fs ws ≡ true → others (others_of names) ms ≡ Some v → SameMembers ws ms
+    → optional_in meaning others names ms ≡ Some (None, v)
+absent_back meaning others names fs v _ _ absent named more SameMembers.members_end = ap (λ r. option_map (λ y. (None, y)) r) more
+absent_back meaning others names fs v _ _ absent named more (SameMembers.members_more {name = k} {d} {e} {ms} {ns} p ps) =
     let later = others_of names in
-    let tested : bytes_eq k n ≡ false = other_field n k fs absent named in
-    let fit : fit_fields fs (one_member k d ms) ≡ true = ap (λ t. if t then fits s d && fit_fields fs ms else fit_fields fs (one_member k d ms)) (sym tested) ∙ h in
-    ap (λ t. if t then both (option_map Some (meaning e)) (others later ns) else option_map (λ y. (None, y)) (others later (one_member k e ns))) tested
-    ∙ ap (λ r. option_map (λ y. (None, y)) r) (more fit)
+    ap (λ t. if t then both (option_map Some (meaning e)) (others later ns) else option_map (λ y. (None, y)) (others later (one_member k e ns))) (other_field (first_of names) k fs absent named)
+    ∙ ap (λ r. option_map (λ y. (None, y)) r) more
 
-pub optional_back : {A B V W : Type 0} (datum : A → Data) (s : Shape) (meaning : Data → Option V) (value : A → V) → ComesBack datum s meaning value
-    → (form : List (List ℕ) → List Field) (written : List (List ℕ) → B → List Named) (others : List (List ℕ) → Members → Option W) (rest : B → W) → FieldsAreNamed form written → FieldsComeBack form written others rest
-    → (names : List (List ℕ)) (a : Option A) (b : B) (ms : Members) → field_names_differ (fields_of (field_form s true form names)) ≡ true
-    → fit_fields (fields_of (field_form s true form names)) (members_of (optional_data datum a (λ ns. written ns b) names)) ≡ true
+pub optional_back : {A B V W : Type 0} (is_valid : A → Bool) (datum : A → Data) (meaning : Data → Option V) (value : A → V) → ComesBack is_valid datum meaning value
+    → (are_valid : B → Bool) (form : List (List ℕ) → List Field) (written : List (List ℕ) → B → List Named) (others : List (List ℕ) → Members → Option W) (rest : B → W)
+    → FieldsAreNamed form written → FieldsComeBack are_valid form written others rest → (s : Shape) (names : List (List ℕ)) (a : Option A) (b : B) (ms : Members)
+    → field_names_differ (fields_of (field_form s true form names)) ≡ true → (option_all is_valid a && are_valid b) ≡ true
     → SameMembers (members_of (optional_data datum a (λ ns. written ns b) names)) ms → optional_in meaning others names ms ≡ Some (option_map value a, rest b)
-optional_back datum s meaning value back form written others rest named more names None b ms k h p =
+optional_back is_valid datum meaning value back are_valid form written others rest named more s names None b ms k h p =
     let later = others_of names in
     let fs = fields_of (form later) in
-    let ws = members_of (written later b) in
     let differ = both_hold (not (is_field_name (first_of names) fs)) (field_names_differ fs) k in
-    absent_back s meaning others names fs (rest b) ws ms differ.0 (named later b) h (λ fit. more later b ms differ.1 fit p) p
-optional_back datum s meaning value back form written others rest named more names (Some a) b _ k h (SameMembers.members_more {name = n} {d} {e} {ms} {ns} p ps) =
+    absent_back meaning others names fs (rest b) (members_of (written later b)) ms differ.0 (named later b) (more later b ms differ.1 h p) p
+optional_back is_valid datum meaning value back are_valid form written others rest named more s names (Some a) b _ k h (SameMembers.members_more {name = n} {d} {e} {ms} {ns} p ps) =
     let later = others_of names in
     let fs = fields_of (form later) in
-    let fit_rest = fit_fields fs (members_of (written later b)) in
     let same_name : bytes_eq (first_of names) (first_of names) ≡ true = (bytes_eq-Decides (first_of names) (first_of names)).1 refl in
-    let fit : (fits s (datum a) && fit_rest) ≡ true = ap (λ t. if t then fits s (datum a) && fit_rest else fit_fields fs (one_member (first_of names) (datum a) (members_of (written later b)))) (sym same_name) ∙ h in
-    let parts = both_hold (fits s (datum a)) fit_rest fit in
+    let parts = both_hold (is_valid a) (are_valid b) h in
     let differ = both_hold (not (is_field_name (first_of names) fs)) (field_names_differ fs) k in
     ap (λ t. if t then both (option_map Some (meaning e)) (others later ns) else option_map (λ y. (None, y)) (others later (one_member (first_of names) e ns))) same_name
     ∙ ap (λ r. both (option_map Some r) (others later ns)) (back a e parts.0 p)

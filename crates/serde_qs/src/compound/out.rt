@@ -7,7 +7,6 @@ ghost use Rattle.qs_tree.specs.Error.{OnlyOutOfMemory};
 ghost use Rattle.qs_data.specs.data.Views.{data_of};
 ghost use Rattle.qs_data.specs.write.Parts.{data_part};
 ghost use Rattle.serde_qs.specs.Exits.{PartsWritten};
-ghost use Rattle.serde_qs.specs.Fits.{fits};
 ghost use Rattle.serde_qs.specs.Records.{texts};
 ghost use Rattle.serde_qs.specs.declared.compound.out.Exit.TheVariants.{Nothing};
 
@@ -46,7 +45,7 @@ pub enum Exit {
     Data(Global),
     /// To a writer. Beside it is what the writing of the parts returned.
     Writer(Writer, WriteResult),
-    /// Nowhere: what is wanted is that they fit.
+    /// Nowhere: what is wanted is that they are valid.
     Nothing,
 }
 
@@ -88,7 +87,7 @@ impl Exit {
         ensures exact { IfOk result (λ x. data_of x ≡ T.table.datum value.now) }
         ensures errors { OnlyOutOfMemory result }
         ensures written { PartsWritten self.old self.new (data_part (T.table.datum value.now)) }
-        ensures fits { self.old ≡ Nothing → fits T.table.form (T.table.datum value.now) ≡ true }
+        ensures fits { self.old ≡ Nothing → T.table.is_valid value.now ≡ true }
     {
         match self {
             Exit::Data(alloc) => own::datum_of(*alloc, value),
@@ -137,7 +136,7 @@ impl Exit {
         ensures exact { IfOk result (λ x. data_of x ≡ d.newtype (T.table.datum value.now)) }
         ensures errors { OnlyOutOfMemory result }
         ensures written { PartsWritten self.old self.new (data_part (d.newtype (T.table.datum value.now))) }
-        ensures fits { self.old ≡ Nothing → fits T.table.form (T.table.datum value.now) ≡ true }
+        ensures fits { self.old ≡ Nothing → T.table.is_valid value.now ≡ true }
     {
         match self {
             Exit::Data(alloc) => newtype_struct(*alloc, value),
@@ -183,7 +182,7 @@ impl Exit {
         ensures exact { IfOk result (λ x. data_of x ≡ d.newtype_variant name.now (T.table.datum value.now)) }
         ensures errors { OnlyOutOfMemory result }
         ensures written { PartsWritten self.old self.new (data_part (d.newtype_variant name.now (T.table.datum value.now))) }
-        ensures fits { self.old ≡ Nothing → fits T.table.form (T.table.datum value.now) ≡ true }
+        ensures fits { self.old ≡ Nothing → T.table.is_valid value.now ≡ true }
     {
         match self {
             Exit::Data(alloc) => newtype_variant(*alloc, name, value),

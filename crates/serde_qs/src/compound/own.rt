@@ -6,7 +6,6 @@ ghost use Rattle.qs_spec.specs.Data as d;
 ghost use Rattle.qs_tree.specs.Error.{OnlyOutOfMemory};
 ghost use Rattle.qs_data.specs.data.Views.{data_of};
 ghost use Rattle.qs_data.specs.write.Parts.{WritesPart, data_part, members_part, under};
-ghost use Rattle.serde_qs.specs.Fits.{fits};
 ghost use Rattle.serde_qs.specs.Records.{texts};
 
 use super::references::{FieldReferences, ListedReferences};
@@ -71,9 +70,9 @@ pub(crate) fn write_tuple_variant<R: ListedReferences + Drop>(
     parts::write_made(writer, tuple_variant(writer.alloc, name, items))
 }
 
-/// Shows that the data of a value fit its shape. It does nothing when it runs.
+/// Shows that a value is valid. It does nothing when it runs.
 pub(crate) fn fit<T: RoundTrip>(value: &T)
-    ensures { fits T.table.form (T.table.datum value.now) ≡ true }
+    ensures { T.table.is_valid value.now ≡ true }
 {
     value.fits();
 }

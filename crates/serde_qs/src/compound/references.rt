@@ -2,12 +2,10 @@
 
 ghost use Rattle.std.specs.Prelude.{◌≡◌, refl, ◌&&◌, ℕ, Bool, true, List, [], ◌∷◌, ◌++◌, map, IfOk};
 ghost use Rattle.qs_spec.specs.Data.{Data as Datum, Named, members_of};
-ghost use Rattle.qs_spec.specs.Shape as s;
 ghost use Rattle.qs_tree.specs.Error.{OnlyOutOfMemory};
 ghost use Rattle.qs_data.specs.data.Views.{data_of, named};
 ghost use Rattle.qs_data.specs.write.Parts.{WritesPart, members_part};
-ghost use Rattle.serde_qs.specs.Fits.{fits};
-ghost use Rattle.serde_qs.specs.Meaning.{option_data};
+ghost use Rattle.serde_qs.specs.Meaning.{option_all};
 ghost use Rattle.serde_qs.specs.Optional.{optional_data};
 ghost use Rattle.serde_qs.specs.Records.{member_data, texts};
 ghost use Rattle.serde_qs.specs.internal.OwnTables.{same_item, same_member, same_optional};
@@ -134,10 +132,10 @@ pub trait FieldReferences: References {
     // The members of the fields, by their names, in the words of the fields' tables.
     ghost own_members: { List (List ℕ) → Self → List Named };
 
-    // Each of the fields fits its type's shape.
+    // Each of the fields is valid.
     ghost fit: { Self → Bool };
 
-    /// Shows that each of them fits. It does nothing when it runs.
+    /// Shows that each of them is valid. It does nothing when it runs.
     fn fit(&self)
         ensures { fit self.now ≡ true };
 
@@ -158,7 +156,7 @@ impl FieldReferences for () {
 impl<'a, T: RoundTrip, R: FieldReferences + Drop> FieldReferences for (&'a T, R) {
     ghost own_members = { λ names x. member_data (T.table.datum x.0.now) (λ ns. R.own_members ns x.1) names };
 
-    ghost fit = { λ x. fits T.table.form (T.table.datum x.0.now) && R.fit x.1 };
+    ghost fit = { λ x. T.table.is_valid x.0.now && R.fit x.1 };
 
     ghost same = { λ names x. same_member (T.same_datum x.0.now) (λ ns. R.same ns x.1) names };
 
@@ -172,7 +170,7 @@ impl<'a, T: RoundTrip, R: FieldReferences + Drop> FieldReferences for (&'a T, R)
 impl<'a, T: RoundTrip, R: FieldReferences + Drop> FieldReferences for (SkipNone<'a, T>, R) {
     ghost own_members = { λ names x. optional_data T.table.datum x.0.0.now (λ ns. R.own_members ns x.1) names };
 
-    ghost fit = { λ x. fits (s.Shape.option T.table.form) (option_data T.table.datum x.0.0.now) && R.fit x.1 };
+    ghost fit = { λ x. option_all T.table.is_valid x.0.0.now && R.fit x.1 };
 
     ghost same = { λ names x. same_optional T.same_datum x.0.0.now (λ ns. R.same ns x.1) names };
 
@@ -228,10 +226,10 @@ pub trait ListedReferences: ItemReferences {
     // The data of the items, in the words of their tables.
     ghost own_data: { Self → List Datum };
 
-    // Each of the items fits its type's shape.
+    // Each of the items is valid.
     ghost fit: { Self → Bool };
 
-    /// Shows that each of them fits. It does nothing when it runs.
+    /// Shows that each of them is valid. It does nothing when it runs.
     fn fit(&self)
         ensures { fit self.now ≡ true };
 
@@ -252,7 +250,7 @@ impl ListedReferences for () {
 impl<'a, T: RoundTrip, R: ListedReferences + Drop> ListedReferences for (&'a T, R) {
     ghost own_data = { λ x. T.table.datum x.0.now ∷ R.own_data x.1 };
 
-    ghost fit = { λ x. fits T.table.form (T.table.datum x.0.now) && R.fit x.1 };
+    ghost fit = { λ x. T.table.is_valid x.0.now && R.fit x.1 };
 
     ghost same = { λ x. same_item (T.same_datum x.0.now) (R.same x.1) };
 

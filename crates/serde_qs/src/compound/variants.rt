@@ -12,12 +12,12 @@ ghost use Rattle.qs_data.specs.read.Gives.{Gives};
 ghost use Rattle.qs_data.specs.read.Held.{held_is_text, reads_variant};
 ghost use Rattle.qs_data.specs.read.TreeText.{is_text};
 ghost use Rattle.qs_data.specs.shape.Views.{variant_of};
-ghost use Rattle.serde_qs.specs.Fits.{name_in};
 ghost use Rattle.serde_qs.specs.Held.{variant_held};
 ghost use Rattle.serde_qs.specs.Nodes.{ReadsNode};
 ghost use Rattle.serde_qs.specs.PartTables.{VariantsTable, last_variant, one_variant};
 ghost use Rattle.serde_qs.specs.Records.{texts};
 ghost use Rattle.serde_qs.specs.Typed.{Means};
+ghost use Rattle.serde_qs.specs.Variants.{name_in};
 
 use super::fields::split;
 use super::payloads::Payload;

@@ -1,12 +1,13 @@
 //! A list of whole numbers in one text, as a field of a struct.
 
-ghost use Rattle.std.specs.Prelude.{◌≡◌, ◌-◌, ◌^◌, ℕ, nat_le, true, map, refl};
+ghost use Rattle.std.specs.Prelude.{◌≡◌, ℕ, true, map, refl};
 ghost use Rattle.std.specs.Fmt.{decimal, signed_decimal};
 ghost use Rattle.std.specs.List.{list_all};
+ghost use Rattle.qs_spec.specs.Data as d;
+ghost use Rattle.qs_spec.specs.Fits.{fits_signed, fits_unsigned};
 ghost use Rattle.qs_spec.specs.Scalar.{signed_number, unsigned_number};
-ghost use Rattle.serde_qs.specs.Delimited.{NumbersComeBack, is_number_delimiter, list_data};
-ghost use Rattle.serde_qs.specs.Fits.{fits, is_signed};
-ghost use Rattle.serde_qs.specs.Items.{list_in};
+ghost use Rattle.serde_qs.specs.Delimited.{is_number_delimiter};
+ghost use Rattle.serde_qs.specs.Items.{joined, list_in};
 ghost use Rattle.serde_qs.specs.internal.NumberLists.{signed_items, unsigned_items};
 ghost use Rattle.serde_qs.specs.internal.OwnTables.{delimited_datum, themselves};
 ghost use Rattle.qs_data.specs.data.Views.{data_of};
@@ -31,10 +32,7 @@ pub trait WholeNumber: Item + RoundTrip {
     ghost numbers: { Numbers Self };
 
     // They are the type's own.
-    ghost are_own: { AreNumbersOf numbers Self.Item.value (λ n. fits Self.table.form (Self.datum n)) Self.printed Self.Item.meaning };
-
-    // The text of each has no delimiter in it, and is parsed as that number.
-    ghost items_come_back: { NumbersComeBack (λ n. fits Self.table.form (Self.datum n)) Self.Item.meaning Self.printed Self.Item.value };
+    ghost are_own: { AreNumbersOf numbers Self.Item.value Self.table.is_valid Self.printed Self.Item.meaning };
 }
 
 /// The character between the numbers of a [`Delimited`], which is neither a digit nor `-`.
@@ -122,10 +120,9 @@ impl<T, D> Delimited<T, D> {
 }
 
 impl<T: WholeNumber, D: Delimiter> Serialize for Delimited<T, D> {
-    ghost datum = { λ list. list_data (λ n. fits T.table.form (T.datum n)) T.printed D.delimiter list.items.items };
+    ghost datum = { λ list. d.text (joined D.delimiter (map T.printed list.items.items)) };
 
     fn to_data(&self, alloc: Global) -> Result<Data> {
-        items_fit(self.items.as_slice());
         generic_delimiter::serialize(alloc, self.items.as_slice(), D::delimiter())
     }
 }
@@ -151,16 +148,16 @@ fn numbers_in<T: WholeNumber + Drop>(alloc: Global, datum: Data, delimiter: char
 }
 
 impl<T: WholeNumber + Drop, D: Delimiter> RoundTrip for Delimited<T, D> {
-    ghost same_datum = { λ list. delimited_datum T.numbers T.Item.value (λ n. fits T.table.form (T.datum n)) T.printed T.Item.meaning T.are_own D.delimiter list.items.items };
+    ghost same_datum = { λ list. delimited_datum T.numbers T.Item.value T.table.is_valid T.printed T.Item.meaning T.are_own D.delimiter list.items.items };
 
     fn fits(&self) {
         items_fit(self.items.as_slice());
     }
 }
 
-// Shows that each number fits its shape. It does nothing when it runs.
+// Shows that each number is in range. It does nothing when it runs.
 fn items_fit<T: WholeNumber>(items: &[T])
-    ensures { list_all (λ n. fits T.table.form (T.datum n)) items.now ≡ true }
+    ensures { list_all T.table.is_valid items.now ≡ true }
 {
     for item in items {
         item.fits();
@@ -198,65 +195,49 @@ impl Delimiter for Space {
 }
 
 impl WholeNumber for u8 {
-    ghost numbers = { numbers_of (λ n. n) (λ n. nat_le n (2 ^ 8 - 1)) decimal (unsigned_number 8) (unsigned_items 8 refl) };
+    ghost numbers = { numbers_of (λ n. n) (fits_unsigned 8) decimal (unsigned_number 8) (unsigned_items 8 refl) };
 
-    ghost are_own = { themselves (λ n. n) (λ n. nat_le n (2 ^ 8 - 1)) decimal (unsigned_number 8) (unsigned_items 8 refl) };
-
-    ghost items_come_back = { unsigned_items 8 refl };
+    ghost are_own = { themselves (λ n. n) (fits_unsigned 8) decimal (unsigned_number 8) (unsigned_items 8 refl) };
 }
 
 impl WholeNumber for u16 {
-    ghost numbers = { numbers_of (λ n. n) (λ n. nat_le n (2 ^ 16 - 1)) decimal (unsigned_number 16) (unsigned_items 16 refl) };
+    ghost numbers = { numbers_of (λ n. n) (fits_unsigned 16) decimal (unsigned_number 16) (unsigned_items 16 refl) };
 
-    ghost are_own = { themselves (λ n. n) (λ n. nat_le n (2 ^ 16 - 1)) decimal (unsigned_number 16) (unsigned_items 16 refl) };
-
-    ghost items_come_back = { unsigned_items 16 refl };
+    ghost are_own = { themselves (λ n. n) (fits_unsigned 16) decimal (unsigned_number 16) (unsigned_items 16 refl) };
 }
 
 impl WholeNumber for u32 {
-    ghost numbers = { numbers_of (λ n. n) (λ n. nat_le n (2 ^ 32 - 1)) decimal (unsigned_number 32) (unsigned_items 32 refl) };
+    ghost numbers = { numbers_of (λ n. n) (fits_unsigned 32) decimal (unsigned_number 32) (unsigned_items 32 refl) };
 
-    ghost are_own = { themselves (λ n. n) (λ n. nat_le n (2 ^ 32 - 1)) decimal (unsigned_number 32) (unsigned_items 32 refl) };
-
-    ghost items_come_back = { unsigned_items 32 refl };
+    ghost are_own = { themselves (λ n. n) (fits_unsigned 32) decimal (unsigned_number 32) (unsigned_items 32 refl) };
 }
 
 impl WholeNumber for u64 {
-    ghost numbers = { numbers_of (λ n. n) (λ n. nat_le n (2 ^ 64 - 1)) decimal (unsigned_number 64) (unsigned_items 64 refl) };
+    ghost numbers = { numbers_of (λ n. n) (fits_unsigned 64) decimal (unsigned_number 64) (unsigned_items 64 refl) };
 
-    ghost are_own = { themselves (λ n. n) (λ n. nat_le n (2 ^ 64 - 1)) decimal (unsigned_number 64) (unsigned_items 64 refl) };
-
-    ghost items_come_back = { unsigned_items 64 refl };
+    ghost are_own = { themselves (λ n. n) (fits_unsigned 64) decimal (unsigned_number 64) (unsigned_items 64 refl) };
 }
 
 impl WholeNumber for i8 {
-    ghost numbers = { numbers_of (λ z. z) (is_signed 8) signed_decimal (signed_number 8) (signed_items 8 refl) };
+    ghost numbers = { numbers_of (λ z. z) (fits_signed 8) signed_decimal (signed_number 8) (signed_items 8 refl) };
 
-    ghost are_own = { themselves (λ z. z) (is_signed 8) signed_decimal (signed_number 8) (signed_items 8 refl) };
-
-    ghost items_come_back = { signed_items 8 refl };
+    ghost are_own = { themselves (λ z. z) (fits_signed 8) signed_decimal (signed_number 8) (signed_items 8 refl) };
 }
 
 impl WholeNumber for i16 {
-    ghost numbers = { numbers_of (λ z. z) (is_signed 16) signed_decimal (signed_number 16) (signed_items 16 refl) };
+    ghost numbers = { numbers_of (λ z. z) (fits_signed 16) signed_decimal (signed_number 16) (signed_items 16 refl) };
 
-    ghost are_own = { themselves (λ z. z) (is_signed 16) signed_decimal (signed_number 16) (signed_items 16 refl) };
-
-    ghost items_come_back = { signed_items 16 refl };
+    ghost are_own = { themselves (λ z. z) (fits_signed 16) signed_decimal (signed_number 16) (signed_items 16 refl) };
 }
 
 impl WholeNumber for i32 {
-    ghost numbers = { numbers_of (λ z. z) (is_signed 32) signed_decimal (signed_number 32) (signed_items 32 refl) };
+    ghost numbers = { numbers_of (λ z. z) (fits_signed 32) signed_decimal (signed_number 32) (signed_items 32 refl) };
 
-    ghost are_own = { themselves (λ z. z) (is_signed 32) signed_decimal (signed_number 32) (signed_items 32 refl) };
-
-    ghost items_come_back = { signed_items 32 refl };
+    ghost are_own = { themselves (λ z. z) (fits_signed 32) signed_decimal (signed_number 32) (signed_items 32 refl) };
 }
 
 impl WholeNumber for i64 {
-    ghost numbers = { numbers_of (λ z. z) (is_signed 64) signed_decimal (signed_number 64) (signed_items 64 refl) };
+    ghost numbers = { numbers_of (λ z. z) (fits_signed 64) signed_decimal (signed_number 64) (signed_items 64 refl) };
 
-    ghost are_own = { themselves (λ z. z) (is_signed 64) signed_decimal (signed_number 64) (signed_items 64 refl) };
-
-    ghost items_come_back = { signed_items 64 refl };
+    ghost are_own = { themselves (λ z. z) (fits_signed 64) signed_decimal (signed_number 64) (signed_items 64 refl) };
 }

@@ -2,8 +2,8 @@
 
 ghost use Rattle.std.specs.Prelude.{Bool, refl, string_bytes};
 ghost use Rattle.std.specs.Str.{is_utf8};
-ghost use lib.Utf8.{scalar};
 ghost use Rattle.qs_spec.specs.Data as d;
+ghost use Rattle.qs_spec.specs.Fits.{is_scalar};
 ghost use Rattle.qs_spec.specs.Shape as s;
 ghost use Rattle.serde_qs.specs.internal.ComesBack.{boolean_back, character_back, text_back, unit_back};
 ghost use Rattle.serde_qs.specs.Meaning.{boolean_in, character_in, text_in, unit_in};
@@ -106,7 +106,7 @@ impl Serialize for char {
 }
 
 impl Deserialize for char {
-    ghost table = { table_of (λ c. c) d.character s.Shape.character character_in refl (character_back scalar) };
+    ghost table = { table_of (λ c. c) d.character s.Shape.character character_in refl (character_back is_scalar) };
 
     fn shape(_alloc: Global) -> Result<Shape> {
         Ok(Shape::Char)

@@ -5,6 +5,7 @@ ghost use Rattle.qs_spec.specs.Data as d;
 ghost use Rattle.qs_spec.specs.Shape as s;
 ghost use Rattle.qs_data.specs.data.Views.{data_of};
 ghost use Rattle.serde_qs.specs.internal.ComesBack.{signed_back};
+ghost use Rattle.serde_qs.specs.internal.Ranges.{signed_within};
 ghost use Rattle.serde_qs.specs.Meaning.{signed_between, signed_in};
 ghost use Rattle.serde_qs.specs.Tables.{table_of};
 ghost use Rattle.serde_qs.specs.Typed.{Means};
@@ -46,7 +47,7 @@ impl Serialize for i8 {
 }
 
 impl Deserialize for i8 {
-    ghost table = { table_of (λ z. z) d.signed (s.Shape.signed 8) (signed_in 8) refl (signed_back 8) };
+    ghost table = { table_of (λ z. z) d.signed (s.Shape.signed 8) (signed_in 8) refl (λ z e h p. signed_back 8 z e (signed_within 8 z h) p) };
 
     fn shape(_alloc: Global) -> Result<Shape> {
         Ok(Shape::I8)
@@ -86,7 +87,7 @@ impl Serialize for i16 {
 }
 
 impl Deserialize for i16 {
-    ghost table = { table_of (λ z. z) d.signed (s.Shape.signed 16) (signed_in 16) refl (signed_back 16) };
+    ghost table = { table_of (λ z. z) d.signed (s.Shape.signed 16) (signed_in 16) refl (λ z e h p. signed_back 16 z e (signed_within 16 z h) p) };
 
     fn shape(_alloc: Global) -> Result<Shape> {
         Ok(Shape::I16)
@@ -126,7 +127,7 @@ impl Serialize for i32 {
 }
 
 impl Deserialize for i32 {
-    ghost table = { table_of (λ z. z) d.signed (s.Shape.signed 32) (signed_in 32) refl (signed_back 32) };
+    ghost table = { table_of (λ z. z) d.signed (s.Shape.signed 32) (signed_in 32) refl (λ z e h p. signed_back 32 z e (signed_within 32 z h) p) };
 
     fn shape(_alloc: Global) -> Result<Shape> {
         Ok(Shape::I32)
@@ -166,7 +167,7 @@ impl Serialize for i64 {
 }
 
 impl Deserialize for i64 {
-    ghost table = { table_of (λ z. z) d.signed (s.Shape.signed 64) (signed_in 64) refl (signed_back 64) };
+    ghost table = { table_of (λ z. z) d.signed (s.Shape.signed 64) (signed_in 64) refl (λ z e h p. signed_back 64 z e (signed_within 64 z h) p) };
 
     fn shape(_alloc: Global) -> Result<Shape> {
         Ok(Shape::I64)

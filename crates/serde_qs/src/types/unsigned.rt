@@ -5,6 +5,7 @@ ghost use Rattle.qs_spec.specs.Data as d;
 ghost use Rattle.qs_spec.specs.Shape as s;
 ghost use Rattle.qs_data.specs.data.Views.{data_of};
 ghost use Rattle.serde_qs.specs.internal.ComesBack.{unsigned_back};
+ghost use Rattle.serde_qs.specs.internal.Ranges.{unsigned_within};
 ghost use Rattle.serde_qs.specs.Meaning.{unsigned_in};
 ghost use Rattle.serde_qs.specs.Tables.{table_of};
 ghost use Rattle.serde_qs.specs.Typed.{Means};
@@ -46,7 +47,7 @@ impl Serialize for u8 {
 }
 
 impl Deserialize for u8 {
-    ghost table = { table_of (λ n. n) d.unsigned (s.Shape.unsigned 8) (unsigned_in 255) refl (unsigned_back 255) };
+    ghost table = { table_of (λ n. n) d.unsigned (s.Shape.unsigned 8) (unsigned_in 255) refl (λ n e h p. unsigned_back 255 n e (unsigned_within 8 n h) p) };
 
     fn shape(_alloc: Global) -> Result<Shape> {
         Ok(Shape::U8)
@@ -86,7 +87,7 @@ impl Serialize for u16 {
 }
 
 impl Deserialize for u16 {
-    ghost table = { table_of (λ n. n) d.unsigned (s.Shape.unsigned 16) (unsigned_in 65535) refl (unsigned_back 65535) };
+    ghost table = { table_of (λ n. n) d.unsigned (s.Shape.unsigned 16) (unsigned_in 65535) refl (λ n e h p. unsigned_back 65535 n e (unsigned_within 16 n h) p) };
 
     fn shape(_alloc: Global) -> Result<Shape> {
         Ok(Shape::U16)
@@ -126,7 +127,7 @@ impl Serialize for u32 {
 }
 
 impl Deserialize for u32 {
-    ghost table = { table_of (λ n. n) d.unsigned (s.Shape.unsigned 32) (unsigned_in 4294967295) refl (unsigned_back 4294967295) };
+    ghost table = { table_of (λ n. n) d.unsigned (s.Shape.unsigned 32) (unsigned_in 4294967295) refl (λ n e h p. unsigned_back 4294967295 n e (unsigned_within 32 n h) p) };
 
     fn shape(_alloc: Global) -> Result<Shape> {
         Ok(Shape::U32)
@@ -166,7 +167,7 @@ impl Serialize for u64 {
 }
 
 impl Deserialize for u64 {
-    ghost table = { table_of (λ n. n) d.unsigned (s.Shape.unsigned 64) (unsigned_in 18446744073709551615) refl (unsigned_back 18446744073709551615) };
+    ghost table = { table_of (λ n. n) d.unsigned (s.Shape.unsigned 64) (unsigned_in 18446744073709551615) refl (λ n e h p. unsigned_back 18446744073709551615 n e (unsigned_within 64 n h) p) };
 
     fn shape(_alloc: Global) -> Result<Shape> {
         Ok(Shape::U64)

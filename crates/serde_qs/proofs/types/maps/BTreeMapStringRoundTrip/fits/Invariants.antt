@@ -1,11 +1,9 @@
-use Rattle.std.proofs.Common.{◌≡◌, map}
-use Rattle.qs_spec.specs.Data.{pairs_of}
-use Rattle.qs_spec.specs.Shape.{KeyShape}
-use Rattle.serde_qs.specs.Fits.{fits, fit_pairs}
-use Rattle.serde_qs.specs.Maps.{entry_data}
+use Rattle.std.proofs.Common.{◌≡◌}
+use Rattle.std.specs.List.{list_all}
+use Rattle.serde_qs.specs.Maps.{is_valid_entry}
 use Rattle.serde_qs.proofs.types.maps.BTreeMapStringRoundTrip.fits.Given as goal
 
 abbrev pub invariant-loop-key : goal.invariant-loop-key
 invariant-loop-key g l =
-    let f = fits g.T.Deserialize.table.form in
-    fit_pairs KeyShape.text f (pairs_of (map (entry_data g.T.Serialize.datum) l.self.entries)) ≡ fit_pairs KeyShape.text f (pairs_of (map (entry_data g.T.Serialize.datum) l.key-iterator))
+    let is_valid = is_valid_entry g.T.Deserialize.table.is_valid in
+    list_all is_valid l.self.entries ≡ list_all is_valid l.key-iterator

@@ -2,7 +2,7 @@
 use Rattle.std.proofs.Common.{◌≡◌, ℕ, false, List, [], ◌<◌, length, take, ◌⊎◌, inl, inr, sym, ◌∙◌, subst, string_bytes, Option, Some, None, Result, Ok, Err, refl}
 use Rattle.std.proofs.lemmas.List.Elements.{All-nil, All-take}
 use Rattle.std.proofs.KnownBytes.{Appends-nil}
-use Rattle.std.specs.Prelude.{IfOk, OnOk}
+use Rattle.std.specs.Prelude.{OnOk}
 use Rattle.std.specs.List.{All}
 use Rattle.std.specs.Result.{IsErrAnd}
 use Rattle.std.specs.Io.KnownBytes.{Appends}
@@ -13,8 +13,8 @@ use Rattle.qs_spec.specs.Data.{Data}
 use Rattle.qs_spec.specs.Entry.{Path, entries, too_deep, bad_key}
 use Rattle.qs_spec.specs.Written.{written}
 use Rattle.qs_tree.specs.declared.error.Error.{Error}
-use Rattle.qs_tree.specs.declared.error.Error.TheVariants.{Custom, MaxSerializationDepthExceeded, Parse, Unsupported, FromUtf8, Io, ParseInt, Utf8, OutOfMemory, Failed}
-use Rattle.qs_tree.specs.Error.{IsTooDeep, IsUnsupported, IsIo, IsOutOfMemory, OnlyOutOfMemory}
+use Rattle.qs_tree.specs.declared.error.Error.TheVariants.{MaxSerializationDepthExceeded, Unsupported, Io, OutOfMemory}
+use Rattle.qs_tree.specs.Error.{IsTooDeep, IsUnsupported, IsIo, IsOutOfMemory}
 use Rattle.qs_data.specs.declared.write.stop.Stop.{Stop}
 use Rattle.qs_data.specs.declared.write.stop.Stop.TheVariants as stop
 use Rattle.qs_data.specs.declared.write.writer.Writer.{Writer}
@@ -120,16 +120,5 @@ module _ (config : Config) (x : Data) (start last : Writer) (fresh : IsFresh con
       let w = at_top config x start last fresh (Err stop.BadKey) p in
       text_put (Err Unsupported) r puts w.1 (λ added visible text. value_put config x old new (Err Unsupported) bytes added visible tt tt (λ n h. absurd h) (λ h. (w.0, text)) (λ h. absurd h) (λ h. absurd h) tt)
 
-pub string_returned : (config : Config) (x : Data) (bytes : List ℕ) (r : Result (String Global) Error) → IfOk r (λ s. string_bytes s ≡ bytes) → OnlyOutOfMemory r
-    → ((entries config x).error ≡ None) × (bytes ≡ text_of config x) × All IsVisible bytes → ReturnsText config x r
-string_returned config x bytes (Ok s) is errors w = (w.0, is ∙ w.1, subst (All IsVisible) (sym is) w.2)
-string_returned config x bytes (Err OutOfMemory) is errors w = tt
-string_returned config x bytes (Err (Custom message)) is errors w = absurd errors
-string_returned config x bytes (Err (MaxSerializationDepthExceeded n)) is errors w = absurd errors
-string_returned config x bytes (Err (Parse message position)) is errors w = absurd errors
-string_returned config x bytes (Err Unsupported) is errors w = absurd errors
-string_returned config x bytes (Err (FromUtf8 cause)) is errors w = absurd errors
-string_returned config x bytes (Err (Io cause)) is errors w = absurd errors
-string_returned config x bytes (Err (ParseInt cause)) is errors w = absurd errors
-string_returned config x bytes (Err (Utf8 cause)) is errors w = absurd errors
-string_returned config x bytes (Err Failed) is errors w = absurd errors
+pub string_returned : (config : Config) (x : Data) (bytes : List ℕ) (s : String Global) → string_bytes s ≡ bytes → ((entries config x).error ≡ None) × (bytes ≡ text_of config x) × All IsVisible bytes → ReturnsText config x (Ok s)
+string_returned config x bytes s is w = (w.0, is ∙ w.1, subst (All IsVisible) (sym is) w.2)

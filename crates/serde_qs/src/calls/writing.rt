@@ -1,9 +1,11 @@
 //! Typed calls that write.
 
-ghost use Rattle.std.specs.Prelude.{◌≡◌, ◌⊎◌, ◌<◌, ℕ, length, take, IfOk, string_bytes};
+ghost use Rattle.std.specs.Prelude.{◌≡◌, ◌⊎◌, ◌<◌, ℕ, length, take, string_bytes};
+ghost use Rattle.std.specs.List.{All};
 ghost use Rattle.std.specs.Io.KnownBytes.{Appends};
 ghost use Rattle.qs_spec.specs.Config.{default};
-ghost use Rattle.qs_tree.specs.Error.{IsIo, OnlyOutOfMemory};
+ghost use Rattle.qs_data.specs.write.State.{IsVisible};
+ghost use Rattle.qs_tree.specs.Error.{IsIo};
 ghost use Rattle.serde_qs.specs.WrittenText.{ReturnsText, WritesValue};
 
 use crate::traits::Serialize;
@@ -66,19 +68,19 @@ pub(crate) fn write_text<T: Serialize>(alloc: Global, config: Config, value: &T)
 {
     let mut writer = Writer::new(alloc, config)?;
     match value.write_to(&mut writer) {
-        Ok(()) => string_of(writer.into_text()),
+        Ok(()) => Ok(string_of(writer.into_text())),
         Err(stop) => Err(stop.into_error(config)),
     }
 }
 
-// Returns these bytes as a string. They are visible, and so they are UTF-8.
-fn string_of(text: Vec<u8>) -> Result<String>
-    ensures ok { IfOk result (λ string. string_bytes string ≡ text.items) }
-    ensures errors { OnlyOutOfMemory result }
+// Returns visible bytes as a string. They are UTF-8. It doesn't allocate.
+fn string_of(text: Vec<u8>) -> String
+    requires { All IsVisible text.items }
+    ensures { string_bytes result ≡ text.items }
 {
     match String::from_utf8(text) {
-        Ok(string) => Ok(string),
-        Err(_) => Err(Error::OutOfMemory),
+        Ok(string) => string,
+        Err(_) => unreachable!(),
     }
 }
 

@@ -3,7 +3,7 @@
 ghost use Rattle.qs_callers.specs.declared.account.TheConstants.{NAMES};
 ghost use Rattle.serde_qs.specs.PartTables.{made_of};
 
-use serde_qs::{Compound, Data, Out, Parts, Result, Shape, Source, Struct};
+use serde_qs::{Compound, Out, Parts, Result, Shape, Source, Struct, WriteResult};
 use std::alloc::Global;
 
 /// An account.
@@ -34,7 +34,7 @@ impl Compound for Account {
         })
     }
 
-    fn written(&self, out: Out) -> Result<Data> {
+    fn written(&self, out: Out) -> WriteResult {
         out.fields(NAMES, (&self.first_name, (&self.last_name, (&self.id, ()))))
     }
 }

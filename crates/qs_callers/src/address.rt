@@ -3,7 +3,7 @@
 ghost use Rattle.qs_callers.specs.declared.address.TheConstants.{NAMES};
 ghost use Rattle.serde_qs.specs.PartTables.{made_of};
 
-use serde_qs::{Compound, Data, Out, Parts, Result, Shape, Source, Struct};
+use serde_qs::{Compound, Out, Parts, Result, Shape, Source, Struct, WriteResult};
 use std::alloc::Global;
 
 /// A postal address.
@@ -29,7 +29,7 @@ impl Compound for Address {
         Ok(Address { street, city })
     }
 
-    fn written(&self, out: Out) -> Result<Data> {
+    fn written(&self, out: Out) -> WriteResult {
         out.fields(NAMES, (&self.street, (&self.city, ())))
     }
 }

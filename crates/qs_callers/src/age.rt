@@ -8,7 +8,7 @@ ghost use Rattle.serde_qs.specs.internal.ComesBack.{unsigned_back};
 ghost use Rattle.serde_qs.specs.Meaning.{unsigned_in};
 ghost use Rattle.serde_qs.specs.Tables.{table_of};
 
-use serde_qs::{Compound, Data, Deserialize, Out, Result, Shape, Source, unexpected};
+use serde_qs::{Compound, Deserialize, Out, Result, Shape, Source, WriteResult, unexpected};
 use std::alloc::Global;
 
 /// An age in years, below 150.
@@ -44,7 +44,7 @@ impl Compound for Age {
         }
     }
 
-    fn written(&self, out: Out) -> Result<Data> {
+    fn written(&self, out: Out) -> WriteResult {
         out.value(&self.years)
     }
 }

@@ -3,7 +3,9 @@
 ghost use Rattle.qs_callers.specs.declared.chart.TheConstants.{NAMES};
 ghost use Rattle.serde_qs.specs.PartTables.{made_of};
 
-use serde_qs::{Comma, Compound, Data, Delimited, Out, Parts, Result, Shape, Source, Struct};
+use serde_qs::{
+    Comma, Compound, Delimited, Out, Parts, Result, Shape, Source, Struct, WriteResult,
+};
 use std::alloc::Global;
 
 /// A chart, with its values in one text: `title=Rain&values=1,2,3`.
@@ -29,7 +31,7 @@ impl Compound for Chart {
         Ok(Chart { title, values })
     }
 
-    fn written(&self, out: Out) -> Result<Data> {
+    fn written(&self, out: Out) -> WriteResult {
         out.fields(NAMES, (&self.title, (&self.values, ())))
     }
 }

@@ -3,7 +3,9 @@
 ghost use Rattle.qs_callers.specs.declared.columns.TheConstants.{NAMES};
 ghost use Rattle.serde_qs.specs.PartTables.{made_of};
 
-use serde_qs::{Compound, Data, Delimited, Out, Parts, Pipe, Result, Shape, Source, Space, Struct};
+use serde_qs::{
+    Compound, Delimited, Out, Parts, Pipe, Result, Shape, Source, Space, Struct, WriteResult,
+};
 use std::alloc::Global;
 
 /// Two columns.
@@ -29,7 +31,7 @@ impl Compound for Columns {
         Ok(Columns { left, right })
     }
 
-    fn written(&self, out: Out) -> Result<Data> {
+    fn written(&self, out: Out) -> WriteResult {
         out.fields(NAMES, (&self.left, (&self.right, ())))
     }
 }

@@ -3,7 +3,9 @@
 ghost use Rattle.qs_callers.specs.declared.filter.TheConstants.{NAMES};
 ghost use Rattle.serde_qs.specs.PartTables.{made_of};
 
-use serde_qs::{Compound, Data, Optional, Out, Parts, Result, Shape, Source, Struct, fields};
+use serde_qs::{
+    Compound, Optional, Out, Parts, Result, Shape, Source, Struct, WriteResult, fields,
+};
 use std::alloc::Global;
 
 /// What is shown, and how much of it.
@@ -30,7 +32,7 @@ impl Compound for Filter {
         Ok(Filter { text, page, size })
     }
 
-    fn written(&self, out: Out) -> Result<Data> {
+    fn written(&self, out: Out) -> WriteResult {
         out.fields(NAMES, fields!(self; text, page?, size?))
     }
 }

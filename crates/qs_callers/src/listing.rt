@@ -4,7 +4,7 @@ ghost use Rattle.qs_callers.specs.declared.listing.TheConstants.{NAMES};
 ghost use Rattle.serde_qs.specs.PartTables.{made_of};
 
 use crate::sort::Sort;
-use serde_qs::{Compound, Data, Out, Parts, Result, Shape, Source, Struct, fields};
+use serde_qs::{Compound, Out, Parts, Result, Shape, Source, Struct, WriteResult, fields};
 use std::alloc::Global;
 
 /// A page of what was found.
@@ -37,7 +37,7 @@ impl Compound for Listing {
         })
     }
 
-    fn written(&self, out: Out) -> Result<Data> {
+    fn written(&self, out: Out) -> WriteResult {
         out.fields(NAMES, fields!(self; text, page, sort, is_short))
     }
 }

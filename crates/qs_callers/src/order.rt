@@ -5,7 +5,9 @@ ghost use Rattle.serde_qs.specs.PartTables.{made_of};
 
 use crate::address::Address;
 use serde_qs::web::QsForm;
-use serde_qs::{Compound, Config, ConfigExt, Data, Out, Parts, Result, Shape, Source, Struct};
+use serde_qs::{
+    Compound, Config, ConfigExt, Out, Parts, Result, Shape, Source, Struct, WriteResult,
+};
 use std::alloc::Global;
 
 /// An order, with the address that it goes to.
@@ -36,7 +38,7 @@ impl Compound for Order {
         })
     }
 
-    fn written(&self, out: Out) -> Result<Data> {
+    fn written(&self, out: Out) -> WriteResult {
         out.fields(NAMES, (&self.name, (&self.address, (&self.items, ()))))
     }
 }

@@ -6,8 +6,8 @@ ghost use Rattle.std.specs.Prelude.{[]};
 ghost use Rattle.qs_spec.specs.Data as d;
 
 use serde_qs::{
-    Compound, Data, Defaulted, Newtype, OrDefault, Out, Parts, Result, Shape, Source, Struct,
-    fields,
+    Compound, Defaulted, Newtype, OrDefault, Out, Parts, Result, Shape, Source, Struct,
+    WriteResult, fields,
 };
 use std::alloc::Global;
 
@@ -29,7 +29,7 @@ impl Compound for Page {
         Ok(Page(number))
     }
 
-    fn written(&self, out: Out) -> Result<Data> {
+    fn written(&self, out: Out) -> WriteResult {
         out.newtype(&self.0)
     }
 }
@@ -72,7 +72,7 @@ impl Compound for Paging {
         })
     }
 
-    fn written(&self, out: Out) -> Result<Data> {
+    fn written(&self, out: Out) -> WriteResult {
         out.fields(NAMES, fields!(self; text, page, is_short))
     }
 }

@@ -3,7 +3,7 @@
 ghost use Rattle.qs_callers.specs.declared.pair.TheConstants.{NAMES};
 ghost use Rattle.serde_qs.specs.PartTables.{made_of};
 
-use serde_qs::{Compound, Data, Out, Parts, Result, RoundTrip, Shape, Source, Struct};
+use serde_qs::{Compound, Out, Parts, Result, RoundTrip, Shape, Source, Struct, WriteResult};
 use std::alloc::Global;
 
 /// Two values.
@@ -29,7 +29,7 @@ impl<A: RoundTrip + Drop, B: RoundTrip + Drop> Compound for Pair<A, B> {
         Ok(Pair { a, b })
     }
 
-    fn written(&self, out: Out) -> Result<Data> {
+    fn written(&self, out: Out) -> WriteResult {
         out.fields(NAMES, (&self.a, (&self.b, ())))
     }
 }

@@ -7,7 +7,8 @@ ghost use Rattle.serde_qs.specs.PartTables.{made_of};
 
 use serde_qs::OneOf::{First, Later};
 use serde_qs::{
-    Compound, Data, Enum, Last, OneOf, Out, Parts, Result, RoundTrip, Shape, Source, StrictStruct,
+    Compound, Enum, Last, OneOf, Out, Parts, Result, RoundTrip, Shape, Source, StrictStruct,
+    WriteResult,
 };
 use std::alloc::Global;
 
@@ -34,7 +35,7 @@ impl<M: RoundTrip + Drop> Compound for Payment<M> {
         Ok(Payment { amount, method })
     }
 
-    fn written(&self, out: Out) -> Result<Data> {
+    fn written(&self, out: Out) -> WriteResult {
         out.fields(PAYMENT, (&self.amount, (&self.method, ())))
     }
 }
@@ -66,7 +67,7 @@ impl Compound for Method {
         })
     }
 
-    fn written(&self, out: Out) -> Result<Data> {
+    fn written(&self, out: Out) -> WriteResult {
         match self {
             Method::Cash => out.unit_variant("Cash"),
             Method::Card { number, year } => {

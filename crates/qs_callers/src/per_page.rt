@@ -7,7 +7,7 @@ ghost use Rattle.qs_data.specs.read.Errors.{IsCustomOrOutOfMemory};
 ghost use Rattle.serde_qs.specs.Tables.{table_of};
 ghost use Rattle.qs_callers.specs.PerPage.{is_allowed_count, per_page_back, per_page_in};
 
-use serde_qs::{Compound, Data, Deserialize, Error, Out, Result, Shape, Source, unexpected};
+use serde_qs::{Compound, Deserialize, Error, Out, Result, Shape, Source, WriteResult, unexpected};
 use std::alloc::Global;
 
 /// How many results are on a page, from 1 to 100.
@@ -43,7 +43,7 @@ impl Compound for PerPage {
         }
     }
 
-    fn written(&self, out: Out) -> Result<Data> {
+    fn written(&self, out: Out) -> WriteResult {
         out.value(&self.count)
     }
 }

@@ -6,7 +6,9 @@ ghost use Rattle.qs_callers.specs.declared.place.TheConstants.{NAMES};
 ghost use Rattle.serde_qs.specs.PartTables.{made_of};
 
 use serde_qs::OneOf::{First, Later};
-use serde_qs::{Compound, Data, Enum, Last, OneOf, Out, Parts, Result, Shape, Source, Tuple};
+use serde_qs::{
+    Compound, Enum, Last, OneOf, Out, Parts, Result, Shape, Source, Tuple, WriteResult,
+};
 use std::alloc::Global;
 
 /// Where something is.
@@ -37,7 +39,7 @@ impl Compound for Place {
         })
     }
 
-    fn written(&self, out: Out) -> Result<Data> {
+    fn written(&self, out: Out) -> WriteResult {
         match self {
             Place::Anywhere => out.unit_variant("Anywhere"),
             Place::At(east, north) => out.tuple_variant("At", (east, (north, ()))),

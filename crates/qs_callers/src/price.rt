@@ -3,7 +3,7 @@
 ghost use Rattle.serde_qs.specs.PartTables.{made_of};
 ghost use Rattle.std.specs.Prelude.{[]};
 
-use serde_qs::{Compound, Data, Newtype, Out, Parts, Result, Shape, Source};
+use serde_qs::{Compound, Newtype, Out, Parts, Result, Shape, Source, WriteResult};
 use std::alloc::Global;
 
 /// A price in cents, written as a plain number.
@@ -24,7 +24,7 @@ impl Compound for Price {
         Ok(Price(cents))
     }
 
-    fn written(&self, out: Out) -> Result<Data> {
+    fn written(&self, out: Out) -> WriteResult {
         out.newtype(&self.0)
     }
 }

@@ -11,8 +11,8 @@ ghost use Rattle.serde_qs.specs.WrittenText.{text_of};
 
 use crate::range::Range;
 use serde_qs::{
-    Comma, Compound, Data, Delimited, Deserialize, Optional, Out, Parts, Result, Serialize, Shape,
-    Source, Struct, fields, from_str, to_string,
+    Comma, Compound, Delimited, Deserialize, Optional, Out, Parts, Result, Serialize, Shape,
+    Source, Struct, WriteResult, fields, from_str, to_string,
 };
 use std::alloc::Global;
 use std::collections::BTreeMap;
@@ -53,7 +53,7 @@ impl Compound for Products {
         })
     }
 
-    fn written(&self, out: Out) -> Result<Data> {
+    fn written(&self, out: Out) -> WriteResult {
         out.fields(NAMES, fields!(self; filter, price?, shops, page?))
     }
 }

@@ -4,7 +4,7 @@ ghost use Rattle.qs_callers.specs.declared.profile.TheConstants.{NAMES};
 ghost use Rattle.serde_qs.specs.PartTables.{made_of};
 
 use crate::sort::Sort;
-use serde_qs::{Compound, Data, Out, Parts, Result, Shape, Source, Struct, fields};
+use serde_qs::{Compound, Out, Parts, Result, Shape, Source, Struct, WriteResult, fields};
 use std::alloc::Global;
 
 /// What a user has chosen.
@@ -54,7 +54,7 @@ impl Compound for Profile {
         })
     }
 
-    fn written(&self, out: Out) -> Result<Data> {
+    fn written(&self, out: Out) -> WriteResult {
         out.fields(
             NAMES,
             fields!(self; name, age, city, zip, langs, sort, size, dark, news, visits),

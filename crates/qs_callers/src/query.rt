@@ -3,7 +3,7 @@
 ghost use Rattle.qs_callers.specs.declared.query.TheConstants.{NAMES};
 ghost use Rattle.serde_qs.specs.PartTables.{made_of};
 
-use serde_qs::{Compound, Data, Out, Parts, Result, Shape, Source, Struct, fields};
+use serde_qs::{Compound, Out, Parts, Result, Shape, Source, Struct, WriteResult, fields};
 use std::alloc::Global;
 
 /// Whom a search asks for.
@@ -34,7 +34,7 @@ impl Compound for Query {
         })
     }
 
-    fn written(&self, out: Out) -> Result<Data> {
+    fn written(&self, out: Out) -> WriteResult {
         out.fields(NAMES, fields!(self; name, age, occupation))
     }
 }

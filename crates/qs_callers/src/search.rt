@@ -3,7 +3,7 @@
 ghost use Rattle.qs_callers.specs.declared.search.TheConstants.{NAMES};
 ghost use Rattle.serde_qs.specs.PartTables.{made_of};
 
-use serde_qs::{Compound, Data, Out, Parts, Result, Shape, Source, Struct, fields};
+use serde_qs::{Compound, Out, Parts, Result, Shape, Source, Struct, WriteResult, fields};
 use std::alloc::Global;
 use std::collections::BTreeMap;
 
@@ -39,7 +39,7 @@ impl Compound for Search {
         })
     }
 
-    fn written(&self, out: Out) -> Result<Data> {
+    fn written(&self, out: Out) -> WriteResult {
         out.fields(NAMES, fields!(self; text, page, ranges, labels))
     }
 }

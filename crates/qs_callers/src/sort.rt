@@ -7,7 +7,8 @@ ghost use Rattle.serde_qs.specs.PartTables.{made_of};
 
 use serde_qs::OneOf::{First, Later};
 use serde_qs::{
-    Compound, Data, Enum, Last, Newtype, OneOf, Out, Parts, Result, Shape, Source, Struct, fields,
+    Compound, Enum, Last, Newtype, OneOf, Out, Parts, Result, Shape, Source, Struct, WriteResult,
+    fields,
 };
 use std::alloc::Global;
 
@@ -45,7 +46,7 @@ impl Compound for Sort {
         })
     }
 
-    fn written(&self, out: Out) -> Result<Data> {
+    fn written(&self, out: Out) -> WriteResult {
         match self {
             Sort::Relevance => out.unit_variant("Relevance"),
             Sort::By(name) => out.newtype_variant("By", name),

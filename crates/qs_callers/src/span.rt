@@ -3,7 +3,7 @@
 ghost use Rattle.serde_qs.specs.PartTables.{made_of};
 ghost use Rattle.std.specs.Prelude.{[]};
 
-use serde_qs::{Compound, Data, Out, Parts, Result, Shape, Source, Tuple};
+use serde_qs::{Compound, Out, Parts, Result, Shape, Source, Tuple, WriteResult};
 use std::alloc::Global;
 
 /// From the first to the last of some lines.
@@ -24,7 +24,7 @@ impl Compound for Span {
         Ok(Span(first, last))
     }
 
-    fn written(&self, out: Out) -> Result<Data> {
+    fn written(&self, out: Out) -> WriteResult {
         out.items((&self.0, (&self.1, ())))
     }
 }

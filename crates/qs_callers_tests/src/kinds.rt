@@ -11,8 +11,8 @@ use crate::values::{list, text};
 use qs_callers::Pair;
 use serde_qs::OneOf::{First, Later};
 use serde_qs::{
-    Compound, Data, Enum, Last, Newtype, OneOf, Out, Parts, Result, Shape, Source, Struct, Tuple,
-    fields,
+    Compound, Enum, Last, Newtype, OneOf, Out, Parts, Result, Shape, Source, Struct, Tuple,
+    WriteResult, fields,
 };
 use std::alloc::Global;
 
@@ -51,7 +51,7 @@ impl Compound for Message {
         })
     }
 
-    fn written(&self, out: Out) -> Result<Data> {
+    fn written(&self, out: Out) -> WriteResult {
         match self {
             Message::Unit => out.unit_variant("Unit"),
             Message::Newtype(text) => out.newtype_variant("Newtype", text),
@@ -85,7 +85,7 @@ impl Compound for Loud {
         Ok(Loud { one, two, nested })
     }
 
-    fn written(&self, out: Out) -> Result<Data> {
+    fn written(&self, out: Out) -> WriteResult {
         out.fields(LOUD_NAMES, (&self.one, (&self.two, (&self.nested, ()))))
     }
 }
@@ -112,7 +112,7 @@ impl Compound for Person {
         Ok(Person { name })
     }
 
-    fn written(&self, out: Out) -> Result<Data> {
+    fn written(&self, out: Out) -> WriteResult {
         out.fields(PERSON_NAMES, (&self.name, ()))
     }
 }

@@ -7,7 +7,7 @@ use crate::claims::is_written_and_read;
 use crate::round_trips::pair_comes_back;
 use crate::values::{list, text};
 use qs_callers::Pair;
-use serde_qs::{Compound, Data, Out, Parts, Result, RoundTrip, Shape, Source, Tuple};
+use serde_qs::{Compound, Out, Parts, Result, RoundTrip, Shape, Source, Tuple, WriteResult};
 use std::alloc::Global;
 
 /// Two values.
@@ -28,7 +28,7 @@ impl<A: RoundTrip + Drop, B: RoundTrip + Drop> Compound for Two<A, B> {
         Ok(Two(a, b))
     }
 
-    fn written(&self, out: Out) -> Result<Data> {
+    fn written(&self, out: Out) -> WriteResult {
         out.items((&self.0, (&self.1, ())))
     }
 }
@@ -51,7 +51,7 @@ impl<A: RoundTrip + Drop, B: RoundTrip + Drop, C: RoundTrip + Drop> Compound for
         Ok(Three(a, b, c))
     }
 
-    fn written(&self, out: Out) -> Result<Data> {
+    fn written(&self, out: Out) -> WriteResult {
         out.items((&self.0, (&self.1, (&self.2, ()))))
     }
 }

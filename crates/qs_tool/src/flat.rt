@@ -5,7 +5,8 @@ ghost use Rattle.serde_qs.specs.PartTables.{made_of};
 
 use crate::strict::Strict;
 use serde_qs::{
-    Compound, Data, Optional, Out, Parts, Result, Shape, Source, StrictStruct, Struct, fields,
+    Compound, Optional, Out, Parts, Result, Shape, Source, StrictStruct, Struct, WriteResult,
+    fields,
 };
 use std::alloc::Global;
 
@@ -42,7 +43,7 @@ impl Compound for Flat {
         })
     }
 
-    fn written(&self, out: Out) -> Result<Data> {
+    fn written(&self, out: Out) -> WriteResult {
         out.fields(NAMES, fields!(self; name, age, occupation, active?, note))
     }
 }
@@ -66,7 +67,7 @@ impl Compound for Strict<Flat> {
         }))
     }
 
-    fn written(&self, out: Out) -> Result<Data> {
+    fn written(&self, out: Out) -> WriteResult {
         self.0.written(out)
     }
 }

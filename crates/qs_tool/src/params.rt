@@ -5,7 +5,8 @@ ghost use Rattle.serde_qs.specs.PartTables.{made_of};
 
 use crate::strict::Strict;
 use serde_qs::{
-    Compound, Data, Out, Parts, Result, RoundTrip, Shape, Source, StrictStruct, Struct, fields,
+    Compound, Out, Parts, Result, RoundTrip, Shape, Source, StrictStruct, Struct, WriteResult,
+    fields,
 };
 use std::alloc::Global;
 
@@ -38,7 +39,7 @@ impl Compound for Address {
         })
     }
 
-    fn written(&self, out: Out) -> Result<Data> {
+    fn written(&self, out: Out) -> WriteResult {
         out.fields(ADDRESS, fields!(self; city, street, postcode))
     }
 }
@@ -60,7 +61,7 @@ impl Compound for Strict<Address> {
         }))
     }
 
-    fn written(&self, out: Out) -> Result<Data> {
+    fn written(&self, out: Out) -> WriteResult {
         self.0.written(out)
     }
 }
@@ -98,7 +99,7 @@ impl<A: RoundTrip + Drop> Compound for Params<A> {
         })
     }
 
-    fn written(&self, out: Out) -> Result<Data> {
+    fn written(&self, out: Out) -> WriteResult {
         out.fields(PARAMS, fields!(self; id, name, phone, address, user_ids))
     }
 }
@@ -122,7 +123,7 @@ impl<A: RoundTrip + Drop> Compound for Strict<Params<A>> {
         }))
     }
 
-    fn written(&self, out: Out) -> Result<Data> {
+    fn written(&self, out: Out) -> WriteResult {
         self.0.written(out)
     }
 }

@@ -1,18 +1,34 @@
 -- Where the parts of a value go.
-use Rattle.std.specs.Prelude.{⊤}
-use Rattle.qs_data.specs.write.Parts.{Part, WritesPart}
+use Rattle.std.specs.Prelude.{◌≡◌, Result, Ok, Err, Option, Some, None}
+use Rattle.qs_spec.specs.Data as d
+use Rattle.qs_data.specs.data.Views.{data_of}
+use Rattle.qs_data.specs.declared.data.data.Data.{Data}
+use Rattle.qs_data.specs.declared.write.stop.Stop.{Stop}
+use Rattle.qs_data.specs.declared.write.stop.Stop.TheVariants as stop
 use Rattle.qs_data.specs.declared.write.writer.Writer.{Writer}
+use Rattle.qs_data.specs.write.Parts.{WritesPart, data_part}
 use Rattle.serde_qs.specs.declared.compound.out.Exit.{Exit}
 use Rattle.serde_qs.specs.declared.compound.out.Exit.TheVariants as exit
 
--- it is a writer to which the part was written, with what that returned
-abbrev pub Wrote : Writer → Part → Exit → Type 0
-Wrote old part (exit.Data alloc) = ⊥
-Wrote old part exit.Nothing = ⊥
-Wrote old part (exit.Writer new result) = WritesPart result old new part
+-- on Ok these data are in the place; the one error is that an allocation failed
+abbrev pub Keeps : Option Data → Result (Unit {0}) Stop → d.Data → Type 0
+Keeps (Some made) (Ok t) x = data_of made ≡ x
+Keeps None (Ok t) x = ⊥
+Keeps place (Err e) x = e ≡ stop.OutOfMemory
 
--- where the parts go to a writer, it wrote them
-abbrev pub PartsWritten : Exit → Exit → Part → Type 0
-PartsWritten (exit.Data alloc) new part = ⊤
-PartsWritten exit.Nothing new part = ⊤
-PartsWritten (exit.Writer writer result) new part = Wrote writer part new
+-- it goes into data, and keeps these
+abbrev pub Makes : Exit → Result (Unit {0}) Stop → d.Data → Type 0
+Makes (exit.Data alloc place) result x = Keeps place result x
+Makes _ result x = ⊥
+
+-- it is a writer to which the entries of these data were written, with this result
+abbrev pub Wrote : Writer → Exit → Result (Unit {0}) Stop → d.Data → Type 0
+Wrote old (exit.Writer new) result x = WritesPart result old new (data_part x)
+Wrote old _ result x = ⊥
+
+-- where the parts go into data, these are made; where they go to a writer, they are written, and the result is that of writing them; where they
+-- go nowhere, there is no error
+abbrev pub Takes : Exit → Exit → Result (Unit {0}) Stop → d.Data → Type 0
+Takes (exit.Data alloc before) new result x = Makes new result x
+Takes (exit.Writer old) new result x = Wrote old new result x
+Takes exit.Nothing new result x = result ≡ Ok tt

@@ -19,11 +19,9 @@ mod written;
 
 ghost use Rattle.std.specs.Prelude.{◌≡◌, true, IfOk, refl};
 ghost use Rattle.qs_tree.specs.Error.{OnlyOutOfMemory};
-ghost use Rattle.qs_data.specs.data.Views.{data_of};
 ghost use Rattle.qs_data.specs.shape.Views.{shape_of};
-ghost use Rattle.qs_data.specs.write.Parts.{data_part};
 ghost use Rattle.serde_qs.specs.Compound.{data_by};
-ghost use Rattle.serde_qs.specs.Exits.{PartsWritten};
+ghost use Rattle.serde_qs.specs.Exits.{Takes};
 ghost use Rattle.serde_qs.specs.Tables.{Table, closed};
 ghost use Rattle.qs_spec.specs.Shape.{is_distinct};
 ghost use Rattle.serde_qs.specs.Sources.{ReadsSource};
@@ -38,7 +36,7 @@ pub use optional::Optional;
 pub use out::{Exit, Out};
 pub use parts::{Enum, Parts};
 pub use payloads::{Newtype, Payload, Struct, Tuple};
-use qs_data::{Data, Reader, Result, Shape, Stop, WriteResult, Writer};
+use qs_data::{Data, Reader, Result, Shape, WriteResult, Writer};
 use qs_tree::ParsedValue;
 pub use references::{FieldReferences, ItemReferences, ListedReferences, References, SkipNone};
 pub use source::Source;
@@ -71,7 +69,7 @@ pub use written::{
 ///         Ok(Point { x, y })
 ///     }
 ///
-///     fn written(&self, out: Out) -> Result<Data> {
+///     fn written(&self, out: Out) -> WriteResult {
 ///         out.fields(NAMES, (&self.x, (&self.y, ())))
 ///     }
 /// }
@@ -105,18 +103,16 @@ pub trait Compound: Sized {
         requires { is_distinct table.form ≡ true }
         ensures exact { ReadsSource table.value table.form table.meaning source.entry result };
 
-    /// Passes the parts to `out`, and returns their data under their names. The one error is
-    /// [`OutOfMemory`](qs_data::Error::OutOfMemory). Where they go to a writer, they are written; where they go nowhere, it shows that they are valid.
-    /// It allocates, and takes time, as the method of [`Out`] does that it calls.
+    /// Passes the parts to `out`, under their names. An error is returned only where something failed: an allocation
+    /// ([`OutOfMemory`](qs_data::Stop::OutOfMemory)), or the writing of the parts. Into data, they are made; to a writer, they are written; where the
+    /// parts go nowhere, it shows that they are valid. It allocates, and takes time, as the method of [`Out`] does that it calls.
     ///
     /// ```
     /// out.fields(NAMES, (&self.x, (&self.y, ())))
     /// ```
-    fn written(&self, out: Out) -> Result<Data>
-        ensures exact { IfOk result (λ d. data_of d ≡ table.datum self.now) }
-        ensures errors { OnlyOutOfMemory result }
-        ensures fits { out.old ≡ Nothing → table.is_valid self.now ≡ true }
-        ensures written { PartsWritten out.old out.new (data_part (table.datum self.now)) };
+    fn written(&self, out: Out) -> WriteResult
+        ensures taken { Takes out.old out.new result (table.datum self.now) }
+        ensures fits { out.old ≡ Nothing → table.is_valid self.now ≡ true };
 }
 
 impl<C: Compound> Serialize for C {
@@ -124,20 +120,16 @@ impl<C: Compound> Serialize for C {
 
     #[tactic(auto, unfolding(crate::specs::Compound::data_by))]
     fn to_data(&self, alloc: Global) -> Result<Data> {
-        self.written(&mut Exit::Data(alloc))
+        let mut exit = Exit::Data(alloc, None);
+        let taken = self.written(&mut exit);
+        exit.into_data(taken)
     }
 
     #[tactic(auto, unfolding(crate::specs::Compound::data_by))]
     fn write_to(&self, writer: &mut Writer) -> WriteResult {
-        let mut exit = Exit::Writer(writer.take(), Err(Stop::OutOfMemory));
-        let _nothing = self.written(&mut exit);
-        match exit {
-            Exit::Writer(whole, result) => {
-                *writer = whole;
-                result
-            }
-            Exit::Data(_) | Exit::Nothing => Err(Stop::OutOfMemory),
-        }
+        let mut exit = Exit::Writer(writer.take());
+        let taken = self.written(&mut exit);
+        exit.give_back(writer, taken)
     }
 }
 

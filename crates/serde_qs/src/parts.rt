@@ -1,22 +1,35 @@
 //! The parts of a value that writes itself.
 
-ghost use Rattle.std.specs.Prelude.{◌≡◌, IfOk};
+ghost use Rattle.std.specs.Prelude.{◌≡◌, IfOk, MatchResult, Ok};
 ghost use Rattle.qs_spec.specs.Data.{Data as Datum};
+ghost use Rattle.qs_tree.specs.Error.{OnlyOutOfMemory};
 ghost use Rattle.qs_data.specs.data.Views.{data_of};
+ghost use Rattle.qs_data.specs.declared.write.stop.Stop.TheVariants.{OutOfMemory};
 ghost use Rattle.qs_data.specs.write.Parts.{WritesPart, data_part, element, under};
 ghost use Rattle.qs_data.specs.write.Scalars.{scalar_text};
 
 use crate::traits::Serialize;
-use qs_data::{ArrayFormat, Data, Result, Scalar, Stop, WriteResult, Writer};
+use qs_data::{ArrayFormat, Data, Error, Result, Scalar, Stop, WriteResult, Writer};
+
+/// Returns data that were made, or that an allocation failed, as writing returns it.
+pub(crate) fn data_made(made: Result<Data>) -> Result<Data, Stop>
+    requires { OnlyOutOfMemory made }
+    ensures { MatchResult result (λ d. made ≡ Ok d) (λ stop. stop ≡ OutOfMemory) }
+{
+    match made {
+        Ok(datum) => Ok(datum),
+        Err(Error::OutOfMemory) => Err(Stop::OutOfMemory),
+        Err(_) => unreachable!(),
+    }
+}
 
 /// Writes data, if they were made.
 pub(crate) fn write_made(writer: &mut Writer, made: Result<Data>) -> WriteResult
+    requires { OnlyOutOfMemory made }
     ensures { (x : Datum) → IfOk made (λ d. data_of d ≡ x) → WritesPart result writer.old writer.new (data_part x) }
 {
-    match made {
-        Ok(datum) => writer.data(&datum),
-        Err(_) => Err(Stop::OutOfMemory),
-    }
+    let datum = data_made(made)?;
+    writer.data(&datum)
 }
 
 /// Writes a value under one more segment.

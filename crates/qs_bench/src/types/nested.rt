@@ -3,7 +3,7 @@
 ghost use Rattle.qs_bench.specs.declared.types.nested.TheConstants.{A, B, C, D, E};
 ghost use Rattle.serde_qs.specs.PartTables.{made_of};
 
-use serde_qs::{Compound, Data, Out, Parts, Result, Shape, Source, Struct};
+use serde_qs::{Compound, Out, Parts, Result, Shape, Source, Struct, WriteResult};
 use std::alloc::Global;
 
 /// A text under `a`, `b`, `c`, `d` and `e`.
@@ -26,7 +26,7 @@ impl Compound for Nested {
         Ok(Nested { a })
     }
 
-    fn written(&self, out: Out) -> Result<Data> {
+    fn written(&self, out: Out) -> WriteResult {
         out.fields(A, (&self.a, ()))
     }
 }
@@ -51,7 +51,7 @@ impl Compound for Second {
         Ok(Second { b })
     }
 
-    fn written(&self, out: Out) -> Result<Data> {
+    fn written(&self, out: Out) -> WriteResult {
         out.fields(B, (&self.b, ()))
     }
 }
@@ -76,7 +76,7 @@ impl Compound for Third {
         Ok(Third { c })
     }
 
-    fn written(&self, out: Out) -> Result<Data> {
+    fn written(&self, out: Out) -> WriteResult {
         out.fields(C, (&self.c, ()))
     }
 }
@@ -101,7 +101,7 @@ impl Compound for Fourth {
         Ok(Fourth { d })
     }
 
-    fn written(&self, out: Out) -> Result<Data> {
+    fn written(&self, out: Out) -> WriteResult {
         out.fields(D, (&self.d, ()))
     }
 }
@@ -126,7 +126,7 @@ impl Compound for Fifth {
         Ok(Fifth { e })
     }
 
-    fn written(&self, out: Out) -> Result<Data> {
+    fn written(&self, out: Out) -> WriteResult {
         out.fields(E, (&self.e, ()))
     }
 }

@@ -3,7 +3,7 @@
 ghost use Rattle.qs_bench.specs.declared.types.person.TheConstants.{IDS, PERSON};
 ghost use Rattle.serde_qs.specs.PartTables.{made_of};
 
-use serde_qs::{Compound, Data, Out, Parts, Result, Shape, Source, Struct};
+use serde_qs::{Compound, Out, Parts, Result, Shape, Source, Struct, WriteResult};
 use std::alloc::Global;
 
 /// Somebody: three fields.
@@ -34,7 +34,7 @@ impl Compound for Person {
         })
     }
 
-    fn written(&self, out: Out) -> Result<Data> {
+    fn written(&self, out: Out) -> WriteResult {
         out.fields(PERSON, (&self.name, (&self.age, (&self.occupation, ()))))
     }
 }
@@ -61,7 +61,7 @@ impl Compound for Ids {
         Ok(Ids { ids })
     }
 
-    fn written(&self, out: Out) -> Result<Data> {
+    fn written(&self, out: Out) -> WriteResult {
         out.fields(IDS, (&self.ids, ()))
     }
 }

@@ -3,7 +3,7 @@
 ghost use Rattle.qs_bench.specs.declared.types.record.TheConstants.{ADDRESS, RECORD};
 ghost use Rattle.serde_qs.specs.PartTables.{made_of};
 
-use serde_qs::{Compound, Data, Out, Parts, Result, Shape, Source, Struct};
+use serde_qs::{Compound, Out, Parts, Result, Shape, Source, Struct, WriteResult};
 use std::alloc::Global;
 
 /// Somebody's address.
@@ -34,7 +34,7 @@ impl Compound for Address {
         })
     }
 
-    fn written(&self, out: Out) -> Result<Data> {
+    fn written(&self, out: Out) -> WriteResult {
         out.fields(ADDRESS, (&self.city, (&self.street, (&self.postcode, ()))))
     }
 }
@@ -73,7 +73,7 @@ impl Compound for Record {
         })
     }
 
-    fn written(&self, out: Out) -> Result<Data> {
+    fn written(&self, out: Out) -> WriteResult {
         out.fields(
             RECORD,
             (

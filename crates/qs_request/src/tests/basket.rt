@@ -3,7 +3,7 @@
 ghost use Rattle.qs_request.specs.declared.tests.basket.TheConstants.{NAMES};
 ghost use Rattle.serde_qs.specs.PartTables.{made_of};
 
-use serde_qs::{Compound, Data, Out, Parts, Result, Shape, Source, Struct};
+use serde_qs::{Compound, Out, Parts, Result, Shape, Source, Struct, WriteResult};
 use std::alloc::Global;
 
 /// A number and a list of numbers.
@@ -29,7 +29,7 @@ impl Compound for Basket {
         Ok(Basket { foo, bars })
     }
 
-    fn written(&self, out: Out) -> Result<Data> {
+    fn written(&self, out: Out) -> WriteResult {
         out.fields(NAMES, (&self.foo, (&self.bars, ())))
     }
 }

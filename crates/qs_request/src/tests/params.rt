@@ -3,7 +3,7 @@
 ghost use Rattle.qs_request.specs.declared.tests.params.TheConstants.{NAMES};
 ghost use Rattle.serde_qs.specs.PartTables.{made_of};
 
-use serde_qs::{Compound, Data, Out, Parts, Result, Shape, Source, Struct, fields};
+use serde_qs::{Compound, Out, Parts, Result, Shape, Source, Struct, WriteResult, fields};
 use std::alloc::Global;
 
 /// Numbers, a list of them, and a boolean.
@@ -40,7 +40,7 @@ impl Compound for Params {
         })
     }
 
-    fn written(&self, out: Out) -> Result<Data> {
+    fn written(&self, out: Out) -> WriteResult {
         out.fields(NAMES, fields!(self; foo, bars, limit, offset, remaining))
     }
 }

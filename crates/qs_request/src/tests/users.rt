@@ -3,7 +3,7 @@
 ghost use Rattle.qs_request.specs.declared.tests.users.TheConstants.{USERS_NAMES, NOTE_NAMES};
 ghost use Rattle.serde_qs.specs.PartTables.{made_of};
 
-use serde_qs::{Compound, Data, Out, Parts, Result, Shape, Source, Struct};
+use serde_qs::{Compound, Out, Parts, Result, Shape, Source, Struct, WriteResult};
 use std::alloc::Global;
 
 /// A list of numbers.
@@ -28,7 +28,7 @@ impl Compound for Users {
         Ok(Users { id })
     }
 
-    fn written(&self, out: Out) -> Result<Data> {
+    fn written(&self, out: Out) -> WriteResult {
         out.fields(USERS_NAMES, (&self.id, ()))
     }
 }
@@ -55,7 +55,7 @@ impl Compound for Note {
         Ok(Note { note })
     }
 
-    fn written(&self, out: Out) -> Result<Data> {
+    fn written(&self, out: Out) -> WriteResult {
         out.fields(NOTE_NAMES, (&self.note, ()))
     }
 }

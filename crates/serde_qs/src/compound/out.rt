@@ -5,8 +5,9 @@ ghost use Rattle.qs_spec.specs.Data.{members_of, values_of};
 ghost use Rattle.qs_spec.specs.Data as d;
 ghost use Rattle.qs_tree.specs.Error.{OnlyOutOfMemory};
 ghost use Rattle.qs_data.specs.data.Views.{data_of};
-ghost use Rattle.qs_data.specs.write.Parts.{data_part};
-ghost use Rattle.serde_qs.specs.Exits.{PartsWritten};
+ghost use Rattle.qs_data.specs.declared.write.writer.Writer.{Writer};
+ghost use Rattle.qs_data.specs.write.Parts.{WritesPart, data_part};
+ghost use Rattle.serde_qs.specs.Exits.{Keeps, Makes, Takes, Wrote};
 ghost use Rattle.serde_qs.specs.Records.{texts};
 ghost use Rattle.serde_qs.specs.declared.compound.out.Exit.TheVariants.{Nothing};
 
@@ -16,15 +17,16 @@ use super::written::{
     newtype_struct, newtype_variant, struct_of, struct_variant, tuple_struct, tuple_variant,
     unit_variant,
 };
+use crate::parts::data_made;
 use crate::traits::RoundTrip;
-use qs_data::{Data, Error, Result, Scalar, WriteResult, Writer};
+use qs_data::{Data, Error, Result, Scalar, Stop, WriteResult, Writer};
 use std::alloc::Global;
 
 /// Where the parts of a value go: into its data, to a writer, or nowhere. It is passed to [`Compound::written`](crate::Compound::written),
 /// which passes the parts to one of its methods.
 ///
-/// The one error of each method is [`OutOfMemory`](Error::OutOfMemory). With [`Exit::Writer`] and [`Exit::Nothing`] no data are made, so it is
-/// returned in any case; what the writing of the parts returned is beside the writer.
+/// Each method returns an error only where something failed. Into data it is [`OutOfMemory`](qs_data::Stop::OutOfMemory), where an allocation
+/// failed; to a writer, what the writing of the parts returned, whose errors are those of [`Writer::data`]; with [`Exit::Nothing`] there is none.
 ///
 /// It allocates for the data and their names, or for the text of the writer, and takes time with the value. With [`Exit::Nothing`] it doesn't
 /// allocate.
@@ -37,20 +39,21 @@ pub type Out<'a> = &'a mut Exit;
 /// What an [`Out`] leads to.
 ///
 /// ```
-/// let datum = point.written(&mut Exit::Data(alloc))?;
+/// let mut exit = Exit::Data(alloc, None);
+/// point.written(&mut exit)?; // then it is Exit::Data(alloc, Some(..))
 /// ```
 #[derive(Drop)]
 pub enum Exit {
-    /// Into data that are allocated here.
-    Data(Global),
-    /// To a writer. Beside it is what the writing of the parts returned.
-    Writer(Writer, WriteResult),
+    /// Into data that are allocated here. Beside the allocator are the data, once they were made.
+    Data(Global, Option<Data>),
+    /// To a writer.
+    Writer(Writer),
     /// Nowhere: what is wanted is that they are valid.
     Nothing,
 }
 
 impl Exit {
-    /// Takes the fields of a struct, under their names, and returns the data of the struct. Errors and allocation are those of [`Out`].
+    /// Takes the fields of a struct, under their names. Errors and allocation are those of [`Out`].
     ///
     /// A field for which no name is left has the empty name.
     ///
@@ -58,174 +61,135 @@ impl Exit {
     /// out.fields(NAMES, (&self.x, (&self.y, ())))
     /// ```
     #[tactic(auto, unfolding(qs_spec::specs::Entry::entries_at))]
-    pub fn fields<R: FieldReferences + Drop>(&mut self, names: &[&str], fields: R) -> Result<Data>
-        ensures exact { IfOk result (λ x. data_of x ≡ d.struct (members_of (R.own_members (texts names.now) fields))) }
-        ensures errors { OnlyOutOfMemory result }
-        ensures written { PartsWritten self.old self.new (data_part (d.struct (members_of (R.own_members (texts names.now) fields)))) }
+    pub fn fields<R: FieldReferences + Drop>(&mut self, names: &[&str], fields: R) -> WriteResult
+        ensures taken { Takes self.old self.new result (d.struct (members_of (R.own_members (texts names.now) fields))) }
         ensures fits { self.old ≡ Nothing → R.fit fields ≡ true }
     {
         match self {
-            Exit::Data(alloc) => struct_of(*alloc, names, fields),
-            Exit::Writer(writer, result) => {
-                *result = fields.write_members(names, writer);
-                Err(Error::OutOfMemory)
-            }
+            Exit::Data(alloc, place) => keep(place, struct_of(*alloc, names, fields)),
+            Exit::Writer(writer) => fields.write_members(names, writer),
             Exit::Nothing => {
                 fields.fit();
-                Err(Error::OutOfMemory)
+                Ok(())
             }
         }
     }
 
-    /// Takes a value that stands for the whole, as the number of a type that allows only some numbers, and returns its data. Errors and
-    /// allocation are those of [`Out`].
+    /// Takes a value that stands for the whole, as the number of a type that allows only some numbers. Errors and allocation are
+    /// those of [`Out`].
     ///
     /// ```
     /// out.value(&self.years)
     /// ```
-    pub fn value<T: RoundTrip>(&mut self, value: &T) -> Result<Data>
-        ensures exact { IfOk result (λ x. data_of x ≡ T.table.datum value.now) }
-        ensures errors { OnlyOutOfMemory result }
-        ensures written { PartsWritten self.old self.new (data_part (T.table.datum value.now)) }
+    pub fn value<T: RoundTrip>(&mut self, value: &T) -> WriteResult
+        ensures taken { Takes self.old self.new result (T.table.datum value.now) }
         ensures fits { self.old ≡ Nothing → T.table.is_valid value.now ≡ true }
     {
         match self {
-            Exit::Data(alloc) => own::datum_of(*alloc, value),
-            Exit::Writer(writer, result) => {
-                *result = own::write_to(value, writer);
-                Err(Error::OutOfMemory)
-            }
+            Exit::Data(alloc, place) => keep(place, own::datum_of(*alloc, value)),
+            Exit::Writer(writer) => own::write_to(value, writer),
             Exit::Nothing => {
                 own::fit(value);
-                Err(Error::OutOfMemory)
+                Ok(())
             }
         }
     }
 
-    /// Takes the items of a tuple, and returns the data of the tuple. Errors and allocation are those of [`Out`].
+    /// Takes the items of a tuple. Errors and allocation are those of [`Out`].
     ///
     /// ```
     /// out.items((&self.0, (&self.1, ())))
     /// ```
-    pub fn items<R: ListedReferences + Drop>(&mut self, items: R) -> Result<Data>
-        ensures exact { IfOk result (λ x. data_of x ≡ d.tuple (values_of (R.own_data items))) }
-        ensures errors { OnlyOutOfMemory result }
-        ensures written { PartsWritten self.old self.new (data_part (d.tuple (values_of (R.own_data items)))) }
+    pub fn items<R: ListedReferences + Drop>(&mut self, items: R) -> WriteResult
+        ensures taken { Takes self.old self.new result (d.tuple (values_of (R.own_data items))) }
         ensures fits { self.old ≡ Nothing → R.fit items ≡ true }
     {
         match self {
-            Exit::Data(alloc) => tuple_struct(*alloc, items),
-            Exit::Writer(writer, result) => {
-                *result = own::write_tuple(writer, items);
-                Err(Error::OutOfMemory)
-            }
+            Exit::Data(alloc, place) => keep(place, tuple_struct(*alloc, items)),
+            Exit::Writer(writer) => own::write_tuple(writer, items),
             Exit::Nothing => {
                 items.fit();
-                Err(Error::OutOfMemory)
+                Ok(())
             }
         }
     }
 
-    /// Takes the value of a newtype, and returns the data of the newtype. Errors and allocation are those of [`Out`].
+    /// Takes the value of a newtype. Errors and allocation are those of [`Out`].
     ///
     /// ```
     /// out.newtype(&self.0)
     /// ```
     #[tactic(auto, unfolding(qs_spec::specs::Entry::entries_at))]
-    pub fn newtype<T: RoundTrip>(&mut self, value: &T) -> Result<Data>
-        ensures exact { IfOk result (λ x. data_of x ≡ d.newtype (T.table.datum value.now)) }
-        ensures errors { OnlyOutOfMemory result }
-        ensures written { PartsWritten self.old self.new (data_part (d.newtype (T.table.datum value.now))) }
+    pub fn newtype<T: RoundTrip>(&mut self, value: &T) -> WriteResult
+        ensures taken { Takes self.old self.new result (d.newtype (T.table.datum value.now)) }
         ensures fits { self.old ≡ Nothing → T.table.is_valid value.now ≡ true }
     {
         match self {
-            Exit::Data(alloc) => newtype_struct(*alloc, value),
-            Exit::Writer(writer, result) => {
-                *result = own::write_to(value, writer);
-                Err(Error::OutOfMemory)
-            }
+            Exit::Data(alloc, place) => keep(place, newtype_struct(*alloc, value)),
+            Exit::Writer(writer) => own::write_to(value, writer),
             Exit::Nothing => {
                 own::fit(value);
-                Err(Error::OutOfMemory)
+                Ok(())
             }
         }
     }
 
-    /// Takes the name of a variant that holds nothing, and returns its data. Errors and allocation are those of [`Out`].
+    /// Takes the name of a variant that holds nothing. Errors and allocation are those of [`Out`].
     ///
     /// ```
     /// Sort::Relevance => out.unit_variant("Relevance"),
     /// ```
     #[tactic(auto, unfolding(qs_spec::specs::Entry::entries_at))]
-    pub fn unit_variant(&mut self, name: &str) -> Result<Data>
-        ensures exact { IfOk result (λ x. data_of x ≡ d.unit_variant name.now) }
-        ensures errors { OnlyOutOfMemory result }
-        ensures written { PartsWritten self.old self.new (data_part (d.unit_variant name.now)) }
+    pub fn unit_variant(&mut self, name: &str) -> WriteResult
+        ensures taken { Takes self.old self.new result (d.unit_variant name.now) }
     {
         match self {
-            Exit::Data(alloc) => unit_variant(*alloc, name),
-            Exit::Writer(writer, result) => {
-                *result = writer.scalar(Scalar::Bytes(name.as_bytes()));
-                Err(Error::OutOfMemory)
-            }
-            Exit::Nothing => Err(Error::OutOfMemory),
+            Exit::Data(alloc, place) => keep(place, unit_variant(*alloc, name)),
+            Exit::Writer(writer) => writer.scalar(Scalar::Bytes(name.as_bytes())),
+            Exit::Nothing => Ok(()),
         }
     }
 
-    /// Takes the name of a variant and the one value that it holds, and returns its data. Errors and allocation are those of [`Out`].
+    /// Takes the name of a variant and the one value that it holds. Errors and allocation are those of [`Out`].
     ///
     /// ```
     /// Sort::By(field) => out.newtype_variant("By", field),
     /// ```
     #[tactic(auto, unfolding(qs_spec::specs::Entry::entries_at))]
-    pub fn newtype_variant<T: RoundTrip>(&mut self, name: &str, value: &T) -> Result<Data>
-        ensures exact { IfOk result (λ x. data_of x ≡ d.newtype_variant name.now (T.table.datum value.now)) }
-        ensures errors { OnlyOutOfMemory result }
-        ensures written { PartsWritten self.old self.new (data_part (d.newtype_variant name.now (T.table.datum value.now))) }
+    pub fn newtype_variant<T: RoundTrip>(&mut self, name: &str, value: &T) -> WriteResult
+        ensures taken { Takes self.old self.new result (d.newtype_variant name.now (T.table.datum value.now)) }
         ensures fits { self.old ≡ Nothing → T.table.is_valid value.now ≡ true }
     {
         match self {
-            Exit::Data(alloc) => newtype_variant(*alloc, name, value),
-            Exit::Writer(writer, result) => {
-                *result = own::write_under(writer, name, value);
-                Err(Error::OutOfMemory)
-            }
+            Exit::Data(alloc, place) => keep(place, newtype_variant(*alloc, name, value)),
+            Exit::Writer(writer) => own::write_under(writer, name, value),
             Exit::Nothing => {
                 own::fit(value);
-                Err(Error::OutOfMemory)
+                Ok(())
             }
         }
     }
 
-    /// Takes the name of a variant and the items that it holds, and returns its data. Errors and allocation are those of [`Out`].
+    /// Takes the name of a variant and the items that it holds. Errors and allocation are those of [`Out`].
     ///
     /// ```
     /// Area::Circle(radius, unit) => out.tuple_variant("Circle", (radius, (unit, ()))),
     /// ```
-    pub fn tuple_variant<R: ListedReferences + Drop>(
-        &mut self,
-        name: &str,
-        items: R,
-    ) -> Result<Data>
-        ensures exact { IfOk result (λ x. data_of x ≡ d.tuple_variant name.now (values_of (R.own_data items))) }
-        ensures errors { OnlyOutOfMemory result }
-        ensures written { PartsWritten self.old self.new (data_part (d.tuple_variant name.now (values_of (R.own_data items)))) }
+    pub fn tuple_variant<R: ListedReferences + Drop>(&mut self, name: &str, items: R) -> WriteResult
+        ensures taken { Takes self.old self.new result (d.tuple_variant name.now (values_of (R.own_data items))) }
         ensures fits { self.old ≡ Nothing → R.fit items ≡ true }
     {
         match self {
-            Exit::Data(alloc) => tuple_variant(*alloc, name, items),
-            Exit::Writer(writer, result) => {
-                *result = own::write_tuple_variant(writer, name, items);
-                Err(Error::OutOfMemory)
-            }
+            Exit::Data(alloc, place) => keep(place, tuple_variant(*alloc, name, items)),
+            Exit::Writer(writer) => own::write_tuple_variant(writer, name, items),
             Exit::Nothing => {
                 items.fit();
-                Err(Error::OutOfMemory)
+                Ok(())
             }
         }
     }
 
-    /// Takes the name of a variant and its fields, under their names, and returns its data. Errors and allocation are those of [`Out`].
+    /// Takes the name of a variant and its fields, under their names. Errors and allocation are those of [`Out`].
     ///
     /// A field for which no name is left has the empty name.
     ///
@@ -238,22 +202,55 @@ impl Exit {
         name: &str,
         names: &[&str],
         fields: R,
-    ) -> Result<Data>
-        ensures exact { IfOk result (λ x. data_of x ≡ d.struct_variant name.now (members_of (R.own_members (texts names.now) fields))) }
-        ensures errors { OnlyOutOfMemory result }
-        ensures written { PartsWritten self.old self.new (data_part (d.struct_variant name.now (members_of (R.own_members (texts names.now) fields)))) }
+    ) -> WriteResult
+        ensures taken { Takes self.old self.new result (d.struct_variant name.now (members_of (R.own_members (texts names.now) fields))) }
         ensures fits { self.old ≡ Nothing → R.fit fields ≡ true }
     {
         match self {
-            Exit::Data(alloc) => struct_variant(*alloc, name, names, fields),
-            Exit::Writer(writer, result) => {
-                *result = own::write_variant(writer, name, names, fields);
-                Err(Error::OutOfMemory)
-            }
+            Exit::Data(alloc, place) => keep(place, struct_variant(*alloc, name, names, fields)),
+            Exit::Writer(writer) => own::write_variant(writer, name, names, fields),
             Exit::Nothing => {
                 fields.fit();
-                Err(Error::OutOfMemory)
+                Ok(())
             }
         }
     }
+
+    /// Returns the data that were made, from what taking the parts returned.
+    pub(crate) fn into_data(self, taken: WriteResult) -> Result<Data>
+        requires { (x : d.Data) × Makes self taken x }
+        ensures exact { (x : d.Data) → Makes self taken x → IfOk result (λ v. data_of v ≡ x) }
+        ensures errors { OnlyOutOfMemory result }
+    {
+        match taken {
+            Ok(()) => {}
+            Err(Stop::OutOfMemory) => return Err(Error::OutOfMemory),
+            Err(Stop::TooDeep | Stop::BadKey | Stop::Io) => unreachable!(),
+        }
+        match self {
+            Exit::Data(_, Some(datum)) => Ok(datum),
+            Exit::Data(_, None) | Exit::Writer(_) | Exit::Nothing => unreachable!(),
+        }
+    }
+
+    /// Puts the writer back that took the parts, and returns what taking them returned.
+    pub(crate) fn give_back(self, writer: &mut Writer, taken: WriteResult) -> WriteResult
+        requires { (old : Writer) × (x : d.Data) × Wrote old self taken x }
+        ensures { (old : Writer) (x : d.Data) → Wrote old self taken x → WritesPart result old writer.new (data_part x) }
+    {
+        match self {
+            Exit::Writer(whole) => *writer = whole,
+            Exit::Data(..) | Exit::Nothing => unreachable!(),
+        }
+        taken
+    }
+}
+
+// Keeps data in their place, if they were made.
+fn keep(place: &mut Option<Data>, made: Result<Data>) -> WriteResult
+    requires { OnlyOutOfMemory made }
+    ensures { (x : d.Data) → IfOk made (λ v. data_of v ≡ x) → Keeps place.new result x }
+{
+    *place = Some(data_made(made)?);
+    Ok(())
 }

@@ -1,5 +1,7 @@
 //! What errors print, and what makers make.
 
+ghost use Rattle.qs_data.specs.read.Errors.{IsOfReading};
+
 use crate::claims::{fails, holds, is_text, made};
 use qs_data::ReadError;
 use qs_tree::Error;
@@ -49,8 +51,10 @@ fn no_text<R: Abort>(rt: &R, alloc: Global) -> (str::Utf8Error, String) {
 }
 
 // Claims that the error of reading becomes one that prints this text.
-fn prints_of_reading<R: Abort>(rt: &R, alloc: Global, error: Error, wanted: &str) {
-    prints(rt, alloc, Error::from(ReadError::from(error)), wanted);
+fn prints_of_reading<R: Abort>(rt: &R, alloc: Global, error: Error, wanted: &str)
+    requires { IsOfReading error }
+{
+    prints(rt, alloc, Error::from(ReadError::of(error)), wanted);
 }
 
 #[test]
@@ -61,7 +65,7 @@ fn reading_has_three_errors(rt: HostRuntime) {
     prints_of_reading(&rt, alloc, custom, missing);
     let (cause, text) = no_text(&rt, alloc);
     prints_of_reading(&rt, alloc, Error::Utf8(cause), &text);
-    prints_of_reading(&rt, alloc, Error::Failed, "out of memory");
+    prints_of_reading(&rt, alloc, Error::OutOfMemory, "out of memory");
 }
 
 #[test]

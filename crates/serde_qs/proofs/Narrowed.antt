@@ -2,55 +2,74 @@
 use Rattle.std.proofs.Common.{◌≡◌, Bool, true, false, List, [], ◌∷◌, Option, None, Result, Ok, Err, sym, ap, ◌∙◌, subst}
 use Rattle.std.proofs.lemmas.Bool.{false≢true}
 use Rattle.std.specs.Option.{option_and_then}
-use Rattle.std.specs.Result.{IsErrAnd}
 use Rattle.qs_spec.specs.Data.{Data}
 use Rattle.qs_spec.specs.Tree.{Tree}
 use Rattle.qs_spec.specs.internal.ReadFunction.{Reader}
 use Rattle.qs_tree.specs.declared.error.Error.{Error}
 use Rattle.qs_tree.specs.declared.error.Error.TheVariants as e
 use Rattle.qs_data.specs.declared.read.error.ReadError.{ReadError}
-use Rattle.qs_data.specs.read.Errors.{IsCustomOrOutOfMemory}
-use Rattle.qs_data.specs.read.Gives.{Rejects}
+use Rattle.qs_data.specs.read.Errors.{IsCustomOrOutOfMemory, IsOfReading, OnlyCustomUtf8OrOutOfMemory}
+use Rattle.qs_data.specs.read.Gives.{Gives, Rejects}
 use Rattle.qs_data.specs.read.TreeText.{is_text}
-use Rattle.qs_data.specs.read.Narrowed.{narrowed}
+use Rattle.qs_data.specs.read.Narrowed.{IsNarrowed, error_of}
 use Rattle.qs_data.specs.read.internal.ReadError.{ReadGives, ReadRejects}
-use Rattle.qs_data.proofs.lemmas.read.Errors.{rejected}
+use Rattle.qs_data.proofs.lemmas.read.ReadErrors.{gives_as}
 use Rattle.serde_qs.specs.internal.NodeParts.{value_found}
 use Rattle.serde_qs.proofs.NodeValues.{found_twice}
 
-narrowed_as : {Y : Type 0} (t : Bool) (x : Error) (r : Option Y) → Rejects t x r → ReadRejects t (narrowed x) r
-narrowed_as t (e.Custom m) r h = h
-narrowed_as t (e.MaxSerializationDepthExceeded d) r h = absurd h
-narrowed_as t (e.Parse m p) r h = absurd h
-narrowed_as t e.Unsupported r h = absurd h
-narrowed_as t (e.FromUtf8 c) r h = absurd h
-narrowed_as t (e.Io c) r h = absurd h
-narrowed_as t (e.ParseInt c) r h = absurd h
-narrowed_as t (e.Utf8 c) r h = h
-narrowed_as t e.OutOfMemory r h = tt
-narrowed_as t e.Failed r h = absurd h
+-- what rejects is one of the errors that reading has
 
-pub narrowed_rejects : {Y : Type 0} (t : Bool) (y : ReadError) (x : Error) (r : Option Y) → y ≡ narrowed x → Rejects t x r → ReadRejects t y r
-narrowed_rejects t y x r is h = let P : ReadError → Type 0 = λ z. ReadRejects t z r in subst P (sym is) (narrowed_as t x r h)
+pub rejects_of_reading : {Y : Type 0} (t : Bool) (x : Error) (r : Option Y) → Rejects t x r → IsOfReading x
+rejects_of_reading t (e.Custom m) r h = tt
+rejects_of_reading t (e.MaxSerializationDepthExceeded d) r h = absurd h
+rejects_of_reading t (e.Parse m p) r h = absurd h
+rejects_of_reading t e.Unsupported r h = absurd h
+rejects_of_reading t (e.FromUtf8 c) r h = absurd h
+rejects_of_reading t (e.Io c) r h = absurd h
+rejects_of_reading t (e.ParseInt c) r h = absurd h
+rejects_of_reading t (e.Utf8 c) r h = tt
+rejects_of_reading t e.OutOfMemory r h = tt
+rejects_of_reading t e.Failed r h = absurd h
 
--- the result of a part, where the result of the whole follows from that of the part
-pub narrowed_exit : {X Y Z : Type 0} (view : X → Y) (t u : Bool) (y : Result X ReadError) (x : Error) (r : Option Z) (s : Option Y)
-    → IsErrAnd y (λ z. z ≡ narrowed x) → Rejects t x r → (r ≡ None → s ≡ None) → (t ≡ false → u ≡ false) → ReadGives view u y s
-narrowed_exit view t u (Ok z) x r s h f n g = absurd h
-narrowed_exit view t u (Err z) x r s h f n g = narrowed_rejects u z x s h (rejected t u x r s f n g)
+pub gives_of_reading : {X Y : Type 0} (view : X → Y) (t : Bool) (x : Result X Error) (r : Option Y) → Gives view t x r → OnlyCustomUtf8OrOutOfMemory x
+gives_of_reading view t (Ok x) r h = tt
+gives_of_reading view t (Err x) r h = rejects_of_reading t x r h
+
+pub custom_of_reading : (x : Error) → IsCustomOrOutOfMemory x → IsOfReading x
+custom_of_reading (e.Custom m) h = tt
+custom_of_reading (e.MaxSerializationDepthExceeded d) h = absurd h
+custom_of_reading (e.Parse m p) h = absurd h
+custom_of_reading e.Unsupported h = absurd h
+custom_of_reading (e.FromUtf8 c) h = absurd h
+custom_of_reading (e.Io c) h = absurd h
+custom_of_reading (e.ParseInt c) h = absurd h
+custom_of_reading (e.Utf8 c) h = absurd h
+custom_of_reading e.OutOfMemory h = tt
+custom_of_reading e.Failed h = absurd h
+
+pub ruleset of_reading = (rejects_of_reading, gives_of_reading, custom_of_reading)
+
+-- the same is known of a result with its error as reading passes it on
+
+pub narrowed_rejects : {Y : Type 0} (t : Bool) (y : ReadError) (x : Error) (r : Option Y) → error_of y ≡ x → Rejects t x r → ReadRejects t y r
+narrowed_rejects t y x r is h = subst (λ z. Rejects t z r) (sym is) h
+
+pub narrowed_gives : {X Y : Type 0} (view : X → Y) (t : Bool) (given : Result X Error) (y : Result X ReadError) (r : Option Y) → IsNarrowed given y → Gives view t given r → ReadGives view t y r
+narrowed_gives view t given (Ok x) r is h = subst (λ g. Gives view t g r) is h
+narrowed_gives view t given (Err x) r is h = subst (λ g. Gives view t g r) is h
 
 -- a field that was found never, once, and twice
 
-pub missing_exit : {X Y : Type 0} (view : X → Y) (u : Bool) (y : Result X ReadError) (x : Error) (m : Data → Option Y) (absent : Option Y) (r : Reader) (ts : List Tree)
-    → IsErrAnd y (λ z. z ≡ narrowed x) → Rejects true x absent → ts ≡ [] → ReadGives view u y (value_found m absent r ts)
-missing_exit view u y x m absent r ts is g h =
-    narrowed_exit view true u y x absent (value_found m absent r ts) is g (λ none. ap (value_found m absent r) h ∙ none) (λ f. absurd (false≢true (sym f)))
+pub missing_given : {X Y : Type 0} (view : X → Y) (u : Bool) (given : Result X Error) (y : Result X ReadError) (m : Data → Option Y) (absent : Option Y) (r : Reader) (ts : List Tree)
+    → IsNarrowed given y → Gives view true given absent → ts ≡ [] → ReadGives view u y (value_found m absent r ts)
+missing_given view u given y m absent r ts is g h =
+    gives_as view true u y absent (value_found m absent r ts) (narrowed_gives view true given y absent is g) (sym (ap (value_found m absent r) h)) (λ f. absurd (false≢true (sym f)))
 
-pub found_exit : {X Y : Type 0} (view : X → Y) (u : Bool) (y : Result X ReadError) (x : Error) (m : Data → Option Y) (absent : Option Y) (r : Reader) (ts : List Tree) (t : Tree)
-    → IsErrAnd y (λ z. z ≡ narrowed x) → Rejects (is_text t) x (option_and_then m (r t)) → ts ≡ t ∷ [] → (is_text t ≡ false → u ≡ false) → ReadGives view u y (value_found m absent r ts)
-found_exit view u y x m absent r ts t is g h f =
-    narrowed_exit view (is_text t) u y x (option_and_then m (r t)) (value_found m absent r ts) is g (λ none. ap (value_found m absent r) h ∙ none) f
+pub found_given : {X Y : Type 0} (view : X → Y) (u : Bool) (given : Result X Error) (y : Result X ReadError) (m : Data → Option Y) (absent : Option Y) (r : Reader) (ts : List Tree) (t : Tree)
+    → IsNarrowed given y → Gives view (is_text t) given (option_and_then m (r t)) → ts ≡ t ∷ [] → (is_text t ≡ false → u ≡ false) → ReadGives view u y (value_found m absent r ts)
+found_given view u given y m absent r ts t is g h f =
+    gives_as view (is_text t) u y (option_and_then m (r t)) (value_found m absent r ts) (narrowed_gives view (is_text t) given y (option_and_then m (r t)) is g) (sym (ap (value_found m absent r) h)) f
 
 pub several_exit : {Y : Type 0} (u : Bool) (y : ReadError) (x : Error) (m : Data → Option Y) (absent : Option Y) (r : Reader) (ts : List Tree) (s t : Tree) (more : List Tree)
-    → y ≡ narrowed x → IsCustomOrOutOfMemory x → ts ≡ s ∷ t ∷ more → ReadRejects u y (value_found m absent r ts)
+    → error_of y ≡ x → IsCustomOrOutOfMemory x → ts ≡ s ∷ t ∷ more → ReadRejects u y (value_found m absent r ts)
 several_exit u y x m absent r ts s t more is h two = narrowed_rejects u y x (value_found m absent r ts) is (found_twice u x m absent r ts s t more h two)

@@ -9,10 +9,14 @@ IsCustomOrOutOfMemory (Custom message) = ⊤
 IsCustomOrOutOfMemory OutOfMemory = ⊤
 IsCustomOrOutOfMemory _ = ⊥
 
--- no other error than that a tree doesn't fit a shape, that a text isn't UTF-8, or that an allocation failed
+-- the error says that a tree doesn't fit a shape, that a text isn't UTF-8, or that an allocation failed
+abbrev pub IsOfReading : Error → Type 0
+IsOfReading (Custom message) = ⊤
+IsOfReading (Utf8 cause) = ⊤
+IsOfReading OutOfMemory = ⊤
+IsOfReading _ = ⊥
+
+-- no other error than these
 abbrev pub OnlyCustomUtf8OrOutOfMemory : {X : Type 0} → Result X Error → Type 0
 OnlyCustomUtf8OrOutOfMemory (Ok x) = ⊤
-OnlyCustomUtf8OrOutOfMemory (Err (Custom message)) = ⊤
-OnlyCustomUtf8OrOutOfMemory (Err (Utf8 cause)) = ⊤
-OnlyCustomUtf8OrOutOfMemory (Err OutOfMemory) = ⊤
-OnlyCustomUtf8OrOutOfMemory _ = ⊥
+OnlyCustomUtf8OrOutOfMemory (Err e) = IsOfReading e

@@ -1,4 +1,5 @@
 -- The errors that reading has, and what they are among those of all calls.
+use Rattle.std.specs.Prelude.{◌≡◌, Result, Ok, Err}
 use Rattle.qs_tree.specs.declared.error.Error.{Error}
 use Rattle.qs_tree.specs.declared.error.Error.TheVariants as e
 use Rattle.qs_data.specs.declared.read.error.ReadError.{ReadError}
@@ -10,8 +11,7 @@ error_of (Custom message) = e.Custom message
 error_of (Utf8 cause) = e.Utf8 cause
 error_of OutOfMemory = e.OutOfMemory
 
--- the same error where reading has it, and else that an allocation failed
-abbrev pub narrowed : Error → ReadError
-narrowed (e.Custom message) = Custom message
-narrowed (e.Utf8 cause) = Utf8 cause
-narrowed _ = OutOfMemory
+-- the same value, or the same error
+abbrev pub IsNarrowed : {X : Type 0} → Result X Error → Result X ReadError → Type 0
+IsNarrowed given (Ok x) = given ≡ Ok x
+IsNarrowed given (Err cause) = given ≡ Err (error_of cause)

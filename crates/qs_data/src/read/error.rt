@@ -2,7 +2,8 @@
 
 ghost use Rattle.std.specs.Prelude.{◌≡◌};
 ghost use Rattle.qs_tree.specs.Error.{IsCustomSaying};
-ghost use Rattle.qs_data.specs.read.Narrowed.{error_of, narrowed};
+ghost use Rattle.qs_data.specs.read.Errors.{IsOfReading, OnlyCustomUtf8OrOutOfMemory};
+ghost use Rattle.qs_data.specs.read.Narrowed.{IsNarrowed, error_of};
 ghost use Rattle.qs_data.specs.declared.read.error.ReadError.TheVariants.{OutOfMemory};
 
 use qs_tree::Error;
@@ -29,6 +30,40 @@ pub enum ReadError {
 }
 
 impl ReadError {
+    /// Returns an error of reading as reading passes it on: the same kind, with what it holds. It doesn't allocate.
+    ///
+    /// ```
+    /// Found::Several => Err(ReadError::of(reader.duplicate_field("1"))),
+    /// ```
+    #[inline(always)]
+    pub fn of(error: Error) -> ReadError
+        requires { IsOfReading error }
+        ensures { error_of result ≡ error }
+    {
+        match error {
+            Error::Custom(message) => ReadError::Custom(message),
+            Error::Utf8(cause) => ReadError::Utf8(cause),
+            Error::OutOfMemory => ReadError::OutOfMemory,
+            _ => unreachable!(),
+        }
+    }
+
+    /// Returns a result of reading with its error as reading passes it on. It doesn't allocate.
+    ///
+    /// ```
+    /// Found::One(node) => ReadError::of_result(T::from_node(reader, node)),
+    /// ```
+    #[inline(always)]
+    pub fn of_result<T>(given: Result<T, Error>) -> Result<T>
+        requires { OnlyCustomUtf8OrOutOfMemory given }
+        ensures { IsNarrowed given result }
+    {
+        match given {
+            Ok(value) => Ok(value),
+            Err(error) => Err(ReadError::of(error)),
+        }
+    }
+
     /// Returns the error with this message, or that an allocation failed.
     pub(crate) fn saying<T: Display + Drop>(alloc: Global, message: T) -> ReadError
         ensures { IsCustomSaying (error_of result) (T.output message) }
@@ -48,20 +83,6 @@ impl From<ReadError> for Error {
             ReadError::Custom(message) => Error::Custom(message),
             ReadError::Utf8(cause) => Error::Utf8(cause),
             ReadError::OutOfMemory => Error::OutOfMemory,
-        }
-    }
-}
-
-/// An error that reading doesn't have becomes [`OutOfMemory`](ReadError::OutOfMemory).
-impl From<Error> for ReadError {
-    ghost from_gives = { λ cause e. e ≡ narrowed cause };
-
-    #[inline(always)]
-    fn from(cause: Error) -> ReadError {
-        match cause {
-            Error::Custom(message) => ReadError::Custom(message),
-            Error::Utf8(cause) => ReadError::Utf8(cause),
-            _ => ReadError::OutOfMemory,
         }
     }
 }

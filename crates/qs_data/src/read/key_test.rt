@@ -7,7 +7,7 @@ ghost use Rattle.qs_spec.specs.Node.{keys_are_text};
 ghost use Rattle.qs_tree.specs.tree.Views.{entries_of_map, segment_of_key};
 ghost use Rattle.qs_data.specs.declared.read.error.ReadError.TheVariants.{Utf8};
 ghost use Rattle.qs_data.specs.read.internal.Hint.{IsKeyError};
-ghost use Rattle.qs_data.specs.read.Errors.{OnlyCustomUtf8OrOutOfMemory};
+ghost use Rattle.qs_data.specs.read.Errors.{IsOfReading};
 ghost use Rattle.qs_data.specs.read.Keys.{NumbersFit, KeyFits, PassesTest, entries_view};
 
 use crate::read::error::{ReadError, Result};
@@ -46,7 +46,7 @@ impl BrokenKey<'_> {
     /// }
     /// ```
     pub fn into_error(self, alloc: Global) -> Error
-        ensures { OnlyCustomUtf8OrOutOfMemory {X = Unit {0}} (Err result) }
+        ensures { IsOfReading result }
     {
         Error::from(self.error(alloc))
     }

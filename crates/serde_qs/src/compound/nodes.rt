@@ -22,7 +22,7 @@ use std::marker::PhantomData;
 
 /// Returns the fields that a node holds: by their names among keys, and by their indices among items. A key that no field has is
 /// ignored or rejected.
-#[tactic(auto, unfolding(qs_spec::specs::internal::ReadFunction::struct_members))]
+#[tactic(auto, using(crate::proofs::Narrowed::of_reading, crate::proofs::Narrowed::narrowed_gives, crate::proofs::Narrowed::narrowed_rejects), unfolding(qs_spec::specs::internal::ReadFunction::struct_members))]
 #[inline(always)]
 pub(crate) fn fields_of_struct<F: Fields>(
     reader: Reader,
@@ -38,10 +38,10 @@ pub(crate) fn fields_of_struct<F: Fields>(
         ParsedValue::NoValue | ParsedValue::Null => Entries::Empty,
         ParsedValue::Map(map) => Entries::Map(map),
         ParsedValue::Sequence(items) => {
-            return Ok(F::from_places(reader, names, items, items.len())?);
+            return ReadError::of_result(F::from_places(reader, names, items, items.len()));
         }
         ParsedValue::String(_) | ParsedValue::Uninitialized => {
-            return Err(ReadError::from(reader.not_a_struct(node)));
+            return Err(ReadError::of(reader.not_a_struct(node)));
         }
     };
     read_entries(reader, unknown, names, entries)
@@ -66,6 +66,7 @@ pub(crate) fn fields_of_variant<F: Fields>(
 }
 
 // Returns the fields that are read by their names. All keys must be texts, and where others are rejected, names of fields.
+#[tactic(auto, using(crate::proofs::Narrowed::of_reading))]
 #[inline(always)]
 fn read_entries<F: Fields>(
     reader: Reader,
@@ -78,18 +79,18 @@ fn read_entries<F: Fields>(
         (names_read (unknown_of unknown) reader.reject_duplicates (F.table.form (texts names.now)) (F.table.meaning (texts names.now)) (entries_view entries.entry)) }
 {
     let are_text = entries.keys_are_text();
-    let fields = F::from_entries(reader, names, entries)?;
+    let fields = ReadError::of_result(F::from_entries(reader, names, entries))?;
     let known = NamesOf::<F> {
         names,
         fields: PhantomData,
     };
-    unknown.reject(reader, &known, entries)?;
+    ReadError::of_result(unknown.reject(reader, &known, entries))?;
     if are_text {
         return Ok(fields);
     }
     match entries.test() {
         Ok(()) => Ok(fields),
-        Err(key) => Err(ReadError::from(key.into_error(reader.alloc))),
+        Err(key) => Err(ReadError::of(key.into_error(reader.alloc))),
     }
 }
 
@@ -109,6 +110,7 @@ impl<F: Fields> FieldNames for NamesOf<'_, F> {
 }
 
 /// Returns the value of a field by its name.
+#[tactic(auto, using(crate::proofs::Narrowed::of_reading))]
 #[inline(always)]
 pub(crate) fn by_name<T: Deserialize>(
     reader: Reader,
@@ -120,13 +122,14 @@ pub(crate) fn by_name<T: Deserialize>(
         (value_found T.table.meaning (option_and_then T.table.meaning (missing_data T.table.form)) (reads reader.reject_duplicates T.table.form) (found name.now (entries_view entries.entry))) }
 {
     match entries.find(name) {
-        Found::Missing => Ok(T::from_missing(reader, name)?),
-        Found::One(node) => Ok(T::from_node(reader, node)?),
-        Found::Several => Err(ReadError::from(reader.duplicate_field(name))),
+        Found::Missing => ReadError::of_result(T::from_missing(reader, name)),
+        Found::One(node) => ReadError::of_result(T::from_node(reader, node)),
+        Found::Several => Err(ReadError::of(reader.duplicate_field(name))),
     }
 }
 
 /// Returns the value of a field by its name, if it isn't left out.
+#[tactic(auto, using(crate::proofs::Narrowed::of_reading))]
 pub(crate) fn optional_by_name<T: Deserialize>(
     reader: Reader,
     name: &str,
@@ -138,12 +141,13 @@ pub(crate) fn optional_by_name<T: Deserialize>(
 {
     match entries.find(name) {
         Found::Missing => Ok(None),
-        Found::One(node) => Ok(Some(T::from_node(reader, node)?)),
-        Found::Several => Err(ReadError::from(reader.duplicate_field(name))),
+        Found::One(node) => { Ok(Some(ReadError::of_result(T::from_node(reader, node))?)) }
+        Found::Several => Err(ReadError::of(reader.duplicate_field(name))),
     }
 }
 
 /// Returns the value of a field by its name, or its default.
+#[tactic(auto, using(crate::proofs::Narrowed::of_reading))]
 pub(crate) fn defaulted_by_name<T: OrDefault>(
     reader: Reader,
     name: &str,
@@ -154,9 +158,9 @@ pub(crate) fn defaulted_by_name<T: OrDefault>(
         (value_found T.table.meaning (T.table.meaning T.default) (reads reader.reject_duplicates T.table.form) (found name.now (entries_view entries.entry))) }
 {
     match entries.find(name) {
-        Found::Missing => Ok(T::missing(reader.alloc)?),
-        Found::One(node) => Ok(T::from_node(reader, node)?),
-        Found::Several => Err(ReadError::from(reader.duplicate_field(name))),
+        Found::Missing => ReadError::of_result(T::missing(reader.alloc)),
+        Found::One(node) => ReadError::of_result(T::from_node(reader, node)),
+        Found::Several => Err(ReadError::of(reader.duplicate_field(name))),
     }
 }
 

@@ -190,7 +190,9 @@ fail_each 'a b' 0 'a b a b' web
 fail_each 'name=a&address[street]=%20&items[0]=7' 0 'address[city]: expected a text, found nothing' order explained
 fail_each 'name=a&address[street]=s&address[city]=c&items[0]=7&items[1]=%78' 0 'items[1]: expected u32, found the text "x"' order explained
 fail_each 'x=Relevance&y[Between][from]=1&y[Between][to]=-' 0 'y[Between][to]: expected u32, found the text "-"' sorts explained
-fail_each 'x[Under]=1' 0 'x: unexpected key "Under"' sorts explained
+fail_each 'x[Under]=1' 0 'x: unexpected key "Under", expected one of "Relevance", "By", "Between"' sorts explained
+fail_each 'x=Under' 0 'x: expected one of "Relevance", "By", "Between", found the text "Under"' sorts explained
+fail_each '&' 0 'the query has no pairs' sorts explained
 fail_each 'a=1&a[b' 0 "parsing failed with error: '$value_and_map' at position: 7" map explained
 fail_each 'a=1' 0 'it is read' map explained
 

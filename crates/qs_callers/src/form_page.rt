@@ -5,7 +5,7 @@ ghost use Rattle.qs_spec.specs.Config.{default};
 ghost use Rattle.serde_qs.specs.Typed.{IsRead};
 
 use qs_explain::{Explanation, Mismatch, explain, find_hint, find_pair};
-use serde_qs::{Config, ConfigExt, Deserialize, Error, Result};
+use serde_qs::{Config, Deserialize, Error, Rejection, Result, read_explained};
 use std::alloc::Global;
 
 /// What the page of a form says beside a field.
@@ -19,7 +19,7 @@ pub struct FieldError {
 
 /// Returns the value that is read from a form, or what its page says of the field that is wrong.
 ///
-/// An error is one of the type itself, which rejects what its shape read, or that an allocation failed.
+/// The one error is that an allocation failed.
 ///
 /// ```
 /// let reply = submitted::<Person>(alloc, b"name=Alice&age=300")?; // of the field `age`: expected u8, found the text "300"
@@ -32,15 +32,15 @@ pub fn submitted<T: Deserialize>(
         IsRead (record default { form = true }) T.table.form T.table.meaning form.now (T.table.value value))) }
 {
     let config = Config::new().use_form_encoding(true);
-    let error = match config.deserialize_bytes(alloc, form) {
+    let rejection = match read_explained(alloc, config, form)? {
         Ok(value) => return Ok(Ok(value)),
-        Err(error) => error,
+        Err(rejection) => rejection,
     };
     let wrong = match explain(alloc, config, &T::shape(alloc)?, form)? {
         Some(Explanation::Mismatch(mismatch)) => of_mismatch(alloc, &mismatch)?,
         Some(Explanation::Syntax(error)) => of_syntax(alloc, config, form, &error)?,
         Some(Explanation::NoPairs) => of_the_whole(alloc, &Explanation::NoPairs)?,
-        None => return Err(error),
+        None => of_type(alloc, &rejection)?,
     };
     Ok(Err(with_hint(alloc, config, form, wrong)?))
 }
@@ -59,6 +59,13 @@ fn of_mismatch(alloc: Global, mismatch: &Mismatch) -> Result<FieldError> {
         }
     }
     let message = mismatch.problem.to_string(alloc)?;
+    Ok(FieldError { field, message })
+}
+
+// Returns the error of a part that its shape reads, and whose type rejects it.
+fn of_type(alloc: Global, rejection: &Rejection) -> Result<FieldError> {
+    let field = rejection.path.to_string(alloc)?;
+    let message = rejection.error.to_string(alloc)?;
     Ok(FieldError { field, message })
 }
 

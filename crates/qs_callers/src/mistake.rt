@@ -5,7 +5,7 @@ ghost use Rattle.qs_spec.specs.Config.{default};
 ghost use Rattle.serde_qs.specs.Typed.{IsRead};
 
 use qs_explain::explain;
-use serde_qs::{Config, Deserialize, Error, from_str};
+use serde_qs::{Config, Deserialize, Error, read_explained};
 use std::alloc::Global;
 
 /// Returns a value, or one line for the user that says which part of the input is wrong.
@@ -13,12 +13,12 @@ pub fn explained<T: Deserialize>(alloc: Global, input: &str) -> Result<Result<T,
     ensures { IfOk result (λ reply. IfOk reply (λ value.
         IsRead default T.table.form T.table.meaning input.now (T.table.value value))) }
 {
-    let error = match from_str(alloc, input) {
+    let rejection = match read_explained(alloc, Config::new(), input.as_bytes())? {
         Ok(value) => return Ok(Ok(value)),
-        Err(error) => error,
+        Err(rejection) => rejection,
     };
     match explain(alloc, Config::new(), &T::shape(alloc)?, input.as_bytes())? {
         Some(explanation) => Ok(Err(explanation.to_string(alloc)?)), // age: expected u8, found the text "300"
-        None => Err(error),
+        None => Ok(Err(rejection.to_string(alloc)?)), // age: invalid type: data, expected an age below 150
     }
 }

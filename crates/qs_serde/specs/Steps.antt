@@ -91,6 +91,19 @@ pub record EntryComes (key : Node) (old new : TreeFormat) : Type 0 where
   pub top : new.top ≡ old.top
   pub reader : new.reader ≡ old.reader
 
+-- the innermost list or map is of this kind
+abbrev pub IsOfKind : FrameKind → TreeFormat → Type 0
+IsOfKind kind old = option_map (λ frame. frame.kind) (last_frame old.stack.items) ≡ Some kind
+
+-- A map ends where no entry is left. But the map of an enum ends after its variant, the fields of a struct in a sequence after the last of
+-- them, and where fields come in their own order this isn't said.
+abbrev pub MayEndEarly : TreeFormat → Type 0
+MayEndEarly old = (old.search.in_order ≡ true) ⊎ IsOfKind k.Map old ⊎ IsOfKind k.Places old ⊎ IsOfKind k.Items old
+
+-- no item of the innermost list is left
+abbrev pub HasNoItem : TreeFormat → Type 0
+HasNoItem old = first_item (drop (count_of old) (listed (tree_of old.top.now))) ≡ Some None
+
 -- What a step gave. A format that looks for the type of a number gives one that isn't there (`probed`); no other does.
 abbrev pub Reads : TreeFormat → Event → TreeFormat → Type 0
 Reads old (boolean b) new = Takes old new × Is old s.Shape.boolean (d.boolean b)
@@ -102,6 +115,7 @@ Reads old (octets t) new = Takes old new × Is old s.Shape.bytes (d.bytes t)
 Reads old nothing new = (new ≡ old) × (Is old s.Shape.unit d.unit ⊎ IsHeld old.part)
 Reads old (seq_begins len) new = Begins old k.Items new
 Reads old (map_begins len) new = Begins old k.Map new ⊎ Begins old k.Fields new ⊎ Begins old k.Places new
+Reads old map_ends new = HasNoEntry old ⊎ MayEndEarly old
 Reads old key_begins new = (new.part ≡ p.Key) × ((key : Node) × EntryComes key old new)
 Reads old _ new = ⊤
 

@@ -184,6 +184,7 @@ impl<'t, 'qs> TreeFormat<'t, 'qs> {
     pub(crate) fn close(&mut self) {
         self.stack.pop();
         self.find_top();
+        self.asked = Asked::Unit;
     }
 
     /// Goes from the root to the innermost list or map.

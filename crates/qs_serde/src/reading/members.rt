@@ -1,7 +1,7 @@
 //! The parts of lists and maps, one after another.
 
-ghost use Rattle.std.specs.Prelude.{◌≡◌, [], Ok, None, IfOk, IfSome, IfNone, IsTrue, MatchOption};
-ghost use Rattle.qs_serde.specs.Steps.{Comes, ComesAnywhere, EntryComes, EntryIs, HasNoEntry, count_of};
+ghost use Rattle.std.specs.Prelude.{◌≡◌, [], Ok, None, IfOk, IfSome, IfNone, MatchBool, MatchOption};
+ghost use Rattle.qs_serde.specs.Steps.{Comes, ComesAnywhere, EntryComes, EntryIs, HasNoEntry, HasNoItem, count_of};
 
 use super::format::{Asked, TreeFormat};
 use super::frame::{Frame, FrameKind};
@@ -14,7 +14,7 @@ impl<'t, 'qs> TreeFormat<'t, 'qs> {
     /// Goes to the next item of the innermost list, if there is one. At the end it leaves the list.
     #[inline(always)]
     pub(crate) fn go_to_item(&mut self) -> Result<bool>
-        ensures { IfOk result (λ b. IsTrue b → Comes self.old self.new) }
+        ensures { IfOk result (λ b. MatchBool b (Comes self.old self.new) (HasNoItem self.old)) }
     {
         let Some(frame) = self.last() else {
             return Err(self.no_value());

@@ -1,10 +1,10 @@
 //! The steps that serde asks for.
 
-ghost use Rattle.std.specs.Prelude.{◌≡◌, length, take, IfOk, IsTrue, MatchBool};
+ghost use Rattle.std.specs.Prelude.{◌≡◌, length, take, ⊤, IfOk, IsTrue, MatchBool};
 ghost use Rattle.qs_spec.specs.Leaf.Leaf.{NoValue};
 ghost use Rattle.qs_spec.specs.Tree.Tree.{leaf};
-ghost use Rattle.serde.specs.Event.{nothing};
-ghost use Rattle.qs_serde.specs.Steps.{Picks, Reads, Stays, tree_at};
+ghost use Rattle.serde.specs.Event.{key_begins, map_ends, nothing, seq_ends};
+ghost use Rattle.qs_serde.specs.Steps.{HasNoEntry, HasNoItem, Picks, Reads, Stays, tree_at};
 
 use super::format::{Asked, Mark, TreeFormat};
 use super::frame::FrameKind;
@@ -168,7 +168,10 @@ impl<'t, 'qs> Format for TreeFormat<'t, 'qs> {
     }
 
     #[inline(always)]
-    fn next_item(&mut self, _input: &[u8]) -> Result<bool> {
+    fn next_item(&mut self, _input: &[u8]) -> Result<bool>
+        ensures step { IfOk result (λ b. MatchBool b (Stays self.old self.new) (Reads self.old seq_ends self.new)) }
+        ensures end { IfOk result (λ b. MatchBool b ⊤ (HasNoItem self.old)) }
+    {
         self.go_to_item()
     }
 
@@ -229,7 +232,10 @@ impl<'t, 'qs> Format for TreeFormat<'t, 'qs> {
         }
     }
 
-    fn next_entry(&mut self, _input: &[u8]) -> Result<bool> {
+    fn next_entry(&mut self, _input: &[u8]) -> Result<bool>
+        ensures step { IfOk result (λ b. MatchBool b (Reads self.old key_begins self.new) (Reads self.old map_ends self.new)) }
+        ensures end { IfOk result (λ b. MatchBool b ⊤ (HasNoEntry self.old)) }
+    {
         match self.go_to_entry() {
             Some(_) => {
                 self.part = Part::Key;

@@ -10,7 +10,7 @@ use Rattle.qs_data.specs.read.Items.{first_item}
 use Rattle.qs_data.specs.read.Reads.{reads}
 use Rattle.serde.specs.Event.{Event, boolean, signed, unsigned, character, text, octets, nothing, seq_begins, map_begins, map_ends, key_begins}
 use Rattle.serde.specs.declared.name.Name.{Name}
-use Rattle.qs_serde.specs.Nodes.{IsEntry, key_tree, listed, node_tree, pairs_in}
+use Rattle.qs_serde.specs.Nodes.{IsEntry, key_tree, listed, pairs_in}
 use Rattle.qs_serde.specs.Lookups.{LooksUp}
 use Rattle.qs_serde.specs.declared.reading.node.Node.{Node}
 use Rattle.qs_serde.specs.declared.reading.node.Part.{Part}

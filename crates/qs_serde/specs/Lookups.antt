@@ -1,0 +1,20 @@
+-- Looking up a text among names.
+use Rattle.std.specs.Prelude.{ℕ, List, Option, Some, None, MatchOption}
+use Rattle.qs_spec.specs.Leaf.Leaf.{Text}
+use Rattle.qs_spec.specs.Tree.{Tree}
+use Rattle.qs_spec.specs.Tree.Tree.{leaf}
+use Rattle.serde.specs.Names.{Finds}
+use Rattle.serde.specs.declared.name.Name.{Name}
+
+-- the text of a leaf that has one
+abbrev pub only_text : Tree → Option (List ℕ)
+only_text (leaf (Text t mark)) = Some t
+only_text _ = None
+
+-- what serde's `find` returns for a text
+unfoldable pub FindsText : List Name → List ℕ → ℕ → Type 0
+FindsText names key at = Finds names key at
+
+-- this text, or the text of this key, was looked up among names
+abbrev pub LooksUp : Tree → List Name → ℕ → Type 0
+LooksUp t names at = MatchOption (only_text t) ⊥ (λ key. FindsText names key at)

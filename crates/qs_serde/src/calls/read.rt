@@ -1,0 +1,120 @@
+//! Calls that read.
+
+use crate::reading::{PathError, TreeFormat, explained, read_tree};
+use qs_tree::{Config, Error, ParsedValue, Result, parse};
+use serde::Deserialize;
+use std::alloc::Global;
+
+/// Returns the value that is read from a querystring, with the default configuration.
+///
+/// ```
+/// let query: Query = from_str(alloc, "age=24&name=Alice")?;
+/// assert!(query.age == 24);
+/// ```
+///
+/// # Errors
+///
+/// - [`Parse`](Error::Parse): the querystring has no tree, as `a[b` has none.
+/// - [`Custom`](Error::Custom) or [`Utf8`](Error::Utf8): it has one, but the type doesn't read it, as where a field is missing or a text is
+///   no number; or the type's own code rejects the value.
+/// - [`OutOfMemory`](Error::OutOfMemory): an allocation failed.
+///
+/// Of several mistakes the first in the order of the fields is reported, then one in another key, and then a missing field. It allocates for
+/// the tree, for a number for each list or map that is open, and for what the type allocates. The time grows with the input and the value.
+/// After an error the tree is read once more to find which comes first, and up to three times more to find the type of a number.
+pub fn from_str<'de, T: Deserialize<'de>>(alloc: Global, input: &'de str) -> Result<T> {
+    from_bytes_with(alloc, Config::new(), input.as_bytes())
+}
+
+/// Returns the value that is read from a querystring, with the default configuration. The errors are those of [`from_str`]. It allocates, and
+/// takes time, as that call does.
+///
+/// ```
+/// let query: Query = from_bytes(alloc, b"age=24&name=Alice")?;
+/// ```
+pub fn from_bytes<'de, T: Deserialize<'de>>(alloc: Global, input: &'de [u8]) -> Result<T> {
+    from_bytes_with(alloc, Config::new(), input)
+}
+
+/// Returns the value that is read from a querystring under a configuration. The errors are those of [`from_str`]. It allocates, and takes time,
+/// as that call does.
+///
+/// ```
+/// let config = Config::new().use_form_encoding(true);
+/// let query: Query = from_str_with(alloc, config, "name=John%20Doe&age=7")?;
+/// ```
+pub fn from_str_with<'de, T: Deserialize<'de>>(
+    alloc: Global,
+    config: Config,
+    input: &'de str,
+) -> Result<T> {
+    from_bytes_with(alloc, config, input.as_bytes())
+}
+
+/// Returns the value that is read from a querystring under a configuration. The error has the path to the part that isn't read, and is else
+/// that of [`from_str`]. It allocates, and takes time, as that call does, and for the path.
+///
+/// ```
+/// match explain_str::<Query>(alloc, Config::new(), "age=x&name=Alice") {
+///     Ok(query) => show(&query),
+///     Err(error) => println!(rt; "{error}")?, // age: invalid type: string, expected u8
+/// }
+/// ```
+pub fn explain_str<'de, T: Deserialize<'de>>(
+    alloc: Global,
+    config: Config,
+    input: &'de str,
+) -> Result<T, PathError> {
+    explain_bytes(alloc, config, input.as_bytes())
+}
+
+/// Returns the value that is read from a querystring under a configuration, with the errors of [`explain_str`]. It allocates, and takes time,
+/// as that call does.
+///
+/// ```
+/// let query: Query = explain_bytes(alloc, Config::new(), b"age=24&name=Alice")?;
+/// ```
+pub fn explain_bytes<'de, T: Deserialize<'de>>(
+    alloc: Global,
+    config: Config,
+    input: &'de [u8],
+) -> Result<T, PathError> {
+    match parse(alloc, input, config) {
+        Ok(tree) => read_parsed(alloc, config, input, &tree),
+        Err(error) => Err(PathError {
+            path: String::new(alloc),
+            error,
+        }),
+    }
+}
+
+/// Returns the value that is read from a querystring under a configuration. The errors are those of [`from_str`]. It allocates, and takes time,
+/// as that call does.
+///
+/// ```
+/// let query: Query = from_bytes_with(alloc, config, b"age=24&name=Alice")?;
+/// ```
+pub fn from_bytes_with<'de, T: Deserialize<'de>>(
+    alloc: Global,
+    config: Config,
+    input: &'de [u8],
+) -> Result<T> {
+    match explain_bytes(alloc, config, input) {
+        Ok(value) => Ok(value),
+        Err(error) => Err(error.error),
+    }
+}
+
+// Returns the value that is read from the tree of a querystring.
+fn read_parsed<'de, T: Deserialize<'de>>(
+    alloc: Global,
+    config: Config,
+    input: &'de [u8],
+    tree: &ParsedValue<'_>,
+) -> Result<T, PathError> {
+    let mut format = TreeFormat::new(alloc, config, tree);
+    match read_tree(alloc, input, &mut format) {
+        Ok(value) => Ok(value),
+        Err(error) => Err(explained::<T>(alloc, config, input, tree, error)),
+    }
+}

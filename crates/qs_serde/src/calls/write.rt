@@ -1,0 +1,100 @@
+//! Calls that write.
+
+ghost use Rattle.std.specs.Prelude.{◌≡◌, ◌⊎◌, ◌<◌, ℕ, length, take};
+ghost use Rattle.std.specs.Io.KnownBytes.{Appends};
+ghost use Rattle.qs_tree.specs.Error.{IsIo};
+
+use crate::writing::TextSerializer;
+use qs_tree::{Config, Error, Result};
+use serde::Serialize;
+use std::alloc::Global;
+use std::io;
+use std::io::Write;
+
+/// Returns the querystring of a value, with the default configuration.
+///
+/// ```
+/// let text = to_string(alloc, &query)?; // name=Alice&age=24
+/// ```
+///
+/// # Errors
+///
+/// - [`MaxSerializationDepthExceeded`](Error::MaxSerializationDepthExceeded): a value nests deeper than the configuration's `max_depth`
+///   allows.
+/// - [`Unsupported`](Error::Unsupported): a map's key is no value of one text.
+/// - [`Custom`](Error::Custom): the type's own code rejects the value, or what is flattened is no map and no struct.
+/// - [`OutOfMemory`](Error::OutOfMemory): an allocation failed.
+///
+/// It allocates for the text, the longest path in it, and a number for each list or map that is open; the time grows with the text.
+pub fn to_string<T: Serialize>(alloc: Global, value: &T) -> Result<String> {
+    to_string_with(alloc, Config::new(), value)
+}
+
+/// Writes the querystring of a value, with the default configuration.
+///
+/// ```
+/// let mut out = Vec::new(alloc);
+/// to_writer(alloc, &query, &mut out)?; // name=Alice&age=24
+/// ```
+///
+/// The text is made in memory first, as [`to_string`] makes it and with its allocations, and then written by as few writes as the writer
+/// allows.
+///
+/// # Errors
+///
+/// - those of [`to_string`]: the text of the entries before the rejected one was written; none after [`OutOfMemory`](Error::OutOfMemory).
+/// - [`Io`](Error::Io): a write failed, was interrupted or took no byte. It isn't repeated.
+pub fn to_writer<T: Serialize, W: Write>(alloc: Global, value: &T, writer: &mut W) -> Result<()> {
+    to_writer_with(alloc, Config::new(), value, writer)
+}
+
+/// Returns the querystring of a value under a configuration. The errors are those of [`to_string`]. It allocates, and takes time, as that call
+/// does.
+///
+/// ```
+/// let config = Config::new().array_format(ArrayFormat::Unindexed);
+/// let text = to_string_with(alloc, config, &query)?; // ids=7&ids=8
+/// ```
+pub fn to_string_with<T: Serialize>(alloc: Global, config: Config, value: &T) -> Result<String> {
+    let mut serializer = TextSerializer::new(alloc, config)?;
+    value.serialize(&mut serializer)?;
+    match String::from_utf8(serializer.into_text()) {
+        Ok(text) => Ok(text),
+        Err(_) => Err(Error::OutOfMemory),
+    }
+}
+
+/// Writes the querystring of a value under a configuration. The errors, and what was written before each, are those of [`to_writer`]. It
+/// allocates, and takes time, as that call does.
+///
+/// ```
+/// to_writer_with(alloc, config, &query, &mut out)?; // ids=7&ids=8
+/// ```
+pub fn to_writer_with<T: Serialize, W: Write>(
+    alloc: Global,
+    config: Config,
+    value: &T,
+    writer: &mut W,
+) -> Result<()> {
+    let mut serializer = TextSerializer::new(alloc, config)?;
+    let made = value.serialize(&mut serializer);
+    if let Err(Error::OutOfMemory) = made {
+        return made;
+    }
+    put(writer, &serializer.into_text(), made)
+}
+
+// Puts all of these bytes, one write after another, and returns this result; where a write fails `Io`.
+fn put<W: Write>(writer: &mut W, bytes: &[u8], made: Result<()>) -> Result<()>
+    ensures { ((result ≡ made) × Appends (W.contents writer.old) (W.contents writer.new) bytes.now) ⊎ (IsIo result × (n : ℕ) × (n < length bytes.now) × Appends (W.contents writer.old) (W.contents writer.new) (take n bytes.now)) }
+{
+    let mut rest = bytes;
+    while !rest.is_empty() {
+        match writer.write(rest) {
+            Ok(0) => return Err(Error::Io(io::Error::from(io::ErrorKind::WriteZero))),
+            Ok(count) => rest = &rest[count..],
+            Err(error) => return Err(Error::Io(error)),
+        }
+    }
+    made
+}

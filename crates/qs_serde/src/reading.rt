@@ -1,0 +1,19 @@
+//! The tree of a querystring, read step by step.
+
+mod errors;
+mod explaining;
+mod format;
+mod frame;
+mod members;
+mod names;
+mod node;
+mod numbers;
+mod path;
+mod path_error;
+mod scalars;
+mod steps;
+
+pub(crate) use explaining::explained;
+pub(crate) use format::read_tree;
+pub use format::{Mark, TreeFormat};
+pub use path_error::PathError;

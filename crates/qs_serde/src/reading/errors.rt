@@ -1,0 +1,158 @@
+//! The errors of values that don't fit their types.
+
+use super::format::{Asked, TreeFormat};
+use super::node::{Node, Part, entries_in};
+use itoa::Buffer;
+use qs_data::{Shape, Width};
+use qs_tree::{Error, Key, ParsedValue};
+use std::str;
+
+impl<'t, 'qs> TreeFormat<'t, 'qs> {
+    /// Returns the error of a value that doesn't fit its type, where no more is known.
+    #[cold]
+    #[inline(never)]
+    pub(crate) fn no_value(&self) -> Error {
+        self.saying("invalid value")
+    }
+
+    /// Returns the error of a text that is no number.
+    #[cold]
+    #[inline(never)]
+    pub(crate) fn no_number(&self) -> Error {
+        self.saying("invalid type: string, expected a number")
+    }
+
+    /// Returns the error of a value that doesn't fit its type, as what was asked of it says.
+    #[cold]
+    #[inline(never)]
+    pub(crate) fn unfit(&self) -> Error {
+        let found = match self.asked {
+            Asked::Unit | Asked::Key => self.misfit(self.part, &Shape::Unit),
+            Asked::Unsigned(part) => self.misfit(part, &unsigned_shape(self.search.width)),
+            Asked::Signed(part) => self.misfit(part, &signed_shape(self.search.width)),
+            Asked::Enum => Some(self.reader.not_an_enum(self.node)),
+            Asked::Variant => Some(self.saying(
+                "invalid type: unit variant, expected a variant that holds a value",
+            )),
+            Asked::Tried => Some(self.saying("data did not match any variant of untagged enum")),
+            Asked::Nothing => None,
+        };
+        match found {
+            Some(error) => error,
+            None => self.no_value(),
+        }
+    }
+
+    /// Returns the error of a number that was asked for last, if this width doesn't hold it.
+    pub(crate) fn number_misfit(&self, width: Width) -> Option<Error> {
+        match self.asked {
+            Asked::Unsigned(part) => self.misfit(part, &unsigned_shape(width)),
+            Asked::Signed(part) => self.misfit(part, &signed_shape(width)),
+            _ => None,
+        }
+    }
+
+    // Returns the error of a part that a shape doesn't read.
+    fn misfit(&self, part: Part, shape: &Shape) -> Option<Error> {
+        self.read_key(self.part(part), shape).err()
+    }
+
+    // Returns the error with this message.
+    fn saying(&self, message: &'static str) -> Error {
+        Error::custom(self.reader.alloc, message, &())
+    }
+
+    /// Returns the error of what names no variant.
+    #[cold]
+    #[inline(never)]
+    pub(crate) fn no_variant(&self, node: Node<'t, 'qs>) -> Error {
+        match node {
+            Node::Value(ParsedValue::String(text)) => {
+                self.reader.unknown_variant(text.as_slice())
+            }
+            Node::Value(value) => self.reader.not_an_enum(value),
+            Node::Key(Key::String(text)) => self.reader.unknown_variant(text.as_slice()),
+            Node::Key(Key::Int(number)) => {
+                let mut buffer = Buffer::new();
+                self.reader
+                    .unknown_variant(buffer.format(*number).as_bytes())
+            }
+            Node::EmptyKey | Node::NoValue => self.reader.unknown_variant(&[]),
+        }
+    }
+
+    /// Returns the error of a key that isn't UTF-8.
+    #[cold]
+    #[inline(never)]
+    pub(crate) fn broken_key(&self) -> Error {
+        match entries_in(self.top).test() {
+            Ok(()) => self.no_value(),
+            Err(key) => key.into_error(self.reader.alloc),
+        }
+    }
+
+    /// Returns the error of a key that no field has.
+    #[cold]
+    #[inline(never)]
+    pub(crate) fn no_field(&self) -> Error {
+        let key = self.key();
+        let error = match key {
+            Node::Key(Key::Int(number)) => self.unknown_field(buffered(
+                &mut Buffer::new(),
+                *number,
+            )),
+            Node::Key(Key::String(text)) => match str::from_utf8(text.as_slice()) {
+                Ok(name) => self.unknown_field(name),
+                Err(cause) => Error::Utf8(cause),
+            },
+            _ => self.unknown_field(""),
+        };
+        self.hinted(key, error)
+    }
+
+    // Returns the error of a key with this text, which no field has.
+    fn unknown_field(&self, name: &str) -> Error {
+        let message = format_args!("unknown field `{name}`");
+        Error::custom(self.reader.alloc, message, &())
+    }
+
+    /// Returns the error of a key or a value, with a hint after that of a key that holds a bracket.
+    #[cold]
+    #[inline(never)]
+    pub(crate) fn hinted(&self, node: Node<'t, 'qs>, error: Error) -> Error {
+        if !node.has_bracket() || matches!(error, Error::OutOfMemory) {
+            return error;
+        }
+        let message = format_args!(
+            "{error}\n\
+            Invalid field contains an encoded bracket -- consider using form encoding mode\n\
+            \u{20} https://docs.rs/serde_qs/latest/serde_qs/#query-string-vs-form-encoding"
+        );
+        Error::custom(self.reader.alloc, message, &())
+    }
+}
+
+// Returns the digits of a number.
+fn buffered(buffer: &mut Buffer, number: u32) -> &str {
+    buffer.format(number)
+}
+
+// Returns the shape of a number without a sign.
+fn unsigned_shape(width: Width) -> Shape {
+    match width {
+        Width::Bits8 => Shape::U8,
+        Width::Bits16 => Shape::U16,
+        Width::Bits32 => Shape::U32,
+        Width::Bits64 => Shape::U64,
+    }
+}
+
+// Returns the shape of a number with a sign.
+fn signed_shape(width: Width) -> Shape {
+    match width {
+        Width::Bits8 => Shape::I8,
+        Width::Bits16 => Shape::I16,
+        Width::Bits32 => Shape::I32,
+        Width::Bits64 => Shape::I64,
+    }
+}

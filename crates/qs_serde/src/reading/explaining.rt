@@ -1,0 +1,92 @@
+//! The error that comes first, and its path: the tree is read again, with fields in their own order.
+
+use super::format::{Asked, Search, TreeFormat, read_tree};
+use super::path_error::PathError;
+use qs_data::Width;
+use qs_tree::{Config, Error, ParsedValue, Result};
+use serde::Deserialize;
+use std::alloc::Global;
+
+/// Returns why a tree isn't read, after a read that failed with this error.
+pub(crate) fn explained<'de, T: Deserialize<'de>>(
+    alloc: Global,
+    config: Config,
+    input: &'de [u8],
+    tree: &ParsedValue<'_>,
+    error: Error,
+) -> PathError {
+    let path = String::new(alloc);
+    if matches!(error, Error::OutOfMemory) {
+        return PathError { path, error };
+    }
+    let mut format = TreeFormat::new(alloc, config, tree);
+    format.search.in_order = true;
+    let read: Result<T> = read_tree(alloc, input, &mut format);
+    match read {
+        Ok(_) => PathError { path, error },
+        Err(error) => located::<T>(alloc, config, input, tree, &format, error),
+    }
+}
+
+// Returns the error with the path to where the format is, and with the type of a number.
+fn located<'de, T: Deserialize<'de>>(
+    alloc: Global,
+    config: Config,
+    input: &'de [u8],
+    tree: &ParsedValue<'_>,
+    format: &TreeFormat<'_, '_>,
+    error: Error,
+) -> PathError {
+    let Ok(path) = format.path() else {
+        return PathError {
+            path: String::new(alloc),
+            error: Error::OutOfMemory,
+        };
+    };
+    if !matches!(format.asked, Asked::Unsigned(_) | Asked::Signed(_)) {
+        return PathError { path, error };
+    }
+    for width in [Width::Bits8, Width::Bits16, Width::Bits32] {
+        let search = Search {
+            probed: format.search.numbers,
+            width,
+            ..format.search
+        };
+        if let Some(error) = probed::<T>(alloc, config, input, tree, search) {
+            return PathError { path, error };
+        }
+    }
+    PathError { path, error }
+}
+
+// Reads the tree with a number given as one that this width doesn't hold. Where that is the error, the number is of this width, and the
+// error of the value that stands there is returned, if it has one.
+fn probed<'de, T: Deserialize<'de>>(
+    alloc: Global,
+    config: Config,
+    input: &'de [u8],
+    tree: &ParsedValue<'_>,
+    search: Search,
+) -> Option<Error> {
+    let mut format = TreeFormat::new(alloc, config, tree);
+    format.search = Search {
+        numbers: 0,
+        ..search
+    };
+    let read: Result<T> = read_tree(alloc, input, &mut format);
+    let found = read.err()?;
+    let error = format.number_misfit(search.width)?;
+    if have_one_text(&found, &error) {
+        Some(error)
+    } else {
+        None
+    }
+}
+
+// Returns whether two errors print the same.
+fn have_one_text(a: &Error, b: &Error) -> bool {
+    match (a, b) {
+        (Error::Custom(a), Error::Custom(b)) => a == b,
+        _ => false,
+    }
+}

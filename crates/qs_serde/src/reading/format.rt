@@ -1,0 +1,234 @@
+//! The format: where it is in a tree, and how it moves there.
+
+ghost use Rattle.std.specs.Prelude.{◌≡◌, ◌≢◌, ◌-◌, [], Some, slice_get, OnOk};
+ghost use Rattle.qs_spec.specs.Config.{are_rejected};
+ghost use Rattle.qs_tree.specs.tree.Views.{tree_of};
+ghost use Rattle.qs_serde.specs.Nodes.{key_tree, node_tree, pairs_in};
+ghost use Rattle.qs_serde.specs.Steps.{Opens, Takes, last_frame, part_view, passed, tree_at};
+
+use super::frame::{Frame, FrameKind};
+use super::node::{Node, Part, child, entry_at};
+use qs_data::{Reader, Width};
+use qs_tree::{Config, ParsedValue, Result};
+use serde::{Deserialize, Deserializer};
+use std::alloc::Global;
+
+/// A tree that is read step by step: the [`Format`](serde::Format) of serde's derives.
+///
+/// ```
+/// let mut format = TreeFormat::new(alloc, Config::new(), &tree);
+/// let query = Query::deserialize(alloc, &mut Deserializer::new(input, &mut format))?;
+/// ```
+///
+/// The input is the one that the tree was parsed from. The calls of this crate read a tree again after an error, to report the one that
+/// comes first; this type alone reports the first that it meets.
+#[derive(Drop)]
+pub struct TreeFormat<'t, 'qs> {
+    pub(crate) reader: Reader,
+    pub(crate) root: &'t ParsedValue<'qs>,
+    // The innermost list or map, if one is open.
+    pub(crate) top: &'t ParsedValue<'qs>,
+    // What came last of it, and which part of that is next.
+    pub(crate) node: &'t ParsedValue<'qs>,
+    pub(crate) part: Part,
+    // The lists and maps that are open, the innermost last.
+    pub(crate) stack: Vec<Frame>,
+    // What was asked of what came last.
+    pub(crate) asked: Asked,
+    // How many items the list had that ended last, and whether these were the fields of a struct.
+    pub(crate) count: usize,
+    pub(crate) lacks_items: bool,
+    pub(crate) search: Search,
+}
+
+/// What was asked of what came last, for the error that may be wanted afterwards.
+#[derive(Clone, Copy)]
+pub(crate) enum Asked {
+    /// Nothing that is noted: where an error is wanted, a unit.
+    Unit,
+    /// A number without a sign, of this part.
+    Unsigned(Part),
+    /// A number with a sign, of this part.
+    Signed(Part),
+    /// The variant that a text names.
+    Variant,
+    /// The variant that a key names, which stands for none. Where a unit is asked for then, as of `Unit`.
+    Key,
+    /// The variant that the first key of a map names, and there is no key.
+    Enum,
+    /// Each of several ways to read it.
+    Tried,
+    /// Nothing that is known.
+    Nothing,
+}
+
+/// How an error is looked for after a read that failed.
+#[derive(Clone, Copy)]
+pub(crate) struct Search {
+    /// Whether fields come in their own order.
+    pub(crate) in_order: bool,
+    /// How many numbers were asked for.
+    pub(crate) numbers: usize,
+    /// Which of them is given as one that this width doesn't hold; none for 0.
+    pub(crate) probed: usize,
+    pub(crate) width: Width,
+}
+
+/// A place to come back to.
+#[derive(Clone, Copy)]
+pub struct Mark {
+    pub(crate) depth: usize,
+    pub(crate) part: Part,
+}
+
+impl Search {
+    /// Returns the search of a read that looks for no error.
+    pub(crate) fn none() -> Search
+        ensures { result.probed ≡ 0 }
+    {
+        Search {
+            in_order: false,
+            numbers: 0,
+            probed: 0,
+            width: Width::Bits64,
+        }
+    }
+}
+
+impl<'t, 'qs> TreeFormat<'t, 'qs> {
+    /// Returns a format at the root of a tree. It doesn't allocate.
+    ///
+    /// ```
+    /// let mut format = TreeFormat::new(alloc, Config::new(), &tree);
+    /// ```
+    pub fn new(alloc: Global, config: Config, tree: &'t ParsedValue<'qs>) -> TreeFormat<'t, 'qs>
+        ensures tree { tree_at result ≡ tree_of tree.now }
+        ensures duplicates { result.reader.reject_duplicates ≡ are_rejected config.duplicates }
+        ensures plain { result.search.probed ≡ 0 }
+    {
+        TreeFormat {
+            reader: Reader::new(alloc, config),
+            root: tree,
+            top: tree,
+            node: tree,
+            part: Part::Value,
+            stack: Vec::new(alloc),
+            asked: Asked::Unit,
+            count: 0,
+            lacks_items: false,
+            search: Search::none(),
+        }
+    }
+
+    /// Returns the innermost list or map.
+    #[inline(always)]
+    pub(crate) fn last(&self) -> Option<Frame>
+        ensures { result ≡ last_frame self.now.stack.items }
+    {
+        match self.stack.last() {
+            Some(frame) => Some(*frame),
+            None => None,
+        }
+    }
+
+    /// Returns the key that came last.
+    pub(crate) fn key(&self) -> Node<'t, 'qs>
+        ensures { node_tree result ≡ key_tree (slice_get (pairs_in (tree_of self.now.top.now)) (passed (last_frame self.now.stack.items) - 1)) }
+    {
+        let at = match self.last() {
+            Some(frame) => frame.last_index(),
+            None => 0,
+        };
+        match entry_at(self.top, at) {
+            Some((key, _)) => key,
+            None => Node::EmptyKey,
+        }
+    }
+
+    /// Returns this part of what came last.
+    #[inline(always)]
+    pub(crate) fn part(&self, part: Part) -> Node<'t, 'qs>
+        ensures { node_tree result ≡ part_view self.now part }
+    {
+        match part {
+            Part::Value | Part::Held => Node::Value(self.node),
+            Part::NoValue => Node::NoValue,
+            Part::Key => self.key(),
+        }
+    }
+
+    /// Takes what is next, and goes to what comes after it.
+    #[inline(always)]
+    pub(crate) fn take(&mut self) -> Node<'t, 'qs>
+        ensures node { node_tree result ≡ tree_at self.old }
+        ensures takes { Takes self.old self.new }
+    {
+        let node = self.part(self.part);
+        if self.part == Part::Key {
+            self.part = Part::Value;
+        }
+        node
+    }
+
+    /// Begins a list or a map of what is next.
+    pub(crate) fn open(&mut self, kind: FrameKind) -> Result<()>
+        ensures { OnOk result (Opens self.old (record { kind = kind; next = 0; field = 0 }) self.new) }
+    {
+        self.stack.push(Frame::new(kind))?;
+        self.top = self.node;
+        Ok(())
+    }
+
+    /// Leaves the innermost list or map.
+    #[inline(always)]
+    pub(crate) fn close(&mut self) {
+        self.stack.pop();
+        self.find_top();
+        self.asked = Asked::Unit;
+    }
+
+    /// Goes from the root to the innermost list or map.
+    pub(crate) fn find_top(&mut self)
+        ensures { self.new ≡ record self.old { top = self.new.top } }
+    {
+        let mut value = self.root;
+        let mut outer: Option<usize> = None;
+        for frame in &self.stack {
+            if let Some(at) = outer {
+                value = child(value, at);
+            }
+            outer = Some(frame.last_index());
+        }
+        self.top = value;
+    }
+
+    /// Goes to this node.
+    #[inline(always)]
+    pub(crate) fn go_to(&mut self, value: &'t ParsedValue<'qs>)
+        ensures kept { self.new ≡ record self.old { node = self.new.node; asked = self.new.asked } }
+        ensures node { self.new.node.now ≡ value.now }
+    {
+        self.node = value;
+        self.asked = Asked::Unit;
+    }
+
+    /// Changes the innermost list or map to this.
+    #[inline(always)]
+    pub(crate) fn set_last(&mut self, frame: Frame)
+        ensures kept { self.new ≡ record self.old { stack = self.new.stack } }
+        ensures last { self.old.stack.items ≢ [] → last_frame self.new.stack.items ≡ Some frame }
+    {
+        if let Some(last) = self.stack.last_mut() {
+            *last = frame;
+        }
+    }
+}
+
+/// Reads a value of what is next.
+pub(crate) fn read_tree<'de, T: Deserialize<'de>>(
+    alloc: Global,
+    input: &'de [u8],
+    format: &mut TreeFormat<'_, '_>,
+) -> Result<T> {
+    T::deserialize(alloc, &mut Deserializer::new(input, format))
+}

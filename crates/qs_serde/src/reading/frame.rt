@@ -1,0 +1,58 @@
+//! Lists and maps that are being read.
+
+ghost use Rattle.std.specs.Prelude.{◌≡◌, ◌⊎◌, ◌-◌, suc};
+
+/// A list or a map that is being read.
+#[derive(Clone, Copy)]
+pub(crate) struct Frame {
+    pub(crate) kind: FrameKind,
+    /// The index of what comes next. What came last is at the index before.
+    pub(crate) next: usize,
+    /// Where fields are read in their order: the next of them.
+    pub(crate) field: usize,
+}
+
+/// What is read of it.
+#[derive(Clone, Copy, PartialEq, Eq)]
+pub(crate) enum FrameKind {
+    /// The items of a list or a tuple.
+    Items,
+    /// The fields of a struct, by their names.
+    Fields,
+    /// The fields of a struct, by their places in a sequence.
+    Places,
+    /// The entries of a map, or the variant that its first key names.
+    Map,
+}
+
+impl Frame {
+    /// Returns a frame of which nothing came yet.
+    pub(crate) fn new(kind: FrameKind) -> Frame
+        ensures { result ≡ record { kind = kind; next = 0; field = 0 } }
+    {
+        Frame {
+            kind,
+            next: 0,
+            field: 0,
+        }
+    }
+
+    /// Returns the frame after one more part came.
+    #[inline(always)]
+    pub(crate) fn advanced(self) -> Frame
+        ensures next { (result.next ≡ suc self.next) ⊎ (self.next ≡ 18446744073709551615) }
+        ensures kept { result ≡ record self { next = result.next } }
+    {
+        Frame {
+            next: self.next.saturating_add(1),
+            ..self
+        }
+    }
+
+    /// Returns the index of what came last, or 0 where nothing came.
+    pub(crate) fn last_index(self) -> usize
+        ensures { result ≡ self.next - 1 }
+    {
+        self.next.saturating_sub(1)
+    }
+}

@@ -1,0 +1,83 @@
+//! Names, and the texts and keys that stand for them.
+
+ghost use Rattle.std.specs.Prelude.{◌≡◌, ◌≤◌, false, decimal, HoldsAt, IfSome};
+ghost use Rattle.qs_spec.specs.Segment.{segment_text};
+ghost use Rattle.qs_tree.specs.tree.Views.{segment_of_key, tree_of};
+ghost use Rattle.qs_serde.specs.Nodes.{node_tree};
+ghost use Rattle.qs_serde.specs.Lookups.{FindsText, LooksUp};
+
+use super::node::Node;
+use itoa::Buffer;
+use qs_tree::{Key, ParsedValue};
+use serde::Name;
+use std::str;
+
+/// Returns the index of the name that a text or a key stands for, `usize::MAX` where it stands for none, and nothing where it isn't UTF-8
+/// or no text.
+#[inline(always)]
+pub(crate) fn find_node(names: &[Name<'_>], node: Node<'_, '_>) -> Option<usize>
+    ensures { IfSome result (λ at. LooksUp (node_tree node.entry) names.now at) }
+{
+    match node {
+        Node::Key(key) => Some(find_key(names, key)?),
+        Node::Value(value) => Some(find_value(names, value)?),
+        Node::EmptyKey => Some(find_text(names, &[])?),
+        Node::NoValue => None,
+    }
+}
+
+// Returns the index of the name that a key stands for.
+#[inline(always)]
+fn find_key(names: &[Name<'_>], key: &Key<'_>) -> Option<usize>
+    ensures { IfSome result (λ at. FindsText names.now (segment_text (segment_of_key key.now)) at) }
+{
+    match key {
+        Key::Int(number) => Some(find_number(names, *number)),
+        Key::String(text) => Some(find_text(names, text.as_slice())?),
+    }
+}
+
+// Returns the index of the name that the text of a node stands for.
+#[inline(always)]
+fn find_value(names: &[Name<'_>], value: &ParsedValue<'_>) -> Option<usize>
+    ensures { IfSome result (λ at. LooksUp (tree_of value.now) names.now at) }
+{
+    match value {
+        ParsedValue::String(text) => Some(find_text(names, text.as_slice())?),
+        _ => None,
+    }
+}
+
+// Returns the index of the name that a text stands for.
+#[inline(always)]
+#[tactic(auto, unfolding(crate::specs::Lookups::FindsText))]
+fn find_text(names: &[Name<'_>], text: &[u8]) -> Option<usize>
+    ensures { IfSome result (λ at. FindsText names.now text.now at) }
+{
+    match str::from_utf8(text) {
+        Ok(text) => Some(serde::find(names, text)),
+        Err(_) => None,
+    }
+}
+
+// Returns the index of the name that the digits of a number stand for.
+#[inline(never)]
+#[tactic(auto, unfolding(crate::specs::Lookups::FindsText))]
+fn find_number(names: &[Name<'_>], number: u32) -> usize
+    ensures { FindsText names.now (decimal number) result }
+{
+    let mut buffer = Buffer::new();
+    serde::find(names, buffer.format(number))
+}
+
+/// Returns the index of the first name from an index on that a key may stand for.
+pub(crate) fn first_name(names: &[Name<'_>], from: usize) -> Option<usize>
+    ensures { IfSome result (λ at. (from ≤ at) × HoldsAt (λ name. name.skipped ≡ false) names.now at) }
+{
+    for at in from..names.len() {
+        if !names[at].skipped {
+            return Some(at);
+        }
+    }
+    None
+}

@@ -1,0 +1,119 @@
+//! Numbers.
+
+ghost use Rattle.std.specs.Prelude.{◌≡◌, ◌⊎◌, ◌^◌, ◌≤◌, pos, negsuc, ◌<ℤ◌, false, IfOk};
+ghost use Rattle.qs_spec.specs.Data as d;
+ghost use Rattle.qs_spec.specs.Shape as s;
+ghost use Rattle.qs_serde.specs.Steps.{Is};
+
+use super::format::{Asked, Search, TreeFormat};
+use super::node::Node;
+use qs_data::{Data, Shape, Width};
+use qs_tree::{Error, Result};
+use std::str;
+
+impl Search {
+    // Counts a number that is asked for, and returns whether another one is given in its place.
+    fn is_probed(&mut self) -> bool
+        ensures { self.old.probed ≡ 0 → result ≡ false }
+    {
+        self.numbers = self.numbers.saturating_add(1);
+        self.numbers == self.probed
+    }
+}
+
+// Returns the smallest number without a sign that this width doesn't hold.
+fn past_unsigned(width: Width) -> u64 {
+    match width {
+        Width::Bits8 => 1 << 8,
+        Width::Bits16 => 1 << 16,
+        Width::Bits32 => 1 << 32,
+        Width::Bits64 => u64::MAX,
+    }
+}
+
+// Returns the smallest positive number that this width doesn't hold beside a sign.
+fn past_signed(width: Width) -> i64 {
+    match width {
+        Width::Bits8 => 1 << 7,
+        Width::Bits16 => 1 << 15,
+        Width::Bits32 => 1 << 31,
+        Width::Bits64 => i64::MAX,
+    }
+}
+
+impl<'t, 'qs> TreeFormat<'t, 'qs> {
+    /// Reads a number with a sign.
+    pub(crate) fn signed(&mut self) -> Result<i64>
+        ensures { self.old.search.probed ≡ 0 → IfOk result (λ v. Is self.old (s.Shape.signed 64) (d.signed v)) }
+    {
+        let asked = Asked::Signed(self.part);
+        let node = self.take();
+        self.asked = asked;
+        if self.search.in_order && self.search.is_probed() {
+            return Ok(past_signed(self.search.width));
+        }
+        let read = match node {
+            Node::Value(value) => self.reader.signed(Width::Bits64, value),
+            node => self.read_key(node, &Shape::I64),
+        };
+        match read? {
+            Data::Signed(value) => Ok(value),
+            _ => Err(self.no_value()),
+        }
+    }
+
+    /// Reads a number without a sign.
+    pub(crate) fn unsigned(&mut self) -> Result<u64>
+        ensures { self.old.search.probed ≡ 0 → IfOk result (λ v. Is self.old (s.Shape.unsigned 64) (d.unsigned v)) }
+    {
+        let asked = Asked::Unsigned(self.part);
+        let node = self.take();
+        self.asked = asked;
+        if self.search.in_order && self.search.is_probed() {
+            return Ok(past_unsigned(self.search.width));
+        }
+        let read = match node {
+            Node::Value(value) => self.reader.unsigned(Width::Bits64, value),
+            node => self.read_key(node, &Shape::U64),
+        };
+        match read? {
+            Data::Unsigned(value) => Ok(value),
+            _ => Err(self.no_value()),
+        }
+    }
+
+    /// Reads a number that 64 bits don't hold.
+    pub(crate) fn wide_unsigned(&mut self) -> Result<u128>
+        ensures { IfOk result (λ n. 2 ^ 64 ≤ n) }
+    {
+        let wide: u128 = self.parsed()?;
+        if wide > u64::MAX as u128 {
+            Ok(wide)
+        } else {
+            Err(self.no_value())
+        }
+    }
+
+    /// Reads a number that 64 bits with a sign don't hold.
+    pub(crate) fn wide_signed(&mut self) -> Result<i128>
+        ensures { IfOk result (λ z. (pos 9223372036854775807 <ℤ z) ⊎ (z <ℤ negsuc 9223372036854775807)) }
+    {
+        let wide: i128 = self.parsed()?;
+        if wide > i64::MAX as i128 || wide < i64::MIN as i128 {
+            Ok(wide)
+        } else {
+            Err(self.no_value())
+        }
+    }
+
+    /// Parses a text as a number that the library has no shape for.
+    pub(crate) fn parsed<T: str::FromStr + Drop>(&mut self) -> Result<T>
+    where
+        T::Err: Drop,
+    {
+        match self.text()?.as_str().parse::<T>() {
+            Ok(value) => Ok(value),
+            Err(_) => Err(self.no_number()),
+        }
+    }
+}

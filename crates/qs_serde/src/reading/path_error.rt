@@ -1,0 +1,43 @@
+//! An error, and where in the value it is.
+
+ghost use Rattle.std.specs.Prelude.{◌≡◌};
+
+use qs_tree::Error;
+use std::fmt;
+
+/// Why a value isn't read, and which part of it.
+///
+/// Its `Display` writes the path before the error: `address.lines[2]: invalid type: string, expected u8`.
+///
+/// ```
+/// match qs_serde::explain_str::<Query>(alloc, Config::new(), "age=x&name=Alice") {
+///     Err(error) => println!(rt; "{error}")?, // age: invalid type: string, expected u8
+/// ```
+#[derive(Debug, Drop)]
+pub struct PathError {
+    /// The path to the part that isn't read: the keys that lead to it with `.` between them, and each index of a list in brackets. It is
+    /// empty for the whole, and for an input that can't be parsed. Control characters of a key are escaped.
+    pub path: String,
+    /// What is wrong there.
+    pub error: Error,
+}
+
+impl fmt::Display for PathError {
+    fn fmt<W: fmt::Write>(&self, f: &mut fmt::Formatter<W>) -> fmt::Result {
+        let PathError { path, error } = self;
+        if path.is_empty() {
+            write!(f, "{error}")
+        } else {
+            write!(f, "{path}: {error}")
+        }
+    }
+}
+
+/// The error without its path.
+impl From<PathError> for Error {
+    ghost from_gives = { λ error e. e ≡ error.error };
+
+    fn from(error: PathError) -> Error {
+        error.error
+    }
+}

@@ -1,0 +1,335 @@
+//! The steps that serde asks for.
+
+ghost use Rattle.std.specs.Prelude.{◌≡◌, length, take, ⊤, IfOk, IsTrue, MatchBool};
+ghost use Rattle.qs_spec.specs.Leaf.Leaf.{NoValue};
+ghost use Rattle.qs_spec.specs.Tree.Tree.{leaf};
+ghost use Rattle.serde.specs.Event.{key_begins, map_ends, nothing, seq_ends};
+ghost use Rattle.qs_serde.specs.Steps.{HasNoEntry, HasNoItem, Picks, Reads, Stays, tree_at};
+
+use super::format::{Asked, Mark, TreeFormat};
+use super::frame::FrameKind;
+use super::names::find_node;
+use super::node::{Node, Part, child};
+use super::scalars::{borrowed_text, test_utf8};
+use qs_data::{Data, Shape};
+use qs_tree::{Error, ParsedValue, Result};
+use serde::{Format, Kind, Name};
+use std::alloc::Global;
+
+impl<'t, 'qs> Format for TreeFormat<'t, 'qs> {
+    type Error = Error;
+
+    type Mark = Mark;
+
+    ghost gives = { λ old _ e new. Reads old e new };
+
+    ghost picks = { λ old _ is_key names at new. Picks old is_key names at new };
+
+    ghost stays = { Stays };
+
+    fn bool(&mut self, _input: &[u8]) -> Result<bool> {
+        let read = match self.take() {
+            Node::Value(value) => self.reader.boolean(value),
+            node => self.read_key(node, &Shape::Bool),
+        };
+        match read? {
+            Data::Bool(value) => Ok(value),
+            _ => Err(self.no_value()),
+        }
+    }
+
+    fn i64(&mut self, _input: &[u8]) -> Result<i64> {
+        self.signed()
+    }
+
+    fn u64(&mut self, _input: &[u8]) -> Result<u64> {
+        self.unsigned()
+    }
+
+    // What has 64 bits is read as every number is.
+    fn i128(&mut self, _input: &[u8]) -> Result<i128> {
+        let part = self.part;
+        match self.signed() {
+            Ok(value) => return Ok(i128::from(value)),
+            Err(Error::OutOfMemory) => return Err(Error::OutOfMemory),
+            Err(_) => {}
+        }
+        self.part = part;
+        self.wide_signed()
+    }
+
+    fn u128(&mut self, _input: &[u8]) -> Result<u128> {
+        let part = self.part;
+        match self.unsigned() {
+            Ok(value) => return Ok(u128::from(value)),
+            Err(Error::OutOfMemory) => return Err(Error::OutOfMemory),
+            Err(_) => {}
+        }
+        self.part = part;
+        self.wide_unsigned()
+    }
+
+    fn f32(&mut self, _input: &[u8]) -> Result<f32> {
+        self.parsed()
+    }
+
+    fn f64(&mut self, _input: &[u8]) -> Result<f64> {
+        self.parsed()
+    }
+
+    fn char(&mut self, _input: &[u8]) -> Result<char> {
+        match self.by_shape(&Shape::Char)? {
+            Data::Char(value) => Ok(value),
+            _ => Err(self.no_value()),
+        }
+    }
+
+    // The tree doesn't say where its texts stand in the input, so they are searched for.
+    fn plain_str(&mut self, input: &[u8]) -> Result<(usize, usize)> {
+        let node = self.take();
+        let text = borrowed_text(self.reader, node)?;
+        test_utf8(text)?;
+        let place = self.place(text, input)?;
+        Ok(place)
+    }
+
+    fn plain_bytes(&mut self, input: &[u8]) -> Result<(usize, usize)> {
+        let node = self.take();
+        let text = borrowed_text(self.reader, node)?;
+        let place = self.place(text, input)?;
+        Ok(place)
+    }
+
+    fn string(&mut self, _alloc: Global, _input: &[u8]) -> Result<String> {
+        self.text()
+    }
+
+    fn byte_buf(&mut self, _alloc: Global, _input: &[u8]) -> Result<Vec<u8>> {
+        match self.by_shape(&Shape::Bytes)? {
+            Data::Bytes(bytes) => Ok(bytes),
+            _ => Err(self.no_value()),
+        }
+    }
+
+    fn peek(&mut self, _input: &[u8]) -> Result<Kind> {
+        match self.part {
+            Part::Key => Ok(Kind::Str),
+            Part::NoValue => Ok(Kind::Unit),
+            Part::Value | Part::Held => match self.node {
+                ParsedValue::Uninitialized => Err(self.reader.nothing()),
+                ParsedValue::Null | ParsedValue::NoValue => Ok(Kind::Unit),
+                ParsedValue::String(_) => Ok(Kind::Str),
+                ParsedValue::Sequence(_) => Ok(Kind::Seq),
+                ParsedValue::Map(_) => Ok(Kind::Map),
+            },
+        }
+    }
+
+    // What a unit variant holds is passed over.
+    #[tactic(auto, unfolding(qs_spec::specs::internal::ReadFunction::reads))]
+    fn take_unit(&mut self, _input: &[u8]) -> Result<bool> {
+        match self.part {
+            Part::Held | Part::NoValue => Ok(true),
+            Part::Value => Ok(matches!(self.node, ParsedValue::Null | ParsedValue::NoValue)),
+            Part::Key => Ok(false),
+        }
+    }
+
+    // An empty value is some of what the part reads from no value.
+    #[tactic(auto, unfolding(qs_spec::specs::internal::ReadFunction::reads))]
+    fn take_none(&mut self, _input: &[u8]) -> Result<bool>
+        ensures step { IfOk result (λ b. MatchBool b (Reads self.old nothing self.new) (Stays self.old self.new)) }
+        ensures none { IfOk result (λ b. IsTrue b → tree_at self.old ≡ leaf NoValue) }
+    {
+        match self.part {
+            Part::NoValue => Ok(true),
+            Part::Key => Ok(false),
+            Part::Value | Part::Held => match self.node {
+                ParsedValue::NoValue => Ok(true),
+                ParsedValue::Null => {
+                    self.part = Part::NoValue;
+                    Ok(false)
+                }
+                ParsedValue::Uninitialized => Err(self.reader.nothing()),
+                _ => Ok(false),
+            },
+        }
+    }
+
+    fn begin_seq(&mut self, _input: &[u8]) -> Result<()> {
+        match self.part {
+            Part::Key => return Err(self.no_value()),
+            Part::NoValue => {}
+            Part::Value | Part::Held => {
+                self.reader.items(self.node)?;
+            }
+        }
+        self.open(FrameKind::Items)
+    }
+
+    #[inline(always)]
+    fn next_item(&mut self, _input: &[u8]) -> Result<bool>
+        ensures step { IfOk result (λ b. MatchBool b (Stays self.old self.new) (Reads self.old seq_ends self.new)) }
+        ensures end { IfOk result (λ b. MatchBool b ⊤ (HasNoItem self.old)) }
+    {
+        self.go_to_item()
+    }
+
+    // More items than a tuple has are passed over.
+    fn end_tuple(&mut self, _input: &[u8]) -> Result<()> {
+        self.close();
+        Ok(())
+    }
+
+    fn begin_map(&mut self, _input: &[u8]) -> Result<()> {
+        match self.part {
+            Part::Key => return Err(self.no_value()),
+            Part::NoValue => {}
+            Part::Value | Part::Held => {
+                self.reader.entries(self.node)?;
+            }
+        }
+        self.open(FrameKind::Map)
+    }
+
+    // A sequence is begun as a map too: `next_key` then counts its fields, and further items are passed over. A text holds fields only in a
+    // variant, under the empty key.
+    fn begin_struct(&mut self, _input: &[u8]) -> Result<bool> {
+        let mut kind = FrameKind::Fields;
+        match self.part {
+            Part::Key => return Err(self.no_value()),
+            Part::NoValue => {}
+            Part::Value | Part::Held => match self.node {
+                ParsedValue::NoValue | ParsedValue::Null | ParsedValue::Map(_) => {}
+                ParsedValue::Sequence(_) => kind = FrameKind::Places,
+                ParsedValue::String(_) => {
+                    if self.part == Part::Value {
+                        return Err(self.reader.not_a_struct(self.node));
+                    }
+                }
+                ParsedValue::Uninitialized => return Err(self.reader.nothing()),
+            },
+        }
+        self.open(kind)?;
+        Ok(false)
+    }
+
+    #[inline(always)]
+    fn next_key(&mut self, _input: &[u8], names: &[Name<'_>]) -> Result<Option<usize>> {
+        let Some(frame) = self.last() else {
+            return Ok(None);
+        };
+        match frame.kind {
+            FrameKind::Fields => {
+                if self.search.in_order {
+                    self.go_to_field(names)
+                } else {
+                    self.go_to_member(names, Part::Value)
+                }
+            }
+            FrameKind::Places => self.go_to_place(names),
+            FrameKind::Map | FrameKind::Items => self.go_to_shared(names),
+        }
+    }
+
+    fn next_entry(&mut self, _input: &[u8]) -> Result<bool>
+        ensures step { IfOk result (λ b. MatchBool b (Reads self.old key_begins self.new) (Reads self.old map_ends self.new)) }
+        ensures end { IfOk result (λ b. MatchBool b ⊤ (HasNoEntry self.old)) }
+    {
+        match self.go_to_entry() {
+            Some(_) => {
+                self.part = Part::Key;
+                Ok(true)
+            }
+            None => Ok(false),
+        }
+    }
+
+    fn variant(&mut self, _input: &[u8], names: &[Name<'_>]) -> Result<usize> {
+        let is_key = self.part == Part::Key;
+        let node = self.take();
+        self.asked = if is_key { Asked::Key } else { Asked::Variant };
+        match find_node(names, node) {
+            Some(at) => Ok(at),
+            None => Err(self.no_variant(node)),
+        }
+    }
+
+    fn skip(&mut self, _input: &[u8]) -> Result<()> {
+        if self.part == Part::Key {
+            self.part = Part::Value;
+        }
+        Ok(())
+    }
+
+    fn mark(&mut self) -> Mark
+        ensures { (result.depth ≡ length self.old.stack.items) × (result.part ≡ self.old.part) × (self.new ≡ self.old) }
+    {
+        Mark {
+            depth: self.stack.len(),
+            part: self.part,
+        }
+    }
+
+    fn rewind(&mut self, mark: Mark)
+        ensures stack { self.new.stack.items ≡ take mark.depth self.old.stack.items }
+        ensures part { (self.new.part ≡ mark.part) × (self.new.reader ≡ self.old.reader) }
+    {
+        self.stack.truncate(mark.depth);
+        self.find_top();
+        self.part = mark.part;
+        match self.last() {
+            Some(frame) => self.go_to(child(self.top, frame.last_index())),
+            None => self.go_to(self.root),
+        }
+        self.asked = Asked::Tried;
+    }
+
+    fn release(&mut self, _mark: Mark) {}
+
+    fn is_fatal(&self, error: &Error) -> bool {
+        matches!(error, Error::OutOfMemory)
+    }
+
+    // A sequence that is read as a struct lacks an item rather than a name.
+    fn missing(&self, name: &str) -> Error {
+        if self.lacks_items {
+            self.reader.missing_item(self.count)
+        } else {
+            self.reader.missing_field(name)
+        }
+    }
+
+    fn duplicate(&self, name: &str) -> Error {
+        self.reader.duplicate_field(name)
+    }
+
+    fn unknown_key(&self) -> Error {
+        self.no_field()
+    }
+
+    // A text was looked up among the names, or the key that came last.
+    fn unknown_variant(&self) -> Error {
+        match self.asked {
+            Asked::Variant => self.no_variant(Node::Value(self.node)),
+            Asked::Key => self.no_variant(self.key()),
+            _ => Error::custom(self.reader.alloc, "unknown variant", &()),
+        }
+    }
+
+    fn wrong_len(&self) -> Error {
+        self.reader.missing_item(self.count)
+    }
+
+    fn invalid(&self) -> Error {
+        self.unfit()
+    }
+
+    fn no_memory(&self) -> Error {
+        Error::OutOfMemory
+    }
+
+    fn custom(&self, message: &str) -> Error {
+        Error::custom(self.reader.alloc, message, &())
+    }
+}

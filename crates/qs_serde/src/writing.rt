@@ -1,0 +1,7 @@
+//! The text of a querystring, written step by step.
+
+mod frame;
+mod serializer;
+mod text;
+
+pub use text::TextSerializer;

@@ -16,7 +16,8 @@ use percent_encoding::percent_encode_byte;
 /// space as `+`. An escape is `%` and two upper case hexadecimal digits, as in RFC 3986, section 2.1. [`decode`](crate::decode)
 /// returns the same bytes.
 ///
-/// Of 32 bytes or more, those before the first that changes, which [`find_encoded`](crate::find_encoded) finds, are copied at once.
+/// Of 32 bytes or more, those before the first that changes, which [`find_encoded`](crate::find_encoded) finds, are copied at once, in
+/// multiples of 32.
 ///
 /// Allocates room in `out` first. The only error is [`OutOfMemory`](crate::Error::OutOfMemory), where that failed; `out` isn't changed
 /// then. Takes linear time.
@@ -40,7 +41,7 @@ pub fn encode(bytes: &[u8], form: bool, out: &mut Vec<u8>) -> Result<()>
         return Ok(out.extend_from_slice(&room[..len])?);
     }
     match find_encoded(bytes, form) {
-        Some(at) => append_from(bytes, form, at, out),
+        Some(at) => append_from(bytes, form, at - at % LANES, out),
         None => Ok(out.extend_from_slice(bytes)?),
     }
 }

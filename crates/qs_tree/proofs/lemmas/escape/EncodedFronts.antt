@@ -54,11 +54,11 @@ kept_run form (suc n) (b ∷ bs) within kept =
     ap (λ x. x ++ encoded form bs) (byte_kept form b (kept 0 (omega arith) (omega arith)))
     ∙ ap (λ x. b ∷ x) (kept_run form n bs (omega arith) (λ k from to. kept (suc k) (omega arith) (omega arith)))
 
--- bytes up to the first that is changed
-pub from_first : (form : Bool) (bs : List ℕ) (n : ℕ) → Some n ≡ position (is_encoded form) bs → encoded form bs ≡ take n bs ++ encoded form (drop n bs)
-from_first form bs n is =
+-- bytes before the first that is changed
+pub from_first : (form : Bool) (bs : List ℕ) (n m : ℕ) → Some n ≡ position (is_encoded form) bs → m ≤ n → encoded form bs ≡ take m bs ++ encoded form (drop m bs)
+from_first form bs n m is few =
     let at = position-Some (is_encoded form) bs n 0 (sym is) in
-    kept_run form n bs (omega (arith, at.0)) (λ k from to. at.2 k to)
+    kept_run form m bs (omega (arith, at.0, few)) (λ k from to. at.2 k (omega (arith, to, few)))
 
 -- bytes none of which is changed
 pub none_encoded : (form : Bool) (bs : List ℕ) → None ≡ position (is_encoded form) bs → encoded form bs ≡ bs

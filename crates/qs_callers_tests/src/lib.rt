@@ -34,6 +34,8 @@ mod same;
 #[cfg(test)]
 mod strict;
 #[cfg(test)]
+mod traced;
+#[cfg(test)]
 mod tuples;
 #[cfg(test)]
 mod values;

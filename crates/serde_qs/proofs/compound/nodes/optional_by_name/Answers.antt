@@ -33,7 +33,7 @@ returns-in_ok-of_result-in-One g c =
     let n = tree_of c.in-One.node.now in
     let r = reads c.args.reader.reject_duplicates t.form in
     let m : Data → Option (Option t.Value) = λ d. option_map Some (t.meaning d) in
-    let node = narrowed_gives t.value (is_text n) c.from_node.result (Ok c.in_ok-of_result-in-One.value) (option_and_then t.meaning (r n)) c.in_ok-of_result-in-One.ensures c.from_node.ensures.node in
+    let node = narrowed_gives t.value (is_text n) c.from_node.result (Ok c.in_ok-of_result-in-One.field-0) (option_and_then t.meaning (r n)) c.in_ok-of_result-in-One.ensures c.from_node.ensures.node in
     ap (value_found m (Some None) r) c.in-One.ensures ∙ sym (some_read t.meaning (r n)) ∙ ap (option_map Some) node
 
 pub returns-in-Several : goal.returns-in-Several

@@ -27,8 +27,8 @@ returns-in_err-fields g c =
     gives_exit t.value (entries_are_text es) (entries_are_text es) c.from_residual.result e read (names_read u reject_duplicates fs m es) c.from_residual.ensures.1
     (narrowed_gives t.value (entries_are_text es) c.from_entries.result (Err e) read c.in_err-fields.ensures c.from_entries.ensures) (names_unread u reject_duplicates fs m es) (λ f. f)
 
-pub returns-in_err-of_result-2 : goal.returns-in_err-of_result-2
-returns-in_err-of_result-2 g c =
+pub returns-in_err-of_result : goal.returns-in_err-of_result
+returns-in_err-of_result g c =
     let t = g.F.Fields.table in
     let es = entries_view c.args.entries in
     let u = unknown_of c.args.unknown in
@@ -36,9 +36,9 @@ returns-in_err-of_result-2 g c =
     let fs = t.form (texts c.args.names.now) in
     let m = t.meaning (texts c.args.names.now) in
     let known = keys_are_names (fields_of fs) es || are_ignored u in
-    let e = c.in_err-of_result-2.field-0.0 in
-    gives_exit t.value (keys_are_text es) (entries_are_text es) c.from_residual-in_err-of_result-2.result e (when known) (names_read u reject_duplicates fs m es) c.from_residual-in_err-of_result-2.ensures.1
-    (narrowed_gives (λ _. tt) (keys_are_text es) c.reject.result (Err e) (when known) c.in_err-of_result-2.ensures c.reject.ensures) (λ none. names_disallowed u reject_duplicates fs m es (and_right (keys_are_text es) known (fails known none))) (keys_bad es)
+    let e = c.in_err-of_result.field-0.0 in
+    gives_exit t.value (keys_are_text es) (entries_are_text es) c.from_residual-in_err-of_result.result e (when known) (names_read u reject_duplicates fs m es) c.from_residual-in_err-of_result.ensures.1
+    (narrowed_gives (λ _. tt) (keys_are_text es) c.reject.result (Err e) (when known) c.in_err-of_result.ensures c.reject.ensures) (λ none. names_disallowed u reject_duplicates fs m es (and_right (keys_are_text es) known (fails known none))) (keys_bad es)
 
 pub returns-in-Ok : goal.returns-in-Ok
 returns-in-Ok g c =
@@ -50,7 +50,7 @@ returns-in-Ok g c =
     let m = t.meaning (texts c.args.names.now) in
     let known = keys_are_names (fields_of fs) es || are_ignored u in
     names_ok u reject_duplicates fs m es (t.value c.in_ok-fields.fields) c.in-Ok.ensures.text
-    (passes known (narrowed_gives (λ _. tt) (keys_are_text es) c.reject.result (Ok tt) (when known) c.in_ok-of_result-2.ensures c.reject.ensures))
+    (passes known (narrowed_gives (λ _. tt) (keys_are_text es) c.reject.result (Ok tt) (when known) c.in_ok-of_result.ensures c.reject.ensures))
     (narrowed_gives t.value (entries_are_text es) c.from_entries.result (Ok c.in_ok-fields.fields) (by_names reject_duplicates fs m es) c.in_ok-fields.ensures c.from_entries.ensures)
 
 pub returns-in-Err : goal.returns-in-Err

@@ -15,7 +15,7 @@ struct Place<'t, 'qs> {
     node: &'t ParsedValue<'qs>,
 }
 
-/// Returns the paths of a querystring's leaves, a line each, as `["user"]["ids"][0]` for `user[ids][0]=7`. The errors are those of `parse`.
+/// Returns the paths of a querystring's leaves, a line each, as `["user"]["ids"][0]` for `user[ids][0]=7`. It returns the errors of `parse`.
 pub fn leaf_paths(alloc: Global, input: &str) -> Result<String>
     ensures no_tree { IsParse result → HasNoTree default.form default.max_depth input.now }
     ensures rejected { HasNoTree default.form default.max_depth input.now → IsParse result ⊎ IsOutOfMemory result }

@@ -58,7 +58,7 @@ impl Compound for Products {
     }
 }
 
-/// Returns the querystring of the page after that of the input.
+/// Returns the querystring of the next page.
 pub fn next_page(alloc: Global, input: &str) -> Result<String>
     ensures { IfOk result (λ text. (found : Products) × IsRead default ⟦<Products as Deserialize>⟧.table.form ⟦<Products as Deserialize>⟧.table.meaning input.now (⟦<Products as Deserialize>⟧.table.value found)
         × (string_bytes text ≡ text_of default (⟦<Products as Serialize>⟧.datum (turned found)))) }

@@ -7,7 +7,7 @@ use std::alloc::Global;
 use std::collections::BTreeMap;
 use std::process::Abort;
 
-/// Inputs, each with its error in front of which the path stands.
+/// Inputs, each with its error, which begins with the path.
 type Rows<'a> = &'a [(&'a [u8], &'a str)];
 
 // Claims that no `T` is read from each of these inputs, with the line beside it.

@@ -55,7 +55,7 @@ pub enum Problem {
     /// This is expected, and that stands there.
     Unfit(Expected, Found),
     /// The part has this key, which its shape doesn't allow: no field or variant has it, the key shape of a map doesn't read it,
-    /// or it isn't UTF-8. What is expected of the part stands beside it: of an enum its variants.
+    /// or it isn't UTF-8. It has what is expected of the part, too: of an enum its variants.
     UnexpectedKey(Segment, Expected),
 }
 
@@ -72,7 +72,7 @@ impl Mismatch {
 }
 
 /// One line: the error of an input without a tree, that the query has no pairs, or the path and the problem, as
-/// `age: expected u8, found the text "300"`. A control character of the input stands as its escape.
+/// `age: expected u8, found the text "300"`. A control character of the input is written as its escape.
 impl fmt::Display for Explanation {
     fn fmt<W: fmt::Write>(&self, f: &mut fmt::Formatter<W>) -> fmt::Result {
         match self {

@@ -1,4 +1,4 @@
-//! What stands at a part.
+//! What is found at a part.
 
 ghost use Rattle.std.specs.Prelude.{IfOk};
 ghost use Rattle.qs_tree.specs.tree.Views.{tree_of};
@@ -9,7 +9,7 @@ use qs_tree::ParsedValue;
 use std::alloc::{AllocError, Global};
 use std::fmt;
 
-/// What stands at a part.
+/// What is found at a part.
 ///
 /// ```
 /// let text = Found::Map.to_string(alloc)?; // nested keys
@@ -31,7 +31,7 @@ pub enum Found {
 }
 
 impl Found {
-    /// Returns what stands at a node. It allocates for a text.
+    /// Returns what is found at a node. It allocates for a text.
     pub(crate) fn at(alloc: Global, node: &ParsedValue<'_>) -> Result<Found, AllocError>
         ensures { IfOk result (λ found. Stands found (tree_of node.now)) }
     {

@@ -1,5 +1,5 @@
--- Names in UTF-8, by a test that computes: whether the names in a program are, the check sees without a proof.
-use Rattle.std.specs.Prelude.{ℕ, ◌+◌, ◌-◌, ◌*◌, ◌/◌, Bool, ◌&&◌, cond, nat_le, nat_lt, List, [], ◌∷◌, ◌++◌}
+-- Names that suit the fields, and names in UTF-8, by tests that compute: of the names in a program the check sees it without a proof.
+use Rattle.std.specs.Prelude.{◌≡◌, refl, true, false, ℕ, ◌+◌, ◌-◌, ◌*◌, ◌/◌, Bool, ◌&&◌, cond, nat_le, nat_lt, List, [], ◌∷◌, ◌++◌}
 use Rattle.std.specs.Str.{bytes_eq}
 use lib.Utf8.{next, scalars}
 
@@ -33,3 +33,15 @@ front (b ∷ bs) = byte_before b (front bs)
 -- the bytes are those of the characters that they were decoded to
 abbrev pub is_text : List ℕ → Bool
 is_text bs = scalars (front bs).2 && bytes_eq (all_encoded (front bs).2) bs
+
+-- The names don't suit the fields: there are too few or too many, two that belong together are equal, or one isn't UTF-8. Nothing is of this type.
+pub data NamesDoNotSuitFields : Type 0 where
+
+-- The names suit the fields, as a type that computes, so that `_` stands for its proof.
+abbrev pub NamesSuitFields : Bool → Type 0
+NamesSuitFields true = Unit {0}
+NamesSuitFields false = NamesDoNotSuitFields
+
+pub suited : (b : Bool) → NamesSuitFields b → b ≡ true
+suited true h = refl
+suited false h = elim h [ ]

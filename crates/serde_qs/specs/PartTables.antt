@@ -7,6 +7,7 @@ use Rattle.qs_spec.specs.Shape.{Shape, Field, fields_of, shapes_of, variants_of,
 use Rattle.serde_qs.specs.ComesBack.{FieldsComeBack, FieldsFit, PartsComeBack, PartsFit}
 use Rattle.serde_qs.specs.Defaulted.{defaulted_in}
 use Rattle.serde_qs.specs.Meaning.{newtype_in, option_all}
+use Rattle.serde_qs.specs.Names.{NamesSuitFields, suited}
 use Rattle.serde_qs.specs.Optional.{FieldsAreNamed, optional_data, optional_in}
 use Rattle.serde_qs.specs.Records.{are_names, field_form, member_data, member_in, nothing_in, others_of, struct_in}
 use Rattle.serde_qs.specs.Tables.{Table, valid_table}
@@ -21,7 +22,7 @@ use Rattle.serde_qs.specs.declared.compound.payloads.Tuple.{Tuple}
 use Rattle.serde_qs.specs.declared.compound.strict.StrictStruct.{StrictStruct}
 use Rattle.serde_qs.specs.declared.compound.variants.Last.{Last}
 use Rattle.serde_qs.specs.declared.compound.variants.OneOf.{OneOf}
-use Rattle.serde_qs.specs.internal.Booleans.{Holds, both_true, held}
+use Rattle.serde_qs.specs.internal.Booleans.{both_true}
 use Rattle.serde_qs.specs.internal.ComesBack.{fields_back, newtype_back, nothing_back, struct_back}
 use Rattle.serde_qs.specs.internal.Defaulted.{defaulted_back}
 use Rattle.serde_qs.specs.internal.Fits.{enum_fits, field_fits, items_fit, last_fits, nothing_fits, one_fits, optional_fits, struct_fits}
@@ -380,9 +381,9 @@ abbrev pub names_in : List (record { now : List ℕ }) → List (List ℕ)
 names_in names = map (λ n. n.now) names
 
 -- A struct or an enum by its parts, under these names, which suit the parts.
-abbrev pub made_of : {A B : Type 0} (t : PartsTable B) (names : List (record { now : List ℕ })) (parts : A → B) → Holds (t.are_named (names_in names)) → Table A
+abbrev pub made_of : {A B : Type 0} (t : PartsTable B) (names : List (record { now : List ℕ })) (parts : A → B) → NamesSuitFields (t.are_named (names_in names)) → Table A
 made_of t names parts suit =
     let ns : List (List ℕ) = names_in names in
-    let named = held (t.are_named ns) suit in
+    let named = suited (t.are_named ns) suit in
     valid_table (λ x. t.value (parts x)) (λ x. t.written ns (parts x)) (λ x. t.is_valid (parts x)) (t.form ns) (t.meaning ns) (t.distinct ns named) (λ x h. t.fit ns (parts x) named h)
     (λ x e h p. t.come_back ns (parts x) e named h p)

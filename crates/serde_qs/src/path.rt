@@ -87,7 +87,7 @@ impl Path {
     }
 }
 
-/// A key within one line: a control character stands as its escape, such as `\u{a}`.
+/// A key within one line: a control character is written as its escape, such as `\u{a}`.
 impl fmt::Display for Step {
     fn fmt<W: fmt::Write>(&self, f: &mut fmt::Formatter<W>) -> fmt::Result {
         match self {

@@ -10,12 +10,3 @@ both_hold false b h = absurd (false≢true h)
 
 pub both_true : {a b : Bool} → a ≡ true → b ≡ true → (a && b) ≡ true
 both_true {a} {b} p q = ap (λ x. x && b) p ∙ q
-
--- A test that holds, as a type that computes: a proof of a test of given names needs not be written out, since `_` stands for it.
-abbrev pub Holds : Bool → Type 0
-Holds true = Unit {0}
-Holds false = ⊥
-
-pub held : (b : Bool) → Holds b → b ≡ true
-held true h = refl
-held false h = absurd h

@@ -1,6 +1,5 @@
-use Rattle.std.proofs.Common.{◌≡◌, ◌+◌, ◌-◌, ◌++◌, [], ◌∷◌, ap, sym, subst, ◌∙◌, map, length, string_bytes, true, false, codes, arith, rules}
+use Rattle.std.proofs.Common.{◌≡◌, ◌+◌, ◌-◌, [], ◌∷◌, ap, sym, subst, ◌∙◌, map, length, string_bytes, true, codes, arith, rules}
 use Rattle.std.proofs.lemmas.Grind.{common_steps}
-use Rattle.std.specs.Str.{bytes_eq}
 use Rattle.qs_spec.specs.Shape as s
 use Rattle.qs_data.specs.declared.shape.shape.Field as f
 use Rattle.qs_data.specs.declared.shape.shape.Shape as r

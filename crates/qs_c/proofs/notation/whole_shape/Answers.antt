@@ -29,7 +29,7 @@ returns-then-len-gt0-clause-shape c =
     let some : is_empty rest ≡ false = something-left rest (omega arith) in
     then-found _ _ _ s rest c.in_ok-shape.ensures (cond-false (is_empty rest) _ _ _ some refl)
 
-pub returns-then-not-is_distinct_by_sorting-clause-shape : goal.returns-then-not-is_distinct-clause-shape
+pub returns-then-not-is_distinct_by_sorting-clause-shape : goal.returns-then-not-is_distinct_by_sorting-clause-shape
 returns-then-not-is_distinct_by_sorting-clause-shape c =
     let s = shape_of c.in_ok-shape.shape in
     let rest = c.shape.new.cursor.rest.now in

@@ -1,5 +1,10 @@
 //! Calls that read.
 
+ghost use Rattle.std.specs.Prelude.{IfErr};
+ghost use Rattle.qs_spec.specs.Config.{default};
+ghost use Rattle.qs_data.specs.read.Errors.{IsOfReading};
+ghost use Rattle.qs_serde.specs.Inputs.{ExplainsFrom, ReturnsFrom};
+
 use crate::reading::{PathError, TreeFormat, explained, read_tree};
 use qs_tree::{Config, Error, ParsedValue, Result, parse};
 use serde::Deserialize;
@@ -22,7 +27,9 @@ use std::alloc::Global;
 /// Of several mistakes the first in the order of the fields is reported, then one in another key, and then a missing field. It allocates for
 /// the tree, for a number for each list or map that is open, and for what the type allocates. The time grows with the input and the value.
 /// After an error the tree is read once more to find which comes first, and up to three times more to find the type of a number.
-pub fn from_str<'de, T: Deserialize<'de>>(alloc: Global, input: &'de str) -> Result<T> {
+pub fn from_str<'de, T: Deserialize<'de>>(alloc: Global, input: &'de str) -> Result<T>
+    ensures { ReturnsFrom default input.now result }
+{
     from_bytes_with(alloc, Config::new(), input.as_bytes())
 }
 
@@ -32,7 +39,9 @@ pub fn from_str<'de, T: Deserialize<'de>>(alloc: Global, input: &'de str) -> Res
 /// ```
 /// let query: Query = from_bytes(alloc, b"age=24&name=Alice")?;
 /// ```
-pub fn from_bytes<'de, T: Deserialize<'de>>(alloc: Global, input: &'de [u8]) -> Result<T> {
+pub fn from_bytes<'de, T: Deserialize<'de>>(alloc: Global, input: &'de [u8]) -> Result<T>
+    ensures { ReturnsFrom default input.now result }
+{
     from_bytes_with(alloc, Config::new(), input)
 }
 
@@ -47,7 +56,9 @@ pub fn from_str_with<'de, T: Deserialize<'de>>(
     alloc: Global,
     config: Config,
     input: &'de str,
-) -> Result<T> {
+) -> Result<T>
+    ensures { ReturnsFrom config input.now result }
+{
     from_bytes_with(alloc, config, input.as_bytes())
 }
 
@@ -64,7 +75,9 @@ pub fn explain_str<'de, T: Deserialize<'de>>(
     alloc: Global,
     config: Config,
     input: &'de str,
-) -> Result<T, PathError> {
+) -> Result<T, PathError>
+    ensures { ExplainsFrom config input.now result }
+{
     explain_bytes(alloc, config, input.as_bytes())
 }
 
@@ -78,7 +91,9 @@ pub fn explain_bytes<'de, T: Deserialize<'de>>(
     alloc: Global,
     config: Config,
     input: &'de [u8],
-) -> Result<T, PathError> {
+) -> Result<T, PathError>
+    ensures { ExplainsFrom config input.now result }
+{
     match parse(alloc, input, config) {
         Ok(tree) => read_parsed(alloc, config, input, &tree),
         Err(error) => Err(PathError {
@@ -98,7 +113,9 @@ pub fn from_bytes_with<'de, T: Deserialize<'de>>(
     alloc: Global,
     config: Config,
     input: &'de [u8],
-) -> Result<T> {
+) -> Result<T>
+    ensures { ReturnsFrom config input.now result }
+{
     match explain_bytes(alloc, config, input) {
         Ok(value) => Ok(value),
         Err(error) => Err(error.error),
@@ -111,10 +128,12 @@ fn read_parsed<'de, T: Deserialize<'de>>(
     config: Config,
     input: &'de [u8],
     tree: &ParsedValue<'_>,
-) -> Result<T, PathError> {
+) -> Result<T, PathError>
+    ensures { IfErr result (λ e. IsOfReading e.error) }
+{
     let mut format = TreeFormat::new(alloc, config, tree);
     match read_tree(alloc, input, &mut format) {
         Ok(value) => Ok(value),
-        Err(error) => Err(explained::<T>(alloc, config, input, tree, error)),
+        Err(error) => Err(explained::<T>(alloc, config, input, tree, error).of_reading(alloc)),
     }
 }

@@ -1,13 +1,14 @@
 //! The format: where it is in a tree, and how it moves there.
 
-ghost use Rattle.std.specs.Prelude.{◌≡◌, ◌≢◌, ◌-◌, [], Some, slice_get, OnOk};
+ghost use Rattle.std.specs.Prelude.{◌≡◌, ◌≢◌, ◌<◌, ◌-◌, ◌++◌, ◌∷◌, [], false, suc, Some, slice_get, OnOk};
 ghost use Rattle.qs_spec.specs.Config.{are_rejected};
 ghost use Rattle.qs_tree.specs.tree.Views.{tree_of};
 ghost use Rattle.qs_serde.specs.Nodes.{key_tree, node_tree, pairs_in};
-ghost use Rattle.qs_serde.specs.Steps.{Opens, Takes, last_frame, part_view, passed, tree_at};
+ghost use Rattle.qs_serde.specs.Places.{IsAt, around, child_at, kind_of, last_frame, part_view, passed, tree_at};
+ghost use Rattle.qs_serde.specs.Steps.{Begins, IsPlain, Leaves, Moves, Takes};
 
 use super::frame::{Frame, FrameKind};
-use super::node::{Node, Part, child, entry_at};
+use super::node::{Node, Part, entry_at, last_of};
 use qs_data::{Reader, Width};
 use qs_tree::{Config, ParsedValue, Result};
 use serde::{Deserialize, Deserializer};
@@ -84,7 +85,7 @@ pub struct Mark {
 impl Search {
     /// Returns the search of a read that looks for no error.
     pub(crate) fn none() -> Search
-        ensures { result.probed ≡ 0 }
+        ensures { result.in_order ≡ false }
     {
         Search {
             in_order: false,
@@ -104,7 +105,8 @@ impl<'t, 'qs> TreeFormat<'t, 'qs> {
     pub fn new(alloc: Global, config: Config, tree: &'t ParsedValue<'qs>) -> TreeFormat<'t, 'qs>
         ensures tree { tree_at result ≡ tree_of tree.now }
         ensures duplicates { result.reader.reject_duplicates ≡ are_rejected config.duplicates }
-        ensures plain { result.search.probed ≡ 0 }
+        ensures plain { IsPlain result }
+        ensures place { IsAt result }
     {
         TreeFormat {
             reader: Reader::new(alloc, config),
@@ -172,7 +174,7 @@ impl<'t, 'qs> TreeFormat<'t, 'qs> {
 
     /// Begins a list or a map of what is next.
     pub(crate) fn open(&mut self, kind: FrameKind) -> Result<()>
-        ensures { OnOk result (Opens self.old (record { kind = kind; next = 0; field = 0 }) self.new) }
+        ensures { OnOk result (Begins self.old kind self.new) }
     {
         self.stack.push(Frame::new(kind))?;
         self.top = self.node;
@@ -181,42 +183,57 @@ impl<'t, 'qs> TreeFormat<'t, 'qs> {
 
     /// Leaves the innermost list or map.
     #[inline(always)]
-    pub(crate) fn close(&mut self) {
+    pub(crate) fn close(&mut self)
+        ensures { Leaves self.old self.new }
+    {
         self.stack.pop();
-        self.find_top();
+        self.find_place();
         self.asked = Asked::Unit;
     }
 
-    /// Goes from the root to the innermost list or map.
-    pub(crate) fn find_top(&mut self)
-        ensures { self.new ≡ record self.old { top = self.new.top } }
+    /// Finds the innermost list or map from the root, and what came last of it.
+    pub(crate) fn find_place(&mut self)
+        ensures kept { self.new ≡ record self.old { top = self.new.top; node = self.new.node } }
+        ensures place { IsAt self.new }
     {
-        let mut value = self.root;
-        let mut outer: Option<usize> = None;
+        let mut top = self.root;
+        let mut node = self.root;
         for frame in &self.stack {
-            if let Some(at) = outer {
-                value = child(value, at);
-            }
-            outer = Some(frame.last_index());
+            top = node;
+            node = last_of(node, frame.next);
         }
-        self.top = value;
+        self.go_to(top, node);
     }
 
-    /// Goes to this node.
+    // Changes the innermost list or map, and what came last of it.
     #[inline(always)]
-    pub(crate) fn go_to(&mut self, value: &'t ParsedValue<'qs>)
-        ensures kept { self.new ≡ record self.old { node = self.new.node; asked = self.new.asked } }
-        ensures node { self.new.node.now ≡ value.now }
+    fn go_to(&mut self, top: &'t ParsedValue<'qs>, node: &'t ParsedValue<'qs>)
+        ensures kept { self.new ≡ record self.old { top = self.new.top; node = self.new.node } }
+        ensures top { self.new.top.now ≡ top.now }
+        ensures node { self.new.node.now ≡ node.now }
     {
+        self.top = top;
+        self.node = node;
+    }
+
+    /// Goes to this part of the innermost list or map, which is at the frame's index of it.
+    #[inline(always)]
+    pub(crate) fn advance(&mut self, frame: Frame, value: &'t ParsedValue<'qs>)
+        ensures moves { kind_of self.old ≡ Some frame.kind → frame.next < 18446744073709551615 → child_at (tree_of self.old.top.now) frame.next ≡ tree_of value.now → Moves frame.next self.old self.new }
+        ensures node { self.new.node.now ≡ value.now }
+        ensures kept { self.new ≡ record self.old { node = self.new.node; stack = self.new.stack; asked = self.new.asked } }
+    {
+        self.set_last(frame.advanced());
         self.node = value;
         self.asked = Asked::Unit;
     }
 
-    /// Changes the innermost list or map to this.
+    // Changes the frame of the innermost list or map to this.
     #[inline(always)]
-    pub(crate) fn set_last(&mut self, frame: Frame)
+    #[tactic(auto, using(crate::proofs::Places::put_last))]
+    fn set_last(&mut self, frame: Frame)
         ensures kept { self.new ≡ record self.old { stack = self.new.stack } }
-        ensures last { self.old.stack.items ≢ [] → last_frame self.new.stack.items ≡ Some frame }
+        ensures last { self.old.stack.items ≢ [] → self.new.stack.items ≡ around self.old.stack.items ++ frame ∷ [] }
     {
         if let Some(last) = self.stack.last_mut() {
             *last = frame;

@@ -1,6 +1,6 @@
 //! Lists and maps that are being read.
 
-ghost use Rattle.std.specs.Prelude.{◌≡◌, ◌⊎◌, ◌-◌, suc};
+ghost use Rattle.std.specs.Prelude.{◌≡◌, ◌<◌, ◌-◌, suc};
 
 /// A list or a map that is being read.
 #[derive(Clone, Copy)]
@@ -40,8 +40,7 @@ impl Frame {
     /// Returns the frame after one more part came.
     #[inline(always)]
     pub(crate) fn advanced(self) -> Frame
-        ensures next { (result.next ≡ suc self.next) ⊎ (self.next ≡ 18446744073709551615) }
-        ensures kept { result ≡ record self { next = result.next } }
+        ensures { self.next < 18446744073709551615 → result ≡ record self { next = suc self.next } }
     {
         Frame {
             next: self.next.saturating_add(1),

@@ -1,28 +1,28 @@
 //! The parts of lists and maps, one after another.
 
-ghost use Rattle.std.specs.Prelude.{◌≡◌, [], Ok, None, IfOk, IfSome, IfNone, MatchBool, MatchOption};
-ghost use Rattle.qs_serde.specs.Steps.{Comes, ComesAnywhere, EntryComes, EntryIs, HasNoEntry, HasNoItem, count_of};
+ghost use Rattle.std.specs.Prelude.{◌≡◌, ℕ, ◌≢◌, [], Ok, None, Some, IfOk, IfSome, IfNone, MatchBool, MatchOption, slice_get};
+ghost use Rattle.qs_tree.specs.tree.Views.{tree_of};
+ghost use Rattle.qs_serde.specs.Nodes.{pairs_in};
+ghost use Rattle.qs_serde.specs.Places.{count_of, kind_of};
+ghost use Rattle.qs_serde.specs.Steps.{Comes, EntryComes, EntryIs, HasNoItem, HasParts, Leaves};
 
 use super::format::{Asked, TreeFormat};
 use super::frame::{Frame, FrameKind};
 use super::names::{find_node, first_name};
-use super::node::{Node, Part, entry_at, items_in};
-use qs_tree::Result;
+use super::node::{Node, Part, entry_at, item_at};
+use qs_tree::{ParsedValue, Result};
 use serde::Name;
 
 impl<'t, 'qs> TreeFormat<'t, 'qs> {
     /// Goes to the next item of the innermost list, if there is one. At the end it leaves the list.
     #[inline(always)]
-    pub(crate) fn go_to_item(&mut self) -> Result<bool>
-        ensures { IfOk result (λ b. MatchBool b (Comes self.old self.new) (HasNoItem self.old)) }
+    #[tactic(auto, using(crate::proofs::Places::item_child))]
+    pub(crate) fn go_to_item(&mut self, frame: Frame) -> Result<bool>
+        ensures { kind_of self.old ≡ Some frame.kind → count_of self.old ≡ frame.next → IfOk result (λ b. MatchBool b (Comes self.old self.new) (HasNoItem self.old × Leaves self.old self.new)) }
     {
-        let Some(frame) = self.last() else {
-            return Err(self.no_value());
-        };
-        match items_in(self.top).get(self.reader, frame.next) {
+        match item_at(self.reader, self.top, frame.next) {
             Ok(Some(value)) => {
-                self.set_last(frame.advanced());
-                self.go_to(value);
+                self.advance(frame, value);
                 self.part = Part::Value;
                 Ok(true)
             }
@@ -38,41 +38,53 @@ impl<'t, 'qs> TreeFormat<'t, 'qs> {
     }
 
     // Leaves the innermost list after its last item.
-    fn leave_list(&mut self, frame: Frame) {
+    fn leave_list(&mut self, frame: Frame)
+        ensures { Leaves self.old self.new }
+    {
         self.count = frame.next;
         self.lacks_items = frame.kind == FrameKind::Places;
         self.close();
     }
 
-    /// Goes to the next entry of the innermost map, and returns its key. At the end it leaves the map.
-    #[inline(always)]
-    pub(crate) fn go_to_entry(&mut self) -> Option<Node<'t, 'qs>>
-        ensures some { IfSome result (λ key. EntryComes key self.old self.new) }
-        ensures none { IfNone result (HasNoEntry self.old) }
+    // Leaves the innermost map.
+    fn leave_map(&mut self)
+        ensures { Leaves self.old self.new }
     {
-        let Some(frame) = self.last() else {
-            return None;
-        };
+        self.lacks_items = false;
+        self.close();
+    }
+
+    /// Goes to the entry at the frame's index of the innermost map, and returns its key. At the end it leaves the map.
+    #[inline(always)]
+    #[tactic(auto, using(crate::proofs::Places::entry_child))]
+    pub(crate) fn go_to_entry(&mut self, frame: Frame) -> Option<Node<'t, 'qs>>
+        ensures some { kind_of self.old ≡ Some frame.kind → IfSome result (λ key. EntryComes frame.next key self.old self.new) }
+        ensures none { IfNone result ((slice_get (pairs_in (tree_of self.old.top.now)) frame.next ≡ None) × Leaves self.old self.new) }
+    {
         match entry_at(self.top, frame.next) {
             Some((key, value)) => {
-                self.set_last(frame.advanced());
-                self.go_to(value);
+                self.advance(frame, value);
                 Some(key)
             }
             None => {
-                self.lacks_items = false;
-                self.close();
+                self.leave_map();
                 None
             }
         }
     }
 
-    /// Goes to the next entry of the innermost map, and returns the index of the name that its key stands for.
+    /// Goes to the entry at the frame's index of the innermost map, and returns the index of the name that its key stands for.
     #[inline(always)]
-    pub(crate) fn go_to_member(&mut self, names: &[Name<'_>], part: Part) -> Result<Option<usize>>
-        ensures { IfOk result (λ o. MatchOption o (HasNoEntry self.old) (λ at. EntryIs (count_of self.old) names.now at self.old self.new)) }
+    pub(crate) fn go_to_member(
+        &mut self,
+        names: &[Name<'_>],
+        frame: Frame,
+        part: Part,
+    ) -> Result<Option<usize>>
+        ensures some { kind_of self.old ≡ Some frame.kind → IfOk result (λ o. IfSome o (λ at. EntryIs frame.next names.now at self.old self.new)) }
+        ensures none { IfOk result (λ o. IfNone o ((slice_get (pairs_in (tree_of self.old.top.now)) frame.next ≡ None) × Leaves self.old self.new)) }
     {
-        let Some(key) = self.go_to_entry() else {
+        let Some(key) = self.go_to_entry(frame) else {
             return Ok(None);
         };
         self.part = part;
@@ -84,39 +96,38 @@ impl<'t, 'qs> TreeFormat<'t, 'qs> {
 
     /// Goes to the next item of a sequence that is read as a struct, and returns the index of its field. Further items are passed over.
     #[inline(never)]
-    pub(crate) fn go_to_place(&mut self, names: &[Name<'_>]) -> Result<Option<usize>>
-        ensures { IfOk result (λ o. IfSome o (λ at. Comes self.old self.new)) }
+    pub(crate) fn go_to_place(&mut self, names: &[Name<'_>], frame: Frame) -> Result<Option<usize>>
+        ensures { kind_of self.old ≡ Some frame.kind → count_of self.old ≡ frame.next → IfOk result (λ o. MatchOption o (Leaves self.old self.new) (λ _. Comes self.old self.new)) }
     {
-        let Some(frame) = self.last() else {
-            return Ok(None);
-        };
         let Some(at) = first_name(names, frame.field) else {
             self.leave_list(frame);
             return Ok(None);
         };
-        if !self.go_to_item()? {
-            return Ok(None);
+        let field = at.saturating_add(1);
+        if self.go_to_item(Frame { field, ..frame })? {
+            Ok(Some(at))
+        } else {
+            Ok(None)
         }
-        self.set_last(Frame {
-            field: at.saturating_add(1),
-            ..frame.advanced()
-        });
-        Ok(Some(at))
     }
 
     /// Goes to the next entry of a struct in the order of its fields, and then to the others, and returns the index of its field.
     #[inline(never)]
-    pub(crate) fn go_to_field(&mut self, names: &[Name<'_>]) -> Result<Option<usize>>
-        ensures { IfOk result (λ o. IfSome o (λ at. ComesAnywhere names.now at self.old self.new)) }
+    pub(crate) fn go_to_field(&mut self, names: &[Name<'_>], frame: Frame) -> Result<Option<usize>>
+        ensures some { kind_of self.old ≡ Some frame.kind → IfOk result (λ o. IfSome o (λ at. (i : ℕ) × EntryIs i names.now at self.old self.new)) }
+        ensures none { IfOk result (λ o. IfNone o (Leaves self.old self.new)) }
     {
-        let Some(frame) = self.last() else {
-            return Ok(None);
-        };
         match self.field_after(names, frame) {
-            Some((field, at)) => self.go_to_entry_of(names, frame, field, at),
+            Some((field, next)) => {
+                let frame = Frame {
+                    next,
+                    field,
+                    ..frame
+                };
+                self.go_to_member(names, frame, Part::Value)
+            }
             None => {
-                self.lacks_items = false;
-                self.close();
+                self.leave_map();
                 Ok(None)
             }
         }
@@ -132,24 +143,6 @@ impl<'t, 'qs> TreeFormat<'t, 'qs> {
             from = 0;
         }
         None
-    }
-
-    // Goes to the entry at this index, of this field, and returns the index of the name that its key stands for.
-    fn go_to_entry_of(
-        &mut self,
-        names: &[Name<'_>],
-        frame: Frame,
-        field: usize,
-        at: usize,
-    ) -> Result<Option<usize>>
-        ensures { IfOk result (λ o. IfSome o (λ at. ComesAnywhere names.now at self.old self.new)) }
-    {
-        self.set_last(Frame {
-            next: at,
-            field,
-            ..frame
-        });
-        self.go_to_member(names, Part::Value)
     }
 
     // Returns the index of the first entry from an index on whose key stands for this field; for the index after the last field, whose key
@@ -171,17 +164,18 @@ impl<'t, 'qs> TreeFormat<'t, 'qs> {
     /// Goes to the next entry of a map that names a variant or is shared, and returns the index of the name that its key stands for. An enum asks
     /// for a key among no names at its end: the other keys of its map are passed over.
     #[inline(always)]
-    pub(crate) fn go_to_shared(&mut self, names: &[Name<'_>]) -> Result<Option<usize>>
+    pub(crate) fn go_to_shared(&mut self, names: &[Name<'_>], frame: Frame) -> Result<Option<usize>>
+        ensures some { kind_of self.old ≡ Some frame.kind → IfOk result (λ o. IfSome o (λ at. EntryIs frame.next names.now at self.old self.new)) }
+        ensures none { IfOk result (λ o. IfNone o (Leaves self.old self.new)) }
+        ensures whole { names.now ≢ [] → IfOk result (λ o. IfNone o (slice_get (pairs_in (tree_of self.old.top.now)) frame.next ≡ None)) }
         ensures end { names.now ≡ [] → result ≡ Ok None }
-        ensures member { IfOk result (λ o. IfSome o (λ at. EntryIs (count_of self.old) names.now at self.old self.new)) }
     {
         if names.is_empty() {
             self.close();
             return Ok(None);
         }
-        let is_first = self.last().is_some_and(|frame| frame.next == 0);
-        let found = self.go_to_member(names, Part::Held)?;
-        self.note(found, is_first);
+        let found = self.go_to_member(names, frame, Part::Held)?;
+        self.note(found, frame.next == 0);
         Ok(found)
     }
 
@@ -196,5 +190,18 @@ impl<'t, 'qs> TreeFormat<'t, 'qs> {
             None if is_first => Asked::Enum,
             None => Asked::Nothing,
         };
+    }
+
+    /// Returns as what a struct is begun of what is next. A text holds fields only in a variant, under the empty key.
+    pub(crate) fn kind_of_struct(&self) -> Result<FrameKind>
+        ensures { IfOk result (λ kind. HasParts kind (tree_of self.now.node.now)) }
+    {
+        match self.node {
+            ParsedValue::NoValue | ParsedValue::Null | ParsedValue::Map(_) => Ok(FrameKind::Fields),
+            ParsedValue::Sequence(_) => Ok(FrameKind::Places),
+            ParsedValue::String(_) if self.part == Part::Held => Ok(FrameKind::Fields),
+            ParsedValue::String(_) => Err(self.reader.not_a_struct(self.node)),
+            ParsedValue::Uninitialized => Err(self.reader.nothing()),
+        }
     }
 }

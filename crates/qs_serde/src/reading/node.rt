@@ -1,16 +1,17 @@
 //! The nodes of a tree, and the keys that lead to them.
 
-ghost use Rattle.std.specs.Prelude.{◌≡◌, false, None, slice_get, MatchOption};
+ghost use Rattle.std.specs.Prelude.{◌≡◌, ◌<◌, drop, false, true, None, Some, slice_get, option_map, IfOk, IfSome, MatchOption};
 ghost use Rattle.qs_spec.specs.Leaf.Leaf.{Text};
 ghost use Rattle.qs_spec.specs.Tree.Tree.{leaf};
-ghost use Rattle.qs_tree.specs.tree.Views.{tree_of};
+ghost use Rattle.qs_tree.specs.tree.Views.{marked_segment_of_key, tree_of};
 ghost use Rattle.qs_data.specs.data.Views.{data_of};
 ghost use Rattle.qs_data.specs.shape.Views.{shape_of};
-ghost use Rattle.qs_data.specs.read.Items.{items_view};
+ghost use Rattle.qs_data.specs.read.Items.{first_item, items_view};
 ghost use Rattle.qs_data.specs.read.Reads.{reads};
 ghost use Rattle.qs_data.specs.read.Gives.{Gives};
 ghost use Rattle.qs_data.specs.read.TreeText.{is_text};
 ghost use Rattle.qs_serde.specs.Nodes.{IsEntry, listed, node_tree, pairs_in};
+ghost use Rattle.qs_serde.specs.Places.{child_at, item_or, last_part, value_or};
 
 use itoa::Buffer;
 use qs_data::{Data, Entries, Items, Reader, Shape};
@@ -76,8 +77,27 @@ impl<'t, 'qs> Node<'t, 'qs> {
     }
 }
 
-/// Returns the items of a node that has a list of them.
-pub(crate) fn items_in<'t, 'qs>(value: &'t ParsedValue<'qs>) -> Items<'t, 'qs>
+/// Returns the item at an index of a node, if there are so many; rejected where a map has another key there.
+#[inline(always)]
+pub(crate) fn item_at<'t, 'qs>(
+    reader: Reader,
+    value: &'t ParsedValue<'qs>,
+    at: usize,
+) -> Result<Option<&'t ParsedValue<'qs>>>
+    ensures item { Gives (option_map (λ v. tree_of v.now)) true result (first_item (drop at (listed (tree_of value.now)))) }
+    ensures index { IfOk result (λ item. IfSome item (λ _. at < 18446744073709551615)) }
+{
+    let items = items_in(value);
+    if at < items.len() {
+        items.get(reader, at)
+    } else {
+        Ok(None)
+    }
+}
+
+// Returns the items of a node that has a list of them.
+#[inline(always)]
+fn items_in<'t, 'qs>(value: &'t ParsedValue<'qs>) -> Items<'t, 'qs>
     ensures { items_view result ≡ listed (tree_of value.now) }
 {
     match value {
@@ -103,13 +123,19 @@ pub(crate) fn entry_at<'t, 'qs>(
     value: &'t ParsedValue<'qs>,
     at: usize,
 ) -> Option<(Node<'t, 'qs>, &'t ParsedValue<'qs>)>
-    ensures { MatchOption result (slice_get (pairs_in (tree_of value.now)) at ≡ None) (λ e. IsEntry (slice_get (pairs_in (tree_of value.now)) at) e.0 (tree_of e.1.now)) }
+    ensures entry { MatchOption result (slice_get (pairs_in (tree_of value.now)) at ≡ None) (λ e. IsEntry (slice_get (pairs_in (tree_of value.now)) at) e.0 (tree_of e.1.now)) }
+    ensures index { IfSome result (λ _. at < 18446744073709551615) }
 {
     match value {
-        ParsedValue::Map(map) => match map.at(at) {
-            Some((key, value)) => Some((Node::Key(key), value)),
-            None => None,
-        },
+        ParsedValue::Map(map) => {
+            if at >= map.len() {
+                return None;
+            }
+            match map.at(at) {
+                Some((key, value)) => Some((Node::Key(key), value)),
+                None => None,
+            }
+        }
         ParsedValue::String(_) => {
             if at == 0 {
                 Some((Node::EmptyKey, value))
@@ -121,8 +147,22 @@ pub(crate) fn entry_at<'t, 'qs>(
     }
 }
 
-/// Returns the item or the value at an index; the node itself where there is none.
-pub(crate) fn child<'t, 'qs>(value: &'t ParsedValue<'qs>, at: usize) -> &'t ParsedValue<'qs> {
+/// Returns what came last of a list or a map of which so many parts came; itself where none came.
+#[inline(always)]
+pub(crate) fn last_of<'t, 'qs>(value: &'t ParsedValue<'qs>, count: usize) -> &'t ParsedValue<'qs>
+    ensures { tree_of result.now ≡ last_part (tree_of value.now) count }
+{
+    if count == 0 {
+        value
+    } else {
+        child(value, count - 1)
+    }
+}
+
+// Returns the item or the value at an index; the node itself where there is none.
+fn child<'t, 'qs>(value: &'t ParsedValue<'qs>, at: usize) -> &'t ParsedValue<'qs>
+    ensures { tree_of result.now ≡ child_at (tree_of value.now) at }
+{
     match value {
         ParsedValue::Map(map) => value_or(map.at(at), value),
         ParsedValue::Sequence(items) => item_or(items.get(at), value),
@@ -134,7 +174,9 @@ pub(crate) fn child<'t, 'qs>(value: &'t ParsedValue<'qs>, at: usize) -> &'t Pars
 fn value_or<'t, 'qs>(
     entry: Option<(&'t Key<'qs>, &'t ParsedValue<'qs>)>,
     other: &'t ParsedValue<'qs>,
-) -> &'t ParsedValue<'qs> {
+) -> &'t ParsedValue<'qs>
+    ensures { tree_of result.now ≡ value_or (tree_of other.now) (option_map (λ e. (marked_segment_of_key e.0.now, tree_of e.1.now)) entry.entry) }
+{
     match entry {
         Some((_, value)) => value,
         None => other,
@@ -145,7 +187,9 @@ fn value_or<'t, 'qs>(
 fn item_or<'t, 'qs>(
     item: Option<&'t ParsedValue<'qs>>,
     other: &'t ParsedValue<'qs>,
-) -> &'t ParsedValue<'qs> {
+) -> &'t ParsedValue<'qs>
+    ensures { tree_of result.now ≡ item_or (tree_of other.now) (Some (option_map (λ v. tree_of v.now) item.entry)) }
+{
     match item {
         Some(value) => value,
         None => other,

@@ -1,9 +1,9 @@
 //! Numbers.
 
-ghost use Rattle.std.specs.Prelude.{◌≡◌, ◌⊎◌, ◌^◌, ◌≤◌, pos, negsuc, ◌<ℤ◌, false, IfOk};
+ghost use Rattle.std.specs.Prelude.{◌≡◌, ◌⊎◌, ◌^◌, ◌≤◌, pos, negsuc, ◌<ℤ◌, IfOk, OnOk};
 ghost use Rattle.qs_spec.specs.Data as d;
 ghost use Rattle.qs_spec.specs.Shape as s;
-ghost use Rattle.qs_serde.specs.Steps.{Is};
+ghost use Rattle.qs_serde.specs.Steps.{HasText, Is, IsPlain, Notes, Takes};
 
 use super::format::{Asked, Search, TreeFormat};
 use super::node::Node;
@@ -14,7 +14,7 @@ use std::str;
 impl Search {
     // Counts a number that is asked for, and returns whether another one is given in its place.
     fn is_probed(&mut self) -> bool
-        ensures { self.old.probed ≡ 0 → result ≡ false }
+        ensures { self.new ≡ record self.old { numbers = self.new.numbers } }
     {
         self.numbers = self.numbers.saturating_add(1);
         self.numbers == self.probed
@@ -44,7 +44,8 @@ fn past_signed(width: Width) -> i64 {
 impl<'t, 'qs> TreeFormat<'t, 'qs> {
     /// Reads a number with a sign.
     pub(crate) fn signed(&mut self) -> Result<i64>
-        ensures { self.old.search.probed ≡ 0 → IfOk result (λ v. Is self.old (s.Shape.signed 64) (d.signed v)) }
+        ensures notes { Notes self.old self.new }
+        ensures number { IsPlain self.old → IfOk result (λ v. Is self.old (s.Shape.signed 64) (d.signed v)) }
     {
         let asked = Asked::Signed(self.part);
         let node = self.take();
@@ -64,7 +65,8 @@ impl<'t, 'qs> TreeFormat<'t, 'qs> {
 
     /// Reads a number without a sign.
     pub(crate) fn unsigned(&mut self) -> Result<u64>
-        ensures { self.old.search.probed ≡ 0 → IfOk result (λ v. Is self.old (s.Shape.unsigned 64) (d.unsigned v)) }
+        ensures notes { Notes self.old self.new }
+        ensures number { IsPlain self.old → IfOk result (λ v. Is self.old (s.Shape.unsigned 64) (d.unsigned v)) }
     {
         let asked = Asked::Unsigned(self.part);
         let node = self.take();
@@ -84,7 +86,8 @@ impl<'t, 'qs> TreeFormat<'t, 'qs> {
 
     /// Reads a number that 64 bits don't hold.
     pub(crate) fn wide_unsigned(&mut self) -> Result<u128>
-        ensures { IfOk result (λ n. 2 ^ 64 ≤ n) }
+        ensures takes { Takes self.old self.new }
+        ensures number { IfOk result (λ n. 2 ^ 64 ≤ n) }
     {
         let wide: u128 = self.parsed()?;
         if wide > u64::MAX as u128 {
@@ -96,7 +99,8 @@ impl<'t, 'qs> TreeFormat<'t, 'qs> {
 
     /// Reads a number that 64 bits with a sign don't hold.
     pub(crate) fn wide_signed(&mut self) -> Result<i128>
-        ensures { IfOk result (λ z. (pos 9223372036854775807 <ℤ z) ⊎ (z <ℤ negsuc 9223372036854775807)) }
+        ensures takes { Takes self.old self.new }
+        ensures number { IfOk result (λ z. (pos 9223372036854775807 <ℤ z) ⊎ (z <ℤ negsuc 9223372036854775807)) }
     {
         let wide: i128 = self.parsed()?;
         if wide > i64::MAX as i128 || wide < i64::MIN as i128 {
@@ -110,6 +114,8 @@ impl<'t, 'qs> TreeFormat<'t, 'qs> {
     pub(crate) fn parsed<T: str::FromStr + Drop>(&mut self) -> Result<T>
     where
         T::Err: Drop,
+        ensures takes { Takes self.old self.new }
+        ensures text { OnOk result (HasText self.old) }
     {
         match self.text()?.as_str().parse::<T>() {
             Ok(value) => Ok(value),

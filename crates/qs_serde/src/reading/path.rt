@@ -2,7 +2,7 @@
 
 use super::format::TreeFormat;
 use super::frame::{Frame, FrameKind};
-use super::node::{Node, child, entry_at};
+use super::node::{Node, entry_at, last_of};
 use qs_tree::{Key, ParsedValue};
 use std::alloc::AllocError;
 use std::fmt::{Display, Write};
@@ -16,7 +16,7 @@ impl<'t, 'qs> TreeFormat<'t, 'qs> {
             if frame.next != 0 {
                 append_segment(&mut path, *frame, value)?;
             }
-            value = child(value, frame.last_index());
+            value = last_of(value, frame.next);
         }
         Ok(path)
     }

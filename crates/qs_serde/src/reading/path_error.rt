@@ -1,8 +1,10 @@
 //! An error, and where in the value it is.
 
 ghost use Rattle.std.specs.Prelude.{◌≡◌};
+ghost use Rattle.qs_data.specs.read.Errors.{IsOfReading};
 
 use qs_tree::Error;
+use std::alloc::Global;
 use std::fmt;
 
 /// Why a value isn't read, and which part of it.
@@ -20,6 +22,22 @@ pub struct PathError {
     pub path: String,
     /// What is wrong there.
     pub error: Error,
+}
+
+impl PathError {
+    /// Returns the error of a value. An error of the type's own code that no step returns becomes `Custom`, with its message.
+    #[cold]
+    #[inline(never)]
+    pub(crate) fn of_reading(self, alloc: Global) -> PathError
+        ensures { IsOfReading result.error }
+    {
+        let PathError { path, error } = self;
+        let error = match error {
+            Error::Custom(_) | Error::Utf8(_) | Error::OutOfMemory => error,
+            _ => Error::custom(alloc, error, &()),
+        };
+        PathError { path, error }
+    }
 }
 
 impl fmt::Display for PathError {

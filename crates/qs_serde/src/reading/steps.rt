@@ -1,15 +1,16 @@
 //! The steps that serde asks for.
 
-ghost use Rattle.std.specs.Prelude.{◌≡◌, length, take, ⊤, IfOk, IsTrue, MatchBool};
+ghost use Rattle.std.specs.Prelude.{◌≡◌, ⊤, IfOk, IsTrue, MatchBool};
 ghost use Rattle.qs_spec.specs.Leaf.Leaf.{NoValue};
 ghost use Rattle.qs_spec.specs.Tree.Tree.{leaf};
 ghost use Rattle.serde.specs.Event.{key_begins, map_ends, nothing, seq_ends};
-ghost use Rattle.qs_serde.specs.Steps.{HasNoEntry, HasNoItem, Picks, Reads, Stays, tree_at};
+ghost use Rattle.qs_serde.specs.Places.{tree_at};
+ghost use Rattle.qs_serde.specs.Steps.{HasNoEntry, HasNoItem, ComesBack, IsMark, Picks, Reads, Stays, Takes};
 
 use super::format::{Asked, Mark, TreeFormat};
 use super::frame::FrameKind;
 use super::names::find_node;
-use super::node::{Node, Part, child};
+use super::node::{Node, Part};
 use super::scalars::{borrowed_text, test_utf8};
 use qs_data::{Data, Shape};
 use qs_tree::{Error, ParsedValue, Result};
@@ -156,14 +157,12 @@ impl<'t, 'qs> Format for TreeFormat<'t, 'qs> {
         }
     }
 
+    #[tactic(auto, using(crate::proofs::Places::has_items))]
     fn begin_seq(&mut self, _input: &[u8]) -> Result<()> {
-        match self.part {
-            Part::Key => return Err(self.no_value()),
-            Part::NoValue => {}
-            Part::Value | Part::Held => {
-                self.reader.items(self.node)?;
-            }
+        if self.part == Part::Key {
+            return Err(self.no_value());
         }
+        self.reader.items(self.node)?;
         self.open(FrameKind::Items)
     }
 
@@ -172,7 +171,10 @@ impl<'t, 'qs> Format for TreeFormat<'t, 'qs> {
         ensures step { IfOk result (λ b. MatchBool b (Stays self.old self.new) (Reads self.old seq_ends self.new)) }
         ensures end { IfOk result (λ b. MatchBool b ⊤ (HasNoItem self.old)) }
     {
-        self.go_to_item()
+        let Some(frame) = self.last() else {
+            return Err(self.no_value());
+        };
+        self.go_to_item(frame)
     }
 
     // More items than a tuple has are passed over.
@@ -181,35 +183,22 @@ impl<'t, 'qs> Format for TreeFormat<'t, 'qs> {
         Ok(())
     }
 
+    #[tactic(auto, using(crate::proofs::Places::has_map))]
     fn begin_map(&mut self, _input: &[u8]) -> Result<()> {
-        match self.part {
-            Part::Key => return Err(self.no_value()),
-            Part::NoValue => {}
-            Part::Value | Part::Held => {
-                self.reader.entries(self.node)?;
-            }
+        if self.part == Part::Key {
+            return Err(self.no_value());
         }
+        self.reader.entries(self.node)?;
         self.open(FrameKind::Map)
     }
 
     // A sequence is begun as a map too: `next_key` then counts its fields, and further items are passed over. A text holds fields only in a
     // variant, under the empty key.
     fn begin_struct(&mut self, _input: &[u8]) -> Result<bool> {
-        let mut kind = FrameKind::Fields;
-        match self.part {
-            Part::Key => return Err(self.no_value()),
-            Part::NoValue => {}
-            Part::Value | Part::Held => match self.node {
-                ParsedValue::NoValue | ParsedValue::Null | ParsedValue::Map(_) => {}
-                ParsedValue::Sequence(_) => kind = FrameKind::Places,
-                ParsedValue::String(_) => {
-                    if self.part == Part::Value {
-                        return Err(self.reader.not_a_struct(self.node));
-                    }
-                }
-                ParsedValue::Uninitialized => return Err(self.reader.nothing()),
-            },
+        if self.part == Part::Key {
+            return Err(self.no_value());
         }
+        let kind = self.kind_of_struct()?;
         self.open(kind)?;
         Ok(false)
     }
@@ -217,18 +206,19 @@ impl<'t, 'qs> Format for TreeFormat<'t, 'qs> {
     #[inline(always)]
     fn next_key(&mut self, _input: &[u8], names: &[Name<'_>]) -> Result<Option<usize>> {
         let Some(frame) = self.last() else {
+            self.close();
             return Ok(None);
         };
         match frame.kind {
             FrameKind::Fields => {
                 if self.search.in_order {
-                    self.go_to_field(names)
+                    self.go_to_field(names, frame)
                 } else {
-                    self.go_to_member(names, Part::Value)
+                    self.go_to_member(names, frame, Part::Value)
                 }
             }
-            FrameKind::Places => self.go_to_place(names),
-            FrameKind::Map | FrameKind::Items => self.go_to_shared(names),
+            FrameKind::Places => self.go_to_place(names, frame),
+            FrameKind::Map | FrameKind::Items => self.go_to_shared(names, frame),
         }
     }
 
@@ -236,7 +226,11 @@ impl<'t, 'qs> Format for TreeFormat<'t, 'qs> {
         ensures step { IfOk result (λ b. MatchBool b (Reads self.old key_begins self.new) (Reads self.old map_ends self.new)) }
         ensures end { IfOk result (λ b. MatchBool b ⊤ (HasNoEntry self.old)) }
     {
-        match self.go_to_entry() {
+        let Some(frame) = self.last() else {
+            self.close();
+            return Ok(false);
+        };
+        match self.go_to_entry(frame) {
             Some(_) => {
                 self.part = Part::Key;
                 Ok(true)
@@ -255,7 +249,9 @@ impl<'t, 'qs> Format for TreeFormat<'t, 'qs> {
         }
     }
 
-    fn skip(&mut self, _input: &[u8]) -> Result<()> {
+    fn skip(&mut self, _input: &[u8]) -> Result<()>
+        ensures { Takes self.old self.new }
+    {
         if self.part == Part::Key {
             self.part = Part::Value;
         }
@@ -263,7 +259,8 @@ impl<'t, 'qs> Format for TreeFormat<'t, 'qs> {
     }
 
     fn mark(&mut self) -> Mark
-        ensures { (result.depth ≡ length self.old.stack.items) × (result.part ≡ self.old.part) × (self.new ≡ self.old) }
+        ensures mark { IsMark result self.old }
+        ensures kept { self.new ≡ self.old }
     {
         Mark {
             depth: self.stack.len(),
@@ -271,17 +268,13 @@ impl<'t, 'qs> Format for TreeFormat<'t, 'qs> {
         }
     }
 
+    #[tactic(auto, using(crate::proofs::Places::comes_back))]
     fn rewind(&mut self, mark: Mark)
-        ensures stack { self.new.stack.items ≡ take mark.depth self.old.stack.items }
-        ensures part { (self.new.part ≡ mark.part) × (self.new.reader ≡ self.old.reader) }
+        ensures { ComesBack mark self.old self.new }
     {
         self.stack.truncate(mark.depth);
-        self.find_top();
+        self.find_place();
         self.part = mark.part;
-        match self.last() {
-            Some(frame) => self.go_to(child(self.top, frame.last_index())),
-            None => self.go_to(self.root),
-        }
         self.asked = Asked::Tried;
     }
 

@@ -1,0 +1,82 @@
+-- Where a format is in its tree: the node that the open lists and maps lead to, and what the next step reads.
+use Rattle.std.specs.Prelude.{◌≡◌, ℕ, zero, suc, ◌-◌, List, [], ◌∷◌, length, take, drop, slice_get, Option, Some, None, option_map}
+use Rattle.qs_spec.specs.Leaf.Leaf.{NoValue}
+use Rattle.qs_spec.specs.Segment.{MarkedSegment}
+use Rattle.qs_spec.specs.Tree.{Tree}
+use Rattle.qs_spec.specs.Tree.Tree.{leaf, sequence, mapping}
+use Rattle.qs_spec.specs.Node.{sequence_items}
+use Rattle.qs_tree.specs.tree.Views.{tree_of, entry_list}
+use Rattle.qs_data.specs.read.Items.{first_item}
+use Rattle.qs_serde.specs.Nodes.{key_tree, pairs_in}
+use Rattle.qs_serde.specs.declared.reading.node.Part.{Part}
+use Rattle.qs_serde.specs.declared.reading.node.Part.TheVariants as p
+use Rattle.qs_serde.specs.declared.reading.frame.Frame.{Frame}
+use Rattle.qs_serde.specs.declared.reading.frame.FrameKind.{FrameKind}
+use Rattle.qs_serde.specs.declared.reading.format.TreeFormat.{TreeFormat}
+
+-- the item, or else the node
+abbrev pub item_or : Tree → Option (Option Tree) → Tree
+item_or t (Some (Some u)) = u
+item_or t _ = t
+
+-- the value of the entry, or else the node
+abbrev pub value_or : Tree → Option (MarkedSegment × Tree) → Tree
+value_or t (Some entry) = entry.1
+value_or t None = t
+
+-- the item or the value at an index of a node; the node itself where there is none, as a text is its only item
+abbrev pub child_at : Tree → ℕ → Tree
+child_at (sequence xs) i = item_or (sequence xs) (first_item (drop i (sequence_items xs)))
+child_at (mapping es) i = value_or (mapping es) (slice_get (entry_list es) i)
+child_at t i = t
+
+-- what came last of a list or a map of which so many parts came; itself where none came
+abbrev pub last_part : Tree → ℕ → Tree
+last_part t zero = t
+last_part t (suc i) = child_at t i
+
+-- the node that open lists and maps lead to, from the outermost on
+abbrev pub node_by : Tree → List Frame → Tree
+node_by t [] = t
+node_by t (frame ∷ frames) = node_by (last_part t frame.next) frames
+
+-- the lists and maps around the innermost
+abbrev pub around : List Frame → List Frame
+around frames = take (length frames - 1) frames
+
+-- the innermost list or map
+abbrev pub last_frame : List Frame → Option Frame
+last_frame frames = slice_get frames (length frames - 1)
+
+-- how many parts of a list or a map came
+abbrev pub passed : Option Frame → ℕ
+passed None = 0
+passed (Some frame) = frame.next
+
+-- how many parts of the innermost list or map came
+abbrev pub count_of : TreeFormat → ℕ
+count_of f = passed (last_frame f.stack.items)
+
+-- the kind of the innermost list or map
+abbrev pub kind_of : TreeFormat → Option FrameKind
+kind_of f = option_map (λ frame. frame.kind) (last_frame f.stack.items)
+
+-- The format is where its open lists and maps lead from the root: `top` is the innermost, and `node` is what came last of it.
+abbrev pub IsAt : TreeFormat → Type 0
+IsAt f =
+    (tree_of f.top.now ≡ node_by (tree_of f.root.now) (around f.stack.items))
+    × (tree_of f.node.now ≡ node_by (tree_of f.root.now) f.stack.items)
+
+-- a part of what came last
+abbrev pub part_tree : Part → Tree → Tree → ℕ → Tree
+part_tree p.Value node top at = node
+part_tree p.Held node top at = node
+part_tree p.NoValue node top at = leaf NoValue
+part_tree p.Key node top at = key_tree (slice_get (pairs_in top) at)
+
+abbrev pub part_view : TreeFormat → Part → Tree
+part_view f part = part_tree part (tree_of f.node.now) (tree_of f.top.now) (count_of f - 1)
+
+-- what the next step reads
+abbrev pub tree_at : TreeFormat → Tree
+tree_at f = part_view f f.part

@@ -30,7 +30,6 @@ pub fn served<T: RoundTrip>(alloc: Global, target: &str) -> Result<T>
 pub fn exchanged<T: RoundTrip>(alloc: Global, value: &T) -> Result<T>
     ensures { IsPlainWithin default (T.datum value.now) → IsValue T.table.value (T.table.value value.now) result }
 {
-    value.fits();
     let query = to_string(alloc, value)?;
     from_str(alloc, query.as_str())
 }

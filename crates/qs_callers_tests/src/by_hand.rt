@@ -5,7 +5,7 @@ use crate::values::{ALICE, alice, list, one, text, tree};
 use qs_callers::Query;
 use qs_data::Reader;
 use serde_qs::{
-    Config, Data, Deserialize, Error, OrDefault, Result, RoundTrip, Serialize, newtype_struct,
+    Config, Data, Deserialize, Error, OrDefault, Result, Serialize, newtype_struct,
     newtype_variant, struct_of, struct_variant, tuple_struct, tuple_variant, unexpected,
     unit_variant, value_comes_back,
 };
@@ -69,7 +69,6 @@ fn data_of_variants_with_parts(rt: HostRuntime) {
 fn a_value_and_its_data(rt: HostRuntime) {
     let alloc = rt.alloc();
     let query = alice(&rt, alloc);
-    query.fits();
     value_comes_back(&query);
     let datum = query.to_data(alloc).expect(&rt, "memory");
     gives(&rt, Query::from_data(alloc, datum), query);

@@ -1,20 +1,25 @@
 -- What is read of a type is what is written of it.
-use Rattle.std.proofs.Common.{ap, ap₂, ◌∙◌, refl, sym}
+use Rattle.std.proofs.Common.{ap, ap₂, arith, ◌∙◌, pow_pos, refl, sym}
+use Rattle.std.proofs.lemmas.Bool.{leb-true}
 use Rattle.std.proofs.lemmas.Option.{none-some, same_Some}
 use Rattle.std.proofs.lemmas.Slice.Eq.{bytes_eq-Decides}
-use Rattle.std.specs.Prelude.{◌≡◌, ℕ, ◌-◌, ◌^◌, Bool, true, false, not, ◌&&◌, nat_le, ◌==◌, codes, List, [], ◌∷◌, map, Option, Some, None, option_map, option_and_then, if◌then◌else◌}
+use Rattle.std.specs.Prelude.{◌≡◌, ℕ, ◌-◌, ◌^◌, ◌<◌, Bool, true, false, not, ◌&&◌, nat_le, ◌==◌, codes, List, [], ◌∷◌, map, Option, Some, None, option_map, option_and_then, if◌then◌else◌}
 use Rattle.std.specs.Str.{bytes_eq}
 use Rattle.qs_spec.specs.Data as d
 use Rattle.qs_spec.specs.Data.{Data, Values, no_values, one_value, values_of, Members, no_members, one_member, members_of, Named}
+use Rattle.qs_spec.specs.Fits.{fits_unsigned}
 use Rattle.qs_spec.specs.Relation.{Reads, ReadsEach, ReadsNames, ReadsPlaces, ReadsStruct}
 use Rattle.qs_spec.specs.Scalar.{is_numeral, unsigned_data}
 use Rattle.qs_spec.specs.Segment.{number}
 use Rattle.qs_spec.specs.Shape.{Shape, Field, Fields, one_field, fields_of, field_names_differ, is_field_name, UnknownKeys}
 use Rattle.qs_spec.specs.Tree.{Tree, Items, Entries}
+use Rattle.serde_qs.proofs.InRange.{below_64}
+use Rattle.serde_qs.specs.Fitting.{fitting}
 use Rattle.serde_qs.specs.Meaning.{both, boolean_in, option_data, option_in, sequence_in, text_in, unsigned_in, values_meant}
 use Rattle.serde_qs.specs.Optional.{is_first_named, optional_data, optional_in}
 use Rattle.serde_qs.specs.Records.{field_form, first_of, member_data, member_in, nothing_in, others_of, struct_in}
 use Rattle.serde_qs.specs.internal.Booleans.{both_hold}
+use Rattle.serde_qs.specs.internal.Fitting.{itself}
 use Rattle.serde_qs.specs.declared.compound.optional.Optional.{Optional}
 use Rattle.serde_qs.specs.internal.Optional.{itself_named, later_named, other_field}
 use Rattle.qs_tool.specs.internal.Exact.{IsExact}
@@ -69,18 +74,21 @@ module _ (bits : ℕ) where
       let ds : List ℕ = if b == 43 then digits else b ∷ digits in
       numeral (number ds) (is_numeral ds) (nat_le (number ds) most) e refl p
 
-  pub unsigned_exact : {A : Type 0} (value : A → ℕ) → IsExact value (λ x. d.unsigned (value x)) (Shape.unsigned bits) (unsigned_in most)
-  unsigned_exact {A} value = record { is_meant = meant; is_written = λ x e p. written (value x) e p }
+  pub unsigned_exact : nat_le bits 64 ≡ true → {A : Type 0} (value : A → ℕ) → IsExact value (λ x. fitting (Shape.unsigned bits) (d.unsigned (value x))) (Shape.unsigned bits) (unsigned_in most)
+  unsigned_exact few {A} value = record { is_meant = meant; is_written = λ x e p. written (value x) e p }
     where
       meant : {r : Bool} {node : Tree} {e : Data} → Reads r (Shape.unsigned bits) node e → (v : ℕ) × (unsigned_in most e ≡ Some v)
       meant (Reads.unsigned {d} {t} p q) = number_parsed t d q
 
-      in_range : (b : Bool) (m n : ℕ) → (if b then Some m else None) ≡ Some n → d.unsigned n ≡ d.unsigned m
-      in_range true m n p = ap d.unsigned (sym (same_Some m n p))
-      in_range false m n p = absurd (none-some n p)
+      in_range : (b : Bool) (m n : ℕ) → nat_le m most ≡ b → (if b then Some m else None) ≡ Some n → fitting (Shape.unsigned bits) (d.unsigned n) ≡ d.unsigned m
+      in_range true m n le p =
+          let below : m < 2 ^ bits = omega (arith, pow_pos bits, leb-true m most le) in
+          ap (λ k. fitting (Shape.unsigned bits) (d.unsigned k)) (sym (same_Some m n p))
+          ∙ itself (fits_unsigned bits m) (d.unsigned m) (below_64 bits m (leb-true bits 64 few) below)
+      in_range false m n le p = absurd (none-some n p)
 
-      written : (n : ℕ) (e : Data) → unsigned_in most e ≡ Some n → d.unsigned n ≡ e
-      written n (d.unsigned m) p = in_range (nat_le m most) m n p
+      written : (n : ℕ) (e : Data) → unsigned_in most e ≡ Some n → fitting (Shape.unsigned bits) (d.unsigned n) ≡ e
+      written n (d.unsigned m) p = in_range (nat_le m most) m n refl p
       written n _ p = cc
 
 -- types that hold others

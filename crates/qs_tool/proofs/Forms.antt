@@ -1,5 +1,5 @@
 -- What the commands `flat` and `params` read is what they write.
-use Rattle.std.specs.Prelude.{ℕ, Bool, [], ◌∷◌, Option, codes, refl, string_bytes}
+use Rattle.std.specs.Prelude.{◌≡◌, ℕ, Bool, true, nat_le, [], ◌∷◌, Option, codes, refl, string_bytes}
 use Rattle.std.specs.declared.alloc.Global.{Global}
 use Rattle.std.specs.declared.string.String.{String}
 use Rattle.std.specs.declared.vec.Vec.{Vec}
@@ -12,8 +12,8 @@ use Rattle.qs_tool.proofs.Exact.{Exact, boolean_exact, exact_of, field, no_field
 abbrev string : Exact (String Global)
 string = exact_of (text_exact (λ (t : String Global). string_bytes t))
 
-abbrev number : ℕ → Exact ℕ
-number bits = exact_of (unsigned_exact bits (λ (n : ℕ). n))
+abbrev number : (bits : ℕ) → nat_le bits 64 ≡ true → Exact ℕ
+number bits few = exact_of (unsigned_exact bits few (λ (n : ℕ). n))
 
 abbrev boolean : Exact Bool
 boolean = exact_of (boolean_exact (λ (b : Bool). b))
@@ -27,7 +27,7 @@ sequence {A} t = exact_of (sequence_exact t.value t.datum t.form t.meaning t.exa
 -- the types, and others that hold one of them
 
 abbrev pub flat : {A : Type 0} → UnknownKeys → (A → Flat) → Exact A
-flat u of = exact_of (struct_exact (field string (field (number 8) (field string (optional_field boolean (field (option string) no_fields)))))
+flat u of = exact_of (struct_exact (field string (field (number 8 refl) (field string (optional_field boolean (field (option string) no_fields)))))
     u (codes "name" ∷ codes "age" ∷ codes "occupation" ∷ codes "active" ∷ codes "note" ∷ []) refl
     (λ x. ((of x).name, ((of x).age, ((of x).occupation, record { 0 = (of x).active; 1 = ((of x).note, tt) })))))
 
@@ -36,6 +36,6 @@ address u of = exact_of (struct_exact (field string (field string (field string 
     (λ x. ((of x).city, ((of x).street, ((of x).postcode, tt)))))
 
 abbrev pub params : {A B : Type 0} → Exact B → UnknownKeys → (A → Params B) → Exact A
-params lives u of = exact_of (struct_exact (field (number 8) (field string (field (number 32) (field lives (field (sequence (number 8)) no_fields)))))
+params lives u of = exact_of (struct_exact (field (number 8 refl) (field string (field (number 32 refl) (field lives (field (sequence (number 8 refl)) no_fields)))))
     u (codes "id" ∷ codes "name" ∷ codes "phone" ∷ codes "address" ∷ codes "user_ids" ∷ []) refl
     (λ x. ((of x).id, ((of x).name, ((of x).phone, ((of x).address, ((of x).user_ids, tt)))))))

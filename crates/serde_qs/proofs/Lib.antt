@@ -1,5 +1,6 @@
 pub mod InRange
 pub mod Levels
+pub mod ListsMade
 pub mod Narrowed
 pub mod NodeEntries
 pub mod NodeFields

@@ -1,5 +1,7 @@
 -- The parts of values that write themselves.
-use Rattle.std.proofs.Common.{◌≡◌, ℕ, ◌<◌, List, [], ◌∷◌, length, map, refl, arith, Some, Result, Ok, Err}
+use Rattle.std.proofs.Common.{◌≡◌, ℕ, ◌<◌, ℤ, List, [], ◌∷◌, length, map, refl, sym, ap, ◌∙◌, subst, arith, Some, Result, Ok, Err}
+use Rattle.std.specs.Char.{encode_utf8}
+use Rattle.std.specs.Fmt.{decimal, signed_decimal}
 use Rattle.qs_spec.specs.Config.{Config}
 use Rattle.qs_spec.specs.Data as d
 use Rattle.qs_spec.specs.Data.{Data, Named, members_of, pairs_of, values_of}
@@ -76,3 +78,21 @@ module _ {A : Type 0} (entry : A → Data × Data) (r : Result (Unit {0}) Stop) 
   unfolding entries_at
   whole_map [] h p = absurd (omega (arith, h))
   whole_map (x ∷ xs) h p = part_same r a b (pairs_part (pairs_of (map entry (x ∷ xs)))) (data_part (d.mapping (pairs_of (map entry (x ∷ xs))))) (λ path. refl) p
+
+-- scalars that fit their shape
+
+module _ (r : Result (Unit {0}) Stop) (a b : Writer) where
+  fitting_written : (x y : Data) (t : List ℕ) → y ≡ x → ((path : Path) → one path (Some t) ≡ data_part x a.config path) → WritesPart r a b (λ config path. one path (Some t)) → WritesPart r a b (data_part y)
+  fitting_written x y t is same w = subst (λ z. WritesPart r a b (data_part z)) (sym is) (part_same r a b (λ config path. one path (Some t)) (data_part x) same w)
+
+  pub unsigned_written : (x : Data) (n : ℕ) → x ≡ d.unsigned n → WritesPart r a b (λ config path. one path (Some (decimal n))) → WritesPart r a b (data_part x)
+  unfolding entries_at
+  unsigned_written x n is w = fitting_written (d.unsigned n) x (decimal n) is (λ path. refl) w
+
+  pub signed_written : (x : Data) (y z : ℤ) → y ≡ z → x ≡ d.signed z → WritesPart r a b (λ config path. one path (Some (signed_decimal y))) → WritesPart r a b (data_part x)
+  unfolding entries_at
+  signed_written x y z same is w = fitting_written (d.signed y) x (signed_decimal y) (is ∙ ap d.signed (sym same)) (λ path. refl) w
+
+  pub character_written : (x : Data) (c : ℕ) → x ≡ d.character c → WritesPart r a b (λ config path. one path (Some (encode_utf8 c))) → WritesPart r a b (data_part x)
+  unfolding entries_at
+  character_written x c is w = fitting_written (d.character c) x (encode_utf8 c) is (λ path. refl) w

@@ -26,9 +26,7 @@ abbrev pub Wrote : Writer → Exit → Result (Unit {0}) Stop → d.Data → Typ
 Wrote old (exit.Writer new) result x = WritesPart result old new (data_part x)
 Wrote old _ result x = ⊥
 
--- where the parts go into data, these are made; where they go to a writer, they are written, and the result is that of writing them; where they
--- go nowhere, there is no error
+-- where the parts go into data, these are made; where they go to a writer, they are written, and the result is that of writing them
 abbrev pub Takes : Exit → Exit → Result (Unit {0}) Stop → d.Data → Type 0
 Takes (exit.Data alloc before) new result x = Makes new result x
 Takes (exit.Writer old) new result x = Wrote old new result x
-Takes exit.Nothing new result x = result ≡ Ok tt

@@ -6,6 +6,7 @@ pub mod Maps
 pub mod Names
 pub mod Records
 pub mod ComesBack
+pub mod Fitting
 pub mod Optional
 pub mod Defaulted
 pub mod Tuples

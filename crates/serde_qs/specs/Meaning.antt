@@ -1,5 +1,5 @@
 -- What data mean as a value.
-use Rattle.std.specs.Prelude.{ℕ, ◌-◌, ◌^◌, ℤ, pos, neg_ℤ, int_le, Bool, true, ◌&&◌, List, [], ◌∷◌, Option, Some, None, option_map, option_and_then, nat_le, if◌then◌else◌}
+use Rattle.std.specs.Prelude.{ℕ, ◌-◌, ◌^◌, ℤ, pos, neg_ℤ, int_le, Bool, ◌&&◌, List, [], ◌∷◌, Option, Some, None, option_map, option_and_then, nat_le, if◌then◌else◌}
 use Rattle.qs_spec.specs.Data.{Data, Values, no_values, one_value}
 use Rattle.qs_spec.specs.Data.Data.{unit, none, some, boolean, unsigned, signed, character, text, sequence, newtype}
 
@@ -48,11 +48,6 @@ abbrev pub option_in : {A : Type 0} → (Data → Option A) → Data → Option 
 option_in m none = Some None
 option_in m (some d) = option_map Some (m d)
 option_in m _ = None
-
--- the value, if there is one, passes a test
-abbrev pub option_all : {A : Type 0} → (A → Bool) → Option A → Bool
-option_all f None = true
-option_all f (Some x) = f x
 
 -- a list, by its values
 abbrev pub values_meant : {A : Type 0} → (Data → Option A) → Values → Option (List A)

@@ -1,18 +1,18 @@
 -- Tables of what structs and enums are made of.
-use Rattle.std.specs.Prelude.{◌≡◌, ℕ, suc, ◌+◌, ◌==◌, Bool, true, false, ◌&&◌, List, [], ◌∷◌, length, map, Option, option_map, refl}
+use Rattle.std.specs.Prelude.{◌≡◌, ℕ, suc, ◌+◌, ◌==◌, Bool, true, false, List, [], ◌∷◌, length, map, Option, option_map, refl}
 use Rattle.qs_spec.specs.Data as d
 use Rattle.qs_spec.specs.Data.{Data, Members, Named, Values, members_of, values_of}
 use Rattle.qs_spec.specs.Shape as s
 use Rattle.qs_spec.specs.Shape.{Shape, Field, fields_of, shapes_of, variants_of, Variant, VariantKind, UnknownKeys, is_distinct, are_distinct, are_distinct_fields}
 use Rattle.serde_qs.specs.ComesBack.{FieldsComeBack, FieldsFit, PartsComeBack, PartsFit}
 use Rattle.serde_qs.specs.Defaulted.{defaulted_in}
-use Rattle.serde_qs.specs.Meaning.{newtype_in, option_all}
+use Rattle.serde_qs.specs.Meaning.{newtype_in}
 use Rattle.serde_qs.specs.Names.{NamesSuitFields, suited}
 use Rattle.serde_qs.specs.Optional.{FieldsAreNamed, optional_data, optional_in}
 use Rattle.serde_qs.specs.Records.{are_names, field_form, member_data, member_in, nothing_in, others_of, struct_in}
-use Rattle.serde_qs.specs.Tables.{Table, valid_table}
+use Rattle.serde_qs.specs.Tables.{Table, table_with}
 use Rattle.serde_qs.specs.Tuples.{ItemsComeBack, ItemsFit, item_in, no_item_in, tuple_in, tuple_variant_in}
-use Rattle.serde_qs.specs.Variants.{AreDistinct, AreNamed, KindComesBack, KindFits, KindIsDistinct, KindIsNamed, VariantsComeBack, VariantsFit, are_variants, choose, each, last_data, last_form, last_in, newtype_variant_in, struct_variant_in, unit_variant_in, variant_data, variant_form, variant_in}
+use Rattle.serde_qs.specs.Variants.{AreDistinct, AreNamed, KindComesBack, KindFits, KindIsDistinct, KindIsNamed, VariantsComeBack, VariantsFit, are_variants, each, last_data, last_form, last_in, newtype_variant_in, struct_variant_in, unit_variant_in, variant_data, variant_form, variant_in}
 use Rattle.serde_qs.specs.declared.compound.defaulted.Defaulted.{Defaulted}
 use Rattle.serde_qs.specs.declared.compound.optional.Optional.{Optional}
 use Rattle.serde_qs.specs.declared.compound.parts.Enum.{Enum}
@@ -25,27 +25,26 @@ use Rattle.serde_qs.specs.declared.compound.variants.OneOf.{OneOf}
 use Rattle.serde_qs.specs.internal.Booleans.{both_true}
 use Rattle.serde_qs.specs.internal.ComesBack.{fields_back, newtype_back, nothing_back, struct_back}
 use Rattle.serde_qs.specs.internal.Defaulted.{defaulted_back}
-use Rattle.serde_qs.specs.internal.Fits.{enum_fits, field_fits, items_fit, last_fits, nothing_fits, one_fits, optional_fits, struct_fits}
+use Rattle.serde_qs.specs.internal.Fits.{enum_fits, field_fits, items_fit, last_fits, newtype_variant_fits, nothing_fits, one_fits, optional_fits, struct_fits, struct_variant_fits, tuple_fits, tuple_variant_fits}
 use Rattle.serde_qs.specs.internal.Optional.{field_named, optional_back, optional_named}
 use Rattle.serde_qs.specs.internal.Records.{differ}
 use Rattle.serde_qs.specs.internal.Tuples.{items_back, no_item_back, tuple_back, tuple_variant_back}
 use Rattle.serde_qs.specs.internal.Variants.{enum_back, enum_distinct, last_back, last_distinct, last_named, newtype_variant_back, one_back, one_distinct, one_named, struct_variant_back, unit_variant_back}
 
--- The fields of a struct: how many there are, which of their values are valid and, by their names, what is read for them, their data, and what
--- members mean. The first member that is written has the name of a field. Where the names differ and are UTF-8, valid fields fit and come back, and no
--- struct or enum in their shapes has a name twice.
+-- The fields of a struct: how many there are and, by their names, what is read for them, their data, and what members mean. The first member that
+-- is written has the name of a field. Where the names differ and are UTF-8, plain data of fields fit, the fields come back from them, and no struct or
+-- enum in their shapes has a name twice.
 pub record FieldsTable (A : Type 0) : Type 1 where
   pub Value : Type 0
   pub value : A → Value
-  pub is_valid : A → Bool
   pub count : ℕ
   pub after : List (List ℕ) → List (List ℕ)
   pub form : List (List ℕ) → List Field
   pub written : List (List ℕ) → A → List Named
   pub meaning : List (List ℕ) → Members → Option Value
   pub named : FieldsAreNamed form written
-  pub fit : FieldsFit is_valid form written
-  pub come_back : FieldsComeBack is_valid form written meaning value
+  pub fit : FieldsFit form written
+  pub come_back : FieldsComeBack form written meaning value
   pub are_distinct : (names : List (List ℕ)) → are_distinct_fields (fields_of (form names)) ≡ true
 
 -- a struct without fields
@@ -53,14 +52,13 @@ abbrev pub no_fields : FieldsTable (Unit {0})
 no_fields = record {
   Value = Unit {0};
   value = λ x. tt;
-  is_valid = λ x. true;
   count = 0;
   after = λ names. names;
   form = λ names. [];
   written = λ names x. [];
   meaning = λ names ms. nothing_in ms;
   named = λ names x. refl;
-  fit = λ names x k u h. nothing_fits names x k u h;
+  fit = nothing_fits;
   come_back = nothing_back;
   are_distinct = λ names. refl;
 }
@@ -70,15 +68,14 @@ abbrev pub field : {A B : Type 0} → Table A → FieldsTable B → FieldsTable 
 field t r = record {
   Value = t.Value × r.Value;
   value = λ x. (t.value x.0, r.value x.1);
-  is_valid = λ x. t.is_valid x.0 && r.is_valid x.1;
   count = suc r.count;
   after = λ names. r.after (others_of names);
   form = λ names. field_form t.form false r.form names;
   written = λ names x. member_data (t.datum x.0) (λ ns. r.written ns x.1) names;
   meaning = λ names ms. member_in t.meaning r.meaning names ms;
   named = λ names x. field_named t.datum t.form r.form r.written names x.0 x.1;
-  fit = λ names x k u h. field_fits t.is_valid t.datum t.form t.fit r.is_valid r.form r.written r.fit false names x.0 x.1 k u h;
-  come_back = λ names x ms k h p. fields_back t.is_valid t.datum t.meaning t.value t.comes_back r.is_valid r.form r.written r.meaning r.value r.come_back t.form names x.0 x.1 ms k h p;
+  fit = λ mode names x k u h. field_fits t.datum t.form t.fit mode r.form r.written r.fit false names x.0 x.1 k u h;
+  come_back = λ mode names x ms k h p. fields_back t.datum t.meaning t.value t.comes_back mode r.form r.written r.meaning r.value r.come_back t.form names x.0 x.1 ms k h p;
   are_distinct = λ names. both_true t.distinct (r.are_distinct (others_of names));
 }
 
@@ -87,15 +84,14 @@ abbrev pub optional_field : {A B : Type 0} → Table A → FieldsTable B → Fie
 optional_field t r = record {
   Value = Option t.Value × r.Value;
   value = λ x. (option_map t.value x.0, r.value x.1);
-  is_valid = λ x. option_all t.is_valid x.0 && r.is_valid x.1;
   count = suc r.count;
   after = λ names. r.after (others_of names);
   form = λ names. field_form t.form true r.form names;
   written = λ names x. optional_data t.datum x.0 (λ ns. r.written ns x.1) names;
   meaning = λ names ms. optional_in t.meaning r.meaning names ms;
   named = λ names x. optional_named t.datum t.form r.form r.written r.named names x.0 x.1;
-  fit = λ names x k u h. optional_fits t.is_valid t.datum t.form t.fit r.is_valid r.form r.written r.named r.fit names x.0 x.1 k u h;
-  come_back = λ names x ms k h p. optional_back t.is_valid t.datum t.meaning t.value t.comes_back r.is_valid r.form r.written r.meaning r.value r.named r.come_back t.form names x.0 x.1 ms k h p;
+  fit = λ mode names x k u h. optional_fits t.datum t.form t.fit mode r.form r.written r.named r.fit names x.0 x.1 k u h;
+  come_back = λ mode names x ms k h p. optional_back t.datum t.meaning t.value t.comes_back r.form r.written r.meaning r.value r.named r.come_back t.form mode names x.0 x.1 ms k h p;
   are_distinct = λ names. both_true t.distinct (r.are_distinct (others_of names));
 }
 
@@ -104,15 +100,14 @@ abbrev pub defaulted_field : {A B : Type 0} → Data → Table A → FieldsTable
 defaulted_field missing t r = record {
   Value = t.Value × r.Value;
   value = λ x. (t.value x.0, r.value x.1);
-  is_valid = λ x. t.is_valid x.0 && r.is_valid x.1;
   count = suc r.count;
   after = λ names. r.after (others_of names);
   form = λ names. field_form t.form true r.form names;
   written = λ names x. member_data (t.datum x.0) (λ ns. r.written ns x.1) names;
   meaning = λ names ms. defaulted_in missing t.meaning r.meaning names ms;
   named = λ names x. field_named t.datum t.form r.form r.written names x.0 x.1;
-  fit = λ names x k u h. field_fits t.is_valid t.datum t.form t.fit r.is_valid r.form r.written r.fit true names x.0 x.1 k u h;
-  come_back = λ names x ms k h p. defaulted_back missing t.is_valid t.datum t.meaning t.value t.comes_back r.is_valid r.form r.written r.meaning r.value r.come_back t.form names x.0 x.1 ms k h p;
+  fit = λ mode names x k u h. field_fits t.datum t.form t.fit mode r.form r.written r.fit true names x.0 x.1 k u h;
+  come_back = λ mode names x ms k h p. defaulted_back missing t.datum t.meaning t.value t.comes_back r.form r.written r.meaning r.value r.come_back t.form mode names x.0 x.1 ms k h p;
   are_distinct = λ names. both_true t.distinct (r.are_distinct (others_of names));
 }
 
@@ -120,12 +115,11 @@ defaulted_field missing t r = record {
 pub record ItemsTable (A : Type 0) : Type 1 where
   pub Value : Type 0
   pub value : A → Value
-  pub is_valid : A → Bool
   pub form : List Shape
   pub written : A → List Data
   pub meaning : Values → Option Value
-  pub fit : ItemsFit is_valid form written
-  pub come_back : ItemsComeBack is_valid written meaning value
+  pub fit : ItemsFit form written
+  pub come_back : ItemsComeBack written meaning value
   pub distinct : are_distinct (shapes_of form) ≡ true
 
 -- a tuple without items
@@ -133,11 +127,10 @@ abbrev pub no_items : ItemsTable (Unit {0})
 no_items = record {
   Value = Unit {0};
   value = λ x. tt;
-  is_valid = λ x. true;
   form = [];
   written = λ x. [];
   meaning = λ ds. no_item_in ds;
-  fit = λ x h. refl;
+  fit = λ mode x h. refl;
   come_back = no_item_back;
   distinct = refl;
 }
@@ -147,30 +140,28 @@ abbrev pub item : {A B : Type 0} → Table A → ItemsTable B → ItemsTable (A 
 item t r = record {
   Value = t.Value × r.Value;
   value = λ x. (t.value x.0, r.value x.1);
-  is_valid = λ x. t.is_valid x.0 && r.is_valid x.1;
   form = t.form ∷ r.form;
   written = λ x. t.datum x.0 ∷ r.written x.1;
   meaning = λ ds. item_in t.meaning r.meaning ds;
-  fit = λ x h. items_fit t.is_valid t.datum t.form t.fit r.is_valid r.form r.written r.fit x.0 x.1 h;
-  come_back = λ x es h p. items_back t.is_valid t.datum t.meaning t.value t.comes_back r.is_valid r.written r.meaning r.value r.come_back x.0 x.1 es h p;
+  fit = λ mode x h. items_fit t.datum t.form t.fit mode r.form r.written r.fit x.0 x.1 h;
+  come_back = λ mode x es h p. items_back t.datum t.meaning t.value t.comes_back r.written r.meaning r.value r.come_back mode x.0 x.1 es h p;
   distinct = both_true t.distinct r.distinct;
 }
 
 -- What a variant holds: how many names it has besides its own and, by them, what is read for it, its data under its name, and what such data mean.
--- Its data have that name. Where the names differ and are UTF-8, a valid one fits and comes back, and no struct or enum in its shapes has a name
--- twice.
+-- Its data have that name. Where the names differ and are UTF-8, they fit if they are plain, it comes back from them, and no struct or enum in its
+-- shapes has a name twice.
 pub record PayloadTable (A : Type 0) : Type 1 where
   pub Value : Type 0
   pub value : A → Value
-  pub is_valid : A → Bool
   pub count : ℕ
   pub after : List (List ℕ) → List (List ℕ)
   pub form : List (List ℕ) → VariantKind
   pub written : List ℕ → List (List ℕ) → A → Data
   pub meaning : List (List ℕ) → Data → Option Value
   pub named : KindIsNamed written
-  pub fits : KindFits is_valid form written
-  pub comes_back : KindComesBack is_valid form written meaning value
+  pub fits : KindFits form written
+  pub comes_back : KindComesBack form written meaning value
   pub is_distinct : KindIsDistinct form
 
 -- a variant that holds nothing
@@ -178,15 +169,14 @@ abbrev pub unit_payload : PayloadTable (Unit {0})
 unit_payload = record {
   Value = Unit {0};
   value = λ x. tt;
-  is_valid = λ x. true;
   count = 0;
   after = λ names. names;
   form = λ names. s.unit_kind;
   written = λ n names x. d.unit_variant n;
   meaning = λ names x. unit_variant_in x;
   named = λ n names x. refl;
-  fits = λ n names x k u h. refl;
-  comes_back = λ n names x e k h p. unit_variant_back n e k h p;
+  fits = λ mode n names x k u h. refl;
+  comes_back = λ mode n names x e k h p. unit_variant_back n e p;
   is_distinct = λ names k. refl;
 }
 
@@ -195,15 +185,14 @@ abbrev pub newtype_payload : {A : Type 0} → Table A → PayloadTable (Newtype 
 newtype_payload t = record {
   Value = t.Value;
   value = λ x. t.value x.0;
-  is_valid = λ x. t.is_valid x.0;
   count = 0;
   after = λ names. names;
   form = λ names. s.newtype_kind t.form;
   written = λ n names x. d.newtype_variant n (t.datum x.0);
   meaning = λ names x. newtype_variant_in t.meaning x;
   named = λ n names x. refl;
-  fits = λ n names x k u h. t.fit x.0 h;
-  comes_back = λ n names x e k h p. newtype_variant_back t.is_valid t.datum t.meaning t.value t.comes_back n x.0 e h p;
+  fits = λ mode n names x k u h. newtype_variant_fits t.datum t.form t.fit mode n x.0 h;
+  comes_back = λ mode n names x e k h p. newtype_variant_back t.datum t.meaning t.value t.comes_back mode n x.0 e h p;
   is_distinct = λ names k. t.distinct;
 }
 
@@ -212,15 +201,14 @@ abbrev pub tuple_payload : {A : Type 0} → ItemsTable A → PayloadTable (Tuple
 tuple_payload t = record {
   Value = t.Value;
   value = λ x. t.value x.0;
-  is_valid = λ x. t.is_valid x.0;
   count = 0;
   after = λ names. names;
   form = λ names. s.tuple_kind (shapes_of t.form);
   written = λ n names x. d.tuple_variant n (values_of (t.written x.0));
   meaning = λ names x. tuple_variant_in t.meaning x;
   named = λ n names x. refl;
-  fits = λ n names x k u h. t.fit x.0 h;
-  comes_back = λ n names x e k h p. tuple_variant_back t.is_valid t.written t.meaning t.value t.come_back n x.0 e h p;
+  fits = λ mode n names x k u h. tuple_variant_fits t.form t.written t.fit mode n x.0 h;
+  comes_back = λ mode n names x e k h p. tuple_variant_back t.written t.meaning t.value t.come_back mode n x.0 e h p;
   is_distinct = λ names k. t.distinct;
 }
 
@@ -229,15 +217,14 @@ abbrev pub fields_payload : {A B : Type 0} → UnknownKeys → (B → A) → Fie
 fields_payload unknown kept t = record {
   Value = t.Value;
   value = λ x. t.value (kept x);
-  is_valid = λ x. t.is_valid (kept x);
   count = t.count;
   after = t.after;
   form = λ names. s.struct_kind unknown (fields_of (t.form names));
   written = λ n names x. d.struct_variant n (members_of (t.written names (kept x)));
   meaning = λ names x. struct_variant_in (t.meaning names) x;
   named = λ n names x. refl;
-  fits = λ n names x k u h. t.fit names (kept x) k u h;
-  comes_back = λ n names x e k h p. struct_variant_back t.is_valid t.form t.written t.meaning t.value t.come_back n names (kept x) e k h p;
+  fits = λ mode n names x k u h. struct_variant_fits t.form t.written t.fit mode n names (kept x) k u h;
+  comes_back = λ mode n names x e k h p. struct_variant_back t.form t.written t.meaning t.value t.come_back mode n names (kept x) e k h p;
   is_distinct = λ names k. both_true k (t.are_distinct names);
 }
 
@@ -253,14 +240,13 @@ strict_payload t = fields_payload UnknownKeys.rejected (λ x. x.0) t
 pub record VariantsTable (A : Type 0) : Type 1 where
   pub Value : Type 0
   pub value : A → Value
-  pub is_valid : A → Bool
   pub count : ℕ
   pub form : List (List ℕ) → List Variant
   pub written : List (List ℕ) → A → Data
   pub meaning : List (List ℕ) → Data → Option Value
   pub named : AreNamed form written
-  pub fit : VariantsFit is_valid form written
-  pub come_back : VariantsComeBack is_valid form written meaning value
+  pub fit : VariantsFit form written
+  pub come_back : VariantsComeBack form written meaning value
   pub are_distinct : AreDistinct form
 
 -- the last variant
@@ -268,14 +254,13 @@ abbrev pub last_variant : {A : Type 0} → PayloadTable A → VariantsTable (Las
 last_variant t = record {
   Value = t.Value;
   value = λ x. t.value x.0;
-  is_valid = λ x. t.is_valid x.0;
   count = suc t.count;
   form = λ names. last_form t.form names;
   written = λ names x. last_data t.written names x.0;
   meaning = λ names x. last_in t.meaning names x;
   named = λ names x. last_named t.form t.written t.named names x.0;
-  fit = λ names x k u h. last_fits t.is_valid t.form t.written t.named t.fits names x.0 k u h;
-  come_back = λ names x e k h p. last_back t.is_valid t.form t.written t.meaning t.value t.named t.comes_back names x.0 e k h p;
+  fit = λ mode names x k u h. last_fits t.form t.written t.named t.fits mode names x.0 k u h;
+  come_back = λ mode names x e k h p. last_back t.form t.written t.meaning t.value t.named t.comes_back mode names x.0 e k h p;
   are_distinct = λ names k. last_distinct t.form t.is_distinct names k;
 }
 
@@ -284,14 +269,13 @@ abbrev pub one_variant : {A B : Type 0} → PayloadTable A → VariantsTable B �
 one_variant t r = record {
   Value = OneOf t.Value r.Value;
   value = λ x. each t.value r.value x;
-  is_valid = λ x. choose t.is_valid r.is_valid x;
   count = suc t.count + r.count;
   form = λ names. variant_form t.form t.after r.form names;
   written = λ names x. variant_data t.written t.after r.written names x;
   meaning = λ names x. variant_in t.meaning t.after r.meaning names x;
   named = λ names x. one_named t.form t.written t.named t.after r.form r.written r.named names x;
-  fit = λ names x k u h. one_fits t.is_valid t.form t.written t.named t.fits t.after r.is_valid r.form r.written r.named r.fit names x k u h;
-  come_back = λ names x e k h p. one_back t.is_valid t.form t.written t.meaning t.value t.named t.comes_back t.after r.is_valid r.form r.written r.meaning r.value r.named r.come_back names x e k h p;
+  fit = λ mode names x k u h. one_fits t.form t.written t.named t.fits t.after r.form r.written r.named r.fit mode names x k u h;
+  come_back = λ mode names x e k h p. one_back t.form t.written t.meaning t.value t.named t.comes_back t.after r.form r.written r.meaning r.value r.named r.come_back mode names x e k h p;
   are_distinct = λ names k. one_distinct t.form t.is_distinct t.after r.form r.are_distinct names k;
 }
 
@@ -299,13 +283,12 @@ one_variant t r = record {
 pub record PartsTable (A : Type 0) : Type 1 where
   pub Value : Type 0
   pub value : A → Value
-  pub is_valid : A → Bool
   pub are_named : List (List ℕ) → Bool
   pub form : List (List ℕ) → Shape
   pub written : List (List ℕ) → A → Data
   pub meaning : List (List ℕ) → Data → Option Value
-  pub fit : PartsFit is_valid are_named form written
-  pub come_back : PartsComeBack is_valid are_named written meaning value
+  pub fit : PartsFit are_named form written
+  pub come_back : PartsComeBack are_named written meaning value
   pub distinct : (names : List (List ℕ)) → are_named names ≡ true → is_distinct (form names) ≡ true
 
 -- a struct of fields, in whatever they are kept, and what it does with unknown keys
@@ -313,13 +296,12 @@ abbrev pub fields_parts : {A B : Type 0} → UnknownKeys → (B → A) → Field
 fields_parts unknown kept t = record {
   Value = t.Value;
   value = λ x. t.value (kept x);
-  is_valid = λ x. t.is_valid (kept x);
   are_named = λ names. are_names names t.count (t.form names);
   form = λ names. Shape.struct unknown (fields_of (t.form names));
   written = λ names x. d.struct (members_of (t.written names (kept x)));
   meaning = λ names x. struct_in (t.meaning names) x;
-  fit = λ names x k h. struct_fits t.is_valid t.count t.form t.written t.fit unknown names (kept x) k h;
-  come_back = λ names x e k h p. struct_back t.is_valid t.count t.form t.written t.meaning t.value t.come_back names (kept x) e k h p;
+  fit = λ mode names x k h. struct_fits t.count t.form t.written t.fit unknown mode names (kept x) k h;
+  come_back = λ mode names x e k h p. struct_back t.count t.form t.written t.meaning t.value t.come_back mode names (kept x) e k h p;
   distinct = λ names k. differ unknown names t.count (t.form names) k (t.are_distinct names);
 }
 
@@ -336,13 +318,12 @@ abbrev pub enum_parts : {A : Type 0} → VariantsTable A → PartsTable (Enum A)
 enum_parts t = record {
   Value = t.Value;
   value = λ x. t.value x.0;
-  is_valid = λ x. t.is_valid x.0;
   are_named = λ names. are_variants names t.count (t.form names);
   form = λ names. Shape.enumeration (variants_of (t.form names));
   written = λ names x. t.written names x.0;
   meaning = λ names x. t.meaning names x;
-  fit = λ names x k h. enum_fits t.is_valid t.count t.form t.written t.fit names x.0 k h;
-  come_back = λ names x e k h p. enum_back t.is_valid t.count t.form t.written t.meaning t.value t.come_back names x.0 e k h p;
+  fit = λ mode names x k h. enum_fits t.count t.form t.written t.fit mode names x.0 k h;
+  come_back = λ mode names x e k h p. enum_back t.count t.form t.written t.meaning t.value t.come_back mode names x.0 e k h p;
   distinct = λ names k. enum_distinct t.count t.form t.are_distinct names k;
 }
 
@@ -351,13 +332,12 @@ abbrev pub newtype_parts : {A : Type 0} → Table A → PartsTable (Newtype A)
 newtype_parts t = record {
   Value = t.Value;
   value = λ x. t.value x.0;
-  is_valid = λ x. t.is_valid x.0;
   are_named = λ names. length names == 0;
   form = λ names. Shape.newtype t.form;
   written = λ names x. d.newtype (t.datum x.0);
   meaning = λ names x. newtype_in t.meaning x;
-  fit = λ names x k h. t.fit x.0 h;
-  come_back = λ names x e k h p. newtype_back t.is_valid t.datum t.meaning t.value t.comes_back x.0 e h p;
+  fit = λ mode names x k h. t.fit mode x.0 h;
+  come_back = λ mode names x e k h p. newtype_back t.datum t.meaning t.value t.comes_back mode x.0 e h p;
   distinct = λ names k. t.distinct;
 }
 
@@ -366,13 +346,12 @@ abbrev pub tuple_parts : {A : Type 0} → ItemsTable A → PartsTable (Tuple A)
 tuple_parts t = record {
   Value = t.Value;
   value = λ x. t.value x.0;
-  is_valid = λ x. t.is_valid x.0;
   are_named = λ names. length names == 0;
   form = λ names. Shape.tuple (shapes_of t.form);
   written = λ names x. d.tuple (values_of (t.written x.0));
   meaning = λ names x. tuple_in t.meaning x;
-  fit = λ names x k h. t.fit x.0 h;
-  come_back = λ names x e k h p. tuple_back t.is_valid t.written t.meaning t.value t.come_back x.0 e h p;
+  fit = λ mode names x k h. tuple_fits t.form t.written t.fit mode x.0 h;
+  come_back = λ mode names x e k h p. tuple_back t.written t.meaning t.value t.come_back mode x.0 e h p;
   distinct = λ names k. t.distinct;
 }
 
@@ -385,5 +364,5 @@ abbrev pub made_of : {A B : Type 0} (t : PartsTable B) (names : List (record { n
 made_of t names parts suit =
     let ns : List (List ℕ) = names_in names in
     let named = suited (t.are_named ns) suit in
-    valid_table (λ x. t.value (parts x)) (λ x. t.written ns (parts x)) (λ x. t.is_valid (parts x)) (t.form ns) (t.meaning ns) (t.distinct ns named) (λ x h. t.fit ns (parts x) named h)
-    (λ x e h p. t.come_back ns (parts x) e named h p)
+    table_with (λ x. t.value (parts x)) (λ x. t.written ns (parts x)) (t.form ns) (t.meaning ns) (t.distinct ns named) (λ mode x h. t.fit mode ns (parts x) named h)
+    (λ mode x e h p. t.come_back mode ns (parts x) e named h p)

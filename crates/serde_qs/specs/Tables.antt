@@ -1,81 +1,80 @@
 -- Tables: what a type is read by and written as, with the proofs that belong to it, as one value. That of a struct or an enum holds those of
 -- its parts, each once.
-use Rattle.std.specs.Prelude.{◌≡◌, ℕ, Bool, true, List, map, Option, option_map, refl}
+use Rattle.std.specs.Prelude.{◌≡◌, ℕ, Bool, true, List, map, Option, Some, option_map, refl}
 use Rattle.std.specs.BTreeMap.{BTreeMap}
-use Rattle.std.specs.List.{list_all}
 use Rattle.std.specs.declared.alloc.Global.{Global}
 use Rattle.std.specs.declared.string.String.{String}
 use Rattle.std.specs.declared.vec.Vec.{Vec}
 use Rattle.qs_spec.specs.Data as d
 use Rattle.qs_spec.specs.Data.{Data, values_of, pairs_of}
 use Rattle.qs_spec.specs.Fits.{fits}
+use Rattle.qs_spec.specs.Same.{Same}
 use Rattle.qs_spec.specs.Shape as s
 use Rattle.qs_spec.specs.Shape.{Shape, is_distinct}
 use Rattle.serde_qs.specs.ComesBack.{ComesBack, DataFit}
-use Rattle.serde_qs.specs.Compound.{data_by, valid_by}
-use Rattle.serde_qs.specs.Delimited.{NumbersComeBack, is_number_delimiter}
-use Rattle.serde_qs.specs.Items.{joined, list_in}
-use Rattle.serde_qs.specs.Maps.{entry_data, is_valid_entry, mapping_in, values_by_text}
-use Rattle.serde_qs.specs.Meaning.{option_all, option_data, option_in, sequence_in}
+use Rattle.serde_qs.specs.Compound.{data_by}
+use Rattle.serde_qs.specs.Delimited.{NumbersComeBack, is_number_delimiter, list_data}
+use Rattle.serde_qs.specs.Fitting.{fitting, misfit}
+use Rattle.serde_qs.specs.Items.{list_in}
+use Rattle.serde_qs.specs.Maps.{entry_data, mapping_in, values_by_text}
+use Rattle.serde_qs.specs.Meaning.{option_data, option_in, sequence_in}
 use Rattle.serde_qs.specs.declared.types.delimited.Delimited.{Delimited}
 use Rattle.serde_qs.specs.internal.ComesBack.{option_back, sequence_back}
 use Rattle.serde_qs.specs.internal.Compound.{data_by_back, data_by_fit}
 use Rattle.serde_qs.specs.internal.DelimitedComesBack.{list_comes_back, list_fits}
-use Rattle.serde_qs.specs.internal.Fits.{each_fit, option_fits, pairs_fit}
+use Rattle.serde_qs.specs.internal.Fits.{mapping_fits, option_fits, sequence_fits}
+use Rattle.serde_qs.specs.internal.Fitting.{fitting_back, fitting_fits, not_plain}
 use Rattle.serde_qs.specs.internal.MapsComeBack.{mapping_back}
-use Rattle.serde_qs.specs.internal.OnlyRead.{misfit, nothing_back}
 
--- What a value holds, its data, which values are valid, the shape that is read for them, and what data mean. No struct or enum in the shape has a
--- name twice. The data of a valid value fit the shape, and from data that are the same as those comes that value.
+-- What a value holds, its data, the shape that is read for them, and what data mean. No struct or enum in the shape has a name twice. Where the data
+-- of a value are plain they fit the shape, and from data that are the same as those comes that value.
 pub record Table (A : Type 0) : Type 1 where
   pub Value : Type 0
   pub value : A → Value
   pub datum : A → Data
-  pub is_valid : A → Bool
   pub form : Shape
   pub meaning : Data → Option Value
   pub distinct : is_distinct form ≡ true
-  pub fit : DataFit is_valid datum form
-  pub comes_back : ComesBack is_valid datum meaning value
+  pub fit : DataFit datum form
+  pub comes_back : ComesBack datum meaning value
 
 -- a table of these
-abbrev pub valid_table : {A V : Type 0} (value : A → V) (datum : A → Data) (is_valid : A → Bool) (form : Shape) (meaning : Data → Option V) → is_distinct form ≡ true
-    → DataFit is_valid datum form → ComesBack is_valid datum meaning value → Table A
-valid_table {A} {V} value datum is_valid form meaning distinct fit back =
-    record { Value = V; value = value; datum = datum; is_valid = is_valid; form = form; meaning = meaning; distinct = distinct; fit = fit; comes_back = back }
+abbrev pub table_with : {A V : Type 0} (value : A → V) (datum : A → Data) (form : Shape) (meaning : Data → Option V) → is_distinct form ≡ true → DataFit datum form
+    → ComesBack datum meaning value → Table A
+table_with {A} {V} value datum form meaning distinct fit back =
+    record { Value = V; value = value; datum = datum; form = form; meaning = meaning; distinct = distinct; fit = fit; comes_back = back }
 
--- a table of these, in which the values are valid whose data fit
+-- a table of these, for values whose data fit the shape
 abbrev pub table_of : {A V : Type 0} (value : A → V) (datum : A → Data) (form : Shape) (meaning : Data → Option V) → is_distinct form ≡ true
-    → ComesBack (λ x. fits form (datum x)) datum meaning value → Table A
-table_of value datum form meaning distinct back = valid_table value datum (λ x. fits form (datum x)) form meaning distinct (λ x h. h) back
+    → ((x : A) (e : Data) → fits form (datum x) ≡ true → Same (datum x) e → meaning e ≡ Some (value x)) → Table A
+table_of value datum form meaning distinct back =
+    table_with value (λ x. fitting form (datum x)) form meaning distinct (fitting_fits datum form) (fitting_back value datum form meaning back)
 
 -- a table whose data unfold only where that is asked for
 abbrev pub closed : {A : Type 0} → Table A → Table A
 closed t =
-    valid_table t.value (data_by t.datum) (valid_by t.is_valid) t.form t.meaning t.distinct (data_by_fit t.is_valid t.datum t.form t.fit)
-    (data_by_back t.is_valid t.datum t.meaning t.value t.comes_back)
+    table_with t.value (data_by t.datum) t.form t.meaning t.distinct (data_by_fit t.datum t.form t.fit) (data_by_back t.datum t.meaning t.value t.comes_back)
 
--- The table of a type that is only read. Data are written that fit no shape, so none of its values has to come back.
+-- The table of a type that is only read. None of its values has plain data, so none has to come back.
 abbrev pub only_read : {A V : Type 0} (value : A → V) (form : Shape) (meaning : Data → Option V) → is_distinct form ≡ true → Table A
-only_read value form meaning distinct = table_of value (λ _. misfit) form meaning distinct (nothing_back value form meaning)
+only_read value form meaning distinct = table_with value (λ _. misfit) form meaning distinct (λ mode x h. absurd (not_plain mode h)) (λ mode x e h p. absurd (not_plain mode h))
 
 -- types of std that hold others
 
 abbrev pub option_table : {A : Type 0} → Table A → Table (Option A)
 option_table t =
-    valid_table (option_map t.value) (option_data t.datum) (option_all t.is_valid) (Shape.option t.form) (option_in t.meaning) t.distinct (option_fits t.is_valid t.datum t.form t.fit)
-    (option_back t.is_valid t.datum t.meaning t.value t.comes_back)
+    table_with (option_map t.value) (option_data t.datum) (Shape.option t.form) (option_in t.meaning) t.distinct (option_fits t.datum t.form t.fit)
+    (option_back t.datum t.meaning t.value t.comes_back)
 
 abbrev pub sequence_table : {A : Type 0} → Table A → Table (Vec A Global)
 sequence_table t =
-    valid_table (λ xs. map t.value xs.items) (λ xs. d.sequence (values_of (map t.datum xs.items))) (λ xs. list_all t.is_valid xs.items) (Shape.sequence t.form) (sequence_in t.meaning)
-    t.distinct (λ xs h. each_fit t.is_valid t.datum t.form t.fit xs.items h) (λ xs e h p. sequence_back t.is_valid t.datum t.meaning t.value t.comes_back xs.items e h p)
+    table_with (λ xs. map t.value xs.items) (λ xs. d.sequence (values_of (map t.datum xs.items))) (Shape.sequence t.form) (sequence_in t.meaning) t.distinct
+    (λ mode xs h. sequence_fits t.datum t.form t.fit mode xs.items h) (λ mode xs e h p. sequence_back t.datum t.meaning t.value t.comes_back mode xs.items e h p)
 
 abbrev pub mapping_table : {A : Type 0} → Table A → Table (BTreeMap (String Global) A)
 mapping_table t =
-    valid_table (values_by_text t.value) (λ m. d.mapping (pairs_of (map (entry_data t.datum) m.entries))) (λ m. list_all (is_valid_entry t.is_valid) m.entries)
-    (Shape.mapping s.KeyShape.text t.form) (mapping_in t.meaning) t.distinct (λ m h. pairs_fit t.is_valid t.datum t.form t.fit m.entries h)
-    (λ m e h p. mapping_back t.is_valid t.datum t.meaning t.value t.comes_back m e h p)
+    table_with (values_by_text t.value) (λ m. d.mapping (pairs_of (map (entry_data t.datum) m.entries))) (Shape.mapping s.KeyShape.text t.form) (mapping_in t.meaning) t.distinct
+    (λ mode m h. mapping_fits t.datum t.form t.fit mode m.entries h) (λ mode m e h p. mapping_back t.datum t.meaning t.value t.comes_back mode m e h p)
 
 -- Whole numbers, as the items of a list in one text. The text of each that is in range has no delimiter in it, and is parsed as that number.
 pub record Numbers (A : Type 0) : Type 1 where
@@ -93,9 +92,9 @@ numbers_of {A} {V} value in_range printed meaning back = record { Value = V; val
 -- a list of them in one text
 abbrev pub delimited_table : {A D : Type 0} → Numbers A → (delimiter : ℕ) → is_number_delimiter delimiter ≡ true → Table (Delimited A D)
 delimited_table n delimiter free =
-    valid_table (λ list. map n.value list.items.items) (λ list. d.text (joined delimiter (map n.printed list.items.items))) (λ list. list_all n.in_range list.items.items) Shape.text
-    (list_in n.meaning delimiter) refl (λ list h. list_fits n.in_range n.meaning n.printed n.value n.come_back delimiter free list.items.items h)
-    (λ list e h p. list_comes_back n.in_range n.meaning n.printed n.value n.come_back delimiter free list.items.items e h p)
+    table_with (λ list. map n.value list.items.items) (λ list. list_data n.in_range n.printed delimiter list.items.items) Shape.text (list_in n.meaning delimiter) refl
+    (λ mode list h. list_fits n.in_range n.meaning n.printed n.value n.come_back delimiter free mode list.items.items h)
+    (λ mode list e h p. list_comes_back n.in_range n.meaning n.printed n.value n.come_back delimiter free mode list.items.items e h p)
 
 -- They are a type's own, but for how a value is kept.
 pub record AreNumbersOf {A V : Type 0} (n : Numbers A) (value : A → V) (in_range : A → Bool) (printed : A → List ℕ) (meaning : List ℕ → Option V) : Type 0 where

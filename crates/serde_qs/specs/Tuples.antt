@@ -3,6 +3,7 @@ use Rattle.std.specs.Prelude.{◌≡◌, Bool, true, List, Option, Some, None, m
 use Rattle.qs_spec.specs.Data as v
 use Rattle.qs_spec.specs.Data.{Values, no_values, one_value, values_of}
 use Rattle.qs_spec.specs.Fits.{fits_tuple}
+use Rattle.qs_spec.specs.Plain.{are_plain}
 use Rattle.qs_spec.specs.Same.{SameValues}
 use Rattle.qs_spec.specs.Shape.{Shape, shapes_of}
 use Rattle.qs_data.specs.data.Views.{data_of}
@@ -32,10 +33,10 @@ abbrev pub tuple_variant_in : {A : Type 0} → (Values → Option A) → v.Data 
 tuple_variant_in m (v.tuple_variant n ds) = m ds
 tuple_variant_in m _ = None
 
--- the data of valid items fit their shapes
-abbrev pub ItemsFit : {A : Type 0} → (A → Bool) → List Shape → (A → List v.Data) → Type 0
-ItemsFit {A} is_valid form written = (x : A) → is_valid x ≡ true → fits_tuple (shapes_of form) (values_of (written x)) ≡ true
+-- where the data of items are plain, they fit their shapes
+abbrev pub ItemsFit : {A : Type 0} → List Shape → (A → List v.Data) → Type 0
+ItemsFit {A} form written = (mode : Bool) (x : A) → are_plain mode (values_of (written x)) ≡ true → fits_tuple (shapes_of form) (values_of (written x)) ≡ true
 
--- from values that are the same as those of valid items, those items come back
-abbrev pub ItemsComeBack : {A V : Type 0} → (A → Bool) → (A → List v.Data) → (Values → Option V) → (A → V) → Type 0
-ItemsComeBack {A} is_valid written meaning value = (x : A) (es : Values) → is_valid x ≡ true → SameValues (values_of (written x)) es → meaning es ≡ Some (value x)
+-- and from values that are the same as those, the items come back
+abbrev pub ItemsComeBack : {A V : Type 0} → (A → List v.Data) → (Values → Option V) → (A → V) → Type 0
+ItemsComeBack {A} written meaning value = (mode : Bool) (x : A) (es : Values) → are_plain mode (values_of (written x)) ≡ true → SameValues (values_of (written x)) es → meaning es ≡ Some (value x)

@@ -6,6 +6,7 @@ use Rattle.qs_spec.specs.Data.{Data, Members}
 use Rattle.qs_spec.specs.Shape.{Shape, field_names_differ, Variant, Variants, no_variants, one_variant, variants_of, is_variant_name, is_distinct, is_distinct_kind, VariantKind, unit_kind, newtype_kind, tuple_kind, struct_kind}
 use Rattle.qs_data.specs.shape.internal.Fitting.{fits_variant}
 use Rattle.qs_spec.specs.Fits.{variant_kind}
+use Rattle.qs_spec.specs.Plain.{is_plain}
 use Rattle.serde_qs.specs.Names.{is_text}
 use Rattle.serde_qs.specs.Records.{are_text_names, first_of, others_of}
 use Rattle.qs_spec.specs.Same.{Same}
@@ -95,13 +96,13 @@ variant_in m after rest names x =
 
 -- a variant of a kind fits, and comes back
 
-abbrev pub KindFits : {A : Type 0} → (A → Bool) → (List (List ℕ) → VariantKind) → (List ℕ → List (List ℕ) → A → Data) → Type 0
-KindFits {A} is_valid form written = (n : List ℕ) (names : List (List ℕ)) (x : A)
-    → kind_differs (form names) ≡ true → kind_is_text (form names) ≡ true → is_valid x ≡ true → fits_variant (Some (form names)) (written n names x) ≡ true
+abbrev pub KindFits : {A : Type 0} → (List (List ℕ) → VariantKind) → (List ℕ → List (List ℕ) → A → Data) → Type 0
+KindFits {A} form written = (mode : Bool) (n : List ℕ) (names : List (List ℕ)) (x : A)
+    → kind_differs (form names) ≡ true → kind_is_text (form names) ≡ true → is_plain mode (written n names x) ≡ true → fits_variant (Some (form names)) (written n names x) ≡ true
 
-abbrev pub KindComesBack : {A V : Type 0} → (A → Bool) → (List (List ℕ) → VariantKind) → (List ℕ → List (List ℕ) → A → Data) → (List (List ℕ) → Data → Option V) → (A → V) → Type 0
-KindComesBack {A} is_valid form written meaning value = (n : List ℕ) (names : List (List ℕ)) (x : A) (e : Data)
-    → kind_differs (form names) ≡ true → is_valid x ≡ true → Same (written n names x) e → meaning names e ≡ Some (value x)
+abbrev pub KindComesBack : {A V : Type 0} → (List (List ℕ) → VariantKind) → (List ℕ → List (List ℕ) → A → Data) → (List (List ℕ) → Data → Option V) → (A → V) → Type 0
+KindComesBack {A} form written meaning value = (mode : Bool) (n : List ℕ) (names : List (List ℕ)) (x : A) (e : Data)
+    → kind_differs (form names) ≡ true → is_plain mode (written n names x) ≡ true → Same (written n names x) e → meaning names e ≡ Some (value x)
 
 -- a variant that is written has the name that it was given, and that of one of the variants
 
@@ -117,13 +118,13 @@ AreNamed {A} form written = (names : List (List ℕ)) (x : A) → is_variant_nam
 abbrev pub fits_one_of : Variants → Data → Bool
 fits_one_of vs x = is_utf8 (name_in x) && fits_variant (variant_kind (name_in x) vs) x
 
-abbrev pub VariantsFit : {A : Type 0} → (A → Bool) → (List (List ℕ) → List Variant) → (List (List ℕ) → A → Data) → Type 0
-VariantsFit {A} is_valid form written = (names : List (List ℕ)) (x : A) → variants_differ (variants_of (form names)) ≡ true → variants_are_text (variants_of (form names)) ≡ true
-    → is_valid x ≡ true → fits_one_of (variants_of (form names)) (written names x) ≡ true
+abbrev pub VariantsFit : {A : Type 0} → (List (List ℕ) → List Variant) → (List (List ℕ) → A → Data) → Type 0
+VariantsFit {A} form written = (mode : Bool) (names : List (List ℕ)) (x : A) → variants_differ (variants_of (form names)) ≡ true → variants_are_text (variants_of (form names)) ≡ true
+    → is_plain mode (written names x) ≡ true → fits_one_of (variants_of (form names)) (written names x) ≡ true
 
-abbrev pub VariantsComeBack : {A V : Type 0} → (A → Bool) → (List (List ℕ) → List Variant) → (List (List ℕ) → A → Data) → (List (List ℕ) → Data → Option V) → (A → V) → Type 0
-VariantsComeBack {A} is_valid form written meaning value = (names : List (List ℕ)) (x : A) (e : Data)
-    → variants_differ (variants_of (form names)) ≡ true → is_valid x ≡ true → Same (written names x) e → meaning names e ≡ Some (value x)
+abbrev pub VariantsComeBack : {A V : Type 0} → (List (List ℕ) → List Variant) → (List (List ℕ) → A → Data) → (List (List ℕ) → Data → Option V) → (A → V) → Type 0
+VariantsComeBack {A} form written meaning value = (mode : Bool) (names : List (List ℕ)) (x : A) (e : Data)
+    → variants_differ (variants_of (form names)) ≡ true → is_plain mode (written names x) ≡ true → Same (written names x) e → meaning names e ≡ Some (value x)
 
 -- where the names differ, the shape is distinct
 

@@ -5,12 +5,12 @@ pub mod Compound
 pub mod Defaulted
 pub mod DelimitedComesBack
 pub mod Fits
+pub mod Fitting
 pub mod MapsComeBack
 pub mod Names
 pub mod NodeEntries
 pub mod NodeParts
 pub mod NumberLists
-pub mod OnlyRead
 pub mod Optional
 pub mod OwnTables
 pub mod Pieces

@@ -25,7 +25,6 @@ ghost use Rattle.serde_qs.specs.Exits.{Takes};
 ghost use Rattle.serde_qs.specs.Tables.{Table, closed};
 ghost use Rattle.qs_spec.specs.Shape.{is_distinct};
 ghost use Rattle.serde_qs.specs.Sources.{ReadsSource};
-ghost use Rattle.serde_qs.specs.declared.compound.out.Exit.TheVariants.{Nothing};
 
 use crate::path::Path;
 use crate::traits::{Deserialize, RoundTrip, Serialize};
@@ -104,15 +103,14 @@ pub trait Compound: Sized {
         ensures exact { ReadsSource table.value table.form table.meaning source.entry result };
 
     /// Passes the parts to `out`, under their names. An error is returned only where something failed: an allocation
-    /// ([`OutOfMemory`](qs_data::Stop::OutOfMemory)), or the writing of the parts. Into data, they are made; to a writer, they are written; where the
-    /// parts go nowhere, it shows that they are valid. It allocates, and takes time, as the method of [`Out`] does that it calls.
+    /// ([`OutOfMemory`](qs_data::Stop::OutOfMemory)), or the writing of the parts. Into data, they are made; to a writer, they are written. It
+    /// allocates, and takes time, as the method of [`Out`] does that it calls.
     ///
     /// ```
     /// out.fields(NAMES, (&self.x, (&self.y, ())))
     /// ```
     fn written(&self, out: Out) -> WriteResult
-        ensures taken { Takes out.old out.new result (table.datum self.now) }
-        ensures fits { out.old ≡ Nothing → table.is_valid self.now ≡ true };
+        ensures taken { Takes out.old out.new result (table.datum self.now) };
 }
 
 impl<C: Compound> Serialize for C {
@@ -159,11 +157,6 @@ impl<C: Compound> Deserialize for C {
 
 impl<C: Compound> RoundTrip for C {
     ghost same_datum = { λ _. refl };
-
-    #[tactic(auto, unfolding(crate::specs::Compound::valid_by))]
-    fn fits(&self) {
-        let _nothing = self.written(&mut Exit::Nothing);
-    }
 }
 
 /// The nested pairs of a struct's fields: `fields!(self; x, y)` is `(&self.x, (&self.y, ()))`, and `fields!(x, y)` is `(x, (y, ()))`, as a

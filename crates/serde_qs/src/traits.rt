@@ -1,6 +1,6 @@
 //! What a type is read by and written as.
 
-ghost use Rattle.std.specs.Prelude.{◌≡◌, true, IfOk, option_and_then};
+ghost use Rattle.std.specs.Prelude.{◌≡◌, IfOk, option_and_then};
 ghost use Rattle.qs_spec.specs.Data.{Data as Datum};
 ghost use Rattle.qs_tree.specs.Error.{OnlyOutOfMemory};
 ghost use Rattle.qs_data.specs.read.Errors.{IsCustomOrOutOfMemory};
@@ -166,22 +166,14 @@ pub trait Deserialize: Sized {
 
 /// A type whose values come back from what was written of them.
 ///
-/// [`value_comes_back`](crate::value_comes_back) is what follows from it. A struct or an enum gets this trait by [`Compound`](crate::Compound).
+/// It has no function. [`value_comes_back`](crate::value_comes_back) is what follows from it. A struct or an enum gets this trait by
+/// [`Compound`](crate::Compound).
 ///
 /// ```
 /// let text = to_string(alloc, &query)?;
 /// let same: Query = from_str(alloc, text.as_str())?; // the value of `query`, where its data are plain
 /// ```
 pub trait RoundTrip: Serialize + Deserialize {
-    /// Shows that this value is valid: that its numbers are in the range of their types, and its texts UTF-8. So its data fit the shape. It does
-    /// nothing when it runs.
-    ///
-    /// ```
-    /// value.fits(); // from here on a proof knows that the data of `value` fit
-    /// ```
-    fn fits(&self)
-        ensures { Self.table.is_valid self.now ≡ true };
-
     // The data that are written are those of the table, from which the value comes back.
     ghost same_datum: { (x : Self) → Self.table.datum x ≡ Self.datum x };
 }

@@ -1,30 +1,36 @@
--- The data of valid values fit their shapes.
+-- Plain data of values fit their shapes.
 use Rattle.std.proofs.Common.{ap, ◌∙◌, refl, sym, ⊎_elim}
 use Rattle.std.proofs.lemmas.Bool.{cases_Bool, false≢true}
 use Rattle.std.proofs.lemmas.Slice.Eq.{bytes_eq-Decides}
-use Rattle.std.specs.Prelude.{◌≡◌, ℕ, ◌==◌, Bool, true, false, not, ◌&&◌, List, length, [], ◌∷◌, map, Option, Some, None, if◌then◌else◌}
-use Rattle.std.specs.List.{list_all}
+use Rattle.std.proofs.lemmas.Str.{IsUtf8-string_bytes, is_utf8-from_IsUtf8}
+use Rattle.std.specs.Prelude.{◌≡◌, ℕ, ◌==◌, Bool, true, false, not, ◌&&◌, List, length, [], ◌∷◌, map, Option, Some, None, if◌then◌else◌, string_bytes}
 use Rattle.std.specs.Str.{bytes_eq, is_utf8}
 use Rattle.std.specs.declared.alloc.Global.{Global}
 use Rattle.std.specs.declared.string.String.{String}
 use Rattle.qs_spec.specs.Data as d
 use Rattle.qs_spec.specs.Data.{Data, Members, no_members, one_member, Named, members_of, values_of, pairs_of}
 use Rattle.qs_spec.specs.Fits.{at_field, each_fits, fits, fits_fields, fits_pairs, fits_tuple, variant_kind}
+use Rattle.qs_spec.specs.Plain.{are_few, are_plain, are_plain_members, are_plain_pairs, has_members, has_values, is_optional, is_plain, is_plain_name, member_names_differ, written_keys_differ}
 use Rattle.qs_spec.specs.Shape.{Shape, KeyShape, one_shape, Field, Fields, no_fields, one_field, fields_of, field_names_differ, is_field_name, shapes_of, Variant, Variants, no_variants, one_variant, VariantKind, is_variant_name, variants_of, UnknownKeys}
 use Rattle.qs_data.specs.shape.internal.Fitting.{fits_variant}
 use Rattle.serde_qs.specs.ComesBack.{DataFit, FieldsFit}
-use Rattle.serde_qs.specs.Maps.{entry_data, is_valid_entry}
-use Rattle.serde_qs.specs.Meaning.{option_all, option_data}
+use Rattle.serde_qs.specs.Maps.{entry_data}
+use Rattle.serde_qs.specs.Meaning.{option_data}
 use Rattle.serde_qs.specs.Names.{is_text}
 use Rattle.serde_qs.specs.Optional.{FieldsAreNamed, is_first_named, optional_data}
 use Rattle.serde_qs.specs.Records.{are_names, are_text_names, field_form, first_of, member_data, others_of}
 use Rattle.serde_qs.specs.Tuples.{ItemsFit}
-use Rattle.serde_qs.specs.Variants.{AreNamed, KindFits, KindIsNamed, VariantsFit, are_variants, choose, fits_one_of, kind_differs, kind_is_text, last_data, last_form, name_in, variant_data, variant_form, variants_are_text, variants_differ}
+use Rattle.serde_qs.specs.Variants.{AreNamed, KindFits, KindIsNamed, VariantsFit, are_variants, fits_one_of, kind_differs, kind_is_text, last_data, last_form, name_in, variant_data, variant_form, variants_are_text, variants_differ}
 use Rattle.serde_qs.specs.declared.compound.variants.OneOf.TheVariants.{First, Later}
 use Rattle.serde_qs.specs.internal.Booleans.{both_hold, both_true}
+use Rattle.serde_qs.specs.internal.Fitting.{member_parts, pair_parts}
 use Rattle.serde_qs.specs.internal.Names.{text_is_utf8}
 use Rattle.serde_qs.specs.internal.Optional.{other_field}
 use Rattle.serde_qs.specs.internal.Variants.{other_name, variants_of_names}
+
+-- the text of a string is UTF-8, by its type
+pub string_is_utf8 : (s : String Global) → is_utf8 (string_bytes s) ≡ true
+string_is_utf8 s = is_utf8-from_IsUtf8 (string_bytes s) (IsUtf8-string_bytes s)
 
 -- two texts that differ, in either order
 other_way : (a b : List ℕ) → bytes_eq a b ≡ false → bytes_eq b a ≡ false
@@ -44,67 +50,99 @@ left_out n s fs (one_member k x ms) absent named h =
 
 -- types that hold others
 
-module _ {A : Type 0} (is_valid : A → Bool) (datum : A → Data) (s : Shape) (fit : DataFit is_valid datum s) where
-  pub option_fits : DataFit (option_all is_valid) (option_data datum) (Shape.option s)
+module _ {A : Type 0} (datum : A → Data) (s : Shape) (fit : DataFit datum s) (mode : Bool) where
+  pub option_fits : (o : Option A) → is_plain mode (option_data datum o) ≡ true → fits (Shape.option s) (option_data datum o) ≡ true
   option_fits None h = refl
-  option_fits (Some x) h = fit x h
+  option_fits (Some x) h = fit mode x (both_hold (not (is_optional (datum x))) (is_plain mode (datum x)) h).1
 
-  pub each_fit : (xs : List A) → list_all is_valid xs ≡ true → each_fits s (values_of (map datum xs)) ≡ true
+  each_fit : (xs : List A) → are_plain mode (values_of (map datum xs)) ≡ true → each_fits s (values_of (map datum xs)) ≡ true
   each_fit [] h = refl
-  each_fit (x ∷ xs) h = let parts = both_hold (is_valid x) (list_all is_valid xs) h in both_true (fit x parts.0) (each_fit xs parts.1)
+  each_fit (x ∷ xs) h =
+      let parts = both_hold (is_plain mode (datum x)) (are_plain mode (values_of (map datum xs))) h in
+      both_true (fit mode x parts.0) (each_fit xs parts.1)
 
-  pub pairs_fit : (es : List (String Global × A)) → list_all (is_valid_entry is_valid) es ≡ true → fits_pairs KeyShape.text s (pairs_of (map (entry_data datum) es)) ≡ true
+  pub sequence_fits : (xs : List A) → is_plain mode (d.sequence (values_of (map datum xs))) ≡ true → fits (Shape.sequence s) (d.sequence (values_of (map datum xs))) ≡ true
+  sequence_fits xs h = let vs = values_of (map datum xs) in each_fit xs (both_hold (are_few vs) (are_plain mode vs) h).1
+
+  pairs_fit : (es : List (String Global × A)) → are_plain_pairs mode (pairs_of (map (entry_data datum) es)) ≡ true → fits_pairs KeyShape.text s (pairs_of (map (entry_data datum) es)) ≡ true
   pairs_fit [] h = refl
   pairs_fit (x ∷ es) h =
-      let parts = both_hold (is_valid_entry is_valid x) (list_all (is_valid_entry is_valid) es) h in
-      let inner = both_hold _ (is_valid x.1) parts.0 in
-      both_true (both_true inner.0 (fit x.1 inner.1)) (pairs_fit es parts.1)
+      let parts = pair_parts mode (d.text (string_bytes x.0)) (datum x.1) (pairs_of (map (entry_data datum) es)) h in
+      both_true (both_true (string_is_utf8 x.0) (fit mode x.1 parts.0)) (pairs_fit es parts.1)
 
-  pub items_fit : {B : Type 0} (are_valid : B → Bool) (form : List Shape) (written : B → List Data) → ItemsFit are_valid form written
-      → (a : A) (b : B) → (is_valid a && are_valid b) ≡ true → fits_tuple (one_shape s (shapes_of form)) (d.one_value (datum a) (values_of (written b))) ≡ true
-  items_fit are_valid form written more a b h = let parts = both_hold (is_valid a) (are_valid b) h in both_true (fit a parts.0) (more b parts.1)
+  pub mapping_fits : (es : List (String Global × A)) → is_plain mode (d.mapping (pairs_of (map (entry_data datum) es))) ≡ true
+      → fits (Shape.mapping KeyShape.text s) (d.mapping (pairs_of (map (entry_data datum) es))) ≡ true
+  mapping_fits es h = let ps = pairs_of (map (entry_data datum) es) in pairs_fit es (both_hold (written_keys_differ ps) (are_plain_pairs mode ps) h).1
+
+  pub items_fit : {B : Type 0} (form : List Shape) (written : B → List Data) → ItemsFit form written
+      → (a : A) (b : B) → are_plain mode (d.one_value (datum a) (values_of (written b))) ≡ true → fits_tuple (one_shape s (shapes_of form)) (d.one_value (datum a) (values_of (written b))) ≡ true
+  items_fit form written more a b h =
+      let parts = both_hold (is_plain mode (datum a)) (are_plain mode (values_of (written b))) h in
+      both_true (fit mode a parts.0) (more mode b parts.1)
 
   -- a field that is written, and those after it
-  pub field_fits : {B : Type 0} (are_valid : B → Bool) (form : List (List ℕ) → List Field) (written : List (List ℕ) → B → List Named) → FieldsFit are_valid form written
+  pub field_fits : {B : Type 0} (form : List (List ℕ) → List Field) (written : List (List ℕ) → B → List Named) → FieldsFit form written
       → (optional : Bool) (names : List (List ℕ)) (a : A) (b : B) → field_names_differ (fields_of (field_form s optional form names)) ≡ true → are_text_names (fields_of (field_form s optional form names)) ≡ true
-      → (is_valid a && are_valid b) ≡ true → fits_fields (fields_of (field_form s optional form names)) (members_of (member_data (datum a) (λ ns. written ns b) names)) ≡ true
-  field_fits are_valid form written more optional names a b k u h =
+      → are_plain_members mode (members_of (member_data (datum a) (λ ns. written ns b) names)) ≡ true
+      → fits_fields (fields_of (field_form s optional form names)) (members_of (member_data (datum a) (λ ns. written ns b) names)) ≡ true
+  field_fits form written more optional names a b k u h =
       let n = first_of names in
       let fs = fields_of (form (others_of names)) in
       let ms = members_of (written (others_of names) b) in
-      let parts = both_hold (is_valid a) (are_valid b) h in
+      let parts = member_parts mode n (datum a) ms h in
       let differ = both_hold (not (is_field_name n fs)) (field_names_differ fs) k in
       let are_text = both_hold (is_text n) (are_text_names fs) u in
-      let others = more (others_of names) b differ.1 are_text.1 parts.1 in
+      let others = more mode (others_of names) b differ.1 are_text.1 parts.1 in
       both_true (text_is_utf8 n are_text.0)
       (ap (λ t. if t then fits s (datum a) && fits_fields fs ms else (optional && at_field (λ z rest. fits z (datum a) && fits_fields rest ms) n fs)) ((bytes_eq-Decides n n).1 refl)
-      ∙ both_true (fit a parts.0) others)
+      ∙ both_true (fit mode a parts.0) others)
 
   -- a field that may be left out
-  pub optional_fits : {B : Type 0} (are_valid : B → Bool) (form : List (List ℕ) → List Field) (written : List (List ℕ) → B → List Named) → FieldsAreNamed form written → FieldsFit are_valid form written
+  pub optional_fits : {B : Type 0} (form : List (List ℕ) → List Field) (written : List (List ℕ) → B → List Named) → FieldsAreNamed form written → FieldsFit form written
       → (names : List (List ℕ)) (a : Option A) (b : B) → field_names_differ (fields_of (field_form s true form names)) ≡ true → are_text_names (fields_of (field_form s true form names)) ≡ true
-      → (option_all is_valid a && are_valid b) ≡ true → fits_fields (fields_of (field_form s true form names)) (members_of (optional_data datum a (λ ns. written ns b) names)) ≡ true
-  optional_fits are_valid form written named more names None b k u h =
+      → are_plain_members mode (members_of (optional_data datum a (λ ns. written ns b) names)) ≡ true
+      → fits_fields (fields_of (field_form s true form names)) (members_of (optional_data datum a (λ ns. written ns b) names)) ≡ true
+  optional_fits form written named more names None b k u h =
       let n = first_of names in
       let later = others_of names in
       let fs = fields_of (form later) in
       let differ = both_hold (not (is_field_name n fs)) (field_names_differ fs) k in
       let are_text = both_hold (is_text n) (are_text_names fs) u in
-      left_out n s fs (members_of (written later b)) differ.0 (named later b) (more later b differ.1 are_text.1 h)
-  optional_fits are_valid form written named more names (Some a) b k u h = field_fits are_valid form written more true names a b k u h
+      left_out n s fs (members_of (written later b)) differ.0 (named later b) (more mode later b differ.1 are_text.1 h)
+  optional_fits form written named more names (Some a) b k u h = field_fits form written more true names a b k u h
 
 -- no members fit no fields
-pub nothing_fits : {A : Type 0} (names : List (List ℕ)) (x : A) → true ≡ true → true ≡ true → true ≡ true → fits_fields no_fields no_members ≡ true
-nothing_fits names x k u h = refl
+pub nothing_fits : {A : Type 0} (mode : Bool) (names : List (List ℕ)) (x : A) → true ≡ true → true ≡ true → true ≡ true → fits_fields no_fields no_members ≡ true
+nothing_fits mode names x k u h = refl
 
-pub struct_fits : {A : Type 0} (is_valid : A → Bool) (count : ℕ) (form : List (List ℕ) → List Field) (written : List (List ℕ) → A → List Named) → FieldsFit is_valid form written
-    → (unknown : UnknownKeys) (names : List (List ℕ)) (x : A) → are_names names count (form names) ≡ true → is_valid x ≡ true
+pub struct_fits : {A : Type 0} (count : ℕ) (form : List (List ℕ) → List Field) (written : List (List ℕ) → A → List Named) → FieldsFit form written
+    → (unknown : UnknownKeys) (mode : Bool) (names : List (List ℕ)) (x : A) → are_names names count (form names) ≡ true → is_plain mode (d.struct (members_of (written names x))) ≡ true
     → fits (Shape.struct unknown (fields_of (form names))) (d.struct (members_of (written names x))) ≡ true
-struct_fits is_valid count form written fit unknown names x k h =
+struct_fits count form written fit unknown mode names x k h =
     let fs = fields_of (form names) in
+    let ms = members_of (written names x) in
     let named = both_hold (length names == count) (field_names_differ fs && are_text_names fs) k in
     let both = both_hold (field_names_differ fs) (are_text_names fs) named.1 in
-    fit names x both.0 both.1 h
+    fit mode names x both.0 both.1 (both_hold (has_members ms && member_names_differ ms) (are_plain_members mode ms) h).1
+
+-- tuples, and what variants hold
+
+module _ {A : Type 0} (form : List Shape) (written : A → List Data) (fit : ItemsFit form written) (mode : Bool) where
+  pub tuple_fits : (x : A) → is_plain mode (d.tuple (values_of (written x))) ≡ true → fits (Shape.tuple (shapes_of form)) (d.tuple (values_of (written x))) ≡ true
+  tuple_fits x h = let vs = values_of (written x) in fit mode x (both_hold (are_few vs) (are_plain mode vs) h).1
+
+  pub tuple_variant_fits : (n : List ℕ) (x : A) → is_plain mode (d.tuple_variant n (values_of (written x))) ≡ true → fits_tuple (shapes_of form) (values_of (written x)) ≡ true
+  tuple_variant_fits n x h = let vs = values_of (written x) in fit mode x (both_hold (is_plain_name mode n && has_values vs && are_few vs) (are_plain mode vs) h).1
+
+pub newtype_variant_fits : {A : Type 0} (datum : A → Data) (s : Shape) → DataFit datum s → (mode : Bool) (n : List ℕ) (x : A) → is_plain mode (d.newtype_variant n (datum x)) ≡ true → fits s (datum x) ≡ true
+newtype_variant_fits datum s fit mode n x h = fit mode x (both_hold (is_plain_name mode n) (is_plain mode (datum x)) h).1
+
+pub struct_variant_fits : {A : Type 0} (form : List (List ℕ) → List Field) (written : List (List ℕ) → A → List Named) → FieldsFit form written
+    → (mode : Bool) (n : List ℕ) (names : List (List ℕ)) (x : A) → field_names_differ (fields_of (form names)) ≡ true → are_text_names (fields_of (form names)) ≡ true
+    → is_plain mode (d.struct_variant n (members_of (written names x))) ≡ true → fits_fields (fields_of (form names)) (members_of (written names x)) ≡ true
+struct_variant_fits form written fit mode n names x k u h =
+    let ms = members_of (written names x) in
+    fit mode names x k u (both_hold (is_plain_name mode n && has_members ms && member_names_differ ms) (are_plain_members mode ms) h).1
 
 -- the variants of an enum
 
@@ -124,20 +162,20 @@ enumeration_fits vs (d.tuple_variant n xs) h = h
 enumeration_fits vs (d.struct_variant n ms) h = h
 enumeration_fits vs x h = absurd (false≢true (both_hold (is_utf8 (name_in x)) (fits_variant (variant_kind (name_in x) vs) x) h).1)
 
-pub last_fits : {A : Type 0} (is_valid : A → Bool) (form : List (List ℕ) → VariantKind) (written : List ℕ → List (List ℕ) → A → Data) → KindIsNamed written → KindFits is_valid form written
-    → VariantsFit is_valid (last_form form) (last_data written)
-last_fits is_valid form written named fit names x k u h =
+pub last_fits : {A : Type 0} (form : List (List ℕ) → VariantKind) (written : List ℕ → List (List ℕ) → A → Data) → KindIsNamed written → KindFits form written
+    → VariantsFit (last_form form) (last_data written)
+last_fits form written named fit mode names x k u h =
     let n = first_of names in
     let later = others_of names in
     let differ = both_hold (kind_differs (form later)) true k in
     let are_text = both_hold (is_text n) (kind_is_text (form later) && true) u in
     let inner = both_hold (kind_is_text (form later)) true are_text.1 in
-    this_fits n (form later) no_variants (written n later x) (named n later x) are_text.0 (fit n later x differ.0 inner.0 h)
+    this_fits n (form later) no_variants (written n later x) (named n later x) are_text.0 (fit mode n later x differ.0 inner.0 h)
 
-pub one_fits : {A B : Type 0} (is_valid : A → Bool) (form : List (List ℕ) → VariantKind) (written : List ℕ → List (List ℕ) → A → Data) → KindIsNamed written → KindFits is_valid form written
-    → (after : List (List ℕ) → List (List ℕ)) (are_valid : B → Bool) (rest : List (List ℕ) → List Variant) (more : List (List ℕ) → B → Data) → AreNamed rest more → VariantsFit are_valid rest more
-    → VariantsFit (λ x. choose is_valid are_valid x) (variant_form form after rest) (variant_data written after more)
-one_fits is_valid form written named fit after are_valid rest more present others names (First x) k u h =
+pub one_fits : {A B : Type 0} (form : List (List ℕ) → VariantKind) (written : List ℕ → List (List ℕ) → A → Data) → KindIsNamed written → KindFits form written
+    → (after : List (List ℕ) → List (List ℕ)) (rest : List (List ℕ) → List Variant) (more : List (List ℕ) → B → Data) → AreNamed rest more → VariantsFit rest more
+    → VariantsFit (variant_form form after rest) (variant_data written after more)
+one_fits form written named fit after rest more present others mode names (First x) k u h =
     let n = first_of names in
     let later = others_of names in
     let vs = variants_of (rest (after later)) in
@@ -145,8 +183,8 @@ one_fits is_valid form written named fit after are_valid rest more present other
     let are_text = both_hold (is_text n) (kind_is_text (form later) && variants_are_text vs) u in
     let one_differs = both_hold (kind_differs (form later)) (variants_differ vs) differ.1 in
     let one_is_text = both_hold (kind_is_text (form later)) (variants_are_text vs) are_text.1 in
-    this_fits n (form later) vs (written n later x) (named n later x) are_text.0 (fit n later x one_differs.0 one_is_text.0 h)
-one_fits is_valid form written named fit after are_valid rest more present others names (Later y) k u h =
+    this_fits n (form later) vs (written n later x) (named n later x) are_text.0 (fit mode n later x one_differs.0 one_is_text.0 h)
+one_fits form written named fit after rest more present others mode names (Later y) k u h =
     let n = first_of names in
     let later = others_of names in
     let vs = variants_of (rest (after later)) in
@@ -154,10 +192,10 @@ one_fits is_valid form written named fit after are_valid rest more present other
     let are_text = both_hold (is_text n) (kind_is_text (form later) && variants_are_text vs) u in
     let others_differ = both_hold (kind_differs (form later)) (variants_differ vs) differ.1 in
     let others_are_text = both_hold (kind_is_text (form later)) (variants_are_text vs) are_text.1 in
-    other_fits n (form later) vs (more (after later) y) differ.0 (present (after later) y) (others (after later) y others_differ.1 others_are_text.1 h)
+    other_fits n (form later) vs (more (after later) y) differ.0 (present (after later) y) (others mode (after later) y others_differ.1 others_are_text.1 h)
 
-pub enum_fits : {A : Type 0} (is_valid : A → Bool) (count : ℕ) (form : List (List ℕ) → List Variant) (written : List (List ℕ) → A → Data) → VariantsFit is_valid form written
-    → (names : List (List ℕ)) (x : A) → are_variants names count (form names) ≡ true → is_valid x ≡ true → fits (Shape.enumeration (variants_of (form names))) (written names x) ≡ true
-enum_fits is_valid count form written fit names x k h =
+pub enum_fits : {A : Type 0} (count : ℕ) (form : List (List ℕ) → List Variant) (written : List (List ℕ) → A → Data) → VariantsFit form written
+    → (mode : Bool) (names : List (List ℕ)) (x : A) → are_variants names count (form names) ≡ true → is_plain mode (written names x) ≡ true → fits (Shape.enumeration (variants_of (form names))) (written names x) ≡ true
+enum_fits count form written fit mode names x k h =
     let both = variants_of_names names count (form names) k in
-    enumeration_fits (variants_of (form names)) (written names x) (fit names x both.0 both.1 h)
+    enumeration_fits (variants_of (form names)) (written names x) (fit mode names x both.0 both.1 h)

@@ -5,8 +5,7 @@ use Rattle.std.proofs.lemmas.Slice.Eq.{bytes_eq-Decides}
 use Rattle.std.proofs.lemmas.Map.Text.{is_eq-slice_cmp}
 use mathlib.Core.Path.{fun_ext}
 use Rattle.std.specs.Prelude.{◌≡◌, ℕ, Bool, true, false, List, [], ◌∷◌, map, Option, Some, None, option_map, option_and_then, cond, string_bytes}
-use Rattle.std.specs.List.{list_all}
-use Rattle.std.specs.Str.{bytes_eq, is_utf8}
+use Rattle.std.specs.Str.{bytes_eq}
 use Rattle.std.specs.Ordering.{is_eq, nat_cmp}
 use Rattle.std.specs.Cmp.Lexicographic.{slice_cmp}
 use Rattle.std.specs.BTreeMap.{BTreeMap, is_at}
@@ -16,8 +15,10 @@ use Rattle.std.specs.declared.alloc.Global.{Global}
 use Rattle.qs_spec.specs.Data as d
 use Rattle.qs_spec.specs.Data.{Data, Pairs, no_pairs, one_pair, pairs_of}
 use Rattle.serde_qs.specs.ComesBack.{ComesBack}
-use Rattle.serde_qs.specs.Maps.{entry_data, is_valid_entry, values_by_text, nowhere, with_value, pairs_onto, mapping_in}
+use Rattle.serde_qs.specs.Maps.{entry_data, values_by_text, nowhere, with_value, pairs_onto, mapping_in}
 use Rattle.serde_qs.specs.internal.Booleans.{both_hold}
+use Rattle.serde_qs.specs.internal.Fitting.{pair_parts}
+use Rattle.qs_spec.specs.Plain.{are_plain_pairs, is_plain, written_keys_differ}
 use Rattle.qs_spec.specs.Same.{Same, SamePairs, IsNoKey, KeysDiffer, IsWith}
 
 abbrev StringPairs : Type 0 → Type 0
@@ -89,15 +90,14 @@ abbrev over : {A V : Type 0} → (A → V) → StringPairs A → (List ℕ → O
 over value [] f = f
 over value (x ∷ es) f = over value es (with_value (string_bytes x.0) (value x.1) f)
 
-pairs_back : {A V : Type 0} (is_valid : A → Bool) (datum : A → Data) (meaning : Data → Option V) (value : A → V) → ComesBack is_valid datum meaning value
-    → (es : StringPairs A) (qs : Pairs) (f : List ℕ → Option V) → list_all (is_valid_entry is_valid) es ≡ true → KeysDiffer qs → SamePairs (pairs_for datum es) qs
+pairs_back : {A V : Type 0} (datum : A → Data) (meaning : Data → Option V) (value : A → V) → ComesBack datum meaning value
+    → (mode : Bool) (es : StringPairs A) (qs : Pairs) (f : List ℕ → Option V) → are_plain_pairs mode (pairs_for datum es) ≡ true → KeysDiffer qs → SamePairs (pairs_for datum es) qs
     → pairs_onto meaning f qs ≡ Some (over value es f)
-pairs_back is_valid datum meaning value back [] _ f h n SamePairs.pairs_end = refl
-pairs_back is_valid datum meaning value back (x ∷ es) qs f h n (SamePairs.pairs_more {k} {d = c} {e} {ps} {rest} p w more) =
-    let parts = both_hold (is_valid_entry is_valid x) (list_all (is_valid_entry is_valid) es) h in
-    let inner = both_hold (is_utf8 (string_bytes x.0)) (is_valid x.1) parts.0 in
-    taken_onto meaning (string_bytes x.0) e (value x.1) (back x.1 e inner.1 p) w n f
-    ∙ pairs_back is_valid datum meaning value back es rest (with_value (string_bytes x.0) (value x.1) f) parts.1 (differ_left w n) more
+pairs_back datum meaning value back mode [] _ f h n SamePairs.pairs_end = refl
+pairs_back datum meaning value back mode (x ∷ es) qs f h n (SamePairs.pairs_more {k} {d = c} {e} {ps} {rest} p w more) =
+    let parts = pair_parts mode (d.text (string_bytes x.0)) (datum x.1) (pairs_for datum es) h in
+    taken_onto meaning (string_bytes x.0) e (value x.1) (back mode x.1 e parts.0 p) w n f
+    ∙ pairs_back datum meaning value back mode es rest (with_value (string_bytes x.0) (value x.1) f) parts.1 (differ_left w n) more
 
 -- where keys differ, those are what a look-up finds
 
@@ -142,9 +142,10 @@ over_is_found datum value (x ∷ es) n f t =
     ∙ one_more value (bytes_eq key t) x.1 (found t es) (f t) (λ y. subst (λ u. found u es ≡ None) ((bytes_eq-Decides key t).0 y) (none_found datum key es n.0))
     ∙ ap (λ b. or_else (option_map value (cond b (Some x.1) (found t es))) (f t)) (same_test key t)
 
-pub mapping_back : {A V : Type 0} (is_valid : A → Bool) (datum : A → Data) (meaning : Data → Option V) (value : A → V) → ComesBack is_valid datum meaning value
-    → (m : BTreeMap (String Global) A) (e : Data) → list_all (is_valid_entry is_valid) m.entries ≡ true → Same (d.mapping (pairs_for datum m.entries)) e
+pub mapping_back : {A V : Type 0} (datum : A → Data) (meaning : Data → Option V) (value : A → V) → ComesBack datum meaning value
+    → (mode : Bool) (m : BTreeMap (String Global) A) (e : Data) → is_plain mode (d.mapping (pairs_for datum m.entries)) ≡ true → Same (d.mapping (pairs_for datum m.entries)) e
     → mapping_in meaning e ≡ Some (values_by_text value m)
-mapping_back is_valid datum meaning value back m _ h (Same.mapping {ps} {qs} k l p) =
-    pairs_back is_valid datum meaning value back m.entries qs nowhere h l p
+mapping_back datum meaning value back mode m _ h (Same.mapping {ps} {qs} k l p) =
+    let plain = (both_hold (written_keys_differ (pairs_for datum m.entries)) (are_plain_pairs mode (pairs_for datum m.entries)) h).1 in
+    pairs_back datum meaning value back mode m.entries qs nowhere plain l p
     ∙ ap Some (fun_ext (λ t. over_is_found datum value m.entries k nowhere t ∙ or_none (option_map value (found t m.entries))))

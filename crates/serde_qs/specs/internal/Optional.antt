@@ -2,14 +2,16 @@
 use Rattle.std.proofs.Common.{ap, ◌∙◌, refl, sym, ⊎_elim}
 use Rattle.std.proofs.lemmas.Bool.{cases_Bool, false≢true}
 use Rattle.std.proofs.lemmas.Slice.Eq.{bytes_eq-Decides}
-use Rattle.std.specs.Prelude.{◌≡◌, ℕ, Bool, true, false, not, ◌&&◌, ◌||◌, List, Option, Some, None, option_map, if◌then◌else◌}
+use Rattle.std.specs.Prelude.{◌≡◌, ℕ, Bool, true, false, not, ◌||◌, List, Option, Some, None, option_map, if◌then◌else◌}
 use Rattle.std.specs.Str.{bytes_eq}
 use Rattle.qs_spec.specs.Data.{Data, Members, no_members, one_member, members_of, Named}
 use Rattle.qs_spec.specs.Shape.{Shape, Field, Fields, one_field, fields_of, is_field_name, field_names_differ}
 use Rattle.serde_qs.specs.ComesBack.{ComesBack, FieldsComeBack}
-use Rattle.serde_qs.specs.Meaning.{both, option_all}
+use Rattle.serde_qs.specs.Meaning.{both}
 use Rattle.serde_qs.specs.internal.Booleans.{both_hold}
+use Rattle.serde_qs.specs.internal.Fitting.{member_parts}
 use Rattle.serde_qs.specs.Records.{first_of, others_of, field_form, member_data}
+use Rattle.qs_spec.specs.Plain.{are_plain_members}
 use Rattle.qs_spec.specs.Same.{SameMembers}
 use Rattle.serde_qs.specs.Optional.{FieldsAreNamed, is_first_named, optional_data, optional_in}
 
@@ -51,22 +53,22 @@ absent_back meaning others names fs v _ _ absent named more (SameMembers.members
     ap (λ t. if t then both (option_map Some (meaning e)) (others later ns) else option_map (λ y. (None, y)) (others later (one_member k e ns))) (other_field (first_of names) k fs absent named)
     ∙ ap (λ r. option_map (λ y. (None, y)) r) more
 
-pub optional_back : {A B V W : Type 0} (is_valid : A → Bool) (datum : A → Data) (meaning : Data → Option V) (value : A → V) → ComesBack is_valid datum meaning value
-    → (are_valid : B → Bool) (form : List (List ℕ) → List Field) (written : List (List ℕ) → B → List Named) (others : List (List ℕ) → Members → Option W) (rest : B → W)
-    → FieldsAreNamed form written → FieldsComeBack are_valid form written others rest → (s : Shape) (names : List (List ℕ)) (a : Option A) (b : B) (ms : Members)
-    → field_names_differ (fields_of (field_form s true form names)) ≡ true → (option_all is_valid a && are_valid b) ≡ true
+pub optional_back : {A B V W : Type 0} (datum : A → Data) (meaning : Data → Option V) (value : A → V) → ComesBack datum meaning value
+    → (form : List (List ℕ) → List Field) (written : List (List ℕ) → B → List Named) (others : List (List ℕ) → Members → Option W) (rest : B → W)
+    → FieldsAreNamed form written → FieldsComeBack form written others rest → (s : Shape) (mode : Bool) (names : List (List ℕ)) (a : Option A) (b : B) (ms : Members)
+    → field_names_differ (fields_of (field_form s true form names)) ≡ true → are_plain_members mode (members_of (optional_data datum a (λ ns. written ns b) names)) ≡ true
     → SameMembers (members_of (optional_data datum a (λ ns. written ns b) names)) ms → optional_in meaning others names ms ≡ Some (option_map value a, rest b)
-optional_back is_valid datum meaning value back are_valid form written others rest named more s names None b ms k h p =
+optional_back datum meaning value back form written others rest named more s mode names None b ms k h p =
     let later = others_of names in
     let fs = fields_of (form later) in
     let differ = both_hold (not (is_field_name (first_of names) fs)) (field_names_differ fs) k in
-    absent_back meaning others names fs (rest b) (members_of (written later b)) ms differ.0 (named later b) (more later b ms differ.1 h p) p
-optional_back is_valid datum meaning value back are_valid form written others rest named more s names (Some a) b _ k h (SameMembers.members_more {name = n} {d} {e} {ms} {ns} p ps) =
+    absent_back meaning others names fs (rest b) (members_of (written later b)) ms differ.0 (named later b) (more mode later b ms differ.1 h p) p
+optional_back datum meaning value back form written others rest named more s mode names (Some a) b _ k h (SameMembers.members_more {name = n} {d} {e} {ms} {ns} p ps) =
     let later = others_of names in
     let fs = fields_of (form later) in
     let same_name : bytes_eq (first_of names) (first_of names) ≡ true = (bytes_eq-Decides (first_of names) (first_of names)).1 refl in
-    let parts = both_hold (is_valid a) (are_valid b) h in
+    let parts = member_parts mode (first_of names) (datum a) (members_of (written later b)) h in
     let differ = both_hold (not (is_field_name (first_of names) fs)) (field_names_differ fs) k in
     ap (λ t. if t then both (option_map Some (meaning e)) (others later ns) else option_map (λ y. (None, y)) (others later (one_member (first_of names) e ns))) same_name
-    ∙ ap (λ r. both (option_map Some r) (others later ns)) (back a e parts.0 p)
-    ∙ ap (λ r. option_map (λ y. (Some (value a), y)) r) (more later b ns differ.1 parts.1 ps)
+    ∙ ap (λ r. both (option_map Some r) (others later ns)) (back mode a e parts.0 p)
+    ∙ ap (λ r. option_map (λ y. (Some (value a), y)) r) (more mode later b ns differ.1 parts.1 ps)

@@ -3,17 +3,17 @@ use Rattle.std.proofs.Common.{ap, ◌∙◌, refl, subst, sym}
 use mathlib.Core.Path.{fun_ext}
 use Rattle.std.specs.Prelude.{◌≡◌, ℕ, Bool, List, [], ◌∷◌, map, Option, Some, None, option_map, option_and_then}
 use Rattle.std.specs.BTreeMap.{BTreeMap}
-use Rattle.std.specs.List.{list_all}
 use Rattle.std.specs.declared.alloc.Global.{Global}
 use Rattle.std.specs.declared.string.String.{String}
 use Rattle.std.specs.declared.vec.Vec.{Vec}
 use Rattle.qs_spec.specs.Data as d
 use Rattle.qs_spec.specs.Data.{Data, Named, values_of, pairs_of}
 use Rattle.qs_spec.specs.Fits.{fits}
+use Rattle.qs_spec.specs.Plain.{is_plain}
 use Rattle.qs_spec.specs.Same.{Same}
 use Rattle.serde_qs.specs.ComesBack.{ComesBack, DataFit}
-use Rattle.serde_qs.specs.Delimited.{NumbersComeBack}
-use Rattle.serde_qs.specs.Items.{items_in, joined, list_in, listed_in, pieces}
+use Rattle.serde_qs.specs.Delimited.{NumbersComeBack, list_data}
+use Rattle.serde_qs.specs.Items.{items_in, list_in, listed_in, pieces}
 use Rattle.serde_qs.specs.Maps.{entry_data}
 use Rattle.serde_qs.specs.Meaning.{option_data}
 use Rattle.serde_qs.specs.Optional.{optional_data}
@@ -62,11 +62,11 @@ module _ {A : Type 0} (t : Table A) (datum : A → Data) (same : (x : A) → t.d
 
   -- each value's own data fit, and it comes back from them
 
-  pub own_fit : DataFit t.is_valid datum t.form
-  own_fit x h = ap (fits t.form) (sym (same x)) ∙ t.fit x h
+  pub own_fit : DataFit datum t.form
+  own_fit mode x h = ap (fits t.form) (sym (same x)) ∙ t.fit mode x (ap (is_plain mode) (same x) ∙ h)
 
-  pub own_back : ComesBack t.is_valid datum t.meaning t.value
-  own_back x e h p = t.comes_back x e h (subst (λ d. Same d e) (sym (same x)) p)
+  pub own_back : ComesBack datum t.meaning t.value
+  own_back mode x e h p = t.comes_back mode x e (ap (is_plain mode) (same x) ∙ h) (subst (λ d. Same d e) (sym (same x)) p)
 
 module _ {A V : Type 0} (n : Numbers A) (value : A → V) (in_range : A → Bool) (printed : A → List ℕ) (meaning : List ℕ → Option V) (own : AreNumbersOf n value in_range printed meaning) where
   pub number_values : (xs : List A) → map n.value xs ≡ map own.kept (map value xs)
@@ -104,8 +104,6 @@ module _ {A V : Type 0} (n : Numbers A) (value : A → V) (in_range : A → Bool
   list_meaning delimiter (d.tuple_variant n es) = refl
   list_meaning delimiter (d.struct_variant n ms) = refl
 
-  pub delimited_datum : (delimiter : ℕ) (xs : List A) → d.text (joined delimiter (map n.printed xs)) ≡ d.text (joined delimiter (map printed xs))
-  delimited_datum delimiter xs = ap (λ f. d.text (joined delimiter (map f xs))) (fun_ext own.same_printed)
-
-  pub delimited_valid : (xs : List A) → list_all n.in_range xs ≡ list_all in_range xs
-  delimited_valid xs = ap (λ f. list_all f xs) (fun_ext own.same_range)
+  pub delimited_datum : (delimiter : ℕ) (xs : List A) → list_data n.in_range n.printed delimiter xs ≡ list_data in_range printed delimiter xs
+  delimited_datum delimiter xs =
+      ap (λ f. list_data f n.printed delimiter xs) (fun_ext own.same_range) ∙ ap (λ f. list_data in_range f delimiter xs) (fun_ext own.same_printed)

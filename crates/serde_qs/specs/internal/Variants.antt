@@ -10,21 +10,24 @@ use Rattle.qs_spec.specs.Shape.{Shape, Field, fields_of, field_names_differ, Var
 use Rattle.serde_qs.specs.ComesBack.{ComesBack, FieldsComeBack}
 use Rattle.serde_qs.specs.internal.Booleans.{both_hold, both_true}
 use Rattle.serde_qs.specs.Records.{first_of, others_of}
+use Rattle.qs_spec.specs.Plain.{are_plain_members, has_members, is_plain, is_plain_name, member_names_differ}
 use Rattle.qs_spec.specs.Same.{Same}
 use Rattle.serde_qs.specs.declared.compound.variants.OneOf.TheVariants.{First, Later}
-use Rattle.serde_qs.specs.Variants.{AreDistinct, AreNamed, KindComesBack, KindIsDistinct, KindIsNamed, VariantsComeBack, are_variants, choose, each, kind_differs, last_data, last_form, last_in, name_in, newtype_variant_in, struct_variant_in, unit_variant_in, variant_data, variant_form, variant_in, variants_are_text, variants_differ}
+use Rattle.serde_qs.specs.Variants.{AreDistinct, AreNamed, KindComesBack, KindIsDistinct, KindIsNamed, VariantsComeBack, are_variants, each, kind_differs, last_data, last_form, last_in, name_in, newtype_variant_in, struct_variant_in, unit_variant_in, variant_data, variant_form, variant_in, variants_are_text, variants_differ}
 
-pub unit_variant_back : (n : List ℕ) (e : Data) → true ≡ true → true ≡ true → Same (d.unit_variant n) e → unit_variant_in e ≡ Some tt
-unit_variant_back n _ k h Same.unit_variant = refl
+pub unit_variant_back : (n : List ℕ) (e : Data) → Same (d.unit_variant n) e → unit_variant_in e ≡ Some tt
+unit_variant_back n _ Same.unit_variant = refl
 
-pub newtype_variant_back : {A V : Type 0} (is_valid : A → Bool) (datum : A → Data) (meaning : Data → Option V) (value : A → V) → ComesBack is_valid datum meaning value
-    → (n : List ℕ) (x : A) (e : Data) → is_valid x ≡ true → Same (d.newtype_variant n (datum x)) e → newtype_variant_in meaning e ≡ Some (value x)
-newtype_variant_back is_valid datum meaning value back n x _ h (Same.newtype_variant {name = m} {d} {e} p) = back x e h p
+pub newtype_variant_back : {A V : Type 0} (datum : A → Data) (meaning : Data → Option V) (value : A → V) → ComesBack datum meaning value
+    → (mode : Bool) (n : List ℕ) (x : A) (e : Data) → is_plain mode (d.newtype_variant n (datum x)) ≡ true → Same (d.newtype_variant n (datum x)) e → newtype_variant_in meaning e ≡ Some (value x)
+newtype_variant_back datum meaning value back mode n x _ h (Same.newtype_variant {name = m} {d} {e} p) = back mode x e (both_hold (is_plain_name mode n) (is_plain mode (datum x)) h).1 p
 
-pub struct_variant_back : {A V : Type 0} (is_valid : A → Bool) (form : List (List ℕ) → List Field) (written : List (List ℕ) → A → List Named) (meaning : List (List ℕ) → Members → Option V) (value : A → V)
-    → FieldsComeBack is_valid form written meaning value → (n : List ℕ) (names : List (List ℕ)) (x : A) (e : Data)
-    → field_names_differ (fields_of (form names)) ≡ true → is_valid x ≡ true → Same (d.struct_variant n (members_of (written names x))) e → struct_variant_in (meaning names) e ≡ Some (value x)
-struct_variant_back is_valid form written meaning value back n names x _ k h (Same.struct_variant {name = m} {ms} {ns} p) = back names x ns k h p
+pub struct_variant_back : {A V : Type 0} (form : List (List ℕ) → List Field) (written : List (List ℕ) → A → List Named) (meaning : List (List ℕ) → Members → Option V) (value : A → V)
+    → FieldsComeBack form written meaning value → (mode : Bool) (n : List ℕ) (names : List (List ℕ)) (x : A) (e : Data)
+    → field_names_differ (fields_of (form names)) ≡ true → is_plain mode (d.struct_variant n (members_of (written names x))) ≡ true → Same (d.struct_variant n (members_of (written names x))) e → struct_variant_in (meaning names) e ≡ Some (value x)
+struct_variant_back form written meaning value back mode n names x _ k h (Same.struct_variant {name = m} {ms} {ns} p) =
+    let ws = members_of (written names x) in
+    back mode names x ns k (both_hold (is_plain_name mode n && has_members ws && member_names_differ ws) (are_plain_members mode ws) h).1 p
 
 -- data that are the same have one name
 
@@ -75,22 +78,22 @@ other_name n m vs absent present =
     (λ f. f)
     (cases_Bool (bytes_eq m n))
 
-pub last_back : {A V : Type 0} (is_valid : A → Bool) (form : List (List ℕ) → VariantKind) (written : List ℕ → List (List ℕ) → A → Data) (meaning : List (List ℕ) → Data → Option V) (value : A → V)
-    → KindIsNamed written → KindComesBack is_valid form written meaning value → VariantsComeBack is_valid (last_form form) (last_data written) (last_in meaning) value
-last_back is_valid form written meaning value named back names x e k h p =
+pub last_back : {A V : Type 0} (form : List (List ℕ) → VariantKind) (written : List ℕ → List (List ℕ) → A → Data) (meaning : List (List ℕ) → Data → Option V) (value : A → V)
+    → KindIsNamed written → KindComesBack form written meaning value → VariantsComeBack (last_form form) (last_data written) (last_in meaning) value
+last_back form written meaning value named back mode names x e k h p =
     let n = first_of names in
     let later = others_of names in
     let w = written n later x in
     let tested : bytes_eq (name_in w) n ≡ true = (bytes_eq-Decides (name_in w) n).1 (named n later x) in
     let differ = both_hold (kind_differs (form later)) true k in
-    ap (λ t. if t then meaning later e else None) (ap (λ m. bytes_eq m n) (sym (same_name p)) ∙ tested) ∙ back n later x e differ.0 h p
+    ap (λ t. if t then meaning later e else None) (ap (λ m. bytes_eq m n) (sym (same_name p)) ∙ tested) ∙ back mode n later x e differ.0 h p
 
-pub one_back : {A B V W : Type 0} (is_valid : A → Bool) (form : List (List ℕ) → VariantKind) (written : List ℕ → List (List ℕ) → A → Data) (meaning : List (List ℕ) → Data → Option V) (value : A → V)
-    → KindIsNamed written → KindComesBack is_valid form written meaning value → (after : List (List ℕ) → List (List ℕ))
-    → (are_valid : B → Bool) (rest : List (List ℕ) → List Variant) (more : List (List ℕ) → B → Data) (others : List (List ℕ) → Data → Option W) (seen : B → W)
-    → AreNamed rest more → VariantsComeBack are_valid rest more others seen
-    → VariantsComeBack (λ x. choose is_valid are_valid x) (variant_form form after rest) (variant_data written after more) (variant_in meaning after others) (λ x. each value seen x)
-one_back is_valid form written meaning value named back after are_valid rest more others seen present again names (First x) e k h p =
+pub one_back : {A B V W : Type 0} (form : List (List ℕ) → VariantKind) (written : List ℕ → List (List ℕ) → A → Data) (meaning : List (List ℕ) → Data → Option V) (value : A → V)
+    → KindIsNamed written → KindComesBack form written meaning value → (after : List (List ℕ) → List (List ℕ))
+    → (rest : List (List ℕ) → List Variant) (more : List (List ℕ) → B → Data) (others : List (List ℕ) → Data → Option W) (seen : B → W)
+    → AreNamed rest more → VariantsComeBack rest more others seen
+    → VariantsComeBack (variant_form form after rest) (variant_data written after more) (variant_in meaning after others) (λ x. each value seen x)
+one_back form written meaning value named back after rest more others seen present again mode names (First x) e k h p =
     let n = first_of names in
     let later = others_of names in
     let vs = variants_of (rest (after later)) in
@@ -99,8 +102,8 @@ one_back is_valid form written meaning value named back after are_valid rest mor
     let parts = both_hold (not (is_variant_name n vs)) (kind_differs (form later) && variants_differ vs) k in
     let differ = both_hold (kind_differs (form later)) (variants_differ vs) parts.1 in
     ap (λ t. if t then option_map First (meaning later e) else option_map Later (others (after later) e)) (ap (λ m. bytes_eq m n) (sym (same_name p)) ∙ tested)
-    ∙ ap (λ r. option_map First r) (back n later x e differ.0 h p)
-one_back is_valid form written meaning value named back after are_valid rest more others seen present again names (Later y) e k h p =
+    ∙ ap (λ r. option_map First r) (back mode n later x e differ.0 h p)
+one_back form written meaning value named back after rest more others seen present again mode names (Later y) e k h p =
     let n = first_of names in
     let later = others_of names in
     let vs = variants_of (rest (after later)) in
@@ -109,7 +112,7 @@ one_back is_valid form written meaning value named back after are_valid rest mor
     let differ = both_hold (kind_differs (form later)) (variants_differ vs) parts.1 in
     let tested : bytes_eq (name_in w) n ≡ false = other_name n (name_in w) vs parts.0 (present (after later) y) in
     ap (λ t. if t then option_map First (meaning later e) else option_map Later (others (after later) e)) (ap (λ m. bytes_eq m n) (sym (same_name p)) ∙ tested)
-    ∙ ap (λ r. option_map Later r) (again (after later) y e differ.1 h p)
+    ∙ ap (λ r. option_map Later r) (again mode (after later) y e differ.1 h p)
 
 -- of names that suit an enum, those of its variants differ and are UTF-8
 pub variants_of_names : (names : List (List ℕ)) (count : ℕ) (vs : List Variant) → are_variants names count vs ≡ true → (variants_differ (variants_of vs) ≡ true) × (variants_are_text (variants_of vs) ≡ true)
@@ -118,10 +121,10 @@ variants_of_names names count vs k =
     let are_text = variants_are_text (variants_of vs) in
     both_hold differ are_text (both_hold (length names == count) (differ && are_text) k).1
 
-pub enum_back : {A V : Type 0} (is_valid : A → Bool) (count : ℕ) (form : List (List ℕ) → List Variant) (written : List (List ℕ) → A → Data) (meaning : List (List ℕ) → Data → Option V) (value : A → V)
-    → VariantsComeBack is_valid form written meaning value → (names : List (List ℕ)) (x : A) (e : Data)
-    → are_variants names count (form names) ≡ true → is_valid x ≡ true → Same (written names x) e → meaning names e ≡ Some (value x)
-enum_back is_valid count form written meaning value back names x e k h p = back names x e (variants_of_names names count (form names) k).0 h p
+pub enum_back : {A V : Type 0} (count : ℕ) (form : List (List ℕ) → List Variant) (written : List (List ℕ) → A → Data) (meaning : List (List ℕ) → Data → Option V) (value : A → V)
+    → VariantsComeBack form written meaning value → (mode : Bool) (names : List (List ℕ)) (x : A) (e : Data)
+    → are_variants names count (form names) ≡ true → is_plain mode (written names x) ≡ true → Same (written names x) e → meaning names e ≡ Some (value x)
+enum_back count form written meaning value back mode names x e k h p = back mode names x e (variants_of_names names count (form names) k).0 h p
 
 pub last_distinct : (form : List (List ℕ) → VariantKind) → KindIsDistinct form → AreDistinct (last_form form)
 last_distinct form distinct names k = both_true (distinct (others_of names) (both_hold (kind_differs (form (others_of names))) true k).0) refl

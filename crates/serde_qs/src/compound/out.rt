@@ -1,6 +1,6 @@
 //! Where the parts of a value go.
 
-ghost use Rattle.std.specs.Prelude.{◌≡◌, true, IfOk};
+ghost use Rattle.std.specs.Prelude.{◌≡◌, IfOk};
 ghost use Rattle.qs_spec.specs.Data.{members_of, values_of};
 ghost use Rattle.qs_spec.specs.Data as d;
 ghost use Rattle.qs_tree.specs.Error.{OnlyOutOfMemory};
@@ -9,7 +9,6 @@ ghost use Rattle.qs_data.specs.declared.write.writer.Writer.{Writer};
 ghost use Rattle.qs_data.specs.write.Parts.{WritesPart, data_part};
 ghost use Rattle.serde_qs.specs.Exits.{Keeps, Makes, Takes, Wrote};
 ghost use Rattle.serde_qs.specs.Records.{texts};
-ghost use Rattle.serde_qs.specs.declared.compound.out.Exit.TheVariants.{Nothing};
 
 use super::own;
 use super::references::{FieldReferences, ListedReferences};
@@ -22,14 +21,13 @@ use crate::traits::RoundTrip;
 use qs_data::{Data, Error, Result, Scalar, Stop, WriteResult, Writer};
 use std::alloc::Global;
 
-/// Where the parts of a value go: into its data, to a writer, or nowhere. It is passed to [`Compound::written`](crate::Compound::written),
+/// Where the parts of a value go: into its data, or to a writer. It is passed to [`Compound::written`](crate::Compound::written),
 /// which passes the parts to one of its methods.
 ///
 /// Each method returns an error only where something failed. Into data it is [`OutOfMemory`](qs_data::Stop::OutOfMemory), where an allocation
-/// failed; to a writer, what the writing of the parts returned, whose errors are those of [`Writer::data`]; with [`Exit::Nothing`] there is none.
+/// failed; to a writer, what the writing of the parts returned, whose errors are those of [`Writer::data`].
 ///
-/// It allocates for the data and their names, or for the text of the writer, and takes time with the value. With [`Exit::Nothing`] it doesn't
-/// allocate.
+/// It allocates for the data and their names, or for the text of the writer, and takes time with the value.
 ///
 /// ```
 /// out.fields(NAMES, (&self.x, (&self.y, ())))
@@ -48,8 +46,6 @@ pub enum Exit {
     Data(Global, Option<Data>),
     /// To a writer.
     Writer(Writer),
-    /// Nowhere: what is wanted is that they are valid.
-    Nothing,
 }
 
 impl Exit {
@@ -63,15 +59,10 @@ impl Exit {
     #[tactic(auto, unfolding(qs_spec::specs::Entry::entries_at))]
     pub fn fields<R: FieldReferences + Drop>(&mut self, names: &[&str], fields: R) -> WriteResult
         ensures taken { Takes self.old self.new result (d.struct (members_of (R.own_members (texts names.now) fields))) }
-        ensures fits { self.old ≡ Nothing → R.fit fields ≡ true }
     {
         match self {
             Exit::Data(alloc, place) => keep(place, struct_of(*alloc, names, fields)),
             Exit::Writer(writer) => fields.write_members(names, writer),
-            Exit::Nothing => {
-                fields.fit();
-                Ok(())
-            }
         }
     }
 
@@ -83,15 +74,10 @@ impl Exit {
     /// ```
     pub fn value<T: RoundTrip>(&mut self, value: &T) -> WriteResult
         ensures taken { Takes self.old self.new result (T.table.datum value.now) }
-        ensures fits { self.old ≡ Nothing → T.table.is_valid value.now ≡ true }
     {
         match self {
             Exit::Data(alloc, place) => keep(place, own::datum_of(*alloc, value)),
             Exit::Writer(writer) => own::write_to(value, writer),
-            Exit::Nothing => {
-                own::fit(value);
-                Ok(())
-            }
         }
     }
 
@@ -102,15 +88,10 @@ impl Exit {
     /// ```
     pub fn items<R: ListedReferences + Drop>(&mut self, items: R) -> WriteResult
         ensures taken { Takes self.old self.new result (d.tuple (values_of (R.own_data items))) }
-        ensures fits { self.old ≡ Nothing → R.fit items ≡ true }
     {
         match self {
             Exit::Data(alloc, place) => keep(place, tuple_struct(*alloc, items)),
             Exit::Writer(writer) => own::write_tuple(writer, items),
-            Exit::Nothing => {
-                items.fit();
-                Ok(())
-            }
         }
     }
 
@@ -122,15 +103,10 @@ impl Exit {
     #[tactic(auto, unfolding(qs_spec::specs::Entry::entries_at))]
     pub fn newtype<T: RoundTrip>(&mut self, value: &T) -> WriteResult
         ensures taken { Takes self.old self.new result (d.newtype (T.table.datum value.now)) }
-        ensures fits { self.old ≡ Nothing → T.table.is_valid value.now ≡ true }
     {
         match self {
             Exit::Data(alloc, place) => keep(place, newtype_struct(*alloc, value)),
             Exit::Writer(writer) => own::write_to(value, writer),
-            Exit::Nothing => {
-                own::fit(value);
-                Ok(())
-            }
         }
     }
 
@@ -146,7 +122,6 @@ impl Exit {
         match self {
             Exit::Data(alloc, place) => keep(place, unit_variant(*alloc, name)),
             Exit::Writer(writer) => writer.scalar(Scalar::Bytes(name.as_bytes())),
-            Exit::Nothing => Ok(()),
         }
     }
 
@@ -158,15 +133,10 @@ impl Exit {
     #[tactic(auto, unfolding(qs_spec::specs::Entry::entries_at))]
     pub fn newtype_variant<T: RoundTrip>(&mut self, name: &str, value: &T) -> WriteResult
         ensures taken { Takes self.old self.new result (d.newtype_variant name.now (T.table.datum value.now)) }
-        ensures fits { self.old ≡ Nothing → T.table.is_valid value.now ≡ true }
     {
         match self {
             Exit::Data(alloc, place) => keep(place, newtype_variant(*alloc, name, value)),
             Exit::Writer(writer) => own::write_under(writer, name, value),
-            Exit::Nothing => {
-                own::fit(value);
-                Ok(())
-            }
         }
     }
 
@@ -177,15 +147,10 @@ impl Exit {
     /// ```
     pub fn tuple_variant<R: ListedReferences + Drop>(&mut self, name: &str, items: R) -> WriteResult
         ensures taken { Takes self.old self.new result (d.tuple_variant name.now (values_of (R.own_data items))) }
-        ensures fits { self.old ≡ Nothing → R.fit items ≡ true }
     {
         match self {
             Exit::Data(alloc, place) => keep(place, tuple_variant(*alloc, name, items)),
             Exit::Writer(writer) => own::write_tuple_variant(writer, name, items),
-            Exit::Nothing => {
-                items.fit();
-                Ok(())
-            }
         }
     }
 
@@ -204,15 +169,10 @@ impl Exit {
         fields: R,
     ) -> WriteResult
         ensures taken { Takes self.old self.new result (d.struct_variant name.now (members_of (R.own_members (texts names.now) fields))) }
-        ensures fits { self.old ≡ Nothing → R.fit fields ≡ true }
     {
         match self {
             Exit::Data(alloc, place) => keep(place, struct_variant(*alloc, name, names, fields)),
             Exit::Writer(writer) => own::write_variant(writer, name, names, fields),
-            Exit::Nothing => {
-                fields.fit();
-                Ok(())
-            }
         }
     }
 
@@ -229,7 +189,7 @@ impl Exit {
         }
         match self {
             Exit::Data(_, Some(datum)) => Ok(datum),
-            Exit::Data(_, None) | Exit::Writer(_) | Exit::Nothing => unreachable!(),
+            Exit::Data(_, None) | Exit::Writer(_) => unreachable!(),
         }
     }
 
@@ -240,7 +200,7 @@ impl Exit {
     {
         match self {
             Exit::Writer(whole) => *writer = whole,
-            Exit::Data(..) | Exit::Nothing => unreachable!(),
+            Exit::Data(..) => unreachable!(),
         }
         taken
     }

@@ -1,6 +1,6 @@
 //! How the parts of a value are written, in the words of their tables.
 
-ghost use Rattle.std.specs.Prelude.{◌≡◌, true, IfOk};
+ghost use Rattle.std.specs.Prelude.{◌≡◌, IfOk};
 ghost use Rattle.qs_spec.specs.Data.{members_of, values_of};
 ghost use Rattle.qs_spec.specs.Data as d;
 ghost use Rattle.qs_tree.specs.Error.{OnlyOutOfMemory};
@@ -68,11 +68,4 @@ pub(crate) fn write_tuple_variant<R: ListedReferences + Drop>(
     ensures { WritesPart result writer.old writer.new (data_part (d.tuple_variant name.now (values_of (R.own_data items)))) }
 {
     parts::write_made(writer, tuple_variant(writer.alloc, name, items))
-}
-
-/// Shows that a value is valid. It does nothing when it runs.
-pub(crate) fn fit<T: RoundTrip>(value: &T)
-    ensures { T.table.is_valid value.now ≡ true }
-{
-    value.fits();
 }

@@ -1,17 +1,15 @@
 //! The fields of a struct that is written, by reference.
 
-ghost use Rattle.std.specs.Prelude.{◌≡◌, refl, ◌&&◌, ℕ, Bool, true, List, [], ◌∷◌, ◌++◌, map, IfOk};
+ghost use Rattle.std.specs.Prelude.{◌≡◌, refl, ℕ, List, [], ◌∷◌, ◌++◌, map, IfOk};
 ghost use Rattle.qs_spec.specs.Data.{Data as Datum, Named, members_of};
 ghost use Rattle.qs_tree.specs.Error.{OnlyOutOfMemory};
 ghost use Rattle.qs_data.specs.data.Views.{data_of, named};
 ghost use Rattle.qs_data.specs.write.Parts.{WritesPart, members_part};
-ghost use Rattle.serde_qs.specs.Meaning.{option_all};
 ghost use Rattle.serde_qs.specs.Optional.{optional_data};
 ghost use Rattle.serde_qs.specs.Records.{member_data, texts};
 ghost use Rattle.serde_qs.specs.internal.OwnTables.{same_item, same_member, same_optional};
 
 use super::fields::split;
-use super::own;
 use crate::parts::write_under;
 use crate::traits::{RoundTrip, Serialize};
 use qs_data::{Data, Result, Scalar, WriteResult, Writer};
@@ -132,13 +130,6 @@ pub trait FieldReferences: References {
     // The members of the fields, by their names, in the words of the fields' tables.
     ghost own_members: { List (List ℕ) → Self → List Named };
 
-    // Each of the fields is valid.
-    ghost fit: { Self → Bool };
-
-    /// Shows that each of them is valid. It does nothing when it runs.
-    fn fit(&self)
-        ensures { fit self.now ≡ true };
-
     // These are the members that are written.
     ghost same: { (names : List (List ℕ)) (x : Self) → Self.members names x ≡ own_members names x };
 }
@@ -146,41 +137,19 @@ pub trait FieldReferences: References {
 impl FieldReferences for () {
     ghost own_members = { λ _ _. [] };
 
-    ghost fit = { λ _. true };
-
     ghost same = { λ _ _. refl };
-
-    fn fit(&self) {}
 }
 
 impl<'a, T: RoundTrip, R: FieldReferences + Drop> FieldReferences for (&'a T, R) {
     ghost own_members = { λ names x. member_data (T.table.datum x.0.now) (λ ns. R.own_members ns x.1) names };
 
-    ghost fit = { λ x. T.table.is_valid x.0.now && R.fit x.1 };
-
     ghost same = { λ names x. same_member (T.same_datum x.0.now) (λ ns. R.same ns x.1) names };
-
-    fn fit(&self) {
-        let (field, others) = self;
-        own::fit(*field);
-        others.fit();
-    }
 }
 
 impl<'a, T: RoundTrip, R: FieldReferences + Drop> FieldReferences for (SkipNone<'a, T>, R) {
     ghost own_members = { λ names x. optional_data T.table.datum x.0.0.now (λ ns. R.own_members ns x.1) names };
 
-    ghost fit = { λ x. option_all T.table.is_valid x.0.0.now && R.fit x.1 };
-
     ghost same = { λ names x. same_optional T.same_datum x.0.0.now (λ ns. R.same ns x.1) names };
-
-    fn fit(&self) {
-        let (SkipNone(field), others) = self;
-        if let Some(value) = field {
-            own::fit(value);
-        }
-        others.fit();
-    }
 }
 
 /// References to the items of a tuple that is written, as nested pairs: `(&self.0, (&self.1, ()))`.
@@ -226,13 +195,6 @@ pub trait ListedReferences: ItemReferences {
     // The data of the items, in the words of their tables.
     ghost own_data: { Self → List Datum };
 
-    // Each of the items is valid.
-    ghost fit: { Self → Bool };
-
-    /// Shows that each of them is valid. It does nothing when it runs.
-    fn fit(&self)
-        ensures { fit self.now ≡ true };
-
     // These are the data that are written.
     ghost same: { (x : Self) → Self.listed x ≡ own_data x };
 }
@@ -240,23 +202,11 @@ pub trait ListedReferences: ItemReferences {
 impl ListedReferences for () {
     ghost own_data = { λ _. [] };
 
-    ghost fit = { λ _. true };
-
     ghost same = { λ _. refl };
-
-    fn fit(&self) {}
 }
 
 impl<'a, T: RoundTrip, R: ListedReferences + Drop> ListedReferences for (&'a T, R) {
     ghost own_data = { λ x. T.table.datum x.0.now ∷ R.own_data x.1 };
 
-    ghost fit = { λ x. T.table.is_valid x.0.now && R.fit x.1 };
-
     ghost same = { λ x. same_item (T.same_datum x.0.now) (R.same x.1) };
-
-    fn fit(&self) {
-        let (item, others) = self;
-        own::fit(*item);
-        others.fit();
-    }
 }

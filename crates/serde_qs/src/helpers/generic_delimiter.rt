@@ -1,7 +1,8 @@
 //! Lists in one text, with a delimiter of the caller's.
 
-ghost use Rattle.std.specs.Prelude.{◌≡◌, ◌++◌, IfOk, map, string_bytes};
+ghost use Rattle.std.specs.Prelude.{◌≡◌, ◌++◌, true, IfOk, map, string_bytes};
 ghost use Rattle.std.specs.Char.{encode_utf8};
+ghost use Rattle.std.specs.List.{list_all};
 ghost use Rattle.qs_spec.specs.Data as d;
 ghost use Rattle.qs_tree.specs.Error.{OnlyOutOfMemory};
 ghost use Rattle.qs_data.specs.data.Views.{data_of};
@@ -24,6 +25,7 @@ use std::alloc::Global;
 pub fn serialize<T: Item>(alloc: Global, list: &[T], delimiter: char) -> Result<Data>
     ensures exact { IfOk result (λ x. data_of x ≡ d.text (joined delimiter (map T.printed list.now))) }
     ensures errors { OnlyOutOfMemory result }
+    ensures valid { IfOk result (λ _. list_all T.in_range list.now ≡ true) }
 {
     Ok(Data::Text(joined_text(alloc, list, delimiter)?))
 }
@@ -55,6 +57,7 @@ pub fn deserialize<T: Item + Drop>(alloc: Global, datum: Data, delimiter: char) 
 fn joined_text<T: Item>(alloc: Global, list: &[T], delimiter: char) -> Result<String>
     ensures exact { IfOk result (λ t. string_bytes t ≡ joined delimiter (map T.printed list.now)) }
     ensures errors { OnlyOutOfMemory result }
+    ensures valid { IfOk result (λ _. list_all T.in_range list.now ≡ true) }
 {
     let mut out = String::new(alloc);
     match list.split_first() {
@@ -70,6 +73,7 @@ fn joined_text<T: Item>(alloc: Global, list: &[T], delimiter: char) -> Result<St
 fn append_each<T: Item>(list: &[T], delimiter: char, mut out: String) -> Result<String>
     ensures exact { IfOk result (λ t. string_bytes t ≡ string_bytes out ++ each_after (encode_utf8 delimiter) (map T.printed list.now)) }
     ensures errors { OnlyOutOfMemory result }
+    ensures valid { IfOk result (λ _. list_all T.in_range list.now ≡ true) }
 {
     for item in list {
         out.push(delimiter)?;

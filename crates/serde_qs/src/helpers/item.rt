@@ -1,6 +1,6 @@
 //! What a list in one text is made of.
 
-ghost use Rattle.std.specs.Prelude.{◌≡◌, ◌++◌, ℕ, Bool, List, Option, Some, OnOk, OnErr, string_bytes};
+ghost use Rattle.std.specs.Prelude.{◌≡◌, ◌++◌, ℕ, Bool, true, List, Option, Some, OnOk, OnErr, string_bytes};
 ghost use Rattle.qs_spec.specs.Entry.{boolean_text};
 ghost use Rattle.qs_tree.specs.Error.{OnlyOutOfMemory};
 ghost use Rattle.qs_data.specs.read.Errors.{IsCustomOrOutOfMemory};
@@ -29,6 +29,9 @@ pub trait Item: Sized {
     // What the item holds that a text is parsed as, if it is one.
     ghost meaning: { List ℕ → Option Value };
 
+    // Whether a number is in the range of its type, as every number of a program is.
+    ghost in_range: { Self → Bool } = { λ _. true };
+
     /// Appends the text of this item. The one error is [`OutOfMemory`](Error::OutOfMemory), and then `out` is unchanged.
     ///
     /// It is the text of the same value in a querystring, before it is escaped. It allocates where `out` has no room for it, and takes
@@ -40,7 +43,8 @@ pub trait Item: Sized {
     fn print(&self, out: &mut String) -> Result<()>
         ensures ok { OnOk result (string_bytes out.new ≡ string_bytes out.old ++ printed self.now) }
         ensures err { OnErr result (string_bytes out.new ≡ string_bytes out.old) }
-        ensures errors { OnlyOutOfMemory result };
+        ensures errors { OnlyOutOfMemory result }
+        ensures valid { in_range self.now ≡ true };
 
     /// Returns the item that a text is parsed as.
     ///

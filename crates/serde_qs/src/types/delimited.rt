@@ -2,12 +2,10 @@
 
 ghost use Rattle.std.specs.Prelude.{◌≡◌, ℕ, true, map, refl};
 ghost use Rattle.std.specs.Fmt.{decimal, signed_decimal};
-ghost use Rattle.std.specs.List.{list_all};
-ghost use Rattle.qs_spec.specs.Data as d;
 ghost use Rattle.qs_spec.specs.Fits.{fits_signed, fits_unsigned};
 ghost use Rattle.qs_spec.specs.Scalar.{signed_number, unsigned_number};
-ghost use Rattle.serde_qs.specs.Delimited.{is_number_delimiter};
-ghost use Rattle.serde_qs.specs.Items.{joined, list_in};
+ghost use Rattle.serde_qs.specs.Delimited.{is_number_delimiter, list_data};
+ghost use Rattle.serde_qs.specs.Items.{list_in};
 ghost use Rattle.serde_qs.specs.internal.NumberLists.{signed_items, unsigned_items};
 ghost use Rattle.serde_qs.specs.internal.OwnTables.{delimited_datum, themselves};
 ghost use Rattle.qs_data.specs.data.Views.{data_of};
@@ -32,7 +30,7 @@ pub trait WholeNumber: Item + RoundTrip {
     ghost numbers: { Numbers Self };
 
     // They are the type's own.
-    ghost are_own: { AreNumbersOf numbers Self.Item.value Self.table.is_valid Self.printed Self.Item.meaning };
+    ghost are_own: { AreNumbersOf numbers Self.Item.value Self.in_range Self.printed Self.Item.meaning };
 }
 
 /// The character between the numbers of a [`Delimited`], which is neither a digit nor `-`.
@@ -120,7 +118,7 @@ impl<T, D> Delimited<T, D> {
 }
 
 impl<T: WholeNumber, D: Delimiter> Serialize for Delimited<T, D> {
-    ghost datum = { λ list. d.text (joined D.delimiter (map T.printed list.items.items)) };
+    ghost datum = { λ list. list_data T.in_range T.printed D.delimiter list.items.items };
 
     fn to_data(&self, alloc: Global) -> Result<Data> {
         generic_delimiter::serialize(alloc, self.items.as_slice(), D::delimiter())
@@ -148,20 +146,7 @@ fn numbers_in<T: WholeNumber + Drop>(alloc: Global, datum: Data, delimiter: char
 }
 
 impl<T: WholeNumber + Drop, D: Delimiter> RoundTrip for Delimited<T, D> {
-    ghost same_datum = { λ list. delimited_datum T.numbers T.Item.value T.table.is_valid T.printed T.Item.meaning T.are_own D.delimiter list.items.items };
-
-    fn fits(&self) {
-        items_fit(self.items.as_slice());
-    }
-}
-
-// Shows that each number is in range. It does nothing when it runs.
-fn items_fit<T: WholeNumber>(items: &[T])
-    ensures { list_all T.table.is_valid items.now ≡ true }
-{
-    for item in items {
-        item.fits();
-    }
+    ghost same_datum = { λ list. delimited_datum T.numbers T.Item.value T.in_range T.printed T.Item.meaning T.are_own D.delimiter list.items.items };
 }
 
 impl Delimiter for Comma {

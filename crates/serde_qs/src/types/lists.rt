@@ -105,10 +105,4 @@ fn values_of<T: Deserialize + Drop>(reader: Reader, items: Items<'_, '_>) -> Res
 
 impl<T: RoundTrip + Drop> RoundTrip for Vec<T> {
     ghost same_datum = { sequence_datum T.table T.datum T.same_datum };
-
-    fn fits(&self) {
-        for item in self {
-            item.fits();
-        }
-    }
 }

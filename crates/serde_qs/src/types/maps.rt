@@ -84,13 +84,6 @@ impl<T: Deserialize + Drop> Deserialize for BTreeMap<String, T> {
 
 impl<T: RoundTrip + Drop> RoundTrip for BTreeMap<String, T> {
     ghost same_datum = { mapping_datum T.table T.datum T.same_datum };
-
-    fn fits(&self) {
-        for (key, value) in self {
-            key.fits();
-            value.fits();
-        }
-    }
 }
 
 // Returns the map of these pairs, of which the last with a key counts.

@@ -76,10 +76,4 @@ impl<T: Deserialize + Drop> Deserialize for Option<T> {
 
 impl<T: RoundTrip + Drop> RoundTrip for Option<T> {
     ghost same_datum = { option_datum T.table T.datum T.same_datum };
-
-    fn fits(&self) {
-        if let Some(part) = self {
-            part.fits();
-        }
-    }
 }

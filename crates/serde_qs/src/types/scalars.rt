@@ -1,13 +1,14 @@
 //! The unit, booleans, characters and strings.
 
 ghost use Rattle.std.specs.Prelude.{Bool, refl, string_bytes};
-ghost use Rattle.std.specs.Str.{is_utf8};
 ghost use Rattle.qs_spec.specs.Data as d;
 ghost use Rattle.qs_spec.specs.Fits.{is_scalar};
 ghost use Rattle.qs_spec.specs.Shape as s;
+ghost use Rattle.serde_qs.specs.Fitting.{fitting};
 ghost use Rattle.serde_qs.specs.internal.ComesBack.{boolean_back, character_back, text_back, unit_back};
 ghost use Rattle.serde_qs.specs.Meaning.{boolean_in, character_in, text_in, unit_in};
-ghost use Rattle.serde_qs.specs.Tables.{table_of};
+ghost use Rattle.serde_qs.specs.internal.Fits.{string_is_utf8};
+ghost use Rattle.serde_qs.specs.Tables.{table_of, table_with};
 
 use crate::traits::{Deserialize, RoundTrip, Serialize, unexpected};
 use qs_data::{Data, Reader, Result, Scalar, Shape, WriteResult, Writer};
@@ -49,8 +50,6 @@ impl Deserialize for () {
 
 impl RoundTrip for () {
     ghost same_datum = { λ _. refl };
-
-    fn fits(&self) {}
 }
 
 impl Serialize for bool {
@@ -88,18 +87,15 @@ impl Deserialize for bool {
 
 impl RoundTrip for bool {
     ghost same_datum = { λ _. refl };
-
-    fn fits(&self) {}
 }
 
 impl Serialize for char {
-    ghost datum = { d.character };
+    ghost datum = { λ c. fitting s.Shape.character (d.character c) };
 
     fn to_data(&self, _alloc: Global) -> Result<Data> {
         Ok(Data::Char(*self))
     }
 
-    #[tactic(auto, unfolding(qs_spec::specs::Entry::entries_at))]
     fn write_to(&self, writer: &mut Writer) -> WriteResult {
         writer.scalar(Scalar::Char(*self))
     }
@@ -127,10 +123,6 @@ impl Deserialize for char {
 
 impl RoundTrip for char {
     ghost same_datum = { λ _. refl };
-
-    fn fits(&self) {
-        let _value = *self;
-    }
 }
 
 impl Serialize for String {
@@ -147,7 +139,7 @@ impl Serialize for String {
 }
 
 impl Deserialize for String {
-    ghost table = { table_of (λ text. string_bytes text) (λ text. d.text (string_bytes text)) s.Shape.text text_in refl (λ text e h p. text_back (is_utf8 (string_bytes text)) (string_bytes text) e h p) };
+    ghost table = { table_with (λ text. string_bytes text) (λ text. d.text (string_bytes text)) s.Shape.text text_in refl (λ _ text _. string_is_utf8 text) (λ _ text e _ p. text_back (string_bytes text) e p) };
 
     fn shape(_alloc: Global) -> Result<Shape> {
         Ok(Shape::Text)
@@ -170,8 +162,4 @@ impl Deserialize for String {
 
 impl RoundTrip for String {
     ghost same_datum = { λ _. refl };
-
-    fn fits(&self) {
-        let _text = self.as_str();
-    }
 }

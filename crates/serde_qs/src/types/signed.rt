@@ -1,9 +1,12 @@
 //! Signed numbers of 8 to 64 bits.
 
-ghost use Rattle.std.specs.Prelude.{◌≤ℤ◌, ℤ, IfOk, refl};
+ghost use Rattle.std.specs.Prelude.{◌≡◌, ◌-◌, ◌^◌, ◌≤ℤ◌, ℤ, pos, neg_ℤ, IfOk, refl};
 ghost use Rattle.qs_spec.specs.Data as d;
 ghost use Rattle.qs_spec.specs.Shape as s;
 ghost use Rattle.qs_data.specs.data.Views.{data_of};
+ghost use Rattle.qs_data.specs.shape.Widths.{bits_of};
+ghost use Rattle.qs_data.specs.write.Parts.{WritesPart, data_part};
+ghost use Rattle.serde_qs.specs.Fitting.{fitting};
 ghost use Rattle.serde_qs.specs.internal.ComesBack.{signed_back};
 ghost use Rattle.serde_qs.specs.internal.Ranges.{signed_within};
 ghost use Rattle.serde_qs.specs.Meaning.{signed_between, signed_in};
@@ -33,16 +36,31 @@ fn signed(alloc: Global, datum: Data, least: i64, most: i64, expected: &'static 
     Ok(n)
 }
 
+// Returns the data of a number of this width.
+fn number(value: i64, _width: Width) -> Data
+    requires { (neg_ℤ (pos (2 ^ (bits_of _width - 1))) ≤ℤ value) × (value ≤ℤ pos (2 ^ (bits_of _width - 1) - 1)) }
+    ensures { data_of result ≡ fitting (s.Shape.signed (bits_of _width)) (d.signed value) }
+{
+    Data::Signed(value)
+}
+
+// Writes a number of this width.
+fn write_number(writer: &mut Writer, value: i64, _width: Width) -> WriteResult
+    requires { (neg_ℤ (pos (2 ^ (bits_of _width - 1))) ≤ℤ value) × (value ≤ℤ pos (2 ^ (bits_of _width - 1) - 1)) }
+    ensures { WritesPart result writer.old writer.new (data_part (fitting (s.Shape.signed (bits_of _width)) (d.signed value))) }
+{
+    writer.scalar(Scalar::Signed(value))
+}
+
 impl Serialize for i8 {
-    ghost datum = { d.signed };
+    ghost datum = { λ z. fitting (s.Shape.signed 8) (d.signed z) };
 
     fn to_data(&self, _alloc: Global) -> Result<Data> {
-        Ok(Data::Signed(i64::from(*self)))
+        Ok(number(i64::from(*self), Width::Bits8))
     }
 
-    #[tactic(auto, unfolding(qs_spec::specs::Entry::entries_at))]
     fn write_to(&self, writer: &mut Writer) -> WriteResult {
-        writer.scalar(Scalar::Signed(i64::from(*self)))
+        write_number(writer, i64::from(*self), Width::Bits8)
     }
 }
 
@@ -67,22 +85,17 @@ impl Deserialize for i8 {
 
 impl RoundTrip for i8 {
     ghost same_datum = { λ _. refl };
-
-    fn fits(&self) {
-        let _value = *self;
-    }
 }
 
 impl Serialize for i16 {
-    ghost datum = { d.signed };
+    ghost datum = { λ z. fitting (s.Shape.signed 16) (d.signed z) };
 
     fn to_data(&self, _alloc: Global) -> Result<Data> {
-        Ok(Data::Signed(i64::from(*self)))
+        Ok(number(i64::from(*self), Width::Bits16))
     }
 
-    #[tactic(auto, unfolding(qs_spec::specs::Entry::entries_at))]
     fn write_to(&self, writer: &mut Writer) -> WriteResult {
-        writer.scalar(Scalar::Signed(i64::from(*self)))
+        write_number(writer, i64::from(*self), Width::Bits16)
     }
 }
 
@@ -107,22 +120,17 @@ impl Deserialize for i16 {
 
 impl RoundTrip for i16 {
     ghost same_datum = { λ _. refl };
-
-    fn fits(&self) {
-        let _value = *self;
-    }
 }
 
 impl Serialize for i32 {
-    ghost datum = { d.signed };
+    ghost datum = { λ z. fitting (s.Shape.signed 32) (d.signed z) };
 
     fn to_data(&self, _alloc: Global) -> Result<Data> {
-        Ok(Data::Signed(i64::from(*self)))
+        Ok(number(i64::from(*self), Width::Bits32))
     }
 
-    #[tactic(auto, unfolding(qs_spec::specs::Entry::entries_at))]
     fn write_to(&self, writer: &mut Writer) -> WriteResult {
-        writer.scalar(Scalar::Signed(i64::from(*self)))
+        write_number(writer, i64::from(*self), Width::Bits32)
     }
 }
 
@@ -147,22 +155,17 @@ impl Deserialize for i32 {
 
 impl RoundTrip for i32 {
     ghost same_datum = { λ _. refl };
-
-    fn fits(&self) {
-        let _value = *self;
-    }
 }
 
 impl Serialize for i64 {
-    ghost datum = { d.signed };
+    ghost datum = { λ z. fitting (s.Shape.signed 64) (d.signed z) };
 
     fn to_data(&self, _alloc: Global) -> Result<Data> {
-        Ok(Data::Signed(*self))
+        Ok(number(*self, Width::Bits64))
     }
 
-    #[tactic(auto, unfolding(qs_spec::specs::Entry::entries_at))]
     fn write_to(&self, writer: &mut Writer) -> WriteResult {
-        writer.scalar(Scalar::Signed(*self))
+        write_number(writer, *self, Width::Bits64)
     }
 }
 
@@ -187,8 +190,4 @@ impl Deserialize for i64 {
 
 impl RoundTrip for i64 {
     ghost same_datum = { λ _. refl };
-
-    fn fits(&self) {
-        let _value = *self;
-    }
 }

@@ -1,9 +1,12 @@
 //! Unsigned numbers of 8 to 64 bits.
 
-ghost use Rattle.std.specs.Prelude.{◌≤◌, ℕ, IfOk, refl};
+ghost use Rattle.std.specs.Prelude.{◌≡◌, ◌≤◌, ◌<◌, ◌^◌, ℕ, IfOk, refl};
 ghost use Rattle.qs_spec.specs.Data as d;
 ghost use Rattle.qs_spec.specs.Shape as s;
 ghost use Rattle.qs_data.specs.data.Views.{data_of};
+ghost use Rattle.qs_data.specs.shape.Widths.{bits_of};
+ghost use Rattle.qs_data.specs.write.Parts.{WritesPart, data_part};
+ghost use Rattle.serde_qs.specs.Fitting.{fitting};
 ghost use Rattle.serde_qs.specs.internal.ComesBack.{unsigned_back};
 ghost use Rattle.serde_qs.specs.internal.Ranges.{unsigned_within};
 ghost use Rattle.serde_qs.specs.Meaning.{unsigned_in};
@@ -33,16 +36,31 @@ fn unsigned(alloc: Global, datum: Data, most: u64, expected: &'static str) -> Re
     }
 }
 
+// Returns the data of a number of this width.
+fn number(value: u64, _width: Width) -> Data
+    requires { value < 2 ^ bits_of _width }
+    ensures { data_of result ≡ fitting (s.Shape.unsigned (bits_of _width)) (d.unsigned value) }
+{
+    Data::Unsigned(value)
+}
+
+// Writes a number of this width.
+fn write_number(writer: &mut Writer, value: u64, _width: Width) -> WriteResult
+    requires { value < 2 ^ bits_of _width }
+    ensures { WritesPart result writer.old writer.new (data_part (fitting (s.Shape.unsigned (bits_of _width)) (d.unsigned value))) }
+{
+    writer.scalar(Scalar::Unsigned(value))
+}
+
 impl Serialize for u8 {
-    ghost datum = { d.unsigned };
+    ghost datum = { λ n. fitting (s.Shape.unsigned 8) (d.unsigned n) };
 
     fn to_data(&self, _alloc: Global) -> Result<Data> {
-        Ok(Data::Unsigned(u64::from(*self)))
+        Ok(number(u64::from(*self), Width::Bits8))
     }
 
-    #[tactic(auto, unfolding(qs_spec::specs::Entry::entries_at))]
     fn write_to(&self, writer: &mut Writer) -> WriteResult {
-        writer.scalar(Scalar::Unsigned(u64::from(*self)))
+        write_number(writer, u64::from(*self), Width::Bits8)
     }
 }
 
@@ -67,22 +85,17 @@ impl Deserialize for u8 {
 
 impl RoundTrip for u8 {
     ghost same_datum = { λ _. refl };
-
-    fn fits(&self) {
-        let _value = *self;
-    }
 }
 
 impl Serialize for u16 {
-    ghost datum = { d.unsigned };
+    ghost datum = { λ n. fitting (s.Shape.unsigned 16) (d.unsigned n) };
 
     fn to_data(&self, _alloc: Global) -> Result<Data> {
-        Ok(Data::Unsigned(u64::from(*self)))
+        Ok(number(u64::from(*self), Width::Bits16))
     }
 
-    #[tactic(auto, unfolding(qs_spec::specs::Entry::entries_at))]
     fn write_to(&self, writer: &mut Writer) -> WriteResult {
-        writer.scalar(Scalar::Unsigned(u64::from(*self)))
+        write_number(writer, u64::from(*self), Width::Bits16)
     }
 }
 
@@ -107,22 +120,17 @@ impl Deserialize for u16 {
 
 impl RoundTrip for u16 {
     ghost same_datum = { λ _. refl };
-
-    fn fits(&self) {
-        let _value = *self;
-    }
 }
 
 impl Serialize for u32 {
-    ghost datum = { d.unsigned };
+    ghost datum = { λ n. fitting (s.Shape.unsigned 32) (d.unsigned n) };
 
     fn to_data(&self, _alloc: Global) -> Result<Data> {
-        Ok(Data::Unsigned(u64::from(*self)))
+        Ok(number(u64::from(*self), Width::Bits32))
     }
 
-    #[tactic(auto, unfolding(qs_spec::specs::Entry::entries_at))]
     fn write_to(&self, writer: &mut Writer) -> WriteResult {
-        writer.scalar(Scalar::Unsigned(u64::from(*self)))
+        write_number(writer, u64::from(*self), Width::Bits32)
     }
 }
 
@@ -147,22 +155,17 @@ impl Deserialize for u32 {
 
 impl RoundTrip for u32 {
     ghost same_datum = { λ _. refl };
-
-    fn fits(&self) {
-        let _value = *self;
-    }
 }
 
 impl Serialize for u64 {
-    ghost datum = { d.unsigned };
+    ghost datum = { λ n. fitting (s.Shape.unsigned 64) (d.unsigned n) };
 
     fn to_data(&self, _alloc: Global) -> Result<Data> {
-        Ok(Data::Unsigned(*self))
+        Ok(number(*self, Width::Bits64))
     }
 
-    #[tactic(auto, unfolding(qs_spec::specs::Entry::entries_at))]
     fn write_to(&self, writer: &mut Writer) -> WriteResult {
-        writer.scalar(Scalar::Unsigned(*self))
+        write_number(writer, *self, Width::Bits64)
     }
 }
 
@@ -187,8 +190,4 @@ impl Deserialize for u64 {
 
 impl RoundTrip for u64 {
     ghost same_datum = { λ _. refl };
-
-    fn fits(&self) {
-        let _value = *self;
-    }
 }

@@ -9,7 +9,7 @@ pub returns : goal.returns
 returns g c =
     let n = g.T.WholeNumber.numbers in
     let own = g.met.T.WholeNumber.are_own in
-    let in_range = g.T.Deserialize.table.is_valid in
+    let in_range = g.T.Item.in_range in
     let d = data_of c.args.datum in
     in_table (λ list. map g.T.Item.value list.items) (λ list. map n.value list.items) (map own.kept)
     (λ list. number_values n g.T.Item.value in_range g.T.Item.printed g.T.Item.meaning own list.items)

@@ -1,0 +1,5 @@
+use Rattle.serde_qs.proofs.InRange.{signed_in_range}
+use Rattle.serde_qs.proofs.helpers.signed.print_number.Goals as goal
+
+pub returns-clause-valid : goal.returns-clause-valid
+returns-clause-valid c = signed_in_range c.args._width c.args.number c.requires

@@ -1,6 +1,0 @@
-use Rattle.std.proofs.Common.{SFits, arith, refl, rules, w32}
-use Rattle.serde_qs.proofs.InRange.{signed_in_range}
-use Rattle.serde_qs.proofs.types.signed.I32RoundTrip.fits.Goals as goal
-
-pub returns : goal.returns
-returns c = let f : SFits w32 c.args.self.now = search rules in signed_in_range w32 32 c.args.self.now refl (omega arith) f

@@ -1,0 +1,49 @@
+-- Where data are plain, the test that they were made by holds, and so do those of their parts.
+use Rattle.std.proofs.Common.{ap, ◌∙◌, refl}
+use Rattle.std.proofs.lemmas.Bool.{false≢true}
+use Rattle.std.specs.Prelude.{◌≡◌, ◌&&◌, ℕ, Bool, true, false, List, Option, Some}
+use Rattle.qs_spec.specs.Data.{Data, Members, one_member, Pairs, one_pair}
+use Rattle.qs_spec.specs.Fits.{fits}
+use Rattle.qs_spec.specs.Plain.{are_plain_members, are_plain_pairs, is_plain, is_plain_key, is_plain_name}
+use Rattle.qs_spec.specs.Same.{Same}
+use Rattle.qs_spec.specs.Shape.{Shape}
+use Rattle.serde_qs.specs.ComesBack.{ComesBack, DataFit}
+use Rattle.serde_qs.specs.Fitting.{fitting, misfit, only_where}
+use Rattle.serde_qs.specs.internal.Booleans.{both_hold}
+
+pub holds : (mode b : Bool) (x : Data) → is_plain mode (only_where b x) ≡ true → b ≡ true
+holds mode true x h = refl
+holds mode false x h = absurd (false≢true h)
+
+pub itself : (b : Bool) (x : Data) → b ≡ true → only_where b x ≡ x
+itself b x h = ap (λ c. only_where c x) h
+
+pub back_where : {V : Type 0} (mode b : Bool) (x e : Data) (meant : Option V) (v : Option V) → (b ≡ true → Same x e → meant ≡ v) → is_plain mode (only_where b x) ≡ true → Same (only_where b x) e → meant ≡ v
+back_where mode true x e meant v back h p = back refl p
+back_where mode false x e meant v back h p = absurd (false≢true h)
+
+pub not_plain : (mode : Bool) → is_plain mode misfit ≡ true → ⊥
+not_plain mode h = false≢true h
+
+-- the data of values that fit a shape
+
+pub fitting_fits : {A : Type 0} (datum : A → Data) (form : Shape) → DataFit (λ x. fitting form (datum x)) form
+fitting_fits datum form mode x h =
+    let valid = holds mode (fits form (datum x)) (datum x) h in
+    ap (fits form) (itself (fits form (datum x)) (datum x) valid) ∙ valid
+
+pub fitting_back : {A V : Type 0} (value : A → V) (datum : A → Data) (form : Shape) (meaning : Data → Option V)
+    → ((x : A) (e : Data) → fits form (datum x) ≡ true → Same (datum x) e → meaning e ≡ Some (value x)) → ComesBack (λ x. fitting form (datum x)) meaning value
+fitting_back value datum form meaning back mode x e h p = back_where mode (fits form (datum x)) (datum x) e (meaning e) (Some (value x)) (back x e) h p
+
+-- a member and those after it
+pub member_parts : (mode : Bool) (n : List ℕ) (x : Data) (ms : Members) → are_plain_members mode (one_member n x ms) ≡ true → (is_plain mode x ≡ true) × (are_plain_members mode ms ≡ true)
+member_parts mode n x ms h =
+    let both = both_hold (is_plain_name mode n && is_plain mode x) (are_plain_members mode ms) h in
+    ((both_hold (is_plain_name mode n) (is_plain mode x) both.0).1, both.1)
+
+-- a pair and those after it
+pub pair_parts : (mode : Bool) (k x : Data) (ps : Pairs) → are_plain_pairs mode (one_pair k x ps) ≡ true → (is_plain mode x ≡ true) × (are_plain_pairs mode ps ≡ true)
+pair_parts mode k x ps h =
+    let both = both_hold (is_plain_key mode k && is_plain mode x) (are_plain_pairs mode ps) h in
+    ((both_hold (is_plain_key mode k) (is_plain mode x) both.0).1, both.1)

@@ -1,4 +1,4 @@
-//! Measures the calls of the library for other languages, through its Rust wrapper, and prints a table.
+//! Measures the calls of the library for other languages, through its Rust crate, and prints a table.
 //!
 //! `library WORD..` takes the cases whose name holds one of the words, and all without a word. `library --quick ..` takes small
 //! cases and doesn't measure them. The status is 1 where a result is wrong.
@@ -27,10 +27,10 @@ impl Call {
     fn make(&self, settings: &Settings, text: &str) -> Result<Vec<u8>, Error> {
         let bytes = text.as_bytes();
         match self {
-            Call::Parse => serde_qs::parse(settings, bytes).map(String::into_bytes),
-            Call::Read(shape) => serde_qs::read(settings, shape, bytes).map(String::into_bytes),
-            Call::Write => serde_qs::write(settings, text).map(String::into_bytes),
-            Call::Encode => serde_qs::encode(settings.form, bytes).map(String::into_bytes),
+            Call::Parse => settings.parse(bytes).map(String::into_bytes),
+            Call::Read(shape) => settings.read(shape, bytes).map(String::into_bytes),
+            Call::Write => settings.write(text).map(String::into_bytes),
+            Call::Encode => settings.encode(bytes).map(String::into_bytes),
             Call::Decode => serde_qs::decode(bytes),
         }
     }

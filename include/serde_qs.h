@@ -1,13 +1,16 @@
-/* Nested querystrings for C: read as JSON, written of JSON, encoded and decoded. docs/LIBRARY.md has the whole.
+/* Nested querystrings for C: read as JSON, written of JSON, encoded and decoded.
  *
- * Each call is given its input, a buffer for its result, and a place for the answer, and returns a status. It keeps no memory and no
- * pointer, so there is nothing to free, and calls in several threads at once don't share anything.
+ * Each call takes its input, a buffer for its result and a place for its answer, and returns a status. It keeps no memory and no pointer:
+ * there is nothing to free, and calls in several threads at once share nothing.
  *
- * QS_OK          the first `len` bytes of `out` are the result
- * QS_TOO_SMALL   the result has `len` bytes, which is more than `out_size`; `out` is unchanged
- * any other      an error: `len` is the length of its text, which stands at the front of `out` if it fits there
+ * With QS_OK the first `len` bytes of `out` are the result, without a NUL after them. With QS_TOO_SMALL the result has `len` bytes, which
+ * is more than `out_size`, and `out` is unchanged. Any other status is an error: `len` is the length of its text, which is at the front
+ * of `out` if it fits there.
  *
- * No pointer may be null, not even beside a size of 0, and `out` may overlap nothing else that the call is given. */
+ * No pointer may be null, not even beside a size of 0, and `out` may overlap nothing else that the call takes.
+ *
+ * The file LIBRARY.md describes the JSON and the notation of shapes. Its folder is docs in the repository, and share/doc/serde_qs where
+ * the library is installed. */
 #ifndef SERDE_QS_H
 #define SERDE_QS_H
 
@@ -19,18 +22,26 @@
 extern "C" {
 #endif
 
+/* The version of the library that this header belongs to, and the number of the notation of shapes. A later notation has a higher
+ * number, and reads each shape of this one as the same. */
+#define QS_VERSION_MAJOR 1
+#define QS_VERSION_MINOR 1
+#define QS_VERSION_PATCH 3
+#define QS_NOTATION 1
+#define QS_VERSION ((uint32_t)QS_VERSION_MAJOR << 24 | QS_VERSION_MINOR << 16 | QS_VERSION_PATCH << 8 | QS_NOTATION)
+
 /* The statuses. */
 enum {
     QS_OK = 0,
     QS_TOO_SMALL = 1,
     QS_OUT_OF_MEMORY = 2, /* an allocation failed; this error has no text */
-    QS_BAD_SETTINGS = 3,
-    QS_PARSE_ERROR = 4, /* the querystring is rejected, at `position` */
-    QS_MISMATCH = 5,    /* the querystring doesn't fit the shape */
-    QS_NOT_UTF8 = 6,    /* a string that is read isn't UTF-8 */
-    QS_BAD_SHAPE = 7,   /* the text of the shape is rejected, at `position` */
-    QS_BAD_JSON = 8,    /* the JSON is rejected, at `position` */
-    QS_TOO_DEEP = 9     /* a value nests deeper than `max_depth` */
+    QS_BAD_SETTINGS = 3,  /* a number in the settings is too large */
+    QS_PARSE_ERROR = 4,   /* the querystring is rejected, at `position` */
+    QS_MISMATCH = 5,      /* the querystring doesn't fit the shape */
+    QS_NOT_UTF8 = 6,      /* a string that is read isn't UTF-8 */
+    QS_BAD_SHAPE = 7,     /* the text of the shape is rejected, at `position` */
+    QS_BAD_JSON = 8,      /* the JSON is rejected, at `position` */
+    QS_TOO_DEEP = 9       /* a value nests deeper than `max_depth` */
 };
 
 /* How the index of a list's element is written. */
@@ -40,12 +51,12 @@ enum {
     QS_UNINDEXED = 2      /* a=x&a=y */
 };
 
-/* How a querystring is read and written. */
+/* How a querystring is read and written; qs_default has the usual settings. */
 typedef struct {
     size_t max_depth;       /* levels of brackets after the first key, 100 at most */
     bool form;              /* form mode, where brackets may be encoded; else query mode */
     uint8_t array_format;   /* QS_INDEXED, QS_EMPTY_INDEXED or QS_UNINDEXED */
-    bool reject_duplicates; /* several values where one is asked for are an error; else the last is taken */
+    bool reject_duplicates; /* several values where one is wanted are an error; else the last is taken */
 } qs_settings;
 
 static const qs_settings qs_default = {5, false, QS_INDEXED, false};
@@ -71,10 +82,10 @@ uint32_t qs_write(const qs_settings *settings, const uint8_t *json, size_t json_
 /* The bytes, encoded for form mode or query mode. */
 uint32_t qs_encode(bool form, const uint8_t *bytes, size_t bytes_size, uint8_t *out, size_t out_size, qs_answer *answer);
 
-/* The bytes, decoded. */
+/* The bytes, decoded: `+` is a space, and `%` with two hexadecimal digits is one byte. */
 uint32_t qs_decode(const uint8_t *bytes, size_t bytes_size, uint8_t *out, size_t out_size, qs_answer *answer);
 
-/* A string literal, and an array of characters, as a call takes them. */
+/* A string literal, and an array of characters, as a call takes them: a pointer and a size. */
 #define QS_TEXT(text) (const uint8_t *)(text), sizeof(text) - 1
 #define QS_ROOM(array) (uint8_t *)(array), sizeof(array)
 

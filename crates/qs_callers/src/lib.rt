@@ -9,6 +9,7 @@ mod chart;
 mod client;
 mod columns;
 mod day;
+pub mod derived;
 mod filter;
 mod form_page;
 mod guard;

@@ -6,6 +6,8 @@ mod by_hand;
 #[cfg(test)]
 mod claims;
 #[cfg(test)]
+mod derived;
+#[cfg(test)]
 mod fields;
 #[cfg(test)]
 mod first_errors;

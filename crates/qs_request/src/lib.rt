@@ -1,23 +1,34 @@
 //! The query and the form of a request, read as values.
 //!
 //! A request target, as [`http_uri`] parses it, has a query; a body may be a form. Each is read as a value of a type that
-//! [`serde_qs`] reads:
+//! [`serde_qs`] reads, or, by [`derived`], of one with serde's derives:
 //!
 //! ```
 //! use http_uri::Uri;
-//! use serde_qs::Config;
+//! use qs_request::{Config, QsQuery, query};
 //!
 //! let target = Uri::from_str(alloc, "/users?id[]=1124&id[]=88")?;
 //! let users: QsQuery<Users> = query(alloc, &target, Config::new())?;
 //! let count = users.id.len(); // 2
 //! ```
+//!
+//! [`Limits`] are checked first, against the text of a query or the bytes of a form:
+//!
+//! ```
+//! let limits = Limits::new().max_length(65_536).max_pairs(1_000);
+//! limits.check(body).map_err(Rejected::TooLarge)?; // an error of your own
+//! let order: QsForm<Order> = derived::form(alloc, body, config).map_err(Rejected::Unread)?;
+//! ```
 #![tactic(auto)]
 
 mod body;
+pub mod derived;
 mod target;
 #[cfg(test)]
 mod tests;
 
 pub use body::form;
+pub use qs_serde::PathError;
 pub use serde_qs::web::{QsForm, QsQuery};
+pub use serde_qs::{Config, Error, LimitError, Limits, Result};
 pub use target::query;

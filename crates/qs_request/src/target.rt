@@ -31,8 +31,8 @@ pub fn query<T: Deserialize>(alloc: Global, uri: &Uri, config: Config) -> Result
     config.deserialize_str(alloc, query_text(uri)).map(QsQuery)
 }
 
-// Returns the query of a request target, empty where there is none.
-fn query_text(uri: &Uri) -> &str
+/// Returns the query of a request target, empty where there is none.
+pub(crate) fn query_text(uri: &Uri) -> &str
     ensures { result.now ≡ query_of uri.now }
 {
     uri.query().unwrap_or("")

@@ -15,6 +15,7 @@
 #![tactic(auto)]
 
 mod calls;
+pub mod helpers;
 mod reading;
 mod writing;
 

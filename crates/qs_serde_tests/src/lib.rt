@@ -10,6 +10,8 @@ mod configurations;
 #[cfg(test)]
 mod enums;
 #[cfg(test)]
+mod helpers;
+#[cfg(test)]
 mod lists;
 #[cfg(test)]
 mod maps;

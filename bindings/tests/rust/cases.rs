@@ -2,7 +2,7 @@
 //! A line is a call, its settings, a shape and a text, with tabs between them. The settings are `query` or `form`, and words after a
 //! blank: `depth=N`, `empty` or `unindexed`, `reject`.
 
-use serde_qs::{ArrayFormat, Settings, decode, encode, parse, read, write};
+use serde_qs::{ArrayFormat, Settings, decode};
 
 fn settings_of(words: &str) -> Settings {
     let mut settings = Settings::default();
@@ -31,15 +31,15 @@ fn main() {
         };
         let settings = settings_of(words);
         let result = match call {
-            "parse" => parse(&settings, text.as_bytes()),
-            "read" => read(&settings, shape, text.as_bytes()),
-            "write" => write(&settings, text),
-            "encode" => encode(settings.form, text.as_bytes()),
-            _ => decode(text.as_bytes()).map(|bytes| String::from_utf8_lossy(&bytes).into_owned()),
+            "parse" => settings.parse(text),
+            "read" => settings.read(shape, text),
+            "write" => settings.write(text),
+            "encode" => settings.encode(text),
+            _ => decode(text).map(|bytes| String::from_utf8_lossy(&bytes).into_owned()),
         };
         match result {
             Ok(text) => println!("0\t0\t{text}"),
-            Err(error) => println!("{}\t{}\t{error}", error.status, error.position),
+            Err(error) => println!("{}\t{}\t{error}", error.kind() as u32, error.position()),
         }
     }
 }

@@ -48,16 +48,20 @@ static qs_call call_of(char *line) {
     return call;
 }
 
-static uint32_t make(const qs_call *call, uint8_t *out, size_t size, qs_answer *answer) {
+/* Makes the call with so many bytes of its shape and of its text. */
+static inline uint32_t make_sized(const qs_call *call, size_t shape_len, size_t len, uint8_t *out, size_t size, qs_answer *answer) {
     const uint8_t *text = (const uint8_t *)call->text, *shape = (const uint8_t *)call->shape;
-    size_t len = strlen(call->text);
     if (strcmp(call->name, "parse") == 0)
         return qs_parse(&call->settings, text, len, out, size, answer);
     if (strcmp(call->name, "read") == 0)
-        return qs_read(&call->settings, shape, strlen(call->shape), text, len, out, size, answer);
+        return qs_read(&call->settings, shape, shape_len, text, len, out, size, answer);
     if (strcmp(call->name, "write") == 0)
         return qs_write(&call->settings, text, len, out, size, answer);
     if (strcmp(call->name, "encode") == 0)
         return qs_encode(call->settings.form, text, len, out, size, answer);
     return qs_decode(text, len, out, size, answer);
+}
+
+static inline uint32_t make(const qs_call *call, uint8_t *out, size_t size, qs_answer *answer) {
+    return make_sized(call, strlen(call->shape), strlen(call->text), out, size, answer);
 }

@@ -8,11 +8,7 @@ import json
 import sys
 
 import serde_qs
-
-
-def compact(value):
-    return json.dumps(value, separators=(",", ":"), ensure_ascii=False)
-
+from serde_qs import _calls
 
 WORDS = {
     "query": {},
@@ -31,6 +27,10 @@ def settings_of(words):
     return settings
 
 
+def compact(value):
+    return json.dumps(value, separators=(",", ":"), ensure_ascii=False)
+
+
 for line in sys.stdin:
     call, words, shape, text = line.rstrip("\n").split("\t")
     settings = settings_of(words)
@@ -41,7 +41,7 @@ for line in sys.stdin:
             result = compact(serde_qs.read(shape, text, **settings))
         elif call == "write":
             # the module json would take what isn't JSON no further
-            result = serde_qs._result(serde_qs._library.qs_write, serde_qs._settings(**settings), *serde_qs._sized(text)).decode()
+            result = _calls._result(_calls.library.qs_write, _calls._settings(**settings), *_calls._sized(text)).decode()
         elif call == "encode":
             result = serde_qs.encode(text, **settings)
         else:

@@ -1,0 +1,143 @@
+"""The calls of the library over Python's values."""
+
+from __future__ import annotations
+
+import collections
+import ctypes
+import dataclasses
+import enum
+import json
+from typing import TYPE_CHECKING, Any, TypedDict, Union
+
+from ._library import MISMATCH, NOT_UTF8, OK, Answer, library
+from ._library import Settings as _Settings
+
+if TYPE_CHECKING:
+    from typing_extensions import Unpack
+
+Text = Union[str, bytes, bytearray, memoryview]
+
+INDEXED, EMPTY_INDEXED, UNINDEXED = range(3)
+
+
+class Settings(TypedDict, total=False):
+    """How a querystring is read and written. The module's page says what each means, and what it is where it is left out."""
+
+    max_depth: int
+    form: bool
+    array_format: int
+    reject_duplicates: bool
+
+
+class QuerystringError(ValueError):
+    """An error of the library: its status as the header has it, and where it is in what was given."""
+
+    def __init__(self, status: int, position: int, message: str) -> None:
+        super().__init__(status, position, message)
+        self.status = status
+        self.position = position
+        self.message = message or "out of memory"
+
+    def __str__(self) -> str:
+        return self.message
+
+
+def _sized(text: Text) -> tuple[bytes, int]:
+    if isinstance(text, str):
+        try:
+            text = text.encode()
+        except UnicodeEncodeError as error:
+            raise QuerystringError(NOT_UTF8, error.start, "a lone surrogate can't be encoded as UTF-8") from None
+    elif not isinstance(text, (bytes, bytearray, memoryview)):
+        raise TypeError(f"str or bytes are wanted, and not {type(text).__name__}")
+    text = bytes(text)
+    return text, len(text)
+
+
+def _result(call: Any, *arguments: Any) -> bytes:
+    """What a call returns, whose last argument is the length of its text. It is made again with enough room where that was too little."""
+    answer = Answer()
+    size = 256 + 2 * arguments[-1]
+    while True:
+        out = ctypes.create_string_buffer(size)
+        status = call(*arguments, out, size, answer)
+        if answer.len <= size:
+            break
+        size = answer.len
+    text = out[: answer.len]
+    if status != OK:
+        raise QuerystringError(status, answer.position, text.decode(errors="replace"))
+    return text
+
+
+def _number(number: int) -> int:
+    """A number of the settings. One that has no room in its field, where ctypes would cut it off, is passed as one that the library rejects."""
+    return number if 0 <= number < 255 else 255
+
+
+def _settings(max_depth: int = 5, form: bool = False, array_format: int = INDEXED, reject_duplicates: bool = False) -> _Settings:
+    return _Settings(_number(max_depth), form, _number(array_format), reject_duplicates)
+
+
+def _dict(pairs: list[tuple[str, Any]]) -> dict[str, Any]:
+    made = dict(pairs)
+    if len(made) < len(pairs):
+        (twice, _), *_ = collections.Counter(name for name, _ in pairs).most_common(1)
+        raise QuerystringError(MISMATCH, 0, f"two keys of a map have the text `{twice}`")
+    return made
+
+
+_dicts = json.JSONDecoder(object_pairs_hook=_dict)
+_pairs = json.JSONDecoder(object_pairs_hook=list)
+
+
+def _decoded(text: bytes, pairs: bool) -> Any:
+    return (_pairs if pairs else _dicts).decode(text.decode())
+
+
+def parse(query: Text, *, pairs: bool = False, **settings: Unpack[Settings]) -> Any:
+    """Returns what the querystring holds, read as whatever is there: strings, lists and dicts, and None without a value.
+
+    Two keys of one map may have the same text, as in `1=a&%31=b`. That is an error, unless `pairs` is true: then each dict is a list of
+    pairs instead.
+    """
+    return _decoded(_result(library.qs_parse, _settings(**settings), *_sized(query)), pairs)
+
+
+def read(shape: Text, query: Text, *, pairs: bool = False, **settings: Unpack[Settings]) -> Any:
+    """Returns what the querystring holds, read by a shape such as `{name: text, age: u8}`. `pairs` is as for `parse`.
+
+    A shape is text in the library's notation, or what `shape_of` returns for a class.
+    """
+    return _decoded(_result(library.qs_read, _settings(**settings), *_sized(shape), *_sized(query)), pairs)
+
+
+def _plain(value: Any) -> Any:
+    """What is written for a value that the module json doesn't know."""
+    if dataclasses.is_dataclass(value) and not isinstance(value, type):
+        return {field.name: getattr(value, field.name) for field in dataclasses.fields(value)}
+    if isinstance(value, enum.Enum):
+        return value.value
+    if isinstance(value, (bytes, bytearray)):
+        return list(value)
+    raise TypeError(f"a {type(value).__name__} can't be written")
+
+
+def write(value: Any, **settings: Unpack[Settings]) -> str:
+    """Returns the querystring that a value is written as: what the module json writes, dataclasses, enums and bytes."""
+    text = json.dumps(value, default=_plain, ensure_ascii=False, allow_nan=False)
+    return _result(library.qs_write, _settings(**settings), *_sized(text)).decode()
+
+
+loads = parse
+dumps = write
+
+
+def encode(text: Text, form: bool = False) -> str:
+    """Returns the text or bytes, encoded for form mode or query mode."""
+    return _result(library.qs_encode, form, *_sized(text)).decode()
+
+
+def decode(text: Text) -> bytes:
+    """Returns the text or bytes, decoded to bytes."""
+    return _result(library.qs_decode, *_sized(text))

@@ -1,0 +1,83 @@
+//! The calls of the library, as `include/serde_qs.h` declares them.
+
+use crate::{Error, ErrorKind, Settings};
+
+const OK: u32 = 0;
+const TOO_SMALL: u32 = 1;
+
+/// What a call says beside its status.
+#[repr(C)]
+#[derive(Default)]
+struct Answer {
+    len: usize,
+    position: usize,
+}
+
+extern "C" {
+    fn qs_parse(settings: *const Settings, input: *const u8, input_size: usize, out: *mut u8, out_size: usize, answer: *mut Answer) -> u32;
+    fn qs_read(
+        settings: *const Settings,
+        shape: *const u8,
+        shape_size: usize,
+        input: *const u8,
+        input_size: usize,
+        out: *mut u8,
+        out_size: usize,
+        answer: *mut Answer,
+    ) -> u32;
+    fn qs_write(settings: *const Settings, json: *const u8, json_size: usize, out: *mut u8, out_size: usize, answer: *mut Answer) -> u32;
+    fn qs_encode(form: bool, bytes: *const u8, bytes_size: usize, out: *mut u8, out_size: usize, answer: *mut Answer) -> u32;
+    fn qs_decode(bytes: *const u8, bytes_size: usize, out: *mut u8, out_size: usize, answer: *mut Answer) -> u32;
+}
+
+pub(crate) fn parse(settings: &Settings, input: &[u8]) -> Result<String, Error> {
+    // SAFETY: each pointer is that of a borrow that lasts for the call.
+    text(input.len(), |out, answer| unsafe { qs_parse(settings, input.as_ptr(), input.len(), out.as_mut_ptr(), out.len(), answer) })
+}
+
+pub(crate) fn read(settings: &Settings, shape: &str, input: &[u8]) -> Result<String, Error> {
+    // SAFETY: each pointer is that of a borrow that lasts for the call.
+    text(input.len(), |out, answer| unsafe {
+        qs_read(settings, shape.as_ptr(), shape.len(), input.as_ptr(), input.len(), out.as_mut_ptr(), out.len(), answer)
+    })
+}
+
+pub(crate) fn write(settings: &Settings, json: &str) -> Result<String, Error> {
+    // SAFETY: each pointer is that of a borrow that lasts for the call.
+    text(json.len(), |out, answer| unsafe { qs_write(settings, json.as_ptr(), json.len(), out.as_mut_ptr(), out.len(), answer) })
+}
+
+pub(crate) fn encode(form: bool, bytes: &[u8]) -> Result<String, Error> {
+    // SAFETY: each pointer is that of a borrow that lasts for the call.
+    text(bytes.len(), |out, answer| unsafe { qs_encode(form, bytes.as_ptr(), bytes.len(), out.as_mut_ptr(), out.len(), answer) })
+}
+
+pub(crate) fn decode(bytes: &[u8]) -> Result<Vec<u8>, Error> {
+    // SAFETY: each pointer is that of a borrow that lasts for the call.
+    result(bytes.len(), |out, answer| unsafe { qs_decode(bytes.as_ptr(), bytes.len(), out.as_mut_ptr(), out.len(), answer) })
+}
+
+/// The result of a call that is given so many bytes. It is made again with enough room where that was too little.
+fn result(given: usize, mut call: impl FnMut(&mut [u8], &mut Answer) -> u32) -> Result<Vec<u8>, Error> {
+    let mut out = vec![0; 256 + 2 * given];
+    let mut answer = Answer::default();
+    let mut status = call(&mut out, &mut answer);
+    if status == TOO_SMALL || answer.len > out.len() {
+        out.resize(answer.len, 0);
+        status = call(&mut out, &mut answer);
+    }
+    out.truncate(answer.len);
+    if status == OK {
+        return Ok(out);
+    }
+    Err(Error {
+        kind: ErrorKind::of_status(status),
+        position: answer.position,
+        message: String::from_utf8_lossy(&out).into_owned(),
+    })
+}
+
+/// The result of a call that returns UTF-8.
+fn text(given: usize, call: impl FnMut(&mut [u8], &mut Answer) -> u32) -> Result<String, Error> {
+    Ok(String::from_utf8(result(given, call)?).expect("the library returns UTF-8"))
+}

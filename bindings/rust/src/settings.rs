@@ -1,0 +1,74 @@
+//! How a querystring is read and written.
+
+use crate::{calls, Error};
+
+/// How the index of a list's element is written.
+#[repr(u8)]
+#[derive(Clone, Copy, Debug, Default, PartialEq, Eq)]
+pub enum ArrayFormat {
+    /// By its number: `a[0]=x&a[1]=y`.
+    #[default]
+    Indexed = 0,
+    /// By empty brackets: `a[]=x&a[]=y`.
+    EmptyIndexed = 1,
+    /// Not at all: `a=x&a=y`.
+    Unindexed = 2,
+}
+
+/// How a querystring is read and written. The default reads five levels of brackets in query mode, and takes the last of several values.
+///
+/// Each method is as the function of its name, and has one more error: [`ErrorKind::BadSettings`](crate::ErrorKind::BadSettings)
+/// where `max_depth` is more than 100.
+///
+/// ```
+/// use serde_qs::Settings;
+///
+/// let form = Settings { form: true, ..Settings::default() };
+/// assert_eq!(form.parse("a%5Bb%5D=1")?, r#"{"a":{"b":"1"}}"#);
+/// # Ok::<(), serde_qs::Error>(())
+/// ```
+#[repr(C)]
+#[derive(Clone, Copy, Debug, PartialEq, Eq)]
+pub struct Settings {
+    /// How many levels of brackets may follow the first key, 100 at most.
+    pub max_depth: usize,
+    /// Form mode, where brackets may be encoded; else query mode.
+    pub form: bool,
+    /// How the indices of elements are written.
+    pub array_format: ArrayFormat,
+    /// Whether several values where one is wanted are an error; else the last is taken.
+    pub reject_duplicates: bool,
+}
+
+impl Default for Settings {
+    fn default() -> Settings {
+        Settings {
+            max_depth: 5,
+            form: false,
+            array_format: ArrayFormat::Indexed,
+            reject_duplicates: false,
+        }
+    }
+}
+
+impl Settings {
+    /// Returns the querystring as JSON, read as whatever is there, as [`parse`](crate::parse).
+    pub fn parse(&self, query: impl AsRef<[u8]>) -> Result<String, Error> {
+        calls::parse(self, query.as_ref())
+    }
+
+    /// Returns the querystring as JSON, read by a shape, as [`read`](crate::read).
+    pub fn read(&self, shape: &str, query: impl AsRef<[u8]>) -> Result<String, Error> {
+        calls::read(self, shape, query.as_ref())
+    }
+
+    /// Returns the querystring that the JSON is written as, as [`write`](crate::write).
+    pub fn write(&self, json: &str) -> Result<String, Error> {
+        calls::write(self, json)
+    }
+
+    /// Returns the bytes, encoded for the mode, as [`encode`](crate::encode).
+    pub fn encode(&self, bytes: impl AsRef<[u8]>) -> Result<String, Error> {
+        calls::encode(self.form, bytes.as_ref())
+    }
+}

@@ -1,0 +1,69 @@
+//! Types with serde's derives, read and written by way of JSON.
+
+use crate::{Error, ErrorKind, Settings};
+use serde::de::DeserializeOwned;
+use serde::Serialize;
+
+/// Returns the value that the querystring holds, read by a shape.
+///
+/// # Errors
+///
+/// As [`read`](crate::read); and [`ErrorKind::Mismatch`] where the shape's JSON doesn't fit the type.
+///
+/// ```
+/// #[derive(Debug, PartialEq, serde::Deserialize)]
+/// struct User {
+///     name: String,
+///     ids: Vec<u8>,
+/// }
+///
+/// let user: User = serde_qs::from_str("{name: text, ids: [u8]}", "name=John&ids[0]=1")?;
+/// assert_eq!(user, User { name: "John".to_owned(), ids: vec![1] });
+/// # Ok::<(), serde_qs::Error>(())
+/// ```
+pub fn from_str<T: DeserializeOwned>(shape: &str, query: &str) -> Result<T, Error> {
+    Settings::default().from_str(shape, query)
+}
+
+/// Returns the querystring that the value is written as.
+///
+/// # Errors
+///
+/// As [`write`](crate::write); [`ErrorKind::BadJson`] where the value can't be written as JSON, too.
+///
+/// ```
+/// #[derive(serde::Serialize)]
+/// struct User {
+///     name: String,
+///     ids: Vec<u8>,
+/// }
+///
+/// let user = User { name: "John".to_owned(), ids: vec![1] };
+/// assert_eq!(serde_qs::to_string(&user)?, "name=John&ids[0]=1");
+/// # Ok::<(), serde_qs::Error>(())
+/// ```
+pub fn to_string<T: Serialize + ?Sized>(value: &T) -> Result<String, Error> {
+    Settings::default().to_string(value)
+}
+
+impl Settings {
+    /// Returns the value that the querystring holds, read by a shape, as [`from_str`].
+    pub fn from_str<T: DeserializeOwned>(&self, shape: &str, query: &str) -> Result<T, Error> {
+        let json = self.read(shape, query)?;
+        serde_json::from_str(&json).map_err(|error| json_error(ErrorKind::Mismatch, &error))
+    }
+
+    /// Returns the querystring that the value is written as, as [`to_string`].
+    pub fn to_string<T: Serialize + ?Sized>(&self, value: &T) -> Result<String, Error> {
+        let json = serde_json::to_string(value).map_err(|error| json_error(ErrorKind::BadJson, &error))?;
+        self.write(&json)
+    }
+}
+
+fn json_error(kind: ErrorKind, error: &serde_json::Error) -> Error {
+    Error {
+        kind,
+        position: 0,
+        message: error.to_string(),
+    }
+}

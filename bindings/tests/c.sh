@@ -1,0 +1,49 @@
+# C: programs that are built from the installed library alone, the shared and the static one. bindings/try sources this.
+
+if command -v pkg-config >/dev/null; then
+    flags=$(pkg-config --cflags --libs serde_qs)
+    static_flags=$(pkg-config --static --cflags --libs serde_qs)
+else
+    echo '  there is no pkg-config: cc gets its flags by hand'
+    flags="-I$prefix/include -L$prefix/lib -lserde_qs"
+    static_flags=$flags
+fi
+
+# fail_each CALL ANSWER: whichever allocation of the call fails, it has its result, or status 2 without a text.
+fail_each() {
+    local call=$1 wanted=$2 at found
+    for ((at = 1; at <= 200; at++)); do
+        found=$(printf '%s\n' "$call" | FAILING_ALLOCATION=$at LD_PRELOAD=$room/failing.so "$room/c_memory" 2>&1 9>"$room/failed")
+        if [ "$found" = "$wanted" ] || { [ "$found" = $'2\t0\t' ] && [ -s "$room/failed" ]; }; then
+            pass
+        else
+            fail "C, $call with failing allocation $at: '${found:0:200}'"
+        fi
+        [ -s "$room/failed" ] || return
+    done
+    fail "C, $call: no end of its allocations"
+}
+
+try_c() {
+    local program call wanted
+    cp "$tests"/c/*.[ch] .
+    for program in cases memory guarded; do
+        runs "C, $program.c" cc -std=c11 -pthread -Wall -Wextra -Werror "$program.c" $flags -o "c_$program"
+    done
+    runs 'C, linked with the static library' cc -static -std=c11 cases.c $static_flags -o static_cases
+    ! command -v c++ >/dev/null || runs 'the header in C++' c++ -Wall -Wextra -Werror -fsyntax-only -x c++ "$prefix/include/serde_qs.h"
+    try_language C ./c_cases
+    try_language 'C, static' env -u LD_LIBRARY_PATH ./static_cases
+    runs 'a library in which each allocation can fail' \
+        cc -shared -fPIC -O1 -nostdlib -fno-builtin -o failing.so "$root/scripts/support/fail_allocation.c"
+    while IFS= read -r call <&3 && IFS= read -r wanted <&4; do
+        fail_each "$call" "$wanted"
+    done 3<calls 4<wanted
+    runs 'C, random calls behind guard pages' ./c_guarded calls "$guarded_seconds"
+}
+
+if command -v cc >/dev/null; then
+    try_c
+else
+    echo '  there is no cc: C is not tried'
+fi

@@ -1,1 +1,5 @@
 pub mod Places
+pub mod Positions
+pub mod Kept
+pub mod Written
+pub mod Walks

@@ -4,3 +4,10 @@ pub mod Lookups
 pub mod Places
 pub mod Steps
 pub mod Inputs
+-- Writing: what the events write, and the texts that they have; then, for private clauses, where the code is and what it keeps.
+pub mod Sent
+pub mod Texts
+pub mod Placed
+pub mod Logged
+pub mod Noted
+pub mod Follows

@@ -1,7 +1,12 @@
-//! The text of a querystring, written step by step.
+//! Writing: the serializer, the events that it was sent, and where in the value it is.
 
 mod frame;
+mod kept;
+mod laws;
+mod log;
+mod position;
 mod serializer;
 mod text;
 
-pub use text::TextSerializer;
+pub use laws::worked_texts;
+pub use text::{Settings, TextSerializer};

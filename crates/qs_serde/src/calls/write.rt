@@ -1,15 +1,20 @@
 //! Calls that write.
 
-ghost use Rattle.std.specs.Prelude.{◌≡◌, ◌⊎◌, ◌<◌, ℕ, length, take};
+ghost use Rattle.std.specs.Prelude.{◌≡◌, ◌⊎◌, ◌<◌, ℕ, length, take, string_bytes};
+ghost use Rattle.std.specs.List.{All};
 ghost use Rattle.std.specs.Io.KnownBytes.{Appends};
+ghost use Rattle.qs_spec.specs.Config.{default};
 ghost use Rattle.qs_tree.specs.Error.{IsIo};
+ghost use Rattle.qs_data.specs.write.State.{IsVisible};
+ghost use Rattle.qs_serde.specs.Texts.{ReturnsTextOf, WritesTextOf};
 
-use crate::writing::TextSerializer;
+use crate::writing::{Settings, TextSerializer};
 use qs_tree::{Config, Error, Result};
 use serde::Serialize;
 use std::alloc::Global;
 use std::io;
 use std::io::Write;
+use std::marker::Brand;
 
 /// Returns the querystring of a value, with the default configuration.
 ///
@@ -22,11 +27,15 @@ use std::io::Write;
 /// - [`MaxSerializationDepthExceeded`](Error::MaxSerializationDepthExceeded): a value nests deeper than the configuration's `max_depth`
 ///   allows.
 /// - [`Unsupported`](Error::Unsupported): a map's key is no value of one text.
-/// - [`Custom`](Error::Custom): the type's own code rejects the value, or what is flattened is no map and no struct.
+/// - [`Custom`](Error::Custom): the type's own code rejects the value, or what is flattened is no map and no struct; or it writes a value without a key
+///   in a map, or a key in the place of a value.
+/// - [`Failed`](Error::Failed): the type's own code went on after one of these errors.
 /// - [`OutOfMemory`](Error::OutOfMemory): an allocation failed.
 ///
 /// It allocates for the text, the longest path in it, and a number for each list or map that is open; the time grows with the text.
-pub fn to_string<T: Serialize>(alloc: Global, value: &T) -> Result<String> {
+pub fn to_string<T: Serialize>(alloc: Global, value: &T) -> Result<String>
+    ensures { ReturnsTextOf default (T.writes value.now) result }
+{
     to_string_with(alloc, Config::new(), value)
 }
 
@@ -44,7 +53,9 @@ pub fn to_string<T: Serialize>(alloc: Global, value: &T) -> Result<String> {
 ///
 /// - those of [`to_string`]: the text of the entries before the rejected one was written; none after [`OutOfMemory`](Error::OutOfMemory).
 /// - [`Io`](Error::Io): a write failed, was interrupted or took no byte. It isn't repeated.
-pub fn to_writer<T: Serialize, W: Write>(alloc: Global, value: &T, writer: &mut W) -> Result<()> {
+pub fn to_writer<T: Serialize, W: Write>(alloc: Global, value: &T, writer: &mut W) -> Result<()>
+    ensures { WritesTextOf default (T.writes value.now) (W.contents writer.old) (W.contents writer.new) result }
+{
     to_writer_with(alloc, Config::new(), value, writer)
 }
 
@@ -55,12 +66,30 @@ pub fn to_writer<T: Serialize, W: Write>(alloc: Global, value: &T, writer: &mut 
 /// let config = Config::new().array_format(ArrayFormat::Unindexed);
 /// let text = to_string_with(alloc, config, &query)?; // ids=7&ids=8
 /// ```
-pub fn to_string_with<T: Serialize>(alloc: Global, config: Config, value: &T) -> Result<String> {
-    let mut serializer = TextSerializer::new(alloc, config)?;
+pub fn to_string_with<T: Serialize>(alloc: Global, config: Config, value: &T) -> Result<String>
+    ensures { ReturnsTextOf config (T.writes value.now) result }
+{
+    write_text::<Brand, T>(alloc, config, value)
+}
+
+// Returns the querystring of a value, by a serializer of which contracts know the configuration.
+fn write_text<K: Settings, T: Serialize>(alloc: Global, config: Config, value: &T) -> Result<String>
+    requires { config ≡ K.config }
+    ensures { ReturnsTextOf K.config (T.writes value.now) result }
+{
+    let mut serializer: TextSerializer<K> = TextSerializer::new(alloc, config)?;
     value.serialize(&mut serializer)?;
-    match String::from_utf8(serializer.into_text()) {
-        Ok(text) => Ok(text),
-        Err(_) => Err(Error::OutOfMemory),
+    Ok(string_of(serializer.into_text()))
+}
+
+// Returns visible bytes as a string. They are UTF-8. It doesn't allocate.
+fn string_of(text: Vec<u8>) -> String
+    requires { ∥ All IsVisible text.items ∥₁ }
+    ensures { string_bytes result ≡ text.items }
+{
+    match String::from_utf8(text) {
+        Ok(string) => string,
+        Err(_) => unreachable!(),
     }
 }
 
@@ -75,8 +104,23 @@ pub fn to_writer_with<T: Serialize, W: Write>(
     config: Config,
     value: &T,
     writer: &mut W,
-) -> Result<()> {
-    let mut serializer = TextSerializer::new(alloc, config)?;
+) -> Result<()>
+    ensures { WritesTextOf config (T.writes value.now) (W.contents writer.old) (W.contents writer.new) result }
+{
+    write_to::<Brand, T, W>(alloc, config, value, writer)
+}
+
+// Writes the querystring of a value, by a serializer of which contracts know the configuration.
+fn write_to<K: Settings, T: Serialize, W: Write>(
+    alloc: Global,
+    config: Config,
+    value: &T,
+    writer: &mut W,
+) -> Result<()>
+    requires { config ≡ K.config }
+    ensures { WritesTextOf K.config (T.writes value.now) (W.contents writer.old) (W.contents writer.new) result }
+{
+    let mut serializer: TextSerializer<K> = TextSerializer::new(alloc, config)?;
     let made = value.serialize(&mut serializer);
     if let Err(Error::OutOfMemory) = made {
         return made;

@@ -1,18 +1,22 @@
 //! Lists and maps that are being written.
 
-/// A list or a map that is being written.
+ghost use Rattle.std.specs.Prelude.{◌≡◌, None};
+
+/// A list or a map that is being written, or the top.
 #[derive(Clone, Copy)]
 pub(crate) struct Frame {
     pub(crate) kind: FrameKind,
     /// How many parts were written.
     pub(crate) count: usize,
-    /// How long the path was before the part that is being written.
-    pub(crate) len: usize,
+    /// How long the path was before the part that is being written, where that has a segment.
+    pub(crate) part: Option<usize>,
 }
 
 /// What is written of it.
 #[derive(Clone, Copy, PartialEq, Eq)]
 pub(crate) enum FrameKind {
+    /// One value, in no list or map.
+    Top,
     /// The items of a list or a tuple.
     Items,
     /// The members of a map or a struct.
@@ -21,13 +25,28 @@ pub(crate) enum FrameKind {
     Flattened,
 }
 
+/// What comes next.
+#[derive(Clone, Copy, PartialEq, Eq)]
+pub(crate) enum Next {
+    /// A value, or what ends a list or a map.
+    Value,
+    /// A key.
+    Key,
+    /// A map or a struct whose members go into the one that is open.
+    Flattened,
+    /// Nothing, after an error.
+    Nothing,
+}
+
 impl Frame {
     /// Returns a frame of which nothing was written.
-    pub(crate) fn new(kind: FrameKind) -> Frame {
+    pub(crate) fn new(kind: FrameKind) -> Frame
+        ensures { result ≡ record { kind = kind; count = 0; part = None } }
+    {
         Frame {
             kind,
             count: 0,
-            len: 0,
+            part: None,
         }
     }
 }

@@ -1,148 +1,172 @@
 //! The events that serde sends.
 
-use super::frame::FrameKind;
-use super::text::TextSerializer;
+use super::kept::{keep, key, printed, variant};
+use super::log::Note;
+use super::text::{Settings, TextSerializer};
 use itoa::Buffer;
 use qs_data::Scalar;
 use qs_tree::{Error, Result};
 use serde::{Case, NameKind, Serializer};
 use std::fmt::Display;
 
-impl Serializer for TextSerializer {
+impl<K: Settings> Serializer for TextSerializer<K> {
     type Error = Error;
 
+    ghost written = { λ s. s.log.events };
+
     fn bool(&mut self, v: bool) -> Result<()> {
-        self.scalar(Scalar::Bool(v))
+        let made = self.position.scalar(Scalar::Bool(v));
+        keep(&mut self.position, &mut self.log, made, &Note::Bool(v))
     }
 
     fn i64(&mut self, v: i64) -> Result<()> {
-        self.scalar(Scalar::Signed(v))
+        let made = self.position.scalar(Scalar::Signed(v));
+        keep(&mut self.position, &mut self.log, made, &Note::I64(v))
     }
 
     fn u64(&mut self, v: u64) -> Result<()> {
-        self.scalar(Scalar::Unsigned(v))
+        let made = self.position.scalar(Scalar::Unsigned(v));
+        keep(&mut self.position, &mut self.log, made, &Note::U64(v))
     }
 
     fn i128(&mut self, v: i128) -> Result<()> {
-        self.scalar(Scalar::Bytes(Buffer::new().format(v).as_bytes()))
+        let made = self
+            .position
+            .scalar(Scalar::Bytes(Buffer::new().format(v).as_bytes()));
+        keep(&mut self.position, &mut self.log, made, &Note::I128(v))
     }
 
     fn u128(&mut self, v: u128) -> Result<()> {
-        self.scalar(Scalar::Bytes(Buffer::new().format(v).as_bytes()))
+        let made = self
+            .position
+            .scalar(Scalar::Bytes(Buffer::new().format(v).as_bytes()));
+        keep(&mut self.position, &mut self.log, made, &Note::U128(v))
     }
 
     fn f32(&mut self, v: f32) -> Result<()> {
-        self.printed(&v)
+        let made = printed(&mut self.position, &mut self.room, &v);
+        keep(&mut self.position, &mut self.log, made, &Note::Single(v))
     }
 
     fn f64(&mut self, v: f64) -> Result<()> {
-        self.printed(&v)
+        let made = printed(&mut self.position, &mut self.room, &v);
+        keep(&mut self.position, &mut self.log, made, &Note::Double(v))
     }
 
     fn char(&mut self, v: char) -> Result<()> {
-        self.scalar(Scalar::Char(v))
+        let made = self.position.scalar(Scalar::Char(v));
+        keep(&mut self.position, &mut self.log, made, &Note::Char(v))
     }
 
     fn str(&mut self, v: &str) -> Result<()> {
-        self.scalar(Scalar::Bytes(v.as_bytes()))
+        let made = self.position.scalar(Scalar::Bytes(v.as_bytes()));
+        keep(&mut self.position, &mut self.log, made, &Note::Text(v))
     }
 
     fn bytes(&mut self, v: &[u8]) -> Result<()> {
-        self.scalar(Scalar::Bytes(v))
+        let made = self.position.scalar(Scalar::Bytes(v));
+        keep(&mut self.position, &mut self.log, made, &Note::Bytes(v))
     }
 
     // `None` and `()` come by one event of serde's, and are written as no value.
     fn unit(&mut self) -> Result<()> {
-        self.no_key()?;
-        if self.flattens {
-            self.flattens = false;
-            return Ok(());
-        }
-        self.before()?;
-        if let Err(stop) = self.writer.none() {
-            return Err(stop.into_error(self.writer.config));
-        }
-        self.after();
-        Ok(())
+        let made = self.position.nothing();
+        keep(&mut self.position, &mut self.log, made, &Note::Unit)
     }
 
     fn str_cased(&mut self, name: &str, case: Case) -> Result<()> {
-        if case == Case::AsIs {
-            return self.scalar(Scalar::Bytes(name.as_bytes()));
-        }
-        let room = self.spelled(NameKind::Variant, name, case)?;
-        let written = self.scalar(Scalar::Bytes(room.as_bytes()));
-        self.room = room;
-        written
+        let made = variant(&mut self.position, &mut self.room, name, case);
+        keep(
+            &mut self.position,
+            &mut self.log,
+            made,
+            &Note::UnitVariant(name, case),
+        )
     }
 
-    fn begin_seq(&mut self, _len: Option<usize>) -> Result<()> {
-        self.no_key()?;
-        self.before()?;
-        self.open(FrameKind::Items)
+    fn begin_seq(&mut self, len: Option<usize>) -> Result<()> {
+        let made = self.position.begin_seq();
+        keep(
+            &mut self.position,
+            &mut self.log,
+            made,
+            &Note::BeginSeq(len),
+        )
     }
 
     fn end_seq(&mut self) -> Result<()> {
-        match self.stack.pop() {
-            Some(frame) => self.close(frame.count == 0),
-            None => Ok(()),
-        }
+        let made = self.position.end_seq();
+        keep(&mut self.position, &mut self.log, made, &Note::EndSeq)
     }
 
-    fn begin_map(&mut self, _len: Option<usize>) -> Result<()> {
-        self.no_key()?;
-        if self.flattens {
-            self.flattens = false;
-            return self.open(FrameKind::Flattened);
-        }
-        self.before()?;
-        self.open(FrameKind::Members)
+    fn begin_map(&mut self, len: Option<usize>) -> Result<()> {
+        let made = self.position.begin_map();
+        keep(
+            &mut self.position,
+            &mut self.log,
+            made,
+            &Note::BeginMap(len),
+        )
     }
 
-    // An empty map and a struct of which no field is shown come by the same events of serde's: at the top nothing is written, which both are
-    // read from.
     fn end_map(&mut self) -> Result<()> {
-        let Some(frame) = self.stack.pop() else {
-            return Ok(());
-        };
-        if frame.kind == FrameKind::Flattened {
-            if let Some(outer) = self.stack.last_mut() {
-                outer.count = outer.count.saturating_add(frame.count);
-            }
-            return Ok(());
-        }
-        let is_top = self.stack.is_empty();
-        self.close(frame.count == 0 && !is_top)
+        let made = self.position.end_map();
+        keep(&mut self.position, &mut self.log, made, &Note::EndMap)
     }
 
     fn key_cased(&mut self, name: &str, case: Case) -> Result<()> {
-        self.name(NameKind::Field, name, case)
+        let made = key(
+            &mut self.position,
+            &mut self.room,
+            NameKind::Field,
+            name,
+            case,
+        );
+        keep(
+            &mut self.position,
+            &mut self.log,
+            made,
+            &Note::FieldKey(name, case),
+        )
     }
 
     fn variant_key(&mut self, name: &str, case: Case) -> Result<()> {
-        self.name(NameKind::Variant, name, case)
+        let made = key(
+            &mut self.position,
+            &mut self.room,
+            NameKind::Variant,
+            name,
+            case,
+        );
+        keep(
+            &mut self.position,
+            &mut self.log,
+            made,
+            &Note::VariantKey(name, case),
+        )
     }
 
     fn begin_key(&mut self) -> Result<()> {
-        self.at_key = true;
-        Ok(())
+        let made = self.position.begin_key();
+        keep(&mut self.position, &mut self.log, made, &Note::BeginKey)
     }
 
     fn end_key(&mut self) -> Result<()> {
-        self.at_key = false;
-        Ok(())
+        let made = self.position.end_key();
+        keep(&mut self.position, &mut self.log, made, &Note::EndKey)
     }
 
     fn flatten_next(&mut self) -> Result<()> {
-        self.flattens = true;
-        Ok(())
+        let made = self.position.flatten();
+        keep(&mut self.position, &mut self.log, made, &Note::Flatten)
     }
 
     fn custom(&self, message: &str) -> Error {
-        Error::custom(self.writer.alloc, message, &())
+        Error::custom(self.position.writer.alloc, message, &())
     }
 
     fn collect_str<T: Display>(&mut self, value: &T) -> Result<()> {
-        self.printed(value)
+        let made = printed(&mut self.position, &mut self.room, value);
+        keep(&mut self.position, &mut self.log, made, &Note::Lost)
     }
 }

@@ -1,0 +1,93 @@
+-- What a serializer keeps of the events that it was sent.
+use Rattle.std.proofs.Common.{◌≡◌, ℕ, false, List, [], ◌∷◌, ◌++◌, refl, sym, ap, ◌∙◌, subst, Option, Some, None, Ok, Err, inl, inr}
+use Rattle.std.specs.Prelude.{⊤, IfSome, option_map, option_and_then}
+use Rattle.std.proofs.lemmas.Option.{none-some, same_Some}
+use Rattle.std.specs.List.{All}
+use mathlib.Core.Logic.{∥∥₁_map}
+use Rattle.serde.specs.Event.{Event, Log}
+use Rattle.qs_spec.specs.Config.{Config}
+use Rattle.qs_spec.specs.Entry.{Entry}
+use Rattle.qs_spec.specs.Written.{written}
+use Rattle.qs_tree.specs.declared.error.Error.{Error}
+use Rattle.qs_data.specs.write.Parts.{state_of}
+use Rattle.qs_data.specs.write.State.{IsVisible}
+use Rattle.qs_serde.specs.declared.writing.frame.FrameKind.TheVariants.{Top}
+use Rattle.qs_serde.specs.declared.writing.frame.Next.TheVariants.{Nothing}
+use Rattle.qs_serde.specs.declared.writing.log.Note.{Note}
+use Rattle.qs_serde.specs.declared.writing.log.Note.TheVariants.{Lost}
+use Rattle.qs_serde.specs.declared.writing.position.Position.{Position}
+use Rattle.qs_serde.specs.Sent.{State, start, begun, sent, all_sent, text_of_sent}
+use Rattle.qs_serde.specs.Placed.{Holds, IsIn, Moves, Stands, Stops}
+use Rattle.qs_serde.specs.Logged.{then}
+use Rattle.qs_serde.specs.Noted.{IsNoted, event_of, noted}
+use Rattle.qs_serde.specs.Texts.{AreShown, IsShown, IsTextOf, IsTextOfEntries, Leads}
+use Rattle.qs_serde.specs.Follows.{Follows}
+
+-- one more event
+
+then_all : (config : Config) (es : List Event) (e : Event) (s t : State) → ((u : State) → all_sent config es u ≡ Some s → all_sent config (es ++ e ∷ []) u ≡ Some t)
+    → (o : Option State) → option_and_then (all_sent config es) o ≡ Some s → option_and_then (all_sent config (es ++ e ∷ [])) o ≡ Some t
+then_all config es e s t more None g = absurd (none-some s g)
+then_all config es e s t more (Some u) g = more u g
+
+all_sent-append : (config : Config) (es : List Event) (e : Event) (first s t : State) → all_sent config es first ≡ Some s → sent config e s ≡ Some t → all_sent config (es ++ e ∷ []) first ≡ Some t
+all_sent-append config [] e first s t h step = ap (λ o. option_and_then (all_sent config []) o) (ap (sent config e) (same_Some first s h) ∙ step)
+all_sent-append config (x ∷ es) e first s t h step = then_all config es e s t (λ u g. all_sent-append config es e u s t g step) (sent config x first) h
+
+shown-append : (es shown : List Event) (x e : Event) → AreShown es shown → IsShown x e → AreShown (es ++ x ∷ []) (shown ++ e ∷ [])
+shown-append [] shown x e h s = (e, [], ap (λ l. l ++ e ∷ []) h, s, refl)
+shown-append (y ∷ es) shown x e h s = (h.0, h.1 ++ e ∷ [], ap (λ l. l ++ e ∷ []) h.2, h.3, shown-append es h.1 x e h.4 s)
+
+extends : (config : Config) (s t : State) (e : Event) (log : Log) (event : Option Event) → IfSome event (λ x. IsShown x e) → sent config e s ≡ Some t → IfSome log (λ es. Leads config es s)
+    → IfSome (option_and_then (then log) event) (λ es. Leads config es t)
+extends config s t e log None shown step h = tt
+extends config s t e None (Some x) shown step h = tt
+extends config s t e (Some es) (Some x) shown step h = (h.0 ++ e ∷ [], shown-append es h.0 x e h.1 shown, all_sent-append config h.0 e start s t h.2 step)
+
+pub follows_on : (config : Config) (log : Log) (note : Note) (before now : Position) (e : Event) (x : Unit {0}) → IsNoted note e → Moves (λ config. sent config e) (Ok x) before now → Follows config log before
+    → Follows config (noted log note) now
+follows_on config log note before now e x shown moves follows =
+    ∥∥₁_map follows (λ w. let m = moves config w.0 w.1 in (m.0, inl m.2, extends config w.0 m.0 e log (event_of note) shown m.1 w.2))
+
+-- after an error
+
+stopped : (config : Config) (now : Position) (es : List Entry) → Holds config now.writer es
+    → (s : State) × IsIn config (record { writer = now.writer; frame = now.frame; around = now.around; next = Nothing }) s × ⊤
+stopped config now es holds = (record { entries = es; here = begun Top; around = []; next = Nothing }, inr (refl, refl, holds), tt)
+
+pub follows_stop : (config : Config) (log : Log) (before now : Position) (e : Event) (error : Error) → Moves (λ config. sent config e) (Err error) before now → Follows config log before
+    → Follows config (noted log Lost) (record { writer = now.writer; frame = now.frame; around = now.around; next = Nothing })
+follows_stop config log before now e error moves follows = ∥∥₁_map follows (λ w. by w.0 (moves config w.0 w.1))
+  where
+    by : (s : State) → Stops (sent config e s) error config s.entries now
+        → (t : State) × IsIn config (record { writer = now.writer; frame = now.frame; around = now.around; next = Nothing }) t × ⊤
+    by s (inl kept) = stopped config now s.entries kept.1
+    by s (inr memory) = stopped config now memory.1.0 memory.1.1
+
+-- the text
+
+holds_in : (config : Config) (p : Position) (s : State) → IsIn config p s → Holds config p.writer s.entries
+holds_in config p s (inl h) = h.holds
+holds_in config p s (inr h) = h.2
+
+some_bytes : (a b : List ℕ) → Some a ≡ Some b → a ≡ b
+some_bytes a b h = cc
+
+module _ (config : Config) (log : Log) (p : Position) (bytes : List ℕ) (taken : Some bytes ≡ (state_of p.writer).taken) (follows : Follows config log p) where
+  text_is : (s : State) → IsIn config p s → bytes ≡ written config.form false s.entries
+  text_is s at = some_bytes bytes p.writer.stream.sink.writer.items taken ∙ (holds_in config p s at).adds.text
+
+  pub has_text : IsTextOf config log bytes
+  has_text = ∥∥₁_map follows (λ w. by w.0 log (text_is w.0 w.1) w.2)
+    where
+      by : (s : State) (l : Log) → bytes ≡ written config.form false s.entries → IfSome l (λ es. Leads config es s)
+          → IfSome l (λ es. (shown : List Event) × AreShown es shown × (text_of_sent config shown ≡ Some bytes))
+      by s None text h = tt
+      by s (Some es) text h = (h.0, h.1, ap (option_map (λ (t : State). written config.form false t.entries)) h.2 ∙ ap Some (sym text))
+
+  pub has_entries : IsTextOfEntries config bytes
+  has_entries = ∥∥₁_map follows (λ w. let text = text_is w.0 w.1 in (w.0.entries, text, subst (All IsVisible) (sym text) (holds_in config p w.0 w.1).adds.visible))
+
+pub follows_start : (config k : Config) (log : Log) (p : Position) → config ≡ k → log ≡ Some [] → Stands config p start → Follows k log p
+follows_start config k log p same none h =
+    subst (λ c. Follows c log p) same (subst (λ l. Follows config l p) (sym none) ∣ (start, inl h, ([], refl, refl)) ∣₁)

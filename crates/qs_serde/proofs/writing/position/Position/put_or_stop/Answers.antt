@@ -1,0 +1,15 @@
+use Rattle.std.proofs.Common.{refl, subst, inr}
+use Rattle.qs_data.specs.write.Parts.{WritesPart}
+use Rattle.qs_spec.specs.Entry.{one}
+use Rattle.qs_serde.specs.Sent.{adds, puts}
+use Rattle.qs_serde.proofs.Positions.{failed, wrote}
+use Rattle.qs_serde.proofs.writing.position.Position.put_or_stop.Goals as goal
+
+pub returns-in-Ok : goal.returns-in-Ok
+returns-in-Ok c before value same w config s h =
+    (puts value s, refl, c.end.ensures config (adds value s) (wrote config s before value h c.args.self.now same (subst (λ r. WritesPart r before.writer c.args.self.now.writer (λ config path. one path value)) c.in-Ok.is w)))
+
+pub returns-in-Err : goal.returns-in-Err
+returns-in-Err c before value same w config s h =
+    inr (failed config s before value h c.take.new.self.config c.in-Err.stop c.args.self.now.writer c.take.new.self c.into_error.result
+    (subst (λ r. WritesPart r before.writer c.args.self.now.writer (λ config path. one path value)) c.in-Err.is w) c.take.ensures.left c.into_error.ensures)

@@ -1,0 +1,94 @@
+//! What is kept of an event, and the texts that a serializer needs room for.
+
+ghost use Rattle.std.specs.Prelude.{◌≡◌, ℕ, List, OnOk, IfSome};
+ghost use Rattle.qs_spec.specs.Config.{Config as Settings};
+ghost use Rattle.serde.specs.Event.{Event, Logs};
+ghost use Rattle.serde.specs.Spelling.{spelled};
+ghost use Rattle.serde.specs.declared.name.NameKind.TheVariants.{Variant};
+ghost use Rattle.qs_serde.specs.Sent.{key_sent, sent, text_sent};
+ghost use Rattle.qs_serde.specs.Placed.{Moves};
+ghost use Rattle.qs_serde.specs.Noted.{IsNoted, event_of};
+ghost use Rattle.qs_serde.specs.Follows.{Follows};
+ghost use Rattle.qs_serde.specs.declared.writing.position.Position.{Position as At};
+
+use super::frame::Next;
+use super::log::{Log, Note};
+use super::position::Position;
+use qs_data::Scalar;
+use qs_tree::{Error, Result};
+use serde::{Case, NameKind};
+use std::fmt::{Display, Write};
+
+/// Keeps an event, of which this was made. After an error nothing comes next.
+pub(crate) fn keep(
+    position: &mut Position,
+    log: &mut Log,
+    made: Result<()>,
+    note: &Note<'_>,
+) -> Result<()>
+    ensures logs { OnOk result (IfSome (event_of note.now) (λ e. Logs log.old.events log.new.events e)) }
+    ensures follows { (config : Settings) (before : At) (e : Event) → IsNoted note.now e → Moves (λ config. sent config e) made before position.old
+        → Follows config log.old.events before → Follows config log.new.events position.new }
+{
+    match made {
+        Ok(()) => {
+            *log = log.then(note);
+            Ok(())
+        }
+        Err(error) => {
+            *log = log.then(&Note::Lost);
+            position.next = Next::Nothing;
+            Err(error)
+        }
+    }
+}
+
+/// Writes a variant's name in a case.
+pub(crate) fn variant(
+    position: &mut Position,
+    room: &mut String,
+    name: &str,
+    case: Case,
+) -> Result<()>
+    ensures { Moves (λ config s. text_sent config (spelled case Variant name.now) s) result position.old position.new }
+{
+    if let Case::AsIs = case {
+        return position.scalar(Scalar::Bytes(name.as_bytes()));
+    }
+    room.clear();
+    case.append(NameKind::Variant, name, room)?;
+    position.scalar(Scalar::Bytes(room.as_bytes()))
+}
+
+/// Goes under a name in a case.
+pub(crate) fn key(
+    position: &mut Position,
+    room: &mut String,
+    kind: NameKind,
+    name: &str,
+    case: Case,
+) -> Result<()>
+    ensures { Moves (λ config s. key_sent config (spelled case kind name.now) s) result position.old position.new }
+{
+    if let Case::AsIs = case {
+        return position.key(name.as_bytes());
+    }
+    room.clear();
+    case.append(kind, name, room)?;
+    position.key(room.as_bytes())
+}
+
+/// Writes what is printed.
+pub(crate) fn printed<T: Display>(
+    position: &mut Position,
+    room: &mut String,
+    value: &T,
+) -> Result<()>
+    ensures { (bytes : List ℕ) × Moves (λ config s. text_sent config bytes s) result position.old position.new }
+{
+    room.clear();
+    if write!(room, "{value}").is_err() {
+        return Err(Error::OutOfMemory);
+    }
+    position.scalar(Scalar::Bytes(room.as_bytes()))
+}

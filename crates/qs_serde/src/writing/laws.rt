@@ -1,0 +1,27 @@
+//! Worked texts: what is written of events.
+
+ghost use Rattle.std.specs.Prelude.{◌≡◌, codes, true, [], ◌∷◌, Some, None};
+ghost use Rattle.qs_spec.specs.Config.{default, empty_indexed, unindexed};
+ghost use Rattle.serde.specs.Event.{boolean, unsigned, text, nothing, unit_variant, seq_begins, seq_ends, map_begins, map_ends, field_key, variant_key, key_begins, key_ends, flattens};
+ghost use Rattle.serde.specs.declared.name.Case.TheVariants.{AsIs, Kebab};
+ghost use Rattle.qs_serde.specs.Sent.{text_of_sent};
+
+/// The texts of some events, in each format of lists, and events that have none: they go too deep, or are out of order. It does nothing at run time.
+///
+/// ```
+/// worked_texts(); // its clauses are the texts
+/// ```
+pub fn worked_texts()
+    ensures structure { text_of_sent default (map_begins None ∷ field_key (codes "name") AsIs ∷ text (codes "Alice Doe") ∷ field_key (codes "age") AsIs ∷ unsigned 24 ∷ map_ends ∷ []) ≡ Some (codes "name=Alice+Doe&age=24") }
+    ensures indexed { text_of_sent default (map_begins None ∷ field_key (codes "v") AsIs ∷ seq_begins (Some 2) ∷ unsigned 7 ∷ unsigned 8 ∷ seq_ends ∷ map_ends ∷ []) ≡ Some (codes "v[0]=7&v[1]=8") }
+    ensures empty_indexed { text_of_sent (record default { array_format = empty_indexed }) (map_begins None ∷ field_key (codes "v") AsIs ∷ seq_begins (Some 2) ∷ unsigned 7 ∷ unsigned 8 ∷ seq_ends ∷ map_ends ∷ []) ≡ Some (codes "v[]=7&v[]=8") }
+    ensures unindexed { text_of_sent (record default { array_format = unindexed }) (map_begins None ∷ field_key (codes "v") AsIs ∷ seq_begins (Some 2) ∷ unsigned 7 ∷ unsigned 8 ∷ seq_ends ∷ map_ends ∷ []) ≡ Some (codes "v=7&v=8") }
+    ensures structs_in_a_list { text_of_sent default (map_begins None ∷ field_key (codes "v") AsIs ∷ seq_begins (Some 2) ∷ map_begins None ∷ field_key (codes "a") AsIs ∷ unsigned 1 ∷ map_ends ∷ map_begins None ∷ field_key (codes "a") AsIs ∷ unsigned 2 ∷ map_ends ∷ seq_ends ∷ map_ends ∷ []) ≡ Some (codes "v[0][a]=1&v[1][a]=2") }
+    ensures variants { text_of_sent default (map_begins None ∷ field_key (codes "e") AsIs ∷ map_begins (Some 1) ∷ variant_key (codes "b") AsIs ∷ boolean true ∷ map_ends ∷ field_key (codes "f") AsIs ∷ unit_variant (codes "InReview") Kebab ∷ map_ends ∷ []) ≡ Some (codes "e[b]=true&f=in-review") }
+    ensures map { text_of_sent default (map_begins None ∷ field_key (codes "m") AsIs ∷ map_begins (Some 1) ∷ key_begins ∷ unsigned 7 ∷ key_ends ∷ text (codes "x") ∷ map_ends ∷ map_ends ∷ []) ≡ Some (codes "m[7]=x") }
+    ensures flattened { text_of_sent default (map_begins None ∷ field_key (codes "a") AsIs ∷ unsigned 1 ∷ flattens ∷ map_begins None ∷ field_key (codes "b") AsIs ∷ unsigned 2 ∷ map_ends ∷ field_key (codes "c") AsIs ∷ unsigned 3 ∷ map_ends ∷ []) ≡ Some (codes "a=1&b=2&c=3") }
+    ensures absent { text_of_sent default (map_begins None ∷ field_key (codes "a") AsIs ∷ nothing ∷ field_key (codes "v") AsIs ∷ seq_begins (Some 0) ∷ seq_ends ∷ field_key (codes "m") AsIs ∷ map_begins (Some 0) ∷ map_ends ∷ map_ends ∷ []) ≡ Some (codes "a&v=&m=") }
+    ensures empty_map { text_of_sent default (map_begins (Some 0) ∷ map_ends ∷ []) ≡ Some [] }
+    ensures too_deep { text_of_sent (record default { max_depth = 0 }) (map_begins None ∷ field_key (codes "v") AsIs ∷ seq_begins (Some 1) ∷ unsigned 7 ∷ seq_ends ∷ map_ends ∷ []) ≡ None }
+    ensures two_keys { text_of_sent default (map_begins None ∷ field_key (codes "a") AsIs ∷ field_key (codes "b") AsIs ∷ unsigned 1 ∷ map_ends ∷ []) ≡ None }
+{}

@@ -17,6 +17,8 @@ pub fn target<T: Serialize>(alloc: Global, path: &str, value: &T) -> Result<Stri
 
 /// Returns what a server reads of a request target; without a query, that of the empty one.
 pub fn served<'de, T: Deserialize<'de>>(alloc: Global, target: &'de str) -> Result<T> {
-    let (_path, query) = target.split_once('?').unwrap_or((target, ""));
-    from_str(alloc, query)
+    match target.split_once('?') {
+        Some((_path, query)) => from_str(alloc, query),
+        None => from_str(alloc, ""),
+    }
 }

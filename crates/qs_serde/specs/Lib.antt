@@ -2,5 +2,6 @@
 pub mod Nodes
 pub mod Lookups
 pub mod Places
+pub mod Errors
 pub mod Steps
 pub mod Inputs

@@ -3,3 +3,4 @@ pub mod Positions
 pub mod Kept
 pub mod Written
 pub mod Walks
+pub mod Errors

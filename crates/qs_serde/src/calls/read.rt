@@ -19,9 +19,9 @@ use std::alloc::Global;
 ///
 /// # Errors
 ///
-/// - [`Parse`](Error::Parse): the querystring has no tree, as `a[b` has none.
+/// - [`Parse`](Error::Parse): the querystring has no tree, as `a[b` has none. The position is at most the length and one.
 /// - [`Custom`](Error::Custom) or [`Utf8`](Error::Utf8): it has one, but the type doesn't read it, as where a field is missing or a text is
-///   no number; or the type's own code rejects the value.
+///   no number; or the type's own code rejects the value. An error of its code that is of another kind becomes `Custom`, with its message.
 /// - [`OutOfMemory`](Error::OutOfMemory): an allocation failed.
 ///
 /// Of several mistakes the first in the order of the fields is reported, then one in another key, and then a missing field. It allocates for
@@ -33,8 +33,8 @@ pub fn from_str<'de, T: Deserialize<'de>>(alloc: Global, input: &'de str) -> Res
     from_bytes_with(alloc, Config::new(), input.as_bytes())
 }
 
-/// Returns the value that is read from a querystring, with the default configuration. The errors are those of [`from_str`]. It allocates, and
-/// takes time, as that call does.
+/// Returns the value that is read from a querystring, with the default configuration. It returns the same errors as [`from_str`], and
+/// allocates and takes time as that call does.
 ///
 /// ```
 /// let query: Query = from_bytes(alloc, b"age=24&name=Alice")?;
@@ -45,8 +45,8 @@ pub fn from_bytes<'de, T: Deserialize<'de>>(alloc: Global, input: &'de [u8]) -> 
     from_bytes_with(alloc, Config::new(), input)
 }
 
-/// Returns the value that is read from a querystring under a configuration. The errors are those of [`from_str`]. It allocates, and takes time,
-/// as that call does.
+/// Returns the value that is read from a querystring under a configuration. It returns the same errors as [`from_str`], and allocates and takes
+/// time as that call does.
 ///
 /// ```
 /// let config = Config::new().use_form_encoding(true);
@@ -62,8 +62,8 @@ pub fn from_str_with<'de, T: Deserialize<'de>>(
     from_bytes_with(alloc, config, input.as_bytes())
 }
 
-/// Returns the value that is read from a querystring under a configuration. The error has the path to the part that isn't read, and is else
-/// that of [`from_str`]. It allocates, and takes time, as that call does, and for the path.
+/// Returns the value that is read from a querystring under a configuration. The error is the one that [`from_str`] returns, with the path to
+/// the part that isn't read. It allocates and takes time as that call does, and for the path.
 ///
 /// ```
 /// match explain_str::<Query>(alloc, Config::new(), "age=x&name=Alice") {
@@ -103,8 +103,8 @@ pub fn explain_bytes<'de, T: Deserialize<'de>>(
     }
 }
 
-/// Returns the value that is read from a querystring under a configuration. The errors are those of [`from_str`]. It allocates, and takes time,
-/// as that call does.
+/// Returns the value that is read from a querystring under a configuration. It returns the same errors as [`from_str`], and allocates and takes
+/// time as that call does.
 ///
 /// ```
 /// let query: Query = from_bytes_with(alloc, config, b"age=24&name=Alice")?;

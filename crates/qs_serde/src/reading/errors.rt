@@ -1,5 +1,12 @@
 //! The errors of values that don't fit their types.
 
+ghost use Rattle.std.specs.Prelude.{Bool};
+ghost use Rattle.qs_tree.specs.tree.Views.{tree_of};
+ghost use Rattle.qs_data.specs.read.Errors.{IsCustomOrOutOfMemory};
+ghost use Rattle.qs_data.specs.read.TreeText.{is_text};
+ghost use Rattle.qs_serde.specs.Errors.{IsStepError};
+ghost use Rattle.qs_serde.specs.Nodes.{node_tree};
+
 use super::format::{Asked, TreeFormat};
 use super::node::{Node, Part, entries_in};
 use itoa::Buffer;
@@ -11,14 +18,18 @@ impl<'t, 'qs> TreeFormat<'t, 'qs> {
     /// Returns the error of a value that doesn't fit its type, where no more is known.
     #[cold]
     #[inline(never)]
-    pub(crate) fn no_value(&self) -> Error {
+    pub(crate) fn no_value(&self) -> Error
+        ensures { IsCustomOrOutOfMemory result }
+    {
         self.saying("invalid value")
     }
 
     /// Returns the error of a text that is no number.
     #[cold]
     #[inline(never)]
-    pub(crate) fn no_number(&self) -> Error {
+    pub(crate) fn no_number(&self) -> Error
+        ensures { IsCustomOrOutOfMemory result }
+    {
         self.saying("invalid type: string, expected a number")
     }
 
@@ -58,14 +69,20 @@ impl<'t, 'qs> TreeFormat<'t, 'qs> {
     }
 
     // Returns the error with this message.
-    fn saying(&self, message: &'static str) -> Error {
+    #[tactic(auto, using(crate::proofs::Errors::step_errors))]
+    fn saying(&self, message: &'static str) -> Error
+        ensures { IsCustomOrOutOfMemory result }
+    {
         Error::custom(self.reader.alloc, message, &())
     }
 
     /// Returns the error of what names no variant.
     #[cold]
     #[inline(never)]
-    pub(crate) fn no_variant(&self, node: Node<'t, 'qs>) -> Error {
+    #[tactic(auto, using(crate::proofs::Errors::step_errors))]
+    pub(crate) fn no_variant(&self, node: Node<'t, 'qs>) -> Error
+        ensures { IsStepError (is_text (node_tree node.entry)) result }
+    {
         match node {
             Node::Value(ParsedValue::String(text)) => {
                 self.reader.unknown_variant(text.as_slice())
@@ -81,11 +98,14 @@ impl<'t, 'qs> TreeFormat<'t, 'qs> {
         }
     }
 
-    /// Returns the error of a key that isn't UTF-8.
+    /// Returns the error of a key of this map that isn't UTF-8.
     #[cold]
     #[inline(never)]
-    pub(crate) fn broken_key(&self) -> Error {
-        match entries_in(self.top).test() {
+    #[tactic(auto, using(crate::proofs::Errors::step_errors))]
+    pub(crate) fn broken_key(&self, map: &ParsedValue<'_>) -> Error
+        ensures { IsStepError (is_text (tree_of map.now)) result }
+    {
+        match entries_in(map).test() {
             Ok(()) => self.no_value(),
             Err(key) => key.into_error(self.reader.alloc),
         }
@@ -116,10 +136,13 @@ impl<'t, 'qs> TreeFormat<'t, 'qs> {
         Error::custom(self.reader.alloc, message, &())
     }
 
-    /// Returns the error of a key or a value, with a hint after that of a key that holds a bracket.
+    /// Returns the error of a key or a value. Where a key holds a bracket it has a hint.
     #[cold]
     #[inline(never)]
-    pub(crate) fn hinted(&self, node: Node<'t, 'qs>, error: Error) -> Error {
+    #[tactic(auto, using(crate::proofs::Errors::step_errors))]
+    pub(crate) fn hinted(&self, node: Node<'t, 'qs>, error: Error) -> Error
+        ensures { (all_text : Bool) → IsStepError all_text error → IsStepError all_text result }
+    {
         if !node.has_bracket() || matches!(error, Error::OutOfMemory) {
             return error;
         }

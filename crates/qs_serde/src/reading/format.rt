@@ -1,8 +1,9 @@
 //! The format: where it is in a tree, and how it moves there.
 
-ghost use Rattle.std.specs.Prelude.{◌≡◌, ◌≢◌, ◌<◌, ◌-◌, ◌++◌, ◌∷◌, [], false, suc, Some, slice_get, OnOk};
+ghost use Rattle.std.specs.Prelude.{◌≡◌, ◌≢◌, ◌<◌, ◌-◌, ◌++◌, ◌∷◌, [], false, suc, true, Some, slice_get, IfErr, OnOk};
 ghost use Rattle.qs_spec.specs.Config.{are_rejected};
 ghost use Rattle.qs_tree.specs.tree.Views.{tree_of};
+ghost use Rattle.qs_serde.specs.Errors.{IsStepError};
 ghost use Rattle.qs_serde.specs.Nodes.{key_tree, node_tree, pairs_in};
 ghost use Rattle.qs_serde.specs.Places.{IsAt, around, child_at, kind_of, last_frame, part_view, passed, tree_at};
 ghost use Rattle.qs_serde.specs.Steps.{Begins, IsPlain, Leaves, Moves, Takes};
@@ -174,7 +175,8 @@ impl<'t, 'qs> TreeFormat<'t, 'qs> {
 
     /// Begins a list or a map of what is next.
     pub(crate) fn open(&mut self, kind: FrameKind) -> Result<()>
-        ensures { OnOk result (Begins self.old kind self.new) }
+        ensures begins { OnOk result (Begins self.old kind self.new) }
+        ensures errors { IfErr result (IsStepError true) }
     {
         self.stack.push(Frame::new(kind))?;
         self.top = self.node;

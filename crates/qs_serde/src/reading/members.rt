@@ -1,7 +1,9 @@
 //! The parts of lists and maps, one after another.
 
-ghost use Rattle.std.specs.Prelude.{◌≡◌, ℕ, ◌≢◌, [], Ok, None, Some, IfOk, IfSome, IfNone, MatchBool, MatchOption, slice_get};
+ghost use Rattle.std.specs.Prelude.{◌≡◌, true, ℕ, ◌≢◌, [], Ok, None, Some, IfErr, IfOk, IfSome, IfNone, MatchBool, MatchOption, slice_get};
 ghost use Rattle.qs_tree.specs.tree.Views.{tree_of};
+ghost use Rattle.qs_data.specs.read.TreeText.{is_text};
+ghost use Rattle.qs_serde.specs.Errors.{IsStepError};
 ghost use Rattle.qs_serde.specs.Nodes.{pairs_in};
 ghost use Rattle.qs_serde.specs.Places.{count_of, kind_of};
 ghost use Rattle.qs_serde.specs.Steps.{Comes, EntryComes, EntryIs, HasNoItem, HasParts, Leaves};
@@ -16,9 +18,10 @@ use serde::Name;
 impl<'t, 'qs> TreeFormat<'t, 'qs> {
     /// Goes to the next item of the innermost list, if there is one. At the end it leaves the list.
     #[inline(always)]
-    #[tactic(auto, using(crate::proofs::Places::item_child))]
+    #[tactic(auto, using(crate::proofs::Places::item_child, crate::proofs::Errors::step_errors))]
     pub(crate) fn go_to_item(&mut self, frame: Frame) -> Result<bool>
-        ensures { kind_of self.old ≡ Some frame.kind → count_of self.old ≡ frame.next → IfOk result (λ b. MatchBool b (Comes self.old self.new) (HasNoItem self.old × Leaves self.old self.new)) }
+        ensures errors { IfErr result (IsStepError true) }
+        ensures step { kind_of self.old ≡ Some frame.kind → count_of self.old ≡ frame.next → IfOk result (λ b. MatchBool b (Comes self.old self.new) (HasNoItem self.old × Leaves self.old self.new)) }
     {
         match item_at(self.reader, self.top, frame.next) {
             Ok(Some(value)) => {
@@ -83,21 +86,25 @@ impl<'t, 'qs> TreeFormat<'t, 'qs> {
     ) -> Result<Option<usize>>
         ensures some { kind_of self.old ≡ Some frame.kind → IfOk result (λ o. IfSome o (λ at. EntryIs frame.next names.now at self.old self.new)) }
         ensures none { IfOk result (λ o. IfNone o ((slice_get (pairs_in (tree_of self.old.top.now)) frame.next ≡ None) × Leaves self.old self.new)) }
+        ensures errors { IfErr result (IsStepError (is_text (tree_of self.old.top.now))) }
     {
+        let map = self.top;
         let Some(key) = self.go_to_entry(frame) else {
             return Ok(None);
         };
         self.part = part;
         match find_node(names, key) {
             Some(at) => Ok(Some(at)),
-            None => Err(self.broken_key()),
+            None => Err(self.broken_key(map)),
         }
     }
 
     /// Goes to the next item of a sequence that is read as a struct, and returns the index of its field. Further items are passed over.
     #[inline(never)]
+    #[tactic(auto, using(crate::proofs::Errors::step_errors))]
     pub(crate) fn go_to_place(&mut self, names: &[Name<'_>], frame: Frame) -> Result<Option<usize>>
-        ensures { kind_of self.old ≡ Some frame.kind → count_of self.old ≡ frame.next → IfOk result (λ o. MatchOption o (Leaves self.old self.new) (λ _. Comes self.old self.new)) }
+        ensures errors { IfErr result (IsStepError (is_text (tree_of self.old.top.now))) }
+        ensures step { kind_of self.old ≡ Some frame.kind → count_of self.old ≡ frame.next → IfOk result (λ o. MatchOption o (Leaves self.old self.new) (λ _. Comes self.old self.new)) }
     {
         let Some(at) = first_name(names, frame.field) else {
             self.leave_list(frame);
@@ -114,6 +121,7 @@ impl<'t, 'qs> TreeFormat<'t, 'qs> {
     /// Goes to the next entry of a struct in the order of its fields, and then to the others, and returns the index of its field.
     #[inline(never)]
     pub(crate) fn go_to_field(&mut self, names: &[Name<'_>], frame: Frame) -> Result<Option<usize>>
+        ensures errors { IfErr result (IsStepError (is_text (tree_of self.old.top.now))) }
         ensures some { kind_of self.old ≡ Some frame.kind → IfOk result (λ o. IfSome o (λ at. (i : ℕ) × EntryIs i names.now at self.old self.new)) }
         ensures none { IfOk result (λ o. IfNone o (Leaves self.old self.new)) }
     {
@@ -169,6 +177,7 @@ impl<'t, 'qs> TreeFormat<'t, 'qs> {
         ensures none { IfOk result (λ o. IfNone o (Leaves self.old self.new)) }
         ensures whole { names.now ≢ [] → IfOk result (λ o. IfNone o (slice_get (pairs_in (tree_of self.old.top.now)) frame.next ≡ None)) }
         ensures end { names.now ≡ [] → result ≡ Ok None }
+        ensures errors { IfErr result (IsStepError (is_text (tree_of self.old.top.now))) }
     {
         if names.is_empty() {
             self.close();
@@ -192,9 +201,11 @@ impl<'t, 'qs> TreeFormat<'t, 'qs> {
         };
     }
 
-    /// Returns as what a struct is begun of what is next. A text holds fields only in a variant, under the empty key.
+    /// Returns as what kind a struct is begun of what is next. A text holds fields only in a variant, under the empty key.
+    #[tactic(auto, using(crate::proofs::Errors::step_errors))]
     pub(crate) fn kind_of_struct(&self) -> Result<FrameKind>
-        ensures { IfOk result (λ kind. HasParts kind (tree_of self.now.node.now)) }
+        ensures kind { IfOk result (λ kind. HasParts kind (tree_of self.now.node.now)) }
+        ensures errors { IfErr result (IsStepError (is_text (tree_of self.now.node.now))) }
     {
         match self.node {
             ParsedValue::NoValue | ParsedValue::Null | ParsedValue::Map(_) => Ok(FrameKind::Fields),

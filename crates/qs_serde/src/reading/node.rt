@@ -2,6 +2,7 @@
 
 ghost use Rattle.std.specs.Prelude.{◌≡◌, ◌<◌, drop, false, true, None, Some, slice_get, option_map, IfOk, IfSome, MatchOption};
 ghost use Rattle.qs_spec.specs.Leaf.Leaf.{Text};
+ghost use Rattle.qs_spec.specs.Node.{keys_are_text};
 ghost use Rattle.qs_spec.specs.Tree.Tree.{leaf};
 ghost use Rattle.qs_tree.specs.tree.Views.{marked_segment_of_key, tree_of};
 ghost use Rattle.qs_data.specs.data.Views.{data_of};
@@ -9,6 +10,7 @@ ghost use Rattle.qs_data.specs.shape.Views.{shape_of};
 ghost use Rattle.qs_data.specs.read.Items.{first_item, items_view};
 ghost use Rattle.qs_data.specs.read.Reads.{reads};
 ghost use Rattle.qs_data.specs.read.Gives.{Gives};
+ghost use Rattle.qs_data.specs.read.Keys.{entries_view};
 ghost use Rattle.qs_data.specs.read.TreeText.{is_text};
 ghost use Rattle.qs_serde.specs.Nodes.{IsEntry, listed, node_tree, pairs_in};
 ghost use Rattle.qs_serde.specs.Places.{child_at, item_or, last_part, value_or};
@@ -109,7 +111,9 @@ fn items_in<'t, 'qs>(value: &'t ParsedValue<'qs>) -> Items<'t, 'qs>
 }
 
 /// Returns the entries of a node that has a map of them.
-pub(crate) fn entries_in<'t, 'qs>(value: &'t ParsedValue<'qs>) -> Entries<'t, 'qs> {
+pub(crate) fn entries_in<'t, 'qs>(value: &'t ParsedValue<'qs>) -> Entries<'t, 'qs>
+    ensures { keys_are_text (entries_view result) ≡ false → is_text (tree_of value.now) ≡ false }
+{
     match value {
         ParsedValue::Map(map) => Entries::Map(map),
         ParsedValue::String(_) => Entries::Leaf(value),

@@ -1,8 +1,11 @@
 //! Numbers.
 
-ghost use Rattle.std.specs.Prelude.{◌≡◌, ◌⊎◌, ◌^◌, ◌≤◌, pos, negsuc, ◌<ℤ◌, IfOk, OnOk};
+ghost use Rattle.std.specs.Prelude.{◌≡◌, IfErr, ◌⊎◌, ◌^◌, ◌≤◌, pos, negsuc, ◌<ℤ◌, IfOk, OnOk};
 ghost use Rattle.qs_spec.specs.Data as d;
 ghost use Rattle.qs_spec.specs.Shape as s;
+ghost use Rattle.qs_data.specs.read.TreeText.{is_text};
+ghost use Rattle.qs_serde.specs.Errors.{IsStepError};
+ghost use Rattle.qs_serde.specs.Places.{tree_at};
 ghost use Rattle.qs_serde.specs.Steps.{HasText, Is, IsPlain, Notes, Takes};
 
 use super::format::{Asked, Search, TreeFormat};
@@ -43,9 +46,11 @@ fn past_signed(width: Width) -> i64 {
 
 impl<'t, 'qs> TreeFormat<'t, 'qs> {
     /// Reads a number with a sign.
+    #[tactic(auto, using(crate::proofs::Errors::step_errors))]
     pub(crate) fn signed(&mut self) -> Result<i64>
         ensures notes { Notes self.old self.new }
         ensures number { IsPlain self.old → IfOk result (λ v. Is self.old (s.Shape.signed 64) (d.signed v)) }
+        ensures errors { IfErr result (IsStepError (is_text (tree_at self.old))) }
     {
         let asked = Asked::Signed(self.part);
         let node = self.take();
@@ -64,9 +69,11 @@ impl<'t, 'qs> TreeFormat<'t, 'qs> {
     }
 
     /// Reads a number without a sign.
+    #[tactic(auto, using(crate::proofs::Errors::step_errors))]
     pub(crate) fn unsigned(&mut self) -> Result<u64>
         ensures notes { Notes self.old self.new }
         ensures number { IsPlain self.old → IfOk result (λ v. Is self.old (s.Shape.unsigned 64) (d.unsigned v)) }
+        ensures errors { IfErr result (IsStepError (is_text (tree_at self.old))) }
     {
         let asked = Asked::Unsigned(self.part);
         let node = self.take();
@@ -85,9 +92,11 @@ impl<'t, 'qs> TreeFormat<'t, 'qs> {
     }
 
     /// Reads a number that 64 bits don't hold.
+    #[tactic(auto, using(crate::proofs::Errors::step_errors))]
     pub(crate) fn wide_unsigned(&mut self) -> Result<u128>
         ensures takes { Takes self.old self.new }
         ensures number { IfOk result (λ n. 2 ^ 64 ≤ n) }
+        ensures errors { IfErr result (IsStepError (is_text (tree_at self.old))) }
     {
         let wide: u128 = self.parsed()?;
         if wide > u64::MAX as u128 {
@@ -98,9 +107,11 @@ impl<'t, 'qs> TreeFormat<'t, 'qs> {
     }
 
     /// Reads a number that 64 bits with a sign don't hold.
+    #[tactic(auto, using(crate::proofs::Errors::step_errors))]
     pub(crate) fn wide_signed(&mut self) -> Result<i128>
         ensures takes { Takes self.old self.new }
         ensures number { IfOk result (λ z. (pos 9223372036854775807 <ℤ z) ⊎ (z <ℤ negsuc 9223372036854775807)) }
+        ensures errors { IfErr result (IsStepError (is_text (tree_at self.old))) }
     {
         let wide: i128 = self.parsed()?;
         if wide > i64::MAX as i128 || wide < i64::MIN as i128 {
@@ -111,11 +122,13 @@ impl<'t, 'qs> TreeFormat<'t, 'qs> {
     }
 
     /// Parses a text as a number that the library has no shape for.
+    #[tactic(auto, using(crate::proofs::Errors::step_errors))]
     pub(crate) fn parsed<T: str::FromStr + Drop>(&mut self) -> Result<T>
     where
         T::Err: Drop,
         ensures takes { Takes self.old self.new }
         ensures text { OnOk result (HasText self.old) }
+        ensures errors { IfErr result (IsStepError (is_text (tree_at self.old))) }
     {
         match self.text()?.as_str().parse::<T>() {
             Ok(value) => Ok(value),

@@ -1,9 +1,12 @@
 //! The steps that serde asks for.
 
-ghost use Rattle.std.specs.Prelude.{◌≡◌, ⊤, IfOk, IsTrue, MatchBool};
+ghost use Rattle.std.specs.Prelude.{◌≡◌, ⊤, true, false, None, slice_range, string_bytes, IfErr, IfOk, OnOk, IsTrue, MatchBool, MatchOption};
 ghost use Rattle.qs_spec.specs.Leaf.Leaf.{NoValue};
 ghost use Rattle.qs_spec.specs.Tree.Tree.{leaf};
-ghost use Rattle.serde.specs.Event.{key_begins, map_ends, nothing, seq_ends};
+ghost use Rattle.serde.specs.Event.{boolean, signed, unsigned, single, double, character, text, octets, key_begins, map_begins, map_ends, nothing, seq_begins, seq_ends};
+ghost use Rattle.qs_tree.specs.tree.Views.{tree_of};
+ghost use Rattle.qs_data.specs.read.TreeText.{is_text};
+ghost use Rattle.qs_serde.specs.Errors.{IsStepError};
 ghost use Rattle.qs_serde.specs.Places.{tree_at};
 ghost use Rattle.qs_serde.specs.Steps.{HasNoEntry, HasNoItem, ComesBack, IsMark, Picks, Reads, Stays, Takes};
 
@@ -17,6 +20,7 @@ use qs_tree::{Error, ParsedValue, Result};
 use serde::{Format, Kind, Name};
 use std::alloc::Global;
 
+#[tactic(auto, using(crate::proofs::Errors::step_errors))]
 impl<'t, 'qs> Format for TreeFormat<'t, 'qs> {
     type Error = Error;
 
@@ -28,7 +32,10 @@ impl<'t, 'qs> Format for TreeFormat<'t, 'qs> {
 
     ghost stays = { Stays };
 
-    fn bool(&mut self, _input: &[u8]) -> Result<bool> {
+    fn bool(&mut self, _input: &[u8]) -> Result<bool>
+        ensures step { IfOk result (λ v. Reads self.old (boolean v) self.new) }
+        ensures errors { IfErr result (IsStepError (is_text (tree_at self.old))) }
+    {
         let read = match self.take() {
             Node::Value(value) => self.reader.boolean(value),
             node => self.read_key(node, &Shape::Bool),
@@ -39,16 +46,25 @@ impl<'t, 'qs> Format for TreeFormat<'t, 'qs> {
         }
     }
 
-    fn i64(&mut self, _input: &[u8]) -> Result<i64> {
+    fn i64(&mut self, _input: &[u8]) -> Result<i64>
+        ensures step { IfOk result (λ v. Reads self.old (signed v) self.new) }
+        ensures errors { IfErr result (IsStepError (is_text (tree_at self.old))) }
+    {
         self.signed()
     }
 
-    fn u64(&mut self, _input: &[u8]) -> Result<u64> {
+    fn u64(&mut self, _input: &[u8]) -> Result<u64>
+        ensures step { IfOk result (λ v. Reads self.old (unsigned v) self.new) }
+        ensures errors { IfErr result (IsStepError (is_text (tree_at self.old))) }
+    {
         self.unsigned()
     }
 
     // What has 64 bits is read as every number is.
-    fn i128(&mut self, _input: &[u8]) -> Result<i128> {
+    fn i128(&mut self, _input: &[u8]) -> Result<i128>
+        ensures step { IfOk result (λ v. Reads self.old (signed v) self.new) }
+        ensures errors { IfErr result (IsStepError (is_text (tree_at self.old))) }
+    {
         let part = self.part;
         match self.signed() {
             Ok(value) => return Ok(i128::from(value)),
@@ -59,7 +75,10 @@ impl<'t, 'qs> Format for TreeFormat<'t, 'qs> {
         self.wide_signed()
     }
 
-    fn u128(&mut self, _input: &[u8]) -> Result<u128> {
+    fn u128(&mut self, _input: &[u8]) -> Result<u128>
+        ensures step { IfOk result (λ v. Reads self.old (unsigned v) self.new) }
+        ensures errors { IfErr result (IsStepError (is_text (tree_at self.old))) }
+    {
         let part = self.part;
         match self.unsigned() {
             Ok(value) => return Ok(u128::from(value)),
@@ -70,15 +89,24 @@ impl<'t, 'qs> Format for TreeFormat<'t, 'qs> {
         self.wide_unsigned()
     }
 
-    fn f32(&mut self, _input: &[u8]) -> Result<f32> {
+    fn f32(&mut self, _input: &[u8]) -> Result<f32>
+        ensures step { IfOk result (λ v. Reads self.old (single v) self.new) }
+        ensures errors { IfErr result (IsStepError (is_text (tree_at self.old))) }
+    {
         self.parsed()
     }
 
-    fn f64(&mut self, _input: &[u8]) -> Result<f64> {
+    fn f64(&mut self, _input: &[u8]) -> Result<f64>
+        ensures step { IfOk result (λ v. Reads self.old (double v) self.new) }
+        ensures errors { IfErr result (IsStepError (is_text (tree_at self.old))) }
+    {
         self.parsed()
     }
 
-    fn char(&mut self, _input: &[u8]) -> Result<char> {
+    fn char(&mut self, _input: &[u8]) -> Result<char>
+        ensures step { IfOk result (λ v. Reads self.old (character v) self.new) }
+        ensures errors { IfErr result (IsStepError (is_text (tree_at self.old))) }
+    {
         match self.by_shape(&Shape::Char)? {
             Data::Char(value) => Ok(value),
             _ => Err(self.no_value()),
@@ -86,7 +114,10 @@ impl<'t, 'qs> Format for TreeFormat<'t, 'qs> {
     }
 
     // The tree doesn't say where its texts stand in the input, so they are searched for.
-    fn plain_str(&mut self, input: &[u8]) -> Result<(usize, usize)> {
+    fn plain_str(&mut self, input: &[u8]) -> Result<(usize, usize)>
+        ensures step { IfOk result (λ r. Reads self.old (text (slice_range input.now r.0 r.1)) self.new) }
+        ensures errors { IfErr result (IsStepError (is_text (tree_at self.old))) }
+    {
         let node = self.take();
         let text = borrowed_text(self.reader, node)?;
         test_utf8(text)?;
@@ -94,25 +125,37 @@ impl<'t, 'qs> Format for TreeFormat<'t, 'qs> {
         Ok(place)
     }
 
-    fn plain_bytes(&mut self, input: &[u8]) -> Result<(usize, usize)> {
+    fn plain_bytes(&mut self, input: &[u8]) -> Result<(usize, usize)>
+        ensures step { IfOk result (λ r. Reads self.old (octets (slice_range input.now r.0 r.1)) self.new) }
+        ensures errors { IfErr result (IsStepError (is_text (tree_at self.old))) }
+    {
         let node = self.take();
         let text = borrowed_text(self.reader, node)?;
         let place = self.place(text, input)?;
         Ok(place)
     }
 
-    fn string(&mut self, _alloc: Global, _input: &[u8]) -> Result<String> {
+    fn string(&mut self, _alloc: Global, _input: &[u8]) -> Result<String>
+        ensures step { IfOk result (λ v. Reads self.old (text (string_bytes v)) self.new) }
+        ensures errors { IfErr result (IsStepError (is_text (tree_at self.old))) }
+    {
         self.text()
     }
 
-    fn byte_buf(&mut self, _alloc: Global, _input: &[u8]) -> Result<Vec<u8>> {
+    fn byte_buf(&mut self, _alloc: Global, _input: &[u8]) -> Result<Vec<u8>>
+        ensures step { IfOk result (λ v. Reads self.old (octets v.items) self.new) }
+        ensures errors { IfErr result (IsStepError (is_text (tree_at self.old))) }
+    {
         match self.by_shape(&Shape::Bytes)? {
             Data::Bytes(bytes) => Ok(bytes),
             _ => Err(self.no_value()),
         }
     }
 
-    fn peek(&mut self, _input: &[u8]) -> Result<Kind> {
+    fn peek(&mut self, _input: &[u8]) -> Result<Kind>
+        ensures step { OnOk result (Stays self.old self.new) }
+        ensures errors { IfErr result (IsStepError true) }
+    {
         match self.part {
             Part::Key => Ok(Kind::Str),
             Part::NoValue => Ok(Kind::Unit),
@@ -137,10 +180,11 @@ impl<'t, 'qs> Format for TreeFormat<'t, 'qs> {
     }
 
     // An empty value is some of what the part reads from no value.
-    #[tactic(auto, unfolding(qs_spec::specs::internal::ReadFunction::reads))]
+    #[tactic(auto, using(crate::proofs::Errors::step_errors), unfolding(qs_spec::specs::internal::ReadFunction::reads))]
     fn take_none(&mut self, _input: &[u8]) -> Result<bool>
         ensures step { IfOk result (λ b. MatchBool b (Reads self.old nothing self.new) (Stays self.old self.new)) }
         ensures none { IfOk result (λ b. IsTrue b → tree_at self.old ≡ leaf NoValue) }
+        ensures errors { IfErr result (IsStepError true) }
     {
         match self.part {
             Part::NoValue => Ok(true),
@@ -157,8 +201,11 @@ impl<'t, 'qs> Format for TreeFormat<'t, 'qs> {
         }
     }
 
-    #[tactic(auto, using(crate::proofs::Places::has_items))]
-    fn begin_seq(&mut self, _input: &[u8]) -> Result<()> {
+    #[tactic(auto, using(crate::proofs::Errors::step_errors, crate::proofs::Places::has_items))]
+    fn begin_seq(&mut self, _input: &[u8]) -> Result<()>
+        ensures step { OnOk result (Reads self.old (seq_begins None) self.new) }
+        ensures errors { IfErr result (IsStepError true) }
+    {
         if self.part == Part::Key {
             return Err(self.no_value());
         }
@@ -170,6 +217,7 @@ impl<'t, 'qs> Format for TreeFormat<'t, 'qs> {
     fn next_item(&mut self, _input: &[u8]) -> Result<bool>
         ensures step { IfOk result (λ b. MatchBool b (Stays self.old self.new) (Reads self.old seq_ends self.new)) }
         ensures end { IfOk result (λ b. MatchBool b ⊤ (HasNoItem self.old)) }
+        ensures errors { IfErr result (IsStepError true) }
     {
         let Some(frame) = self.last() else {
             return Err(self.no_value());
@@ -183,8 +231,11 @@ impl<'t, 'qs> Format for TreeFormat<'t, 'qs> {
         Ok(())
     }
 
-    #[tactic(auto, using(crate::proofs::Places::has_map))]
-    fn begin_map(&mut self, _input: &[u8]) -> Result<()> {
+    #[tactic(auto, using(crate::proofs::Errors::step_errors, crate::proofs::Places::has_map))]
+    fn begin_map(&mut self, _input: &[u8]) -> Result<()>
+        ensures step { OnOk result (Reads self.old (map_begins None) self.new) }
+        ensures errors { IfErr result (IsStepError true) }
+    {
         if self.part == Part::Key {
             return Err(self.no_value());
         }
@@ -204,7 +255,10 @@ impl<'t, 'qs> Format for TreeFormat<'t, 'qs> {
     }
 
     #[inline(always)]
-    fn next_key(&mut self, _input: &[u8], names: &[Name<'_>]) -> Result<Option<usize>> {
+    fn next_key(&mut self, _input: &[u8], names: &[Name<'_>]) -> Result<Option<usize>>
+        ensures step { IfOk result (λ o. MatchOption o (Reads self.old map_ends self.new) (λ at. Picks self.old true names.now at self.new)) }
+        ensures errors { IfErr result (IsStepError (is_text (tree_of self.old.top.now))) }
+    {
         let Some(frame) = self.last() else {
             self.close();
             return Ok(None);
@@ -239,7 +293,10 @@ impl<'t, 'qs> Format for TreeFormat<'t, 'qs> {
         }
     }
 
-    fn variant(&mut self, _input: &[u8], names: &[Name<'_>]) -> Result<usize> {
+    fn variant(&mut self, _input: &[u8], names: &[Name<'_>]) -> Result<usize>
+        ensures step { IfOk result (λ at. Picks self.old false names.now at self.new) }
+        ensures errors { IfErr result (IsStepError (is_text (tree_at self.old))) }
+    {
         let is_key = self.part == Part::Key;
         let node = self.take();
         self.asked = if is_key { Asked::Key } else { Asked::Variant };

@@ -1,0 +1,11 @@
+-- The errors of the steps.
+use Rattle.std.specs.Prelude.{◌≡◌, ⊤, Bool, false}
+use Rattle.qs_tree.specs.declared.error.Error.{Error}
+use Rattle.qs_tree.specs.declared.error.Error.TheVariants.{Custom, Utf8, OutOfMemory}
+
+-- The error is `Custom`, or an allocation failed; or it is `Utf8`, and not all that was read is text.
+abbrev pub IsStepError : Bool → Error → Type 0
+IsStepError all_text (Custom message) = ⊤
+IsStepError all_text (Utf8 cause) = all_text ≡ false
+IsStepError all_text OutOfMemory = ⊤
+IsStepError all_text _ = ⊥

@@ -1,4 +1,5 @@
 pub mod Positions
 pub mod Kept
 pub mod Written
+pub mod Sends
 pub mod Walks

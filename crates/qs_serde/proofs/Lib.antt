@@ -2,4 +2,5 @@ pub mod Positions
 pub mod Kept
 pub mod Written
 pub mod Sends
+pub mod Floats
 pub mod Walks

@@ -8,6 +8,7 @@ pub mod Inputs
 -- Writing: what the events write, and the texts that they have; then, for private clauses, where the code is and what it keeps.
 pub mod Sent
 pub mod Texts
+pub mod Sends
 pub mod Placed
 pub mod Logged
 pub mod Noted

@@ -1,5 +1,5 @@
 -- The texts that events have.
-use Rattle.std.specs.Prelude.{◌≡◌, ⊤, ℕ, false, List, [], ◌∷◌, take, Option, Some, IfSome, string_bytes, Result, Ok, Err, OnOk}
+use Rattle.std.specs.Prelude.{◌≡◌, ⊤, ℕ, Bool, true, false, ◌||◌, List, [], ◌∷◌, take, Option, Some, IfSome, string_bytes, Result, Ok, Err, OnOk}
 use Rattle.std.specs.List.{All}
 use Rattle.std.specs.Io.KnownBytes.{Appends}
 use Rattle.std.specs.declared.string.String.{String}
@@ -22,6 +22,16 @@ IsShown x e = e ≡ x
 abbrev pub AreShown : List Event → List Event → Type 0
 AreShown [] shown = shown ≡ []
 AreShown (e ∷ es) shown = (first : Event) × (rest : List Event) × (shown ≡ first ∷ rest) × IsShown e first × AreShown es rest
+
+-- whether one of them is a float
+abbrev pub is_float : Event → Bool
+is_float (single x) = true
+is_float (double x) = true
+is_float _ = false
+
+abbrev pub has_float : List Event → Bool
+has_float [] = false
+has_float (e ∷ es) = is_float e || has_float es
 
 -- these events lead from the start to this state
 abbrev pub Leads : Config → List Event → State → Type 0

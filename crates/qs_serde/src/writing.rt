@@ -8,5 +8,5 @@ mod position;
 mod serializer;
 mod text;
 
-pub use laws::worked_texts;
+pub use laws::{events_of_data, texts_without_floats, worked_texts};
 pub use text::{Settings, TextSerializer};

@@ -1,10 +1,16 @@
-//! Worked texts: what is written of events.
+//! Laws of writing: the events of data have the text of their entries, and worked texts.
 
-ghost use Rattle.std.specs.Prelude.{◌≡◌, codes, true, [], ◌∷◌, Some, None};
+ghost use Rattle.std.specs.Prelude.{◌≡◌, ℕ, List, codes, false, true, [], ◌∷◌, Some, None};
 ghost use Rattle.qs_spec.specs.Config.{default, empty_indexed, unindexed};
-ghost use Rattle.serde.specs.Event.{boolean, unsigned, text, nothing, unit_variant, seq_begins, seq_ends, map_begins, map_ends, field_key, variant_key, key_begins, key_ends, flattens};
+ghost use Rattle.serde.specs.Event.{Event, boolean, unsigned, text, nothing, unit_variant, seq_begins, seq_ends, map_begins, map_ends, field_key, variant_key, key_begins, key_ends, flattens};
 ghost use Rattle.serde.specs.declared.name.Case.TheVariants.{AsIs, Kebab};
+ghost use Rattle.qs_spec.specs.Config.{Config};
+ghost use Rattle.qs_spec.specs.Data.{Data};
+ghost use Rattle.qs_spec.specs.Entry.{entries};
+ghost use Rattle.qs_spec.specs.Written.{written};
 ghost use Rattle.qs_serde.specs.Sent.{text_of_sent};
+ghost use Rattle.qs_serde.specs.Sends.{AreSaid, sends};
+ghost use Rattle.qs_serde.specs.Texts.{IsTextOf, has_float};
 
 /// The texts of some events, in each format of lists, and events that have none: they go too deep, or are out of order. It does nothing at run time.
 ///
@@ -24,4 +30,22 @@ pub fn worked_texts()
     ensures empty_map { text_of_sent default (map_begins (Some 0) ∷ map_ends ∷ []) ≡ Some [] }
     ensures too_deep { text_of_sent (record default { max_depth = 0 }) (map_begins None ∷ field_key (codes "v") AsIs ∷ seq_begins (Some 1) ∷ unsigned 7 ∷ seq_ends ∷ map_ends ∷ []) ≡ None }
     ensures two_keys { text_of_sent default (map_begins None ∷ field_key (codes "a") AsIs ∷ field_key (codes "b") AsIs ∷ unsigned 1 ∷ map_ends ∷ []) ≡ None }
+{}
+
+/// The events that serde sends for data have the text of the data's entries, if none of these is rejected. It does nothing at run time.
+///
+/// ```
+/// events_of_data(); // its clause is the law
+/// ```
+pub fn events_of_data()
+    ensures { (config : Config) (x : Data) → AreSaid false x → (entries config x).error ≡ None → text_of_sent config (sends x []) ≡ Some (written config.form false (entries config x).entries) }
+{}
+
+/// Events without floats have one text: what [`to_string`](crate::to_string) promises of them is an equation. It does nothing at run time.
+///
+/// ```
+/// texts_without_floats(); // its clause is the law
+/// ```
+pub fn texts_without_floats()
+    ensures { (config : Config) (es : List Event) (bytes : List ℕ) → has_float es ≡ false → IsTextOf config (Some es) bytes → text_of_sent config es ≡ Some bytes }
 {}

@@ -15,6 +15,9 @@
 //! let count = users.id.len(); // 2
 //! ```
 
+ghost use Rattle.qs_serde.specs.Inputs.{ExplainsFrom};
+ghost use Rattle.qs_request.specs.Request.{query_of};
+
 use crate::target::query_text;
 use http_uri::Uri;
 use qs_serde::{Config, PathError, explain_bytes, explain_str};
@@ -40,7 +43,9 @@ pub fn query<'de, T: Deserialize<'de>>(
     alloc: Global,
     uri: &'de Uri,
     config: Config,
-) -> Result<QsQuery<T>, PathError> {
+) -> Result<QsQuery<T>, PathError>
+    ensures { ExplainsFrom config (query_of uri.now) result }
+{
     match explain_str(alloc, config, query_text(uri)) {
         Ok(value) => Ok(QsQuery(value)),
         Err(error) => Err(error),
@@ -62,7 +67,9 @@ pub fn form<'de, T: Deserialize<'de>>(
     alloc: Global,
     body: &'de [u8],
     config: Config,
-) -> Result<QsForm<T>, PathError> {
+) -> Result<QsForm<T>, PathError>
+    ensures { ExplainsFrom config body.now result }
+{
     match explain_bytes(alloc, config, body) {
         Ok(value) => Ok(QsForm(value)),
         Err(error) => Err(error),

@@ -1,7 +1,9 @@
 //! A client, and the server that reads what it wrote.
 
 ghost use Rattle.std.specs.Prelude.{◌≡◌, ℕ, List, IfOk, string_bytes};
-ghost use Rattle.qs_callers.specs.Client.{target_with};
+ghost use Rattle.qs_spec.specs.Config.{default};
+ghost use Rattle.qs_serde.specs.Inputs.{ReturnsFrom};
+ghost use Rattle.qs_callers.specs.Client.{query_behind, target_with};
 
 use qs_serde::{Result, from_str, to_string};
 use serde::{Deserialize, Serialize};
@@ -16,7 +18,9 @@ pub fn target<T: Serialize>(alloc: Global, path: &str, value: &T) -> Result<Stri
 }
 
 /// Returns what a server reads of a request target; without a query, that of the empty one.
-pub fn served<'de, T: Deserialize<'de>>(alloc: Global, target: &'de str) -> Result<T> {
+pub fn served<'de, T: Deserialize<'de>>(alloc: Global, target: &'de str) -> Result<T>
+    ensures { ReturnsFrom default (query_behind target.now) result }
+{
     match target.split_once('?') {
         Some((_path, query)) => from_str(alloc, query),
         None => from_str(alloc, ""),

@@ -1,5 +1,9 @@
 //! An order, as a form posts it.
 
+ghost use Rattle.std.specs.Prelude.{true};
+ghost use Rattle.qs_spec.specs.Config.{default};
+ghost use Rattle.qs_serde.specs.Inputs.{ExplainsFrom};
+
 use qs_serde::{Config, PathError, explain_bytes};
 use serde::{Deserialize, Serialize};
 use std::alloc::Global;
@@ -20,6 +24,8 @@ pub struct Address {
 }
 
 /// Returns the order in a body of the type `application/x-www-form-urlencoded`, or an error that names the field.
-pub fn ordered(alloc: Global, body: &[u8]) -> Result<Order, PathError> {
+pub fn ordered(alloc: Global, body: &[u8]) -> Result<Order, PathError>
+    ensures { ExplainsFrom (record default { form = true }) body.now result }
+{
     explain_bytes(alloc, Config::new().use_form_encoding(true), body)
 }

@@ -112,6 +112,13 @@ def read(shape: Text, query: Text, *, pairs: bool = False, **settings: Unpack[Se
     return _decoded(_result(library.qs_read, _settings(**settings), *_sized(shape), *_sized(query)), pairs)
 
 
+def _text(value: bytes | bytearray) -> str:
+    try:
+        return value.decode()
+    except UnicodeDecodeError as error:
+        raise QuerystringError(NOT_UTF8, error.start, "bytes can only be written where they are UTF-8") from None
+
+
 def _plain(value: Any) -> Any:
     """What is written for a value that the module json doesn't know."""
     if dataclasses.is_dataclass(value) and not isinstance(value, type):
@@ -119,12 +126,12 @@ def _plain(value: Any) -> Any:
     if isinstance(value, enum.Enum):
         return value.value
     if isinstance(value, (bytes, bytearray)):
-        return list(value)
+        return _text(value)
     raise TypeError(f"a {type(value).__name__} can't be written")
 
 
 def write(value: Any, **settings: Unpack[Settings]) -> str:
-    """Returns the querystring that a value is written as: what the module json writes, dataclasses, enums and bytes."""
+    """Returns the querystring that a value is written as: what the module json writes, dataclasses, enums, and bytes that are UTF-8."""
     text = json.dumps(value, default=_plain, ensure_ascii=False, allow_nan=False)
     return _result(library.qs_write, _settings(**settings), *_sized(text)).decode()
 

@@ -105,6 +105,7 @@ class Calls(unittest.TestCase):
         self.assertEqual((copy.status, copy.position, str(copy)), (4, 16, str(caught.exception)))
         self.assertRaises(TypeError, serde_qs.write, {"a": {1, 2}})
         self.assertRaises(ValueError, serde_qs.write, {"a": float("nan")})
+        self.assertRaises(serde_qs.QuerystringError, serde_qs.write, {"a": b"\xff"})
 
     def test_a_number_without_room_is_rejected(self):
         for name in ("max_depth", "array_format"):
@@ -131,7 +132,8 @@ class Shapes(unittest.TestCase):
 
     def test_an_instance_is_read_and_written(self):
         self.assertEqual(serde_qs.read_as(User, QUERY), USER)
-        self.assertEqual(serde_qs.read_as(User, serde_qs.dumps(USER)), USER)
+        written = dataclasses.replace(USER, data="ü".encode())
+        self.assertEqual(serde_qs.read_as(User, serde_qs.dumps(written)), written)
         self.assertEqual(serde_qs.read_as(typing.Dict[bool, typing.List[Address]], "true[0][city]=x&true[0][floor]=-2"), {True: [Address("x", -2)]})
 
     def test_names_are_quoted(self):

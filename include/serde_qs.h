@@ -7,7 +7,7 @@
  * QS_TOO_SMALL   the result has `len` bytes, which is more than `out_size`; `out` is unchanged
  * any other      an error: `len` is the length of its text, which stands at the front of `out` if it fits there
  *
- * No pointer may be null, not even beside a size of 0, and `out` may overlap nothing else that the call is given. */
+ * A pointer beside a size of 0 may be null, and no other. `out` may overlap nothing else that the call is given. */
 #ifndef SERDE_QS_H
 #define SERDE_QS_H
 
@@ -18,6 +18,14 @@
 #ifdef __cplusplus
 extern "C" {
 #endif
+
+/* The version of the library that this header belongs to, and the number of the notation of shapes. A later notation has a higher
+ * number, and reads each shape of this one as the same. */
+#define QS_VERSION_MAJOR 1
+#define QS_VERSION_MINOR 1
+#define QS_VERSION_PATCH 3
+#define QS_NOTATION 1
+#define QS_VERSION ((uint32_t)QS_VERSION_MAJOR << 24 | QS_VERSION_MINOR << 16 | QS_VERSION_PATCH << 8 | QS_NOTATION)
 
 /* The statuses. */
 enum {
@@ -30,7 +38,9 @@ enum {
     QS_NOT_UTF8 = 6,    /* a string that is read isn't UTF-8 */
     QS_BAD_SHAPE = 7,   /* the text of the shape is rejected, at `position` */
     QS_BAD_JSON = 8,    /* the JSON is rejected, at `position` */
-    QS_TOO_DEEP = 9     /* a value nests deeper than `max_depth` */
+    QS_TOO_DEEP = 9,    /* a value nests deeper than `max_depth` */
+    QS_TOO_LARGE = 10,  /* the querystring exceeds `max_length` or `max_pairs` */
+    QS_TOO_LONG = 11    /* the JSON exceeds `max_output` */
 };
 
 /* How the index of a list's element is written. */
@@ -46,9 +56,13 @@ typedef struct {
     bool form;              /* form mode, where brackets may be encoded; else query mode */
     uint8_t array_format;   /* QS_INDEXED, QS_EMPTY_INDEXED or QS_UNINDEXED */
     bool reject_duplicates; /* several values where one is asked for are an error; else the last is taken */
+    size_t max_length;      /* bytes of a querystring that is read, or 0 for any number */
+    size_t max_pairs;       /* its pairs, which are the pieces between its `&`s, or 0 for any number */
+    size_t max_output;      /* bytes of the JSON that is made of it, or 0 for any number */
+    size_t reserved;        /* 0; a later version may give other numbers a meaning */
 } qs_settings;
 
-static const qs_settings qs_default = {5, false, QS_INDEXED, false};
+static const qs_settings qs_default = {5, false, QS_INDEXED, false, 0, 0, 0, 0};
 
 /* What a call says beside its status. */
 typedef struct {
@@ -64,6 +78,12 @@ uint32_t qs_parse(const qs_settings *settings, const uint8_t *input, size_t inpu
 uint32_t qs_read(const qs_settings *settings, const uint8_t *shape, size_t shape_size, const uint8_t *input, size_t input_size,
                  uint8_t *out, size_t out_size, qs_answer *answer);
 
+/* Why the querystring isn't read by a shape, as one line: `user[age]: expected u8, found the text "300"`. It begins with the path to the
+ * part that isn't read, and `position` is the path's length. Where no part is to blame there is no path, and where the querystring is
+ * read no line. */
+uint32_t qs_explain(const qs_settings *settings, const uint8_t *shape, size_t shape_size, const uint8_t *input, size_t input_size,
+                    uint8_t *out, size_t out_size, qs_answer *answer);
+
 /* The querystring that the JSON is written as. */
 uint32_t qs_write(const qs_settings *settings, const uint8_t *json, size_t json_size, uint8_t *out, size_t out_size,
                   qs_answer *answer);
@@ -73,6 +93,9 @@ uint32_t qs_encode(bool form, const uint8_t *bytes, size_t bytes_size, uint8_t *
 
 /* The bytes, decoded. */
 uint32_t qs_decode(const uint8_t *bytes, size_t bytes_size, uint8_t *out, size_t out_size, qs_answer *answer);
+
+/* QS_VERSION of the library. */
+uint32_t qs_version(void);
 
 /* A string literal, and an array of characters, as a call takes them. */
 #define QS_TEXT(text) (const uint8_t *)(text), sizeof(text) - 1

@@ -13,7 +13,7 @@ import json
 import os
 import pathlib
 
-__all__ = ["QuerystringError", "parse", "read", "write", "encode", "decode", "INDEXED", "EMPTY_INDEXED", "UNINDEXED"]
+__all__ = ["QuerystringError", "parse", "read", "explain", "write", "encode", "decode", "INDEXED", "EMPTY_INDEXED", "UNINDEXED"]
 
 # How the index of a list's element is written: a[0]=x, a[]=x or a=x.
 INDEXED, EMPTY_INDEXED, UNINDEXED = range(3)
@@ -36,6 +36,10 @@ class _Settings(ctypes.Structure):
         ("form", ctypes.c_bool),
         ("array_format", ctypes.c_uint8),
         ("reject_duplicates", ctypes.c_bool),
+        ("max_length", ctypes.c_size_t),
+        ("max_pairs", ctypes.c_size_t),
+        ("max_output", ctypes.c_size_t),
+        ("reserved", ctypes.c_size_t),
     ]
 
 
@@ -52,6 +56,7 @@ def _load():
     for call, first in [
         (library.qs_parse, [settings, text, size]),
         (library.qs_read, [settings, text, size, text, size]),
+        (library.qs_explain, [settings, text, size, text, size]),
         (library.qs_write, [settings, text, size]),
         (library.qs_encode, [ctypes.c_bool, text, size]),
         (library.qs_decode, [text, size]),
@@ -73,8 +78,10 @@ def _sized(text):
     return text, len(text)
 
 
-def _result(call, *arguments):
-    """What a call returns, whose last argument is the length of its text. It is made again with enough room where that was too little."""
+def _answered(call, *arguments):
+    """What a call returns, whose last argument is the length of its text, and its position. It is made again with enough room where
+    that was too little.
+    """
     answer = _Answer()
     size = 256 + 2 * arguments[-1]
     while True:
@@ -86,7 +93,12 @@ def _result(call, *arguments):
     text = out.raw[: answer.len]
     if status != OK:
         raise QuerystringError(status, answer.position, text.decode(errors="replace"))
-    return text
+    return text, answer.position
+
+
+def _result(call, *arguments):
+    """What a call returns."""
+    return _answered(call, *arguments)[0]
 
 
 def _number(number):
@@ -94,8 +106,9 @@ def _number(number):
     return number if 0 <= number < 255 else 255
 
 
-def _settings(max_depth=5, form=False, array_format=INDEXED, reject_duplicates=False):
-    return ctypes.byref(_Settings(_number(max_depth), form, _number(array_format), reject_duplicates))
+def _settings(max_depth=5, form=False, array_format=INDEXED, reject_duplicates=False, max_length=0, max_pairs=0, max_output=0):
+    numbers = (max_length, max_pairs, max_output)
+    return ctypes.byref(_Settings(_number(max_depth), form, _number(array_format), reject_duplicates, *numbers))
 
 
 def parse(query, **settings):
@@ -106,6 +119,12 @@ def parse(query, **settings):
 def read(shape, query, **settings):
     """The querystring, read by a shape in the notation of docs/LIBRARY.md."""
     return json.loads(_result(_library.qs_read, _settings(**settings), *_sized(shape), *_sized(query)))
+
+
+def explain(shape, query, **settings):
+    """Why the querystring isn't read by the shape: the path to the part that is to blame, and a line that begins with it; or None."""
+    line, path_len = _answered(_library.qs_explain, _settings(**settings), *_sized(shape), *_sized(query))
+    return (line[:path_len].decode(), line.decode()) if line else None
 
 
 def write(value, **settings):

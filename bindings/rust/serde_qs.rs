@@ -31,6 +31,14 @@ pub struct Settings {
     pub array_format: ArrayFormat,
     /// Whether several values where one is asked for are an error; else the last is taken.
     pub reject_duplicates: bool,
+    /// How many bytes a querystring that is read may have; 0 for any number.
+    pub max_length: usize,
+    /// How many pairs it may have; 0 for any number.
+    pub max_pairs: usize,
+    /// How many bytes the JSON may have that is made of it; 0 for any number.
+    pub max_output: usize,
+    /// 0.
+    pub reserved: usize,
 }
 
 impl Default for Settings {
@@ -40,6 +48,10 @@ impl Default for Settings {
             form: false,
             array_format: ArrayFormat::Indexed,
             reject_duplicates: false,
+            max_length: 0,
+            max_pairs: 0,
+            max_output: 0,
+            reserved: 0,
         }
     }
 }
@@ -77,6 +89,18 @@ pub fn read(settings: &Settings, shape: &str, input: &[u8]) -> Result<String, Er
     })
 }
 
+/// Why the querystring isn't read by the shape: the path to the part that is to blame, and a line that begins with it; or `None`.
+pub fn explain(settings: &Settings, shape: &str, input: &[u8]) -> Result<Option<(String, String)>, Error> {
+    let mut path_len = 0;
+    // SAFETY: each pointer is that of a borrow that lasts for the call.
+    let line = text(input.len(), |out, answer| unsafe {
+        let status = qs_explain(settings, shape.as_ptr(), shape.len(), input.as_ptr(), input.len(), out.as_mut_ptr(), out.len(), answer);
+        path_len = answer.position;
+        status
+    })?;
+    Ok((!line.is_empty()).then(|| (line[..path_len].to_owned(), line)))
+}
+
 /// The querystring that the JSON is written as.
 pub fn write(settings: &Settings, json: &str) -> Result<String, Error> {
     // SAFETY: each pointer is that of a borrow that lasts for the call.
@@ -110,6 +134,16 @@ struct Answer {
 unsafe extern "C" {
     fn qs_parse(settings: *const Settings, input: *const u8, input_size: usize, out: *mut u8, out_size: usize, answer: *mut Answer) -> u32;
     fn qs_read(
+        settings: *const Settings,
+        shape: *const u8,
+        shape_size: usize,
+        input: *const u8,
+        input_size: usize,
+        out: *mut u8,
+        out_size: usize,
+        answer: *mut Answer,
+    ) -> u32;
+    fn qs_explain(
         settings: *const Settings,
         shape: *const u8,
         shape_size: usize,

@@ -27,6 +27,9 @@ class Settings(TypedDict, total=False):
     form: bool
     array_format: int
     reject_duplicates: bool
+    max_length: int
+    max_pairs: int
+    max_output: int
 
 
 class QuerystringError(ValueError):
@@ -54,8 +57,8 @@ def _sized(text: Text) -> tuple[bytes, int]:
     return text, len(text)
 
 
-def _result(call: Any, *arguments: Any) -> bytes:
-    """What a call returns, whose last argument is the length of its text. It is made again with enough room where that was too little."""
+def _answered(call: Any, *arguments: Any) -> tuple[bytes, int]:
+    """What a call returns, whose last argument is the length of its text, and its position. It is made again with enough room if that was too little."""
     answer = Answer()
     size = 256 + 2 * arguments[-1]
     while True:
@@ -67,7 +70,11 @@ def _result(call: Any, *arguments: Any) -> bytes:
     text = out[: answer.len]
     if status != OK:
         raise QuerystringError(status, answer.position, text.decode(errors="replace"))
-    return text
+    return text, answer.position
+
+
+def _result(call: Any, *arguments: Any) -> bytes:
+    return _answered(call, *arguments)[0]
 
 
 def _number(number: int) -> int:
@@ -75,8 +82,14 @@ def _number(number: int) -> int:
     return number if 0 <= number < 255 else 255
 
 
-def _settings(max_depth: int = 5, form: bool = False, array_format: int = INDEXED, reject_duplicates: bool = False) -> _Settings:
-    return _Settings(_number(max_depth), form, _number(array_format), reject_duplicates)
+def _settings(
+    max_depth: int = 5,
+    form: bool = False,
+    array_format: int = INDEXED,
+    reject_duplicates: bool = False,
+    **limits: int,
+) -> _Settings:
+    return _Settings(_number(max_depth), form, _number(array_format), reject_duplicates, **limits)
 
 
 def _dict(pairs: list[tuple[str, Any]]) -> dict[str, Any]:
@@ -117,6 +130,18 @@ def _text(value: bytes | bytearray) -> str:
         return value.decode()
     except UnicodeDecodeError as error:
         raise QuerystringError(NOT_UTF8, error.start, "bytes can only be written where they are UTF-8") from None
+
+
+def explain(shape: Text, query: Text, **settings: Unpack[Settings]) -> tuple[str, str] | None:
+    """Returns why the querystring isn't read by a shape: the path to the part that isn't read, and a line that begins with it; or None.
+
+    The path is empty if no part is to blame.
+
+        >>> explain("{user: {age: u8}}", "user[age]=300")
+        ('user[age]', 'user[age]: expected u8, found the text "300"')
+    """
+    line, path_len = _answered(library.qs_explain, _settings(**settings), *_sized(shape), *_sized(query))
+    return (line[:path_len].decode(), line.decode()) if line else None
 
 
 def _plain(value: Any) -> Any:

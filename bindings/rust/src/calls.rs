@@ -1,6 +1,6 @@
 //! The calls of the library, as `include/serde_qs.h` declares them.
 
-use crate::{Error, ErrorKind, Settings};
+use crate::{Error, ErrorKind, Explanation, Settings};
 
 const OK: u32 = 0;
 const TOO_SMALL: u32 = 1;
@@ -25,6 +25,16 @@ extern "C" {
         out_size: usize,
         answer: *mut Answer,
     ) -> u32;
+    fn qs_explain(
+        settings: *const Settings,
+        shape: *const u8,
+        shape_size: usize,
+        input: *const u8,
+        input_size: usize,
+        out: *mut u8,
+        out_size: usize,
+        answer: *mut Answer,
+    ) -> u32;
     fn qs_write(settings: *const Settings, json: *const u8, json_size: usize, out: *mut u8, out_size: usize, answer: *mut Answer) -> u32;
     fn qs_encode(form: bool, bytes: *const u8, bytes_size: usize, out: *mut u8, out_size: usize, answer: *mut Answer) -> u32;
     fn qs_decode(bytes: *const u8, bytes_size: usize, out: *mut u8, out_size: usize, answer: *mut Answer) -> u32;
@@ -40,6 +50,17 @@ pub(crate) fn read(settings: &Settings, shape: &str, input: &[u8]) -> Result<Str
     text(input.len(), |out, answer| unsafe {
         qs_read(settings, shape.as_ptr(), shape.len(), input.as_ptr(), input.len(), out.as_mut_ptr(), out.len(), answer)
     })
+}
+
+pub(crate) fn explain(settings: &Settings, shape: &str, input: &[u8]) -> Result<Option<Explanation>, Error> {
+    let mut path_len = 0;
+    // SAFETY: each pointer is that of a borrow that lasts for the call.
+    let line = text(input.len(), |out, answer| unsafe {
+        let status = qs_explain(settings, shape.as_ptr(), shape.len(), input.as_ptr(), input.len(), out.as_mut_ptr(), out.len(), answer);
+        path_len = answer.position;
+        status
+    })?;
+    Ok((!line.is_empty()).then(|| Explanation { path_len, line }))
 }
 
 pub(crate) fn write(settings: &Settings, json: &str) -> Result<String, Error> {

@@ -23,6 +23,10 @@ pub enum ErrorKind {
     BadJson = 8,
     /// A value nests deeper than the settings allow.
     TooDeep = 9,
+    /// The querystring has more bytes or pairs than the settings allow.
+    TooLarge = 10,
+    /// The JSON has more bytes than the settings allow.
+    TooLong = 11,
     /// A status that this version of the crate doesn't know.
     Unknown = u32::MAX,
 }
@@ -38,6 +42,8 @@ impl ErrorKind {
             7 => ErrorKind::BadShape,
             8 => ErrorKind::BadJson,
             9 => ErrorKind::TooDeep,
+            10 => ErrorKind::TooLarge,
+            11 => ErrorKind::TooLong,
             _ => ErrorKind::Unknown,
         }
     }

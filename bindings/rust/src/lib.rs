@@ -20,11 +20,13 @@
 
 mod calls;
 mod error;
+mod explanation;
 mod settings;
 #[cfg(feature = "serde")]
 mod typed;
 
 pub use error::{Error, ErrorKind};
+pub use explanation::Explanation;
 pub use settings::{ArrayFormat, Settings};
 #[cfg(feature = "serde")]
 pub use typed::{from_str, to_string};
@@ -59,6 +61,21 @@ pub fn parse(query: impl AsRef<[u8]>) -> Result<String, Error> {
 /// ```
 pub fn read(shape: &str, query: impl AsRef<[u8]>) -> Result<String, Error> {
     Settings::default().read(shape, query)
+}
+
+/// Returns why the querystring isn't read by a shape, or `None` if it is.
+///
+/// # Errors
+///
+/// [`ErrorKind::BadShape`] where the shape isn't one, with its position; [`ErrorKind::OutOfMemory`].
+///
+/// ```
+/// let explanation = serde_qs::explain("{user: {age: u8}}", "user[age]=300")?.unwrap();
+/// assert_eq!(explanation.path(), "user[age]");
+/// # Ok::<(), serde_qs::Error>(())
+/// ```
+pub fn explain(shape: &str, query: impl AsRef<[u8]>) -> Result<Option<Explanation>, Error> {
+    Settings::default().explain(shape, query)
 }
 
 /// Returns the querystring that the JSON is written as.

@@ -1,6 +1,6 @@
 //! How a querystring is read and written.
 
-use crate::{calls, Error};
+use crate::{calls, Error, Explanation};
 
 /// How the index of a list's element is written.
 #[repr(u8)]
@@ -38,6 +38,14 @@ pub struct Settings {
     pub array_format: ArrayFormat,
     /// Whether several values where one is wanted are an error; else the last is taken.
     pub reject_duplicates: bool,
+    /// How many bytes a querystring that is read may have; 0 for any number.
+    pub max_length: usize,
+    /// How many pairs it may have; 0 for any number.
+    pub max_pairs: usize,
+    /// How many bytes the JSON may have that is made of it; 0 for any number.
+    pub max_output: usize,
+    /// 0. A later version may give other numbers a meaning.
+    pub reserved: usize,
 }
 
 impl Default for Settings {
@@ -47,6 +55,10 @@ impl Default for Settings {
             form: false,
             array_format: ArrayFormat::Indexed,
             reject_duplicates: false,
+            max_length: 0,
+            max_pairs: 0,
+            max_output: 0,
+            reserved: 0,
         }
     }
 }
@@ -60,6 +72,11 @@ impl Settings {
     /// Returns the querystring as JSON, read by a shape, as [`read`](crate::read).
     pub fn read(&self, shape: &str, query: impl AsRef<[u8]>) -> Result<String, Error> {
         calls::read(self, shape, query.as_ref())
+    }
+
+    /// Returns why the querystring isn't read by a shape, as [`explain`](crate::explain).
+    pub fn explain(&self, shape: &str, query: impl AsRef<[u8]>) -> Result<Option<Explanation>, Error> {
+        calls::explain(self, shape, query.as_ref())
     }
 
     /// Returns the querystring that the JSON is written as, as [`write`](crate::write).

@@ -20,6 +20,7 @@ use serde::{Case, NameKind};
 use std::fmt::{Display, Write};
 
 /// Keeps an event, of which this was made. After an error nothing comes next.
+#[inline(always)]
 pub(crate) fn keep(
     position: &mut Position,
     log: &mut Log,

@@ -40,16 +40,24 @@ fn a_posted_form(rt: HostRuntime) {
     let alloc = rt.alloc();
     let body =
         b"items%5B%5D=7&address%5Bcity%5D=Carrot+City&name=Acme&items%5B%5D=9&address%5Bstreet%5D=No.+11";
-    is_equal(&rt, ordered(alloc, body).expect(&rt, "an order"), order(&rt, alloc));
-    let error = ordered(alloc, b"name=Acme&address[street]=a&address[city]=b&items[]=7&items[]=x")
-        .expect_err(&rt, "an error");
+    is_equal(
+        &rt,
+        ordered(alloc, body).expect(&rt, "an order"),
+        order(&rt, alloc),
+    );
+    let error = ordered(
+        alloc,
+        b"name=Acme&address[street]=a&address[city]=b&items[]=7&items[]=x",
+    )
+    .expect_err(&rt, "an error");
     is_text(&rt, error.path.as_str(), "items[1]");
 }
 
 #[test]
 fn a_client_and_its_server(rt: HostRuntime) {
     let alloc = rt.alloc();
-    let wanted = "/orders?name=Acme&address[street]=No.+11&address[city]=Carrot+City&items[0]=7&items[1]=9";
+    let wanted =
+        "/orders?name=Acme&address[street]=No.+11&address[city]=Carrot+City&items[0]=7&items[1]=9";
     let sent = order(&rt, alloc);
     gives_text(&rt, target(alloc, "/orders", &sent), wanted);
     is_equal(&rt, served(alloc, wanted).expect(&rt, "an order"), sent);

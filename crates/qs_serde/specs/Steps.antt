@@ -59,10 +59,14 @@ abbrev pub IsHeld : Part → Type 0
 IsHeld p.Held = ⊤
 IsHeld _ = ⊥
 
--- the node has a list, or a map, that is read as this kind
+-- the node has a list
+abbrev pub HasItems : Tree → Type 0
+HasItems t = items t ≡ Some (listed t)
+
+-- the node has a map, or the fields of a struct, that are read as this kind
 abbrev pub HasParts : FrameKind → Tree → Type 0
-HasParts k.Items t = items t ≡ Some (listed t)
-HasParts k.Places t = items t ≡ Some (listed t)
+HasParts k.Items t = ⊥
+HasParts k.Places t = HasItems t
 HasParts k.Fields t = option_map entry_list (node_entries t) ≡ Some (pairs_in t)
 HasParts k.Map t = option_map entry_list (node_entries t) ≡ Some (pairs_in t)
 
@@ -116,7 +120,7 @@ Reads old (character c) new = Takes old new × Is old s.Shape.character (d.chara
 Reads old (text t) new = Takes old new × Is old s.Shape.text (d.text t)
 Reads old (octets t) new = Takes old new × Is old s.Shape.bytes (d.bytes t)
 Reads old nothing new = (new ≡ old) × (Is old s.Shape.unit d.unit ⊎ IsHeld old.part)
-Reads old (seq_begins len) new = Begins old k.Items new × HasParts k.Items (tree_of old.node.now)
+Reads old (seq_begins len) new = Begins old k.Items new × HasItems (tree_of old.node.now)
 Reads old seq_ends new = Leaves old new
 Reads old (map_begins len) new = (kind : FrameKind) × Begins old kind new × HasParts kind (tree_of old.node.now)
 Reads old map_ends new = Leaves old new × (IsPlain old → HasNoEntry old ⊎ MayEndEarly (kind_of old))

@@ -7,7 +7,7 @@
  * is more than `out_size`, and `out` is unchanged. Any other status is an error: `len` is the length of its text, which is at the front
  * of `out` if it fits there.
  *
- * No pointer may be null, not even beside a size of 0, and `out` may overlap nothing else that the call takes.
+ * A pointer beside a size of 0 may be null, and no other. `out` may overlap nothing else that the call takes.
  *
  * The file LIBRARY.md describes the JSON and the notation of shapes. Its folder is docs in the repository, and share/doc/serde_qs where
  * the library is installed. */
@@ -41,7 +41,9 @@ enum {
     QS_NOT_UTF8 = 6,      /* a string that is read isn't UTF-8 */
     QS_BAD_SHAPE = 7,     /* the text of the shape is rejected, at `position` */
     QS_BAD_JSON = 8,      /* the JSON is rejected, at `position` */
-    QS_TOO_DEEP = 9       /* a value nests deeper than `max_depth` */
+    QS_TOO_DEEP = 9,      /* a value nests deeper than `max_depth` */
+    QS_TOO_LARGE = 10,    /* the querystring exceeds `max_length` or `max_pairs` */
+    QS_TOO_LONG = 11      /* the JSON exceeds `max_output` */
 };
 
 /* How the index of a list's element is written. */
@@ -57,9 +59,13 @@ typedef struct {
     bool form;              /* form mode, where brackets may be encoded; else query mode */
     uint8_t array_format;   /* QS_INDEXED, QS_EMPTY_INDEXED or QS_UNINDEXED */
     bool reject_duplicates; /* several values where one is wanted are an error; else the last is taken */
+    size_t max_length;      /* bytes of a querystring that is read, or 0 for any number */
+    size_t max_pairs;       /* its pairs, which are the pieces between its `&`s, or 0 for any number */
+    size_t max_output;      /* bytes of the JSON that is made of it, or 0 for any number */
+    size_t reserved;        /* 0; a later version may give other numbers a meaning */
 } qs_settings;
 
-static const qs_settings qs_default = {5, false, QS_INDEXED, false};
+static const qs_settings qs_default = {5, false, QS_INDEXED, false, 0, 0, 0, 0};
 
 /* What a call says beside its status. */
 typedef struct {
@@ -75,6 +81,12 @@ uint32_t qs_parse(const qs_settings *settings, const uint8_t *input, size_t inpu
 uint32_t qs_read(const qs_settings *settings, const uint8_t *shape, size_t shape_size, const uint8_t *input, size_t input_size,
                  uint8_t *out, size_t out_size, qs_answer *answer);
 
+/* Why the querystring isn't read by a shape, as one line: `user[age]: expected u8, found the text "300"`. It begins with the path to the
+ * part that isn't read, and `position` is the path's length. Where no part is to blame there is no path, and where the querystring is
+ * read no line. */
+uint32_t qs_explain(const qs_settings *settings, const uint8_t *shape, size_t shape_size, const uint8_t *input, size_t input_size,
+                    uint8_t *out, size_t out_size, qs_answer *answer);
+
 /* The querystring that the JSON is written as. */
 uint32_t qs_write(const qs_settings *settings, const uint8_t *json, size_t json_size, uint8_t *out, size_t out_size,
                   qs_answer *answer);
@@ -84,6 +96,9 @@ uint32_t qs_encode(bool form, const uint8_t *bytes, size_t bytes_size, uint8_t *
 
 /* The bytes, decoded: `+` is a space, and `%` with two hexadecimal digits is one byte. */
 uint32_t qs_decode(const uint8_t *bytes, size_t bytes_size, uint8_t *out, size_t out_size, qs_answer *answer);
+
+/* QS_VERSION of the library. */
+uint32_t qs_version(void);
 
 /* A string literal, and an array of characters, as a call takes them: a pointer and a size. */
 #define QS_TEXT(text) (const uint8_t *)(text), sizeof(text) - 1

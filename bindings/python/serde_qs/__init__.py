@@ -10,12 +10,14 @@
 
 `read_as` reads by the hints of a class, as of a dataclass or a TypedDict, and returns an instance.
 
-`parse`, `loads`, `read`, `read_as`, `write` and `dumps` take settings by keyword:
+`parse`, `loads`, `read`, `read_as`, `explain`, `write` and `dumps` take settings by keyword:
 
 - `max_depth=5`: how many levels of brackets may follow the first key, 100 at most.
 - `form=False`: form mode, where brackets may be encoded, as browsers send a form; else query mode.
 - `array_format=INDEXED`: how the index of a list's element is written: `a[0]=x`, with `EMPTY_INDEXED` `a[]=x`, with `UNINDEXED` `a=x`.
 - `reject_duplicates=False`: whether several values where one is wanted are an error; else the last is taken.
+- `max_length=0`, `max_pairs=0`: how many bytes and pairs a querystring that is read may have, and `max_output=0`: how many bytes the JSON
+  that is made of it; 0 for any number.
 
 Each function raises a `QuerystringError`, which is a `ValueError`, and a `TypeError` for an argument that is neither `str` nor bytes.
 """
@@ -29,6 +31,7 @@ from ._calls import (
     decode,
     dumps,
     encode,
+    explain,
     loads,
     parse,
     read,
@@ -45,6 +48,7 @@ __all__ = [
     "decode",
     "dumps",
     "encode",
+    "explain",
     "loads",
     "parse",
     "read",

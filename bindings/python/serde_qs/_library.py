@@ -6,7 +6,7 @@ import ctypes
 import pathlib
 from typing import Any
 
-OK, MISMATCH, NOT_UTF8 = 0, 5, 6
+OK, BAD_SETTINGS, MISMATCH, NOT_UTF8 = 0, 3, 5, 6
 
 
 class Settings(ctypes.Structure):
@@ -15,6 +15,10 @@ class Settings(ctypes.Structure):
         ("form", ctypes.c_bool),
         ("array_format", ctypes.c_uint8),
         ("reject_duplicates", ctypes.c_bool),
+        ("max_length", ctypes.c_size_t),
+        ("max_pairs", ctypes.c_size_t),
+        ("max_output", ctypes.c_size_t),
+        ("reserved", ctypes.c_size_t),
     ]
 
 
@@ -30,6 +34,7 @@ _OUT = [*_TEXT, ctypes.POINTER(Answer)]
 _CALLS: dict[str, list[Any]] = {
     "qs_parse": [*_SETTINGS, *_TEXT],
     "qs_read": [*_SETTINGS, *_TEXT, *_TEXT],
+    "qs_explain": [*_SETTINGS, *_TEXT, *_TEXT],
     "qs_write": [*_SETTINGS, *_TEXT],
     "qs_encode": [ctypes.c_bool, *_TEXT],
     "qs_decode": [*_TEXT],

@@ -25,6 +25,16 @@ extern "C" {
         out_size: usize,
         answer: *mut Answer,
     ) -> u32;
+    fn qs_explain(
+        settings: *const Settings,
+        shape: *const u8,
+        shape_size: usize,
+        input: *const u8,
+        input_size: usize,
+        out: *mut u8,
+        out_size: usize,
+        answer: *mut Answer,
+    ) -> u32;
     fn qs_write(settings: *const Settings, json: *const u8, json_size: usize, out: *mut u8, out_size: usize, answer: *mut Answer) -> u32;
     fn qs_encode(form: bool, bytes: *const u8, bytes_size: usize, out: *mut u8, out_size: usize, answer: *mut Answer) -> u32;
     fn qs_decode(bytes: *const u8, bytes_size: usize, out: *mut u8, out_size: usize, answer: *mut Answer) -> u32;
@@ -40,6 +50,17 @@ pub(crate) fn read(settings: &Settings, shape: &str, input: &[u8]) -> Result<Str
     text(input.len(), |out, answer| unsafe {
         qs_read(settings, shape.as_ptr(), shape.len(), input.as_ptr(), input.len(), out.as_mut_ptr(), out.len(), answer)
     })
+}
+
+pub(crate) fn explain(settings: &Settings, shape: &str, input: &[u8]) -> Result<Option<(String, String)>, Error> {
+    let mut path_len = 0;
+    // SAFETY: each pointer is that of a borrow that lasts for the call.
+    let line = text(input.len(), |out, answer| unsafe {
+        let status = qs_explain(settings, shape.as_ptr(), shape.len(), input.as_ptr(), input.len(), out.as_mut_ptr(), out.len(), answer);
+        path_len = answer.position;
+        status
+    })?;
+    Ok((!line.is_empty()).then(|| (line[..path_len].to_owned(), line)))
 }
 
 pub(crate) fn write(settings: &Settings, json: &str) -> Result<String, Error> {
@@ -73,6 +94,7 @@ fn result(given: usize, mut call: impl FnMut(&mut [u8], &mut Answer) -> u32) -> 
     Err(Error {
         kind: ErrorKind::of_status(status),
         position: answer.position,
+        path: String::new(),
         message: String::from_utf8_lossy(&out).into_owned(),
     })
 }

@@ -61,6 +61,23 @@ pub fn read(shape: &str, query: impl AsRef<[u8]>) -> Result<String, Error> {
     Settings::default().read(shape, query)
 }
 
+/// Returns why the querystring isn't read by the shape: the path to the part that is to blame, and a line that begins with it; `None`
+/// where it is read.
+///
+/// # Errors
+///
+/// [`ErrorKind::BadShape`] where the shape isn't one, with its position; [`ErrorKind::OutOfMemory`].
+///
+/// ```
+/// let (path, line) = serde_qs::explain("{user: {age: u8}}", "user[age]=300")?.unwrap();
+/// assert_eq!(path, "user[age]");
+/// assert_eq!(line, "user[age]: expected u8, found the text \"300\"");
+/// # Ok::<(), serde_qs::Error>(())
+/// ```
+pub fn explain(shape: &str, query: impl AsRef<[u8]>) -> Result<Option<(String, String)>, Error> {
+    Settings::default().explain(shape, query)
+}
+
 /// Returns the querystring that the JSON is written as.
 ///
 /// # Errors

@@ -1,6 +1,6 @@
 //! How a querystring is read and written.
 
-use crate::{calls, Error};
+use crate::{calls, Error, ErrorKind};
 
 /// How the index of a list's element is written.
 #[repr(u8)]
@@ -17,8 +17,9 @@ pub enum ArrayFormat {
 
 /// How a querystring is read and written. The default reads five levels of brackets in query mode, and takes the last of several values.
 ///
-/// Each method is as the function of its name, and has one more error: [`ErrorKind::BadSettings`](crate::ErrorKind::BadSettings)
-/// where `max_depth` is more than 100.
+/// Each method is as the function of its name, and has more errors: [`ErrorKind::BadSettings`](crate::ErrorKind::BadSettings) where
+/// `max_depth` is more than 100, and where a limit is set [`ErrorKind::TooLarge`](crate::ErrorKind::TooLarge) and
+/// [`ErrorKind::TooLong`](crate::ErrorKind::TooLong).
 ///
 /// ```
 /// use serde_qs::Settings;
@@ -38,6 +39,14 @@ pub struct Settings {
     pub array_format: ArrayFormat,
     /// Whether several values where one is wanted are an error; else the last is taken.
     pub reject_duplicates: bool,
+    /// How many bytes a querystring that is read may have; 0 for any number.
+    pub max_length: usize,
+    /// How many pairs it may have; 0 for any number.
+    pub max_pairs: usize,
+    /// How many bytes the JSON may have that is made of it; 0 for any number.
+    pub max_output: usize,
+    /// 0.
+    pub reserved: usize,
 }
 
 impl Default for Settings {
@@ -47,6 +56,10 @@ impl Default for Settings {
             form: false,
             array_format: ArrayFormat::Indexed,
             reject_duplicates: false,
+            max_length: 0,
+            max_pairs: 0,
+            max_output: 0,
+            reserved: 0,
         }
     }
 }
@@ -59,7 +72,22 @@ impl Settings {
 
     /// Returns the querystring as JSON, read by a shape, as [`read`](crate::read).
     pub fn read(&self, shape: &str, query: impl AsRef<[u8]>) -> Result<String, Error> {
-        calls::read(self, shape, query.as_ref())
+        let query = query.as_ref();
+        calls::read(self, shape, query).map_err(|error| self.with_path(shape, query, error))
+    }
+
+    fn with_path(&self, shape: &str, query: &[u8], mut error: Error) -> Error {
+        if let ErrorKind::Mismatch | ErrorKind::NotUtf8 = error.kind {
+            if let Ok(Some((path, _))) = calls::explain(self, shape, query) {
+                error.path = path;
+            }
+        }
+        error
+    }
+
+    /// Returns why the querystring isn't read by the shape, as [`explain`](crate::explain).
+    pub fn explain(&self, shape: &str, query: impl AsRef<[u8]>) -> Result<Option<(String, String)>, Error> {
+        calls::explain(self, shape, query.as_ref())
     }
 
     /// Returns the querystring that the JSON is written as, as [`write`](crate::write).

@@ -1,5 +1,5 @@
-/* A line of a table of calls: a call, its settings, a shape and a text, with tabs between them. The settings are `query` or `form`, and
- * words after a blank: `depth=N`, `empty` or `unindexed`, `reject`. */
+/* A line of a table of calls: a call, its settings, a shape and a text, with tabs between them. The settings are `query` or
+ * `form`, and words after a blank: `depth=N`, `empty` or `unindexed`, `reject`, `length=N`, `pairs=N` and `output=N`. */
 #include <serde_qs.h>
 #include <stdlib.h>
 #include <string.h>
@@ -28,6 +28,12 @@ static qs_settings settings_of(char *words) {
             settings.reject_duplicates = true;
         else if (strncmp(word, "depth=", 6) == 0)
             settings.max_depth = strtoul(word + 6, NULL, 10);
+        else if (strncmp(word, "length=", 7) == 0)
+            settings.max_length = strtoul(word + 7, NULL, 10);
+        else if (strncmp(word, "pairs=", 6) == 0)
+            settings.max_pairs = strtoul(word + 6, NULL, 10);
+        else if (strncmp(word, "output=", 7) == 0)
+            settings.max_output = strtoul(word + 7, NULL, 10);
     }
     return settings;
 }
@@ -48,13 +54,20 @@ static qs_call call_of(char *line) {
     return call;
 }
 
+/* The bytes of a text; of the empty one the null pointer, which each call takes. */
+static inline const uint8_t *bytes_of(const char *text, size_t len) {
+    return len == 0 ? NULL : (const uint8_t *)text;
+}
+
 /* Makes the call with so many bytes of its shape and of its text. */
 static inline uint32_t make_sized(const qs_call *call, size_t shape_len, size_t len, uint8_t *out, size_t size, qs_answer *answer) {
-    const uint8_t *text = (const uint8_t *)call->text, *shape = (const uint8_t *)call->shape;
+    const uint8_t *text = bytes_of(call->text, len), *shape = bytes_of(call->shape, shape_len);
     if (strcmp(call->name, "parse") == 0)
         return qs_parse(&call->settings, text, len, out, size, answer);
     if (strcmp(call->name, "read") == 0)
         return qs_read(&call->settings, shape, shape_len, text, len, out, size, answer);
+    if (strcmp(call->name, "explain") == 0)
+        return qs_explain(&call->settings, shape, shape_len, text, len, out, size, answer);
     if (strcmp(call->name, "write") == 0)
         return qs_write(&call->settings, text, len, out, size, answer);
     if (strcmp(call->name, "encode") == 0)

@@ -1,7 +1,7 @@
 """Makes the call of each line of the standard input, and prints its status, its position and its text.
 
-A line is a call, its settings, a shape and a text, with tabs between them. The settings are `query` or `form`, and words after a
-blank: `depth=N`, `empty` or `unindexed`, `reject`.
+A line is a call, its settings, a shape and a text, with tabs between them. The settings are `query` or `form`, and words
+after a blank: `depth=N`, `empty` or `unindexed`, `reject`, `length=N`, `pairs=N` and `output=N`.
 """
 
 import json
@@ -22,8 +22,8 @@ WORDS = {
 def settings_of(words):
     settings = {}
     for word in words.split(" "):
-        name, _, number = word.partition("depth=")
-        settings.update(WORDS[name] if name else {"max_depth": int(number)})
+        name, _, number = word.partition("=")
+        settings.update({f"max_{name}": int(number)} if number else WORDS[name])
     return settings
 
 
@@ -34,11 +34,15 @@ def compact(value):
 for line in sys.stdin:
     call, words, shape, text = line.rstrip("\n").split("\t")
     settings = settings_of(words)
+    position = 0
     try:
         if call == "parse":
             result = compact(serde_qs.parse(text, **settings))
         elif call == "read":
             result = compact(serde_qs.read(shape, text, **settings))
+        elif call == "explain":
+            path, result = serde_qs.explain(shape, text, **settings) or ("", "")
+            position = len(path)
         elif call == "write":
             # the module json would take what isn't JSON no further
             result = _calls._result(_calls.library.qs_write, _calls._settings(**settings), *_calls._sized(text)).decode()
@@ -46,6 +50,6 @@ for line in sys.stdin:
             result = serde_qs.encode(text, **settings)
         else:
             result = serde_qs.decode(text).decode()
-        print(f"0\t0\t{result}")
+        print(f"0\t{position}\t{result}")
     except serde_qs.QuerystringError as error:
         print(f"{error.status}\t{error.position}\t{error}")

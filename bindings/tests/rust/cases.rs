@@ -1,6 +1,6 @@
 //! Makes the call of each line of the standard input, and prints its status, its position and its text.
-//! A line is a call, its settings, a shape and a text, with tabs between them. The settings are `query` or `form`, and words after a
-//! blank: `depth=N`, `empty` or `unindexed`, `reject`.
+//! A line is a call, its settings, a shape and a text, with tabs between them. The settings are `query` or `form`, and words
+//! after a blank: `depth=N`, `empty` or `unindexed`, `reject`, `length=N`, `pairs=N` and `output=N`.
 
 use serde_qs::{ArrayFormat, Settings, decode};
 
@@ -13,8 +13,14 @@ fn settings_of(words: &str) -> Settings {
             "unindexed" => settings.array_format = ArrayFormat::Unindexed,
             "reject" => settings.reject_duplicates = true,
             _ => {
-                if let Some(depth) = word.strip_prefix("depth=") {
-                    settings.max_depth = depth.parse().expect("a depth is a number");
+                if let Some((name, number)) = word.split_once('=') {
+                    let number = number.parse().expect("a limit is a number");
+                    match name {
+                        "depth" => settings.max_depth = number,
+                        "length" => settings.max_length = number,
+                        "pairs" => settings.max_pairs = number,
+                        _ => settings.max_output = number,
+                    }
                 }
             }
         }
@@ -30,15 +36,21 @@ fn main() {
             panic!("a line has four fields: {line}");
         };
         let settings = settings_of(words);
+        let mut position = 0;
         let result = match call {
             "parse" => settings.parse(text),
             "read" => settings.read(shape, text),
+            "explain" => settings.explain(shape, text).map(|explanation| {
+                let (path, line) = explanation.unwrap_or_default();
+                position = path.len();
+                line
+            }),
             "write" => settings.write(text),
             "encode" => settings.encode(text),
             _ => decode(text).map(|bytes| String::from_utf8_lossy(&bytes).into_owned()),
         };
         match result {
-            Ok(text) => println!("0\t0\t{text}"),
+            Ok(text) => println!("0\t{position}\t{text}"),
             Err(error) => println!("{}\t{}\t{error}", error.kind() as u32, error.position()),
         }
     }

@@ -1,7 +1,9 @@
 pub mod Composed
 pub mod Found
 mod Levels
+pub mod LineStarts
 pub mod Listing
 pub mod Messages
+pub mod Outcomes
 pub mod Stopping
 pub mod Unwritten

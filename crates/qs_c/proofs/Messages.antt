@@ -59,6 +59,9 @@ unread kind.NotUtf8 position config shape input text w m is = is
 unread kind.Shape position config shape input text w m is = absurd w
 unread kind.Json position config shape input text w m is = absurd w
 unread kind.TooDeep position config shape input text w m is = absurd w
+unread kind.TooLarge position config shape input text w m is = absurd w
+unread kind.TooLong position config shape input text w m is = absurd w
+unread kind.Absent position config shape input text w m is = absurd w
 
 pub failure_unread : (failure : Failure) (error : Error) (config : Config) (shape : Shape) (input : List ℕ)
     → IsFailureOf failure error → MemoryHasNoText failure → WhyUnread (kind_of error) (position_of error) config shape input → SaysUnread failure.kind failure.position (text_of failure)
@@ -73,20 +76,23 @@ failure_unread failure error config shape input (inr is) m w =
       is_text = is.2;
     })
 
-not_read : (k : FailureKind) (position : ℕ) (settings : Settings) (text : List ℕ) → SaysUnread k position text → SaysNotRead k position settings text
-not_read kind.OutOfMemory position settings text is = is
-not_read kind.Settings position settings text is = absurd is
-not_read kind.Parse position settings text is = is
-not_read kind.Mismatch position settings text is = is
-not_read kind.NotUtf8 position settings text is = is
-not_read kind.Shape position settings text is = absurd is
-not_read kind.Json position settings text is = absurd is
-not_read kind.TooDeep position settings text is = absurd is
+not_read : (k : FailureKind) (position : ℕ) (settings : Settings) (input text : List ℕ) → SaysUnread k position text → SaysNotRead k position settings input text
+not_read kind.OutOfMemory position settings input text is = is
+not_read kind.Settings position settings input text is = absurd is
+not_read kind.Parse position settings input text is = is
+not_read kind.Mismatch position settings input text is = is
+not_read kind.NotUtf8 position settings input text is = is
+not_read kind.Shape position settings input text is = absurd is
+not_read kind.Json position settings input text is = absurd is
+not_read kind.TooDeep position settings input text is = absurd is
+not_read kind.TooLarge position settings input text is = absurd is
+not_read kind.TooLong position settings input text is = is
+not_read kind.Absent position settings input text is = is
 
-pub read_result : {A : Type 0} (r : Result A Failure) (settings : Settings)
-    → IfErr r (λ failure. SaysUnread failure.kind failure.position (text_of failure)) → IfErr r (λ failure. SaysNotRead failure.kind failure.position settings (text_of failure))
-read_result (Ok a) settings h = tt
-read_result (Err failure) settings h = not_read failure.kind failure.position settings (text_of failure) h
+pub read_result : {A : Type 0} (r : Result A Failure) (settings : Settings) (input : List ℕ)
+    → IfErr r (λ failure. SaysUnread failure.kind failure.position (text_of failure)) → IfErr r (λ failure. SaysNotRead failure.kind failure.position settings input (text_of failure))
+read_result (Ok a) settings input h = tt
+read_result (Err failure) settings input h = not_read failure.kind failure.position settings input (text_of failure) h
 
 -- of data that aren't written, by the error
 module _ (failure : Failure) (n : ℕ) where
@@ -114,6 +120,9 @@ not_written kind.NotUtf8 settings json text is = absurd is
 not_written kind.Shape settings json text is = absurd is
 not_written kind.Json settings json text is = absurd is
 not_written kind.TooDeep settings json text is = is
+not_written kind.TooLarge settings json text is = absurd is
+not_written kind.TooLong settings json text is = absurd is
+not_written kind.Absent settings json text is = absurd is
 
 pub failure_unwritten : (failure : Failure) (error : Error) (config : Config) (settings : Settings) (json : List ℕ)
     → config ≡ config_of settings → IsFailureOf failure error → MemoryHasNoText failure → IsUnwritten config.max_depth error → SaysNotWritten failure.kind settings json (text_of failure)

@@ -3,7 +3,9 @@
 pub mod Answer
 pub mod Classes
 pub mod Errors
+pub mod Explained
 pub mod Found
+pub mod Limits
 pub mod Messages
 pub mod Notation
 pub mod Outcomes

@@ -1,5 +1,5 @@
 -- What the text of an error says.
-use Rattle.std.specs.Prelude.{◌≡◌, ⊤, ℕ, nat_lt, cond, List, [], codes}
+use Rattle.std.specs.Prelude.{◌≡◌, ⊤, ℕ, nat_lt, cond, List, [], length, codes}
 use Rattle.std.specs.Str.{is_utf8}
 use Rattle.qs_tree.specs.Error.{error_text}
 use Rattle.qs_tree.specs.declared.error.Error.{Error}
@@ -8,6 +8,7 @@ use Rattle.qs_c.specs.declared.failure.FailureKind.{FailureKind}
 use Rattle.qs_c.specs.declared.failure.FailureKind.TheVariants as kind
 use Rattle.qs_c.specs.declared.settings.Settings.{Settings}
 use Rattle.qs_c.specs.Errors.{kind_of, position_of, IsTextOf}
+use Rattle.qs_c.specs.Limits.{is_beyond}
 use Rattle.qs_c.specs.Settings.{most_levels}
 
 -- of an array format that is none
@@ -16,7 +17,19 @@ array_format_text = codes "array_format is none of 0, 1 and 2"
 
 -- of settings that are none: the depth comes first
 abbrev pub settings_text : Settings → List ℕ
-settings_text s = cond (nat_lt most_levels s.max_depth) (codes "max_depth is more than 100") array_format_text
+settings_text s = cond (nat_lt most_levels s.max_depth) (codes "max_depth is more than 100") (cond (nat_lt 0 s.reserved) (codes "reserved is not 0") array_format_text)
+
+-- of a querystring that is too large: its length comes first
+abbrev pub too_large_text : Settings → List ℕ → List ℕ
+too_large_text s input = cond (is_beyond s.max_length (length input)) (codes "the querystring has more bytes than max_length") (codes "the querystring has more pairs than max_pairs")
+
+-- of JSON that is too long
+abbrev pub too_long_text : List ℕ
+too_long_text = codes "the JSON has more bytes than max_output"
+
+-- of a path to nothing
+abbrev pub absent_text : List ℕ
+absent_text = codes "nothing stands at the path"
 
 -- of a text that isn't read as JSON
 abbrev pub not_json_text : List ℕ → List ℕ
@@ -35,13 +48,16 @@ SaysUnread kind.OutOfMemory position text = text ≡ []
 SaysUnread kind.Parse position text = IsErrorText kind.Parse position text
 SaysUnread kind.Mismatch position text = IsErrorText kind.Mismatch position text
 SaysUnread kind.NotUtf8 position text = IsErrorText kind.NotUtf8 position text
+SaysUnread kind.TooLong position text = text ≡ too_long_text
+SaysUnread kind.Absent position text = text ≡ absent_text
 SaysUnread _ position text = ⊥
 
 -- the same where the settings may be none; of a shape that is none `IsNoNotation` says the text
-abbrev pub SaysNotRead : FailureKind → ℕ → Settings → List ℕ → Type 0
-SaysNotRead kind.Settings position settings text = text ≡ settings_text settings
-SaysNotRead kind.Shape position settings text = ⊤
-SaysNotRead k position settings text = SaysUnread k position text
+abbrev pub SaysNotRead : FailureKind → ℕ → Settings → List ℕ → List ℕ → Type 0
+SaysNotRead kind.Settings position settings input text = text ≡ settings_text settings
+SaysNotRead kind.TooLarge position settings input text = text ≡ too_large_text settings input
+SaysNotRead kind.Shape position settings input text = ⊤
+SaysNotRead k position settings input text = SaysUnread k position text
 
 -- what the text of an error of this kind says of data that are written
 abbrev pub SaysUnwritten : FailureKind → ℕ → List ℕ → Type 0

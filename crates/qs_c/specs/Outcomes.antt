@@ -13,6 +13,7 @@ use Rattle.qs_spec.specs.Written.{written}
 use Rattle.qs_c.specs.declared.failure.FailureKind.{FailureKind}
 use Rattle.qs_c.specs.declared.failure.FailureKind.TheVariants as kind
 use Rattle.qs_c.specs.declared.settings.Settings.{Settings}
+use Rattle.qs_c.specs.Limits.{IsBeyond, IsTooLarge}
 use Rattle.qs_c.specs.Notation.{IsNotation, IsNoNotation}
 use Rattle.qs_c.specs.Settings.{config_of, AreNone}
 use Rattle.qs_c.specs.Shown.{json_text}
@@ -46,17 +47,24 @@ WhyUnread kind.Mismatch position config shape input = (position ≡ 0) × IsUnre
 WhyUnread kind.NotUtf8 position config shape input = (position ≡ 0) × IsUnread config shape input
 WhyUnread _ position config shape input = ⊥
 
+-- the same where the JSON is made that may have so many bytes
+abbrev pub WhyNoJson : FailureKind → ℕ → Config → (most : ℕ) → Shape → List ℕ → Type 0
+WhyNoJson kind.TooLong position config most shape input = (position ≡ 0) × ((text : List ℕ) × IsRead config shape input text × IsBeyond most (length text))
+WhyNoJson k position config most shape input = WhyUnread k position config shape input
+
 -- the same where it is read as whatever is there
 abbrev pub WhyNotParsed : FailureKind → ℕ → Settings → List ℕ → Type 0
 WhyNotParsed kind.Settings position settings input = (position ≡ 0) × AreNone settings
-WhyNotParsed k position settings input = WhyUnread k position (config_of settings) any input
+WhyNotParsed kind.TooLarge position settings input = (position ≡ 0) × IsTooLarge settings input
+WhyNotParsed k position settings input = WhyNoJson k position (config_of settings) settings.max_output any input
 
 -- the same where it is read by the shape that this text is
 abbrev pub WhyNotRead : FailureKind → ℕ → Settings → List ℕ → List ℕ → Type 0
 WhyNotRead kind.OutOfMemory position settings notation input = position ≡ 0
 WhyNotRead kind.Settings position settings notation input = (position ≡ 0) × AreNone settings
+WhyNotRead kind.TooLarge position settings notation input = (position ≡ 0) × IsTooLarge settings input
 WhyNotRead kind.Shape position settings notation input = (reason : List ℕ) × IsNoNotation notation reason position
-WhyNotRead k position settings notation input = (shape : Shape) × IsNotation notation shape × WhyUnread k position (config_of settings) shape input
+WhyNotRead k position settings notation input = (shape : Shape) × IsNotation notation shape × WhyNoJson k position (config_of settings) settings.max_output shape input
 
 -- the JSON is data whose entries are written as the text
 pub record IsWritten (config : Config) (json text : List ℕ) : Type 0 where

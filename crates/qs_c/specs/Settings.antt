@@ -27,4 +27,4 @@ config_of s = record {
 
 -- a number in the settings is too large
 abbrev pub AreNone : Settings → Type 0
-AreNone s = (most_levels < s.max_depth) ⊎ (2 < s.array_format)
+AreNone s = (most_levels < s.max_depth) ⊎ ((0 < s.reserved) ⊎ (2 < s.array_format))

@@ -4,7 +4,7 @@ use Rattle.std.specs.declared.alloc.Global.{Global}
 use Rattle.std.specs.declared.string.String.{String}
 use Rattle.qs_c.specs.declared.failure.Failure.{Failure}
 use Rattle.qs_c.specs.declared.failure.FailureKind.{FailureKind}
-use Rattle.qs_c.specs.declared.failure.FailureKind.TheVariants.{OutOfMemory, Settings, Parse, Mismatch, NotUtf8, Shape, Json, TooDeep}
+use Rattle.qs_c.specs.declared.failure.FailureKind.TheVariants.{OutOfMemory, Settings, Parse, Mismatch, NotUtf8, Shape, Json, TooDeep, TooLarge, TooLong, Absent}
 
 -- of each kind of error
 abbrev pub code_of : FailureKind → ℕ
@@ -16,6 +16,9 @@ code_of NotUtf8 = 6
 code_of Shape = 7
 code_of Json = 8
 code_of TooDeep = 9
+code_of TooLarge = 10
+code_of TooLong = 11
+code_of Absent = 12
 
 -- the call found what it was asked for, whether that fits in the caller's buffer (0) or not (1)
 abbrev pub IsDone : ℕ → Type 0
@@ -24,6 +27,10 @@ IsDone status = status < 2
 -- The settings are none, or an allocation failed.
 abbrev pub IsStoppedEarly : ℕ → Type 0
 IsStoppedEarly status = (status ≡ 3) ⊎ (status ≡ 2)
+
+-- The same, or the querystring is too large.
+abbrev pub IsHeldBack : ℕ → Type 0
+IsHeldBack status = IsStoppedEarly status ⊎ (status ≡ 10)
 
 -- an error's text, of which one has none
 abbrev pub text_or_none : Option (String Global) → List ℕ

@@ -22,6 +22,17 @@ pub struct Answer {
     pub position: usize,
 }
 
+/// Returns the bytes that a caller gives. Where there are none, the caller's pointer, which may be null, goes no further.
+pub(crate) fn given(bytes: &[u8]) -> &[u8]
+    ensures { result.now ≡ bytes.now }
+{
+    if bytes.is_empty() {
+        b"".as_slice()
+    } else {
+        bytes
+    }
+}
+
 /// Copies the bytes to the front of `out`, where they fit there, and returns the status.
 pub(crate) fn give(text: &[u8], out: &mut [u8], answer: &mut Answer) -> u32
     ensures text { IsHandedOut text.now out.old out.new result answer.new.len }

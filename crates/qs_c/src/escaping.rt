@@ -5,7 +5,7 @@ ghost use Rattle.qs_spec.specs.Escape.{decoded, encoded};
 ghost use Rattle.qs_c.specs.Answer.{IsHandedOut, LeavesNothing};
 ghost use Rattle.qs_c.specs.Status.{IsDone};
 
-use crate::answer::{Answer, fail, give};
+use crate::answer::{Answer, fail, give, given};
 use crate::failure::Failure;
 use qs_tree::{decode, encode};
 use std::alloc::Global;
@@ -26,7 +26,7 @@ pub extern "C" fn qs_decode(alloc: Global, bytes: &[u8], out: &mut [u8], answer:
     ensures errors { IsDone result ⊎ (result ≡ 2) }
     ensures memory { result ≡ 2 → LeavesNothing out.old out.new answer.new }
 {
-    match decode(alloc, bytes) {
+    match decode(alloc, given(bytes)) {
         Ok(text) => give(text.as_slice(), out, answer),
         Err(_) => fail(Failure::out_of_memory(), out, answer),
     }
@@ -54,7 +54,7 @@ pub extern "C" fn qs_encode(
     ensures memory { result ≡ 2 → LeavesNothing out.old out.new answer.new }
 {
     let mut text = Vec::new(alloc);
-    match encode(bytes, form, &mut text) {
+    match encode(given(bytes), form, &mut text) {
         Ok(()) => give(&text, out, answer),
         Err(_) => fail(Failure::out_of_memory(), out, answer),
     }

@@ -24,6 +24,12 @@ pub(crate) enum FailureKind {
     Json,
     /// A value nests deeper than the settings allow.
     TooDeep,
+    /// The querystring is larger than the settings allow.
+    TooLarge,
+    /// The JSON is longer than the settings allow.
+    TooLong,
+    /// Nothing stands at the path.
+    Absent,
 }
 
 impl FailureKind {
@@ -41,6 +47,9 @@ impl FailureKind {
             FailureKind::Shape => 7,
             FailureKind::Json => 8,
             FailureKind::TooDeep => 9,
+            FailureKind::TooLarge => 10,
+            FailureKind::TooLong => 11,
+            FailureKind::Absent => 12,
         }
     }
 }

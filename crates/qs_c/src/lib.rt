@@ -7,12 +7,15 @@
 mod answer;
 mod errors;
 pub mod escaping;
+pub mod explaining;
 mod failure;
+mod limits;
 mod notation;
 pub mod reading;
 mod settings;
 mod showing;
 mod taking;
+pub mod version;
 pub mod writing;
 
 pub use answer::Answer;

@@ -1,6 +1,6 @@
 //! Reading.
 
-ghost use Rattle.std.specs.Prelude.{◌≡◌, true, List, ℕ, IfOk, IfErr};
+ghost use Rattle.std.specs.Prelude.{◌≡◌, true, List, ℕ, length, IfOk, IfErr};
 ghost use Rattle.std.specs.Str.{IsUtf8};
 ghost use Rattle.qs_spec.specs.Shape.{is_distinct};
 ghost use Rattle.qs_spec.specs.Shape.Shape.{any};
@@ -8,17 +8,19 @@ ghost use Rattle.qs_data.specs.data.Views.{data_of};
 ghost use Rattle.qs_data.specs.shape.Views.{shape_of};
 ghost use Rattle.qs_c.specs.Answer.{IsHandedOut, IsLaidOut, LeavesNothing};
 ghost use Rattle.qs_c.specs.Errors.{kind_of, position_of};
+ghost use Rattle.qs_c.specs.Limits.{IsBeyond, IsTooLarge};
 ghost use Rattle.qs_c.specs.Messages.{SaysNotRead, SaysUnread};
 ghost use Rattle.qs_c.specs.Notation.{IsNoNotation};
-ghost use Rattle.qs_c.specs.Outcomes.{IsRead, IsReadBy, IsReadByText, WhyNotParsed, WhyNotRead, WhyUnread};
+ghost use Rattle.qs_c.specs.Outcomes.{IsRead, IsReadBy, IsReadByText, WhyNoJson, WhyNotParsed, WhyNotRead, WhyUnread};
 ghost use Rattle.qs_c.specs.Settings.{config_of, AreNone};
-ghost use Rattle.qs_c.specs.Status.{code_of, text_of, IsDone, IsStoppedEarly, MemoryHasNoText};
+ghost use Rattle.qs_c.specs.Status.{code_of, text_of, IsDone, IsHeldBack, IsStoppedEarly, MemoryHasNoText};
 ghost use Rattle.qs_c.specs.declared.failure.FailureKind.{FailureKind};
 ghost use Rattle.qs_c.specs.declared.failure.FailureKind.TheVariants as kind;
 
-use crate::answer::{Answer, fail, give};
+use crate::answer::{Answer, fail, give, given};
 use crate::errors::failure_of;
 use crate::failure::Failure;
+use crate::limits::test_output;
 use crate::notation::shape_of_text;
 use crate::settings::Settings;
 use crate::showing::to_json;
@@ -34,6 +36,8 @@ use std::alloc::Global;
 /// - 3: a number in the settings is too large.
 /// - 4: the querystring has no tree. The position is how many bytes were parsed, and one more where the end was reached.
 /// - 5 or 6: it has one, from which nothing is read.
+/// - 10: it is larger than the settings allow. That is tested before it is parsed.
+/// - 11: its JSON is longer than the settings allow.
 ///
 /// It allocates for the tree, the data and the JSON, and frees them before it returns. The time grows with the input and the JSON.
 ///
@@ -52,12 +56,14 @@ pub extern "C" fn qs_parse(
         × IsHandedOut text out.old out.new result answer.new.len }
     ensures position { IsDone result → answer.new.position ≡ 0 }
     ensures failed { (IsDone result → ⊥) → (kind : FailureKind) × (result ≡ code_of kind) × WhyNotParsed kind answer.new.position settings.now input.now }
-    ensures message { (IsDone result → ⊥) → (kind : FailureKind) × (text : List ℕ) × (result ≡ code_of kind) × SaysNotRead kind answer.new.position settings.now text
+    ensures message { (IsDone result → ⊥) → (kind : FailureKind) × (text : List ℕ) × (result ≡ code_of kind) × SaysNotRead kind answer.new.position settings.now input.now text
         × IsUtf8 text × IsLaidOut text out.old out.new answer.new.len }
     ensures memory { result ≡ 2 → LeavesNothing out.old out.new answer.new }
     ensures settings { AreNone settings.now → IsStoppedEarly result }
+    ensures limits { IsTooLarge settings.now input.now → IsHeldBack result }
+    ensures longest { IsDone result → IsBeyond settings.now.max_output answer.new.len → ⊥ }
 {
-    match parsed(alloc, settings, input) {
+    match parsed(alloc, settings, given(input)) {
         Ok(text) => give(&text, out, answer),
         Err(failure) => fail(failure, out, answer),
     }
@@ -87,13 +93,15 @@ pub extern "C" fn qs_read(
         × IsHandedOut text out.old out.new result answer.new.len }
     ensures position { IsDone result → answer.new.position ≡ 0 }
     ensures failed { (IsDone result → ⊥) → (kind : FailureKind) × (result ≡ code_of kind) × WhyNotRead kind answer.new.position settings.now shape.now input.now }
-    ensures message { (IsDone result → ⊥) → (kind : FailureKind) × (text : List ℕ) × (result ≡ code_of kind) × SaysNotRead kind answer.new.position settings.now text
+    ensures message { (IsDone result → ⊥) → (kind : FailureKind) × (text : List ℕ) × (result ≡ code_of kind) × SaysNotRead kind answer.new.position settings.now input.now text
         × IsUtf8 text × IsLaidOut text out.old out.new answer.new.len }
     ensures memory { result ≡ 2 → LeavesNothing out.old out.new answer.new }
     ensures settings { AreNone settings.now → IsStoppedEarly result }
+    ensures limits { IsTooLarge settings.now input.now → IsHeldBack result }
+    ensures longest { IsDone result → IsBeyond settings.now.max_output answer.new.len → ⊥ }
     ensures reason { result ≡ code_of kind.Shape → (reason : List ℕ) × IsNoNotation shape.now reason answer.new.position × IsLaidOut reason out.old out.new answer.new.len }
 {
-    match read(alloc, settings, shape, input) {
+    match read(alloc, settings, given(shape), given(input)) {
         Ok(text) => give(&text, out, answer),
         Err(failure) => fail(failure, out, answer),
     }
@@ -104,13 +112,17 @@ pub extern "C" fn qs_read(
 fn parsed(alloc: Global, settings: &Settings, input: &[u8]) -> Result<Vec<u8>, Failure>
     ensures text { IfOk result (λ text. IsRead (config_of settings.now) any input.now text.items) }
     ensures none { IfErr result (λ failure. WhyNotParsed failure.kind failure.position settings.now input.now) }
-    ensures says { IfErr result (λ failure. SaysNotRead failure.kind failure.position settings.now (text_of failure)) }
+    ensures says { IfErr result (λ failure. SaysNotRead failure.kind failure.position settings.now input.now (text_of failure)) }
     ensures memory { IfErr result MemoryHasNoText }
     ensures sound { IfOk result (λ text. AreNone settings.now → ⊥) }
     ensures early { IfErr result (λ failure. AreNone settings.now → IsStoppedEarly (code_of failure.kind)) }
+    ensures within { IfOk result (λ text. IsTooLarge settings.now input.now → ⊥) }
+    ensures held { IfErr result (λ failure. IsTooLarge settings.now input.now → IsHeldBack (code_of failure.kind)) }
+    ensures longest { IfOk result (λ text. IsBeyond settings.now.max_output (length text.items) → ⊥) }
 {
     let config = settings.config(alloc)?;
-    read_json(alloc, config, &Shape::Any, input)
+    settings.test_input(alloc, input)?;
+    read_json(alloc, config, settings.max_output, &Shape::Any, input)
 }
 
 // Returns the JSON of what the shape in the notation reads.
@@ -118,28 +130,39 @@ fn parsed(alloc: Global, settings: &Settings, input: &[u8]) -> Result<Vec<u8>, F
 fn read(alloc: Global, settings: &Settings, shape: &[u8], input: &[u8]) -> Result<Vec<u8>, Failure>
     ensures text { IfOk result (λ text. IsReadByText (config_of settings.now) shape.now input.now text.items) }
     ensures none { IfErr result (λ failure. WhyNotRead failure.kind failure.position settings.now shape.now input.now) }
-    ensures says { IfErr result (λ failure. SaysNotRead failure.kind failure.position settings.now (text_of failure)) }
+    ensures says { IfErr result (λ failure. SaysNotRead failure.kind failure.position settings.now input.now (text_of failure)) }
     ensures memory { IfErr result MemoryHasNoText }
     ensures sound { IfOk result (λ text. AreNone settings.now → ⊥) }
     ensures early { IfErr result (λ failure. AreNone settings.now → IsStoppedEarly (code_of failure.kind)) }
+    ensures within { IfOk result (λ text. IsTooLarge settings.now input.now → ⊥) }
+    ensures held { IfErr result (λ failure. IsTooLarge settings.now input.now → IsHeldBack (code_of failure.kind)) }
+    ensures longest { IfOk result (λ text. IsBeyond settings.now.max_output (length text.items) → ⊥) }
     ensures reason { IfErr result (λ failure. failure.kind ≡ kind.Shape → IsNoNotation shape.now (text_of failure) failure.position) }
 {
     let config = settings.config(alloc)?;
+    settings.test_input(alloc, input)?;
     let shape = shape_of_text(alloc, shape)?;
-    read_json(alloc, config, &shape, input)
+    read_json(alloc, config, settings.max_output, &shape, input)
 }
 
-// Returns the JSON of the data that the shape reads.
+// Returns the JSON of the data that the shape reads, unless it has more bytes than the limit, which 0 lifts.
 #[tactic(auto, using(crate::proofs::Messages::failure_unread))]
-fn read_json(alloc: Global, config: Config, shape: &Shape, input: &[u8]) -> Result<Vec<u8>, Failure>
+fn read_json(
+    alloc: Global,
+    config: Config,
+    most: usize,
+    shape: &Shape,
+    input: &[u8],
+) -> Result<Vec<u8>, Failure>
     requires { is_distinct (shape_of shape.now) ≡ true }
     ensures text { IfOk result (λ text. IsRead config (shape_of shape.now) input.now text.items) }
-    ensures none { IfErr result (λ failure. WhyUnread failure.kind failure.position config (shape_of shape.now) input.now) }
+    ensures none { IfErr result (λ failure. WhyNoJson failure.kind failure.position config most (shape_of shape.now) input.now) }
     ensures says { IfErr result (λ failure. SaysUnread failure.kind failure.position (text_of failure)) }
     ensures memory { IfErr result MemoryHasNoText }
+    ensures longest { IfOk result (λ text. IsBeyond most (length text.items) → ⊥) }
 {
     match read_data(alloc, config, shape, input) {
-        Ok(datum) => Ok(to_json(alloc, &datum)?),
+        Ok(datum) => test_output(alloc, most, to_json(alloc, &datum)?),
         Err(error) => Err(failure_of(alloc, error)),
     }
 }

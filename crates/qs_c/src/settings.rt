@@ -17,7 +17,8 @@ const MOST_DEPTH: usize = 100;
 /// How a querystring is read and written.
 ///
 /// ```
-/// qs_settings settings = {5, false, QS_EMPTY_INDEXED, true}; // a[]=x&a[]=y
+/// qs_settings settings = qs_default;
+/// settings.array_format = QS_EMPTY_INDEXED; // a[]=x&a[]=y
 /// ```
 #[repr(C)]
 #[derive(Drop)]
@@ -30,6 +31,14 @@ pub struct Settings {
     pub array_format: u8,
     /// Whether several values where one is asked for are an error; else the last one is taken.
     pub reject_duplicates: bool,
+    /// How many bytes a querystring that is read may have; 0 for any number.
+    pub max_length: usize,
+    /// How many pairs it may have, which are the pieces between its `&`s; 0 for any number.
+    pub max_pairs: usize,
+    /// How many bytes the JSON may have that is made of it; 0 for any number.
+    pub max_output: usize,
+    /// 0. A later version may give another number a meaning.
+    pub reserved: usize,
 }
 
 impl Settings {
@@ -47,6 +56,9 @@ impl Settings {
                 "max_depth is more than 100",
                 0,
             ));
+        }
+        if self.reserved != 0 {
+            return Err(failure_at(alloc, FailureKind::Settings, "reserved is not 0", 0));
         }
         let array_format = self.elements(alloc)?;
         Ok(

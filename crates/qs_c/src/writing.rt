@@ -14,7 +14,7 @@ ghost use Rattle.qs_c.specs.internal.Unwritten.{IsUnwritten};
 ghost use Rattle.qs_c.specs.Status.{code_of, text_of as message_of, IsDone, IsStoppedEarly, MemoryHasNoText};
 ghost use Rattle.qs_c.specs.declared.failure.FailureKind.{FailureKind};
 
-use crate::answer::{Answer, fail, give};
+use crate::answer::{Answer, fail, give, given};
 use crate::errors::failure_of;
 use crate::failure::Failure;
 use crate::settings::Settings;
@@ -55,7 +55,7 @@ pub extern "C" fn qs_write(
     ensures memory { result ≡ 2 → LeavesNothing out.old out.new answer.new }
     ensures settings { AreNone settings.now → IsStoppedEarly result }
 {
-    match written(alloc, settings, json) {
+    match written(alloc, settings, given(json)) {
         Ok(text) => give(&text, out, answer),
         Err(failure) => fail(failure, out, answer),
     }

@@ -1,0 +1,46 @@
+-- What an explanation says as a line, and why there is none.
+use Rattle.std.specs.Prelude.{◌≡◌, ℕ, false, List, [], ◌++◌, length, map, Option, Some, None, Ok}
+use Rattle.std.specs.declared.alloc.AllocError.{AllocError}
+use Rattle.qs_spec.specs.Config.{Config}
+use Rattle.qs_spec.specs.Segment.{segment_text}
+use Rattle.qs_spec.specs.Shape.{Shape}
+use Rattle.qs_spec.specs.Written.{path_text}
+use Rattle.qs_explain.specs.Explains.{Explains, ExplainsUnread, path_of}
+use Rattle.qs_explain.specs.declared.explanation.Explanation.{Explanation}
+use Rattle.qs_explain.specs.declared.explanation.Explanation.TheVariants.{Mismatch}
+use Rattle.qs_c.specs.declared.failure.FailureKind.{FailureKind}
+use Rattle.qs_c.specs.declared.failure.FailureKind.TheVariants as kind
+use Rattle.qs_c.specs.declared.settings.Settings.{Settings}
+use Rattle.qs_c.specs.Limits.{IsTooLarge}
+use Rattle.qs_c.specs.Notation.{IsNotation, IsNoNotation}
+use Rattle.qs_c.specs.Settings.{AreNone}
+
+-- The line begins with the path, which has so many bytes.
+pub record StartsWith (path line : List ℕ) (len : ℕ) : Type 0 where
+  pub len_is : len ≡ length path
+  pub rest : List ℕ
+  pub text : line ≡ path ++ rest
+
+-- Of a part that isn't read the line begins with the path to it, as it is written in a key. Otherwise there is no path, and of an input
+-- that is read no line.
+abbrev pub IsLine : Option Explanation → List ℕ → ℕ → Type 0
+IsLine None line len = (line ≡ []) × (len ≡ 0)
+IsLine (Some (Mismatch m)) line len = StartsWith (path_text false (map segment_text (path_of m))) line len
+IsLine (Some _) line len = len ≡ 0
+
+-- The line is that of the explanation why the shape that this text is doesn't read the input.
+pub record IsExplained (config : Config) (notation input line : List ℕ) (len : ℕ) : Type 0 where
+  pub shape : Shape
+  pub is_shape : IsNotation notation shape
+  pub explanation : Option Explanation
+  pub explains : Explains {E = AllocError} config shape input (Ok explanation)
+  pub related : ExplainsUnread {E = AllocError} config shape input (Ok explanation)
+  pub is_line : IsLine explanation line len
+
+-- what an error of this kind at this position says where there is no explanation
+abbrev pub WhyNotExplained : FailureKind → ℕ → Settings → List ℕ → List ℕ → Type 0
+WhyNotExplained kind.OutOfMemory position settings notation input = position ≡ 0
+WhyNotExplained kind.Settings position settings notation input = (position ≡ 0) × AreNone settings
+WhyNotExplained kind.TooLarge position settings notation input = (position ≡ 0) × IsTooLarge settings input
+WhyNotExplained kind.Shape position settings notation input = (reason : List ℕ) × IsNoNotation notation reason position
+WhyNotExplained _ position settings notation input = ⊥

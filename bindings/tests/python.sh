@@ -50,8 +50,8 @@ try_form() {
     for way in "${ways[@]}"; do
         ask "$name, $way" 200 'Anne & Co., 31, of Oslo: a@x.org, b@x.org' \
             $way --data-urlencode 'user[name]=Anne & Co.' -d 'user%5Bage%5D=31' -d 'user[address][city]=Oslo' -d 'user[emails][]=a@x.org' -d 'user[emails][]=b@x.org'
-        ask "$name, $way, an age of 300" 400 'invalid type: string, expected u8' $way -d 'user[name]=A' -d 'user%5Bage%5D=300'
-        ask "$name, $way, no name" 400 'missing field `name`' $way -d 'user%5Bage%5D=30'
+        ask "$name, $way, an age of 300" 400 'user[age]: invalid type: string, expected u8' $way -d 'user[name]=A' -d 'user%5Bage%5D=300'
+        ask "$name, $way, no name" 400 'user[name]: missing field `name`' $way -d 'user%5Bage%5D=30'
     done
     kill "$server"
     wait "$server" 2>/dev/null

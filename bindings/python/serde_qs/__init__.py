@@ -16,8 +16,8 @@
 - `form=False`: form mode, where brackets may be encoded, as browsers send a form; else query mode.
 - `array_format=INDEXED`: how the index of a list's element is written: `a[0]=x`, with `EMPTY_INDEXED` `a[]=x`, with `UNINDEXED` `a=x`.
 - `reject_duplicates=False`: whether several values where one is wanted are an error; else the last is taken.
-- `max_length=0`, `max_pairs=0`, `max_output=0`: how many bytes and pairs a querystring that is read may have, and how many bytes the JSON that is made
-  of it; 0 for any number.
+- `max_length=0`, `max_pairs=0`: how many bytes and pairs a querystring that is read may have, and `max_output=0`: how many bytes the JSON
+  that is made of it; 0 for any number.
 
 Each function raises a `QuerystringError`, which is a `ValueError`, and a `TypeError` for an argument that is neither `str` nor bytes.
 """

@@ -9,7 +9,7 @@ import enum
 import json
 from typing import TYPE_CHECKING, Any, TypedDict, Union
 
-from ._library import MISMATCH, NOT_UTF8, OK, Answer, library
+from ._library import BAD_SETTINGS, MISMATCH, NOT_UTF8, OK, Answer, library
 from ._library import Settings as _Settings
 
 if TYPE_CHECKING:
@@ -33,10 +33,14 @@ class Settings(TypedDict, total=False):
 
 
 class QuerystringError(ValueError):
-    """An error of the library: its status as the header has it, and where it is in what was given."""
+    """An error of the library: its status as the header has it, and where it is in what was given.
+
+    Of a querystring that a shape doesn't read, `path` is the path to the part that is to blame, as `user[age]`, if there is one.
+    """
 
     def __init__(self, status: int, position: int, message: str) -> None:
         super().__init__(status, position, message)
+        self.path = ""
         self.status = status
         self.position = position
         self.message = message or "out of memory"
@@ -58,7 +62,9 @@ def _sized(text: Text) -> tuple[bytes, int]:
 
 
 def _answered(call: Any, *arguments: Any) -> tuple[bytes, int]:
-    """What a call returns, whose last argument is the length of its text, and its position. It is made again with enough room if that was too little."""
+    """What a call returns, whose last argument is the length of its text, and its position. It is made again with enough room where
+    that was too little.
+    """
     answer = Answer()
     size = 256 + 2 * arguments[-1]
     while True:
@@ -74,6 +80,7 @@ def _answered(call: Any, *arguments: Any) -> tuple[bytes, int]:
 
 
 def _result(call: Any, *arguments: Any) -> bytes:
+    """What a call returns."""
     return _answered(call, *arguments)[0]
 
 
@@ -82,14 +89,23 @@ def _number(number: int) -> int:
     return number if 0 <= number < 255 else 255
 
 
+def _limit(number: int) -> int:
+    if not 0 <= number < 1 << 64:
+        raise QuerystringError(BAD_SETTINGS, 0, f"a limit can't be {number}")
+    return number
+
+
 def _settings(
     max_depth: int = 5,
     form: bool = False,
     array_format: int = INDEXED,
     reject_duplicates: bool = False,
-    **limits: int,
+    max_length: int = 0,
+    max_pairs: int = 0,
+    max_output: int = 0,
 ) -> _Settings:
-    return _Settings(_number(max_depth), form, _number(array_format), reject_duplicates, **limits)
+    limits = map(_limit, (max_length, max_pairs, max_output))
+    return _Settings(_number(max_depth), form, _number(array_format), reject_duplicates, *limits)
 
 
 def _dict(pairs: list[tuple[str, Any]]) -> dict[str, Any]:
@@ -122,7 +138,21 @@ def read(shape: Text, query: Text, *, pairs: bool = False, **settings: Unpack[Se
 
     A shape is text in the library's notation, or what `shape_of` returns for a class.
     """
-    return _decoded(_result(library.qs_read, _settings(**settings), *_sized(shape), *_sized(query)), pairs)
+    try:
+        text = _result(library.qs_read, _settings(**settings), *_sized(shape), *_sized(query))
+    except QuerystringError as error:
+        if error.status in (MISMATCH, NOT_UTF8):
+            error.path, _ = explain(shape, query, **settings) or ("", "")
+        raise
+    return _decoded(text, pairs)
+
+
+def explain(shape: Text, query: Text, **settings: Unpack[Settings]) -> tuple[str, str] | None:
+    """Returns why the querystring isn't read by the shape: the path to the part that is to blame, and a line that begins with it; None
+    where it is read.
+    """
+    line, path_len = _answered(library.qs_explain, _settings(**settings), *_sized(shape), *_sized(query))
+    return (line[:path_len].decode(), line.decode()) if line else None
 
 
 def _text(value: bytes | bytearray) -> str:
@@ -130,18 +160,6 @@ def _text(value: bytes | bytearray) -> str:
         return value.decode()
     except UnicodeDecodeError as error:
         raise QuerystringError(NOT_UTF8, error.start, "bytes can only be written where they are UTF-8") from None
-
-
-def explain(shape: Text, query: Text, **settings: Unpack[Settings]) -> tuple[str, str] | None:
-    """Returns why the querystring isn't read by a shape: the path to the part that isn't read, and a line that begins with it; or None.
-
-    The path is empty if no part is to blame.
-
-        >>> explain("{user: {age: u8}}", "user[age]=300")
-        ('user[age]', 'user[age]: expected u8, found the text "300"')
-    """
-    line, path_len = _answered(library.qs_explain, _settings(**settings), *_sized(shape), *_sized(query))
-    return (line[:path_len].decode(), line.decode()) if line else None
 
 
 def _plain(value: Any) -> Any:

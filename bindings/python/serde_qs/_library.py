@@ -6,7 +6,7 @@ import ctypes
 import pathlib
 from typing import Any
 
-OK, MISMATCH, NOT_UTF8 = 0, 5, 6
+OK, BAD_SETTINGS, MISMATCH, NOT_UTF8 = 0, 3, 5, 6
 
 
 class Settings(ctypes.Structure):

@@ -1,6 +1,6 @@
 //! The calls of the library, as `include/serde_qs.h` declares them.
 
-use crate::{Error, ErrorKind, Explanation, Settings};
+use crate::{Error, ErrorKind, Settings};
 
 const OK: u32 = 0;
 const TOO_SMALL: u32 = 1;
@@ -52,7 +52,7 @@ pub(crate) fn read(settings: &Settings, shape: &str, input: &[u8]) -> Result<Str
     })
 }
 
-pub(crate) fn explain(settings: &Settings, shape: &str, input: &[u8]) -> Result<Option<Explanation>, Error> {
+pub(crate) fn explain(settings: &Settings, shape: &str, input: &[u8]) -> Result<Option<(String, String)>, Error> {
     let mut path_len = 0;
     // SAFETY: each pointer is that of a borrow that lasts for the call.
     let line = text(input.len(), |out, answer| unsafe {
@@ -60,7 +60,7 @@ pub(crate) fn explain(settings: &Settings, shape: &str, input: &[u8]) -> Result<
         path_len = answer.position;
         status
     })?;
-    Ok((!line.is_empty()).then(|| Explanation { path_len, line }))
+    Ok((!line.is_empty()).then(|| (line[..path_len].to_owned(), line)))
 }
 
 pub(crate) fn write(settings: &Settings, json: &str) -> Result<String, Error> {
@@ -94,6 +94,7 @@ fn result(given: usize, mut call: impl FnMut(&mut [u8], &mut Answer) -> u32) -> 
     Err(Error {
         kind: ErrorKind::of_status(status),
         position: answer.position,
+        path: String::new(),
         message: String::from_utf8_lossy(&out).into_owned(),
     })
 }

@@ -23,9 +23,9 @@ pub enum ErrorKind {
     BadJson = 8,
     /// A value nests deeper than the settings allow.
     TooDeep = 9,
-    /// The querystring has more bytes or pairs than the settings allow.
+    /// The querystring exceeds `max_length` or `max_pairs`.
     TooLarge = 10,
-    /// The JSON has more bytes than the settings allow.
+    /// The JSON exceeds `max_output`.
     TooLong = 11,
     /// A status that this version of the crate doesn't know.
     Unknown = u32::MAX,
@@ -60,6 +60,7 @@ impl ErrorKind {
 pub struct Error {
     pub(crate) kind: ErrorKind,
     pub(crate) position: usize,
+    pub(crate) path: String,
     pub(crate) message: String,
 }
 
@@ -72,6 +73,16 @@ impl Error {
     /// Returns where the error is in what was given: how many bytes come before it. It is 0 where its kind has no position.
     pub fn position(&self) -> usize {
         self.position
+    }
+
+    /// Returns the path to the part of the querystring that a shape doesn't read. It is empty where no part is to blame.
+    ///
+    /// ```
+    /// let error = serde_qs::read("{user: {age: u8}}", "user[age]=300").unwrap_err();
+    /// assert_eq!(error.path(), "user[age]");
+    /// ```
+    pub fn path(&self) -> &str {
+        &self.path
     }
 }
 

@@ -20,13 +20,11 @@
 
 mod calls;
 mod error;
-mod explanation;
 mod settings;
 #[cfg(feature = "serde")]
 mod typed;
 
 pub use error::{Error, ErrorKind};
-pub use explanation::Explanation;
 pub use settings::{ArrayFormat, Settings};
 #[cfg(feature = "serde")]
 pub use typed::{from_str, to_string};
@@ -63,18 +61,20 @@ pub fn read(shape: &str, query: impl AsRef<[u8]>) -> Result<String, Error> {
     Settings::default().read(shape, query)
 }
 
-/// Returns why the querystring isn't read by a shape, or `None` if it is.
+/// Returns why the querystring isn't read by the shape: the path to the part that is to blame, and a line that begins with it; `None`
+/// where it is read.
 ///
 /// # Errors
 ///
 /// [`ErrorKind::BadShape`] where the shape isn't one, with its position; [`ErrorKind::OutOfMemory`].
 ///
 /// ```
-/// let explanation = serde_qs::explain("{user: {age: u8}}", "user[age]=300")?.unwrap();
-/// assert_eq!(explanation.path(), "user[age]");
+/// let (path, line) = serde_qs::explain("{user: {age: u8}}", "user[age]=300")?.unwrap();
+/// assert_eq!(path, "user[age]");
+/// assert_eq!(line, "user[age]: expected u8, found the text \"300\"");
 /// # Ok::<(), serde_qs::Error>(())
 /// ```
-pub fn explain(shape: &str, query: impl AsRef<[u8]>) -> Result<Option<Explanation>, Error> {
+pub fn explain(shape: &str, query: impl AsRef<[u8]>) -> Result<Option<(String, String)>, Error> {
     Settings::default().explain(shape, query)
 }
 

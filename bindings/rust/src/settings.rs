@@ -1,6 +1,6 @@
 //! How a querystring is read and written.
 
-use crate::{calls, Error, Explanation};
+use crate::{calls, Error, ErrorKind};
 
 /// How the index of a list's element is written.
 #[repr(u8)]
@@ -17,8 +17,9 @@ pub enum ArrayFormat {
 
 /// How a querystring is read and written. The default reads five levels of brackets in query mode, and takes the last of several values.
 ///
-/// Each method is as the function of its name, and has one more error: [`ErrorKind::BadSettings`](crate::ErrorKind::BadSettings)
-/// where `max_depth` is more than 100.
+/// Each method is as the function of its name, and has more errors: [`ErrorKind::BadSettings`](crate::ErrorKind::BadSettings) where
+/// `max_depth` is more than 100, and where a limit is set [`ErrorKind::TooLarge`](crate::ErrorKind::TooLarge) and
+/// [`ErrorKind::TooLong`](crate::ErrorKind::TooLong).
 ///
 /// ```
 /// use serde_qs::Settings;
@@ -44,7 +45,7 @@ pub struct Settings {
     pub max_pairs: usize,
     /// How many bytes the JSON may have that is made of it; 0 for any number.
     pub max_output: usize,
-    /// 0. A later version may give other numbers a meaning.
+    /// 0.
     pub reserved: usize,
 }
 
@@ -71,11 +72,21 @@ impl Settings {
 
     /// Returns the querystring as JSON, read by a shape, as [`read`](crate::read).
     pub fn read(&self, shape: &str, query: impl AsRef<[u8]>) -> Result<String, Error> {
-        calls::read(self, shape, query.as_ref())
+        let query = query.as_ref();
+        calls::read(self, shape, query).map_err(|error| self.with_path(shape, query, error))
     }
 
-    /// Returns why the querystring isn't read by a shape, as [`explain`](crate::explain).
-    pub fn explain(&self, shape: &str, query: impl AsRef<[u8]>) -> Result<Option<Explanation>, Error> {
+    fn with_path(&self, shape: &str, query: &[u8], mut error: Error) -> Error {
+        if let ErrorKind::Mismatch | ErrorKind::NotUtf8 = error.kind {
+            if let Ok(Some((path, _))) = calls::explain(self, shape, query) {
+                error.path = path;
+            }
+        }
+        error
+    }
+
+    /// Returns why the querystring isn't read by the shape, as [`explain`](crate::explain).
+    pub fn explain(&self, shape: &str, query: impl AsRef<[u8]>) -> Result<Option<(String, String)>, Error> {
         calls::explain(self, shape, query.as_ref())
     }
 

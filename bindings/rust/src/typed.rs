@@ -64,6 +64,7 @@ fn json_error(kind: ErrorKind, error: &serde_json::Error) -> Error {
     Error {
         kind,
         position: 0,
+        path: String::new(),
         message: error.to_string(),
     }
 }

@@ -55,13 +55,13 @@ static qs_call call_of(char *line) {
 }
 
 /* The bytes of a text; of the empty one the null pointer, which each call takes. */
-static inline const uint8_t *bytes_of(const char *text) {
-    return *text == '\0' ? NULL : (const uint8_t *)text;
+static inline const uint8_t *bytes_of(const char *text, size_t len) {
+    return len == 0 ? NULL : (const uint8_t *)text;
 }
 
 /* Makes the call with so many bytes of its shape and of its text. */
 static inline uint32_t make_sized(const qs_call *call, size_t shape_len, size_t len, uint8_t *out, size_t size, qs_answer *answer) {
-    const uint8_t *text = bytes_of(call->text), *shape = bytes_of(call->shape);
+    const uint8_t *text = bytes_of(call->text, len), *shape = bytes_of(call->shape, shape_len);
     if (strcmp(call->name, "parse") == 0)
         return qs_parse(&call->settings, text, len, out, size, answer);
     if (strcmp(call->name, "read") == 0)

@@ -82,11 +82,11 @@ static void check_call(worker *worker, qs_call *call, size_t shape_size, size_t 
     uint8_t *out = placed(worker, worker->out, first.len);
     memset(out, 0xa5, first.len);
     uint32_t status = make_sized(call, shape_size, size, out, first.len, &answer);
-    if (answer.len != first.len || answer.position != first.position || status > QS_TOO_DEEP || status == QS_TOO_SMALL)
+    if (answer.len != first.len || answer.position != first.position || status > QS_TOO_LONG || status == QS_TOO_SMALL)
         stop("a call with room has another result");
     if (small != (status == QS_OK && first.len > 0 ? (uint32_t)QS_TOO_SMALL : status))
         stop("a call without room has another status");
-    if (answer.position > (status == QS_BAD_SHAPE ? shape_size : size + 1))
+    if (answer.position > (status == QS_OK ? answer.len : status == QS_BAD_SHAPE ? shape_size : size + 1))
         stop("the position is behind the end");
     size_t less = first.len > 0 ? below(worker, first.len) : 0;
     out = placed(worker, worker->out, less);
@@ -95,6 +95,11 @@ static void check_call(worker *worker, qs_call *call, size_t shape_size, size_t 
     for (size_t at = 0; at < less; at++)
         if (out[at] != 0xa5)
             stop("a buffer that is too small was written to");
+}
+
+/* None, or one below the bound. */
+static size_t limit(worker *worker, uint64_t bound) {
+    return below(worker, 4) > 0 ? 0 : below(worker, bound);
 }
 
 static void make_random_call(worker *worker) {
@@ -106,6 +111,9 @@ static void make_random_call(worker *worker) {
     call.settings.form = below(worker, 2);
     call.settings.array_format = (uint8_t)below(worker, 3);
     call.settings.reject_duplicates = below(worker, 2);
+    call.settings.max_length = limit(worker, 100);
+    call.settings.max_pairs = limit(worker, 5);
+    call.settings.max_output = limit(worker, 100);
     size_t shape_size = changed(worker, call.shape, shape), size = changed(worker, call.text, text);
     uint8_t *shape_at = placed(worker, worker->shape, shape_size), *text_at = placed(worker, worker->text, size);
     memcpy(shape_at, shape, shape_size);

@@ -34,7 +34,7 @@ def answer(body):
     try:
         user = serde_qs.read_as(Form, body, form=True).user
     except serde_qs.QuerystringError as error:
-        return 400, f"{error}\n"
+        return 400, f"{error.path}: {error}\n"
     return 200, f"{user.name}, {user.age}, of {user.address.city}: {', '.join(user.emails)}\n"
 
 

@@ -103,6 +103,9 @@ class Calls(unittest.TestCase):
             serde_qs.parse("user=John&user[ids][0]=1")
         copy = pickle.loads(pickle.dumps(caught.exception))
         self.assertEqual((copy.status, copy.position, str(copy)), (4, 16, str(caught.exception)))
+        with self.assertRaises(serde_qs.QuerystringError) as caught:
+            serde_qs.read("{user: {age: u8}, ids: [u8]}", "user[age]=300&ids[]=1")
+        self.assertEqual((caught.exception.path, pickle.loads(pickle.dumps(caught.exception)).path), ("user[age]", "user[age]"))
         self.assertRaises(TypeError, serde_qs.write, {"a": {1, 2}})
         self.assertRaises(ValueError, serde_qs.write, {"a": float("nan")})
         self.assertRaises(serde_qs.QuerystringError, serde_qs.write, {"a": b"\xff"})
@@ -113,6 +116,13 @@ class Calls(unittest.TestCase):
                 with self.assertRaises(serde_qs.QuerystringError) as caught:
                     serde_qs.parse("a=1", **{name: number})
                 self.assertEqual(caught.exception.status, 3)
+
+    def test_limits(self):
+        self.assertEqual(serde_qs.parse("a=1&b=2", max_length=7, max_pairs=2, max_output=17), {"a": "1", "b": "2"})
+        for limit, status in (({"max_length": 6}, 10), ({"max_pairs": 1}, 10), ({"max_output": 16}, 11), ({"max_pairs": -1}, 3)):
+            with self.assertRaises(serde_qs.QuerystringError) as caught:
+                serde_qs.parse("a=1&b=2", **limit)
+            self.assertEqual(caught.exception.status, status)
 
     def test_a_shape_with_many_names_takes_little_time(self):
         """No more than four times a querystring as long."""

@@ -41,10 +41,9 @@ fn main() {
             "parse" => settings.parse(text),
             "read" => settings.read(shape, text),
             "explain" => settings.explain(shape, text).map(|explanation| {
-                explanation.map_or_else(String::new, |it| {
-                    position = it.path().len();
-                    it.to_string()
-                })
+                let (path, line) = explanation.unwrap_or_default();
+                position = path.len();
+                line
             }),
             "write" => settings.write(text),
             "encode" => settings.encode(text),

@@ -39,6 +39,6 @@ fn main() -> Result<(), serde_qs::Error> {
     let missing = from_str::<Search>("{name: text}", "name=J").unwrap_err();
     println!("{:?} {missing}", missing.kind());
     let too_large = from_str::<Search>(SHAPE, "name=J&ages[0]=256").unwrap_err();
-    println!("{:?}", too_large.kind());
+    println!("{:?} {}", too_large.kind(), too_large.path());
     Ok(())
 }

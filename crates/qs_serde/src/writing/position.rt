@@ -47,6 +47,7 @@ impl Position {
     }
 
     // Whether a value may come.
+    #[inline(always)]
     fn value_comes(&self) -> Result<()>
         ensures { IsOk result ↔ (self.now.next ≡ Value) }
     {
@@ -72,6 +73,7 @@ impl Position {
     }
 
     // Goes under a segment, for a part of what is open.
+    #[inline(always)]
     fn enter(&mut self, segment: Scalar<'_>) -> Result<()>
         ensures { Goes (λ config s. goes_under config (scalar_text segment.entry) s) result self.old self.new }
     {
@@ -88,6 +90,7 @@ impl Position {
     }
 
     // Goes under the index of an item.
+    #[inline(always)]
     fn begin_item(&mut self) -> Result<()>
         ensures { Goes (λ config s. under_index (element_segment config.array_format s.here.count) config s) result self.old self.new }
     {
@@ -99,6 +102,7 @@ impl Position {
     }
 
     // Goes to where the value is: an item goes under its index, a member is under its key.
+    #[inline(always)]
     fn begin(&mut self) -> Result<()>
         ensures { Goes goes_to_value result self.old self.new }
     {
@@ -116,6 +120,7 @@ impl Position {
     }
 
     // Ends a part: the position is where what is open was before it.
+    #[inline(always)]
     fn end(&mut self)
         ensures { (config : Settings) (s : State) → Stands config self.old s → Stands config self.new (ends s) }
     {
@@ -127,6 +132,7 @@ impl Position {
     }
 
     // Writes one entry as a part.
+    #[inline(always)]
     fn put(&mut self, value: Option<Scalar<'_>>) -> Result<()>
         ensures { Goes (λ config s. Some (puts (option_map scalar_text value.entry) s)) result self.old self.new }
     {
@@ -143,6 +149,7 @@ impl Position {
     }
 
     // Ends the part that was written. Where an allocation failed nothing of the text is kept.
+    #[inline(always)]
     fn put_or_stop(&mut self, written: WriteResult) -> Result<()>
         ensures { (before : Position) (value : Option (List ℕ)) → self.old ≡ record before { writer = self.old.writer }
             → WritesPart written before.writer self.old.writer (λ config path. one path value)
@@ -161,6 +168,7 @@ impl Position {
     }
 
     // Writes a value of one entry.
+    #[inline(always)]
     fn value(&mut self, value: Option<Scalar<'_>>) -> Result<()>
         ensures { Goes (λ config s. put_value config (option_map scalar_text value.entry) s) result self.old self.new }
     {

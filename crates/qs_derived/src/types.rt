@@ -1,0 +1,14 @@
+//! The types: those of `qs_callers`, with derives in the place of `Compound`, and types for the attributes.
+
+mod dashed;
+mod enums;
+mod lists;
+mod named;
+mod plain;
+mod values;
+
+pub use enums::{Adjacent, Either, Tagged};
+pub use lists::{Folder, Lists, Maps};
+pub use named::{Listing, Named};
+pub use plain::{Account, Labels, Order, Paging, Payment, Profile, Query, Search, Trip};
+pub use values::{Numbers, Texts, Units, Wide};

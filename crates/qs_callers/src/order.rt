@@ -1,12 +1,16 @@
 //! An order, as a form posts it.
 
 ghost use Rattle.qs_callers.specs.declared.order.TheConstants.{NAMES};
+ghost use Rattle.std.specs.Prelude.{true};
+ghost use Rattle.qs_spec.specs.Config.{default};
 ghost use Rattle.serde_qs.specs.PartTables.{made_of};
+ghost use Rattle.serde_qs.specs.Typed.{ReturnsValue};
 
 use crate::address::Address;
 use serde_qs::web::QsForm;
 use serde_qs::{
-    Compound, Config, ConfigExt, Out, Parts, Result, Shape, Source, Struct, WriteResult,
+    Compound, Config, ConfigExt, Deserialize, Out, Parts, Result, Shape, Source, Struct,
+    WriteResult,
 };
 use std::alloc::Global;
 
@@ -44,7 +48,9 @@ impl Compound for Order {
 }
 
 /// Returns the order in a body of the type `application/x-www-form-urlencoded`.
-pub fn ordered(alloc: Global, body: &[u8]) -> Result<QsForm<Order>> {
+pub fn ordered(alloc: Global, body: &[u8]) -> Result<QsForm<Order>>
+    ensures { ReturnsValue (λ form. ⟦<Order as Deserialize>⟧.table.value form.0) (record default { form = true }) ⟦<Order as Deserialize>⟧.table.form ⟦<Order as Deserialize>⟧.table.meaning body.now result }
+{
     let config = Config::new().use_form_encoding(true);
-    config.deserialize_bytes(alloc, body).map(QsForm)
+    Ok(QsForm(config.deserialize_bytes(alloc, body)?))
 }

@@ -8,7 +8,7 @@ ghost use Rattle.serde_qs.specs.Items.{joined, list_in};
 ghost use Rattle.serde_qs.specs.Tables.{only_read};
 
 use serde_qs::helpers::comma_separated;
-use serde_qs::{Data, Deserialize, Result, Serialize, Shape};
+use serde_qs::{Data, Deserialize, ParsedValue, Reader, Result, Serialize, Shape};
 use std::alloc::Global;
 
 /// Numbers that are read from one text, with commas between them, and written so.
@@ -32,5 +32,10 @@ impl Deserialize for Values {
 
     fn from_data(alloc: Global, datum: Data) -> Result<Values> {
         Ok(Values(comma_separated::deserialize(alloc, datum)?))
+    }
+
+    #[tactic(auto, unfolding(qs_spec::specs::internal::ReadFunction::reads))]
+    fn from_node(reader: Reader, node: &ParsedValue<'_>) -> Result<Values> {
+        Values::from_data(reader.alloc, reader.text(node)?)
     }
 }

@@ -1,27 +1,17 @@
 //! What tests claim.
 
-use qs_serde::{Config, PathError, explain_str, to_string_with};
+use qs_serde::{Config, PathError, explain_str, to_string};
 use serde::{Deserialize, Serialize};
 use std::alloc::Global;
 use std::process::Abort;
 
 /// Claims that each input of a table is read and written back as the table says, or rejected with the error after a `!`.
 pub fn each<'t, R: Abort, T: Deserialize<'t> + Serialize>(rt: &R, alloc: Global, table: &'t str) {
-    each_by::<R, T>(rt, alloc, Config::new(), table);
-}
-
-/// Claims the same under a configuration.
-pub fn each_by<'t, R: Abort, T: Deserialize<'t> + Serialize>(
-    rt: &R,
-    alloc: Global,
-    config: Config,
-    table: &'t str,
-) {
     for row in table.lines() {
         let Some((input, wanted)) = row.split_once(" | ") else {
             continue;
         };
-        let found = answer::<R, T>(rt, alloc, config, input.trim());
+        let found = answer::<R, T>(rt, alloc, input.trim());
         assert!(rt;
             found.as_str() == wanted,
             "{input}: found {found} in the place of {wanted}"
@@ -33,12 +23,11 @@ pub fn each_by<'t, R: Abort, T: Deserialize<'t> + Serialize>(
 fn answer<'t, R: Abort, T: Deserialize<'t> + Serialize>(
     rt: &R,
     alloc: Global,
-    config: Config,
     input: &'t str,
 ) -> String {
-    let read: Result<T, PathError> = explain_str(alloc, config, input);
+    let read: Result<T, PathError> = explain_str(alloc, Config::new(), input);
     match read {
-        Ok(value) => to_string_with(alloc, config, &value).expect(rt, "its text"),
+        Ok(value) => to_string(alloc, &value).expect(rt, "its text"),
         Err(error) => format!(in alloc; "! {error}").expect(rt, "a text"),
     }
 }

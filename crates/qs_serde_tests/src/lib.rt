@@ -1,6 +1,5 @@
-//! Tests of the types that serde's derives read and write. Each row of a table has an input, and what is written of the value that is read
-//! from it, or the error. The values are those of the Rust crate `serde_qs` 1.1.3, with serde's derives on the same types; where it differs,
-//! a comment says so.
+//! Tests of the calls of `qs_serde`. What types with each attribute of serde's derives read and write is in `scripts/golden/derives.tsv`, which the
+//! program `qs_derived` is tried on.
 #![tactic(auto)]
 
 #[cfg(test)]
@@ -8,16 +7,6 @@ mod claims;
 #[cfg(test)]
 mod configurations;
 #[cfg(test)]
-mod enums;
-#[cfg(test)]
 mod helpers;
 #[cfg(test)]
-mod lists;
-#[cfg(test)]
-mod maps;
-#[cfg(test)]
 mod numbers;
-#[cfg(test)]
-mod structs;
-#[cfg(test)]
-mod texts;

@@ -1,30 +1,7 @@
-//! Numbers, and other values of one text.
+//! Numbers of each width: the error names it.
 
 use crate::claims::each;
 use serde::{Deserialize, Serialize};
-
-#[derive(Drop, Serialize, Deserialize)]
-struct Scalars {
-    b: bool,
-    c: char,
-    i: i64,
-    s: i8,
-    o: Option<bool>,
-}
-
-const ONE_TEXT: &str = "\
-    b&c=%C3%A9&i=-9223372036854775808&s=-128&o | b=true&c=%C3%A9&i=-9223372036854775808&s=-128&o
-    b=false&c=x&i=%2B5&s=0&s=7&o= | b=false&c=x&i=5&s=7&o=true
-    b=1&c=x&i=5&s=0 | ! b: invalid type: string, expected a boolean
-    b&c=xy&i=5&s=0 | ! c: invalid type: string, expected a character
-    b&c=x&i=5&s=128 | ! s: invalid type: string, expected i8
-    b&c=x&i=5 | ! missing field `s`
-";
-
-#[test]
-fn values_of_one_text(rt: HostRuntime) {
-    each::<_, Scalars>(&rt, rt.alloc(), ONE_TEXT);
-}
 
 #[derive(Drop, Serialize, Deserialize)]
 struct Narrow {
@@ -53,58 +30,4 @@ const NARROW_ROWS: &str = "\
 #[test]
 fn narrow_numbers(rt: HostRuntime) {
     each::<_, Narrow>(&rt, rt.alloc(), NARROW_ROWS);
-}
-
-#[derive(Drop, Serialize, Deserialize)]
-struct Floats {
-    f: f64,
-    g: f32,
-}
-
-const FLOATING: &str = "\
-    f=1.5&g=0.25 | f=1.5&g=0.25
-    f=-1.5&g=100.5 | f=-1.5&g=100.5
-    f=x&g=0 | ! f: invalid type: string, expected a number
-";
-
-#[test]
-fn floating_numbers(rt: HostRuntime) {
-    each::<_, Floats>(&rt, rt.alloc(), FLOATING);
-}
-
-#[derive(Drop, Serialize, Deserialize)]
-struct Wide {
-    i: i128,
-    u: u128,
-}
-
-// The Rust crate has no numbers of 128 bits: these are their least and their greatest.
-const WIDE_ROWS: &str = "\
-    i=-170141183460469231731687303715884105728&u=340282366920938463463374607431768211455 | i=-170141183460469231731687303715884105728&u=340282366920938463463374607431768211455
-    i=1&u=2 | i=1&u=2
-    i=1&u=-2 | ! u: invalid type: string, expected a number
-";
-
-#[test]
-fn wide_numbers(rt: HostRuntime) {
-    each::<_, Wide>(&rt, rt.alloc(), WIDE_ROWS);
-}
-
-#[derive(Drop, Serialize, Deserialize)]
-struct Units {
-    u: (),
-    n: Option<u8>,
-}
-
-// The Rust crate writes `u=`: the kit's derives send one event for `()` and for `None`.
-const UNIT_ROWS: &str = "\
-    u=&n=1 | u&n=1
-    u&n | u&n
-    u=x | ! u: invalid type: string, expected unit
-    u=&n= | ! n: invalid type: unit value, expected u8
-";
-
-#[test]
-fn units_and_options(rt: HostRuntime) {
-    each::<_, Units>(&rt, rt.alloc(), UNIT_ROWS);
 }

@@ -1,4 +1,4 @@
-//! A writer that takes little, and then stops.
+//! A writer that takes little, and then stops once.
 
 use std::alloc::{AllocError, Global};
 use std::io;
@@ -12,7 +12,7 @@ pub enum Stop {
     TakesNothing,
 }
 
-/// Takes up to `step` bytes a write while there is room, and then stops.
+/// Takes up to `step` bytes a write while there is room, and then stops once. It takes what is written after that, so a test sees it.
 #[derive(Drop)]
 pub struct Narrow {
     pub held: Vec<u8>,
@@ -38,6 +38,7 @@ impl Write for Narrow {
     fn write(&mut self, buf: &[u8]) -> io::Result<usize> {
         let count = buf.len().min(self.step).min(self.room);
         if count == 0 && !buf.is_empty() {
+            self.room = usize::MAX;
             match self.stop {
                 Stop::Fails => return Err(io::Error::from(io::ErrorKind::BrokenPipe)),
                 Stop::IsInterrupted => return Err(io::Error::from(io::ErrorKind::Interrupted)),

@@ -31,7 +31,7 @@ impl End {
     }
 }
 
-/// Gives a byte a read, and then ends.
+/// Gives a byte a read, and then ends once. After that it gives the bytes of an input, so a test sees a read that is repeated.
 #[derive(Drop)]
 struct Source<'a> {
     rest: &'a [u8],
@@ -41,6 +41,7 @@ struct Source<'a> {
 impl Read for Source<'_> {
     fn read(&mut self, buf: &mut [u8]) -> io::Result<usize> {
         let [byte, rest @ ..] = self.rest else {
+            self.rest = INPUT;
             return self.end.outcome();
         };
         let [place, ..] = buf else {
@@ -66,7 +67,7 @@ impl Read for Endless {
     }
 }
 
-/// Takes up to `step` bytes a write while there is room, and then ends.
+/// Takes up to `step` bytes a write while there is room, and then ends once. It takes what is written after that, so a test sees it.
 #[derive(Drop)]
 struct Target {
     held: Vec<u8>,
@@ -78,6 +79,7 @@ struct Target {
 impl Write for Target {
     fn write(&mut self, buf: &[u8]) -> io::Result<usize> {
         if self.room == 0 {
+            self.room = usize::MAX;
             return self.end.outcome();
         }
         let count = buf.len().min(self.step).min(self.room);

@@ -8,11 +8,11 @@ use Rattle.serde.specs.Event.{Event, Log}
 use Rattle.qs_spec.specs.Config.{Config}
 use Rattle.qs_spec.specs.Entry.{Entry}
 use Rattle.qs_spec.specs.Written.{written}
-use Rattle.qs_tree.specs.declared.error.Error.{Error}
 use Rattle.qs_data.specs.write.Parts.{state_of}
 use Rattle.qs_data.specs.write.State.{IsVisible}
 use Rattle.qs_serde.specs.declared.writing.frame.FrameKind.TheVariants.{Top}
 use Rattle.qs_serde.specs.declared.writing.frame.Next.TheVariants.{Nothing}
+use Rattle.qs_serde.specs.declared.writing.halt.Halt.{Halt}
 use Rattle.qs_serde.specs.declared.writing.log.Note.{Note}
 use Rattle.qs_serde.specs.declared.writing.log.Note.TheVariants.{Lost}
 use Rattle.qs_serde.specs.declared.writing.position.Position.{Position}
@@ -55,11 +55,11 @@ stopped : (config : Config) (now : Position) (es : List Entry) → Holds config 
     → (s : State) × IsIn config (record { writer = now.writer; frame = now.frame; around = now.around; next = Nothing }) s × ⊤
 stopped config now es holds = (record { entries = es; here = begun Top; around = []; next = Nothing }, inr (refl, refl, holds), tt)
 
-pub follows_stop : (config : Config) (log : Log) (before now : Position) (e : Event) (error : Error) → Moves (λ config. sent config e) (Err error) before now → Follows config log before
+pub follows_stop : (config : Config) (log : Log) (before now : Position) (e : Event) (halt : Halt) → Moves (λ config. sent config e) (Err halt) before now → Follows config log before
     → Follows config (noted log Lost) (record { writer = now.writer; frame = now.frame; around = now.around; next = Nothing })
-follows_stop config log before now e error moves follows = ∥∥₁_map follows (λ w. by w.0 (moves config w.0 w.1))
+follows_stop config log before now e halt moves follows = ∥∥₁_map follows (λ w. by w.0 (moves config w.0 w.1))
   where
-    by : (s : State) → Stops (sent config e s) error config s.entries now
+    by : (s : State) → Stops (sent config e s) halt config s.entries now
         → (t : State) × IsIn config (record { writer = now.writer; frame = now.frame; around = now.around; next = Nothing }) t × ⊤
     by s (inl kept) = stopped config now s.entries kept.1
     by s (inr memory) = stopped config now memory.1.0 memory.1.1

@@ -5,21 +5,20 @@ use Rattle.qs_data.specs.write.Writes.{Stops as WriteStops}
 use Rattle.std.specs.Prelude.{is_some, option_to_list}
 use Rattle.std.proofs.lemmas.Option.{none-some, same_Some}
 use Rattle.qs_spec.specs.Entry.{deeper}
-use Rattle.qs_tree.specs.declared.error.Error.{Error}
-use Rattle.qs_tree.specs.declared.error.Error.TheVariants as error
 use Rattle.qs_data.specs.declared.write.stop.Stop.{Stop}
 use Rattle.qs_data.specs.declared.write.stop.Stop.TheVariants.{BadKey, Io, OutOfMemory, TooDeep}
 use Rattle.qs_data.specs.declared.write.writer.Writer.{Writer}
-use Rattle.qs_data.specs.write.Errors.{error_of}
 use Rattle.qs_data.specs.write.Parts.{Enters, IsFresh, under}
 use Rattle.qs_data.proofs.lemmas.write.Wrote.{adds_nothing, adds_then}
 use Rattle.qs_serde.specs.declared.writing.frame.Frame.{Frame}
 use Rattle.qs_serde.specs.declared.writing.frame.Next.{Next}
 use Rattle.qs_serde.specs.declared.writing.frame.Next.TheVariants as n
 use Rattle.qs_serde.specs.declared.writing.frame.FrameKind.TheVariants as k
+use Rattle.qs_serde.specs.declared.writing.halt.Halt.{Halt}
+use Rattle.qs_serde.specs.declared.writing.halt.Halt.TheVariants.{Stopped}
 use Rattle.qs_serde.specs.declared.writing.position.Position.{Position}
 use Rattle.qs_serde.specs.Sent.{Level, State, start, begun, path_of, path_at, under_part, goes_under, closes, closed, adds, capped, at_value, ends_map, map_ended, map_sent, map_at, opened}
-use Rattle.qs_serde.specs.Placed.{AreAround, Arrives, Goes, Holds, IsIn, IsLevel, PartIs, Stands, Stops, blank}
+use Rattle.qs_serde.specs.Placed.{AreAround, Arrives, Goes, Holds, IsIn, IsLevel, IsMemory, PartIs, Stands, Stops, blank}
 
 -- a writer that wrote nothing
 pub holds_fresh : (config : Config) (w : Writer) → IsFresh config w → Holds config w []
@@ -99,35 +98,35 @@ front_nil : (es fs : List Entry) → [] ≡ es ++ fs → es ≡ []
 front_nil [] fs h = refl
 front_nil (e ∷ es) fs h = let l = ap length h in absurd (omega (arith, l))
 
-stop_of : (deep : Bool) (e : Stop) (config c : Config) (t u : StreamState) → WriteStops e config t u (deep_output deep) → Adds config.form t u [] × ((deep ≡ true) ⊎ (error_of c e ≡ error.OutOfMemory))
+stop_of : (deep : Bool) (e : Stop) (config : Config) (t u : StreamState) → WriteStops e config t u (deep_output deep) → Adds config.form t u [] × ((deep ≡ true) ⊎ IsMemory (Stopped e))
 unfolding written
-stop_of true TooDeep config c t u w = (w.1, inl refl)
-stop_of false TooDeep config c t u w = absurd (none-some too_deep w.0)
-stop_of true BadKey config c t u w = absurd (subst IsDeep (same_Some too_deep bad_key w.0) tt)
-stop_of false BadKey config c t u w = absurd (none-some bad_key w.0)
-stop_of true Io config c t u w = absurd (omega (arith, w.proper))
-stop_of false Io config c t u w = absurd (omega (arith, w.proper))
-stop_of true OutOfMemory config c t u w = (subst (Adds config.form t u) (front_nil w.front w.rest w.parts) w.adds, inr refl)
-stop_of false OutOfMemory config c t u w = (subst (Adds config.form t u) (front_nil w.front w.rest w.parts) w.adds, inr refl)
+stop_of true TooDeep config t u w = (w.1, inl refl)
+stop_of false TooDeep config t u w = absurd (none-some too_deep w.0)
+stop_of true BadKey config t u w = absurd (subst IsDeep (same_Some too_deep bad_key w.0) tt)
+stop_of false BadKey config t u w = absurd (none-some bad_key w.0)
+stop_of true Io config t u w = absurd (omega (arith, w.proper))
+stop_of false Io config t u w = absurd (omega (arith, w.proper))
+stop_of true OutOfMemory config t u w = (subst (Adds config.form t u) (front_nil w.front w.rest w.parts) w.adds, inr tt)
+stop_of false OutOfMemory config t u w = (subst (Adds config.form t u) (front_nil w.front w.rest w.parts) w.adds, inr tt)
 
-module _ (config c : Config) (s : State) (p : Position) (segment : List ℕ) (e : Stop) (w : Writer) (r : Error) (none : is_some p.frame.part ≡ false)
-    (stays : (x : Part) → WritesPart (Err e) p.writer w (under segment x)) (is : r ≡ error_of c e) (h : Stands config p s) where
-  stopped : Adds config.form (state_of p.writer) (state_of w) [] × ((nat_lt config.max_depth (length (path_of s.around)) ≡ true) ⊎ (error_of c e ≡ error.OutOfMemory))
+module _ (config : Config) (s : State) (p : Position) (segment : List ℕ) (e : Stop) (w : Writer) (none : is_some p.frame.part ≡ false)
+    (stays : (x : Part) → WritesPart (Err e) p.writer w (under segment x)) (h : Stands config p s) where
+  stopped : Adds config.form (state_of p.writer) (state_of w) [] × ((nat_lt config.max_depth (length (path_of s.around)) ≡ true) ⊎ IsMemory (Stopped e))
   unfolding deeper
   stopped =
       let writes : WritesAt config (Err e) (state_of p.writer) (state_of w) p.writer.walk w.walk (under segment nothing_part) =
       subst (λ (k : Config). WritesAt k (Err e) (state_of p.writer) (state_of w) p.writer.walk w.walk (under segment nothing_part)) h.holds.settings (stays nothing_part).writes in
-      stop_of (nat_lt config.max_depth (length (path_of s.around))) e config c (state_of p.writer) (state_of w) (writes (path_of s.around) (around_walk config s p none h))
+      stop_of (nat_lt config.max_depth (length (path_of s.around))) e config (state_of p.writer) (state_of w) (writes (path_of s.around) (around_walk config s p none h))
 
   kept : Holds config w s.entries
   kept = subst (Holds config w) (append-nil s.entries) (holds_more config p.writer w s.entries [] (stays nothing_part).config h.holds stopped.0)
 
-  pub not_entered : Stops (goes_under config segment s) r config s.entries (record { writer = w; frame = p.frame; around = p.around; next = p.next })
+  pub not_entered : Stops (goes_under config segment s) (Stopped e) config s.entries (record { writer = w; frame = p.frame; around = p.around; next = p.next })
   not_entered = by stopped.1
     where
-      by : (nat_lt config.max_depth (length (path_of s.around)) ≡ true) ⊎ (error_of c e ≡ error.OutOfMemory) → Stops (goes_under config segment s) r config s.entries (record { writer = w; frame = p.frame; around = p.around; next = p.next })
+      by : (nat_lt config.max_depth (length (path_of s.around)) ≡ true) ⊎ IsMemory (Stopped e) → Stops (goes_under config segment s) (Stopped e) config s.entries (record { writer = w; frame = p.frame; around = p.around; next = p.next })
       by (inl deep) = inl (under_is config segment s true (empty config s p none h) deep, kept)
-      by (inr o) = inr (is ∙ o, (s.entries, kept))
+      by (inr memory) = inr (memory, (s.entries, kept))
 
 -- an entry was written
 
@@ -151,17 +150,17 @@ module _ (config : Config) (s : State) (before : Position) (value : Option (List
         around = h.around;
       })
 
-  out_of_memory : (c : Config) (e : Stop) (t u : StreamState) (path : Path) → WriteStops e config t u (one path value) → error_of c e ≡ error.OutOfMemory
-  out_of_memory c TooDeep t u path w = absurd (none-some too_deep w.0)
-  out_of_memory c BadKey t u path w = absurd (none-some bad_key w.0)
-  out_of_memory c Io t u path w = refl
-  out_of_memory c OutOfMemory t u path w = refl
+  out_of_memory : (e : Stop) (t u : StreamState) (path : Path) → WriteStops e config t u (one path value) → IsMemory (Stopped e)
+  out_of_memory TooDeep t u path w = absurd (none-some too_deep w.0)
+  out_of_memory BadKey t u path w = absurd (none-some bad_key w.0)
+  out_of_memory Io t u path w = tt
+  out_of_memory OutOfMemory t u path w = tt
 
-  pub failed : (c : Config) (e : Stop) (now last : Writer) (r : Error) → WritesPart (Err e) before.writer now (λ config path. one path value) → IsFresh now.config last → r ≡ error_of c e
-      → (r ≡ error.OutOfMemory) × ((es : List Entry) × Holds config last es)
-  failed c e now last r p fresh is =
+  pub failed : (e : Stop) (now last : Writer) → WritesPart (Err e) before.writer now (λ config path. one path value) → IsFresh now.config last
+      → IsMemory (Stopped e) × ((es : List Entry) × Holds config last es)
+  failed e now last p fresh =
       let config_is : now.config ≡ config = p.config ∙ h.holds.settings in (
-        is ∙ out_of_memory c e (state_of before.writer) (state_of now) (path_at s) (writes_here (Err e) now p),
+        out_of_memory e (state_of before.writer) (state_of now) (path_at s) (writes_here (Err e) now p),
         ([], holds_fresh config last (subst (λ (k : Config). IsFresh k last) config_is fresh)),
       )
 
@@ -247,7 +246,7 @@ merged config s p q frame count at value same kind goes sum =
     )
 
 -- a flattened map begins
-pub flattened : (config : Config) (s : State) (p q : Position) (r : Result (Unit {0}) Error) → IsIn config p s → p.next ≡ n.Flattened
+pub flattened : (config : Config) (s : State) (p q : Position) (r : Result (Unit {0}) Halt) → IsIn config p s → p.next ≡ n.Flattened
     → Goes (λ config s. Some (opened k.Flattened s)) r (record { writer = p.writer; frame = p.frame; around = p.around; next = n.Value }) q → Arrives (map_sent config s) r config s.entries q
 flattened config s p q r at is goes =
     let h = stands_at config s p at n.Flattened tt is in

@@ -2,13 +2,14 @@
 use Rattle.std.specs.Prelude.{◌≡◌, ⊤, ◌⊎◌, ℕ, Bool, false, List, [], ◌∷◌, ◌++◌, length, Option, Some, None, Result, Ok, Err}
 use Rattle.qs_spec.specs.Config.{Config}
 use Rattle.qs_spec.specs.Entry.{Path, Entry}
-use Rattle.qs_tree.specs.declared.error.Error.{Error}
-use Rattle.qs_tree.specs.declared.error.Error.TheVariants.{OutOfMemory}
+use Rattle.qs_data.specs.declared.write.stop.Stop.TheVariants.{Io, OutOfMemory}
 use Rattle.qs_data.specs.declared.write.writer.Writer.{Writer}
 use Rattle.qs_data.specs.write.Parts.{state_of}
 use Rattle.qs_data.specs.write.Writes.{Adds, IsAt, StreamState, path_after}
 use Rattle.qs_serde.specs.declared.writing.frame.Frame.{Frame}
 use Rattle.qs_serde.specs.declared.writing.frame.Next.TheVariants.{Nothing}
+use Rattle.qs_serde.specs.declared.writing.halt.Halt.{Halt}
+use Rattle.qs_serde.specs.declared.writing.halt.Halt.TheVariants.{Stopped}
 use Rattle.qs_serde.specs.declared.writing.position.Position.{Position}
 use Rattle.qs_serde.specs.Sent.{Level, State, path_of, path_at}
 
@@ -51,19 +52,25 @@ pub record Stands (config : Config) (p : Position) (s : State) : Type 0 where
 abbrev pub IsIn : Config → Position → State → Type 0
 IsIn config p s = Stands config p s ⊎ ((p.next ≡ Nothing) × (s.next ≡ Nothing) × Holds config p.writer s.entries)
 
+-- an allocation failed
+abbrev pub IsMemory : Halt → Type 0
+IsMemory (Stopped Io) = ⊤
+IsMemory (Stopped OutOfMemory) = ⊤
+IsMemory _ = ⊥
+
 -- after an error: the event can't come, and nothing was written; or an allocation failed, and there is the text of some entries
-abbrev pub Stops : Option State → Error → Config → List Entry → Position → Type 0
-Stops reached e config before p = ((reached ≡ None) × Holds config p.writer before) ⊎ ((e ≡ OutOfMemory) × ((es : List Entry) × Holds config p.writer es))
+abbrev pub Stops : Option State → Halt → Config → List Entry → Position → Type 0
+Stops reached e config before p = ((reached ≡ None) × Holds config p.writer before) ⊎ (IsMemory e × ((es : List Entry) × Holds config p.writer es))
 
 -- what a step leaves that leads to this state, if to any
-abbrev pub Arrives : {T : Type 0} → Option State → Result T Error → Config → List Entry → Position → Type 0
+abbrev pub Arrives : {T : Type 0} → Option State → Result T Halt → Config → List Entry → Position → Type 0
 Arrives reached (Ok x) config before p = (t : State) × (reached ≡ Some t) × Stands config p t
 Arrives reached (Err e) config before p = Stops reached e config before p
 
 -- wherever the code was, it went by this step
-abbrev pub Goes : {T : Type 0} → (Config → State → Option State) → Result T Error → Position → Position → Type 0
+abbrev pub Goes : {T : Type 0} → (Config → State → Option State) → Result T Halt → Position → Position → Type 0
 Goes step result old new = (config : Config) (s : State) → Stands config old s → Arrives (step config s) result config s.entries new
 
 -- the same after an error, too
-abbrev pub Moves : (Config → State → Option State) → Result (Unit {0}) Error → Position → Position → Type 0
+abbrev pub Moves : (Config → State → Option State) → Result (Unit {0}) Halt → Position → Position → Type 0
 Moves step result old new = (config : Config) (s : State) → IsIn config old s → Arrives (step config s) result config s.entries new

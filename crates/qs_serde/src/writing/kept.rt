@@ -12,10 +12,11 @@ ghost use Rattle.qs_serde.specs.Follows.{Follows};
 ghost use Rattle.qs_serde.specs.declared.writing.position.Position.{Position as At};
 
 use super::frame::Next;
+use super::halt::Halt;
 use super::log::{Log, Note};
 use super::position::Position;
-use qs_data::Scalar;
-use qs_tree::{Error, Result};
+use qs_data::{Scalar, Stop};
+use qs_tree::Result;
 use serde::{Case, NameKind};
 use std::fmt::{Display, Write};
 
@@ -24,7 +25,7 @@ use std::fmt::{Display, Write};
 pub(crate) fn keep(
     position: &mut Position,
     log: &mut Log,
-    made: Result<()>,
+    made: Result<(), Halt>,
     note: &Note<'_>,
 ) -> Result<()>
     ensures logs { OnOk result (IfSome (event_of note.now) (λ e. Logs log.old.events log.new.events e)) }
@@ -36,10 +37,10 @@ pub(crate) fn keep(
             *log = log.then(note);
             Ok(())
         }
-        Err(error) => {
+        Err(halt) => {
             *log = log.then(&Note::Lost);
             position.next = Next::Nothing;
-            Err(error)
+            Err(halt.into_error(&position.writer))
         }
     }
 }
@@ -50,7 +51,7 @@ pub(crate) fn variant(
     room: &mut String,
     name: &str,
     case: Case,
-) -> Result<()>
+) -> Result<(), Halt>
     ensures { Moves (λ config s. text_sent config (spelled case Variant name.now) s) result position.old position.new }
 {
     if let Case::AsIs = case {
@@ -68,7 +69,7 @@ pub(crate) fn key(
     kind: NameKind,
     name: &str,
     case: Case,
-) -> Result<()>
+) -> Result<(), Halt>
     ensures { Moves (λ config s. key_sent config (spelled case kind name.now) s) result position.old position.new }
 {
     if let Case::AsIs = case {
@@ -84,12 +85,12 @@ pub(crate) fn printed<T: Display>(
     position: &mut Position,
     room: &mut String,
     value: &T,
-) -> Result<()>
+) -> Result<(), Halt>
     ensures { (bytes : List ℕ) × Moves (λ config s. text_sent config bytes s) result position.old position.new }
 {
     room.clear();
     if write!(room, "{value}").is_err() {
-        return Err(Error::OutOfMemory);
+        return Err(Halt::Stopped(Stop::OutOfMemory));
     }
     position.scalar(Scalar::Bytes(room.as_bytes()))
 }

@@ -10,9 +10,10 @@ ghost use Rattle.qs_serde.specs.Placed.{Stands, Goes, Moves};
 ghost use Rattle.qs_serde.specs.declared.writing.frame.Next.TheVariants.{Value, Key, Flattened};
 
 use super::frame::{Frame, FrameKind, Next};
-use qs_data::{Scalar, WriteResult, Writer};
-use qs_tree::{ArrayFormat, Config, Error, Result};
-use std::alloc::Global;
+use super::halt::Halt;
+use qs_data::{Scalar, Stop, WriteResult, Writer};
+use qs_tree::{ArrayFormat, Config};
+use std::alloc::{AllocError, Global};
 
 /// What was written, and where in the value the next part goes.
 #[derive(Drop)]
@@ -27,7 +28,7 @@ pub(crate) struct Position {
 
 impl Position {
     /// Returns the position of a value of which nothing was written.
-    pub(crate) fn new(alloc: Global, config: Config) -> Result<Position>
+    pub(crate) fn new(alloc: Global, config: Config) -> Result<Position, AllocError>
         ensures { IfOk result (λ position. Stands config position start) }
     {
         Ok(Position {
@@ -48,7 +49,7 @@ impl Position {
 
     // Whether a value may come.
     #[inline(always)]
-    fn value_comes(&self) -> Result<()>
+    fn value_comes(&self) -> Result<(), Halt>
         ensures { IsOk result ↔ (self.now.next ≡ Value) }
     {
         match self.next {
@@ -57,41 +58,36 @@ impl Position {
         }
     }
 
-    // Returns the error of an event that isn't what comes next.
-    fn misplaced(&self) -> Error {
+    // Returns why an event isn't written that isn't what comes next.
+    fn misplaced(&self) -> Halt {
         match self.next {
-            Next::Value => self.rejected("a key ended that didn't begin"),
-            Next::Key => Error::Unsupported,
-            Next::Flattened => self.rejected("only a map or a struct can be flattened"),
-            Next::Nothing => Error::Failed,
+            Next::Value => Halt::Misplaced("a key ended that didn't begin"),
+            Next::Key => Halt::Stopped(Stop::BadKey),
+            Next::Flattened => Halt::Misplaced("only a map or a struct can be flattened"),
+            Next::Nothing => Halt::Failed,
         }
-    }
-
-    // Returns the error of an event that can't come.
-    fn rejected(&self, message: &'static str) -> Error {
-        Error::custom(self.writer.alloc, message, &())
     }
 
     // Goes under a segment, for a part of what is open.
     #[inline(always)]
-    fn enter(&mut self, segment: Scalar<'_>) -> Result<()>
+    fn enter(&mut self, segment: Scalar<'_>) -> Result<(), Halt>
         ensures { Goes (λ config s. goes_under config (scalar_text segment.entry) s) result self.old self.new }
     {
         if self.frame.part.is_some() {
-            return Err(self.rejected("a key came in the place of a value"));
+            return Err(Halt::Misplaced("a key came in the place of a value"));
         }
         match self.writer.enter(segment) {
             Ok(len) => {
                 self.frame.part = Some(len);
                 Ok(())
             }
-            Err(stop) => Err(stop.into_error(self.writer.config)),
+            Err(stop) => Err(Halt::Stopped(stop)),
         }
     }
 
     // Goes under the index of an item.
     #[inline(always)]
-    fn begin_item(&mut self) -> Result<()>
+    fn begin_item(&mut self) -> Result<(), Halt>
         ensures { Goes (λ config s. under_index (element_segment config.array_format s.here.count) config s) result self.old self.new }
     {
         match self.writer.config.get_array_format() {
@@ -103,7 +99,7 @@ impl Position {
 
     // Goes to where the value is: an item goes under its index, a member is under its key.
     #[inline(always)]
-    fn begin(&mut self) -> Result<()>
+    fn begin(&mut self) -> Result<(), Halt>
         ensures { Goes goes_to_value result self.old self.new }
     {
         match self.frame.kind {
@@ -113,7 +109,7 @@ impl Position {
                 if self.frame.part.is_some() {
                     Ok(())
                 } else {
-                    Err(self.rejected("a value came in the place of a key"))
+                    Err(Halt::Misplaced("a value came in the place of a key"))
                 }
             }
         }
@@ -133,7 +129,7 @@ impl Position {
 
     // Writes one entry as a part.
     #[inline(always)]
-    fn put(&mut self, value: Option<Scalar<'_>>) -> Result<()>
+    fn put(&mut self, value: Option<Scalar<'_>>) -> Result<(), Halt>
         ensures { Goes (λ config s. Some (puts (option_map scalar_text value.entry) s)) result self.old self.new }
     {
         match value {
@@ -150,7 +146,7 @@ impl Position {
 
     // Ends the part that was written. Where an allocation failed nothing of the text is kept.
     #[inline(always)]
-    fn put_or_stop(&mut self, written: WriteResult) -> Result<()>
+    fn put_or_stop(&mut self, written: WriteResult) -> Result<(), Halt>
         ensures { (before : Position) (value : Option (List ℕ)) → self.old ≡ record before { writer = self.old.writer }
             → WritesPart written before.writer self.old.writer (λ config path. one path value)
             → Goes (λ config s. Some (puts value s)) result before self.new }
@@ -162,14 +158,14 @@ impl Position {
             }
             Err(stop) => {
                 drop(self.writer.take());
-                Err(stop.into_error(self.writer.config))
+                Err(Halt::Stopped(stop))
             }
         }
     }
 
     // Writes a value of one entry.
     #[inline(always)]
-    fn value(&mut self, value: Option<Scalar<'_>>) -> Result<()>
+    fn value(&mut self, value: Option<Scalar<'_>>) -> Result<(), Halt>
         ensures { Goes (λ config s. put_value config (option_map scalar_text value.entry) s) result self.old self.new }
     {
         self.begin()?;
@@ -177,7 +173,7 @@ impl Position {
     }
 
     // Begins a list or a map.
-    fn open(&mut self, kind: FrameKind) -> Result<()>
+    fn open(&mut self, kind: FrameKind) -> Result<(), Halt>
         ensures { Goes (λ config s. Some (opened kind s)) result self.old self.new }
     {
         self.around.push(self.frame)?;
@@ -186,15 +182,15 @@ impl Position {
     }
 
     // Returns what is open, and goes to what is around it.
-    fn close(&mut self) -> Result<Frame>
+    fn close(&mut self) -> Result<Frame, Halt>
         ensures goes { Goes (λ config s. closes s) result self.old self.new }
         ensures frame { IfOk result (λ frame. frame ≡ self.old.frame) }
     {
         if self.frame.part.is_some() {
-            return Err(self.rejected("a map ended after a key"));
+            return Err(Halt::Misplaced("a map ended after a key"));
         }
         let Some(frame) = self.around.pop() else {
-            return Err(self.rejected("a list or a map ended that didn't begin"));
+            return Err(Halt::Misplaced("a list or a map ended that didn't begin"));
         };
         let closed = self.frame;
         self.frame = frame;
@@ -202,7 +198,7 @@ impl Position {
     }
 
     // Ends a list or a map as a part of what is around it. Where it had no part an empty value is written.
-    fn end_as(&mut self, is_empty: bool) -> Result<()>
+    fn end_as(&mut self, is_empty: bool) -> Result<(), Halt>
         ensures { Goes (λ config s. Some (ends_as is_empty s)) result self.old self.new }
     {
         if is_empty {
@@ -216,7 +212,7 @@ impl Position {
 // The events.
 impl Position {
     /// Writes a value of one text, or goes under it if it is a key.
-    pub(crate) fn scalar(&mut self, value: Scalar<'_>) -> Result<()>
+    pub(crate) fn scalar(&mut self, value: Scalar<'_>) -> Result<(), Halt>
         ensures { Moves (λ config s. text_sent config (scalar_text value.entry) s) result self.old self.new }
     {
         match self.next {
@@ -227,7 +223,7 @@ impl Position {
     }
 
     /// Writes no value. In the place of a map that is flattened it writes nothing.
-    pub(crate) fn nothing(&mut self) -> Result<()>
+    pub(crate) fn nothing(&mut self) -> Result<(), Halt>
         ensures { Moves nothing_sent result self.old self.new }
     {
         match self.next {
@@ -241,7 +237,7 @@ impl Position {
     }
 
     /// Begins a list.
-    pub(crate) fn begin_seq(&mut self) -> Result<()>
+    pub(crate) fn begin_seq(&mut self) -> Result<(), Halt>
         ensures { Moves seq_sent result self.old self.new }
     {
         self.value_comes()?;
@@ -250,7 +246,7 @@ impl Position {
     }
 
     /// Ends a list.
-    pub(crate) fn end_seq(&mut self) -> Result<()>
+    pub(crate) fn end_seq(&mut self) -> Result<(), Halt>
         ensures { Moves seq_ended result self.old self.new }
     {
         self.value_comes()?;
@@ -259,7 +255,7 @@ impl Position {
     }
 
     /// Begins a map, or one whose members go into the one that is open.
-    pub(crate) fn begin_map(&mut self) -> Result<()>
+    pub(crate) fn begin_map(&mut self) -> Result<(), Halt>
         ensures { Moves map_sent result self.old self.new }
     {
         match self.next {
@@ -278,7 +274,7 @@ impl Position {
     // An empty map and a struct of which no field is shown come by the same events of serde's: at the top nothing is written, which both are
     // read from.
     /// Ends a map.
-    pub(crate) fn end_map(&mut self) -> Result<()>
+    pub(crate) fn end_map(&mut self) -> Result<(), Halt>
         ensures { Moves map_ended result self.old self.new }
     {
         self.value_comes()?;
@@ -296,7 +292,7 @@ impl Position {
     }
 
     /// Goes under a name.
-    pub(crate) fn key(&mut self, name: &[u8]) -> Result<()>
+    pub(crate) fn key(&mut self, name: &[u8]) -> Result<(), Halt>
         ensures { Moves (λ config s. key_sent config name.now s) result self.old self.new }
     {
         self.value_comes()?;
@@ -304,7 +300,7 @@ impl Position {
     }
 
     /// Says that a key comes.
-    pub(crate) fn begin_key(&mut self) -> Result<()>
+    pub(crate) fn begin_key(&mut self) -> Result<(), Halt>
         ensures { Moves (λ config s. goes_on Key s) result self.old self.new }
     {
         self.value_comes()?;
@@ -313,7 +309,7 @@ impl Position {
     }
 
     /// Says that the key came.
-    pub(crate) fn end_key(&mut self) -> Result<()>
+    pub(crate) fn end_key(&mut self) -> Result<(), Halt>
         ensures { Moves (λ config s. key_ended_at s.next s) result self.old self.new }
     {
         match self.next {
@@ -326,7 +322,7 @@ impl Position {
     }
 
     /// Says that the members of the next map go into the one that is open.
-    pub(crate) fn flatten(&mut self) -> Result<()>
+    pub(crate) fn flatten(&mut self) -> Result<(), Halt>
         ensures { Moves (λ config s. goes_on Flattened s) result self.old self.new }
     {
         self.value_comes()?;

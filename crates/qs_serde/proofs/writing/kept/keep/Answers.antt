@@ -16,4 +16,4 @@ pub returns-in-Err-clause-follows : goal.returns-in-Err-clause-follows
 returns-in-Err-clause-follows c config before e shown moves follows =
     let now = c.args.position.now in
     subst (λ log. Follows config log (record { writer = now.writer; frame = now.frame; around = now.around; next = Nothing })) (sym c.then-in-Err.ensures)
-    (follows_stop config c.args.log.now.events before now e c.in-Err.error (subst (λ r. Moves (λ config. sent config e) r before now) c.in-Err.is moves) follows)
+    (follows_stop config c.args.log.now.events before now e c.in-Err.halt (subst (λ r. Moves (λ config. sent config e) r before now) c.in-Err.is moves) follows)

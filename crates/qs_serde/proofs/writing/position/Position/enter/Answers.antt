@@ -9,5 +9,4 @@ returns-in-Ok c config s h =
 
 pub returns-in-Err : goal.returns-in-Err
 returns-in-Err c config s h =
-    not_entered config c.enter.new.self.config s c.args.self.now (scalar_text c.args.segment) c.in-Err.stop c.enter.new.self c.into_error.result (sym c.is_some.ensures ∙ c.if-is_some.false) c.in-Err.ensures.err
-    c.into_error.ensures h
+    not_entered config s c.args.self.now (scalar_text c.args.segment) c.in-Err.stop c.enter.new.self (sym c.is_some.ensures ∙ c.if-is_some.false) c.in-Err.ensures.err h

@@ -11,5 +11,5 @@ returns-in-Ok c before value same w config s h =
 
 pub returns-in-Err : goal.returns-in-Err
 returns-in-Err c before value same w config s h =
-    inr (failed config s before value h c.take.new.self.config c.in-Err.stop c.args.self.now.writer c.take.new.self c.into_error.result
-    (subst (λ r. WritesPart r before.writer c.args.self.now.writer (λ config path. one path value)) c.in-Err.is w) c.take.ensures.left c.into_error.ensures)
+    inr (failed config s before value h c.in-Err.stop c.args.self.now.writer c.take.new.self
+    (subst (λ r. WritesPart r before.writer c.args.self.now.writer (λ config path. one path value)) c.in-Err.is w) c.take.ensures.left)

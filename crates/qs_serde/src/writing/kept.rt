@@ -17,6 +17,7 @@ use super::log::{Log, Note};
 use super::position::Position;
 use qs_data::{Scalar, Stop};
 use qs_tree::Result;
+use ryu::{Buffer, Float};
 use serde::{Case, NameKind};
 use std::fmt::{Display, Write};
 
@@ -78,6 +79,15 @@ pub(crate) fn key(
     room.clear();
     case.append(kind, name, room)?;
     position.key(room.as_bytes())
+}
+
+/// Writes a float by the fewest digits that are read as it, as the Rust crate does.
+pub(crate) fn float<F: Float>(position: &mut Position, value: F) -> Result<(), Halt>
+    ensures { (bytes : List ℕ) × Moves (λ config s. text_sent config bytes s) result position.old position.new }
+{
+    let mut buffer = Buffer::new();
+    let text = buffer.format(value);
+    position.scalar(Scalar::Bytes(text.as_bytes()))
 }
 
 /// Writes what is printed.

@@ -1,6 +1,6 @@
 //! The events that serde sends.
 
-use super::kept::{keep, key, printed, variant};
+use super::kept::{float, keep, key, printed, variant};
 use super::log::Note;
 use super::text::{Settings, TextSerializer};
 use itoa::Buffer;
@@ -44,12 +44,12 @@ impl<K: Settings> Serializer for TextSerializer<K> {
     }
 
     fn f32(&mut self, v: f32) -> Result<()> {
-        let made = printed(&mut self.position, &mut self.room, &v);
+        let made = float(&mut self.position, v);
         keep(&mut self.position, &mut self.log, made, &Note::Single(v))
     }
 
     fn f64(&mut self, v: f64) -> Result<()> {
-        let made = printed(&mut self.position, &mut self.room, &v);
+        let made = float(&mut self.position, v);
         keep(&mut self.position, &mut self.log, made, &Note::Double(v))
     }
 

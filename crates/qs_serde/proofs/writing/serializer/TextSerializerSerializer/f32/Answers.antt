@@ -4,5 +4,5 @@ use Rattle.qs_serde.proofs.writing.serializer.TextSerializerSerializer.f32.Goals
 
 pub invariant_of-self : goal.invariant_of-self
 invariant_of-self g c =
-    let made = c.printed-made.ensures in
+    let made = c.float-made.ensures in
     record { follows = c.keep.ensures.follows g.K.Settings.config c.args.self.now.position (text made.0) (made.0, refl) made.1 c.args.self.now.follows }

@@ -9,13 +9,13 @@ import tempfile
 import threading
 import time
 
-# A check was seen to take so many bytes at most.
-MEMORY = 5_000_000_000
+# A check was seen to take so many bytes at most, and `rt ci` may run beside.
+MEMORY = 6_000_000_000
 EVERY = 15
 
 
 def at_a_time():
-    """Returns how many checks to run at a time: as many as RT_JOBS says, or else one a processor and one for each 5 GB of free memory."""
+    """Returns how many checks to run at a time: as many as RT_JOBS says, or else one a processor and one for each 6 GB of free memory."""
     number = os.environ.get("RT_JOBS", "")
     if number.isdigit() and int(number):
         return int(number)

@@ -84,8 +84,13 @@ def tree_json(node, key_text, text):
     return None if node is None else text(node)
 
 
+def is_integer(key):
+    """Whether JSON's string would be taken for an integer key."""
+    return re.fullmatch(rb"0|[1-9][0-9]*", key) is not None and int(key) < 2**32
+
+
 def plain_key(key):
-    if re.fullmatch(rb"[0-9]+", key):
+    if is_integer(key):
         raise Unsaid
     return text_of(key)
 
@@ -95,8 +100,8 @@ def encoded(data):
 
 
 def encoded_key(key):
-    """Encoded, and of digits alone each: without `%` these are an integer."""
-    return "".join(f"%{b:02X}" for b in key) if re.fullmatch(rb"[0-9]+", key) else encoded(key)
+    """Encoded, and each byte of what would be taken for an integer key."""
+    return "".join(f"%{b:02X}" for b in key) if is_integer(key) else encoded(key)
 
 
 def tree_members(node):

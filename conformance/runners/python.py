@@ -3,8 +3,8 @@
     python3 conformance/runners/python.py [--differences]
 
 `parse` reads whatever is there, and so a map of integer keys as a list: a tree with such keys is wanted as a list if these are 0, 1, 2 and so on, and else
-as a mismatch. Errors have to be of the same kind, and those of the parser have the same position. Left out is what the module doesn't say: trees with strings
-that aren't UTF-8 or two keys with one text, and a depth limit above 100.
+as a mismatch. An error of the parser has to have the same position; of a shape any error agrees with any. Left out is what the module doesn't say: trees with
+strings that aren't UTF-8 or two keys with one text, and a depth limit above 100.
 """
 
 import json
@@ -75,14 +75,14 @@ def found(case):
 
 
 def agrees(got, want):
-    if want[0] in ("rejected", "no_pairs"):
-        return got[0] in ("parse", "mismatch", "not_utf8")
+    if want[0] in ("mismatch", "not_utf8", "no_pairs", "rejected"):
+        return got[0] in ("mismatch", "not_utf8") or want[0] == "rejected" and got[0] == "parse"
     # In Python, True is 1.
     return json.dumps(got, sort_keys=True) == json.dumps(want, sort_keys=True)
 
 
 def main():
-    suite = json.loads((here.parent / "cases.json").read_text())
+    suite = json.loads((here.parent / "cases.json").read_text(encoding="utf-8"))
     print(f"serde_qs for Python {suite['version']}, Python {platform.python_version()}\n{'feature':12} agreed     of  left out")
     for feature in suite["features"]:
         agreed = said = out = 0

@@ -50,15 +50,15 @@ def faults(value, schema, definitions, path):
 
 def try_file(text, suite):
     """The file is what the generator prints, valid, and quotes docs/QUERYSTRINGS.md."""
-    made = subprocess.run([SUITE / "make"], check=True, capture_output=True, text=True).stdout
+    made = subprocess.run([sys.executable, SUITE / "make"], check=True, capture_output=True, encoding="utf-8").stdout
     claim("conformance/cases.json isn't what conformance/make prints", made == text)
-    schema = json.loads((SUITE / "schema.json").read_text())
+    schema = json.loads((SUITE / "schema.json").read_text(encoding="utf-8"))
     broken = list(faults(suite, schema, schema["$defs"], ""))
     claim(f"conformance/cases.json isn't valid by its schema: {broken[:3]}", not broken)
     claim("the schema takes any case", list(faults({"cases": [{"name": 1}]}, schema, schema["$defs"], "")))
     names = [(case["feature"], case["name"]) for case in suite["cases"]]
     claim("two cases of a feature have the same name", len(set(names)) == len(names))
-    document = " ".join((ROOT / "docs/QUERYSTRINGS.md").read_text().split())
+    document = " ".join((ROOT / "docs/QUERYSTRINGS.md").read_text(encoding="utf-8").split())
     for feature, sentence in suite["features"].items():
         claim(f"docs/QUERYSTRINGS.md doesn't have the sentence of {feature}: {sentence}", sentence in document)
     for name in re.findall(r"`([a-z ]+/[a-z0-9-]+)`", document):
@@ -106,7 +106,7 @@ def read_by(shape, text, mode):
 
 def try_clients():
     """What clients write is read as it was meant, or as the table says."""
-    names, *rows = [line.split("\t") for line in (SUITE / "clients.tsv").read_text().splitlines()]
+    names, *rows = [line.split("\t") for line in (SUITE / "clients.tsv").read_text(encoding="utf-8").splitlines()]
     for row in (dict(zip(names, row, strict=True)) for row in rows):
         want = row["meant"] if not row["read"] else row["read"]
         want = want if want.startswith("error") else json.loads(want)
@@ -116,7 +116,7 @@ def try_clients():
     claim("conformance/clients.tsv has fewer than 300 texts", len(rows) >= 300)
 
 
-text = (SUITE / "cases.json").read_text()
+text = (SUITE / "cases.json").read_text(encoding="utf-8")
 suite = json.loads(text)
 try_file(text, suite)
 try_trees(sys.argv[1], suite["cases"])

@@ -73,7 +73,7 @@ fn error(text: &str) -> Value {
     Value::String(format!("error {position}"))
 }
 
-fn rewritten<T: for<'de> Deserialize<'de> + Serialize>(config: Config, input: &str) -> serde_qs::Result<Value> {
+fn rewritten<T: for<'de> Deserialize<'de> + Serialize>(config: Config, input: &str) -> Result<Value, serde_qs::Error> {
     config.deserialize_str::<T>(input).and_then(|it| config.serialize_string(&it)).map(Value::String)
 }
 

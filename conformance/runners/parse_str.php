@@ -3,9 +3,10 @@
 //   php conformance/runners/parse_str.php [--differences]
 //
 // Trees and data are compared in a normal form: a list is the map of 0, 1, 2 .. to its elements, a scalar is its text, and the order of a map's keys doesn't
-// count. Nothing at the top counts as no value. No call of PHP rejects an input. What is written has to be the same text. Left out is what PHP has no form for:
-// a key without a value beside others, shapes, limits, keys with more brackets than the depth limit, bytes that aren't UTF-8, escaped brackets in query mode,
-// since PHP has form mode alone, and what is written in query mode, without indices, with a null or a boolean, or as a scalar alone.
+// count. Nothing at the top counts as no value. No call of PHP rejects an input. What is written has to be the same pieces between `&`s, in any order. Left out is
+// what PHP has no form for: a key without a value beside others, shapes, limits, keys with more brackets than the depth limit, bytes that aren't UTF-8, what is
+// written without indices, with a null or a boolean, or as a scalar alone, and query mode where that differs from form mode, which PHP has alone: what is written,
+// and inputs with escaped brackets.
 
 function normal($value)
 {
@@ -22,6 +23,13 @@ function holds($value, $test)
     return is_array($value) ? array_filter($value, fn($part) => holds($part, $test)) !== [] : $test($value);
 }
 
+function pieces($text)
+{
+    $pieces = explode('&', $text);
+    sort($pieces, SORT_STRING);
+    return implode('&', $pieces);
+}
+
 function deepest($input)
 {
     return max(array_map(fn($pair) => substr_count(strtr(explode('=', $pair)[0], ['%5B' => '[', '%5b' => '[']), '['), explode('&', $input)));
@@ -32,7 +40,7 @@ function wanted($case)
 {
     if (array_key_exists('written', $case) && !array_key_exists('shape', $case)) {
         $is_said = is_array($case['data']) && !holds($case['data'], fn($it) => is_null($it) || is_bool($it));
-        return $is_said && $case['mode'] === 'form' && $case['array_format'] === 'indexed' ? $case['written'] : null;
+        return $is_said && $case['mode'] === 'form' && $case['array_format'] === 'indexed' ? pieces($case['written']) : null;
     }
     if (!array_key_exists('input', $case) || ($case['shape'] ?? 'any') !== 'any' || isset($case['max_length']) || isset($case['max_pairs'])) {
         return null;
@@ -50,7 +58,7 @@ function wanted($case)
 function found($case)
 {
     if (!array_key_exists('input', $case)) {
-        return http_build_query($case['data'], '', '&', PHP_QUERY_RFC3986);
+        return pieces(http_build_query($case['data'], '', '&', PHP_QUERY_RFC3986));
     }
     @parse_str($case['input'], $parsed);
     return normal($parsed === [] ? null : $parsed);

@@ -2,8 +2,9 @@
 //   NODE_PATH=/usr/share/nodejs node conformance/runners/qs.js [--differences]
 //
 // Trees and data are compared in a normal form: a list is the map of 0, 1, 2 .. to its elements, a scalar is its text, and the order of a map's keys doesn't
-// count. Nothing at the top counts as no value. A case that is an error here agrees if qs throws. What is written has to be the same text. Left out is what qs has no form for: shapes, limits,
-// bytes that aren't UTF-8, numbers that JavaScript rounds, a scalar that is written alone, and escaped brackets in query mode, since qs has form mode alone.
+// count. Nothing at the top counts as no value. A case that is an error here agrees if qs throws. What is written has to be the same pieces between `&`s, in any
+// order. Left out is what qs has no form for: shapes, limits, bytes that aren't UTF-8, numbers that JavaScript rounds, a scalar that is written alone, and query
+// mode where that differs from form mode, which qs has alone: what is written, and inputs with escaped brackets.
 'use strict';
 const fs = require('fs');
 const path = require('path');
@@ -24,12 +25,13 @@ function normal(value) {
   return `{${Object.keys(value).sort().map((key) => `${JSON.stringify(key)}:${normal(value[key])}`).join()}}`;
 }
 
+const pieces = (text) => text.split('&').sort().join('&');
 const isRounded = (value) => (typeof value === 'number' ? !Number.isSafeInteger(value) : value !== null && typeof value === 'object' && Object.values(value).some(isRounded));
 
 // What is wanted, or undefined if qs has no form for the case.
 function wanted(it) {
   if ('written' in it && !('shape' in it)) {
-    return it.data === null || typeof it.data !== 'object' || isRounded(it.data) ? undefined : it.written;
+    return it.mode === 'query' || it.data === null || typeof it.data !== 'object' || isRounded(it.data) ? undefined : pieces(it.written);
   }
   if (!('input' in it) || (it.shape ?? 'any') !== 'any' || 'max_length' in it || 'max_pairs' in it) return undefined;
   if ('tree_encoded' in it || it.error === 'not_utf8' || (it.mode === 'query' && /%5[bd]/i.test(it.input))) return undefined;
@@ -38,8 +40,7 @@ function wanted(it) {
 
 function found(it) {
   if (!('input' in it)) {
-    const spaces = it.mode === 'form' ? {} : { encodeValuesOnly: true, format: 'RFC1738' };
-    return qs.stringify(it.data, { arrayFormat: FORMATS[it.array_format], strictNullHandling: true, ...spaces });
+    return pieces(qs.stringify(it.data, { arrayFormat: FORMATS[it.array_format], strictNullHandling: true }));
   }
   try {
     const parsed = qs.parse(it.input, { depth: it.depth, strictNullHandling: true, allowSparse: true, allowPrototypes: true, parameterLimit: Infinity });

@@ -2,9 +2,9 @@
 #   ruby conformance/runners/rack.rb [--differences]
 #
 # Trees and data are compared in a normal form: a list is the map of 0, 1, 2 .. to its elements, a scalar is its text, and the order of a map's keys doesn't
-# count. Nothing at the top counts as no value. A case that is an error here agrees if Rack raises one. What is written has to be the same text. Left out is
-# what Rack has no form for: shapes, limits, keys with more brackets than the depth limit, bytes that aren't UTF-8, escaped brackets in query mode, since Rack
-# decodes before it nests, and what is written in form mode, with indices or as anything but a map.
+# count. Nothing at the top counts as no value. A case that is an error here agrees if Rack raises one. What is written has to be the same pieces between `&`s, in
+# any order. Left out is what Rack has no form for: shapes, limits, keys with more brackets than the depth limit, bytes that aren't UTF-8, inputs with escaped
+# brackets in query mode, since Rack decodes before it nests, and what is written in form mode, without `[]` or as anything but a map.
 require "json"
 begin
   require "rack"
@@ -24,6 +24,8 @@ def normal(value)
   end
 end
 
+def pieces(text) = text.split("&").sort.join("&")
+
 def deepest(input)
   input.split("&").map { |pair| pair.split("=").first.to_s.gsub(/%5b/i, "[").count("[") }.max || 0
 end
@@ -31,7 +33,7 @@ end
 # What is wanted, or nil if Rack has no form for the case.
 def wanted(it)
   if it.key?("written") && !it.key?("shape")
-    return it["data"].is_a?(Hash) && it["mode"] == "query" && it["array_format"] == "empty_indexed" ? it["written"] : nil
+    return it["data"].is_a?(Hash) && it["mode"] == "query" && it["array_format"] == "empty_indexed" ? pieces(it["written"]) : nil
   end
   return if !it.key?("input") || it.fetch("shape", "any") != "any" || it.key?("max_length") || it.key?("max_pairs")
   return if it.key?("tree_encoded") || it["error"] == "not_utf8" || deepest(it["input"]) > it["depth"]
@@ -41,7 +43,7 @@ def wanted(it)
 end
 
 def found(it)
-  return Rack::Utils.build_nested_query(it["data"]) unless it.key?("input")
+  return pieces(Rack::Utils.build_nested_query(it["data"])) unless it.key?("input")
 
   parsed = Rack::Utils.parse_nested_query(it["input"], "&")
   normal(parsed.empty? ? nil : parsed)

@@ -3,8 +3,8 @@
     python3 conformance/runners/python.py [--differences]
 
 `parse` reads whatever is there, and so a map of integer keys as a list: a tree with such keys is wanted as a list if these are 0, 1, 2 and so on, and else
-as a mismatch. An error of the parser has to have the same position; of a shape any error agrees with any. Left out is what the module doesn't say: trees with
-strings that aren't UTF-8 or two keys with one text, and a depth limit above 100.
+as a mismatch. An error of the parser has to have the same position; of a shape any error agrees with any. The library
+takes a depth limit of 100 at most, and no case nests deeper. Left out are trees that JSON doesn't say.
 """
 
 import json
@@ -44,8 +44,8 @@ def read(tree):
 
 
 def wanted(case):
-    """What is wanted, or None if the module doesn't say it."""
-    if "tree_encoded" in case or case["depth"] > 100:
+    """What is wanted, or None of a tree that JSON doesn't say."""
+    if "tree_encoded" in case:
         return None
     if "error" in case:
         return case["error"], case.get("position", 0)
@@ -58,7 +58,7 @@ def wanted(case):
 
 
 def call(case):
-    settings = {"max_depth": case["depth"], "form": case["mode"] == "form", "reject_duplicates": case.get("duplicates") == "error"}
+    settings = {"max_depth": min(case["depth"], 100), "form": case["mode"] == "form", "reject_duplicates": case.get("duplicates") == "error"}
     settings |= {name: case[name] for name in ("max_length", "max_pairs") if name in case}
     query = bytes.fromhex(case["input_hex"]) if "input_hex" in case else case.get("input")
     value = case.get("data")

@@ -22,7 +22,7 @@ except OSError as missing:
     sys.exit()
 
 FORMATS = {"indexed": serde_qs.INDEXED, "empty_indexed": serde_qs.EMPTY_INDEXED, "unindexed": serde_qs.UNINDEXED}
-KINDS = {4: "parse", 5: "mismatch", 6: "not_utf8", 9: "too_deep", 10: "too_long"}
+KINDS = {4: "parse", 5: "mismatch", 6: "not_utf8", 9: "too_deep", 10: "too_large"}
 
 
 class Gap(Exception):

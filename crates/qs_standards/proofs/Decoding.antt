@@ -57,7 +57,7 @@ percent_kept b (c ∷ e ∷ rest) h = ap (λ x. cond x ((16 * digit_value c + di
 pub kept : (b : ℕ) (rest : List ℕ) → (b == 37 && begins_digits rest) ≡ false → form_decoded (b ∷ rest) ≡ plus_to_space b ∷ form_decoded rest
 kept b rest h = percent_kept (plus_to_space b) (map plus_to_space rest) (ap (λ x. x && begins_digits (map plus_to_space rest)) (spaced b) ∙ ap (λ x. b == 37 && x) (begins_spaced rest) ∙ h)
 
-escaped : (b c e : ℕ) (rest : List ℕ) → (b == 37) ≡ true → is_digit c 16 ≡ true → is_digit e 16 ≡ true → form_decoded (b ∷ c ∷ e ∷ rest) ≡ (16 * digit_value c + digit_value e) ∷ form_decoded rest
+pub escaped : (b c e : ℕ) (rest : List ℕ) → (b == 37) ≡ true → is_digit c 16 ≡ true → is_digit e 16 ≡ true → form_decoded (b ∷ c ∷ e ∷ rest) ≡ (16 * digit_value c + digit_value e) ∷ form_decoded rest
 escaped b c e rest p d f =
     ap (λ x. cond x ((16 * digit_value (plus_to_space c) + digit_value (plus_to_space e)) ∷ form_decoded rest) (plus_to_space b ∷ form_decoded (c ∷ e ∷ rest))) (spaced_escape (spaced b ∙ p) (digit_spaced c ∙ d) (digit_spaced e ∙ f))
     ∙ ap (λ x. (16 * digit_value x + digit_value (plus_to_space e)) ∷ form_decoded rest) (digit_stays c d)

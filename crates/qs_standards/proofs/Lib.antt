@@ -2,7 +2,8 @@ pub mod Decoding
 pub mod Pieces
 pub mod Covers
 pub mod Alike
+pub mod Kit
+pub mod HeldNames
+pub mod WrittenForms
 pub mod Queries
-pub mod Texts
-pub mod Trees
-pub mod Examples
+pub mod OnBoth

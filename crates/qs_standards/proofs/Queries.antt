@@ -8,7 +8,7 @@ use Rattle.qs_spec.specs.Token.{is_bracket}
 use Rattle.qs_spec.specs.Entry.{Path, Entry}
 use Rattle.qs_spec.specs.Written.{open_bytes, close_bytes, brackets_text, path_text, value_text, has_key, entry_text, written}
 use Rattle.qs_spec.proofs.Booleans.{and_both, not_of}
-use Rattle.qs_standards.specs.Uri.{is_query_byte, is_query_with, is_query, is_unwise}
+use Rattle.qs_standards.specs.Uri.{is_query_byte, is_query_with, is_query, is_in_query_set, is_unwise}
 use Rattle.qs_standards.specs.Bracketed.{AreBytes, IsOfBytes, value_or_empty}
 
 -- the bytes that a mode adds to those of RFC 3986
@@ -113,6 +113,9 @@ queries form started (e ∷ es) h =
     ∙ path_front form e.path (value_text form e.value ++ more) h.0.0
     ∙ value_front form e.value more h.0.1
     ∙ queries form (started || has_key e.path) es h.1
+
+pub unwise : (b : ℕ) → b < 256 → is_unwise b ≡ (not (b == 37) && not (is_in_query_set b) && not (is_query_byte b))
+unwise b l = agree_below_at is_unwise (λ b. not (b == 37) && not (is_in_query_set b) && not (is_query_byte b)) 256 b refl l
 
 -- of each byte of data
 pub exact : (b : ℕ) → b < 256 → is_query (encoded false (b ∷ [])) ≡ (not (is_unwise b) || is_bracket b)

@@ -1,5 +1,5 @@
 -- The query of a URI: RFC 3986, section 3.4, with the rules of appendix A that it is made of.
-use Rattle.std.specs.Prelude.{ℕ, Bool, true, false, ◌&&◌, ◌||◌, ◌==◌, List, [], ◌∷◌, if◌then◌else◌}
+use Rattle.std.specs.Prelude.{ℕ, Bool, true, false, not, ◌&&◌, ◌||◌, ◌==◌, List, [], ◌∷◌, if◌then◌else◌}
 use Rattle.std.specs.Char.{is_digit}
 use Rattle.qs_spec.specs.Escape.{is_between}
 use Rattle.qs_spec.specs.Token.{is_bracket}
@@ -30,7 +30,10 @@ is_query_with other (b ∷ c ∷ e ∷ rest) =
 abbrev pub is_query : List ℕ → Bool
 is_query = is_query_with (λ b. false)
 
--- "unwise" of RFC 2396, section 2.4.3: `[`, `\`, `]`, `^`, the backtick, `{`, `|`, `}`. RFC 3986 allows them in no query, and the query
--- percent-encode set of the URL Standard (section 1.3) has none of them.
+-- the query percent-encode set of the URL Standard, section 1.3: C0 controls, what is above `~`, the space, `"`, `#`, `<` and `>`
+abbrev pub is_in_query_set : ℕ → Bool
+is_in_query_set b = not (is_between 33 126 b) || b == 34 || b == 35 || b == 60 || b == 62
+
+-- "unwise" of RFC 2396, section 2.4.3, which RFC 3986 replaces: `[`, `\`, `]`, `^`, the backtick, `{`, `|`, `}`
 abbrev pub is_unwise : ℕ → Bool
 is_unwise b = is_bracket b || b == 92 || b == 94 || b == 96 || b == 123 || b == 124 || b == 125

@@ -12,6 +12,7 @@ ghost use Rattle.qs_spec.specs.Tree.Entries.{entry, no_entries};
 ghost use Rattle.qs_standards.specs.PercentDecode.{percent_decoded};
 ghost use Rattle.qs_standards.specs.FormUrlencoded.{form_parsed};
 ghost use Rattle.qs_standards.specs.Covered.{covers_encoded};
+ghost use Rattle.qs_standards.specs.Named.{HoldsNamed};
 ghost use Rattle.qs_standards.specs.Uri.{is_query, is_query_with, is_unwise};
 ghost use Rattle.qs_standards.specs.Worked.{named, one_leaf, ReadsBoth};
 
@@ -31,6 +32,7 @@ pub fn read_alike()
     ensures empty_value { ReadsBoth (codes "a=") (named (codes "a") [] ∷ []) (only (codes "a") (leaf Null)) }
     ensures first_equals { ReadsBoth (codes "a=b=c") (named (codes "a") (codes "b=c") ∷ []) (only (codes "a") (text_leaf (codes "b=c"))) }
     ensures plus { ReadsBoth (codes "a+b=%2B") (named (codes "a b") (codes "+") ∷ []) (one_leaf (Str (codes "a b")) true (Text (codes "+") true)) }
+    ensures percent { ReadsBoth (codes "a=%2541") (named (codes "a") (codes "%41") ∷ []) (one_leaf (Str (codes "a")) false (Text (codes "%41") true)) }
     ensures empty_pieces { ReadsBoth (codes "&&a=1&") (named (codes "a") (codes "1") ∷ []) (only (codes "a") (text_leaf (codes "1"))) }
     ensures brackets { ReadsBoth (codes "a[b]=1&a%5B%5D=2") (named (codes "a[b]") (codes "1") ∷ named (codes "a[]") (codes "2") ∷ [])
         (mapping (entry (Str (codes "a[]")) true (text_leaf (codes "2")) (at_text (codes "a[b]") (text_leaf (codes "1")) no_entries))) }
@@ -50,6 +52,13 @@ pub fn read_differently()
     ensures covered_plus { ReadsBoth (codes "a=%4+1") (named (codes "a") (codes "%4 1") ∷ []) (one_leaf (Str (codes "a")) false (Text (codes "%4+1") true)) }
     ensures empty_name_first { form_parsed (codes "=v&b") ≡ named [] (codes "v") ∷ named (codes "b") [] ∷ [] }
     ensures no_tree { HasNoTree false 0 (codes "=v&b") }
+{}
+
+/// A tree holds a name by its key, and its value as a leaf.
+pub fn not_held()
+    ensures other_value { HoldsNamed (named (codes "a") (codes "1") ∷ []) (only (codes "a") (text_leaf (codes "2"))) → ⊥ }
+    ensures other_name { HoldsNamed (named (codes "a") (codes "1") ∷ []) (only (codes "b") (text_leaf (codes "1"))) → ⊥ }
+    ensures other_number { HoldsNamed (named (codes "1") (codes "x") ∷ []) (one_leaf (Int 2) false (Text (codes "x") false)) → ⊥ }
 {}
 
 /// Which broken escapes cover something.

@@ -1,6 +1,7 @@
 //! The pairs of an input, and the names and values of the URL Standard's parser.
 
-ghost use Rattle.std.specs.Prelude.{◌≡◌, ◌↔◌, ℕ, Bool, List, IsFalse};
+ghost use Rattle.std.specs.Prelude.{◌≡◌, ◌↔◌, ℕ, Bool, List, map, IsFalse};
+ghost use Rattle.form_urlencoded.specs.Form.{parse};
 ghost use Rattle.qs_spec.specs.Escape.{decoded};
 ghost use Rattle.qs_spec.specs.Token.{tokens};
 ghost use Rattle.qs_spec.specs.Grammar.{Pair, ArePairs};
@@ -8,6 +9,11 @@ ghost use Rattle.qs_standards.specs.FormUrlencoded.{form_decoded, form_parsed};
 ghost use Rattle.qs_standards.specs.Covered.{covers_encoded};
 ghost use Rattle.qs_standards.specs.Pieces.{piece_pairs};
 ghost use Rattle.qs_standards.specs.Named.{AreNamed};
+
+/// The kit's crate `form_urlencoded`, a port of the Rust crate, states what it returns by a definition with the same names and values.
+pub fn kit_parser()
+    ensures { (input : List ℕ) → map (λ n. (n.name, n.value)) (form_parsed input) ≡ parse input }
+{}
 
 /// Bytes are decoded as the standard decodes them exactly if no broken escape covers `+` or another escape.
 pub fn broken_escapes()

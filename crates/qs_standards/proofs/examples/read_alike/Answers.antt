@@ -1,5 +1,5 @@
 use Rattle.std.proofs.Common.{refl}
-use Rattle.qs_standards.proofs.Examples.{reads_both}
+use Rattle.qs_standards.proofs.OnBoth.{reads_both}
 use Rattle.qs_standards.proofs.examples.read_alike.Goals as goal
 
 pub returns-clause-name : goal.returns-clause-name
@@ -34,3 +34,6 @@ returns-clause-index c = reads_both _ _ _ refl refl refl
 
 pub returns-clause-escaped_separators : goal.returns-clause-escaped_separators
 returns-clause-escaped_separators c = reads_both _ _ _ refl refl refl
+
+pub returns-clause-percent : goal.returns-clause-percent
+returns-clause-percent c = reads_both _ _ _ refl refl refl

@@ -1,5 +1,5 @@
 use Rattle.std.proofs.Common.{refl, false, codes}
-use Rattle.qs_standards.proofs.Examples.{reads_both}
+use Rattle.qs_standards.proofs.OnBoth.{reads_both}
 use Rattle.qs_spec.proofs.TreeOf.{no_tree}
 use Rattle.qs_standards.proofs.examples.read_differently.Goals as goal
 

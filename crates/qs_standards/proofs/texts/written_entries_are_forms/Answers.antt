@@ -1,4 +1,4 @@
-use Rattle.qs_standards.proofs.Texts.{forms}
+use Rattle.qs_standards.proofs.WrittenForms.{forms}
 use Rattle.qs_standards.proofs.texts.written_entries_are_forms.Goals as goal
 
 pub returns : goal.returns

@@ -1,4 +1,4 @@
-use Rattle.qs_standards.proofs.Trees.{holds, some_tree, no_tree}
+use Rattle.qs_standards.proofs.HeldNames.{holds, some_tree, no_tree}
 use Rattle.qs_standards.proofs.trees.trees_without_depth.Goals as goal
 
 pub returns-clause-tree : goal.returns-clause-tree

@@ -1,8 +1,9 @@
 -- What is written is a form of the paths, with their brackets, and the values.
-use Rattle.std.proofs.Common.{◌≡◌, ◌≢◌, ℕ, zero, suc, ◌+◌, ◌*◌, ◌<◌, Bool, true, false, cond, not, ◌&&◌, ◌||◌, ◌==◌, nat_lt, List, [], ◌∷◌, ◌++◌, map, refl, sym, ap, ap₂, ◌∙◌, append_assoc, append-nil, Option, Some, None}
+use Rattle.std.proofs.Common.{◌≡◌, ◌≢◌, ℕ, zero, suc, ◌+◌, ◌*◌, ◌<◌, Bool, true, false, cond, not, ◌&&◌, ◌||◌, ◌==◌, nat_lt, List, [], ◌∷◌, ◌++◌, map, refl, sym, ap, ap₂, ◌∙◌, arith, append_assoc, append-nil, Option, Some, None}
 use Rattle.std.specs.List.{list_all, filter, AllByRecursion}
 use Rattle.std.specs.Char.{is_digit, digit_value}
 use Rattle.std.proofs.lemmas.Bool.{agree_below_at}
+use Rattle.std.proofs.lemmas.Bool.Decides.{nat_tests}
 use Rattle.std.proofs.lemmas.List.Folds.{list_all-append}
 use Rattle.qs_spec.specs.Config.{Config, ArrayFormat}
 use Rattle.qs_spec.specs.Escape.{encoded_byte, encoded}
@@ -240,8 +241,7 @@ abbrev flat : List NameValue → Output
 flat ns = record { entries = map flat_entry ns; error = None }
 
 never_below : (limit : ℕ) → nat_lt limit 0 ≡ false
-never_below zero = refl
-never_below (suc limit) = refl
+never_below limit = grind (arith, nat_tests)
 
 one_text : (limit : ℕ) (fm : ArrayFormat) (n : NameValue) → deeper limit [] n.name (entries_at limit fm (Data.text n.value)) ≡ record { entries = flat_entry n ∷ []; error = None }
 unfolding deeper entries_at

@@ -1,5 +1,5 @@
 -- The pairs of an input are the standard's names and values exactly if no broken escape covers anything.
-use Rattle.std.proofs.Common.{◌≡◌, ◌↔◌, ℕ, Bool, true, false, cond, ◌&&◌, ◌||◌, ◌==◌, arith, List, [], ◌∷◌, map, refl, sym, ap, ap₂, ◌∙◌, subst, nat_le}
+use Rattle.std.proofs.Common.{◌≡◌, ◌↔◌, ℕ, Bool, true, false, cond, ◌||◌, ◌==◌, arith, List, [], ◌∷◌, map, refl, sym, ap, ap₂, ◌∙◌, subst, nat_le}
 use Rattle.std.specs.List.{list_any, list_all, filter}
 use Rattle.std.specs.Char.{is_digit}
 use Rattle.std.proofs.lemmas.Bool.Decides.{nat_tests}
@@ -65,8 +65,8 @@ piece_alike : (piece : List ℕ) → IsNamed (name_value piece) (piece_pair piec
 piece_alike piece = (
   λ h. covers_piece piece ∙ ap₂ (λ x y. x || y) ((name_alike (name_bytes piece)).0 h.name) ((alike (value_bytes piece)).0 (sym (leaf_decoded piece) ∙ sym h.value)),
   λ h.
-    let g = or_both (covers_encoded (name_bytes piece)) (covers_encoded (value_bytes piece)) (sym (covers_piece piece) ∙ h) in
-    record { direct = refl; name = (name_alike (name_bytes piece)).1 g.0; value = sym (leaf_decoded piece ∙ (alike (value_bytes piece)).1 g.1) },
+      let g = or_both (covers_encoded (name_bytes piece)) (covers_encoded (value_bytes piece)) (sym (covers_piece piece) ∙ h) in
+      record { direct = refl; name = (name_alike (name_bytes piece)).1 g.0; value = sym (leaf_decoded piece ∙ (alike (value_bytes piece)).1 g.1) },
 )
 
 pieces_alike : (pieces : List (List ℕ)) → AreNamed (map name_value pieces) (map piece_pair pieces) ↔ (list_any covers_encoded pieces ≡ false)

@@ -4,15 +4,14 @@ use Rattle.std.specs.List.{AllByRecursion}
 use Rattle.std.specs.Prelude.{IsPermutation}
 use Rattle.std.proofs.lemmas.Option.{none-some, same_Some}
 use Rattle.std.proofs.lemmas.List.Sorted.{IsPermutation-refl, IsPermutation-sym, IsPermutation-cons, IsPermutation-trans, IsPermutation-middle, IsPermutation-append_right}
-use Rattle.qs_spec.specs.Token.{tokens}
-use Rattle.qs_spec.specs.Segment.{Segment, MarkedSegment, number, is_index, compare_segments, is_same_segment}
+use Rattle.qs_spec.specs.Segment.{Segment, MarkedSegment, number, compare_segments, is_same_segment}
 use Rattle.qs_spec.specs.Segment.Segment.{Int, Str}
 use Rattle.qs_spec.specs.Leaf.{Leaf, leaf_text}
-use Rattle.qs_spec.specs.Grammar.{Pair, ArePairs}
+use Rattle.qs_spec.specs.Grammar.{Pair}
 use Rattle.qs_spec.specs.Tree.{empty_segment, Tree, Entries, IsTree, HasNoTree}
 use Rattle.qs_spec.specs.Tree.Tree.{leaf, mapping, uninitialized}
 use Rattle.qs_spec.specs.Tree.Entries.{entry, no_entries}
-use Rattle.qs_spec.specs.internal.InPlace.{update, update_by, add_flat, add_here, add_below, add, add_all}
+use Rattle.qs_spec.specs.internal.InPlace.{update, update_by, add_flat, add, add_all}
 use Rattle.qs_spec.proofs.Order.{exact_segment, is_itself}
 use Rattle.qs_spec.proofs.Permuted.{Perm-from, perm_all}
 use Rattle.qs_spec.proofs.OneMore.{NoEmpty, NoneEmpty}
@@ -21,7 +20,7 @@ use Rattle.qs_spec.proofs.Scan.{in_place}
 use Rattle.qs_standards.specs.FormUrlencoded.{NameValue, isnt_empty, form_parsed}
 use Rattle.qs_standards.specs.Covered.{covers_encoded}
 use Rattle.qs_standards.specs.Pieces.{piece_pairs}
-use Rattle.qs_standards.specs.Named.{HasName, IsNamePath, IsNamed, AreNamed, key_of, AreDistinct, IsValueLeaf, AreEntries, HoldsNamed, begins_empty}
+use Rattle.qs_standards.specs.Named.{HasName, IsNamePath, IsNamed, AreNamed, key_of, AreDistinct, AreEntries, HoldsNamed, begins_empty}
 use Rattle.qs_standards.proofs.Pieces.{are_pairs}
 use Rattle.qs_standards.proofs.Alike.{named_pieces}
 
@@ -32,7 +31,6 @@ one_name a b (Int n) g h = index a n g ∙ sym (index b n h)
     index : (a : List ℕ) (n : ℕ) → HasName a (Int n) → key_of a ≡ Int n
     index a n h = ap (λ x. cond x (Int (number a)) (Str a)) h.0 ∙ ap Int h.1
 one_name a b (Str bytes) g h = ap key_of (g ∙ sym h)
-
 
 apart : (m n : NameValue) (k : Segment) → is_same_segment (key_of m.name) (key_of n.name) ≡ false → HasName m.name k → HasName n.name k → ⊥
 apart m n k d g h =
@@ -116,9 +114,11 @@ Outcome false ns o = (t : Tree) × (o ≡ Some t) × HoldsNamed ns t
 on_map : (n : NameValue) (ns : List NameValue) (p : Pair) (ps : List Pair) (s : MarkedSegment) → p.path ≡ s ∷ [] → HasName n.name s.seg → IsNamed n p → AreNamed ns ps → AreDistinct (n ∷ ns) → Outcome false (n ∷ ns) (add_all (p ∷ ps) uninitialized)
 on_map n ns p ps s w name h hs u =
     let es = entry s.seg s.mark (leaf p.leaf) no_entries in
-    let a = added ns ps (n ∷ []) es hs (name, h.value, tt) u.1 (each ns u.0) in
-    (mapping a.after, ap (option_and_then (add_all ps)) (ap₂ (λ (q : List MarkedSegment) (b : Bool). add q b p.leaf uninitialized) w h.direct) ∙ a.is,
-    (a.named, IsPermutation-trans (n ∷ ns) (ns ++ n ∷ []) a.named (last ns) a.order, a.are))
+    let a = added ns ps (n ∷ []) es hs (name, h.value, tt) u.1 (each ns u.0) in (
+      mapping a.after,
+      ap (option_and_then (add_all ps)) (ap₂ (λ (q : List MarkedSegment) (b : Bool). add q b p.leaf uninitialized) w h.direct) ∙ a.is,
+      (a.named, IsPermutation-trans (n ∷ ns) (ns ++ n ∷ []) a.named (last ns) a.order, a.are),
+    )
   where
     each : (ms : List NameValue) → AllByRecursion (λ m. is_same_segment (key_of n.name) (key_of m.name) ≡ false) ms → AllDiffer (n ∷ []) ms
     each [] d = tt

@@ -1,19 +1,19 @@
 -- What is written is a form of the paths, with their brackets, and the values.
-use Rattle.std.proofs.Common.{◌≡◌, ◌≢◌, ℕ, zero, suc, ◌+◌, ◌*◌, ◌<◌, Bool, true, false, cond, not, ◌&&◌, ◌||◌, ◌==◌, nat_lt, List, [], ◌∷◌, ◌++◌, map, refl, sym, ap, ap₂, ◌∙◌, arith, append_assoc, append-nil, Option, Some, None}
+use Rattle.std.proofs.Common.{◌≡◌, ◌≢◌, ℕ, ◌+◌, ◌*◌, ◌<◌, Bool, true, false, cond, not, ◌&&◌, ◌||◌, ◌==◌, nat_lt, List, [], ◌∷◌, ◌++◌, map, refl, sym, ap, ap₂, ◌∙◌, arith, append_assoc, append-nil, Option, Some, None}
 use Rattle.std.specs.List.{list_all, filter, AllByRecursion}
 use Rattle.std.specs.Char.{is_digit, digit_value}
 use Rattle.std.proofs.lemmas.Bool.{agree_below_at}
 use Rattle.std.proofs.lemmas.Bool.Decides.{nat_tests}
-use Rattle.std.proofs.lemmas.List.Folds.{list_all-append}
 use Rattle.qs_spec.specs.Config.{Config, ArrayFormat}
 use Rattle.qs_spec.specs.Escape.{encoded_byte, encoded}
 use Rattle.qs_spec.specs.Data.{Data, members_of, pairs_of}
-use Rattle.qs_spec.specs.Entry.{Path, Entry, Output, entries, entries_at, member_entries, pair_entries, deeper, and_then, follow, failure, too_deep}
+use Rattle.qs_spec.specs.Entry.{Path, Entry, Output, entries, entries_at, member_entries, pair_entries, deeper, and_then, failure, too_deep}
 use Rattle.qs_spec.specs.Written.{open_bytes, close_bytes, brackets_text, path_text, value_text, has_key, written}
 use Rattle.qs_spec.proofs.Booleans.{and_both, not_of}
 use Rattle.qs_spec.proofs.EntryParsed.{text_of_first, text_of_next}
 use Rattle.qs_standards.specs.FormUrlencoded.{NameValue, before_first, split, isnt_empty, name_bytes, value_bytes, plus_to_space, form_decoded, name_value, form_parsed}
 use Rattle.qs_standards.specs.Bracketed.{in_brackets, bracketed, value_or_empty, entry_named, AreBytes, IsOfBytes, AreNamesOfBytes, WritesAny, Writes, text_struct, text_map}
+use Rattle.qs_standards.specs.Covered.{begins_digits}
 use Rattle.qs_standards.specs.Worked.{named}
 use Rattle.qs_standards.proofs.Decoding.{equal_of, kept, escaped}
 use Rattle.qs_standards.proofs.Pieces.{is_separator}
@@ -34,7 +34,7 @@ one_back : (b : ℕ) (xs rest : List ℕ) → is_back b xs ≡ true → form_dec
 one_back b [] rest h = cc
 one_back b (x ∷ []) rest h =
     let g = and_both (not (x == 37)) (plus_to_space x == b) h in
-    kept x rest (ap (λ p. p && _) (not_of (x == 37) g.0)) ∙ ap (λ c. c ∷ form_decoded rest) (equal_of (plus_to_space x) b g.1)
+    kept x rest (ap (λ p. p && begins_digits rest) (not_of (x == 37) g.0)) ∙ ap (λ c. c ∷ form_decoded rest) (equal_of (plus_to_space x) b g.1)
 one_back b (x ∷ y ∷ []) rest h = cc
 one_back b (x ∷ y ∷ z ∷ []) rest h =
     let g = and_both (x == 37 && (is_digit y 16 && is_digit z 16)) ((16 * digit_value y + digit_value z) == b) h in

@@ -1,5 +1,5 @@
 -- Where a broken escape makes a difference. Here the bytes after its `%` stay as they are (Escape); the URL Standard looks at them again.
-use Rattle.std.specs.Prelude.{ℕ, Bool, true, false, ◌&&◌, ◌||◌, ◌==◌, List, [], ◌∷◌, if◌then◌else◌}
+use Rattle.std.specs.Prelude.{ℕ, Bool, false, ◌&&◌, ◌||◌, ◌==◌, List, [], ◌∷◌, if◌then◌else◌}
 use Rattle.std.specs.Char.{is_digit}
 
 -- two hexadecimal digits come first
@@ -20,6 +20,6 @@ covers_encoded (b ∷ c ∷ []) = b == 37 && c == 43
 covers_encoded (b ∷ c ∷ e ∷ rest) =
     if b == 37
     then (if is_digit c 16
-        then (if is_digit e 16 then covers_encoded rest else begins_encoded (e ∷ rest) || covers_encoded rest)
-        else begins_encoded (c ∷ e ∷ rest) || covers_encoded (e ∷ rest))
+    then (if is_digit e 16 then covers_encoded rest else begins_encoded (e ∷ rest) || covers_encoded rest)
+    else begins_encoded (c ∷ e ∷ rest) || covers_encoded (e ∷ rest))
     else covers_encoded (c ∷ e ∷ rest)

@@ -1,5 +1,5 @@
--- The parser of `application/x-www-form-urlencoded`: URL Standard, section 5.1. Its last step, UTF-8 decode without BOM, is left out: names
--- and values are bytes here.
+-- The parser of `application/x-www-form-urlencoded`: URL Standard, section 5.1.
+-- Its UTF-8 decode without BOM (in step 3.5) is left out: names and values are bytes here.
 use Rattle.std.specs.Prelude.{ℕ, Bool, true, false, ◌==◌, List, [], ◌∷◌, map, filter, if◌then◌else◌}
 use Rattle.qs_standards.specs.PercentDecode.{percent_decoded}
 
@@ -36,7 +36,7 @@ value_bytes (b ∷ bytes) = if b == 61 then bytes else value_bytes bytes
 abbrev pub plus_to_space : ℕ → ℕ
 plus_to_space b = if b == 43 then 32 else b
 
--- steps 3.4 and 3.5
+-- steps 3.4 and 3.5, up to the UTF-8 decode
 abbrev pub form_decoded : List ℕ → List ℕ
 form_decoded bytes = percent_decoded (map plus_to_space bytes)
 

@@ -3,7 +3,7 @@ use Rattle.std.specs.Prelude.{◌≡◌, ℕ, Bool, false, not, List, [], ◌∷
 use Rattle.std.specs.List.{AllByRecursion}
 use Rattle.qs_spec.specs.Segment.{Segment, MarkedSegment, number, is_index, is_same_segment}
 use Rattle.qs_spec.specs.Segment.Segment.{Int, Str}
-use Rattle.qs_spec.specs.Leaf.{Leaf, leaf_text}
+use Rattle.qs_spec.specs.Leaf.{leaf_text}
 use Rattle.qs_spec.specs.Grammar.{Pair}
 use Rattle.qs_spec.specs.Tree.{Tree, Entries}
 use Rattle.qs_spec.specs.Tree.Tree.{leaf, sequence, mapping, uninitialized}

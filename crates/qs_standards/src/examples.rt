@@ -37,6 +37,7 @@ pub fn read_alike()
     ensures brackets { ReadsBoth (codes "a[b]=1&a%5B%5D=2") (named (codes "a[b]") (codes "1") ∷ named (codes "a[]") (codes "2") ∷ [])
         (mapping (entry (Str (codes "a[]")) true (text_leaf (codes "2")) (at_text (codes "a[b]") (text_leaf (codes "1")) no_entries))) }
     ensures empty_name { ReadsBoth (codes "=v") (named [] (codes "v") ∷ []) (text_leaf (codes "v")) }
+    ensures empty_name_and_value { ReadsBoth (codes "=") (named [] [] ∷ []) (leaf Null) }
     ensures empty_name_later { ReadsBoth (codes "b&=v") (named (codes "b") [] ∷ named [] (codes "v") ∷ []) (mapping (at_text [] (text_leaf (codes "v")) (at_text (codes "b") (leaf NoValue) no_entries))) }
     ensures nothing { ReadsBoth (codes "&") [] uninitialized }
     ensures index { ReadsBoth (codes "01=x") (named (codes "01") (codes "x") ∷ []) (one_leaf (Int 1) false (Text (codes "x") false)) }

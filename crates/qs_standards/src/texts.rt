@@ -1,6 +1,6 @@
 //! What is written, as the URL Standard's parser reads it.
 
-ghost use Rattle.std.specs.Prelude.{◌≡◌, ◌≢◌, ℕ, Bool, true, false, List, [], map, None};
+ghost use Rattle.std.specs.Prelude.{◌≡◌, ◌≢◌, ℕ, Bool, true, false, List, [], map, codes, None};
 ghost use Rattle.std.specs.List.{AllByRecursion};
 ghost use Rattle.qs_spec.specs.Config.{Config};
 ghost use Rattle.qs_spec.specs.Entry.{Entry, entries};
@@ -17,6 +17,7 @@ pub fn written_entries_are_forms()
 pub fn written_texts_are_forms()
     ensures of_struct { (config : Config) (ns : List NameValue) → AreNamesOfBytes ns → form_parsed (written config.form false (entries config (text_struct ns)).entries) ≡ ns }
     ensures of_map { (config : Config) (ns : List NameValue) → ns ≢ [] → AreNamesOfBytes ns → form_parsed (written config.form false (entries config (text_map ns)).entries) ≡ ns }
+    ensures empty_map { (config : Config) → written config.form false (entries config (text_map [])).entries ≡ codes "=" }
     ensures whole_struct { (config : Config) (ns : List NameValue) → (entries config (text_struct ns)).error ≡ None }
     ensures whole_map { (config : Config) (ns : List NameValue) → (entries config (text_map ns)).error ≡ None }
 {}

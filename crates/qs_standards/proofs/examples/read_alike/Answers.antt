@@ -37,3 +37,6 @@ returns-clause-escaped_separators c = reads_both _ _ _ refl refl refl
 
 pub returns-clause-percent : goal.returns-clause-percent
 returns-clause-percent c = reads_both _ _ _ refl refl refl
+
+pub returns-clause-empty_name_and_value : goal.returns-clause-empty_name_and_value
+returns-clause-empty_name_and_value c = reads_both _ _ _ refl refl refl

@@ -26,13 +26,6 @@ digit_spaced b = by (b == 43) refl
     by true e = sym (ap (λ x. is_digit x 16) (equal_of b 43 e))
     by false e = refl
 
-value_spaced : (b : ℕ) → is_digit b 16 ≡ true → digit_value (plus_to_space b) ≡ digit_value b
-value_spaced b d = by (b == 43) refl
-  where
-    by : (p : Bool) → (b == 43) ≡ p → digit_value (cond p 32 b) ≡ digit_value b
-    by true e = let w = sym d ∙ ap (λ x. is_digit x 16) (equal_of b 43 e) in cc
-    by false e = refl
-
 percent_is : (b : ℕ) → (b == 37) ≡ true → plus_to_space b ≡ b
 percent_is b e = let w = equal_of b 37 e in ap plus_to_space w ∙ sym w
 

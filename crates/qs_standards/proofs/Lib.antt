@@ -5,5 +5,6 @@ pub mod Alike
 pub mod Kit
 pub mod HeldNames
 pub mod WrittenForms
+pub mod FlatData
 pub mod Queries
 pub mod OnBoth

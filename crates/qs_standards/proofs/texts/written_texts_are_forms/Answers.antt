@@ -1,7 +1,7 @@
 use Rattle.std.proofs.Common.{refl, ap}
 use Rattle.qs_spec.proofs.OnLiterals.{on_literals}
 use Rattle.qs_spec.specs.Entry.{Output}
-use Rattle.qs_standards.proofs.WrittenForms.{struct_flat, struct_form, map_form, map_whole}
+use Rattle.qs_standards.proofs.FlatData.{struct_flat, struct_form, map_form, map_whole}
 use Rattle.qs_standards.proofs.texts.written_texts_are_forms.Goals as goal
 
 pub returns-clause-of_struct : goal.returns-clause-of_struct

@@ -1,0 +1,10 @@
+pub mod Decoding
+pub mod Pieces
+pub mod Covers
+pub mod Alike
+pub mod Kit
+pub mod HeldNames
+pub mod WrittenForms
+pub mod FlatData
+pub mod Queries
+pub mod OnBoth

@@ -1,0 +1,15 @@
+use Rattle.std.proofs.Common.{true, false}
+use Rattle.qs_standards.proofs.Queries.{queries, unwise, exact}
+use Rattle.qs_standards.proofs.uris.written_queries_of_uris.Goals as goal
+
+pub returns-clause-form : goal.returns-clause-form
+returns-clause-form c = queries true
+
+pub returns-clause-query : goal.returns-clause-query
+returns-clause-query c = queries false
+
+pub returns-clause-exact : goal.returns-clause-exact
+returns-clause-exact c = exact
+
+pub returns-clause-unwise : goal.returns-clause-unwise
+returns-clause-unwise c = unwise

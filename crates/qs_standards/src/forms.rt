@@ -1,0 +1,32 @@
+//! The pairs of an input, and the names and values of the URL Standard's parser.
+
+ghost use Rattle.std.specs.Prelude.{◌≡◌, ◌↔◌, ℕ, Bool, List, map, IsFalse};
+ghost use Rattle.form_urlencoded.specs.Form.{parse};
+ghost use Rattle.qs_spec.specs.Escape.{decoded};
+ghost use Rattle.qs_spec.specs.Token.{tokens};
+ghost use Rattle.qs_spec.specs.Grammar.{Pair, ArePairs};
+ghost use Rattle.qs_standards.specs.FormUrlencoded.{form_decoded, form_parsed};
+ghost use Rattle.qs_standards.specs.Covered.{covers_encoded};
+ghost use Rattle.qs_standards.specs.Pieces.{piece_pairs};
+ghost use Rattle.qs_standards.specs.Named.{AreNamed};
+
+/// The kit's crate `form_urlencoded`, a port of the Rust crate, states what it returns by a definition with the same names and values.
+pub fn kit_parser()
+    ensures { (input : List ℕ) → map (λ n. (n.name, n.value)) (form_parsed input) ≡ parse input }
+{}
+
+/// Bytes are decoded as the standard decodes them exactly if no broken escape covers `+` or another escape.
+pub fn broken_escapes()
+    ensures { (raw : List ℕ) → (decoded raw ≡ form_decoded raw) ↔ IsFalse (covers_encoded raw) }
+{}
+
+/// Without depth, in both modes, every input is the pairs of the standard's pieces and no others.
+pub fn pairs_without_depth()
+    ensures { (form : Bool) (input : List ℕ) (pairs : List Pair) → ArePairs 0 (tokens form input) pairs ↔ (pairs ≡ piece_pairs input) }
+{}
+
+/// Without depth, in both modes, the pairs of an input are the standard's names and values exactly if no broken escape covers `+` or another escape.
+pub fn names_and_values()
+    ensures { (form : Bool) (input : List ℕ) (pairs : List Pair) → ArePairs 0 (tokens form input) pairs
+        → AreNamed (form_parsed input) pairs ↔ IsFalse (covers_encoded input) }
+{}

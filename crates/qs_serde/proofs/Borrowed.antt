@@ -1,5 +1,5 @@
 -- What is read of a text that is borrowed from the input.
-use Rattle.std.proofs.Common.{◌≡◌, ℕ, List, [], Bool, true, Option, Some, refl, ap, ◌∙◌}
+use Rattle.std.proofs.Common.{◌≡◌, ℕ, List, [], Bool, true, Some, ◌∙◌}
 use Rattle.std.specs.Str.{is_utf8}
 use Rattle.qs_spec.specs.Data as d
 use Rattle.qs_spec.specs.Shape as s

@@ -1,6 +1,6 @@
 //! Values of one text.
 
-ghost use Rattle.std.specs.Prelude.{◌≡◌, false, true, map, slice_range, IfErr, IfOk, IfSome, OnOk, Some, string_bytes};
+ghost use Rattle.std.specs.Prelude.{◌≡◌, true, map, slice_range, IfErr, IfOk, IfSome, OnOk, Some, string_bytes};
 ghost use Rattle.std.specs.Str.{is_utf8};
 ghost use Rattle.qs_spec.specs.Data as d;
 ghost use Rattle.qs_spec.specs.Node.{item_text, last_item};

@@ -6,3 +6,4 @@ pub mod Sends
 pub mod Floats
 pub mod Walks
 pub mod Errors
+pub mod Borrowed

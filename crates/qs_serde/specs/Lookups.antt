@@ -1,14 +1,15 @@
 -- Looking up a text among names.
-use Rattle.std.specs.Prelude.{ℕ, List, Option, Some, None, MatchOption}
-use Rattle.qs_spec.specs.Leaf.Leaf.{Text}
+use Rattle.std.specs.Prelude.{ℕ, List, [], Option, Some, None, MatchOption}
+use Rattle.qs_spec.specs.Leaf.Leaf.{Null, Text}
 use Rattle.qs_spec.specs.Tree.{Tree}
 use Rattle.qs_spec.specs.Tree.Tree.{leaf}
 use Rattle.serde.specs.Names.{Finds}
 use Rattle.serde.specs.declared.name.Name.{Name}
 
--- the text of a leaf that has one
+-- the text of a leaf, which an empty value has too
 abbrev pub only_text : Tree → Option (List ℕ)
 only_text (leaf (Text t mark)) = Some t
+only_text (leaf Null) = Some []
 only_text _ = None
 
 -- what serde's `find` returns for a text

@@ -1,8 +1,8 @@
 -- What each step of the format reads, and where the format is then.
-use Rattle.std.specs.Prelude.{◌≡◌, ◌⊎◌, ℕ, suc, pos, negsuc, ◌<ℤ◌, ◌^◌, ◌≤◌, ⊤, Bool, true, false, List, [], ◌∷◌, ◌++◌, length, take, drop, slice_get, Option, Some, None, option_map}
-use Rattle.qs_spec.specs.Leaf.Leaf.{Null}
-use Rattle.qs_spec.specs.Tree.{Tree}
-use Rattle.qs_spec.specs.Tree.Tree.{leaf}
+use Rattle.std.specs.Prelude.{◌≡◌, ◌⊎◌, ℕ, suc, pos, negsuc, ◌<ℤ◌, ◌^◌, ◌≤◌, ⊤, Bool, true, false, List, [], ◌∷◌, ◌++◌, length, take, drop, slice_get, Option, Some, None, option_map, option_and_then, cond}
+use Rattle.qs_spec.specs.Leaf.Leaf.{NoValue, Null, Text}
+use Rattle.qs_spec.specs.Tree.{Tree, Entries}
+use Rattle.qs_spec.specs.Tree.Tree.{leaf, sequence, mapping, uninitialized}
 use Rattle.qs_spec.specs.Node.{items}
 use Rattle.qs_spec.specs.Data as d
 use Rattle.qs_spec.specs.Shape as s
@@ -10,7 +10,7 @@ use Rattle.qs_tree.specs.tree.Views.{tree_of, entry_list}
 use Rattle.qs_data.specs.read.Entries.{node_entries}
 use Rattle.qs_data.specs.read.Items.{first_item}
 use Rattle.qs_data.specs.read.Reads.{reads}
-use Rattle.serde.specs.Event.{Event, boolean, signed, unsigned, single, double, character, text, octets, nothing, seq_begins, seq_ends, map_begins, map_ends, key_begins}
+use Rattle.serde.specs.Event.{Event, boolean, signed, unsigned, single, double, character, text, octets, nothing, seq_begins, seq_ends, map_begins, map_ends, key_begins, struct_begins}
 use Rattle.serde.specs.declared.name.Name.{Name}
 use Rattle.qs_serde.specs.Nodes.{IsEntry, key_tree, listed, pairs_in}
 use Rattle.qs_serde.specs.Lookups.{LooksUp}
@@ -58,6 +58,42 @@ HasText old = (t : List ℕ) × Is old s.Shape.text (d.text t)
 abbrev pub IsHeld : Part → Type 0
 IsHeld p.Held = ⊤
 IsHeld _ = ⊥
+
+-- the node that is next, unless a key is
+abbrev pub node_unless_key : Part → Tree → Option Tree
+node_unless_key p.Value t = Some t
+node_unless_key p.Held t = Some t
+node_unless_key p.NoValue t = Some t
+node_unless_key p.Key t = None
+
+abbrev pub next_node : TreeFormat → Option Tree
+next_node f = node_unless_key f.part (tree_of f.node.now)
+
+-- the list of what is next, and the map
+abbrev pub next_items : TreeFormat → Option (List (Option Tree))
+next_items f = option_and_then items (next_node f)
+
+abbrev pub next_entries : TreeFormat → Option Entries
+next_entries f = option_and_then node_entries (next_node f)
+
+abbrev pub is_held : Part → Bool
+is_held p.Value = false
+is_held p.Held = true
+is_held p.NoValue = false
+is_held p.Key = false
+
+-- As what kind a struct is begun of a node: a text holds fields only in a variant.
+abbrev pub kind_of_struct : Bool → Tree → Option FrameKind
+kind_of_struct held (leaf NoValue) = Some k.Fields
+kind_of_struct held (leaf Null) = Some k.Fields
+kind_of_struct held (leaf (Text t mark)) = cond held (Some k.Fields) None
+kind_of_struct held (sequence xs) = Some k.Places
+kind_of_struct held (mapping es) = Some k.Fields
+kind_of_struct held uninitialized = None
+
+-- the kind of the struct that is next
+abbrev pub next_struct : TreeFormat → Option FrameKind
+next_struct f = option_and_then (kind_of_struct (is_held f.part)) (next_node f)
 
 -- the node has a list
 abbrev pub HasItems : Tree → Type 0
@@ -120,12 +156,16 @@ Reads old (character c) new = Takes old new × Is old s.Shape.character (d.chara
 Reads old (text t) new = Takes old new × Is old s.Shape.text (d.text t)
 Reads old (octets t) new = Takes old new × Is old s.Shape.bytes (d.bytes t)
 Reads old nothing new = (new ≡ old) × (Is old s.Shape.unit d.unit ⊎ IsHeld old.part)
-Reads old (seq_begins len) new = Begins old k.Items new × HasItems (tree_of old.node.now)
+Reads old (seq_begins len) new = Begins old k.Items new × (next_items old ≡ Some (listed (tree_of old.node.now)))
 Reads old seq_ends new = Leaves old new
-Reads old (map_begins len) new = (kind : FrameKind) × Begins old kind new × HasParts kind (tree_of old.node.now)
+Reads old (map_begins len) new = (kind : FrameKind) × Begins old kind new × HasParts kind (tree_of old.node.now) × (next_node old ≡ Some (tree_of old.node.now))
 Reads old map_ends new = Leaves old new × (IsPlain old → HasNoEntry old ⊎ MayEndEarly (kind_of old))
 Reads old key_begins new = (new.part ≡ p.Key) × ((key : Node) × EntryComes (count_of old) key old new)
 Reads old _ new = ⊤
+
+-- a struct was begun, as the kind that is next
+abbrev pub BeginsStruct : TreeFormat → TreeFormat → Type 0
+BeginsStruct old new = (kind : FrameKind) × Begins old kind new × (next_struct old ≡ Some kind)
 
 -- an empty value is some of what is read from no value
 abbrev pub Empties : TreeFormat → TreeFormat → Type 0
@@ -139,6 +179,10 @@ pub record Comes (old new : TreeFormat) : Type 0 where
 
 abbrev pub Stays : TreeFormat → TreeFormat → Type 0
 Stays old new = (new ≡ old) ⊎ Empties old new ⊎ Comes old new
+
+-- what serde's `begin_struct` says: the struct was begun, after a look at it or none
+abbrev pub BeginsAfterLook : TreeFormat → Bool → TreeFormat → Type 0
+BeginsAfterLook old is_sequence new = Reads old (struct_begins is_sequence) new ⊎ ((looked : TreeFormat) × Stays old looked × Reads looked (struct_begins is_sequence) new)
 
 -- the entry at an index of the innermost map came: its key was looked up among the names, and its value is next
 pub record EntryIs (i : ℕ) (names : List Name) (at : ℕ) (old new : TreeFormat) : Type 0 where

@@ -33,6 +33,19 @@ impl<'t, 'qs> TreeFormat<'t, 'qs> {
         self.saying("invalid type: string, expected a number")
     }
 
+    /// Returns the error of a text that isn't borrowed from the input: where it is no text, the one of that.
+    #[cold]
+    #[inline(never)]
+    #[tactic(auto, using(crate::proofs::Errors::step_errors))]
+    pub(crate) fn not_borrowed(&self, node: Node<'t, 'qs>) -> Error
+        ensures { IsStepError (is_text (node_tree node.entry)) result }
+    {
+        match self.read_key(node, &Shape::Text) {
+            Ok(_) => self.saying("invalid type: string, expected a borrowed string"),
+            Err(error) => error,
+        }
+    }
+
     /// Returns the error of a value that doesn't fit its type, as what was asked of it says.
     #[cold]
     #[inline(never)]
@@ -87,6 +100,7 @@ impl<'t, 'qs> TreeFormat<'t, 'qs> {
             Node::Value(ParsedValue::String(text)) => {
                 self.reader.unknown_variant(text.as_slice())
             }
+            Node::Value(ParsedValue::Null) => self.reader.unknown_variant(&[]),
             Node::Value(value) => self.reader.not_an_enum(value),
             Node::Key(Key::String(text)) => self.reader.unknown_variant(text.as_slice()),
             Node::Key(Key::Int(number)) => {

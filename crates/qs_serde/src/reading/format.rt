@@ -1,12 +1,13 @@
 //! The format: where it is in a tree, and how it moves there.
 
-ghost use Rattle.std.specs.Prelude.{◌≡◌, ◌≢◌, ◌<◌, ◌-◌, ◌++◌, ◌∷◌, [], false, suc, true, Some, slice_get, IfErr, OnOk};
+ghost use Rattle.std.specs.Prelude.{◌≡◌, ◌≢◌, ◌<◌, ◌-◌, ◌++◌, ◌∷◌, [], false, suc, true, Some, slice_get, IfErr, IfOk, OnOk};
 ghost use Rattle.qs_spec.specs.Config.{are_rejected};
 ghost use Rattle.qs_tree.specs.tree.Views.{tree_of};
-ghost use Rattle.qs_serde.specs.Errors.{IsStepError};
+ghost use Rattle.qs_tree.specs.declared.error.Error.TheVariants.{OutOfMemory};
+ghost use Rattle.qs_data.specs.read.Gives.{Gives};
 ghost use Rattle.qs_serde.specs.Nodes.{key_tree, node_tree, pairs_in};
 ghost use Rattle.qs_serde.specs.Places.{IsAt, around, child_at, kind_of, last_frame, part_view, passed, tree_at};
-ghost use Rattle.qs_serde.specs.Steps.{Begins, IsPlain, Leaves, Moves, Takes};
+ghost use Rattle.qs_serde.specs.Steps.{Begins, IsPlain, Leaves, Moves, Takes, next_node};
 
 use super::frame::{Frame, FrameKind};
 use super::node::{Node, Part, entry_at, last_of};
@@ -173,10 +174,22 @@ impl<'t, 'qs> TreeFormat<'t, 'qs> {
         node
     }
 
+    /// Returns the node that is next. Of a key it returns an error.
+    #[tactic(auto, using(crate::proofs::Errors::rejects_custom))]
+    pub(crate) fn next_node(&self) -> Result<&'t ParsedValue<'qs>>
+        ensures node { Gives (λ v. tree_of v.now) true result (next_node self.now) }
+        ensures same { IfOk result (λ v. v.now ≡ self.now.node.now) }
+    {
+        match self.part {
+            Part::Value | Part::Held | Part::NoValue => Ok(self.node),
+            Part::Key => Err(self.no_value()),
+        }
+    }
+
     /// Begins a list or a map of what is next.
     pub(crate) fn open(&mut self, kind: FrameKind) -> Result<()>
         ensures begins { OnOk result (Begins self.old kind self.new) }
-        ensures errors { IfErr result (IsStepError true) }
+        ensures errors { IfErr result (λ e. e ≡ OutOfMemory) }
     {
         self.stack.push(Frame::new(kind))?;
         self.top = self.node;

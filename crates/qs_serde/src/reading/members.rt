@@ -1,12 +1,13 @@
 //! The parts of lists and maps, one after another.
 
-ghost use Rattle.std.specs.Prelude.{◌≡◌, true, ℕ, ◌≢◌, [], Ok, None, Some, IfErr, IfOk, IfSome, IfNone, MatchBool, MatchOption, slice_get};
+ghost use Rattle.std.specs.Prelude.{◌≡◌, true, ℕ, ◌≢◌, [], Ok, None, Some, IfErr, IfOk, OnOk, IfSome, IfNone, MatchBool, MatchOption, slice_get};
 ghost use Rattle.qs_tree.specs.tree.Views.{tree_of};
+ghost use Rattle.qs_data.specs.read.Gives.{Gives};
 ghost use Rattle.qs_data.specs.read.TreeText.{is_text};
 ghost use Rattle.qs_serde.specs.Errors.{IsStepError};
 ghost use Rattle.qs_serde.specs.Nodes.{pairs_in};
 ghost use Rattle.qs_serde.specs.Places.{count_of, kind_of};
-ghost use Rattle.qs_serde.specs.Steps.{Comes, EntryComes, EntryIs, HasNoItem, HasParts, Leaves};
+ghost use Rattle.qs_serde.specs.Steps.{Comes, EntryComes, EntryIs, HasNoItem, HasParts, Leaves, next_node, next_struct};
 
 use super::format::{Asked, TreeFormat};
 use super::frame::{Frame, FrameKind};
@@ -202,16 +203,18 @@ impl<'t, 'qs> TreeFormat<'t, 'qs> {
     }
 
     /// Returns as what kind a struct is begun of what is next. A text holds fields only in a variant, under the empty key.
-    #[tactic(auto, using(crate::proofs::Errors::step_errors))]
+    #[tactic(auto, using(crate::proofs::Errors::rejects_custom, crate::proofs::Errors::rejects_further))]
     pub(crate) fn kind_of_struct(&self) -> Result<FrameKind>
-        ensures kind { IfOk result (λ kind. HasParts kind (tree_of self.now.node.now)) }
-        ensures errors { IfErr result (IsStepError (is_text (tree_of self.now.node.now))) }
+        ensures exact { Gives (λ kind. kind) (is_text (tree_of self.now.node.now)) result (next_struct self.now) }
+        ensures parts { IfOk result (λ kind. HasParts kind (tree_of self.now.node.now)) }
+        ensures node { OnOk result (next_node self.now ≡ Some (tree_of self.now.node.now)) }
     {
-        match self.node {
+        let node = self.next_node()?;
+        match node {
             ParsedValue::NoValue | ParsedValue::Null | ParsedValue::Map(_) => Ok(FrameKind::Fields),
             ParsedValue::Sequence(_) => Ok(FrameKind::Places),
             ParsedValue::String(_) if self.part == Part::Held => Ok(FrameKind::Fields),
-            ParsedValue::String(_) => Err(self.reader.not_a_struct(self.node)),
+            ParsedValue::String(_) => Err(self.reader.not_a_struct(node)),
             ParsedValue::Uninitialized => Err(self.reader.nothing()),
         }
     }

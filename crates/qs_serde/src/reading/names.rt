@@ -37,13 +37,14 @@ fn find_key(names: &[Name<'_>], key: &Key<'_>) -> Option<usize>
     }
 }
 
-// Returns the index of the name that the text of a node stands for.
+// Returns the index of the name that the text of a node stands for. An empty value is the empty name.
 #[inline(always)]
 fn find_value(names: &[Name<'_>], value: &ParsedValue<'_>) -> Option<usize>
     ensures { IfSome result (λ at. LooksUp (tree_of value.now) names.now at) }
 {
     match value {
         ParsedValue::String(text) => Some(find_text(names, text.as_slice())?),
+        ParsedValue::Null => Some(find_text(names, &[])?),
         _ => None,
     }
 }

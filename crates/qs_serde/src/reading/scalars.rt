@@ -1,13 +1,16 @@
 //! Values of one text.
 
-ghost use Rattle.std.specs.Prelude.{◌≡◌, false, true, slice_range, IfErr, IfOk, OnOk, Some, string_bytes};
+ghost use Rattle.std.specs.Prelude.{◌≡◌, true, map, slice_range, IfErr, IfOk, IfSome, OnOk, Some, string_bytes};
 ghost use Rattle.std.specs.Str.{is_utf8};
 ghost use Rattle.qs_spec.specs.Data as d;
+ghost use Rattle.qs_spec.specs.Node.{item_text, last_item};
 ghost use Rattle.qs_spec.specs.Shape as s;
 ghost use Rattle.qs_data.specs.data.Views.{data_of};
 ghost use Rattle.qs_data.specs.shape.Views.{shape_of};
+ghost use Rattle.qs_tree.specs.tree.Views.{items_from, tree_of};
 ghost use Rattle.qs_data.specs.read.Reads.{reads};
 ghost use Rattle.qs_data.specs.read.TreeText.{is_text};
+ghost use Rattle.qs_data.specs.read.internal.GivenText.{given_text};
 ghost use Rattle.qs_serde.specs.Errors.{IsStepError};
 ghost use Rattle.qs_serde.specs.Nodes.{node_tree};
 ghost use Rattle.qs_serde.specs.Places.{tree_at};
@@ -80,26 +83,60 @@ impl<'t, 'qs> TreeFormat<'t, 'qs> {
     }
 }
 
-/// Returns the text of a node, if the node borrows it from the input.
-#[tactic(auto, using(crate::proofs::Errors::step_errors), unfolding(qs_spec::specs::internal::ReadFunction::reads))]
-pub(crate) fn borrowed_text<'t, 'qs>(reader: Reader, node: Node<'t, 'qs>) -> Result<&'t [u8]>
-    ensures bytes { IfOk result (λ b. reads reader.reject_duplicates s.Shape.bytes (node_tree node.entry) ≡ Some (d.bytes b.now)) }
-    ensures errors { IfErr result (IsStepError true) }
-    ensures other { IfOk result (λ b. is_utf8 b.now ≡ false → is_text (node_tree node.entry) ≡ false) }
-    ensures text { IfOk result (λ b. is_utf8 b.now ≡ true → reads reader.reject_duplicates s.Shape.text (node_tree node.entry) ≡ Some (d.text b.now)) }
+/// Returns the last text of a node, if the node borrows it from the input. An empty value has none.
+pub(crate) fn borrowed_text<'t, 'qs>(reader: Reader, node: Node<'t, 'qs>) -> Option<&'t [u8]>
+    ensures { IfSome result (λ b. given_text reader.reject_duplicates (node_tree node.entry) ≡ Some (Some b.now)) }
 {
     match node {
-        Node::NoValue => Ok(&[]),
-        Node::EmptyKey => Ok(&[]),
-        Node::Value(ParsedValue::Null) => Ok(&[]),
-        Node::Value(ParsedValue::NoValue) => Ok(&[]),
-        Node::Value(ParsedValue::String(CowSlice::Borrowed(text))) => Ok(text),
-        Node::Key(Key::String(CowSlice::Borrowed(text))) => Ok(text),
-        _ => Err(Error::custom(
-            reader.alloc,
-            "invalid type: string, expected a borrowed string",
-            &(),
-        )),
+        Node::Value(value) => borrowed_value(reader, value),
+        key => borrowed_key(reader, key),
+    }
+}
+
+// Returns the text of a key, if the key borrows it from the input.
+fn borrowed_key<'t, 'qs>(_reader: Reader, node: Node<'t, 'qs>) -> Option<&'t [u8]>
+    ensures { IfSome result (λ b. given_text _reader.reject_duplicates (node_tree node.entry) ≡ Some (Some b.now)) }
+{
+    match node {
+        Node::EmptyKey => Some(&[]),
+        Node::Key(Key::String(CowSlice::Borrowed(text))) => Some(text),
+        _ => None,
+    }
+}
+
+// Returns the last text of a value, if the value borrows it from the input.
+fn borrowed_value<'t>(reader: Reader, value: &'t ParsedValue<'_>) -> Option<&'t [u8]>
+    ensures { IfSome result (λ b. given_text reader.reject_duplicates (tree_of value.now) ≡ Some (Some b.now)) }
+{
+    match value {
+        ParsedValue::String(CowSlice::Borrowed(text)) => Some(text),
+        ParsedValue::Sequence(items) => Some(borrowed_last(reader, items)?),
+        _ => None,
+    }
+}
+
+// Returns the text of the last item, if the item borrows it from the input; none where several are rejected.
+#[tactic(auto, using(qs_data::proofs::lemmas::read::Scalars::last_item_is))]
+fn borrowed_last<'t>(reader: Reader, items: &'t [ParsedValue<'_>]) -> Option<&'t [u8]>
+    ensures { IfSome result (λ b. last_item reader.reject_duplicates (items_from (map tree_of items.now)) ≡ Some b.now) }
+{
+    let Some(last) = items.last() else {
+        return None;
+    };
+    if reader.reject_duplicates && items.len() > 1 {
+        return None;
+    }
+    Some(borrowed_item(last)?)
+}
+
+// Returns the text of an item, if the item borrows it from the input. That of an empty value is empty.
+fn borrowed_item<'t>(item: &'t ParsedValue<'_>) -> Option<&'t [u8]>
+    ensures { IfSome result (λ b. item_text (tree_of item.now) ≡ Some b.now) }
+{
+    match item {
+        ParsedValue::NoValue | ParsedValue::Null => Some(&[]),
+        ParsedValue::String(CowSlice::Borrowed(text)) => Some(text),
+        _ => None,
     }
 }
 

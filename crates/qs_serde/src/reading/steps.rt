@@ -1,14 +1,15 @@
 //! The steps that serde asks for.
 
-ghost use Rattle.std.specs.Prelude.{◌≡◌, ⊤, true, false, None, slice_range, string_bytes, IfErr, IfOk, OnOk, IsTrue, MatchBool, MatchOption};
+ghost use Rattle.std.specs.Prelude.{◌≡◌, ⊤, true, false, None, slice_range, string_bytes, IfErr, IfOk, IsOk, OnOk, IsTrue, MatchBool, MatchOption};
 ghost use Rattle.qs_spec.specs.Leaf.Leaf.{NoValue};
 ghost use Rattle.qs_spec.specs.Tree.Tree.{leaf};
 ghost use Rattle.serde.specs.Event.{boolean, signed, unsigned, single, double, character, text, octets, key_begins, map_begins, map_ends, nothing, seq_begins, seq_ends};
 ghost use Rattle.qs_tree.specs.tree.Views.{tree_of};
+ghost use Rattle.qs_data.specs.read.Gives.{Rejects};
 ghost use Rattle.qs_data.specs.read.TreeText.{is_text};
 ghost use Rattle.qs_serde.specs.Errors.{IsStepError};
 ghost use Rattle.qs_serde.specs.Places.{tree_at};
-ghost use Rattle.qs_serde.specs.Steps.{HasNoEntry, HasNoItem, ComesBack, IsMark, Picks, Reads, Stays, Takes};
+ghost use Rattle.qs_serde.specs.Steps.{BeginsAfterLook, BeginsStruct, HasNoEntry, HasNoItem, ComesBack, IsMark, Picks, Reads, Stays, Takes, next_entries, next_items, next_struct};
 
 use super::format::{Asked, Mark, TreeFormat};
 use super::frame::FrameKind;
@@ -114,23 +115,29 @@ impl<'t, 'qs> Format for TreeFormat<'t, 'qs> {
     }
 
     // The tree doesn't say where its texts stand in the input, so they are searched for.
+    #[tactic(auto, using(crate::proofs::Errors::step_errors, crate::proofs::Borrowed::text_read, qs_data::proofs::lemmas::read::Scalars::scalar_bad))]
     fn plain_str(&mut self, input: &[u8]) -> Result<(usize, usize)>
         ensures step { IfOk result (λ r. Reads self.old (text (slice_range input.now r.0 r.1)) self.new) }
         ensures errors { IfErr result (IsStepError (is_text (tree_at self.old))) }
     {
         let node = self.take();
-        let text = borrowed_text(self.reader, node)?;
+        let Some(text) = borrowed_text(self.reader, node) else {
+            return Err(self.not_borrowed(node));
+        };
         test_utf8(text)?;
         let place = self.place(text, input)?;
         Ok(place)
     }
 
+    #[tactic(auto, using(crate::proofs::Errors::step_errors, crate::proofs::Borrowed::bytes_read))]
     fn plain_bytes(&mut self, input: &[u8]) -> Result<(usize, usize)>
         ensures step { IfOk result (λ r. Reads self.old (octets (slice_range input.now r.0 r.1)) self.new) }
         ensures errors { IfErr result (IsStepError (is_text (tree_at self.old))) }
     {
         let node = self.take();
-        let text = borrowed_text(self.reader, node)?;
+        let Some(text) = borrowed_text(self.reader, node) else {
+            return Err(self.not_borrowed(node));
+        };
         let place = self.place(text, input)?;
         Ok(place)
     }
@@ -171,7 +178,10 @@ impl<'t, 'qs> Format for TreeFormat<'t, 'qs> {
 
     // What a unit variant holds is passed over.
     #[tactic(auto, unfolding(qs_spec::specs::internal::ReadFunction::reads))]
-    fn take_unit(&mut self, _input: &[u8]) -> Result<bool> {
+    fn take_unit(&mut self, _input: &[u8]) -> Result<bool>
+        ensures step { IfOk result (λ b. MatchBool b (Reads self.old nothing self.new) (Stays self.old self.new)) }
+        ensures returns { IsOk result }
+    {
         match self.part {
             Part::Held | Part::NoValue => Ok(true),
             Part::Value => Ok(matches!(self.node, ParsedValue::Null | ParsedValue::NoValue)),
@@ -201,15 +211,13 @@ impl<'t, 'qs> Format for TreeFormat<'t, 'qs> {
         }
     }
 
-    #[tactic(auto, using(crate::proofs::Errors::step_errors, crate::proofs::Places::has_items))]
+    #[tactic(auto, using(crate::proofs::Errors::begin_errors, crate::proofs::Places::has_items))]
     fn begin_seq(&mut self, _input: &[u8]) -> Result<()>
         ensures step { OnOk result (Reads self.old (seq_begins None) self.new) }
-        ensures errors { IfErr result (IsStepError true) }
+        ensures errors { IfErr result (λ e. Rejects true e (next_items self.old)) }
     {
-        if self.part == Part::Key {
-            return Err(self.no_value());
-        }
-        self.reader.items(self.node)?;
+        let node = self.next_node()?;
+        self.reader.items(node)?;
         self.open(FrameKind::Items)
     }
 
@@ -226,29 +234,32 @@ impl<'t, 'qs> Format for TreeFormat<'t, 'qs> {
     }
 
     // More items than a tuple has are passed over.
-    fn end_tuple(&mut self, _input: &[u8]) -> Result<()> {
+    fn end_tuple(&mut self, _input: &[u8]) -> Result<()>
+        ensures step { OnOk result (Reads self.old seq_ends self.new) }
+        ensures returns { IsOk result }
+    {
         self.close();
         Ok(())
     }
 
-    #[tactic(auto, using(crate::proofs::Errors::step_errors, crate::proofs::Places::has_map))]
+    #[tactic(auto, using(crate::proofs::Errors::begin_errors, crate::proofs::Places::has_map))]
     fn begin_map(&mut self, _input: &[u8]) -> Result<()>
         ensures step { OnOk result (Reads self.old (map_begins None) self.new) }
-        ensures errors { IfErr result (IsStepError true) }
+        ensures errors { IfErr result (λ e. Rejects true e (next_entries self.old)) }
     {
-        if self.part == Part::Key {
-            return Err(self.no_value());
-        }
-        self.reader.entries(self.node)?;
+        let node = self.next_node()?;
+        self.reader.entries(node)?;
         self.open(FrameKind::Map)
     }
 
     // A sequence is begun as a map too: `next_key` then counts its fields, and further items are passed over. A text holds fields only in a
     // variant, under the empty key.
-    fn begin_struct(&mut self, _input: &[u8]) -> Result<bool> {
-        if self.part == Part::Key {
-            return Err(self.no_value());
-        }
+    #[tactic(auto, using(crate::proofs::Errors::begin_errors))]
+    fn begin_struct(&mut self, _input: &[u8]) -> Result<bool>
+        ensures step { IfOk result (λ b. BeginsAfterLook self.old b self.new) }
+        ensures kind { OnOk result (BeginsStruct self.old self.new) }
+        ensures errors { IfErr result (λ e. Rejects (is_text (tree_of self.old.node.now)) e (next_struct self.old)) }
+    {
         let kind = self.kind_of_struct()?;
         self.open(kind)?;
         Ok(false)
@@ -279,6 +290,7 @@ impl<'t, 'qs> Format for TreeFormat<'t, 'qs> {
     fn next_entry(&mut self, _input: &[u8]) -> Result<bool>
         ensures step { IfOk result (λ b. MatchBool b (Reads self.old key_begins self.new) (Reads self.old map_ends self.new)) }
         ensures end { IfOk result (λ b. MatchBool b ⊤ (HasNoEntry self.old)) }
+        ensures returns { IsOk result }
     {
         let Some(frame) = self.last() else {
             self.close();
@@ -307,7 +319,8 @@ impl<'t, 'qs> Format for TreeFormat<'t, 'qs> {
     }
 
     fn skip(&mut self, _input: &[u8]) -> Result<()>
-        ensures { Takes self.old self.new }
+        ensures takes { Takes self.old self.new }
+        ensures returns { IsOk result }
     {
         if self.part == Part::Key {
             self.part = Part::Value;

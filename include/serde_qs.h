@@ -1,4 +1,4 @@
-/* Nested querystrings for C: read as JSON, written of JSON, encoded and decoded.
+/* Nested querystrings for C: values at paths, read as JSON, written of JSON, encoded and decoded.
  *
  * Each call takes its input, a buffer for its result and a place for its answer, and returns a status. It keeps no memory and no pointer:
  * there is nothing to free, and calls in several threads at once share nothing.
@@ -37,13 +37,15 @@ enum {
     QS_OUT_OF_MEMORY = 2, /* an allocation failed; this error has no text */
     QS_BAD_SETTINGS = 3,  /* a number in the settings is too large */
     QS_PARSE_ERROR = 4,   /* the querystring is rejected, at `position` */
-    QS_MISMATCH = 5,      /* the querystring doesn't fit the shape */
+    QS_MISMATCH = 5,      /* the querystring doesn't fit the shape, or no value stands at the path */
     QS_NOT_UTF8 = 6,      /* a string that is read isn't UTF-8 */
     QS_BAD_SHAPE = 7,     /* the text of the shape is rejected, at `position` */
     QS_BAD_JSON = 8,      /* the JSON is rejected, at `position` */
     QS_TOO_DEEP = 9,      /* a value nests deeper than `max_depth` */
     QS_TOO_LARGE = 10,    /* the querystring exceeds `max_length` or `max_pairs` */
-    QS_TOO_LONG = 11      /* the JSON exceeds `max_output` */
+    QS_TOO_LONG = 11,     /* the JSON exceeds `max_output` */
+    QS_ABSENT = 12,       /* nothing stands at the path */
+    QS_BAD_PATH = 13      /* the path isn't a key */
 };
 
 /* How the index of a list's element is written. */
@@ -72,6 +74,11 @@ typedef struct {
     size_t len;      /* the length of the result, or of an error's text */
     size_t position; /* where the error is in what was given */
 } qs_answer;
+
+/* The decoded value at a path of the querystring, such as user[name], or ids[0] for the first item of a list. The path is a key, in which
+ * signs are escaped as in the querystring. The value may hold any bytes. Without one it is empty; of several it is the last. */
+uint32_t qs_get(const qs_settings *settings, const uint8_t *path, size_t path_size, const uint8_t *input, size_t input_size,
+                uint8_t *out, size_t out_size, qs_answer *answer);
 
 /* The querystring as JSON, read as whatever is there: strings, lists and maps. */
 uint32_t qs_parse(const qs_settings *settings, const uint8_t *input, size_t input_size, uint8_t *out, size_t out_size,

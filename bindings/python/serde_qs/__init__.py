@@ -5,12 +5,14 @@
     {'user': {'ids': ['1'], 'name': 'John'}}
     >>> serde_qs.read("{user: {name: text, ids: [u8]}}", "user[name]=John&user[ids][0]=1")
     {'user': {'name': 'John', 'ids': [1]}}
+    >>> serde_qs.get("user[name]", "user[name]=John&user[ids][0]=1")
+    'John'
     >>> serde_qs.dumps({"user": {"name": "John", "ids": [1]}})
     'user[name]=John&user[ids][0]=1'
 
 `read_as` reads by the hints of a class, as of a dataclass or a TypedDict, and returns an instance.
 
-`parse`, `loads`, `read`, `read_as`, `explain`, `write` and `dumps` take settings by keyword:
+`get`, `parse`, `loads`, `read`, `read_as`, `explain`, `write` and `dumps` take settings by keyword:
 
 - `max_depth=5`: how many levels of brackets may follow the first key, 100 at most.
 - `form=False`: form mode, where brackets may be encoded, as browsers send a form; else query mode.
@@ -32,6 +34,7 @@ from ._calls import (
     dumps,
     encode,
     explain,
+    get,
     loads,
     parse,
     read,
@@ -49,6 +52,7 @@ __all__ = [
     "dumps",
     "encode",
     "explain",
+    "get",
     "loads",
     "parse",
     "read",

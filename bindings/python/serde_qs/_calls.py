@@ -6,10 +6,11 @@ import collections
 import ctypes
 import dataclasses
 import enum
+import functools
 import json
 from typing import TYPE_CHECKING, Any, TypedDict, Union
 
-from ._library import BAD_SETTINGS, MISMATCH, NOT_UTF8, OK, Answer, library
+from ._library import ABSENT, BAD_SETTINGS, MISMATCH, NOT_UTF8, OK, Answer, library
 from ._library import Settings as _Settings
 
 if TYPE_CHECKING:
@@ -95,6 +96,7 @@ def _limit(number: int) -> int:
     return number
 
 
+@functools.lru_cache(maxsize=32, typed=True)
 def _settings(
     max_depth: int = 5,
     form: bool = False,
@@ -122,6 +124,22 @@ _pairs = json.JSONDecoder(object_pairs_hook=list)
 
 def _decoded(text: bytes, pairs: bool) -> Any:
     return (_pairs if pairs else _dicts).decode(text.decode())
+
+
+def get(path: Text, query: Text, default: Any = None, **settings: Unpack[Settings]) -> Any:
+    """Returns the decoded value at a path of the querystring, as `user[name]`, or `ids[0]` for the first item of a list; `default` where
+    nothing stands there.
+
+    The path is a key, in which signs are escaped as in the querystring. Where there is no value it is empty; of several it is the last. A map at
+    the path is an error.
+    """
+    try:
+        value = _result(library.qs_get, _settings(**settings), *_sized(path), *_sized(query))
+    except QuerystringError as error:
+        if error.status == ABSENT:
+            return default
+        raise
+    return _text(value, "the value isn't UTF-8")
 
 
 def parse(query: Text, *, pairs: bool = False, **settings: Unpack[Settings]) -> Any:
@@ -155,11 +173,11 @@ def explain(shape: Text, query: Text, **settings: Unpack[Settings]) -> tuple[str
     return (line[:path_len].decode(), line.decode()) if line else None
 
 
-def _text(value: bytes | bytearray) -> str:
+def _text(value: bytes | bytearray, message: str) -> str:
     try:
         return value.decode()
     except UnicodeDecodeError as error:
-        raise QuerystringError(NOT_UTF8, error.start, "bytes can only be written where they are UTF-8") from None
+        raise QuerystringError(NOT_UTF8, error.start, message) from None
 
 
 def _plain(value: Any) -> Any:
@@ -169,7 +187,7 @@ def _plain(value: Any) -> Any:
     if isinstance(value, enum.Enum):
         return value.value
     if isinstance(value, (bytes, bytearray)):
-        return _text(value)
+        return _text(value, "bytes can only be written where they are UTF-8")
     raise TypeError(f"a {type(value).__name__} can't be written")
 
 

@@ -6,7 +6,7 @@ import ctypes
 import pathlib
 from typing import Any
 
-OK, BAD_SETTINGS, MISMATCH, NOT_UTF8 = 0, 3, 5, 6
+OK, BAD_SETTINGS, MISMATCH, NOT_UTF8, ABSENT = 0, 3, 5, 6, 12
 
 
 class Settings(ctypes.Structure):
@@ -32,6 +32,7 @@ _OUT = [*_TEXT, ctypes.POINTER(Answer)]
 
 # What each call takes before its buffer and its answer.
 _CALLS: dict[str, list[Any]] = {
+    "qs_get": [*_SETTINGS, *_TEXT, *_TEXT],
     "qs_parse": [*_SETTINGS, *_TEXT],
     "qs_read": [*_SETTINGS, *_TEXT, *_TEXT],
     "qs_explain": [*_SETTINGS, *_TEXT, *_TEXT],

@@ -4,6 +4,7 @@ use crate::{Error, ErrorKind, Settings};
 
 const OK: u32 = 0;
 const TOO_SMALL: u32 = 1;
+const ABSENT: u32 = 12;
 
 /// What a call says beside its status.
 #[repr(C)]
@@ -14,6 +15,16 @@ struct Answer {
 }
 
 extern "C" {
+    fn qs_get(
+        settings: *const Settings,
+        path: *const u8,
+        path_size: usize,
+        input: *const u8,
+        input_size: usize,
+        out: *mut u8,
+        out_size: usize,
+        answer: *mut Answer,
+    ) -> u32;
     fn qs_parse(settings: *const Settings, input: *const u8, input_size: usize, out: *mut u8, out_size: usize, answer: *mut Answer) -> u32;
     fn qs_read(
         settings: *const Settings,
@@ -38,6 +49,20 @@ extern "C" {
     fn qs_write(settings: *const Settings, json: *const u8, json_size: usize, out: *mut u8, out_size: usize, answer: *mut Answer) -> u32;
     fn qs_encode(form: bool, bytes: *const u8, bytes_size: usize, out: *mut u8, out_size: usize, answer: *mut Answer) -> u32;
     fn qs_decode(bytes: *const u8, bytes_size: usize, out: *mut u8, out_size: usize, answer: *mut Answer) -> u32;
+}
+
+pub(crate) fn get(settings: &Settings, path: &[u8], input: &[u8]) -> Result<Option<Vec<u8>>, Error> {
+    let mut is_absent = false;
+    // SAFETY: each pointer is that of a borrow that lasts for the call.
+    let found = result(input.len(), |out, answer| unsafe {
+        let status = qs_get(settings, path.as_ptr(), path.len(), input.as_ptr(), input.len(), out.as_mut_ptr(), out.len(), answer);
+        is_absent = status == ABSENT;
+        status
+    });
+    if is_absent {
+        return Ok(None);
+    }
+    found.map(Some)
 }
 
 pub(crate) fn parse(settings: &Settings, input: &[u8]) -> Result<String, Error> {

@@ -13,7 +13,7 @@ pub enum ErrorKind {
     BadSettings = 3,
     /// The querystring is rejected, at the error's position.
     Parse = 4,
-    /// The querystring doesn't fit the shape, or the type.
+    /// The querystring doesn't fit the shape, or the type, or no value stands at the path.
     Mismatch = 5,
     /// A string that is read isn't UTF-8.
     NotUtf8 = 6,
@@ -27,6 +27,8 @@ pub enum ErrorKind {
     TooLarge = 10,
     /// The JSON exceeds `max_output`.
     TooLong = 11,
+    /// The path isn't a key.
+    BadPath = 13,
     /// A status that this version of the crate doesn't know.
     Unknown = u32::MAX,
 }
@@ -44,6 +46,7 @@ impl ErrorKind {
             9 => ErrorKind::TooDeep,
             10 => ErrorKind::TooLarge,
             11 => ErrorKind::TooLong,
+            13 => ErrorKind::BadPath,
             _ => ErrorKind::Unknown,
         }
     }

@@ -29,6 +29,25 @@ pub use settings::{ArrayFormat, Settings};
 #[cfg(feature = "serde")]
 pub use typed::{from_str, to_string};
 
+/// Returns the decoded value at a path of the querystring, as `user[name]`, or `ids[0]` for the first item of a list; `None` where nothing
+/// stands there.
+///
+/// The path is a key, in which signs are escaped as in the querystring. Without a value it is empty; of several values it is the last.
+///
+/// # Errors
+///
+/// [`ErrorKind::BadPath`] where the path isn't a key; [`ErrorKind::Parse`] where the query has no tree, with its position;
+/// [`ErrorKind::Mismatch`] where a map stands at the path; [`ErrorKind::OutOfMemory`].
+///
+/// ```
+/// assert_eq!(serde_qs::get("user[name]", "user[name]=John+B.")?, Some(b"John B.".to_vec()));
+/// assert_eq!(serde_qs::get("user[age]", "user[name]=John+B.")?, None);
+/// # Ok::<(), serde_qs::Error>(())
+/// ```
+pub fn get(path: impl AsRef<[u8]>, query: impl AsRef<[u8]>) -> Result<Option<Vec<u8>>, Error> {
+    Settings::default().get(path, query)
+}
+
 /// Returns the querystring as JSON, read as whatever is there: strings, lists and maps, and `null` without a value.
 ///
 /// # Errors

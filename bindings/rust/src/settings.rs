@@ -65,6 +65,11 @@ impl Default for Settings {
 }
 
 impl Settings {
+    /// Returns the decoded value at a path of the querystring, as [`get`](crate::get).
+    pub fn get(&self, path: impl AsRef<[u8]>, query: impl AsRef<[u8]>) -> Result<Option<Vec<u8>>, Error> {
+        calls::get(self, path.as_ref(), query.as_ref())
+    }
+
     /// Returns the querystring as JSON, read as whatever is there, as [`parse`](crate::parse).
     pub fn parse(&self, query: impl AsRef<[u8]>) -> Result<String, Error> {
         calls::parse(self, query.as_ref())

@@ -1,4 +1,4 @@
-/* A line of a table of calls: a call, its settings, a shape and a text, with tabs between them. The settings are `query` or
+/* A line of a table of calls: a call, its settings, a shape or a path, and a text, with tabs between them. The settings are `query` or
  * `form`, and words after a blank: `depth=N`, `empty` or `unindexed`, `reject`, `length=N`, `pairs=N` and `output=N`. */
 #include <serde_qs.h>
 #include <stdlib.h>
@@ -62,6 +62,8 @@ static inline const uint8_t *bytes_of(const char *text, size_t len) {
 /* Makes the call with so many bytes of its shape and of its text. */
 static inline uint32_t make_sized(const qs_call *call, size_t shape_len, size_t len, uint8_t *out, size_t size, qs_answer *answer) {
     const uint8_t *text = bytes_of(call->text, len), *shape = bytes_of(call->shape, shape_len);
+    if (strcmp(call->name, "get") == 0)
+        return qs_get(&call->settings, shape, shape_len, text, len, out, size, answer);
     if (strcmp(call->name, "parse") == 0)
         return qs_parse(&call->settings, text, len, out, size, answer);
     if (strcmp(call->name, "read") == 0)

@@ -82,7 +82,7 @@ static void check_call(worker *worker, qs_call *call, size_t shape_size, size_t 
     uint8_t *out = placed(worker, worker->out, first.len);
     memset(out, 0xa5, first.len);
     uint32_t status = make_sized(call, shape_size, size, out, first.len, &answer);
-    if (answer.len != first.len || answer.position != first.position || status > QS_TOO_LONG || status == QS_TOO_SMALL)
+    if (answer.len != first.len || answer.position != first.position || status > QS_BAD_PATH || status == QS_TOO_SMALL)
         stop("a call with room has another result");
     if (small != (status == QS_OK && first.len > 0 ? (uint32_t)QS_TOO_SMALL : status))
         stop("a call without room has another status");

@@ -1,6 +1,6 @@
 """Makes the call of each line of the standard input, and prints its status, its position and its text.
 
-A line is a call, its settings, a shape and a text, with tabs between them. The settings are `query` or `form`, and words
+A line is a call, its settings, a shape or a path, and a text, with tabs between them. The settings are `query` or `form`, and words
 after a blank: `depth=N`, `empty` or `unindexed`, `reject`, `length=N`, `pairs=N` and `output=N`.
 """
 
@@ -36,7 +36,11 @@ for line in sys.stdin:
     settings = settings_of(words)
     position = 0
     try:
-        if call == "parse":
+        if call == "get":
+            result = serde_qs.get(shape, text, **settings)
+            if result is None:
+                raise serde_qs.QuerystringError(12, 0, "nothing stands at the path")
+        elif call == "parse":
             result = compact(serde_qs.parse(text, **settings))
         elif call == "read":
             result = compact(serde_qs.read(shape, text, **settings))

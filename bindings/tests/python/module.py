@@ -77,10 +77,22 @@ class Calls(unittest.TestCase):
         for text in (b"a=1", bytearray(b"a=1"), memoryview(b"a=1")):
             self.assertEqual(serde_qs.loads(text), {"a": "1"})
 
+    def test_a_value_is_got(self):
+        query = "user[name]=John+B.&ids[]=7&ids[]=8&raw=%FF"
+        self.assertEqual(serde_qs.get("user[name]", query), "John B.")
+        self.assertEqual(serde_qs.get("ids", query), "8")
+        self.assertIsNone(serde_qs.get("user[age]", query))
+        self.assertEqual(serde_qs.get("user[age]", query, "30"), "30")
+        for path, status in (("raw", 6), ("user", 5), ("a=b", 13)):
+            with self.assertRaises(serde_qs.QuerystringError) as caught:
+                serde_qs.get(path, query, "none")
+            self.assertEqual(caught.exception.status, status)
+
     def test_what_is_no_text_is_a_type_error(self):
         for value in (5, None, ["a=1"], 1.5):
             for call in (serde_qs.parse, serde_qs.encode, serde_qs.decode, lambda it: serde_qs.read("any", it), lambda it: serde_qs.read(it, "")):
                 self.assertRaises(TypeError, call, value)
+            self.assertRaises(TypeError, serde_qs.get, "a", value)
         self.assertRaises(TypeError, serde_qs.parse, "a=1", depth=5)
 
     def test_no_value_is_lost(self):

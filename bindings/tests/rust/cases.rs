@@ -1,5 +1,5 @@
 //! Makes the call of each line of the standard input, and prints its status, its position and its text.
-//! A line is a call, its settings, a shape and a text, with tabs between them. The settings are `query` or `form`, and words
+//! A line is a call, its settings, a shape or a path, and a text, with tabs between them. The settings are `query` or `form`, and words
 //! after a blank: `depth=N`, `empty` or `unindexed`, `reject`, `length=N`, `pairs=N` and `output=N`.
 
 use serde_qs::{ArrayFormat, Settings, decode};
@@ -38,6 +38,13 @@ fn main() {
         let settings = settings_of(words);
         let mut position = 0;
         let result = match call {
+            "get" => match settings.get(shape, text) {
+                Ok(None) => {
+                    println!("12\t0\tnothing stands at the path");
+                    continue;
+                }
+                found => found.map(|bytes| String::from_utf8_lossy(&bytes.unwrap_or_default()).into_owned()),
+            },
             "parse" => settings.parse(text),
             "read" => settings.read(shape, text),
             "explain" => settings.explain(shape, text).map(|explanation| {

@@ -1,3 +1,4 @@
+pub mod Bytes
 pub mod Composed
 pub mod Found
 mod Levels
@@ -5,5 +6,6 @@ pub mod LineStarts
 pub mod Listing
 pub mod Messages
 pub mod Outcomes
+pub mod Paths
 pub mod Stopping
 pub mod Unwritten

@@ -1,11 +1,12 @@
 -- What the text of an error says.
-use Rattle.std.proofs.Common.{◌≡◌, ◌⊎◌, inl, inr, ℕ, List, [], Bool, true, false, Result, Ok, Err, Option, Some, None, refl, sym, ap, subst, codes}
+use Rattle.std.proofs.Common.{◌≡◌, ◌⊎◌, inl, inr, ℕ, List, [], Bool, true, false, Result, Ok, Err, Option, Some, None, refl, sym, ap, subst, ◌∙◌, codes}
 use Rattle.std.proofs.lemmas.Str.{IsUtf8-nil, IsUtf8-string_bytes, IsUtf8-from_is_utf8, is_utf8-from_IsUtf8}
 use Rattle.std.specs.Prelude.{cond, IfErr}
 use Rattle.std.specs.Str.{IsUtf8, is_utf8}
 use Rattle.std.specs.declared.alloc.Global.{Global}
 use Rattle.std.specs.declared.string.String.{String}
 use Rattle.qs_spec.specs.Config.{Config}
+use Rattle.qs_spec.specs.Segment.{Segment}
 use Rattle.qs_spec.specs.Shape.{Shape}
 use Rattle.qs_tree.specs.declared.error.Error.{Error}
 use Rattle.qs_tree.specs.declared.error.Error.TheVariants as e
@@ -17,6 +18,7 @@ use Rattle.qs_c.specs.Errors.{kind_of, position_of, IsFailureOf, IsTextOf}
 use Rattle.qs_c.specs.internal.Unwritten.{IsUnwritten}
 use Rattle.qs_c.specs.Messages.{IsErrorText, SaysUnread, SaysNotRead, SaysUnwritten, SaysNotWritten, not_json_text}
 use Rattle.qs_c.specs.Outcomes.{WhyUnread}
+use Rattle.qs_c.specs.Paths.{WhyNoBytes}
 use Rattle.qs_c.specs.Settings.{config_of}
 use Rattle.qs_c.specs.Status.{text_of, text_or_none, MemoryHasNoText}
 
@@ -48,33 +50,38 @@ text_of_text json h = ap chosen (is_utf8-from_IsUtf8 json h)
 
 pub ruleset text_of_json = (text_of_bytes, text_of_text)
 
--- of an input that isn't read, by the kind of the error
-unread : (k : FailureKind) (position : ℕ) (config : Config) (shape : Shape) (input text : List ℕ)
-    → WhyUnread k position config shape input → (k ≡ kind.OutOfMemory → text ≡ []) → IsErrorText k position text → SaysUnread k position text
-unread kind.OutOfMemory position config shape input text w m is = m refl
-unread kind.Settings position config shape input text w m is = absurd w
-unread kind.Parse position config shape input text w m is = is
-unread kind.Mismatch position config shape input text w m is = is
-unread kind.NotUtf8 position config shape input text w m is = is
-unread kind.Shape position config shape input text w m is = absurd w
-unread kind.Json position config shape input text w m is = absurd w
-unread kind.TooDeep position config shape input text w m is = absurd w
-unread kind.TooLarge position config shape input text w m is = absurd w
-unread kind.TooLong position config shape input text w m is = absurd w
-unread kind.Absent position config shape input text w m is = absurd w
+-- of an input that isn't read, by the error, which isn't one of writing
+module _ (failure : Failure) where
+  unread : (error : Error) → (kind_of error ≡ kind.TooDeep → ⊥) → (kind_of error ≡ kind.OutOfMemory → text_of failure ≡ []) → IsErrorText (kind_of error) failure.position (text_of failure)
+      → SaysUnread (kind_of error) failure.position (text_of failure)
+  unread (e.Custom message) read m is = is
+  unread (e.MaxSerializationDepthExceeded depth) read m is = absurd (read refl)
+  unread (e.Parse message position) read m is = is
+  unread e.Unsupported read m is = is
+  unread (e.FromUtf8 cause) read m is = is
+  unread (e.Io cause) read m is = m refl
+  unread (e.ParseInt cause) read m is = is
+  unread (e.Utf8 cause) read m is = is
+  unread e.OutOfMemory read m is = m refl
+  unread e.Failed read m is = is
 
-pub failure_unread : (failure : Failure) (error : Error) (config : Config) (shape : Shape) (input : List ℕ)
-    → IsFailureOf failure error → MemoryHasNoText failure → WhyUnread (kind_of error) (position_of error) config shape input → SaysUnread failure.kind failure.position (text_of failure)
-failure_unread failure error config shape input (inl memory) m w = subst (λ k. SaysUnread k failure.position (text_of failure)) (sym memory.kind) memory.text
-failure_unread failure error config shape input (inr is) m w =
-    let at : WhyUnread (kind_of error) failure.position config shape input = subst (λ p. WhyUnread (kind_of error) p config shape input) (sym is.1) w in
-    let why : WhyUnread failure.kind failure.position config shape input = subst (λ k. WhyUnread k failure.position config shape input) (sym is.0) at in
-    unread failure.kind failure.position config shape input (text_of failure) why m (record {
-      error = error;
-      is_kind = is.0;
-      is_position = is.1;
-      is_text = is.2;
-    })
+  pub failure_of_reading : (error : Error) → IsFailureOf failure error → MemoryHasNoText failure → (kind_of error ≡ kind.TooDeep → ⊥) → SaysUnread failure.kind failure.position (text_of failure)
+  failure_of_reading error (inl memory) m read = subst (λ k. SaysUnread k failure.position (text_of failure)) (sym memory.kind) memory.text
+  failure_of_reading error (inr is) m read =
+      subst (λ k. SaysUnread k failure.position (text_of failure)) (sym is.0) (unread error read (λ memory. m (is.0 ∙ memory)) (record {
+        error = error;
+        is_kind = refl;
+        is_position = is.1;
+        is_text = is.2;
+      }))
+
+  pub failure_unread : (error : Error) (config : Config) (shape : Shape) (input : List ℕ)
+      → IsFailureOf failure error → MemoryHasNoText failure → WhyUnread (kind_of error) (position_of error) config shape input → SaysUnread failure.kind failure.position (text_of failure)
+  failure_unread error config shape input is m why = failure_of_reading error is m (λ deep. subst (λ k. WhyUnread k (position_of error) config shape input) deep why)
+
+  pub failure_without_bytes : (error : Error) (config : Config) (path : List Segment) (input : List ℕ)
+      → IsFailureOf failure error → MemoryHasNoText failure → WhyNoBytes (kind_of error) (position_of error) config path input → SaysUnread failure.kind failure.position (text_of failure)
+  failure_without_bytes error config path input is m why = failure_of_reading error is m (λ deep. subst (λ k. WhyNoBytes k (position_of error) config path input) deep why)
 
 not_read : (k : FailureKind) (position : ℕ) (settings : Settings) (input text : List ℕ) → SaysUnread k position text → SaysNotRead k position settings input text
 not_read kind.OutOfMemory position settings input text is = is
@@ -88,6 +95,7 @@ not_read kind.TooDeep position settings input text is = absurd is
 not_read kind.TooLarge position settings input text is = absurd is
 not_read kind.TooLong position settings input text is = is
 not_read kind.Absent position settings input text is = is
+not_read kind.Path position settings input text is = absurd is
 
 pub read_result : {A : Type 0} (r : Result A Failure) (settings : Settings) (input : List ℕ)
     → IfErr r (λ failure. SaysUnread failure.kind failure.position (text_of failure)) → IfErr r (λ failure. SaysNotRead failure.kind failure.position settings input (text_of failure))
@@ -123,6 +131,7 @@ not_written kind.TooDeep settings json text is = is
 not_written kind.TooLarge settings json text is = absurd is
 not_written kind.TooLong settings json text is = absurd is
 not_written kind.Absent settings json text is = absurd is
+not_written kind.Path settings json text is = absurd is
 
 pub failure_unwritten : (failure : Failure) (error : Error) (config : Config) (settings : Settings) (json : List ℕ)
     → config ≡ config_of settings → IsFailureOf failure error → MemoryHasNoText failure → IsUnwritten config.max_depth error → SaysNotWritten failure.kind settings json (text_of failure)

@@ -31,6 +31,10 @@ too_long_text = codes "the JSON has more bytes than max_output"
 abbrev pub absent_text : List ℕ
 absent_text = codes "nothing stands at the path"
 
+-- of a path that isn't one
+abbrev pub no_path_text : List ℕ
+no_path_text = codes "the path is not a key"
+
 -- of a text that isn't read as JSON
 abbrev pub not_json_text : List ℕ → List ℕ
 not_json_text json = cond (is_utf8 json) (codes "the JSON is invalid") (codes "the JSON isn't UTF-8")
@@ -57,6 +61,7 @@ abbrev pub SaysNotRead : FailureKind → ℕ → Settings → List ℕ → List 
 SaysNotRead kind.Settings position settings input text = text ≡ settings_text settings
 SaysNotRead kind.TooLarge position settings input text = text ≡ too_large_text settings input
 SaysNotRead kind.Shape position settings input text = ⊤
+SaysNotRead kind.Path position settings input text = text ≡ no_path_text
 SaysNotRead k position settings input text = SaysUnread k position text
 
 -- what the text of an error of this kind says of data that are written

@@ -4,7 +4,7 @@ use Rattle.std.specs.declared.alloc.Global.{Global}
 use Rattle.std.specs.declared.string.String.{String}
 use Rattle.qs_c.specs.declared.failure.Failure.{Failure}
 use Rattle.qs_c.specs.declared.failure.FailureKind.{FailureKind}
-use Rattle.qs_c.specs.declared.failure.FailureKind.TheVariants.{OutOfMemory, Settings, Parse, Mismatch, NotUtf8, Shape, Json, TooDeep, TooLarge, TooLong, Absent}
+use Rattle.qs_c.specs.declared.failure.FailureKind.TheVariants.{OutOfMemory, Settings, Parse, Mismatch, NotUtf8, Shape, Json, TooDeep, TooLarge, TooLong, Absent, Path}
 
 -- of each kind of error
 abbrev pub code_of : FailureKind → ℕ
@@ -19,6 +19,7 @@ code_of TooDeep = 9
 code_of TooLarge = 10
 code_of TooLong = 11
 code_of Absent = 12
+code_of Path = 13
 
 -- the call found what it was asked for, whether that fits in the caller's buffer (0) or not (1)
 abbrev pub IsDone : ℕ → Type 0

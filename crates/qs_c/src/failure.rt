@@ -30,6 +30,8 @@ pub(crate) enum FailureKind {
     TooLong,
     /// Nothing stands at the path.
     Absent,
+    /// The path isn't a key.
+    Path,
 }
 
 impl FailureKind {
@@ -50,6 +52,7 @@ impl FailureKind {
             FailureKind::TooLarge => 10,
             FailureKind::TooLong => 11,
             FailureKind::Absent => 12,
+            FailureKind::Path => 13,
         }
     }
 }

@@ -5,3 +5,4 @@ pub mod Client
 pub mod Products
 pub mod Link
 pub mod PerPage
+pub mod Reply

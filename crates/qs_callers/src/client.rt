@@ -17,7 +17,7 @@ pub fn target<T: RoundTrip>(alloc: Global, path: &str, value: &T) -> Result<Stri
     Ok(format!(in alloc; "{path}?{query}")?)
 }
 
-/// Returns what a server reads of a request target; without a query, that of the empty one.
+/// Returns what a server reads from the query of a request target, or from the empty query if there is none.
 pub fn served<T: RoundTrip>(alloc: Global, target: &str) -> Result<T>
     ensures { ReturnsValue T.table.value default T.table.form T.table.meaning (query_behind target.now) result }
 {
@@ -25,8 +25,8 @@ pub fn served<T: RoundTrip>(alloc: Global, target: &str) -> Result<T>
     from_str(alloc, query)
 }
 
-/// Returns what the server reads of the client's query: the client's value, where its data are plain and within the depth limit.
-/// With such data the only error is that an allocation failed.
+/// Returns what the server reads from the client's query. If the value's data is plain and within the depth limit, that is the client's
+/// value, and the only error is that an allocation failed.
 pub fn exchanged<T: RoundTrip>(alloc: Global, value: &T) -> Result<T>
     ensures { IsPlainWithin default (T.datum value.now) → IsValue T.table.value (T.table.value value.now) result }
 {

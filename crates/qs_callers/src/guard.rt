@@ -15,7 +15,7 @@ pub enum Rejected {
     Unread(Error),
 }
 
-/// Returns the query that is read from a querystring, where it is within the limits.
+/// Returns the query that is read from a querystring within the limits.
 pub fn guarded(alloc: Global, limits: Limits, input: &[u8]) -> Result<Query, Rejected>
     ensures { Guards limits input.now result }
 {

@@ -1,4 +1,4 @@
-//! Which page is shown: a struct with fields that take a default where they are missing.
+//! Which page is shown: a struct with fields that have defaults.
 
 ghost use Rattle.qs_callers.specs.declared.paging.TheConstants.{NAMES};
 ghost use Rattle.serde_qs.specs.PartTables.{made_of};
@@ -11,7 +11,7 @@ use serde_qs::{
 };
 use std::alloc::Global;
 
-/// The number of a page: 1 where it is missing.
+/// The number of a page, 1 if it is missing.
 #[derive(Debug, PartialEq, Drop)]
 pub struct Page(pub u32);
 

@@ -22,14 +22,14 @@ pub fn is_same_form<T: PartialEq>(a: &QsForm<T>, b: &QsForm<T>) -> bool
     a == b
 }
 
-/// Returns the order of two queries, where they have one.
+/// Returns the order of two queries, if they have one.
 pub fn partial_order_of_queries<T: PartialOrd>(a: &QsQuery<T>, b: &QsQuery<T>) -> Option<Ordering>
     ensures { result ≡ T.partial_cmp a.now.0 b.now.0 }
 {
     a.partial_cmp(b)
 }
 
-/// Returns the order of two forms, where they have one.
+/// Returns the order of two forms, if they have one.
 pub fn partial_order_of_forms<T: PartialOrd>(a: &QsForm<T>, b: &QsForm<T>) -> Option<Ordering>
     ensures { result ≡ T.partial_cmp a.now.0 b.now.0 }
 {
@@ -92,14 +92,14 @@ pub fn form_inside<T>(form: &QsForm<T>) -> &T
     form.deref()
 }
 
-/// Returns the text of a query, as that of the value inside.
+/// Returns the text of a query, which is its value's.
 pub fn query_text<T: Display>(alloc: Global, query: &QsQuery<T>) -> Result<String, AllocError>
     ensures { IfOk result (λ text. IfSome (T.output query.now.0) (λ bytes. string_bytes text ≡ bytes)) }
 {
     query.to_string(alloc)
 }
 
-/// Returns the text of a form, as that of the value inside.
+/// Returns the text of a form, which is its value's.
 pub fn form_text<T: Display>(alloc: Global, form: &QsForm<T>) -> Result<String, AllocError>
     ensures { IfOk result (λ text. IfSome (T.output form.now.0) (λ bytes. string_bytes text ≡ bytes)) }
 {

@@ -17,7 +17,7 @@ pub fn target<T: Serialize>(alloc: Global, path: &str, value: &T) -> Result<Stri
     Ok(format!(in alloc; "{path}?{query}")?)
 }
 
-/// Returns what a server reads of a request target; without a query, that of the empty one.
+/// Returns what a server reads from the query of a request target, or from the empty query if there is none.
 pub fn served<'de, T: Deserialize<'de>>(alloc: Global, target: &'de str) -> Result<T>
     ensures { ReturnsFrom default (query_behind target.now) result }
 {

@@ -27,7 +27,7 @@ fail_each() {
 try_c() {
     local program call wanted
     cp "$tests"/c/*.[ch] .
-    for program in cases memory guarded; do
+    for program in cases memory guarded stack; do
         runs "C, $program.c" cc -std=c11 -pthread -Wall -Wextra -Werror "$program.c" $flags -o "c_$program"
     done
     runs 'C, linked with the static library' cc -static -std=c11 cases.c $static_flags -o static_cases
@@ -40,6 +40,7 @@ try_c() {
         fail_each "$call" "$wanted"
     done 3<calls 4<wanted
     runs 'C, random calls behind guard pages' ./c_guarded calls "$guarded_seconds"
+    runs 'C, the calls and those that nest deepest, on a stack of 192 KiB' ./c_stack 192 calls
 }
 
 if command -v cc >/dev/null; then

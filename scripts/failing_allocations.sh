@@ -131,8 +131,8 @@ fail_each '' 2 'usage: qs_tool flat|params|any [--form] [--strict] [--depth N] [
 
 # Typed calls, over structs, maps, lists and enums of users, and lists in one text.
 is_tool=no
-program=${2:-$root/crates/qs_tests/out/qs_tests}
-[ -x "$program" ] || fail "there is no program $program: run 'rt run' in crates/qs_tests once"
+program=${2:-$root/crates/qs_answers/out/qs_answers}
+[ -x "$program" ] || fail "there is no program $program: run 'rt run' in crates/qs_answers once"
 fail_each 'name=Alice&age=24&occupation=Student' 0 'name=Alice&age=24&occupation=Student' query
 fail_each 'age=24&name=Alice' 1 'error: missing field `occupation`' query
 fail_each '1=a&%31=b' 0 '1=b' map

@@ -1,7 +1,7 @@
 #!/usr/bin/env bash
-# The golden cases of scripts/golden/trees.tsv on the built program qs_tests: trees with their marks, and errors with position
+# The golden cases of scripts/golden/trees.tsv on the built program qs_answers: trees with their marks, and errors with position
 # and text. The steps of a case have to be what `parse_with` is proved to take on an input that it accepts: its length and one.
-crate=qs_tests
+crate=qs_answers
 source "$(dirname "${BASH_SOURCE[0]}")/support/counting.sh"
 table=${2:-$root/scripts/golden/trees.tsv}
 
@@ -10,7 +10,7 @@ sed 's/\t\t/\t-\t/' "$table" >"$room/cases"
 cut -f 1-3 "$table" | "$program" >"$room/answers" 2>"$room/said"
 status=${PIPESTATUS[1]}
 if [ "$status" -ne 0 ]; then
-    fail "qs_tests: status $status: $(head -c 200 "$room/said")"
+    fail "qs_answers: status $status: $(head -c 200 "$room/said")"
 fi
 
 number=0

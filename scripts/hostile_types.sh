@@ -2,7 +2,7 @@
 # Inputs of 300,000 pairs, read by users' types and written again: a map, lists and structs in each order, keys that no field has, and a
 # list in one text. Inputs as long that aren't read, for what their last pair is or for a pair that is missing, and why. Maps and structs of
 # as many keys and names that are asked whether they can be read back.
-crate=qs_tests
+crate=qs_answers
 source "$(dirname "${BASH_SOURCE[0]}")/support/loads.sh"
 measure=map
 # A map of strings of its own stands beside the tree.

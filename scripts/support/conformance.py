@@ -1,6 +1,6 @@
 """Checks the conformance suite, and this library against it.
 
-usage: conformance.py PROGRAM     the built program qs_tests; the module for Python has to find the shared library
+usage: conformance.py PROGRAM     the built program qs_answers; the module for Python has to find the shared library
 """
 
 import collections

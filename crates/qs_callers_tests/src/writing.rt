@@ -3,6 +3,7 @@
 use crate::claims::{gives_text, holds, is_written};
 use crate::values::{ALICE, alice, list, one, text};
 use qs_callers::{Account, Filter, Pair, Price, Search, Sort, rewritten};
+use qs_tests::{Narrow, Stop};
 use serde_qs::{Config, ConfigExt, Error, Result, to_string, to_writer};
 use std::alloc::Global;
 use std::process::Abort;
@@ -116,4 +117,24 @@ fn too_deep(rt: HostRuntime) {
     let result = config.serialize_to_writer(alloc, &pair, &mut out);
     is_too_deep(&rt, result);
     holds(&rt, out.as_slice() == b"a=1".as_slice(), "what is written");
+}
+
+// Claims that a writer with this room holds as much of the query's text, and that the call failed if there was more.
+fn stops_at<R: Abort>(rt: &R, alloc: Global, room: usize) {
+    let mut writer = Narrow::new(alloc, 1, room, Stop::Fails).expect(rt, "a writer");
+    let outcome = to_writer(alloc, &alice(rt, alloc), &mut writer);
+    let is_front = ALICE.as_bytes().get(..room) == Some(writer.held.as_slice());
+    holds(rt, is_front, "the front of the text");
+    let is_whole = room == ALICE.len();
+    holds(rt, outcome.is_ok() == is_whole, "the whole text");
+    let is_of_the_writer = matches!(outcome, Ok(()) | Err(Error::Io(_)));
+    holds(rt, is_of_the_writer, "the writer's error");
+}
+
+// A struct is written field by field.
+#[test]
+fn a_struct_stops_in_mid_stream(rt: HostRuntime) {
+    for room in 0..=ALICE.len() {
+        stops_at(&rt, rt.alloc(), room);
+    }
 }

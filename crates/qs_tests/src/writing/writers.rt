@@ -4,7 +4,6 @@ use crate::build::Build;
 use crate::claims::{fails, holds, is_equal, made};
 use crate::narrow::{Narrow, Stop};
 use crate::notation;
-use qs_callers::Query;
 use serde_qs::{
     ByWrite, Config, ConfigExt, Data, Error, Result, Serializer, Sink, from_str, to_writer,
 };
@@ -18,8 +17,6 @@ const WHOLE: &[u8; 10] = b"a=1&b[0]=2";
 
 const ADDRESS: &str =
     "address[city]=Carrot+City&address[postcode]=12345&address[street]=Special-Street*+No.+11";
-
-const QUERY: &str = "name=Alice&age=24&occupation=Student";
 
 // Returns a struct of a number and a list of one number.
 fn number_and_list<R: Abort>(b: &Build<'_, R>) -> Data {
@@ -208,17 +205,6 @@ fn stops_in<R: Abort>(
     let mut writer = made(rt, Narrow::new(alloc, 3_000, room, Stop::Fails));
     let outcome = call.write(alloc, addresses, &mut writer);
     holds_front(rt, &writer.held, outcome, text, room, (call, room));
-}
-
-// A struct of a user's is written field by field.
-#[test]
-fn a_struct_stops_in_mid_stream(rt: HostRuntime) {
-    let query: Query = made(&rt, from_str(rt.alloc(), QUERY));
-    for room in 0..=QUERY.len() {
-        let mut writer = made(&rt, Narrow::new(rt.alloc(), 1, room, Stop::Fails));
-        let outcome = to_writer(rt.alloc(), &query, &mut writer);
-        holds_front(&rt, &writer.held, outcome, QUERY, room, room);
-    }
 }
 
 #[test]

@@ -34,13 +34,7 @@ pub fn submitted<T: Deserialize>(
     let config = Config::new().use_form_encoding(true);
     match read_explained(alloc, config, form)? {
         Ok(value) => Ok(Ok(value)),
-        Err(rejection) => Ok(Err(field_error(
-            alloc,
-            config,
-            &T::shape(alloc)?,
-            form,
-            &rejection,
-        )?)),
+        Err(rejection) => Ok(Err(field_error(alloc, config, &T::shape(alloc)?, form, &rejection)?)),
     }
 }
 
@@ -86,7 +80,10 @@ fn of_type(alloc: Global, rejection: &Rejection) -> std::result::Result<FieldErr
 }
 
 // Returns the error of a form whose wrong field can't be named.
-fn of_the_whole(alloc: Global, explanation: &Explanation) -> std::result::Result<FieldError, AllocError> {
+fn of_the_whole(
+    alloc: Global,
+    explanation: &Explanation,
+) -> std::result::Result<FieldError, AllocError> {
     let field = String::new(alloc);
     let message = explanation.to_string(alloc)?;
     Ok(FieldError { field, message })
@@ -94,7 +91,12 @@ fn of_the_whole(alloc: Global, explanation: &Explanation) -> std::result::Result
 
 // Returns the error of a key that can't be parsed, or that conflicts with an earlier one. A key whose bracket isn't closed goes on over
 // the fields that follow; the name of its input ends at the `=`.
-fn of_syntax(alloc: Global, config: Config, form: &[u8], error: &Error) -> std::result::Result<FieldError, AllocError> {
+fn of_syntax(
+    alloc: Global,
+    config: Config,
+    form: &[u8],
+    error: &Error,
+) -> std::result::Result<FieldError, AllocError> {
     let mut field = String::new(alloc);
     if let Error::Parse(_, position) = error {
         let pair = find_pair(config, form, *position);
@@ -107,7 +109,12 @@ fn of_syntax(alloc: Global, config: Config, form: &[u8], error: &Error) -> std::
 }
 
 // Adds what is probably meant if a bracket is escaped.
-fn with_hint(alloc: Global, config: Config, form: &[u8], wrong: FieldError) -> std::result::Result<FieldError, AllocError> {
+fn with_hint(
+    alloc: Global,
+    config: Config,
+    form: &[u8],
+    wrong: FieldError,
+) -> std::result::Result<FieldError, AllocError> {
     let Some(hint) = find_hint(config, form) else {
         return Ok(wrong);
     };

@@ -59,8 +59,8 @@ fn located<'de, T: Deserialize<'de>>(
     PathError { path, error }
 }
 
-// Reads the tree with a number given as one that this width doesn't hold. Where that is the error, the number is of this width, and the
-// error of the value that stands there is returned, if it has one.
+// Reads the tree with a number given as one that this width doesn't hold. If the read fails at that number, the number is of this width:
+// returns the error of the value that is there, if it has one.
 fn probed<'de, T: Deserialize<'de>>(
     alloc: Global,
     config: Config,
@@ -75,6 +75,9 @@ fn probed<'de, T: Deserialize<'de>>(
     };
     let read: Result<T> = read_tree(alloc, input, &mut format);
     let found = read.err()?;
+    if format.search.numbers != search.probed {
+        return None;
+    }
     let error = format.number_misfit(search.width)?;
     if have_one_text(&found, &error) {
         Some(error)

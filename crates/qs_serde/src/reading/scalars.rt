@@ -25,7 +25,7 @@ use std::borrow::CowSlice;
 use std::str;
 
 impl<'t, 'qs> TreeFormat<'t, 'qs> {
-    /// Reads a key, or no value, by a shape. The error of a key that holds a bracket has a hint.
+    /// Reads a node by a shape. If the node is a key that contains a bracket, its error has a hint.
     #[inline(never)]
     #[tactic(auto, using(crate::proofs::Errors::step_errors))]
     pub(crate) fn read_key(&self, node: Node<'t, 'qs>, shape: &Shape) -> Result<Data>
@@ -65,7 +65,7 @@ impl<'t, 'qs> TreeFormat<'t, 'qs> {
         }
     }
 
-    /// Returns where a text stands in the input. Any place will do, since a text is its bytes.
+    /// Returns the range of a text in the input. Any occurrence will do, since all have the same bytes.
     #[tactic(auto, using(crate::proofs::Errors::step_errors))]
     pub(crate) fn place(&self, text: &[u8], input: &[u8]) -> Result<(usize, usize)>
         ensures errors { IfErr result (IsStepError true) }
@@ -89,15 +89,6 @@ pub(crate) fn borrowed_text<'t, 'qs>(reader: Reader, node: Node<'t, 'qs>) -> Opt
 {
     match node {
         Node::Value(value) => borrowed_value(reader, value),
-        key => borrowed_key(reader, key),
-    }
-}
-
-// Returns the text of a key, if the key borrows it from the input.
-fn borrowed_key<'t, 'qs>(_reader: Reader, node: Node<'t, 'qs>) -> Option<&'t [u8]>
-    ensures { IfSome result (λ b. given_text _reader.reject_duplicates (node_tree node.entry) ≡ Some (Some b.now)) }
-{
-    match node {
         Node::EmptyKey => Some(&[]),
         Node::Key(Key::String(CowSlice::Borrowed(text))) => Some(text),
         _ => None,
@@ -115,7 +106,7 @@ fn borrowed_value<'t>(reader: Reader, value: &'t ParsedValue<'_>) -> Option<&'t 
     }
 }
 
-// Returns the text of the last item, if the item borrows it from the input; none where several are rejected.
+// Returns the text of the last item, if the item borrows it from the input; `None` if there are several items and duplicates are rejected.
 #[tactic(auto, using(qs_data::proofs::lemmas::read::Scalars::last_item_is))]
 fn borrowed_last<'t>(reader: Reader, items: &'t [ParsedValue<'_>]) -> Option<&'t [u8]>
     ensures { IfSome result (λ b. last_item reader.reject_duplicates (items_from (map tree_of items.now)) ≡ Some b.now) }
@@ -129,7 +120,7 @@ fn borrowed_last<'t>(reader: Reader, items: &'t [ParsedValue<'_>]) -> Option<&'t
     Some(borrowed_item(last)?)
 }
 
-// Returns the text of an item, if the item borrows it from the input. That of an empty value is empty.
+// Returns the text of an item, if the item borrows it from the input. The text of an empty value is empty.
 fn borrowed_item<'t>(item: &'t ParsedValue<'_>) -> Option<&'t [u8]>
     ensures { IfSome result (λ b. item_text (tree_of item.now) ≡ Some b.now) }
 {

@@ -1,13 +1,12 @@
 //! Calls for types that are written by hand: data of structs and variants, nodes, defaults.
 
 use crate::claims::{gives, holds, is_text};
-use crate::values::{ALICE, alice, list, one, text, tree};
+use crate::values::{alice, list, text};
 use qs_callers::Query;
-use qs_data::Reader;
 use serde_qs::{
-    Config, Data, Deserialize, Error, OrDefault, Result, Serialize, newtype_struct,
-    newtype_variant, struct_of, struct_variant, tuple_struct, tuple_variant, unexpected,
-    unit_variant, value_comes_back,
+    Data, Deserialize, Error, OrDefault, Result, Serialize, newtype_struct, newtype_variant,
+    struct_of, struct_variant, tuple_struct, tuple_variant, unexpected, unit_variant,
+    value_comes_back,
 };
 use std::alloc::Global;
 use std::collections::BTreeMap;
@@ -85,29 +84,6 @@ fn data_of_another_type(rt: HostRuntime) {
     };
     let wanted = "invalid type: data, expected a date";
     is_text(&rt, message.as_str(), wanted);
-}
-
-#[test]
-fn a_node_by_a_kept_shape(rt: HostRuntime) {
-    let alloc = rt.alloc();
-    let tree = tree(&rt, alloc, ALICE);
-    let reader = Reader::new(alloc, Config::new());
-    let shape = Query::shape(alloc).expect(&rt, "memory");
-    let read = Query::from_node_by(reader, &shape, &tree);
-    gives(&rt, read, alice(&rt, alloc));
-}
-
-#[test]
-fn a_node_of_maps_by_a_kept_shape(rt: HostRuntime) {
-    let alloc = rt.alloc();
-    let tree = tree(&rt, alloc, "a[k]=1&b[k]=2");
-    let reader = Reader::new(alloc, Config::new());
-    let shape = BTreeMap::<String, BTreeMap<String, u8>>::shape(alloc).expect(&rt, "memory");
-    let read: BTreeMap<String, BTreeMap<String, u8>> = BTreeMap::from_node_by(
-        reader, &shape, &tree,
-    ).expect(&rt, "maps");
-    let wanted = one(&rt, alloc, "k", 2);
-    holds(&rt, read.get("b") == Some(&wanted), "the map under `b`");
 }
 
 // Claims that this is the value of a missing field.

@@ -7,7 +7,6 @@ use crate::values::{ALICE, alice, list, text};
 use qs_callers::{Account, Filter, Pair, Price, Query, Search, Sort, asked, sorted};
 use serde_qs::{
     Config, ConfigExt, Deserialize, Deserializer, Error, Result, Serialize, from_bytes, from_str,
-    read_by,
 };
 use std::alloc::Global;
 use std::collections::BTreeMap;
@@ -49,16 +48,6 @@ fn each_call_of_a_configuration_reads(rt: HostRuntime) {
     is_alice(&rt, config.deserialize_str(alloc, ALICE));
     let bytes = ALICE.as_bytes();
     is_alice(&rt, config.deserialize_bytes(alloc, bytes));
-}
-
-#[test]
-fn a_shape_is_kept(rt: HostRuntime) {
-    let alloc = rt.alloc();
-    let shape = Query::shape(alloc).expect(&rt, "a shape");
-    for _ in 0..3 {
-        let read = read_by(alloc, Config::new(), &shape, ALICE.as_bytes());
-        is_alice(&rt, read);
-    }
 }
 
 #[test]

@@ -47,7 +47,7 @@ pub use written::{
     unit_variant,
 };
 
-/// A struct or an enum by what it is made of. It is read and written as that, and its values come back.
+/// A struct or an enum, given by its parts. It is read and written as these, and its values can be read back.
 ///
 /// A struct is made of its fields:
 ///
@@ -80,8 +80,8 @@ pub trait Compound: Sized {
     // What it is made of, under which names, and its parts.
     ghost table: { Table Self };
 
-    /// Returns the shape that is read for a value. The one error is [`OutOfMemory`](qs_data::Error::OutOfMemory). It allocates for names and
-    /// nested shapes, and takes time with them.
+    /// Returns the shape that is read for a value. The one error is [`OutOfMemory`](qs_data::Error::OutOfMemory). It allocates for names
+    /// and nested shapes, and the time grows with them.
     ///
     /// ```
     /// PointParts::shape(alloc, NAMES)
@@ -90,9 +90,10 @@ pub trait Compound: Sized {
         ensures exact { IfOk result (λ s. shape_of s ≡ table.form) }
         ensures errors { OnlyOutOfMemory result };
 
-    /// Returns the value that comes from data, or from a node of a tree. Where there is none, the error is
-    /// [`Custom`](qs_data::Error::Custom), or [`Utf8`](qs_data::Error::Utf8) where a text of the node isn't UTF-8; where an allocation failed,
-    /// [`OutOfMemory`](qs_data::Error::OutOfMemory). There is no other error. It allocates for the value, and the time grows with the source.
+    /// Returns the value that is read from data, or from a node of a tree. If there is none, the error is
+    /// [`Custom`](qs_data::Error::Custom), or [`Utf8`](qs_data::Error::Utf8) if a string of the node isn't UTF-8; if an allocation failed,
+    /// [`OutOfMemory`](qs_data::Error::OutOfMemory). There is no other error. It allocates for the value, and the time grows with the
+    /// source.
     ///
     /// ```
     /// let Struct((x, (y, ()))) = PointParts::read(source, NAMES)?;
@@ -102,9 +103,9 @@ pub trait Compound: Sized {
         requires { is_distinct table.form ≡ true }
         ensures exact { ReadsSource table.value table.form table.meaning source.entry result };
 
-    /// Passes the parts to `out`, under their names. An error is returned only where something failed: an allocation
-    /// ([`OutOfMemory`](qs_data::Stop::OutOfMemory)), or the writing of the parts. Into data, they are made; to a writer, they are written. It
-    /// allocates, and takes time, as the method of [`Out`] does that it calls.
+    /// Passes the parts to `out`, under their names. An error is returned only if something failed: an allocation
+    /// ([`OutOfMemory`](qs_data::Stop::OutOfMemory)), or the writing of the parts. The parts are made into data, or written to a writer. It
+    /// allocates, and takes time, as the method of [`Out`] that it calls.
     ///
     /// ```
     /// out.fields(NAMES, (&self.x, (&self.y, ())))
@@ -149,10 +150,6 @@ impl<C: Compound> Deserialize for C {
     fn from_traced(reader: Reader, node: &ParsedValue<'_>, path: &mut Path) -> Result<C> {
         C::read(Source::Traced(reader, node, path))
     }
-
-    fn from_node_by(reader: Reader, _shape: &Shape, node: &ParsedValue<'_>) -> Result<C> {
-        Self::from_node(reader, node)
-    }
 }
 
 impl<C: Compound> RoundTrip for C {
@@ -162,7 +159,7 @@ impl<C: Compound> RoundTrip for C {
 /// The nested pairs of a struct's fields: `fields!(self; x, y)` is `(&self.x, (&self.y, ()))`, and `fields!(x, y)` is `(x, (y, ()))`, as a
 /// pattern or a value.
 ///
-/// A field that is left out where it is None has a question mark after it: `fields!(self; x, y?)` is `(&self.x, (SkipNone(&self.y), ()))`, and
+/// A field that is left out if it is None has a question mark after it: `fields!(self; x, y?)` is `(&self.x, (SkipNone(&self.y), ()))`, and
 /// `fields!(x, y?)` is `(x, Optional(y, ()))`.
 ///
 /// ```

@@ -12,8 +12,8 @@
 //! let text = to_string(alloc, &query)?; // name=Alice&age=24
 //! ```
 //!
-//! A struct or an enum gets this by [`Compound`], from the names and types of what it is made of; docs/TYPES.md shows how.
-//! [`ConfigExt`] has the same calls under a [`Config`].
+//! A struct or an enum gets this by [`Compound`], from the names and types of its parts; docs/TYPES.md shows how. [`ConfigExt`] has the
+//! same calls under a [`Config`].
 //!
 //! # Without a type
 //!
@@ -39,11 +39,11 @@
 //!
 //! By default a space is `+`, and bytes that the query of a URL may hold as they are aren't escaped: `name=John+Doe&langs[0]=en`. Form
 //! encoding, [`Config::use_form_encoding`], escapes all but letters, digits and `*-._`, the brackets of keys too:
-//! `name=John%20Doe&langs%5B0%5D=en`. On reading it takes escaped brackets for brackets.
+//! `name=John%20Doe&langs%5B0%5D=en`. When reading, it treats escaped brackets as brackets.
 //!
 //! # Repeated keys
 //!
-//! Of several values for a scalar the last one is taken, or they are rejected: [`DuplicateKeyBehavior`].
+//! If a scalar has several values, the last one is taken, or they are rejected: [`DuplicateKeyBehavior`].
 //!
 //! # Lists
 //!
@@ -51,7 +51,7 @@
 //!
 //! # Memory
 //!
-//! A call that allocates is passed the allocator, and returns [`Error::OutOfMemory`] where an allocation failed.
+//! A call that allocates is passed the allocator, and returns [`Error::OutOfMemory`] if an allocation failed.
 #![tactic(auto)]
 
 mod calls;
@@ -65,7 +65,7 @@ mod traits;
 mod types;
 pub mod web;
 
-pub use calls::{ConfigExt, from_bytes, from_str, read_by, read_explained, to_string, to_writer};
+pub use calls::{ConfigExt, from_bytes, from_str, read_explained, to_string, to_writer};
 pub use compound::{
     Compound, Defaulted, Enum, Exit, FieldReferences, Fields, ItemReferences, Items, Last,
     ListedReferences, Newtype, OneOf, Optional, OrDefault, Out, Parts, Payload, References,

@@ -40,10 +40,10 @@ pub trait Serialize {
         ensures exact { IfOk result (λ d. data_of d ≡ datum self.now) }
         ensures errors { OnlyOutOfMemory result };
 
-    /// Writes the entries of this value where the writer is: those of its data. Typed calls write by this function.
+    /// Writes the entries of this value's data where the writer is. Typed calls write by this function.
     ///
-    /// The errors, and what was written before each, are those of [`Writer::data`]. Unless a type has a function of its own, this makes the
-    /// data; the types of this crate write their parts themselves, and no string is copied.
+    /// The errors, and what was written before each, are the same as for [`Writer::data`]. The default implementation makes the data. The
+    /// types of this crate write their parts themselves, and copy no string.
     ///
     /// ```
     /// query.write_to(&mut writer)?; // name=Alice&age=24
@@ -64,14 +64,14 @@ pub trait Serialize {
 /// let query = Query::from_data(alloc, deserializer.read(alloc, &shape)?)?;
 /// ```
 pub trait Deserialize: Sized {
-    // What a value holds, the one shape that is read for it, and what data mean. The table of a struct or an enum is made of those of its
-    // parts. A type that is only read has one by `only_read`.
+    // What a value holds, the one shape that is read for it, and what data means. The table of a struct or an enum is made of its parts'
+    // tables. A type that is only read has one by `only_read`.
     ghost table: { Table Self };
 
     /// Returns the shape that is read for a value. The one error is [`OutOfMemory`](Error::OutOfMemory).
     ///
-    /// It allocates for names and nested shapes. A typed call makes it for a type without a [`from_node`](Deserialize::from_node) of its own;
-    /// a service that reads many of such a type keeps it for [`read_by`](crate::read_by).
+    /// It allocates for names and nested shapes. A typed call makes the shape of a type without a [`from_node`](Deserialize::from_node) of
+    /// its own.
     ///
     /// ```
     /// let shape = u8::shape(alloc)?; // Shape::U8
@@ -80,11 +80,10 @@ pub trait Deserialize: Sized {
         ensures exact { IfOk result (λ s. shape_of s ≡ table.form) }
         ensures errors { OnlyOutOfMemory result };
 
-    /// Returns the value that data mean.
+    /// Returns the value that data means.
     ///
-    /// Where they mean none, the error is [`Custom`](Error::Custom); where an allocation failed,
-    /// [`OutOfMemory`](Error::OutOfMemory). There is no other error. Strings are moved, not copied;
-    /// lists and maps are allocated anew. The time grows with the data.
+    /// If it means none, the error is [`Custom`](Error::Custom); if an allocation failed, [`OutOfMemory`](Error::OutOfMemory). There is no
+    /// other error. Strings are moved, not copied; lists and maps are allocated anew. The time grows with the data.
     ///
     /// ```
     /// let flag = bool::from_data(alloc, Data::Bool(true))?; // true
@@ -92,11 +91,11 @@ pub trait Deserialize: Sized {
     fn from_data(alloc: Global, datum: Data) -> Result<Self>
         ensures exact { Means table.value result (table.meaning (data_of datum)) };
 
-    /// Returns the value that is read from a node of a tree: the one that the data mean which the shape reads from it. Typed calls read by
-    /// this function.
+    /// Returns the value that is read from a node of a tree: the shape reads data from the node, and the data means the value. Typed calls
+    /// read by this function.
     ///
-    /// The errors are those of reading by the shape, and of [`from_data`](Deserialize::from_data). Unless a type has a function of its own, this
-    /// makes the shape and the data. The unit, booleans, numbers, characters, strings, options, lists, maps, and the structs and enums of
+    /// It returns the errors of reading by the shape, and of [`from_data`](Deserialize::from_data). The default implementation makes the
+    /// shape and the data. The unit, booleans, numbers, characters, strings, options, lists, maps, and the structs and enums of
     /// [`Compound`](crate::Compound) read the node itself. It allocates for the value, and the time grows with the node.
     ///
     /// ```
@@ -110,12 +109,12 @@ pub trait Deserialize: Sized {
         Self::from_data(reader.alloc, datum)
     }
 
-    /// Returns the same value. Where there is none, it puts into the path what leads to the part that isn't read, as far as is known:
-    /// [`read_explained`](crate::read_explained) reads by this function after an error.
+    /// Returns the same value as [`from_node`](Deserialize::from_node). If there is none, it puts the steps to the part that isn't read
+    /// into the path, as far as they are known. [`read_explained`](crate::read_explained) reads by this function after an error.
     ///
-    /// The errors are those of [`from_node`](Deserialize::from_node). Unless a type has a function of its own, the path isn't changed. Options,
-    /// lists, maps, and the structs and enums of [`Compound`](crate::Compound) read each part to find the first that isn't read, so a part is read
-    /// once for each level above it. No clause speaks of the path.
+    /// It returns the same errors. The default implementation doesn't change the path. Options, lists, maps, and the structs and enums of
+    /// [`Compound`](crate::Compound) read each part to find the first that isn't read, so a part is read once for each level above it. No
+    /// clause is about the path.
     ///
     /// ```
     /// let query = Query::from_traced(reader, node, &mut path)?;
@@ -126,28 +125,10 @@ pub trait Deserialize: Sized {
         Self::from_node(reader, node)
     }
 
-    /// Returns the same value by a shape that the caller keeps: that of the type. [`read_by`](crate::read_by) reads by this function.
+    /// Returns the value of a field of this name that has no key. Unless the shape is an option, the error is [`Custom`](Error::Custom),
+    /// ``missing field `name` ``; if an allocation failed, [`OutOfMemory`](Error::OutOfMemory).
     ///
-    /// The errors are those of [`from_node`](Deserialize::from_node). Unless a type has a function of its own, this makes the data. The structs
-    /// and enums of [`Compound`](crate::Compound) read the node itself, without the shape. It allocates for the value, and the time grows with
-    /// the node.
-    ///
-    /// ```
-    /// let shape = Visit::shape(alloc)?; // once
-    /// let visit = Visit::from_node_by(reader, &shape, node)?;
-    /// ```
-    fn from_node_by(reader: Reader, shape: &Shape, node: &ParsedValue<'_>) -> Result<Self>
-        requires { shape_of shape.now ≡ table.form }
-        ensures node { ReadsNode table.value table.form table.meaning reader.reject_duplicates (tree_of node.now) result }
-    {
-        let datum = reader.read(shape, node)?;
-        Self::from_data(reader.alloc, datum)
-    }
-
-    /// Returns the value of a field of this name that has no key. Unless the shape is an option, the error is
-    /// [`Custom`](Error::Custom), ``missing field `name` ``; where an allocation failed, [`OutOfMemory`](Error::OutOfMemory).
-    ///
-    /// It allocates for the shape, unless a type has a function of its own, and for the message of the error.
+    /// It allocates for the message of the error. The default implementation also allocates for the shape.
     ///
     /// ```
     /// let none: Option<u8> = Option::from_missing(reader, "age")?; // None
@@ -164,9 +145,9 @@ pub trait Deserialize: Sized {
     }
 }
 
-/// A type whose values come back from what was written of them.
+/// A type whose values can be read back from what was written.
 ///
-/// It has no function. [`value_comes_back`](crate::value_comes_back) is what follows from it. A struct or an enum gets this trait by
+/// It has no methods. [`value_comes_back`](crate::value_comes_back) states what follows from it. A struct or an enum gets this trait by
 /// [`Compound`](crate::Compound).
 ///
 /// ```
@@ -174,15 +155,16 @@ pub trait Deserialize: Sized {
 /// let same: Query = from_str(alloc, text.as_str())?; // the value of `query`, where its data are plain
 /// ```
 pub trait RoundTrip: Serialize + Deserialize {
-    // The data that are written are those of the table, from which the value comes back.
+    // The data that is written is the table's, from which the value comes back.
     ghost same_datum: { (x : Self) → Self.table.datum x ≡ Self.datum x };
 }
 
-/// Returns the error of data that mean no value of a type: [`Custom`](Error::Custom) with the message `invalid type: data,
-/// expected ..`, or [`OutOfMemory`](Error::OutOfMemory) where the allocation of the message failed.
+/// Returns the error for data that means no value of a type: [`Custom`](Error::Custom) with the message `invalid type: data, expected ..`,
+/// or [`OutOfMemory`](Error::OutOfMemory) if the allocation of the message failed.
 ///
-/// It is for a [`from_data`](Deserialize::from_data) or a [`read`](crate::Compound::read) that is written by hand. It allocates the message. Call it in a
-/// function of its own, with the same clause, where `expected` has 20 characters or more: the prover doesn't find proofs over longer texts.
+/// It is for a [`from_data`](Deserialize::from_data) or a [`read`](crate::Compound::read) that is written by hand. It allocates the
+/// message. Call it in a function of its own, with the same clause, if `expected` has 20 characters or more: the prover doesn't find proofs
+/// over longer texts.
 ///
 /// ```
 /// match datum {

@@ -1,4 +1,4 @@
-//! Querystrings that are read by a user's type and written again, and why they aren't read.
+//! Querystrings that are read as a user's type and written again, and why they aren't read.
 
 use super::calls;
 use super::written::{Call, written};
@@ -6,7 +6,7 @@ use qs_callers::{Order, Pair, Query, Range, Search, Sort, Values};
 use qs_explain::explain;
 use serde_qs::{
     Comma, Config, ConfigExt, Delimited, Deserialize, Error, Pipe, Result, Serialize, Space,
-    from_bytes, from_str, read_by, to_string,
+    from_bytes, from_str, to_string,
 };
 use std::alloc::Global;
 use std::collections::BTreeMap;
@@ -20,28 +20,28 @@ type Ranges = Pair<BTreeMap<String, Range>, Vec<Range>>;
 /// Numbers in one text, with each delimiter.
 type Lists = Pair<Delimited<u32, Comma>, Pair<Delimited<u8, Pipe>, Delimited<i64, Space>>>;
 
-/// What is asked of a querystring and a type.
+/// A question about a querystring and a type.
 #[derive(Clone, Copy)]
 pub enum Question {
-    /// The querystring of the value that it stands for.
+    /// The querystring of the value that is read.
     Rewritten,
     /// Which part of it isn't read.
     Explained,
     /// The same by each typed call.
     EachCall,
-    /// What a writer with this room holds of it.
+    /// What a writer with this capacity holds of it.
     Written(Call, usize),
 }
 
 impl Question {
-    /// Returns the question that the words after a type's name ask, if it is one.
+    /// Returns the question of the words after a type's name, if they are one.
     ///
     /// | words | line |
     /// |---|---|
     /// | none | the querystring of the value |
     /// | `explained` | which part isn't read |
-    /// | `each_call` | the querystring of the value, where each typed call returns the same |
-    /// | `to_writer ROOM`, `serialize_to_writer ROOM`, `serialize_twice ROOM` | what a writer holds that has this room, and the call's error |
+    /// | `each_call` | the querystring of the value, if each typed call returns the same |
+    /// | `to_writer ROOM`, `serialize_to_writer ROOM`, `serialize_twice ROOM` | what a writer with this capacity holds, and the error |
     pub fn from_words(word: Option<&str>, room: Option<&str>) -> Option<Question> {
         let room = match room {
             Some(digits) => Some(digits.parse::<usize>().ok()?),
@@ -75,24 +75,13 @@ fn explained<T: Deserialize>(alloc: Global, input: &[u8]) -> Result<String> {
     }
 }
 
-// Returns whether a value was read, of which this is the querystring.
+// Returns whether the value that was read has this querystring.
 fn is_written_as<T: Serialize + Drop>(
     alloc: Global,
     value: Result<T>,
     wanted: &str,
 ) -> Result<bool> {
     Ok(Config::new().serialize_string(alloc, &value?)?.as_str() == wanted)
-}
-
-// Returns whether the value that is read by a shape that is kept has this querystring.
-fn is_read_by_shape<T: Serialize + Deserialize + Drop>(
-    alloc: Global,
-    input: &[u8],
-    wanted: &str,
-) -> Result<bool> {
-    let shape = T::shape(alloc)?;
-    let value = read_by(alloc, Config::new(), &shape, input);
-    is_written_as::<T>(alloc, value, wanted)
 }
 
 // Returns whether the value that each other typed call reads has this querystring.
@@ -106,8 +95,7 @@ fn is_read_by_each<T: Serialize + Deserialize + Drop>(
     Ok(
         is_written_as::<T>(alloc, from_str(alloc, text), wanted)?
             && is_written_as::<T>(alloc, config.deserialize_str(alloc, text), wanted)?
-            && is_written_as::<T>(alloc, config.deserialize_bytes(alloc, input), wanted)?
-            && is_read_by_shape::<T>(alloc, input, wanted)?,
+            && is_written_as::<T>(alloc, config.deserialize_bytes(alloc, input), wanted)?,
     )
 }
 
@@ -123,7 +111,7 @@ fn rewritten_by_each<T: Serialize + Deserialize + Drop>(
     }
 }
 
-// Returns what a writer with this room holds of the querystring of the value that is read from the input.
+// Returns what a writer with this capacity holds of the querystring of the value that is read from the input.
 fn written_into<T: Serialize + Deserialize + Drop>(
     alloc: Global,
     call: Call,
@@ -148,7 +136,7 @@ fn answer<T: Serialize + Deserialize + Drop>(
     }
 }
 
-// Returns the answer by the type of this name, or what the call of this name makes of the input, if there is one.
+// Returns the answer for the type of this name, or what the call of this name makes of the input, if there is one.
 fn answer_by(
     alloc: Global,
     name: &str,
@@ -168,7 +156,7 @@ fn answer_by(
     }
 }
 
-// Returns the status, or 3 where the line wasn't written.
+// Returns the status, or 3 if the line wasn't written.
 fn status(written: io::Result<()>, status: u8) -> ExitCode {
     match written {
         Ok(()) => ExitCode::from(status),
@@ -176,7 +164,7 @@ fn status(written: io::Result<()>, status: u8) -> ExitCode {
     }
 }
 
-/// Reads all of standard input, prints the answer by the type or the call of this name, and returns the status.
+/// Reads all of standard input, prints the answer for the type or the call of this name, and returns the status.
 ///
 /// | status | line |
 /// |---|---|

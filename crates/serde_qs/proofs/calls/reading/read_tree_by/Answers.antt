@@ -1,8 +1,0 @@
-use Rattle.qs_tree.specs.tree.Views.{tree_of}
-use Rattle.serde_qs.proofs.NodesRead.{returns_value}
-use Rattle.serde_qs.proofs.calls.reading.read_tree_by.Goals as goal
-
-pub returns : goal.returns
-returns g c =
-    returns_value g.T.Deserialize.table.value c.args.config g.T.Deserialize.table.form g.T.Deserialize.table.meaning c.args.input.now (tree_of c.in_ok-tree.tree)
-    g.T.Deserialize.table.distinct c.in_ok-tree.ensures.tree c.read_root_by.result c.read_root_by.ensures

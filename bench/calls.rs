@@ -19,11 +19,16 @@ unsafe extern "C" {
     fn qs_bench_write_numbers(times: usize, count: usize, out: *mut u8, out_len: usize, len: *mut usize) -> bool;
     fn qs_bench_read(times: usize, shape: usize, input: *const u8, input_len: usize, size: *mut usize) -> bool;
     fn qs_bench_write_bytes(times: usize, bytes: *const u8, bytes_len: usize, out: *mut u8, out_len: usize, len: *mut usize) -> bool;
-    fn qs_bench_person(reads: usize, writes: usize, kept: bool, input: *const u8, input_len: usize, out: *mut u8, out_len: usize, len: *mut usize) -> bool;
-    fn qs_bench_record(reads: usize, writes: usize, kept: bool, input: *const u8, input_len: usize, out: *mut u8, out_len: usize, len: *mut usize) -> bool;
-    fn qs_bench_ids(reads: usize, writes: usize, kept: bool, input: *const u8, input_len: usize, out: *mut u8, out_len: usize, len: *mut usize) -> bool;
-    fn qs_bench_map(reads: usize, writes: usize, kept: bool, input: *const u8, input_len: usize, out: *mut u8, out_len: usize, len: *mut usize) -> bool;
-    fn qs_bench_nested(reads: usize, writes: usize, kept: bool, input: *const u8, input_len: usize, out: *mut u8, out_len: usize, len: *mut usize) -> bool;
+    fn qs_bench_person(reads: usize, writes: usize, input: *const u8, input_len: usize, out: *mut u8, out_len: usize, len: *mut usize) -> bool;
+    fn qs_bench_record(reads: usize, writes: usize, input: *const u8, input_len: usize, out: *mut u8, out_len: usize, len: *mut usize) -> bool;
+    fn qs_bench_ids(reads: usize, writes: usize, input: *const u8, input_len: usize, out: *mut u8, out_len: usize, len: *mut usize) -> bool;
+    fn qs_bench_map(reads: usize, writes: usize, input: *const u8, input_len: usize, out: *mut u8, out_len: usize, len: *mut usize) -> bool;
+    fn qs_bench_nested(reads: usize, writes: usize, input: *const u8, input_len: usize, out: *mut u8, out_len: usize, len: *mut usize) -> bool;
+    fn qs_bench_derived_person(reads: usize, writes: usize, input: *const u8, input_len: usize, out: *mut u8, out_len: usize, len: *mut usize) -> bool;
+    fn qs_bench_derived_record(reads: usize, writes: usize, input: *const u8, input_len: usize, out: *mut u8, out_len: usize, len: *mut usize) -> bool;
+    fn qs_bench_derived_ids(reads: usize, writes: usize, input: *const u8, input_len: usize, out: *mut u8, out_len: usize, len: *mut usize) -> bool;
+    fn qs_bench_derived_map(reads: usize, writes: usize, input: *const u8, input_len: usize, out: *mut u8, out_len: usize, len: *mut usize) -> bool;
+    fn qs_bench_derived_nested(reads: usize, writes: usize, input: *const u8, input_len: usize, out: *mut u8, out_len: usize, len: *mut usize) -> bool;
 }
 
 /// Parses the input: how many keys its tree has, or nothing where it is rejected.
@@ -135,24 +140,43 @@ pub enum Type {
     Nested,
 }
 
-/// How often a value is read, by a shape that is made once (`kept`) or each time, and how often it is written: each once at least.
+/// How often a value is read, and how often it is written: each at least once.
 #[derive(Clone, Copy)]
 pub struct Times {
     pub reads: usize,
     pub writes: usize,
-    pub kept: bool,
+}
+
+/// How a type is read and written.
+#[derive(Clone, Copy)]
+pub enum Means {
+    /// By the trait `Compound`.
+    Compound,
+    /// By serde's derives.
+    Derives,
 }
 
 impl Type {
     /// Reads the input so often, writes the last value so often, and puts the last text to the front of `out` where it fits: its length,
     /// or nothing where the input can't be read.
-    pub fn read_and_write(self, times: Times, input: &[u8], out: &mut [u8]) -> Option<usize> {
-        let call = match self {
-            Type::Person => qs_bench_person,
-            Type::Record => qs_bench_record,
-            Type::Ids => qs_bench_ids,
-            Type::Map => qs_bench_map,
-            Type::Nested => qs_bench_nested,
+    pub fn read_and_write(
+        self,
+        means: Means,
+        times: Times,
+        input: &[u8],
+        out: &mut [u8],
+    ) -> Option<usize> {
+        let call = match (means, self) {
+            (Means::Compound, Type::Person) => qs_bench_person,
+            (Means::Compound, Type::Record) => qs_bench_record,
+            (Means::Compound, Type::Ids) => qs_bench_ids,
+            (Means::Compound, Type::Map) => qs_bench_map,
+            (Means::Compound, Type::Nested) => qs_bench_nested,
+            (Means::Derives, Type::Person) => qs_bench_derived_person,
+            (Means::Derives, Type::Record) => qs_bench_derived_record,
+            (Means::Derives, Type::Ids) => qs_bench_derived_ids,
+            (Means::Derives, Type::Map) => qs_bench_derived_map,
+            (Means::Derives, Type::Nested) => qs_bench_derived_nested,
         };
         handed_out(out, |text, room, len| {
             // SAFETY: the pointers and the lengths are those of borrows that last for the call.
@@ -160,7 +184,6 @@ impl Type {
                 call(
                     times.reads,
                     times.writes,
-                    times.kept,
                     input.as_ptr(),
                     input.len(),
                     text,

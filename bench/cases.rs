@@ -3,7 +3,7 @@
 mod data;
 mod typed;
 
-use crate::calls::{self, Keys, Sample, Shape, Times, Type};
+use crate::calls::{self, Keys, Means, Sample, Shape, Times, Type};
 use crate::inputs::{self, Generator, Order};
 use crate::timing::grouped;
 use std::hint::black_box;
@@ -22,10 +22,10 @@ enum Call {
     Write(Sample),
     /// Reads the case's bytes by the shape: so much.
     Read(Shape, usize),
-    /// Reads them as a value of the type, by a shape that is kept (`true`) or made each time: it is written as them.
-    ReadTyped(Type, bool),
+    /// Reads them as a value of the type: it is written as them.
+    ReadTyped(Type, Means),
     /// Writes the value of the type that they are read as: as them.
-    WriteTyped(Type),
+    WriteTyped(Type, Means),
 }
 
 pub struct Case {
@@ -66,9 +66,9 @@ impl Case {
                 sample.write(1, &mut out) == Some(out.len()) && out == self.bytes
             }
             Call::Read(shape, size) => calls::read(1, *shape, &self.bytes) == Some(*size),
-            Call::ReadTyped(of, _) | Call::WriteTyped(of) => {
+            Call::ReadTyped(of, means) | Call::WriteTyped(of, means) => {
                 out.resize(self.bytes.len(), 0);
-                let len = of.read_and_write(self.times(1), &self.bytes, &mut out);
+                let len = of.read_and_write(*means, self.times(1), &self.bytes, &mut out);
                 len == Some(out.len()) && out == self.bytes
             }
         }
@@ -80,22 +80,19 @@ impl Case {
         match &self.call {
             Call::Write(sample) => drop(black_box(sample.write(times + 1, &mut []))),
             Call::Read(shape, _) => drop(black_box(calls::read(times + 1, *shape, bytes))),
-            Call::ReadTyped(of, _) | Call::WriteTyped(of) => drop(black_box(of.read_and_write(
-                self.times(times + 1),
-                bytes,
-                &mut [],
-            ))),
+            Call::ReadTyped(of, means) | Call::WriteTyped(of, means) => drop(black_box(
+                of.read_and_write(*means, self.times(times + 1), bytes, &mut []),
+            )),
             call => (0..times).for_each(|_| call.make(black_box(bytes))),
         }
     }
 
     /// So many reads and one write, or one read and so many writes.
     fn times(&self, times: usize) -> Times {
-        let is_write = matches!(self.call, Call::WriteTyped(_));
+        let is_write = matches!(self.call, Call::WriteTyped(..));
         Times {
             reads: if is_write { 1 } else { times },
             writes: if is_write { times } else { 1 },
-            kept: matches!(self.call, Call::ReadTyped(_, true)),
         }
     }
 }
@@ -107,7 +104,7 @@ impl Call {
             Call::Parse(_) | Call::Reject => drop(black_box(calls::parse(bytes))),
             Call::Decode(_) => drop(black_box(calls::decode(bytes, &mut []))),
             Call::Encode { form, .. } => drop(black_box(calls::encode(*form, bytes, &mut []))),
-            Call::Write(_) | Call::Read(..) | Call::ReadTyped(..) | Call::WriteTyped(_) => {}
+            Call::Write(_) | Call::Read(..) | Call::ReadTyped(..) | Call::WriteTyped(..) => {}
         }
     }
 }

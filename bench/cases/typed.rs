@@ -2,12 +2,11 @@
 
 use super::data::RECORD;
 use super::{Call, Case};
-use crate::calls::Type;
+use crate::calls::{Means, Type};
 use crate::inputs::{self, Order};
 use crate::timing::grouped;
 
-/// A struct, the record, a list, a map and a nested text: each is read by a shape that is kept and by one that is made each time, and
-/// written.
+/// A struct, the record, a list, a map and a nested text: each is read and written, by `Compound` and by serde's derives.
 pub(super) fn all(many: usize) -> Vec<Case> {
     let ids: Vec<String> = (0..many)
         .map(|place| format!("ids[{place}]={place}"))
@@ -42,22 +41,24 @@ pub(super) fn all(many: usize) -> Vec<Case> {
     loads.into_iter().flat_map(rows).collect()
 }
 
-fn rows((kind, input, of): (String, String, Type)) -> [Case; 3] {
+fn rows((kind, input, of): (String, String, Type)) -> [Case; 4] {
     [
-        Case::new(
-            format!("read {kind} as a type, the shape kept"),
-            input.clone(),
-            Call::ReadTyped(of, true),
-        ),
-        Case::new(
+        (
             format!("read {kind} as a type"),
-            input.clone(),
-            Call::ReadTyped(of, false),
+            Call::ReadTyped(of, Means::Compound),
         ),
-        Case::new(
+        (
+            format!("read {kind} by a derive"),
+            Call::ReadTyped(of, Means::Derives),
+        ),
+        (
             format!("write {kind} of a type"),
-            input,
-            Call::WriteTyped(of),
+            Call::WriteTyped(of, Means::Compound),
+        ),
+        (
+            format!("write {kind} by a derive"),
+            Call::WriteTyped(of, Means::Derives),
         ),
     ]
+    .map(|(name, call)| Case::new(name, input.clone(), call))
 }

@@ -1,4 +1,5 @@
--- The words that a reader must believe, beside those of qs_spec and serde_qs: all modules. They say what the calls of the benchmark count, read and write.
+-- The definitions to review, in addition to those in qs_spec and serde_qs: all modules. They define what the benchmark's calls count, read
+-- and write.
 pub mod Keys
 pub mod Loads
 pub mod Reads

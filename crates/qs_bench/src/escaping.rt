@@ -8,8 +8,8 @@ use crate::text::hand_out;
 use qs_tree::{decode, encode};
 use std::alloc::Global;
 
-/// Decodes the bytes. Returns whether memory was there: the text's length is then in `len`, and the text at the front
-/// of `out`, where it fits there. Else nothing is changed.
+/// Decodes the bytes. Returns whether no allocation failed. If so, `len` is the text's length, and the text is at the front
+/// of `out`, if it fits there; else nothing is changed.
 #[unsafe(no_mangle)]
 pub extern "C" fn qs_bench_decode(
     alloc: Global,
@@ -27,7 +27,7 @@ pub extern "C" fn qs_bench_decode(
     true
 }
 
-/// Encodes the bytes for form mode (`form`), or query mode. Returns what decoding does.
+/// Encodes the bytes for form mode (`form`) or query mode. Returns the same as decoding.
 #[unsafe(no_mangle)]
 pub extern "C" fn qs_bench_encode(
     alloc: Global,

@@ -1,6 +1,7 @@
-//! Calls for a benchmark in another language: parsing, escapes, reading, writing, without types and with them.
+//! Calls for a benchmark in another language: parsing, escapes, reading and writing, with and without types.
 #![tactic(auto)]
 
+pub mod derived;
 pub mod escaping;
 mod loads;
 pub mod parsing;

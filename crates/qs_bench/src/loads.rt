@@ -13,11 +13,11 @@ use std::alloc::{AllocError, Global};
 #[derive(Drop)]
 pub(crate) struct Load {
     pub(crate) shape: Shape,
-    /// What a number counts.
+    /// The size of a number.
     pub(crate) each: usize,
 }
 
-/// Returns the load with a number, if there are so many.
+/// Returns the load with this number, if there is one.
 pub(crate) fn numbered_load(alloc: Global, number: usize) -> Result<Option<Load>, AllocError>
     ensures { IfOk result (λ found. IfSome found (λ load. slice_get spec.loads number ≡ Some (shape_of load.shape, load.each))) }
 {
@@ -97,7 +97,7 @@ fn only(alloc: Global, name: &str, shape: Shape) -> Result<Shape, AllocError>
     Ok(Shape::Struct(fields))
 }
 
-// Returns a field that must be there.
+// Returns a required field.
 fn field(alloc: Global, name: &str, shape: Shape) -> Result<Field, AllocError>
     ensures { IfOk result (λ field. field_of field ≡ (name.now, shape_of shape, false)) }
 {
@@ -109,7 +109,7 @@ fn field(alloc: Global, name: &str, shape: Shape) -> Result<Field, AllocError>
 }
 
 impl Load {
-    /// Returns how much the data are: nothing where that is no `usize`.
+    /// Returns the size of the data, or `None` if it doesn't fit a `usize`.
     pub(crate) fn size_of(&self, datum: &Data) -> Option<usize>
         ensures { IfSome result (λ size. size ≡ size_of self.now.each (data_of datum.now)) }
     {
@@ -117,7 +117,7 @@ impl Load {
     }
 }
 
-// Returns how much the data are.
+// Returns the size of the data.
 #[cycle(size)]
 #[tactic(auto, using(qs_data::proofs::lemmas::data::Levels::levels))]
 fn size_of(datum: &Data, each: usize) -> Option<usize>
@@ -133,7 +133,7 @@ fn size_of(datum: &Data, each: usize) -> Option<usize>
     }
 }
 
-// Returns how much the items are together.
+// Returns the total size of the items.
 #[cycle(size)]
 fn size_of_items(items: &Vec<Data>, each: usize) -> Option<usize>
     ensures { IfSome result (λ size. size ≡ size_of_values each (values_in items.now.items)) }
@@ -145,7 +145,7 @@ fn size_of_items(items: &Vec<Data>, each: usize) -> Option<usize>
     Some(size)
 }
 
-// Returns how much the keys and values are together.
+// Returns the total size of the keys and values.
 #[cycle(size)]
 fn size_of_pairs(pairs: &Vec<(Data, Data)>, each: usize) -> Option<usize>
     ensures { IfSome result (λ size. size ≡ size_of_pairs each (pairs_in pairs.now.items)) }
@@ -158,7 +158,7 @@ fn size_of_pairs(pairs: &Vec<(Data, Data)>, each: usize) -> Option<usize>
     Some(size)
 }
 
-// Returns how much the values of the fields are together.
+// Returns the total size of the fields' values.
 #[cycle(size)]
 fn size_of_members(members: &Vec<(String, Data)>, each: usize) -> Option<usize>
     ensures { IfSome result (λ size. size ≡ size_of_members each (members_in members.now.items)) }

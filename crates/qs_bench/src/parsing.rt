@@ -19,7 +19,7 @@ pub struct Keys {
     pub first: usize,
 }
 
-/// Parses the input, counts keys, and drops the tree. Returns whether there was one; else nothing is changed.
+/// Parses the input, counts keys, and drops the tree. Returns whether the input has a tree; if not, nothing is changed.
 #[unsafe(no_mangle)]
 pub extern "C" fn qs_bench_parse(alloc: Global, input: &[u8], keys: &mut Keys) -> bool
     ensures counted { IsTrue result → (tree : Tree) × IsTree default.form default.max_depth input.now tree
@@ -33,7 +33,7 @@ pub extern "C" fn qs_bench_parse(alloc: Global, input: &[u8], keys: &mut Keys) -
     true
 }
 
-// Counts the keys at the root, and those below the first of them.
+// Counts the keys at the root, and the keys below the first of them.
 fn count(tree: &ParsedValue<'_>) -> Keys
     ensures root { result.root ≡ root_keys (tree_of tree.now) }
     ensures first { result.first ≡ first_keys (tree_of tree.now) }

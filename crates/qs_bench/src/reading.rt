@@ -10,8 +10,8 @@ use crate::loads::numbered_load;
 use qs_data::{Data, Deserializer, Result, Shape};
 use std::alloc::Global;
 
-/// Reads the input by the shape with this number (`loads.rt`) so many times, once at least, each time from its bytes. Returns
-/// whether all went well: `size` is then how much was read last. Else nothing is changed.
+/// Reads the input by the shape with this number (`loads.rt`) `times` times, at least once, each time from its bytes. Returns
+/// whether all went well. If so, `size` is how much was read last; else nothing is changed.
 #[unsafe(no_mangle)]
 pub extern "C" fn qs_bench_read(
     alloc: Global,
@@ -30,7 +30,7 @@ pub extern "C" fn qs_bench_read(
     true
 }
 
-// Returns how much is read the last of so many times.
+// Reads `times` times, at least once. Returns how much the last read returns.
 fn last_size(alloc: Global, times: usize, number: usize, input: &[u8]) -> Option<usize>
     ensures { IfSome result (IsRead number input.now) }
 {
@@ -47,7 +47,7 @@ fn last_size(alloc: Global, times: usize, number: usize, input: &[u8]) -> Option
     Some(size)
 }
 
-// Returns the data that are read the last of so many times.
+// Reads `times` times, at least once. Returns the data of the last read.
 fn last_data(alloc: Global, times: usize, shape: &Shape, input: &[u8]) -> Result<Data>
     requires { is_distinct (shape_of shape.now) ≡ true }
     ensures { IfOk result (λ d. IsReadBy (shape_of shape.now) input.now (data_of d)) }
@@ -58,7 +58,7 @@ fn last_data(alloc: Global, times: usize, shape: &Shape, input: &[u8]) -> Result
     read(alloc, shape, input)
 }
 
-// Returns the data that are read.
+// Returns the data that is read.
 fn read(alloc: Global, shape: &Shape, input: &[u8]) -> Result<Data>
     requires { is_distinct (shape_of shape.now) ≡ true }
     ensures { IfOk result (λ d. IsReadBy (shape_of shape.now) input.now (data_of d)) }

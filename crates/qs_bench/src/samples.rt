@@ -38,7 +38,7 @@ fn address(alloc: Global) -> Result<Data, AllocError>
     Ok(Data::Struct(fields))
 }
 
-/// Returns so many fields, whose names and texts have their numbers, below so many keys.
+/// Returns `count` fields, with their numbers in their names and texts, below `keys` keys.
 #[tactic(auto, using(qs_data::proofs::lemmas::data::Levels::levels))]
 pub(crate) fn fields_below(alloc: Global, keys: usize, count: usize) -> Result<Data, AllocError>
     ensures { IfOk result (λ d. data_of d ≡ spec.below keys (spec.fields count)) }
@@ -50,7 +50,7 @@ pub(crate) fn fields_below(alloc: Global, keys: usize, count: usize) -> Result<D
     Ok(datum)
 }
 
-// Returns so many fields.
+// Returns `count` fields.
 fn fields(alloc: Global, count: usize) -> Result<Vec<(String, Data)>, AllocError>
     ensures { IfOk result (λ fields. map (named data_of) fields.items ≡ map spec.numbered (range_with_len 0 count)) }
 {
@@ -61,7 +61,7 @@ fn fields(alloc: Global, count: usize) -> Result<Vec<(String, Data)>, AllocError
     Ok(fields)
 }
 
-// Returns a field whose name and text have this number.
+// Returns a field with this number in its name and text.
 fn numbered(alloc: Global, number: usize) -> Result<(String, Data), AllocError>
     ensures { IfOk result (λ field. named data_of field ≡ spec.numbered number) }
 {
@@ -70,7 +70,7 @@ fn numbered(alloc: Global, number: usize) -> Result<(String, Data), AllocError>
     Ok((name, Data::Text(text)))
 }
 
-/// Returns a field with the numbers below a count.
+/// Returns a field with the numbers below `count`.
 pub(crate) fn numbers(alloc: Global, count: usize) -> Result<Data, AllocError>
     ensures { IfOk result (λ d. data_of d ≡ spec.only (spec.numbers count)) }
 {

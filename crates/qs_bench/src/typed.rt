@@ -3,37 +3,31 @@
 ghost use Rattle.std.specs.Prelude.{◌≡◌, IsTrue, IsFalse, IfOk, string_bytes, None};
 ghost use Rattle.qs_spec.specs.Config.{default};
 ghost use Rattle.qs_spec.specs.Entry.{entries};
-ghost use Rattle.qs_data.specs.shape.Views.{shape_of};
 ghost use Rattle.qs_bench.specs.Texts.{text_of};
 ghost use Rattle.qs_bench.specs.Typed.{IsReadAndWritten};
 ghost use Rattle.serde_qs.specs.Typed.{IsRead};
 
 use crate::text::hand_out;
 use crate::types::{Ids, Nested, Person, Record};
-use serde_qs::{
-    Config, Deserialize, Result, RoundTrip, Serialize, Shape, from_bytes, read_by, to_string,
-};
+use serde_qs::{Deserialize, Result, RoundTrip, Serialize, from_bytes, to_string};
 use std::alloc::Global;
 use std::collections::BTreeMap;
 
-/// How often a call reads and writes, each once at least.
+/// How often a call reads and writes, each at least once.
 #[derive(Clone, Copy)]
 struct Times {
     reads: usize,
     writes: usize,
-    /// Whether the shape of the type is made once, or for each read.
-    kept: bool,
 }
 
-/// Reads the input as a struct of three fields `reads` times, once at least, each time from its bytes, and by a shape that is made once
-/// (`kept`) or each time. Then writes the last value `writes` times, once at least, each time to fresh memory. Returns whether all went well: the text's length is then in `len`, and the text at the front of `out`, where it
-/// fits there. Else nothing is changed.
+/// Reads the input as a struct of three fields `reads` times, at least once, each time from its bytes. Then writes the last value
+/// `writes` times, at least once, each time to fresh memory. Returns whether all went well. If so, `len` is the text's length, and the
+/// text is at the front of `out`, if it fits there; else nothing is changed.
 #[unsafe(no_mangle)]
 pub extern "C" fn qs_bench_person(
     alloc: Global,
     reads: usize,
     writes: usize,
-    kept: bool,
     input: &[u8],
     out: &mut [u8],
     len: &mut usize,
@@ -42,11 +36,7 @@ pub extern "C" fn qs_bench_person(
         input.now out.old out.new len.new }
     ensures unchanged { IsFalse result → (out.new ≡ out.old) × (len.new ≡ len.old) }
 {
-    let times = Times {
-        reads,
-        writes,
-        kept,
-    };
+    let times = Times { reads, writes };
     read_and_write::<Person>(alloc, times, input, out, len)
 }
 
@@ -56,7 +46,6 @@ pub extern "C" fn qs_bench_record(
     alloc: Global,
     reads: usize,
     writes: usize,
-    kept: bool,
     input: &[u8],
     out: &mut [u8],
     len: &mut usize,
@@ -65,11 +54,7 @@ pub extern "C" fn qs_bench_record(
         input.now out.old out.new len.new }
     ensures unchanged { IsFalse result → (out.new ≡ out.old) × (len.new ≡ len.old) }
 {
-    let times = Times {
-        reads,
-        writes,
-        kept,
-    };
+    let times = Times { reads, writes };
     read_and_write::<Record>(alloc, times, input, out, len)
 }
 
@@ -79,7 +64,6 @@ pub extern "C" fn qs_bench_ids(
     alloc: Global,
     reads: usize,
     writes: usize,
-    kept: bool,
     input: &[u8],
     out: &mut [u8],
     len: &mut usize,
@@ -88,11 +72,7 @@ pub extern "C" fn qs_bench_ids(
         input.now out.old out.new len.new }
     ensures unchanged { IsFalse result → (out.new ≡ out.old) × (len.new ≡ len.old) }
 {
-    let times = Times {
-        reads,
-        writes,
-        kept,
-    };
+    let times = Times { reads, writes };
     read_and_write::<Ids>(alloc, times, input, out, len)
 }
 
@@ -102,7 +82,6 @@ pub extern "C" fn qs_bench_map(
     alloc: Global,
     reads: usize,
     writes: usize,
-    kept: bool,
     input: &[u8],
     out: &mut [u8],
     len: &mut usize,
@@ -111,11 +90,7 @@ pub extern "C" fn qs_bench_map(
         input.now out.old out.new len.new }
     ensures unchanged { IsFalse result → (out.new ≡ out.old) × (len.new ≡ len.old) }
 {
-    let times = Times {
-        reads,
-        writes,
-        kept,
-    };
+    let times = Times { reads, writes };
     read_and_write::<BTreeMap<String, String>>(alloc, times, input, out, len)
 }
 
@@ -125,7 +100,6 @@ pub extern "C" fn qs_bench_nested(
     alloc: Global,
     reads: usize,
     writes: usize,
-    kept: bool,
     input: &[u8],
     out: &mut [u8],
     len: &mut usize,
@@ -134,11 +108,7 @@ pub extern "C" fn qs_bench_nested(
         input.now out.old out.new len.new }
     ensures unchanged { IsFalse result → (out.new ≡ out.old) × (len.new ≡ len.old) }
 {
-    let times = Times {
-        reads,
-        writes,
-        kept,
-    };
+    let times = Times { reads, writes };
     read_and_write::<Nested>(alloc, times, input, out, len)
 }
 
@@ -153,7 +123,7 @@ fn read_and_write<T: RoundTrip + Drop>(
     ensures typed { IsTrue result → IsReadAndWritten T.table.value T.table.form T.table.meaning T.datum input.now out.old out.new len.new }
     ensures unchanged { IsFalse result → (out.new ≡ out.old) × (len.new ≡ len.old) }
 {
-    let Ok(value) = last_value::<T>(alloc, times, input) else {
+    let Ok(value) = last_value::<T>(alloc, times.reads, input) else {
         return false;
     };
     let Ok(text) = last_text(alloc, times.writes, &value) else {
@@ -163,43 +133,8 @@ fn read_and_write<T: RoundTrip + Drop>(
     true
 }
 
-// Returns the value that is read the last of so many times.
-fn last_value<T: RoundTrip + Drop>(alloc: Global, times: Times, input: &[u8]) -> Result<T>
-    ensures { IfOk result (λ x. IsRead default T.table.form T.table.meaning input.now (T.table.value x)) }
-{
-    if times.kept {
-        read_kept(alloc, times.reads, input)
-    } else {
-        read_anew(alloc, times.reads, input)
-    }
-}
-
-// Returns the last value, read by a shape that is made once.
-fn read_kept<T: RoundTrip + Drop>(alloc: Global, times: usize, input: &[u8]) -> Result<T>
-    ensures { IfOk result (λ x. IsRead default T.table.form T.table.meaning input.now (T.table.value x)) }
-{
-    let shape = T::shape(alloc)?;
-    read_by_shape(alloc, times, &shape, input)
-}
-
-// Returns the last value, read by this shape.
-fn read_by_shape<T: RoundTrip + Drop>(
-    alloc: Global,
-    times: usize,
-    shape: &Shape,
-    input: &[u8],
-) -> Result<T>
-    requires { shape_of shape.now ≡ T.table.form }
-    ensures { IfOk result (λ x. IsRead default T.table.form T.table.meaning input.now (T.table.value x)) }
-{
-    for _ in 1..times {
-        let _value: T = read_by(alloc, Config::new(), shape, input)?;
-    }
-    read_by(alloc, Config::new(), shape, input)
-}
-
-// Returns the last value, read by a shape that is made each time.
-fn read_anew<T: RoundTrip + Drop>(alloc: Global, times: usize, input: &[u8]) -> Result<T>
+// Reads a value `times` times, at least once. Returns the last one.
+fn last_value<T: RoundTrip + Drop>(alloc: Global, times: usize, input: &[u8]) -> Result<T>
     ensures { IfOk result (λ x. IsRead default T.table.form T.table.meaning input.now (T.table.value x)) }
 {
     for _ in 1..times {
@@ -208,7 +143,7 @@ fn read_anew<T: RoundTrip + Drop>(alloc: Global, times: usize, input: &[u8]) -> 
     from_bytes(alloc, input)
 }
 
-// Returns the text of the last of so many writes.
+// Writes the value `times` times, at least once. Returns the last text.
 fn last_text<T: RoundTrip>(alloc: Global, times: usize, value: &T) -> Result<String>
     ensures whole { IfOk result (λ text. (entries default (T.datum value.now)).error ≡ None) }
     ensures text { IfOk result (λ text. string_bytes text ≡ text_of (T.datum value.now)) }

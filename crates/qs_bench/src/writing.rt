@@ -13,8 +13,8 @@ use crate::text::hand_out;
 use qs_data::{Config, Data, Result, Serializer};
 use std::alloc::{AllocError, Global};
 
-/// Makes a record of ten entries, and writes it so many times, each time to fresh memory. Returns whether all went
-/// well: the text's length is then in `len`, and the text at the front of `out`, where it fits there. Else nothing is
+/// Makes a record of ten entries, and writes it `times` times, at least once, each time to fresh memory. Returns whether all
+/// went well. If so, `len` is the text's length, and the text is at the front of `out`, if it fits there; else nothing is
 /// changed.
 #[unsafe(no_mangle)]
 pub extern "C" fn qs_bench_write_record(
@@ -29,7 +29,7 @@ pub extern "C" fn qs_bench_write_record(
     write(alloc, times, samples::record(alloc), out, len)
 }
 
-/// Does the same for a struct of so many fields, whose names and texts have their numbers, below so many keys.
+/// Does the same for a struct of `count` fields, with their numbers in their names and texts, below `keys` keys.
 #[unsafe(no_mangle)]
 pub extern "C" fn qs_bench_write_fields(
     alloc: Global,
@@ -51,7 +51,7 @@ pub extern "C" fn qs_bench_write_fields(
     )
 }
 
-/// Does the same for a field with the list of the numbers below a count.
+/// Does the same for a field with the list of the numbers below `count`.
 #[unsafe(no_mangle)]
 pub extern "C" fn qs_bench_write_numbers(
     alloc: Global,
@@ -81,7 +81,7 @@ pub extern "C" fn qs_bench_write_bytes(
     write(alloc, times, samples::held(alloc, content), out, len)
 }
 
-// Writes the data so many times, and hands the last text out.
+// Writes the data `times` times, at least once, and hands out the last text.
 fn write(
     alloc: Global,
     times: usize,
@@ -103,7 +103,7 @@ fn write(
     true
 }
 
-// Returns the text of the last of so many writes.
+// Writes the data `times` times, at least once. Returns the last text.
 fn last_text(alloc: Global, times: usize, datum: &Data) -> Result<Vec<u8>>
     ensures whole { IfOk result (λ text. (entries default (data_of datum.now)).error ≡ None) }
     ensures text { IfOk result (λ text. text.items ≡ text_of (data_of datum.now)) }
@@ -114,7 +114,7 @@ fn last_text(alloc: Global, times: usize, datum: &Data) -> Result<Vec<u8>>
     text_of(alloc, datum)
 }
 
-// Returns the text that the data are written as, in a buffer that begins with room for 128 bytes.
+// Returns the text of the data, in a buffer with an initial capacity of 128 bytes.
 fn text_of(alloc: Global, datum: &Data) -> Result<Vec<u8>>
     ensures whole { IfOk result (λ text. (entries default (data_of datum.now)).error ≡ None) }
     ensures text { IfOk result (λ text. text.items ≡ text_of (data_of datum.now)) }

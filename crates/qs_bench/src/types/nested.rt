@@ -31,7 +31,7 @@ impl Compound for Nested {
     }
 }
 
-/// What stands under `a`.
+/// The value of `a`.
 #[derive(Drop)]
 pub struct Second {
     pub b: Third,
@@ -56,7 +56,7 @@ impl Compound for Second {
     }
 }
 
-/// What stands under `b`.
+/// The value of `b`.
 #[derive(Drop)]
 pub struct Third {
     pub c: Fourth,
@@ -81,7 +81,7 @@ impl Compound for Third {
     }
 }
 
-/// What stands under `c`.
+/// The value of `c`.
 #[derive(Drop)]
 pub struct Fourth {
     pub d: Fifth,
@@ -106,7 +106,7 @@ impl Compound for Fourth {
     }
 }
 
-/// What stands under `d`.
+/// The value of `d`.
 #[derive(Drop)]
 pub struct Fifth {
     pub e: String,

@@ -39,7 +39,7 @@ impl Compound for Address {
     }
 }
 
-/// A record, which is written as ten entries where it has four ids.
+/// A record, which is written as ten entries if it has four ids.
 #[derive(Drop)]
 pub struct Record {
     pub id: u64,

@@ -1,5 +1,5 @@
 #!/usr/bin/env bash
-# The rows of docs/COMING_FROM.md that show a querystring and what the program prints of it.
+# The rows of docs/COMING_FROM.md that show a querystring and what the program prints for it.
 source "$(dirname "${BASH_SOURCE[0]}")/support/counting.sh"
 
 # | `INPUT` | `LINE` | .. or | `INPUT` with `OPTIONS` | `LINE` | ..

@@ -1,6 +1,6 @@
 #!/usr/bin/env bash
 # Compares the definitions of qs_spec with the golden cases: each is an equation that the prover accepts by computing both
-# sides. One case of each table is also put wrongly, and has to be rejected.
+# sides. One case of each table is also stated wrongly, and has to be rejected.
 set -u
 root=$(cd "$(dirname "${BASH_SOURCE[0]}")/.." && pwd) || exit 1
 room=$(mktemp -d) || exit 1
@@ -8,13 +8,13 @@ trap 'rm -rf "$room"' EXIT
 passed=0
 failed=0
 
-# library NAME: begins a crate that has nothing but what is put beside its root file.
+# library NAME: makes a crate of only a root file, to which more files are added.
 library() {
     mkdir -p "$room/crates/$1"/{src,specs,proofs} &&
         printf '//! Definitions.\n#![tactic(auto)]\n\n/// There.\npub fn there() {}\n' >"$room/crates/$1/src/lib.rt"
 }
 
-# The laws are left out, since nothing here looks at them: without their proofs the definitions are there in no time.
+# The laws are left out, since nothing here uses them: without their proofs the definitions are checked at once.
 library qs_spec && library golden && cp "$root/HANDLES" "$room/" || exit 1
 cp -r "$root/crates/qs_spec/specs" "$room/crates/qs_spec/" && cp "$root"/crates/qs_spec/proofs/*.antt "$room/crates/qs_spec/proofs/" || exit 1
 printf 'qs_spec:\ngolden: qs_spec\n' >"$room/crates.txt"

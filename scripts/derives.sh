@@ -1,6 +1,7 @@
 #!/usr/bin/env bash
-# Types with serde's derives, on the built program qs_derived: the golden cases of scripts/golden/derives.tsv, which the Rust crate answered, the errors of
-# scripts/golden/paths.tsv, and random querystrings, which the types with `Compound` have to read and write alike.
+# Types with serde's derives, on the built program qs_derived: the golden cases of scripts/golden/derives.tsv, with the results of the
+# Rust crate, the errors of scripts/golden/paths.tsv, and random querystrings, which the types with `Compound` have to read and write in
+# the same way.
 crate=qs_derived
 source "$(dirname "${BASH_SOURCE[0]}")/support/counting.sh"
 golden=$root/scripts/golden
@@ -16,7 +17,8 @@ answers() {
     fi
 }
 
-# A row has the answer of the Rust crate, of an error its kind alone; and where the answer here is another, that answer and a row of docs/DIFFERENCES.md.
+# A row has the result of the Rust crate, for an error only its kind. If the result here differs, the row also has that result and a row
+# of docs/DIFFERENCES.md.
 answers derives.tsv
 while IFS=$'\t' read -r mode depth repeated name input answer here row && IFS= read -r found <&3; do
     case=$name' under '$mode' '$depth' '$repeated', input '$input

@@ -1,7 +1,7 @@
 #!/usr/bin/env bash
-# Each allocation of a run fails in turn: the right line is printed, or the status is 3, with the line that says so. The program for tests may also
-# write nothing then; the program itself only where an allocation for the words of its arguments failed.
-# And a long vector is not asked for more room at each entry: a run with many keys makes few allocations.
+# Each allocation of a run fails in turn: the right line is printed, or the status is 3, with the line that says so. In this case the
+# program for tests may also write nothing; the program itself only if an allocation for its arguments failed.
+# And a long vector doesn't grow at each entry: a run with many keys makes few allocations.
 source "$(dirname "${BASH_SOURCE[0]}")/support/counting.sh"
 
 failing=$room/fail_allocation.so
@@ -19,8 +19,8 @@ if [ ! -e "$failing" ]; then
     exit 1
 fi
 
-# count_silent ARGUMENTS..: $silent is the number of the last allocation of the words, which may fail without a line. A run with as many words,
-# of which the first is no command, allocates them and writes the usage line.
+# count_silent ARGUMENTS..: $silent is the number of the last allocation for the arguments, which may fail without a line. A run with as
+# many arguments, of which the first isn't a command, allocates them and writes the usage line.
 count_silent() {
     local at
     silent=0
@@ -63,7 +63,7 @@ fail_each() {
     fail "$(basename "$program") $*: no end of its allocations"
 }
 
-# allocates_few MOST LINE ARGUMENTS..: for $room/input, where no allocation fails if the one after MOST would.
+# allocates_few MOST LINE ARGUMENTS..: the run on $room/input prints LINE, and makes at most MOST allocations.
 allocates_few() {
     local most=$1 line=$2
     shift 2
@@ -73,7 +73,7 @@ allocates_few() {
     expect "$(basename "$program") $* with many keys" 0 "$line"$'\n'
 }
 
-# 20,000 keys that no field has: a vector of them that grew by one would be asked for room as often.
+# 20,000 keys that no field has: a vector of them that grew by one each time would allocate as often.
 { printf 'name=a&age=1&occupation=b'; seq -f '&k%05.0f=v' 1 20000 | tr -d '\n'; } >"$room/input"
 allocates_few 200 'name=a&age=1&occupation=b&note' flat
 
@@ -151,7 +151,7 @@ fail_each 'a=1,,3' 1 'error: invalid item ``' values
 fail_each 'name=a' 1 'error: missing field `address`' order
 fail_each 'a=1&a[b' 1 "error: parsing failed with error: '$value_and_map' at position: 7" map
 
-# Each typed call, and writers that take a byte at a time and have room for some: after a failed allocation they hold whole entries of a
+# Each typed call, and writers that take a byte at a time and have limited capacity: after a failed allocation they hold whole entries of a
 # serializer, and nothing of a typed call.
 order='items=7&items=8&name=A%63me&address[city]=Carrot+City&address[street]=S'
 text='name=Acme&address[street]=S&address[city]=Carrot+City&items[0]=7&items[1]=8'
@@ -171,8 +171,8 @@ fail_each "$order" 0 "$text&name=Ac and then: broken pipe" order serialize_twice
 fail_each "v=$long&w=1" 0 "v=${long:0:2998} and then: write zero" map to_writer 3000
 fail_each "v=$long&w=1" 0 "v=$long&w=1" map serialize_to_writer 30000
 
-# Calls without a user's type: maps and structs whose keys and names are put into a set to compare them, data of every kind, errors that callers make,
-# lists in one text, wrappers.
+# Calls without a user's type: maps and structs whose keys and names are put into a set to compare them, data of every kind, errors made
+# by callers, lists in one text, wrappers.
 fail_each "$(seq -s, 20)" 0 'true true' plain
 fail_each "$(seq -s, 20),7" 0 'false false' plain
 fail_each '' 0 'c=%C3%A4&b=%FF+%26 and then: unsupported type for serialization' data

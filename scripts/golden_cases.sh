@@ -11,7 +11,7 @@ bytes() {
     printf "$escapes"
 }
 
-# is_written: the line is the one that is wanted. Where that has the text of std for bytes that aren't UTF-8, it is any error.
+# is_written: the line is the expected one. If that has std's message for bytes that aren't UTF-8, any error is accepted.
 is_written() {
     if grep -q 'utf-8 sequence' "$room/wanted"; then
         [ "$(head -c 7 "$room/output")" = 'error: ' ]

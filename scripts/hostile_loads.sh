@@ -1,9 +1,9 @@
 #!/usr/bin/env bash
-# Inputs that were made to cost much, parsed and shown as trees: many keys in each order, long lists, long runs of one byte, deep
+# Inputs made to be expensive, parsed and shown as trees: many keys in each order, long lists, long runs of one byte, deep
 # brackets, long keys, keys that run over separators, and conflicts.
 source "$(dirname "${BASH_SOURCE[0]}")/support/loads.sh"
 
-# So many brackets would overflow a stack of 8 MiB many times over if a call were made for each.
+# This many brackets would overflow a stack of 8 MiB many times over if each took a call.
 deepest=100000
 
 for count in 100000 300000; do
@@ -39,7 +39,7 @@ rejected '100000 conflicts' 7 "$conflict"
 rejected 'a conflict at the front of 10 MB' 7 "$conflict"
 
 million=1000000
-# A shorter input takes no more memory than what starts the program, so that its peak says nothing.
+# A shorter input takes no more memory than starting the program, so its peak says nothing.
 long=$((4 * million))
 times $((9 * million)) v | between "{'a':'" "'}" >"$room/wanted"
 { printf 'a='; times $((9 * million)) v; } >"$room/input"
@@ -60,7 +60,7 @@ for text in letters + %41; do
     done
 done
 
-# shown NAME BYTE ESCAPE BEFORE END: a long run of the byte is shown as so many escapes between two texts.
+# shown NAME BYTE ESCAPE BEFORE END: a long run of the byte is shown as that many escapes between two texts.
 shown() {
     times $long "$2" >"$room/input"
     times $long "$3" | between "$4" "$5" >"$room/wanted"
@@ -80,7 +80,7 @@ times $long '&' >"$room/input"
 echo 'error: internal error: attempted to deserialize unitialised value' >"$room/wanted"
 load 'ampersands' 1 plain any
 
-# nested_text COUNT VALUE: a pair whose key has so many brackets.
+# nested_text COUNT VALUE: a pair whose key has COUNT brackets.
 nested_text() {
     printf a
     times "$1" '[b]'

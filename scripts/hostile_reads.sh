@@ -1,6 +1,6 @@
 #!/usr/bin/env bash
-# Inputs of 300,000 pairs, read into a struct and written again: items of a list in each manner, keys that no field has, and one field
-# over and over.
+# Inputs of 300,000 pairs, read into a struct and written again: items of a list in each notation, keys that no field has, and one
+# field many times.
 source "$(dirname "${BASH_SOURCE[0]}")/support/loads.sh"
 
 count=300000

@@ -1,11 +1,11 @@
 #!/usr/bin/env bash
 # Inputs of 300,000 pairs, read by users' types and written again: a map, lists and structs in each order, keys that no field has, and a
-# list in one text. Inputs as long that aren't read, for what their last pair is or for a pair that is missing, and why. Maps and structs of
-# as many keys and names that are asked whether they can be read back.
+# list in one text. Equally long inputs that aren't read, because of their last pair or of a missing pair, and the reason. Maps and structs
+# with as many keys and names, for which it is tested whether they can be read back.
 crate=qs_answers
 source "$(dirname "${BASH_SOURCE[0]}")/support/loads.sh"
 measure=map
-# A map of strings of its own stands beside the tree.
+# A map of its own strings exists along with the tree.
 most_bytes[pairs]=400
 
 count=300000
@@ -56,7 +56,7 @@ done
 
 printf '%s&items[0]=7\n' "$others" >"$room/wanted"
 
-# unknown NAME KEY: shuffled keys that no field has. In KEY the number of each is an `&`.
+# unknown NAME KEY: shuffled keys that no field has. In KEY `&` is the place of each key's number.
 unknown() {
     { printf '%s&' "$others"; numbers $count shuffled | sed "s/.*/$2=v/; \$a items=7" | joined '&'; } >"$room/input"
     load "$count $1" 0 pairs=$count order
@@ -90,7 +90,7 @@ explained "a list of $((count / 2)) structs whose last field is wrong" pairs=$co
 { printf 'x=1'; times 1000000 '&a[+'; } >"$room/input"
 explained '4 MB of unclosed keys' plain map "parsing failed with error: 'unexpected end of input while parsing nested key' at position: $(($(wc -c <"$room/input") + 1))"
 
-# plain NAME LINE: whether a map and a struct are plain whose keys and names are these items.
+# plain NAME LINE: whether a map and a struct with these items as keys and names are plain.
 plain() {
     printf '%s\n' "$2" >"$room/wanted"
     load "$1" 0 pairs=$count plain

@@ -187,7 +187,7 @@ def main(words):
         if "--tests" in words:
             return try_tests(root, [mutant for _, chosen in found for mutant in chosen])
         if log:
-            # What runs beside is what the end waits for.
+            # The end waits for what runs in parallel.
             os.nice(10)
         handed = Handed(root, room) if log else None
         rooms = [checks.Room(crate, room, kept_of(root, crate.name, handed)) for crate, _ in found]

@@ -1,3 +1,4 @@
 #!/usr/bin/env bash
-# Tries scripts/mutants.py on a crate of a few lines: it has to find which mutants are rejected, survive or are bad, and must never try two of one function together.
+# Tests scripts/mutants.py on a small crate: it has to find which mutants are rejected, survive or are bad, and must never try two of one
+# function together.
 exec python3 "$(dirname "${BASH_SOURCE[0]}")/support/mutants/selftest.py"

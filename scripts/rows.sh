@@ -1,5 +1,5 @@
 #!/usr/bin/env bash
-# Rows that a person worked out, on the built program: the arguments, the input, the status and the line.
+# Rows worked out by hand, on the built program: the arguments, the input, the status and the line.
 source "$(dirname "${BASH_SOURCE[0]}")/support/counting.sh"
 
 usage='usage: qs_tool flat|params|any [--form] [--strict] [--depth N] [--format indexed|empty|unindexed] [--duplicates last|error]'
@@ -29,7 +29,7 @@ row "$person&age=2" 1 'error: multiple values provided for non-sequence field' f
 # two final newlines: one of them is the input's
 row "$person&note="$'\n\n' 0 "$person&note=%0A" flat
 
-# nested data, in whatever order they come
+# nested data, in any order
 address='address[city]=Carrot+City&address[street]=Special-Street*+No.+11&address[postcode]=12345'
 row "user_ids[3]=4&user_ids[2]=3&user_ids[1]=2&user_ids[0]=1&address[postcode]=12345&address[street]=Special-Street*+No.+11&address[city]=Carrot+City&phone=12345&name=Acme&id=42" \
     0 "id=42&name=Acme&phone=12345&$address&user_ids[0]=1&user_ids[1]=2&user_ids[2]=3&user_ids[3]=4" params

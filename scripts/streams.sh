@@ -1,5 +1,5 @@
 #!/usr/bin/env bash
-# Streams that fail: the status is 3, and nothing but the line's beginning is written.
+# Streams that fail: the status is 3, and only a prefix of the line is written.
 source "$(dirname "${BASH_SOURCE[0]}")/support/counting.sh"
 
 person='name=a&age=1&occupation=b'
@@ -77,7 +77,7 @@ in_pieces "$order" | "$program" params >"$room/output"
 status=${PIPESTATUS[1]}
 expect 'params, an input that comes in pieces' 0 "$order"$'\n'
 
-# more than one read, at and beside the length of one
+# more than one read, at the length of one read and next to it
 for length in 8191 8192 8193 100000 9000000; do
     long=$(printf '%*s' "$length" '' | tr ' ' x)
     printf 'name=%s&age=1&occupation=b' "$long" | "$program" flat >"$room/output"

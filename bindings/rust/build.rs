@@ -1,6 +1,6 @@
-//! Finds the library: in the folder that it was installed below, which `SERDE_QS_DIR` names, or where `pkg-config` says.
+//! Finds the library: below the folder `SERDE_QS_DIR` if that is set, or else by `pkg-config`.
 //!
-//! The static library is linked where it is there, so that a program needs no file beside it; with `SERDE_QS_SHARED` the shared one.
+//! Links the static library, so that a program needs no other file. If that is missing or `SERDE_QS_SHARED` is set, links the shared one.
 
 use std::env;
 use std::path::{Path, PathBuf};
@@ -24,7 +24,7 @@ fn main() {
     }
 }
 
-/// The folder that the library is in.
+/// The folder of the library.
 fn folder() -> Result<PathBuf, String> {
     let folder = match env::var_os("SERDE_QS_DIR") {
         Some(prefix) => Path::new(&prefix).join("lib"),

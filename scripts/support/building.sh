@@ -1,6 +1,6 @@
-# What is built, whether it is up to date, and what goes on meanwhile. A script that knows `root` sources this.
+# What is built, whether it is up to date, and progress while it is built. A script that has set `root` sources this.
 
-# is_newer FILE PATH..: the file is there, and was made after the last edit of what lies at the paths.
+# is_newer FILE PATH..: the file exists, and was made after the last edit at the paths.
 is_newer() {
     local file=$1
     shift
@@ -21,7 +21,7 @@ lines_of() {
         END { show(top) }' "$root/crates.txt"
 }
 
-# parts_of NAME: the folders with what the crate and those below it are made from, below crates/.
+# parts_of NAME: the folders below crates/ that the crate and those below it are made from.
 parts_of() {
     local name
     for name in $(lines_of "$1" | cut -d ' ' -f 1); do
@@ -29,7 +29,7 @@ parts_of() {
     done
 }
 
-# made_from NAME: a sum of what the crate is made from: those lines, and the files in those folders.
+# made_from NAME: a checksum of what the crate is made from: those lines, and the files in those folders.
 made_from() {
     {
         lines_of "$1"
@@ -49,8 +49,8 @@ note_made() {
     printf '%s\n' "$3" "$(sum_of "$2")" >"$root/crates/$1/out/$1.made"
 }
 
-# is_made NAME FILE: what was built of the crate is this file, and nothing that it was made from has changed. Where rt ci built it, which leaves no
-# note, the file's time says so, and the note is made here.
+# is_made NAME FILE: what was built of the crate is this file, and nothing that it was made from has changed. If rt ci built it, which
+# leaves no note, the file's time tells this, and the note is made here.
 is_made() {
     local note=$root/crates/$1/out/$1.made sum
     [ -e "$2" ] || return 1
@@ -62,20 +62,20 @@ is_made() {
     fi
 }
 
-# tell NAME [LOG]: from now on a process says on standard error what goes on, in lines that begin with that name, until `telling` is killed.
+# tell NAME [LOG]: from now on a process reports progress on standard error, in lines that begin with that name, until `telling` is killed.
 tell() {
     python3 "$root/scripts/support/progress.py" "$@" </dev/null >&2 &
     telling=$!
-    # Its end is then no news.
+    # The shell then doesn't report its end.
     disown "$telling" 2>/dev/null
 }
 
-# build_program NAME: proves and builds the program of that crate, where it is missing or out of date, and runs it once without input.
-# What the build says goes to standard error.
+# build_program NAME: proves and builds the program of that crate if it is missing or out of date, and runs it once without input.
+# The output of the build goes to standard error.
 build_program() {
     local name=$1 program=$root/crates/$1/out/$1 sum
     is_made "$name" "$program" && return 0
-    # A crate that is edited meanwhile has another sum than this one.
+    # A crate that is edited meanwhile has another checksum than this one.
     sum=$(made_from "$name")
     rm -f "$program"
     (cd "$root/crates/$name" && rt run) </dev/null >&2
@@ -88,8 +88,8 @@ is_left() {
     [ ! -e "$built/stamp" ] && [ -e "$built/$1.rlib/format" ] && is_made "$1" "$built/$1.rlib"
 }
 
-# build_static NAME LIBRARY..: proves and builds the static library of that crate over the libraries, where it is missing or out of date. The libraries
-# are proved once more only where rt ci has not just left them. What the build says goes to standard error.
+# build_static NAME LIBRARY..: proves and builds the static library of that crate over the libraries if it is missing or out of date.
+# The libraries are proved once more only if rt ci has not just left them. The output of the build goes to standard error.
 build_static() {
     local name=$1 static=$root/crates/$1/out/lib$1.a library kit sum
     is_made "$name" "$static" && return 0

@@ -1,4 +1,4 @@
-# Counts what passes and what fails on a built program, qs_tool where the script names no other `crate`. A script sources this first
+# Counts what passes and what fails on a built program, qs_tool if the script sets no other `crate`. A script sources this first
 # and ends with `report`.
 set -u
 root=$(cd "$(dirname "${BASH_SOURCE[0]}")/../.." && pwd) || exit 1

@@ -1,24 +1,24 @@
-# Inputs that were made to cost much, on the built program. Each has to print the right line, and may take at most so many
-# times the time of a processor and the peak memory of another input, its measure:
+# Inputs made to be expensive, on the built program. Each has to print the right line, and may take at most some multiple of
+# the processor time and the peak memory of another input, its measure:
 # - plain: one value of letters, as long as the input, which makes few nodes;
-# - pairs=N: so many pairs in order, each with a key of its own, where the input makes a tree of so many nodes;
-# - maps=N: so many pairs in order, each of them a map of its own, as each bracket of a deep key makes one.
-# Those trees are larger than their bytes. They may take so much more than a plain input.
+# - pairs=N: N pairs in order, each with a key of its own, if the input makes a tree of as many nodes;
+# - maps=N: N pairs in order, each of them a map of its own, as each bracket of a deep key makes one.
+# These trees are larger than their bytes. They may take a bounded amount more than a plain input.
 # A script sources this first and ends with `report_loads`.
 source "$(dirname "${BASH_SOURCE[0]}")/counting.sh"
 support=$(dirname "${BASH_SOURCE[0]}")
 
 declare -A most_time=([plain]=4 [pairs]=8 [maps]=8)
 most_memory=2
-# The trees in order: so many times the time of a plain input, and so many bytes more for each pair or map.
+# The trees in order: the multiple of a plain input's time, and the additional bytes for each pair or map.
 most_tree_time=60
 declare -A most_bytes=([pairs]=320 [maps]=1200)
-# A shorter run counts as one of so many seconds: the program's start is most of it.
+# A shorter run counts as one of this many seconds: the program's start is most of it.
 least_seconds=0.01
-# Where a run took longer there are so many in all, each but the first beside a new run of its measure, and the median of their quotients
-# counts: another process may have been in the way, or the processor's clock may have changed between the two.
+# If a run took longer, there are this many runs in all, each except the first with a new run of its measure, and the median of their
+# quotients counts: another process may have been in the way, or the processor's clock may have changed between the two.
 most_runs=7
-# The command that the measures are run by.
+# The command that runs the measures.
 measure=any
 declare -A measures=()
 declare -A below=([pairs]= [maps]='[b]')
@@ -37,17 +37,17 @@ quotient() {
     awk -v number="$1" -v other="$2" 'BEGIN { printf "%.2f", number / other }'
 }
 
-# median NUMBER..: that of an odd count of numbers.
+# median NUMBER..: the median of an odd count of numbers.
 median() {
     printf '%s\n' "$@" | sort -n | sed -n "$((($# + 1) / 2))p"
 }
 
-# is_over LEFT RIGHT: the number LEFT is over RIGHT.
+# is_over LEFT RIGHT: the number LEFT is greater than RIGHT.
 is_over() {
     awk -v left="$1" -v right="$2" 'BEGIN { exit !(left > right) }'
 }
 
-# taken_by MEASURE: what the input $room/MEASURE took, in seconds and KiB: $least_time and $least_memory. It is run where no run of it is kept.
+# taken_by MEASURE: what the input $room/MEASURE took, in seconds and KiB: $least_time and $least_memory. Runs it if no run is kept.
 taken_by() {
     local status
     [ -n "${measures[$1]:-}" ] || measures[$1]=$(measured "$room/$1" "$measure")
@@ -73,7 +73,7 @@ by_tree() {
     held_by=$1
 }
 
-# hold_tree KIND COUNT: a tree in order may take so much more than a plain input.
+# hold_tree KIND COUNT: tests that a tree in order takes no more than it may, compared with a plain input.
 hold_tree() {
     local kind=$1 count=$2 time memory bytes
     taken_by "$kind=$count"
@@ -134,7 +134,7 @@ load() {
     [ -z "${SHOW_LOADS:-}" ] || echo "| $name | $kind | $(awk -v s="$seconds" 'BEGIN { printf "%.0f", s * 1000 }') | $time | $wide |"
 }
 
-# tree NAME OPTION..: the input has the tree $room/wanted, which is mostly made of long texts.
+# tree NAME OPTION..: the input has the tree $room/wanted, which consists mostly of long texts.
 tree() {
     local name=$1
     shift
@@ -149,7 +149,7 @@ rejected() {
     load "$name" 1 "${against:-plain}" any "$@"
 }
 
-# numbers COUNT ORDER: the numbers below COUNT, with six digits at least, in an order, a line each.
+# numbers COUNT ORDER: the numbers below COUNT, with at least six digits, in an order, one a line.
 numbers() {
     case $2 in
     'in order') seq -f '%06.0f' 0 $(($1 - 1)) ;;
@@ -164,12 +164,12 @@ joined() {
     paste -s -d "$1" | tr -d '\n'
 }
 
-# times COUNT TEXT: the text so often.
+# times COUNT TEXT: the text COUNT times.
 times() {
     yes "$2" | head -n "$1" | tr -d '\n'
 }
 
-# between FRONT END: standard input between two texts, and a newline.
+# between FRONT END: standard input between two texts, followed by a newline.
 between() {
     printf '%s' "$1"
     cat

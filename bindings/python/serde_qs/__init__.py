@@ -10,18 +10,20 @@
     >>> serde_qs.dumps({"user": {"name": "John", "ids": [1]}})
     'user[name]=John&user[ids][0]=1'
 
-`read_as` reads by the hints of a class, as of a dataclass or a TypedDict, and returns an instance.
+`read_as` reads by the type hints of a class, such as a dataclass or a TypedDict, and returns an instance.
 
 `get`, `parse`, `loads`, `read`, `read_as`, `explain`, `write` and `dumps` take settings by keyword:
 
 - `max_depth=5`: how many levels of brackets may follow the first key, 100 at most.
-- `form=False`: form mode, where brackets may be encoded, as browsers send a form; else query mode.
-- `array_format=INDEXED`: how the index of a list's element is written: `a[0]=x`, with `EMPTY_INDEXED` `a[]=x`, with `UNINDEXED` `a=x`.
-- `reject_duplicates=False`: whether several values where one is wanted are an error; else the last is taken.
-- `max_length=0`, `max_pairs=0`: how many bytes and pairs a querystring that is read may have, and `max_output=0`: how many bytes the JSON
-  that is made of it; 0 for any number.
+- `form=False`: `True` for form mode, where brackets may be encoded, as browsers send forms; `False` for query mode.
+- `array_format=INDEXED`: how the index of a list's element is written: `a[0]=x`, or `a[]=x` with `EMPTY_INDEXED`, or `a=x` with
+  `UNINDEXED`.
+- `reject_duplicates=False`: whether several values are an error if one is wanted; otherwise the last is taken.
+- `max_length=0`: the most bytes of a querystring that is read; 0 for no limit.
+- `max_pairs=0`: the most pairs (the pieces between `&`s) of a querystring that is read; 0 for no limit.
+- `max_output=0`: the most bytes of the JSON that a querystring is read into; 0 for no limit.
 
-Each function raises a `QuerystringError`, which is a `ValueError`, and a `TypeError` for an argument that is neither `str` nor bytes.
+Each function raises a `QuerystringError`, which is a `ValueError`, or a `TypeError` for an argument that is neither `str` nor bytes.
 """
 
 from ._calls import (

@@ -22,7 +22,7 @@ INDEXED, EMPTY_INDEXED, UNINDEXED = range(3)
 
 
 class Settings(TypedDict, total=False):
-    """How a querystring is read and written. The module's page says what each means, and what it is where it is left out."""
+    """How a querystring is read and written. The module's docstring describes each setting and its default."""
 
     max_depth: int
     form: bool
@@ -34,9 +34,10 @@ class Settings(TypedDict, total=False):
 
 
 class QuerystringError(ValueError):
-    """An error of the library: its status as the header has it, and where it is in what was given.
+    """An error of the library: its status, as in the header, and its position in the querystring, the shape or the JSON.
 
-    Of a querystring that a shape doesn't read, `path` is the path to the part that is to blame, as `user[age]`, if there is one.
+    If a shape doesn't read the querystring, `path` is the path to the wrong part, such as `user[age]`. It is empty if there is no such
+    part.
     """
 
     def __init__(self, status: int, position: int, message: str) -> None:
@@ -63,8 +64,8 @@ def _sized(text: Text) -> tuple[bytes, int]:
 
 
 def _answered(call: Any, *arguments: Any) -> tuple[bytes, int]:
-    """What a call returns, whose last argument is the length of its text, and its position. It is made again with enough room where
-    that was too little.
+    """What a call returns, and its position. The last of the arguments is the length of the call's input. If the buffer is too small, the
+    call is made again with a larger one.
     """
     answer = Answer()
     size = 256 + 2 * arguments[-1]
@@ -86,7 +87,7 @@ def _result(call: Any, *arguments: Any) -> bytes:
 
 
 def _number(number: int) -> int:
-    """A number of the settings. One that has no room in its field, where ctypes would cut it off, is passed as one that the library rejects."""
+    """The number, or one that the library rejects if ctypes would truncate it to fit its field."""
     return number if 0 <= number < 255 else 255
 
 
@@ -127,11 +128,11 @@ def _decoded(text: bytes, pairs: bool) -> Any:
 
 
 def get(path: Text, query: Text, default: Any = None, **settings: Unpack[Settings]) -> Any:
-    """Returns the decoded value at a path of the querystring, as `user[name]`, or `ids[0]` for the first item of a list; `default` where
-    nothing stands there.
+    """Gets the decoded value at a path of the querystring, such as `user[name]`, or `ids[0]` for the first item of a list. Returns
+    `default` if the path leads nowhere.
 
-    The path is a key, in which signs are escaped as in the querystring. Where there is no value it is empty; of several it is the last. A map at
-    the path is an error.
+    The path is a key, escaped as in the querystring. A key without a value, as in `a`, gives an empty result. Several values, as in
+    `a=1&a=2`, give the last, unless the settings reject them. It is an error if the path leads to a map.
     """
     try:
         value = _result(library.qs_get, _settings(**settings), *_sized(path), *_sized(query))
@@ -143,7 +144,7 @@ def get(path: Text, query: Text, default: Any = None, **settings: Unpack[Setting
 
 
 def parse(query: Text, *, pairs: bool = False, **settings: Unpack[Settings]) -> Any:
-    """Returns what the querystring holds, read as whatever is there: strings, lists and dicts, and None without a value.
+    """Reads the querystring, whatever it holds: None, strings, lists and dicts.
 
     Two keys of one map may have the same text, as in `1=a&%31=b`. That is an error, unless `pairs` is true: then each dict is a list of
     pairs instead.
@@ -152,7 +153,7 @@ def parse(query: Text, *, pairs: bool = False, **settings: Unpack[Settings]) -> 
 
 
 def read(shape: Text, query: Text, *, pairs: bool = False, **settings: Unpack[Settings]) -> Any:
-    """Returns what the querystring holds, read by a shape such as `{name: text, age: u8}`. `pairs` is as for `parse`.
+    """Reads the querystring by a shape, such as `{user: {name: text}}`. `pairs` is as for `parse`.
 
     A shape is text in the library's notation, or what `shape_of` returns for a class.
     """
@@ -166,8 +167,8 @@ def read(shape: Text, query: Text, *, pairs: bool = False, **settings: Unpack[Se
 
 
 def explain(shape: Text, query: Text, **settings: Unpack[Settings]) -> tuple[str, str] | None:
-    """Returns why the querystring isn't read by the shape: the path to the part that is to blame, and a line that begins with it; None
-    where it is read.
+    """Explains in one line why a shape doesn't read the querystring. Returns the path to the wrong part, and the line, which begins with
+    the path. The path is empty if the querystring can't be parsed or is wrong as a whole. Returns None if the shape reads the querystring.
     """
     line, path_len = _answered(library.qs_explain, _settings(**settings), *_sized(shape), *_sized(query))
     return (line[:path_len].decode(), line.decode()) if line else None
@@ -192,7 +193,7 @@ def _plain(value: Any) -> Any:
 
 
 def write(value: Any, **settings: Unpack[Settings]) -> str:
-    """Returns the querystring that a value is written as: what the module json writes, dataclasses, enums, and bytes that are UTF-8."""
+    """Writes the value as a querystring: anything that the module json writes, dataclasses, enums, and bytes that are UTF-8."""
     text = json.dumps(value, default=_plain, ensure_ascii=False, allow_nan=False)
     return _result(library.qs_write, _settings(**settings), *_sized(text)).decode()
 
@@ -202,10 +203,10 @@ dumps = write
 
 
 def encode(text: Text, form: bool = False) -> str:
-    """Returns the text or bytes, encoded for form mode or query mode."""
+    """Encodes the text or bytes for form mode or query mode."""
     return _result(library.qs_encode, form, *_sized(text)).decode()
 
 
 def decode(text: Text) -> bytes:
-    """Returns the text or bytes, decoded to bytes."""
+    """Decodes the text or bytes to bytes: `+` is a space, and `%` with two hexadecimal digits is one byte."""
     return _result(library.qs_decode, *_sized(text))

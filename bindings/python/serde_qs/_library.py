@@ -30,7 +30,7 @@ _SETTINGS = [ctypes.POINTER(Settings)]
 _TEXT = [ctypes.c_char_p, ctypes.c_size_t]
 _OUT = [*_TEXT, ctypes.POINTER(Answer)]
 
-# What each call takes before its buffer and its answer.
+# The arguments of each call before its buffer and its answer.
 _CALLS: dict[str, list[Any]] = {
     "qs_get": [*_SETTINGS, *_TEXT, *_TEXT],
     "qs_parse": [*_SETTINGS, *_TEXT],

@@ -1,4 +1,4 @@
-"""Shapes made from the hints of Python's types, and instances made of what is read by them."""
+"""Shapes made from Python's type hints, and instances made from what the shapes read."""
 
 from __future__ import annotations
 
@@ -21,7 +21,7 @@ T = TypeVar("T")
 
 
 class _Reader(NamedTuple):
-    """What reads a type: its shape, and what makes an instance of what is read by this."""
+    """What reads a type: its shape, and a function that makes an instance of what the shape reads."""
 
     shape: str
     make: Callable[[Any], Any]
@@ -41,7 +41,7 @@ _PLAIN = {
     object: _Reader("any", _itself),
 }
 
-# A key is read as a string, which is JSON's only kind.
+# A key is read as a string, since JSON has no other keys.
 _KEYS = {
     str: _Reader("text", _itself),
     bool: _Reader("bool", "true".__eq__),
@@ -53,12 +53,12 @@ _MARKS = {getattr(typing, name, None) for name in ("Required", "NotRequired", "R
 
 
 def _name(name: str) -> str:
-    """The name as the notation has it: between quotes it is encoded."""
+    """The name in the notation. Between quotes it is encoded."""
     return name if re.fullmatch(r"[\w-]+", name) else f'"{encode(name, form=True)}"'
 
 
 def _variants(hint: Any) -> _Reader | None:
-    """The reader of an enum, or of literals, whose values are strings."""
+    """The reader of an enum or a Literal, whose values are strings."""
     if isinstance(hint, type) and issubclass(hint, enum.Enum):
         values, make = [member.value for member in hint], hint
     elif typing.get_origin(hint) is typing.Literal:
@@ -71,7 +71,7 @@ def _variants(hint: Any) -> _Reader | None:
 
 
 def _struct(fields: dict[str, tuple[bool, _Reader]], make: Callable[..., Any]) -> _Reader:
-    """The reader of fields, each with whether it may be left out."""
+    """The reader of fields, each with a flag for whether it may be left out."""
     shapes = (f"{_name(name)}{'?' if optional else ''}: {reader.shape}" for name, (optional, reader) in fields.items())
 
     def made(value: dict[str, Any]) -> Any:
@@ -119,7 +119,7 @@ def _optional(some: _Reader) -> _Reader:
 
 
 def _generic(hint: Any, above: tuple[Any, ...]) -> _Reader | None:
-    """The reader of a type that is made from others."""
+    """The reader of a generic type or a union."""
     origin, args = typing.get_origin(hint), typing.get_args(hint)
     if origin is list:
         return _list(_reader_of(args[0], above))
@@ -161,7 +161,7 @@ def shape_of(cls: Any) -> str:
     | `list[T]`, `tuple[T, ...]` | a list |
     | `tuple[T, U]` | a tuple |
     | `dict[K, V]` | a map; a key is `str`, `int`, `bool`, or the next line |
-    | an `Enum` or a `Literal` of strings | one of these |
+    | an `Enum` or a `Literal` of strings | one of these strings |
     | `Optional[T]` | a value that may be absent |
     | `Annotated[T, "u8"]` | the shape that the string is |
     | a dataclass, a `TypedDict` | a struct; a field with a default, or that isn't required, may be left out |
@@ -175,7 +175,7 @@ def shape_of(cls: Any) -> str:
 
 
 def read_as(cls: type[T], query: Text, **settings: Unpack[Settings]) -> T:
-    """Returns what the querystring holds, read by `shape_of(cls)`, as an instance of the class.
+    """Reads the querystring by `shape_of(cls)`, and returns an instance of `cls`.
 
         >>> @dataclasses.dataclass
         ... class User:

@@ -6,7 +6,7 @@ const OK: u32 = 0;
 const TOO_SMALL: u32 = 1;
 const ABSENT: u32 = 12;
 
-/// What a call says beside its status.
+/// What a call returns in addition to its status.
 #[repr(C)]
 #[derive(Default)]
 struct Answer {
@@ -53,7 +53,7 @@ extern "C" {
 
 pub(crate) fn get(settings: &Settings, path: &[u8], input: &[u8]) -> Result<Option<Vec<u8>>, Error> {
     let mut is_absent = false;
-    // SAFETY: each pointer is that of a borrow that lasts for the call.
+    // SAFETY: each pointer comes from a borrow that lasts for the call.
     let found = result(input.len(), |out, answer| unsafe {
         let status = qs_get(settings, path.as_ptr(), path.len(), input.as_ptr(), input.len(), out.as_mut_ptr(), out.len(), answer);
         is_absent = status == ABSENT;
@@ -66,12 +66,12 @@ pub(crate) fn get(settings: &Settings, path: &[u8], input: &[u8]) -> Result<Opti
 }
 
 pub(crate) fn parse(settings: &Settings, input: &[u8]) -> Result<String, Error> {
-    // SAFETY: each pointer is that of a borrow that lasts for the call.
+    // SAFETY: each pointer comes from a borrow that lasts for the call.
     text(input.len(), |out, answer| unsafe { qs_parse(settings, input.as_ptr(), input.len(), out.as_mut_ptr(), out.len(), answer) })
 }
 
 pub(crate) fn read(settings: &Settings, shape: &str, input: &[u8]) -> Result<String, Error> {
-    // SAFETY: each pointer is that of a borrow that lasts for the call.
+    // SAFETY: each pointer comes from a borrow that lasts for the call.
     text(input.len(), |out, answer| unsafe {
         qs_read(settings, shape.as_ptr(), shape.len(), input.as_ptr(), input.len(), out.as_mut_ptr(), out.len(), answer)
     })
@@ -79,7 +79,7 @@ pub(crate) fn read(settings: &Settings, shape: &str, input: &[u8]) -> Result<Str
 
 pub(crate) fn explain(settings: &Settings, shape: &str, input: &[u8]) -> Result<Option<(String, String)>, Error> {
     let mut path_len = 0;
-    // SAFETY: each pointer is that of a borrow that lasts for the call.
+    // SAFETY: each pointer comes from a borrow that lasts for the call.
     let line = text(input.len(), |out, answer| unsafe {
         let status = qs_explain(settings, shape.as_ptr(), shape.len(), input.as_ptr(), input.len(), out.as_mut_ptr(), out.len(), answer);
         path_len = answer.position;
@@ -89,21 +89,21 @@ pub(crate) fn explain(settings: &Settings, shape: &str, input: &[u8]) -> Result<
 }
 
 pub(crate) fn write(settings: &Settings, json: &str) -> Result<String, Error> {
-    // SAFETY: each pointer is that of a borrow that lasts for the call.
+    // SAFETY: each pointer comes from a borrow that lasts for the call.
     text(json.len(), |out, answer| unsafe { qs_write(settings, json.as_ptr(), json.len(), out.as_mut_ptr(), out.len(), answer) })
 }
 
 pub(crate) fn encode(form: bool, bytes: &[u8]) -> Result<String, Error> {
-    // SAFETY: each pointer is that of a borrow that lasts for the call.
+    // SAFETY: each pointer comes from a borrow that lasts for the call.
     text(bytes.len(), |out, answer| unsafe { qs_encode(form, bytes.as_ptr(), bytes.len(), out.as_mut_ptr(), out.len(), answer) })
 }
 
 pub(crate) fn decode(bytes: &[u8]) -> Result<Vec<u8>, Error> {
-    // SAFETY: each pointer is that of a borrow that lasts for the call.
+    // SAFETY: each pointer comes from a borrow that lasts for the call.
     result(bytes.len(), |out, answer| unsafe { qs_decode(bytes.as_ptr(), bytes.len(), out.as_mut_ptr(), out.len(), answer) })
 }
 
-/// The result of a call that is given so many bytes. It is made again with enough room where that was too little.
+/// The result of a call whose input has `given` bytes. If the buffer is too small, the call is made again with a larger one.
 fn result(given: usize, mut call: impl FnMut(&mut [u8], &mut Answer) -> u32) -> Result<Vec<u8>, Error> {
     let mut out = vec![0; 256 + 2 * given];
     let mut answer = Answer::default();

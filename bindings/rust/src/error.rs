@@ -2,7 +2,7 @@
 
 use std::fmt;
 
-/// The kinds of errors, each with its status in the header as its number.
+/// The kinds of errors, numbered as their statuses in the header.
 #[repr(u32)]
 #[derive(Clone, Copy, Debug, PartialEq, Eq, Hash)]
 #[non_exhaustive]
@@ -13,7 +13,7 @@ pub enum ErrorKind {
     BadSettings = 3,
     /// The querystring is rejected, at the error's position.
     Parse = 4,
-    /// The querystring doesn't fit the shape, or the type, or no value stands at the path.
+    /// The querystring doesn't fit the shape or the type, or the part at the path isn't a value.
     Mismatch = 5,
     /// A string that is read isn't UTF-8.
     NotUtf8 = 6,
@@ -29,7 +29,7 @@ pub enum ErrorKind {
     TooLong = 11,
     /// The path isn't a key.
     BadPath = 13,
-    /// A status that this version of the crate doesn't know.
+    /// The library returned a status that this version of the crate doesn't know.
     Unknown = u32::MAX,
 }
 
@@ -52,7 +52,7 @@ impl ErrorKind {
     }
 }
 
-/// Why a call failed. It displays a text for a user.
+/// Why a call failed. Its `Display` is a text for a user.
 ///
 /// ```
 /// let error = serde_qs::parse("user=John&user[ids][0]=1").unwrap_err();
@@ -73,12 +73,12 @@ impl Error {
         self.kind
     }
 
-    /// Returns where the error is in what was given: how many bytes come before it. It is 0 where its kind has no position.
+    /// Returns the error's position in the querystring, the shape or the JSON, in bytes. It is 0 if its kind has no position.
     pub fn position(&self) -> usize {
         self.position
     }
 
-    /// Returns the path to the part of the querystring that a shape doesn't read. It is empty where no part is to blame.
+    /// Returns the path to the part of the querystring that a shape doesn't read. It is empty if there is no such part.
     ///
     /// ```
     /// let error = serde_qs::read("{user: {age: u8}}", "user[age]=300").unwrap_err();

@@ -1,4 +1,4 @@
-//! Nested querystrings, read as JSON and written of JSON by a verified library.
+//! Nested querystrings, read into JSON and written from JSON by a verified library.
 //!
 //! ```
 //! let json = serde_qs::read("{user: {name: text, ids: [u8]}}", "user[name]=John&user[ids][0]=1")?;
@@ -7,15 +7,15 @@
 //! # Ok::<(), serde_qs::Error>(())
 //! ```
 //!
-//! A shape says what is read. Its notation, and the JSON, are described in `LIBRARY.md`, which is installed with the library below
-//! `share/doc/serde_qs`. The functions of this page have the usual settings; [`Settings`] has methods of the same names.
+//! A shape says what is read. `LIBRARY.md` describes its notation and the JSON. It is installed with the library, in
+//! `share/doc/serde_qs`. The functions of this page use the default settings; [`Settings`] has methods of the same names.
 //!
-//! With the feature `serde`, `from_str` and `to_string` read and write types with serde's derives.
+//! With the feature `serde`, `from_str` and `to_string` read and write types that derive serde's traits.
 //!
 //! # Building
 //!
-//! The library is installed by `./install PREFIX` at the top of its repository. The build script finds it by `pkg-config`, or below the
-//! folder that `SERDE_QS_DIR` names. It links the static library, or the shared one where `SERDE_QS_SHARED` is set.
+//! Install the library with `./install PREFIX` at the top of its repository. The build script finds it by `pkg-config`, or in the
+//! folder `SERDE_QS_DIR`, which is that `PREFIX`. It links the static library, or the shared one if `SERDE_QS_SHARED` is set.
 #![warn(missing_docs)]
 
 mod calls;
@@ -29,15 +29,16 @@ pub use settings::{ArrayFormat, Settings};
 #[cfg(feature = "serde")]
 pub use typed::{from_str, to_string};
 
-/// Returns the decoded value at a path of the querystring, as `user[name]`, or `ids[0]` for the first item of a list; `None` where nothing
-/// stands there.
+/// Gets the decoded value at a path of the querystring, such as `user[name]`, or `ids[0]` for the first item of a list. Returns `None`
+/// if the path leads nowhere.
 ///
-/// The path is a key, in which signs are escaped as in the querystring. Without a value it is empty; of several values it is the last.
+/// The path is a key, escaped as in the querystring. The value may hold any bytes. A key without a value, as in `a`, gives an empty result.
+/// Several values, as in `a=1&a=2`, give the last, unless the settings reject them.
 ///
 /// # Errors
 ///
-/// [`ErrorKind::BadPath`] where the path isn't a key; [`ErrorKind::Parse`] where the query has no tree, with its position;
-/// [`ErrorKind::Mismatch`] where a map stands at the path; [`ErrorKind::OutOfMemory`].
+/// [`ErrorKind::BadPath`] if the path isn't a key; [`ErrorKind::Parse`], with its position, if the querystring can't be parsed;
+/// [`ErrorKind::Mismatch`] if the path leads to a map; [`ErrorKind::OutOfMemory`].
 ///
 /// ```
 /// assert_eq!(serde_qs::get("user[name]", "user[name]=John+B.")?, Some(b"John B.".to_vec()));
@@ -48,12 +49,12 @@ pub fn get(path: impl AsRef<[u8]>, query: impl AsRef<[u8]>) -> Result<Option<Vec
     Settings::default().get(path, query)
 }
 
-/// Returns the querystring as JSON, read as whatever is there: strings, lists and maps, and `null` without a value.
+/// Reads the querystring into JSON, whatever it holds: `null`, strings, lists and maps.
 ///
 /// # Errors
 ///
-/// [`ErrorKind::Parse`] where the query has no tree, with its position; [`ErrorKind::Mismatch`] and [`ErrorKind::NotUtf8`] where nothing
-/// can be read from its tree; [`ErrorKind::OutOfMemory`].
+/// [`ErrorKind::Parse`], with its position, if the querystring can't be parsed; [`ErrorKind::Mismatch`] or [`ErrorKind::NotUtf8`] if it is
+/// parsed, but can't be read; [`ErrorKind::OutOfMemory`].
 ///
 /// ```
 /// assert_eq!(serde_qs::parse("a[b]=1")?, r#"{"a":{"b":"1"}}"#);
@@ -63,11 +64,11 @@ pub fn parse(query: impl AsRef<[u8]>) -> Result<String, Error> {
     Settings::default().parse(query)
 }
 
-/// Returns the querystring as JSON, read by a shape.
+/// Reads the querystring into JSON by a shape, such as `{user: {name: text}}`.
 ///
 /// # Errors
 ///
-/// As [`parse`], and before those [`ErrorKind::BadShape`] where the shape isn't one, with its position.
+/// [`ErrorKind::BadShape`], with its position, if the text isn't a shape; otherwise the errors of [`parse`].
 ///
 /// ```
 /// assert_eq!(serde_qs::read("{age: u8}", "age=24")?, r#"{"age":24}"#);
@@ -80,12 +81,12 @@ pub fn read(shape: &str, query: impl AsRef<[u8]>) -> Result<String, Error> {
     Settings::default().read(shape, query)
 }
 
-/// Returns why the querystring isn't read by the shape: the path to the part that is to blame, and a line that begins with it; `None`
-/// where it is read.
+/// Explains in one line why a shape doesn't read the querystring. Returns the path to the wrong part, and the line, which begins with the
+/// path. The path is empty if the querystring can't be parsed or is wrong as a whole. Returns `None` if the shape reads the querystring.
 ///
 /// # Errors
 ///
-/// [`ErrorKind::BadShape`] where the shape isn't one, with its position; [`ErrorKind::OutOfMemory`].
+/// [`ErrorKind::BadShape`], with its position, if the text isn't a shape; [`ErrorKind::OutOfMemory`].
 ///
 /// ```
 /// let (path, line) = serde_qs::explain("{user: {age: u8}}", "user[age]=300")?.unwrap();
@@ -97,12 +98,12 @@ pub fn explain(shape: &str, query: impl AsRef<[u8]>) -> Result<Option<(String, S
     Settings::default().explain(shape, query)
 }
 
-/// Returns the querystring that the JSON is written as.
+/// Writes the JSON as a querystring.
 ///
 /// # Errors
 ///
-/// [`ErrorKind::BadJson`] where the text isn't JSON, with its position; [`ErrorKind::TooDeep`] where it nests deeper than the settings
-/// allow; [`ErrorKind::OutOfMemory`].
+/// [`ErrorKind::BadJson`], with its position, if the text can't be read as JSON; [`ErrorKind::TooDeep`] if it nests deeper than the
+/// settings allow; [`ErrorKind::OutOfMemory`].
 ///
 /// ```
 /// assert_eq!(serde_qs::write(r#"{"a":[1,2]}"#)?, "a[0]=1&a[1]=2");
@@ -112,7 +113,7 @@ pub fn write(json: &str) -> Result<String, Error> {
     Settings::default().write(json)
 }
 
-/// Returns the bytes, encoded for query mode.
+/// Encodes the bytes for query mode.
 ///
 /// # Errors
 ///
@@ -126,7 +127,7 @@ pub fn encode(bytes: impl AsRef<[u8]>) -> Result<String, Error> {
     Settings::default().encode(bytes)
 }
 
-/// Returns the bytes, decoded: `+` is a space, and `%` with two hexadecimal digits is one byte.
+/// Decodes the bytes: `+` is a space, and `%` with two hexadecimal digits is one byte.
 ///
 /// # Errors
 ///

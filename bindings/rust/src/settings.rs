@@ -17,8 +17,8 @@ pub enum ArrayFormat {
 
 /// How a querystring is read and written. The default reads five levels of brackets in query mode, and takes the last of several values.
 ///
-/// Each method is as the function of its name, and has more errors: [`ErrorKind::BadSettings`](crate::ErrorKind::BadSettings) where
-/// `max_depth` is more than 100, and where a limit is set [`ErrorKind::TooLarge`](crate::ErrorKind::TooLarge) and
+/// Each method does the same as the function of its name, and has more errors: [`ErrorKind::BadSettings`](crate::ErrorKind::BadSettings)
+/// if `max_depth` is more than 100, and, if a limit is set, [`ErrorKind::TooLarge`](crate::ErrorKind::TooLarge) and
 /// [`ErrorKind::TooLong`](crate::ErrorKind::TooLong).
 ///
 /// ```
@@ -33,19 +33,19 @@ pub enum ArrayFormat {
 pub struct Settings {
     /// How many levels of brackets may follow the first key, 100 at most.
     pub max_depth: usize,
-    /// Form mode, where brackets may be encoded; else query mode.
+    /// `true` for form mode, where brackets may be encoded; `false` for query mode.
     pub form: bool,
-    /// How the indices of elements are written.
+    /// How the index of a list's element is written.
     pub array_format: ArrayFormat,
-    /// Whether several values where one is wanted are an error; else the last is taken.
+    /// Whether several values are an error if one is wanted; otherwise the last is taken.
     pub reject_duplicates: bool,
-    /// How many bytes a querystring that is read may have; 0 for any number.
+    /// The most bytes of a querystring that is read; 0 for no limit.
     pub max_length: usize,
-    /// How many pairs it may have; 0 for any number.
+    /// The most pairs (the pieces between `&`s) of a querystring that is read; 0 for no limit.
     pub max_pairs: usize,
-    /// How many bytes the JSON may have that is made of it; 0 for any number.
+    /// The most bytes of the JSON that is returned; 0 for no limit.
     pub max_output: usize,
-    /// 0.
+    /// Must be 0. A later version may give other numbers a meaning.
     pub reserved: usize,
 }
 
@@ -65,17 +65,17 @@ impl Default for Settings {
 }
 
 impl Settings {
-    /// Returns the decoded value at a path of the querystring, as [`get`](crate::get).
+    /// Gets the decoded value at a path of the querystring, as [`get`](crate::get) does.
     pub fn get(&self, path: impl AsRef<[u8]>, query: impl AsRef<[u8]>) -> Result<Option<Vec<u8>>, Error> {
         calls::get(self, path.as_ref(), query.as_ref())
     }
 
-    /// Returns the querystring as JSON, read as whatever is there, as [`parse`](crate::parse).
+    /// Reads the querystring into JSON, whatever it holds, as [`parse`](crate::parse) does.
     pub fn parse(&self, query: impl AsRef<[u8]>) -> Result<String, Error> {
         calls::parse(self, query.as_ref())
     }
 
-    /// Returns the querystring as JSON, read by a shape, as [`read`](crate::read).
+    /// Reads the querystring into JSON by a shape, as [`read`](crate::read) does.
     pub fn read(&self, shape: &str, query: impl AsRef<[u8]>) -> Result<String, Error> {
         let query = query.as_ref();
         calls::read(self, shape, query).map_err(|error| self.with_path(shape, query, error))
@@ -90,17 +90,17 @@ impl Settings {
         error
     }
 
-    /// Returns why the querystring isn't read by the shape, as [`explain`](crate::explain).
+    /// Explains in one line why a shape doesn't read the querystring, as [`explain`](crate::explain) does.
     pub fn explain(&self, shape: &str, query: impl AsRef<[u8]>) -> Result<Option<(String, String)>, Error> {
         calls::explain(self, shape, query.as_ref())
     }
 
-    /// Returns the querystring that the JSON is written as, as [`write`](crate::write).
+    /// Writes the JSON as a querystring, as [`write`](crate::write) does.
     pub fn write(&self, json: &str) -> Result<String, Error> {
         calls::write(self, json)
     }
 
-    /// Returns the bytes, encoded for the mode, as [`encode`](crate::encode).
+    /// Encodes the bytes for form mode or query mode, as [`encode`](crate::encode) does for query mode.
     pub fn encode(&self, bytes: impl AsRef<[u8]>) -> Result<String, Error> {
         calls::encode(self.form, bytes.as_ref())
     }

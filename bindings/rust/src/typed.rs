@@ -1,14 +1,14 @@
-//! Types with serde's derives, read and written by way of JSON.
+//! Types that derive serde's traits, read and written by way of JSON.
 
 use crate::{Error, ErrorKind, Settings};
 use serde::de::DeserializeOwned;
 use serde::Serialize;
 
-/// Returns the value that the querystring holds, read by a shape.
+/// Reads the querystring into a value by a shape.
 ///
 /// # Errors
 ///
-/// As [`read`](crate::read); and [`ErrorKind::Mismatch`] where the shape's JSON doesn't fit the type.
+/// Those of [`read`](crate::read), and [`ErrorKind::Mismatch`] if the shape's JSON doesn't fit the type.
 ///
 /// ```
 /// #[derive(Debug, PartialEq, serde::Deserialize)]
@@ -25,11 +25,11 @@ pub fn from_str<T: DeserializeOwned>(shape: &str, query: &str) -> Result<T, Erro
     Settings::default().from_str(shape, query)
 }
 
-/// Returns the querystring that the value is written as.
+/// Writes the value as a querystring.
 ///
 /// # Errors
 ///
-/// As [`write`](crate::write); [`ErrorKind::BadJson`] where the value can't be written as JSON, too.
+/// Those of [`write`](crate::write), and [`ErrorKind::BadJson`] if the value can't be written as JSON.
 ///
 /// ```
 /// #[derive(serde::Serialize)]
@@ -47,13 +47,13 @@ pub fn to_string<T: Serialize + ?Sized>(value: &T) -> Result<String, Error> {
 }
 
 impl Settings {
-    /// Returns the value that the querystring holds, read by a shape, as [`from_str`].
+    /// Reads the querystring into a value by a shape, as [`from_str`] does.
     pub fn from_str<T: DeserializeOwned>(&self, shape: &str, query: &str) -> Result<T, Error> {
         let json = self.read(shape, query)?;
         serde_json::from_str(&json).map_err(|error| json_error(ErrorKind::Mismatch, &error))
     }
 
-    /// Returns the querystring that the value is written as, as [`to_string`].
+    /// Writes the value as a querystring, as [`to_string`] does.
     pub fn to_string<T: Serialize + ?Sized>(&self, value: &T) -> Result<String, Error> {
         let json = serde_json::to_string(value).map_err(|error| json_error(ErrorKind::BadJson, &error))?;
         self.write(&json)

@@ -39,7 +39,7 @@ for line in sys.stdin:
         if call == "get":
             result = serde_qs.get(shape, text, **settings)
             if result is None:
-                raise serde_qs.QuerystringError(12, 0, "nothing stands at the path")
+                raise serde_qs.QuerystringError(12, 0, "nothing is at the path")
         elif call == "parse":
             result = compact(serde_qs.parse(text, **settings))
         elif call == "read":

@@ -40,7 +40,7 @@ fn main() {
         let result = match call {
             "get" => match settings.get(shape, text) {
                 Ok(None) => {
-                    println!("12\t0\tnothing stands at the path");
+                    println!("12\t0\tnothing is at the path");
                     continue;
                 }
                 found => found.map(|bytes| String::from_utf8_lossy(&bytes.unwrap_or_default()).into_owned()),

@@ -1,11 +1,12 @@
 //! A program for scripts: it prints the trees of a table's cases, and what public calls return and write.
 //!
-//! Without a word each line of standard input is a case: form mode (0 or 1), the depth limit, and the input in hexadecimal, with
-//! tabs between. A line is printed for each: `ok` and the tree, or `rejected`, the position, and the error's text in hexadecimal.
+//! Without arguments, each line of standard input is a case: form mode (0 or 1), the depth limit, and the input in hexadecimal,
+//! separated by tabs. For each case a line is printed: `ok` and the tree, or `rejected`, the position, and the error's text in
+//! hexadecimal.
 //!
-//! With the name of a type all of standard input is one querystring. It is read by that type, and the querystring of its value is
-//! printed. `Question::from_words` has the words that ask for something else after the name, as `explained` for which part isn't
-//! read. `answers/calls.rt` has the names of calls that are made without a type.
+//! With the name of a type, all of standard input is one querystring. The program reads it as that type, and prints the querystring of
+//! the value. Words after the name ask for something else, such as `explained` for which part isn't read: see `Question::from_words`.
+//! `answers/calls.rt` has the names of calls that are made without a type.
 #![tactic(auto)]
 
 mod answers;
@@ -14,7 +15,7 @@ use crate::answers::Question;
 use std::env;
 use std::process::ExitCode;
 
-// Prints the tree of each case, or what is asked about the type or the call that a word names.
+// Prints the tree of each case, or the answer for the type or the call that a word names.
 fn main(rt: HostRuntime) -> ExitCode {
     let Ok(mut words) = env::args(&rt) else {
         return ExitCode::from(3);

@@ -8,7 +8,7 @@ use Rattle.qs_c.specs.declared.failure.FailureKind.{FailureKind}
 use Rattle.qs_c.specs.declared.failure.FailureKind.TheVariants.{OutOfMemory, Parse, Mismatch, NotUtf8, TooDeep}
 use Rattle.qs_c.specs.Status.{text_of, IsOutOfMemory}
 
--- a write to memory fails only where an allocation does
+-- a write to memory fails only if an allocation does
 abbrev pub kind_of : Error → FailureKind
 kind_of (e.Parse message position) = Parse
 kind_of (e.Utf8 cause) = NotUtf8
@@ -17,15 +17,15 @@ kind_of (e.Io cause) = OutOfMemory
 kind_of e.OutOfMemory = OutOfMemory
 kind_of _ = Mismatch
 
--- the position of a syntax error, and 0 for any other
+-- the position of a syntax error, or 0 for any other error
 abbrev pub position_of : Error → ℕ
 position_of (e.Parse message position) = position
 position_of _ = 0
 
--- the text is what the error's `Display` writes, where that is specified
+-- the text is what the error's `Display` writes, if that is specified
 abbrev pub IsTextOf : Error → List ℕ → Type 0
 IsTextOf error text = IfSome (error_text error) (λ bytes. text ≡ bytes)
 
--- it is the error's, unless an allocation for the error's text failed
+-- the failure has the error's kind, position and text, or an allocation failed
 abbrev pub IsFailureOf : Failure → Error → Type 0
 IsFailureOf failure error = IsOutOfMemory failure ⊎ ((failure.kind ≡ kind_of error) × (failure.position ≡ position_of error) × IsTextOf error (text_of failure))

@@ -1,4 +1,4 @@
--- What an explanation says as a line, and why there is none.
+-- An explanation as a line, and why there is none.
 use Rattle.std.specs.Prelude.{◌≡◌, ℕ, false, List, [], ◌++◌, length, map, Option, Some, None, Ok}
 use Rattle.std.specs.declared.alloc.AllocError.{AllocError}
 use Rattle.qs_spec.specs.Config.{Config}
@@ -15,20 +15,20 @@ use Rattle.qs_c.specs.Limits.{IsTooLarge}
 use Rattle.qs_c.specs.Notation.{IsNotation, IsNoNotation}
 use Rattle.qs_c.specs.Settings.{AreNone}
 
--- The line begins with the path, which has so many bytes.
+-- The line begins with the path, which has `len` bytes.
 pub record StartsWith (path line : List ℕ) (len : ℕ) : Type 0 where
   pub len_is : len ≡ length path
   pub rest : List ℕ
   pub text : line ≡ path ++ rest
 
--- Of a part that isn't read the line begins with the path to it, as it is written in a key. Otherwise there is no path, and of an input
--- that is read no line.
+-- If a part isn't read, the line begins with the path to it, written as a key. Otherwise the path is empty. If there is no explanation,
+-- the line is empty too.
 abbrev pub IsLine : Option Explanation → List ℕ → ℕ → Type 0
 IsLine None line len = (line ≡ []) × (len ≡ 0)
 IsLine (Some (Mismatch m)) line len = StartsWith (path_text false (map segment_text (path_of m))) line len
 IsLine (Some _) line len = len ≡ 0
 
--- The line is that of the explanation why the shape that this text is doesn't read the input.
+-- The notation is a shape, and the line explains why that shape doesn't read the input.
 pub record IsExplained (config : Config) (notation input line : List ℕ) (len : ℕ) : Type 0 where
   pub shape : Shape
   pub is_shape : IsNotation notation shape
@@ -37,7 +37,7 @@ pub record IsExplained (config : Config) (notation input line : List ℕ) (len :
   pub related : ExplainsUnread {E = AllocError} config shape input (Ok explanation)
   pub is_line : IsLine explanation line len
 
--- what an error of this kind at this position says where there is no explanation
+-- what holds if the call fails with an error of this kind at this position
 abbrev pub WhyNotExplained : FailureKind → ℕ → Settings → List ℕ → List ℕ → Type 0
 WhyNotExplained kind.OutOfMemory position settings notation input = position ≡ 0
 WhyNotExplained kind.Settings position settings notation input = (position ≡ 0) × AreNone settings

@@ -1,5 +1,6 @@
--- The words that a reader must believe, beside those of qs_spec and the views of qs_data: all modules but `internal`, which has steps
--- of proofs. `Outcomes` says what each call returns, `Messages` what the text of an error says, `Paths` what stands at a path, `Notation` which shape a text is, `Shown` and `Taken` which JSON data are.
+-- The words to review, in addition to qs_spec's words and qs_data's views: all modules except `internal`, which has
+-- steps of proofs. `Outcomes` says what each call returns, `Messages` what the text of an error says, `Paths` what is at a path,
+-- `Notation` which shape a text is, `Shown` how data is written as JSON, and `Taken` how JSON is read as data.
 pub mod Answer
 pub mod Classes
 pub mod Errors

@@ -2,19 +2,19 @@
 use Rattle.std.specs.Prelude.{ℕ, ◌+◌, ◌<◌, ◌⊎◌, Bool, ◌&&◌, ◌==◌, nat_lt, cond, List, [], ◌∷◌, length}
 use Rattle.qs_c.specs.declared.settings.Settings.{Settings}
 
--- more than a limit, which 0 lifts
+-- `n` is more than `most`; a limit of 0 is none
 abbrev pub is_beyond : (most n : ℕ) → Bool
 is_beyond most n = nat_lt 0 most && nat_lt most n
 
 abbrev pub IsBeyond : (most n : ℕ) → Type 0
 IsBeyond most n = (0 < most) × (most < n)
 
--- how many `&` there are
+-- the number of `&`s
 abbrev pub ampersands : List ℕ → ℕ
 ampersands [] = 0
 ampersands (b ∷ bytes) = cond (b == 38) 1 0 + ampersands bytes
 
--- how many pieces stand between them
+-- the number of pieces between them
 abbrev pub pairs_in : List ℕ → ℕ
 pairs_in bytes = ampersands bytes + 1
 

@@ -1,4 +1,4 @@
--- The notation of shapes, which docs/LIBRARY.md describes: what shape a text is, or where it stops being one, and why.
+-- The notation of shapes, which docs/LIBRARY.md describes: which shape a text is, or where parsing it stops, and why.
 use Rattle.std.specs.Prelude.{◌≡◌, ◌-◌, ℕ, zero, suc, Bool, true, false, not, ◌||◌, ◌==◌, nat_le, cond, List, [], ◌∷◌, length, take, drop, codes, Option, Some, None}
 use Rattle.std.specs.List.{prefix_len}
 use Rattle.std.specs.Str.{bytes_eq, is_utf8}
@@ -10,21 +10,21 @@ use Rattle.qs_c.specs.Found.{Found, found, fault, Parser, and_then, seen}
 abbrev pub is_blank : ℕ → Bool
 is_blank b = b == 32 || b == 9 || b == 10 || b == 13
 
--- letters, digits, `_`, `-` and all that isn't ASCII
+-- ASCII letters and digits, `_`, `-`, and bytes beyond ASCII
 abbrev pub is_of_word : ℕ → Bool
 is_of_word b = is_between 97 122 b || is_between 65 90 b || is_between 48 57 b || b == 95 || b == 45 || nat_le 128 b
 
--- any byte but `"`
+-- any byte except `"`
 abbrev pub is_no_quote : ℕ → Bool
 is_no_quote b = not (b == 34)
 
--- without the blanks in front
+-- without the blanks at the front
 unfoldable pub trimmed : List ℕ → List ℕ
 trimmed t = drop (prefix_len is_blank t) t
 
--- Blanks are free after each sign, word and name, and in front of the whole.
+-- Blanks are allowed after each sign, word and name, and before the whole.
 
--- the sign comes next
+-- the sign is next
 abbrev pub comes : ℕ → List ℕ → Bool
 comes sign [] = false
 comes sign (b ∷ bs) = b == sign
@@ -33,11 +33,11 @@ comes sign (b ∷ bs) = b == sign
 abbrev pub after_sign : List ℕ → List ℕ
 after_sign t = trimmed (drop 1 t)
 
--- the sign has to come next
+-- the sign has to be next
 abbrev pub wanted : ℕ → List ℕ → Parser (Unit {0})
 wanted sign reason t = cond (comes sign t) (found tt (after_sign t)) (fault reason t)
 
--- the word that comes next, which may be empty
+-- the next word, which may be empty
 unfoldable pub word : List ℕ → List ℕ
 word t = take (prefix_len is_of_word t) t
 
@@ -49,7 +49,7 @@ after_word t = trimmed (drop (prefix_len is_of_word t) t)
 abbrev pub name_of : List ℕ → Parser (List ℕ)
 name_of bytes t = cond (is_utf8 bytes) (found bytes t) (fault (codes "a name isn't UTF-8") t)
 
--- what stands up to the next quote, decoded
+-- the text up to the next quote, decoded
 unfoldable pub quoted : Parser (List ℕ)
 quoted t =
     let n = prefix_len is_no_quote t in
@@ -64,21 +64,21 @@ is_empty (b ∷ bs) = false
 abbrev pub word_name : Parser (List ℕ)
 word_name t = cond (is_empty (word t)) (fault (codes "a name is wanted") (after_word t)) (name_of (word t) (after_word t))
 
--- a name: a word, or between two quotes
+-- a name: a word, or a text between two quotes
 unfoldable pub name : Parser (List ℕ)
 name t = cond (comes 34 t) (quoted (drop 1 t)) (word_name t)
 
--- after one of a list there is another, after a comma, or the sign that closes the list
+-- an item of a list is followed by a comma, and so by another item, or by the sign that closes the list
 unfoldable pub goes_on : ℕ → List ℕ → Parser Bool
 goes_on sign reason t = cond (comes 44 t) (found true (after_sign t)) (and_then (wanted sign reason t) (λ u rest. found false rest))
 
--- a list of one and more, with no more of them than the number
+-- a list of at least one item, and at most this number of them
 unfoldable pub listed : {A : Type 0} → Parser A → ℕ → List ℕ → ℕ → Parser (List A)
 listed one sign reason zero t = fault reason t
 listed one sign reason (suc n) t =
     and_then (one t) (λ a rest. and_then (goes_on sign reason rest) (λ more rest. cond more (seen (λ xs. a ∷ xs) (listed one sign reason n rest)) (found (a ∷ []) rest)))
 
--- a list; the text has room for no more of them than its length
+-- a list; it can't have more items than the text has bytes
 abbrev pub list_of : {A : Type 0} → Parser A → ℕ → List ℕ → Parser (List A)
 list_of one sign reason t = listed one sign reason (length t) t
 
@@ -92,14 +92,14 @@ integer unsigned signed w =
     cond (bytes_eq w (codes "u8")) (Some (unsigned 8)) (cond (bytes_eq w (codes "u16")) (Some (unsigned 16)) (cond (bytes_eq w (codes "u32")) (Some (unsigned 32)) (cond (bytes_eq w (codes "u64")) (Some (unsigned 64))
     (cond (bytes_eq w (codes "i8")) (Some (signed 8)) (cond (bytes_eq w (codes "i16")) (Some (signed 16)) (cond (bytes_eq w (codes "i32")) (Some (signed 32)) (cond (bytes_eq w (codes "i64")) (Some (signed 64)) None)))))))
 
--- the shape that a word alone is
+-- the shape that a single word names
 abbrev pub scalar : List ℕ → Option Shape
 scalar w =
     cond (bytes_eq w (codes "unit")) (Some Shape.unit) (cond (bytes_eq w (codes "bool")) (Some Shape.boolean) (cond (bytes_eq w (codes "char")) (Some Shape.character)
     (cond (bytes_eq w (codes "text")) (Some Shape.text) (cond (bytes_eq w (codes "bytes")) (Some Shape.bytes) (cond (bytes_eq w (codes "any")) (Some Shape.any)
     (cond (bytes_eq w (codes "ignored")) (Some Shape.ignored) (integer Shape.unsigned Shape.signed w)))))))
 
--- the shape of a key that a word alone is
+-- the shape of a key that a single word names
 abbrev pub scalar_key : List ℕ → Option KeyShape
 scalar_key w =
     cond (bytes_eq w (codes "bool")) (Some KeyShape.boolean) (cond (bytes_eq w (codes "char")) (Some KeyShape.character) (cond (bytes_eq w (codes "text")) (Some KeyShape.text)
@@ -110,7 +110,7 @@ abbrev pub there : {A : Type 0} → List ℕ → List ℕ → Option A → Found
 there reason t (Some a) = found a t
 there reason t None = fault reason t
 
--- a bracket that has to come next
+-- a bracket that has to be next
 abbrev pub open_wanted : Parser (Unit {0})
 open_wanted t = wanted 40 (codes "`(` is wanted") t
 
@@ -132,7 +132,7 @@ key t =
     (and_then (open_wanted (after_word t)) (λ u rest. seen KeyShape.variants (list_of name 41 comma_or_parenthesis rest)))
     (there (codes "the word before is no shape of a key") (after_word t) (scalar_key (word t)))
 
--- What follows has a parser for the shapes within.
+-- The parsers below take a parser of the shapes within.
 
 -- what follows a `?`, if there is one
 abbrev pub optional_mark : List ℕ → List ℕ
@@ -158,7 +158,7 @@ held inner t =
     (and_then (inner t) (λ s rest. cond (comes 41 rest) (found (newtype_kind s) (after_sign rest))
     (and_then (wanted 44 comma_or_parenthesis rest) (λ u more. seen (λ ss. tuple_kind (one_shape s (shapes_of ss))) (items inner more)))))
 
--- what a variant holds: fields, what stands in parentheses, or nothing
+-- what a variant holds: fields, what is in parentheses, or nothing
 unfoldable pub kind : Parser Shape → Parser VariantKind
 kind inner t =
     cond (comes 123 t) (seen (λ fs. struct_kind UnknownKeys.ignored (fields_of fs)) (fields inner (after_sign t)))
@@ -205,7 +205,7 @@ base inner t =
     (cond (comes 40 t) (seen (λ ss. Shape.tuple (shapes_of ss)) (items inner (after_sign t)))
     (named inner (word t) (after_word t))))
 
--- the shape with an option round it for each `?` that follows, of which there are so many at most
+-- the shape in an option for each `?` that follows, up to this number of them
 unfoldable pub options : ℕ → Shape → Parser Shape
 options zero s t = found s t
 options (suc n) s t = cond (comes 63 t) (options n (Shape.option s) (after_sign t)) (found s t)
@@ -214,20 +214,20 @@ options (suc n) s t = cond (comes 63 t) (options n (Shape.option s) (after_sign 
 abbrev pub too_deep : Parser Shape
 too_deep t = fault (codes "the shape nests more than 32 levels") t
 
--- a shape whose parts nest so many levels deep at most
+-- a shape whose parts nest at most `n` levels deep
 abbrev pub level : ℕ → Parser Shape → Parser Shape
 level n inner t = and_then (base inner t) (options n)
 
--- a shape that nests so many levels deep at most
+-- a shape that nests at most this many levels deep
 unfoldable pub shape : ℕ → Parser Shape
 shape zero = too_deep
 shape (suc n) = level n (shape n)
 
--- nothing may follow the whole, whose names differ
+-- nothing may follow the shape, and its names have to differ
 abbrev pub whole : Shape → List ℕ → Found Shape
 whole s rest = cond (is_empty rest) (cond (is_distinct s) (found s rest) (fault (codes "two fields or variants have the same name") rest)) (fault (codes "the shape has ended here") rest)
 
--- what a text is
+-- the shape that a text is
 abbrev pub notation : Parser Shape
 notation text = and_then (shape 32 (trimmed text)) whole
 
@@ -235,7 +235,7 @@ notation text = and_then (shape 32 (trimmed text)) whole
 abbrev pub IsNotation : List ℕ → Shape → Type 0
 IsNotation text s = notation text ≡ found s []
 
--- The text is no shape, for this reason, and so many bytes come before the rest that wasn't read.
+-- The text isn't a shape, for this reason; `position` is the number of bytes before the rest that wasn't parsed.
 pub record IsNoNotation (text reason : List ℕ) (position : ℕ) : Type 0 where
   pub rest : List ℕ
   pub stops : notation text ≡ fault reason rest

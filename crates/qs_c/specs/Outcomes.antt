@@ -1,4 +1,4 @@
--- What is read as JSON, what is written of JSON, and why not.
+-- What is read as JSON, what is written from JSON, and why a call fails.
 use Rattle.std.specs.Prelude.{◌≡◌, ◌+◌, ◌≤◌, ℕ, List, length, false, Some, None}
 use Rattle.std.specs.Str.{IsUtf8}
 use Rattle.json.specs.Json.{document}
@@ -19,7 +19,7 @@ use Rattle.qs_c.specs.Settings.{config_of, AreNone}
 use Rattle.qs_c.specs.Shown.{json_text}
 use Rattle.qs_c.specs.Taken.{IsJsonOf}
 
--- the input has a tree, from which the shape reads the data
+-- the input has a tree, and the shape reads the data from it
 abbrev pub IsReadBy : Config → Shape → List ℕ → Data → Type 0
 IsReadBy config shape input x = (tree : Tree) × IsTree config.form config.max_depth input tree × ReadsBy config shape tree x
 
@@ -27,11 +27,11 @@ IsReadBy config shape input x = (tree : Tree) × IsTree config.form config.max_d
 abbrev pub IsRead : Config → Shape → List ℕ → List ℕ → Type 0
 IsRead config shape input text = (x : Data) × IsReadBy config shape input x × (text ≡ json_text x)
 
--- the same of the shape that this text is
+-- the same for the shape that this text is
 abbrev pub IsReadByText : Config → List ℕ → List ℕ → List ℕ → Type 0
 IsReadByText config notation input text = (shape : Shape) × IsNotation notation shape × IsRead config shape input text
 
--- the input has a tree, from which the shape reads nothing
+-- the input has a tree, and the shape reads nothing from it
 abbrev pub IsUnread : Config → Shape → List ℕ → Type 0
 IsUnread config shape input = (tree : Tree) × IsTree config.form config.max_depth input tree × ReadsNothing config shape tree
 
@@ -39,7 +39,7 @@ IsUnread config shape input = (tree : Tree) × IsTree config.form config.max_dep
 abbrev pub IsRejected : Config → List ℕ → ℕ → Type 0
 IsRejected config input position = HasNoTree config.form config.max_depth input × (position ≤ length input + 1)
 
--- what an error of this kind at this position says of an input that is read; only one of syntax has a position other than 0
+-- what holds if an input isn't read, with an error of this kind at this position; only a syntax error has a position other than 0
 abbrev pub WhyUnread : FailureKind → ℕ → Config → Shape → List ℕ → Type 0
 WhyUnread kind.OutOfMemory position config shape input = position ≡ 0
 WhyUnread kind.Parse position config shape input = IsRejected config input position
@@ -47,18 +47,18 @@ WhyUnread kind.Mismatch position config shape input = (position ≡ 0) × IsUnre
 WhyUnread kind.NotUtf8 position config shape input = (position ≡ 0) × IsUnread config shape input
 WhyUnread _ position config shape input = ⊥
 
--- the same where the JSON is made that may have so many bytes
+-- the same if it is read as JSON, which may have at most `most` bytes
 abbrev pub WhyNoJson : FailureKind → ℕ → Config → (most : ℕ) → Shape → List ℕ → Type 0
 WhyNoJson kind.TooLong position config most shape input = (position ≡ 0) × ((text : List ℕ) × IsRead config shape input text × IsBeyond most (length text))
 WhyNoJson k position config most shape input = WhyUnread k position config shape input
 
--- the same where it is read as whatever is there
+-- the same if it is read without a shape
 abbrev pub WhyNotParsed : FailureKind → ℕ → Settings → List ℕ → Type 0
 WhyNotParsed kind.Settings position settings input = (position ≡ 0) × AreNone settings
 WhyNotParsed kind.TooLarge position settings input = (position ≡ 0) × IsTooLarge settings input
 WhyNotParsed k position settings input = WhyNoJson k position (config_of settings) settings.max_output any input
 
--- the same where it is read by the shape that this text is
+-- the same if it is read by the shape that this text is
 abbrev pub WhyNotRead : FailureKind → ℕ → Settings → List ℕ → List ℕ → Type 0
 WhyNotRead kind.OutOfMemory position settings notation input = position ≡ 0
 WhyNotRead kind.Settings position settings notation input = (position ≡ 0) × AreNone settings
@@ -73,14 +73,14 @@ pub record IsWritten (config : Config) (json text : List ℕ) : Type 0 where
   pub is_whole : (entries config value).error ≡ None
   pub is_text : text ≡ written config.form false (entries config value).entries
 
--- what an error of this kind at this position says of data that are written
+-- what holds if data isn't written, with an error of this kind at this position
 abbrev pub WhyUnwritten : FailureKind → ℕ → Config → Data → Type 0
 WhyUnwritten kind.OutOfMemory position config x = position ≡ 0
 WhyUnwritten kind.TooDeep position config x = (position ≡ 0) × ((entries config x).error ≡ Some too_deep)
 WhyUnwritten kind.Mismatch position config x = (position ≡ 0) × ((entries config x).error ≡ Some bad_key)
 WhyUnwritten _ position config x = ⊥
 
--- what an error of this kind at this position says of JSON that is written
+-- what holds if JSON isn't written, with an error of this kind at this position
 abbrev pub WhyNotWritten : FailureKind → ℕ → Settings → List ℕ → Type 0
 WhyNotWritten kind.OutOfMemory position settings json = position ≡ 0
 WhyNotWritten kind.Settings position settings json = (position ≡ 0) × AreNone settings

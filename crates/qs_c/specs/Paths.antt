@@ -1,4 +1,4 @@
--- What stands at a path of a querystring.
+-- What is at a path of a querystring.
 use Rattle.std.specs.Prelude.{◌≡◌, ◌⊎◌, ℕ, Bool, true, false, List, [], ◌∷◌, drop, Option, Some, None, option_and_then, IsTrue, IsFalse}
 use Rattle.qs_spec.specs.Config.{Config}
 use Rattle.qs_spec.specs.Data.{Data}
@@ -37,20 +37,20 @@ pub record IsPath (config : Config) (text : List ℕ) (path : List Segment) : Ty
   pub is_key : IsTrue (is_key tree)
   pub segments : path ≡ first_path tree
 
--- the text is no key: it is no querystring, or one with a value or of several pairs
+-- the text isn't a key: it can't be parsed, or has a value or several pairs
 abbrev pub IsNoPath : Config → List ℕ → Type 0
 IsNoPath config text = HasNoTree config.form config.max_depth text ⊎ ((tree : Tree) × IsTree config.form config.max_depth text tree × IsFalse (is_key tree))
 
--- the item at an index of a node that has a list of them
+-- the item at an index of a node that is a list
 abbrev pub item_at : ℕ → Tree → Option Tree
 item_at i t = option_and_then (λ xs. first_there (drop i xs)) (items t)
 
--- the index that a segment is
+-- the index, if the segment is an integer
 abbrev pub index_of : Segment → Option ℕ
 index_of (Int i) = Some i
 index_of (Str bytes) = None
 
--- the node at a segment: of a map the value at the key, and of any other node the item at the index
+-- the node at a segment: the value at the key of a map, or the item at the index of any other node
 abbrev pub child : Segment → Tree → Option Tree
 child k (mapping es) = value_at_key k es
 child k t = option_and_then (λ i. item_at i t) (index_of k)
@@ -60,25 +60,25 @@ abbrev pub node_at : List Segment → Tree → Option Tree
 node_at [] t = Some t
 node_at (k ∷ path) t = option_and_then (node_at path) (child k t)
 
--- in the tree of the input the segments lead to this node, or to none
+-- in the tree of the input the segments lead to this node, or nowhere if it is `None`
 pub record LeadsTo (config : Config) (path : List Segment) (input : List ℕ) (node : Option Tree) : Type 0 where
   pub tree : Tree
   pub is_tree : IsTree config.form config.max_depth input tree
   pub is_node : node_at path tree ≡ node
 
--- they lead to a node from which these bytes are read
+-- the segments lead to a node from which these bytes are read
 abbrev pub HoldsBytes : Config → List Segment → List ℕ → List ℕ → Type 0
 HoldsBytes config path input bytes = (node : Tree) × LeadsTo config path input (Some node) × ReadsBy config Shape.bytes node (Data.bytes bytes)
 
--- they lead to a node from which no bytes are read
+-- the segments lead to a node from which no bytes are read
 abbrev pub HoldsNoBytes : Config → List Segment → List ℕ → Type 0
 HoldsNoBytes config path input = (node : Tree) × LeadsTo config path input (Some node) × ReadsNothing config Shape.bytes node
 
--- these are the bytes at the path that this text is
+-- the text is a path, and these are the bytes at it
 abbrev pub IsValueAt : Config → List ℕ → List ℕ → List ℕ → Type 0
 IsValueAt config text input bytes = (path : List Segment) × IsPath config text path × HoldsBytes config path input bytes
 
--- what an error of this kind at this position says of an input of which the bytes at these segments are wanted
+-- what holds if the bytes at these segments aren't read, with an error of this kind at this position
 abbrev pub WhyNoBytes : FailureKind → ℕ → Config → List Segment → List ℕ → Type 0
 WhyNoBytes kind.OutOfMemory position config path input = position ≡ 0
 WhyNoBytes kind.Parse position config path input = IsRejected config input position
@@ -87,7 +87,7 @@ WhyNoBytes kind.NotUtf8 position config path input = (position ≡ 0) × HoldsNo
 WhyNoBytes kind.Absent position config path input = (position ≡ 0) × LeadsTo config path input None
 WhyNoBytes _ position config path input = ⊥
 
--- the same of those at the path that this text is
+-- the same for the path that this text is, with the errors of the settings, the limits and the path
 abbrev pub WhyNoValue : FailureKind → ℕ → Settings → List ℕ → List ℕ → Type 0
 WhyNoValue kind.OutOfMemory position settings text input = position ≡ 0
 WhyNoValue kind.Settings position settings text input = (position ≡ 0) × AreNone settings

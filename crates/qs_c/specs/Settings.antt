@@ -1,17 +1,17 @@
--- The configuration that a caller's settings are.
+-- The configuration of a caller's settings.
 use Rattle.std.specs.Prelude.{ℕ, ◌<◌, ◌⊎◌, ◌==◌, cond, Bool, true, false}
 use Rattle.qs_spec.specs.Config.{Config, ArrayFormat, indexed, empty_indexed, unindexed, Duplicates, take_last, reject}
 use Rattle.qs_c.specs.declared.settings.Settings.{Settings}
 
--- no caller may ask for deeper nesting
+-- the largest `max_depth`
 abbrev pub most_levels : ℕ
 most_levels = 100
 
--- 0 and 1 are these, and each other number is the last
+-- 0 is indexed, 1 is empty indexed, and any other number is unindexed
 abbrev pub format_of : ℕ → ArrayFormat
 format_of n = cond (n == 0) indexed (cond (n == 1) empty_indexed unindexed)
 
--- several values are rejected, or the last one is taken
+-- several values are rejected, or the last is taken
 abbrev pub duplicates_of : Bool → Duplicates
 duplicates_of true = reject
 duplicates_of false = take_last

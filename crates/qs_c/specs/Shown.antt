@@ -1,4 +1,4 @@
--- Data as JSON, as serde_json writes the same data: fields, maps and variants with a value are objects, bytes an array of numbers.
+-- Data as JSON, as serde_json writes it: fields, maps and variants with a value are objects, and bytes are an array of numbers.
 use Rattle.std.specs.Prelude.{ℕ, List, [], ◌∷◌, decimal}
 use Rattle.std.specs.Fmt.{signed_decimal}
 use Rattle.std.specs.Char.{encode_utf8}
@@ -15,7 +15,7 @@ abbrev pub byte_items : List ℕ → Items
 byte_items [] = no_items
 byte_items (b ∷ bs) = item (number (decimal b)) (byte_items bs)
 
--- the text that the key of a map is read from; nothing else is ever a key
+-- the text from which the key of a map is read; no other data is ever a key
 abbrev pub key_of : d.Data → List ℕ
 key_of (d.boolean b) = boolean_text b
 key_of (d.unsigned n) = decimal n
@@ -29,7 +29,7 @@ key_of _ = []
 abbrev pub alone : List ℕ → Json → Json
 alone name j = object (member name j no_members)
 
--- data as JSON, and their parts as items and members
+-- data as JSON, and its parts as items and members
 abbrev mutual
   pub json_of : d.Data → Json
   json_of d.unit = null
@@ -70,6 +70,6 @@ array_tokens js = json_tokens (array js)
 abbrev pub object_tokens : Members → List Token
 object_tokens ms = json_tokens (object ms)
 
--- the text of data, without blanks
+-- data as JSON text, without blanks
 abbrev pub json_text : d.Data → List ℕ
 json_text x = print (json_tokens (json_of x))

@@ -1,4 +1,4 @@
--- The data that JSON is: a null is none, a number is its text, an object is a map with strings as keys.
+-- JSON as data: null is none, a number is its text, and an object is a map with strings as keys.
 use Rattle.std.specs.Prelude.{◌≡◌, ℕ, List, Some}
 use Rattle.std.specs.Borrow.{Bor}
 use Rattle.json.specs.Json as j
@@ -24,11 +24,11 @@ abbrev mutual
   pairs_from j.no_members = d.no_pairs
   pairs_from (j.member name x ms) = d.one_pair (d.text name) (data_from x) (pairs_from ms)
 
--- the text is JSON, which is the data
+-- the text is JSON, and the data is what it holds
 abbrev pub IsJsonOf : List ℕ → d.Data → Type 0
 IsJsonOf text x = (json : j.Json) × (j.document text ≡ Some json) × (x ≡ data_from json)
 
--- the data that a value of the program is, and those that a member of one is
+-- a `Value` as data, and a member of an object as a pair
 abbrev pub item_data : Value Global → d.Data
 item_data v = data_from (value_view v)
 

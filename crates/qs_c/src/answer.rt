@@ -1,4 +1,4 @@
-//! What a call leaves with its caller.
+//! What a call returns to its caller.
 
 ghost use Rattle.std.specs.Prelude.{◌≡◌, ◌<◌, ◌≤◌, ◌++◌, length, drop, IsTrue, IsFalse};
 ghost use Rattle.std.specs.Str.{IsUtf8};
@@ -7,7 +7,7 @@ ghost use Rattle.qs_c.specs.Status.{code_of, text_of, IsDone};
 
 use crate::failure::Failure;
 
-/// What a call says beside its status.
+/// What a call returns in addition to its status.
 ///
 /// ```
 /// qs_answer answer;
@@ -16,13 +16,13 @@ use crate::failure::Failure;
 #[repr(C)]
 #[derive(Drop)]
 pub struct Answer {
-    /// How many bytes the result has, or the text of an error.
+    /// The length of the result, or of an error's text.
     pub len: usize,
-    /// Where the error is in the input.
+    /// The error's position in the querystring, the shape or the JSON.
     pub position: usize,
 }
 
-/// Returns the bytes that a caller gives. Where there are none, the caller's pointer, which may be null, goes no further.
+/// Returns the bytes from the caller. If there are none, their pointer may be null, and isn't passed on.
 pub(crate) fn given(bytes: &[u8]) -> &[u8]
     ensures { result.now ≡ bytes.now }
 {
@@ -33,7 +33,7 @@ pub(crate) fn given(bytes: &[u8]) -> &[u8]
     }
 }
 
-/// Copies the bytes to the front of `out`, where they fit there, and returns the status.
+/// Copies the bytes to the front of `out`, if they fit there, and returns the status.
 pub(crate) fn give(text: &[u8], out: &mut [u8], answer: &mut Answer) -> u32
     ensures text { IsHandedOut text.now out.old out.new result answer.new.len }
     ensures done { IsDone result }
@@ -44,7 +44,7 @@ pub(crate) fn give(text: &[u8], out: &mut [u8], answer: &mut Answer) -> u32
     if put(text, out) { 0 } else { 1 }
 }
 
-/// Copies the error's text to the front of `out`, where it fits there, and returns the error's status.
+/// Copies the error's text to the front of `out`, if it fits there, and returns the error's status.
 #[tactic(auto, using(crate::proofs::Messages::text_is_utf8))]
 pub(crate) fn fail(failure: Failure, out: &mut [u8], answer: &mut Answer) -> u32
     ensures failed { result ≡ code_of failure.kind }
@@ -58,7 +58,7 @@ pub(crate) fn fail(failure: Failure, out: &mut [u8], answer: &mut Answer) -> u32
     failure.kind.code()
 }
 
-// Copies the error's text to the front of `out`, where it fits there, and returns its length.
+// Copies the error's text to the front of `out`, if it fits there, and returns its length.
 fn say(failure: &Failure, out: &mut [u8]) -> usize
     ensures { IsLaidOut (text_of failure.now) out.old out.new result }
 {
@@ -71,7 +71,7 @@ fn say(failure: &Failure, out: &mut [u8]) -> usize
     }
 }
 
-// Copies the bytes to the front of `out`, if they fit there.
+// Copies the bytes to the front of `out`, and returns whether they fit there.
 fn put(text: &[u8], out: &mut [u8]) -> bool
     ensures fits { IsTrue result → (length text.now ≤ length out.old) × (out.new ≡ text.now ++ drop (length text.now) out.old) }
     ensures too_long { IsFalse result → (length out.old < length text.now) × (out.new ≡ out.old) }

@@ -8,7 +8,7 @@ use crate::failure::{Failure, FailureKind};
 use qs_data::Error;
 use std::alloc::Global;
 
-/// Returns the failure that the error is, with its text. That an allocation failed has none.
+/// Returns the error as a failure, with its text. A failed allocation has none.
 #[tactic(auto, using(crate::proofs::Messages::same_text))]
 pub(crate) fn failure_of(alloc: Global, error: Error) -> Failure
     ensures failure { IsFailureOf result error }
@@ -25,7 +25,7 @@ pub(crate) fn failure_of(alloc: Global, error: Error) -> Failure
     }
 }
 
-// Returns the kind of an error of reading or writing. What is written goes to memory, so an `Io` error is a failed allocation.
+// Returns the kind of an error of reading or writing. Writing goes to memory, so an `Io` error is a failed allocation.
 fn kind_of(error: &Error) -> FailureKind
     ensures { result ≡ kind_of error.now }
 {
@@ -38,7 +38,7 @@ fn kind_of(error: &Error) -> FailureKind
     }
 }
 
-// Returns the position of a parse error; 0 for any other.
+// Returns the position of a parse error, or 0 for any other error.
 fn position_of(error: &Error) -> usize
     ensures { result ≡ position_of error.now }
 {

@@ -12,9 +12,10 @@ use std::alloc::Global;
 
 /// Decodes the bytes: `+` is a space, and `%` with two hexadecimal digits is one byte.
 ///
-/// Returns 0 where the result stands at the front of `out`, and 1 where it doesn't fit there. `answer` has its length. Only an allocation
-/// can fail: then it returns 2. It allocates for the result where there is a `+` or a `%`, frees that before it returns, and takes linear
-/// time.
+/// Returns 0 and puts the result at the front of `out`, or returns 1 if it doesn't fit there. `answer.len` is its length. The only error
+/// is 2: an allocation failed.
+///
+/// It allocates for the result if there is a `+` or a `%`, and frees it before it returns. It takes linear time.
 ///
 /// ```
 /// uint32_t status = qs_decode(QS_TEXT("a%5Bb%5D=1"), QS_ROOM(out), &answer); // a[b]=1
@@ -32,10 +33,12 @@ pub extern "C" fn qs_decode(alloc: Global, bytes: &[u8], out: &mut [u8], answer:
     }
 }
 
-/// Encodes the bytes for form mode (`form`) or query mode.
+/// Encodes the bytes for form mode (if `form` is true) or query mode.
 ///
-/// Returns 0 where the result stands at the front of `out`, and 1 where it doesn't fit there. `answer` has its length. Only an allocation
-/// can fail: then it returns 2. It allocates for the result, frees that before it returns, and takes linear time.
+/// Returns 0 and puts the result at the front of `out`, or returns 1 if it doesn't fit there. `answer.len` is its length. The only error
+/// is 2: an allocation failed.
+///
+/// It allocates for the result, and frees it before it returns. It takes linear time.
 ///
 /// ```
 /// uint32_t status = qs_encode(false, QS_TEXT("100% a+b"), QS_ROOM(out), &answer); // 100%25+a%2Bb

@@ -1,4 +1,4 @@
-//! Explaining why a querystring isn't read.
+//! Explaining why a shape doesn't read a querystring.
 
 ghost use Rattle.std.specs.Prelude.{◌≡◌, ◌++◌, false, List, ℕ, IfOk, IfErr, OnOk, map};
 ghost use Rattle.std.specs.Str.{IsUtf8};
@@ -25,22 +25,23 @@ use qs_explain::{Explanation, Mismatch, Segment, explain};
 use qs_tree::encode;
 use std::alloc::{AllocError, Global};
 
-/// Explains why the querystring isn't read by a shape in the notation of docs/LIBRARY.md: in which part of it, what is expected
-/// there, and what stands there.
+/// Explains in one line why a shape in the notation of docs/LIBRARY.md doesn't read the querystring: which part is wrong, what is expected
+/// there, and what was found.
 ///
-/// Returns 0 where the explanation stands at the front of `out`, and 1 where it doesn't fit there. It is one line, which begins with the
-/// path to the part, written as a key of a querystring. `answer` has the line's length, and as its position the path's. Where the whole
-/// is wrong, as of a querystring that can't be parsed, there is no path. Where the querystring is read by the shape, the line is empty.
-/// Of an error `answer` has the length of its text, which stands at the front of `out` if it fits there. The errors, with position 0
-/// where no other is given:
+/// The line begins with the path to the wrong part, written as a key, and `answer.position` is the path's length. The path is empty if the
+/// querystring can't be parsed or is wrong as a whole. The line is empty if the shape reads the querystring.
+///
+/// Returns 0 and puts the line at the front of `out`, or returns 1 if it doesn't fit there. `answer.len` is its length. Any other status
+/// is an error: `answer.len` is the length of its text, which is at the front of `out` if it fits there. The position is 0 except as the
+/// list says:
 ///
 /// - 2: an allocation failed; there is no text.
 /// - 3: a number in the settings is too large.
 /// - 7: the text isn't a shape. The position is how many of its bytes were parsed.
 /// - 10: the querystring is larger than the settings allow.
 ///
-/// It allocates for the shape, the tree and the explanation, and frees them before it returns. The time is at most so many times that of
-/// reading as the path has levels, and one more.
+/// It allocates for the shape, the tree and the explanation, and frees them before it returns. If the path has n levels, it takes at most
+/// as long as reading the querystring n + 1 times.
 ///
 /// ```
 /// uint32_t status = qs_explain(&qs_default, QS_TEXT("{age: u8}"), QS_TEXT("age=300"), QS_ROOM(out), &answer);
@@ -75,14 +76,14 @@ pub extern "C" fn qs_explain(
     }
 }
 
-/// An explanation as a line, which begins with a path of so many bytes.
+/// An explanation as a line. Its first `path_len` bytes are the path.
 #[derive(Drop)]
 pub(crate) struct Line {
     pub(crate) text: Vec<u8>,
     pub(crate) path_len: usize,
 }
 
-// Returns the line that explains why the shape in the notation doesn't read the querystring.
+// Parses the shape, and returns the line that explains why it doesn't read the querystring.
 fn explained(
     alloc: Global,
     settings: &Settings,
@@ -117,7 +118,7 @@ fn line_of(alloc: Global, explanation: &Option<Explanation>) -> Result<Line, All
     }
 }
 
-// Returns the line without a path.
+// Returns the text as a line without a path.
 fn whole(text: Vec<u8>) -> Line
     ensures text { result.text ≡ text }
     ensures path { result.path_len ≡ 0 }
@@ -125,7 +126,7 @@ fn whole(text: Vec<u8>) -> Line
     Line { text, path_len: 0 }
 }
 
-// Returns the path, and after a colon what is wrong with the part to which it leads.
+// Returns the path followed by a colon and what is wrong with the part at the path.
 fn mismatch_line(alloc: Global, mismatch: &Mismatch) -> Result<Line, AllocError>
     ensures { IfOk result (λ line. StartsWith (path_text false (map segment_text (path_of mismatch.now))) line.text.items line.path_len) }
 {

@@ -10,17 +10,17 @@ use std::alloc::{AllocError, AllocFailed, Global};
 pub(crate) enum FailureKind {
     /// An allocation failed.
     OutOfMemory,
-    /// The settings are none.
+    /// A number in the settings is too large.
     Settings,
-    /// The querystring isn't one.
+    /// The querystring can't be parsed.
     Parse,
-    /// The querystring doesn't fit the shape.
+    /// The querystring doesn't fit the shape, or the part at the path isn't a value.
     Mismatch,
     /// A string that is read isn't UTF-8.
     NotUtf8,
-    /// The text of the shape isn't one.
+    /// The text isn't a shape.
     Shape,
-    /// The JSON isn't any.
+    /// The text can't be read as JSON.
     Json,
     /// A value nests deeper than the settings allow.
     TooDeep,
@@ -28,14 +28,14 @@ pub(crate) enum FailureKind {
     TooLarge,
     /// The JSON is longer than the settings allow.
     TooLong,
-    /// Nothing stands at the path.
+    /// The path leads nowhere.
     Absent,
     /// The path isn't a key.
     Path,
 }
 
 impl FailureKind {
-    /// Returns the number that a call returns.
+    /// Returns the status of this kind.
     pub(crate) fn code(self) -> u32
         ensures code { result ≡ code_of self }
         ensures failed { IsDone result → ⊥ }
@@ -57,20 +57,20 @@ impl FailureKind {
     }
 }
 
-/// An error: its kind, its text, and where in the input it is.
+/// An error: its kind, text and position.
 #[derive(Debug, Drop)]
 pub(crate) struct Failure {
     pub(crate) kind: FailureKind,
-    /// The text for a user; an allocation that failed has none.
+    /// The text for a user; `None` if an allocation failed.
     pub(crate) text: Option<String>,
-    /// Of an input that can't be parsed, the number of bytes before the error; else 0.
+    /// The number of bytes before the error if a text can't be parsed; otherwise 0.
     pub(crate) position: usize,
 }
 
 impl Failure {
     ghost use Rattle.qs_c.specs.declared.failure.FailureKind.TheVariants.{OutOfMemory};
 
-    /// Returns the error that an allocation failed, which has neither a text nor a position.
+    /// Returns the error of a failed allocation. It has neither a text nor a position.
     pub(crate) fn out_of_memory() -> Failure
         ensures kind { result.kind ≡ OutOfMemory }
         ensures position { result.position ≡ 0 }
@@ -97,7 +97,7 @@ impl Failure {
     }
 }
 
-/// Returns the error of this kind, with this text and position, or that an allocation for the text failed.
+/// Returns the error of this kind, with this text and position, or `OutOfMemory` if the text can't be allocated.
 pub(crate) fn failure_at(alloc: Global, kind: FailureKind, text: &str, position: usize) -> Failure
     ensures { IsOutOfMemory result ⊎ ((result.kind ≡ kind) × (result.position ≡ position) × (text_of result ≡ text.now)) }
 {

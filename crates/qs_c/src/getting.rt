@@ -21,22 +21,25 @@ use qs_data::{Config, Data, Shape, read_value};
 use qs_tree::{ParsedValue, parse};
 use std::alloc::Global;
 
-/// Gets the decoded value at a path of the querystring, such as `user[name]` or `ids[0]`.
+/// Gets the decoded value at a path of the querystring, such as `user[name]`, or `ids[0]` for the first item of a list.
 ///
-/// The path is a key of a querystring, and is parsed as one: it may hold escapes, `%31` is a string key, and the depth limit and form mode
-/// hold for it too. It leads from map to map, and by an index to an item of a list: of `ids[0]=x` and of `ids[]=x` to the same, and of
-/// `ids=x`, which is a list of one. The value is what the shape `bytes` reads there: without a value it is empty, and of several values
-/// the last, unless the settings reject them.
+/// The path is a key, escaped as in the querystring. It is parsed as one: `%31` is a string key, and the depth limit and form mode apply.
+/// It leads from map to map by their keys. In a list a number is the index of an item, whether the list is written `ids[0]=x`, `ids[]=x`
+/// or `ids=x`.
 ///
-/// Returns 0 where the value stands at the front of `out`, and 1 where it doesn't fit there. `answer` has its length. Of an error `answer`
-/// has the length of its text, which stands at the front of `out` if it fits there. The errors, with position 0 where no other is given:
+/// The value is what the shape `bytes` reads from the part at the path, and may hold any bytes. A key without a value, as in `a`, gives an
+/// empty result. Several values, as in `a=1&a=2`, give the last, unless the settings reject them.
+///
+/// Returns 0 and puts the value at the front of `out`, or returns 1 if it doesn't fit there. `answer.len` is its length. Any other status
+/// is an error: `answer.len` is the length of its text, which is at the front of `out` if it fits there. The position is 0 except as the
+/// list says:
 ///
 /// - 2: an allocation failed; there is no text.
 /// - 3: a number in the settings is too large.
-/// - 4: the querystring has no tree. The position is how many bytes were parsed, and one more where the end was reached.
-/// - 5: a map stands at the path, or several values that the settings reject.
+/// - 4: the querystring can't be parsed. The position is how many of its bytes were parsed, plus one if the end was reached.
+/// - 5: the path leads to a map, or to several values that the settings reject.
 /// - 10: the querystring is larger than the settings allow.
-/// - 12: nothing stands at the path.
+/// - 12: the path leads nowhere.
 /// - 13: the path isn't a key.
 ///
 /// It allocates for both trees and the value, and frees them before it returns. The time grows with the querystring and the path.
@@ -91,7 +94,7 @@ fn value_at(
     bytes_at(alloc, config, &path, input)
 }
 
-// Returns the bytes to which a path leads, which has this tree.
+// Returns the bytes at the path.
 fn bytes_at(
     alloc: Global,
     config: Config,
@@ -105,12 +108,12 @@ fn bytes_at(
 {
     match read_at(alloc, config, path, input) {
         Ok(Some(bytes)) => Ok(bytes),
-        Ok(None) => Err(failure_at(alloc, FailureKind::Absent, "nothing stands at the path", 0)),
+        Ok(None) => Err(failure_at(alloc, FailureKind::Absent, "nothing is at the path", 0)),
         Err(error) => Err(failure_of(alloc, error)),
     }
 }
 
-// Reads the bytes to which a path leads, which has this tree; none where nothing stands there.
+// Reads the bytes at the path. Returns `None` if it leads nowhere.
 fn read_at(
     alloc: Global,
     config: Config,

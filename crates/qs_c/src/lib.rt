@@ -1,7 +1,7 @@
 //! Querystrings for programs in other languages: a static library of calls over bytes.
 //!
-//! `include/serde_qs.h` declares the calls, and docs/LIBRARY.md describes them. Each call puts what it returns into the caller's
-//! buffer, and keeps no memory.
+//! `include/serde_qs.h` declares the calls, and docs/LIBRARY.md describes them. Each call writes its result into the caller's buffer,
+//! and keeps no memory.
 #![tactic(auto)]
 
 mod answer;

@@ -1,4 +1,4 @@
-//! How large a querystring may be, and the JSON that is made of it.
+//! Limits on the size of a querystring and of its JSON.
 
 ghost use Rattle.std.specs.Prelude.{◌≡◌, ◌<◌, ◌⊎◌, IfOk, IfErr, length};
 ghost use Rattle.qs_c.specs.Limits.{IsBeyond, IsTooLarge, ampersands, is_beyond};
@@ -11,7 +11,7 @@ use crate::settings::Settings;
 use std::alloc::Global;
 
 impl Settings {
-    /// Returns nothing, unless the querystring is larger than the settings allow. The length is tested first.
+    /// Returns an error if the querystring is larger than the settings allow. The length is tested first.
     pub(crate) fn test_input(&self, alloc: Global, input: &[u8]) -> Result<(), Failure>
         ensures within { IfOk result (λ _. IsTooLarge self.now input.now → ⊥) }
         ensures none { IfErr result (λ failure. IsOutOfMemory failure ⊎ ((failure.kind ≡ kind.TooLarge) × (failure.position ≡ 0) × IsTooLarge self.now input.now × (text_of failure ≡ too_large_text self.now input.now))) }
@@ -36,7 +36,7 @@ impl Settings {
     }
 }
 
-/// Returns the JSON, unless it has more bytes than a limit, which 0 lifts.
+/// Returns the JSON, or an error if it has more than `most` bytes. A limit of 0 is none.
 pub(crate) fn test_output(alloc: Global, most: usize, json: Vec<u8>) -> Result<Vec<u8>, Failure>
     ensures json { IfOk result (λ text. text ≡ json) }
     ensures within { IfOk result (λ text. IsBeyond most (length json.items) → ⊥) }
@@ -53,14 +53,14 @@ pub(crate) fn test_output(alloc: Global, most: usize, json: Vec<u8>) -> Result<V
     Ok(json)
 }
 
-// Returns whether this is more than a limit, which 0 lifts.
+// Returns whether `n` is more than `most`. A limit of 0 is none.
 fn is_beyond(most: usize, n: usize) -> bool
     ensures { result ≡ is_beyond most n }
 {
     most > 0 && n > most
 }
 
-// Returns how many `&` there are.
+// Returns the number of `&`s.
 fn count_ampersands(input: &[u8]) -> usize
     ensures { result ≡ ampersands input.now }
 {

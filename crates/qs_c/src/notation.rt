@@ -1,4 +1,4 @@
-//! Shapes as text.
+//! The notation of shapes.
 
 mod class;
 mod cursor;
@@ -23,10 +23,10 @@ use qs_data::Shape;
 use std::alloc::Global;
 use stop::{Result, Stop};
 
-/// How deep a shape may nest. So a call takes little stack.
+/// How deep a shape may nest. With this limit a call needs little stack.
 const MOST_LEVELS: usize = 32;
 
-/// Parses the shape that the text is, in the notation of docs/LIBRARY.md. The names in each struct and enum differ.
+/// Parses a shape in the notation of docs/LIBRARY.md. No struct or enum in it has two fields or variants of the same name.
 pub(crate) fn shape_of_text(alloc: Global, text: &[u8]) -> std::result::Result<Shape, Failure>
     ensures shape { IfOk result (λ shape. IsNotation text.now (shape_of shape)) }
     ensures distinct { IfOk result (λ shape. is_distinct (shape_of shape) ≡ true) }
@@ -43,7 +43,7 @@ pub(crate) fn shape_of_text(alloc: Global, text: &[u8]) -> std::result::Result<S
     }
 }
 
-// Parses a shape, and nothing after it.
+// Parses a shape, after which the text has to end.
 fn whole_shape(alloc: Global, cursor: &mut Cursor<'_>) -> Result<Shape>
     ensures shape { Parses shape_of (and_then (shape 32 cursor.old.rest.now) whole) result cursor.new.rest.now }
     ensures end { OnOk result (cursor.new.rest.now ≡ []) }

@@ -1,4 +1,4 @@
-//! A path of a querystring, and the node to which it leads.
+//! A path, and the node to which it leads.
 
 ghost use Rattle.std.specs.Prelude.{◌≡◌, ◌⊎◌, IfOk, IfErr, IsTrue, option_map};
 ghost use Rattle.qs_spec.specs.Tree.{IsTree};
@@ -12,7 +12,7 @@ use crate::failure::{Failure, FailureKind, failure_at};
 use qs_tree::{Config, Error, Key, ParsedValue, parse};
 use std::alloc::Global;
 
-/// Parses a path, which is a key of a querystring without a value, and returns its tree.
+/// Parses a path, which is a key without a value, and returns its tree.
 pub(crate) fn parse_path(
     alloc: Global,
     config: Config,
@@ -35,14 +35,14 @@ pub(crate) fn parse_path(
     }
 }
 
-// Returns the error of a path that isn't one.
+// Returns the error of a path that isn't a key.
 fn no_path(alloc: Global) -> Failure
     ensures { IsOutOfMemory result ⊎ ((result.kind ≡ kind.Path) × (result.position ≡ 0) × (text_of result ≡ no_path_text)) }
 {
     failure_at(alloc, FailureKind::Path, "the path is not a key", 0)
 }
 
-// Returns whether the tree is that of a key without a value.
+// Returns whether the tree is a key without a value.
 fn is_key(tree: &ParsedValue<'_>) -> bool
     ensures { result ≡ is_key (tree_of tree.now) }
 {
@@ -56,7 +56,7 @@ fn is_key(tree: &ParsedValue<'_>) -> bool
     }
 }
 
-/// Returns the node to which the path with this tree leads from a node, if there is one. Calls itself for each segment.
+/// Returns the node to which the path leads from `node`, or `None`. Calls itself for each segment.
 pub(crate) fn find<'t, 'qs>(
     path: &ParsedValue<'_>,
     node: &'t ParsedValue<'qs>,
@@ -72,7 +72,7 @@ pub(crate) fn find<'t, 'qs>(
     find(below, child(node, key)?)
 }
 
-// Returns the node at a key: of a map the value there, and of a list the item at an index. A text is a list of one.
+// Returns the node at a key: the value in a map, or the item at an index in a list. A string is a list of one.
 fn child<'t, 'qs>(node: &'t ParsedValue<'qs>, key: &Key<'_>) -> Option<&'t ParsedValue<'qs>>
     ensures { option_map (λ v. tree_of v.now) result ≡ child (segment_of_key key.now) (tree_of node.now) }
 {
@@ -90,7 +90,7 @@ fn child<'t, 'qs>(node: &'t ParsedValue<'qs>, key: &Key<'_>) -> Option<&'t Parse
     }
 }
 
-// Returns the index that a key is, if it is one.
+// Returns the index if the key is an integer.
 fn index_of(key: &Key<'_>) -> Option<usize>
     ensures { result ≡ index_of (segment_of_key key.now) }
 {

@@ -27,17 +27,18 @@ use crate::showing::to_json;
 use qs_data::{Config, Data, Deserializer, Shape};
 use std::alloc::Global;
 
-/// Makes JSON of the querystring, read as whatever is there: strings, lists and maps.
+/// Reads the querystring into JSON, whatever it holds: `null`, strings, lists and maps.
 ///
-/// Returns 0 where the JSON stands at the front of `out`, and 1 where it doesn't fit there. `answer` has its length. Of an error `answer`
-/// has the length of its text, which stands at the front of `out` if it fits there. The errors, with position 0 where no other is given:
+/// Returns 0 and puts the JSON at the front of `out`, or returns 1 if it doesn't fit there. `answer.len` is its length. Any other status
+/// is an error: `answer.len` is the length of its text, which is at the front of `out` if it fits there. The position is 0 except as the
+/// list says:
 ///
 /// - 2: an allocation failed; there is no text.
 /// - 3: a number in the settings is too large.
-/// - 4: the querystring has no tree. The position is how many bytes were parsed, and one more where the end was reached.
-/// - 5 or 6: it has one, from which nothing is read.
-/// - 10: it is larger than the settings allow. That is tested before it is parsed.
-/// - 11: its JSON is longer than the settings allow.
+/// - 4: the querystring can't be parsed. The position is how many of its bytes were parsed, plus one if the end was reached.
+/// - 5 or 6: the querystring is parsed, but can't be read.
+/// - 10: the querystring is larger than the settings allow. That is tested before it is parsed.
+/// - 11: the JSON is longer than the settings allow.
 ///
 /// It allocates for the tree, the data and the JSON, and frees them before it returns. The time grows with the input and the JSON.
 ///
@@ -69,9 +70,9 @@ pub extern "C" fn qs_parse(
     }
 }
 
-/// Makes JSON of the querystring, read by a shape in the notation of docs/LIBRARY.md.
+/// Reads the querystring into JSON by a shape in the notation of docs/LIBRARY.md.
 ///
-/// What it returns is as that of [`qs_parse`], with one more error, which comes before those of the querystring:
+/// Returns the same statuses as [`qs_parse`], and one more, which takes precedence over 4, 5, 6 and 11:
 ///
 /// - 7: the text isn't a shape. The position is how many of its bytes were parsed.
 ///
@@ -125,7 +126,7 @@ fn parsed(alloc: Global, settings: &Settings, input: &[u8]) -> Result<Vec<u8>, F
     read_json(alloc, config, settings.max_output, &Shape::Any, input)
 }
 
-// Returns the JSON of what the shape in the notation reads.
+// Parses the shape, and returns the JSON of what it reads.
 #[tactic(auto, using(crate::proofs::Messages::read_result))]
 fn read(alloc: Global, settings: &Settings, shape: &[u8], input: &[u8]) -> Result<Vec<u8>, Failure>
     ensures text { IfOk result (λ text. IsReadByText (config_of settings.now) shape.now input.now text.items) }
@@ -145,7 +146,7 @@ fn read(alloc: Global, settings: &Settings, shape: &[u8], input: &[u8]) -> Resul
     read_json(alloc, config, settings.max_output, &shape, input)
 }
 
-// Returns the JSON of the data that the shape reads, unless it has more bytes than the limit, which 0 lifts.
+// Returns the JSON of what the shape reads, or an error if it has more than `most` bytes. A limit of 0 is none.
 #[tactic(auto, using(crate::proofs::Messages::failure_unread))]
 fn read_json(
     alloc: Global,
@@ -167,7 +168,7 @@ fn read_json(
     }
 }
 
-// Returns what a shape reads from the input.
+// Returns what the shape reads from the input.
 fn read_data(alloc: Global, config: Config, shape: &Shape, input: &[u8]) -> qs_data::Result<Data>
     requires { is_distinct (shape_of shape.now) ≡ true }
     ensures data { IfOk result (λ datum. IsReadBy config (shape_of shape.now) input.now (data_of datum)) }

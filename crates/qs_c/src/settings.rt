@@ -1,4 +1,4 @@
-//! How a querystring is read and written, as a caller says it.
+//! How a querystring is read and written.
 
 ghost use Rattle.std.specs.Prelude.{◌≡◌, ◌<◌, ◌≤◌, ◌⊎◌, IfOk, IfErr};
 ghost use Rattle.qs_tree.specs.Settings.{array_format_of, duplicates_of as behavior_of};
@@ -11,7 +11,7 @@ use crate::failure::{Failure, FailureKind, failure_at};
 use qs_data::{ArrayFormat, Config, DuplicateKeyBehavior};
 use std::alloc::Global;
 
-/// The deepest nesting that may be asked for. So a call takes little stack, and what is read nests as deep as JSON may be.
+/// The largest `max_depth`. With it a call needs little stack, and what is read nests no deeper than JSON may.
 const MOST_DEPTH: usize = 100;
 
 /// How a querystring is read and written.
@@ -25,24 +25,24 @@ const MOST_DEPTH: usize = 100;
 pub struct Settings {
     /// How many levels of brackets may follow the first key, 100 at most.
     pub max_depth: usize,
-    /// Form mode, or else query mode.
+    /// `true` for form mode, where brackets may be encoded; `false` for query mode.
     pub form: bool,
     /// How the index of a list's element is written: 0 by its number, 1 by empty brackets, 2 not at all.
     pub array_format: u8,
-    /// Whether several values where one is asked for are an error; else the last one is taken.
+    /// Whether several values are an error if one is wanted; otherwise the last is taken.
     pub reject_duplicates: bool,
-    /// How many bytes a querystring that is read may have; 0 for any number.
+    /// The most bytes of a querystring that is read; 0 for no limit.
     pub max_length: usize,
-    /// How many pairs it may have, which are the pieces between its `&`s; 0 for any number.
+    /// The most pairs (the pieces between `&`s) of a querystring that is read; 0 for no limit.
     pub max_pairs: usize,
-    /// How many bytes the JSON may have that is made of it; 0 for any number.
+    /// The most bytes of the JSON that is returned; 0 for no limit.
     pub max_output: usize,
-    /// 0. A later version may give another number a meaning.
+    /// Must be 0. A later version may give other numbers a meaning.
     pub reserved: usize,
 }
 
 impl Settings {
-    /// Returns the configuration, unless a number in the settings is too large.
+    /// Returns the configuration, or an error if a number in the settings is too large.
     pub(crate) fn config(&self, alloc: Global) -> Result<Config, Failure>
         ensures config { IfOk result (λ config. config ≡ config_of self.now) }
         ensures sound { IfOk result (λ config. AreNone self.now → ⊥) }
@@ -70,7 +70,7 @@ impl Settings {
         )
     }
 
-    // Returns the array format that the number says.
+    // Returns the array format with this number.
     fn elements(&self, alloc: Global) -> Result<ArrayFormat, Failure>
         ensures format { IfOk result (λ format. array_format_of format ≡ format_of self.now.array_format) }
         ensures sound { IfOk result (λ format. 2 < self.now.array_format → ⊥) }
@@ -89,7 +89,7 @@ impl Settings {
         }
     }
 
-    // Returns what happens to repeated values where one value is read.
+    // Returns what happens to repeated values if one is wanted.
     fn duplicates(&self) -> DuplicateKeyBehavior
         ensures { behavior_of result ≡ duplicates_of self.now.reject_duplicates }
     {

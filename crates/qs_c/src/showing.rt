@@ -19,7 +19,7 @@ pub(crate) fn to_json(alloc: Global, datum: &Data) -> Result<Vec<u8>, AllocError
     Ok(writer.into_inner())
 }
 
-// Writes the data. It calls itself for each level.
+// Writes the data. Calls itself for each level.
 #[cycle(show)]
 #[tactic(auto, using(qs_data::proofs::lemmas::data::Levels::levels))]
 fn show(alloc: Global, writer: &mut Writer, datum: &Data) -> Result<(), AllocError>
@@ -70,7 +70,7 @@ fn show_items(alloc: Global, writer: &mut Writer, items: &Vec<Data>) -> Result<(
     writer.end_array()
 }
 
-// Writes the pairs of a map as an object, whose names are the texts of their keys.
+// Writes the pairs of a map as an object, with the text of each key as its name.
 #[cycle(show)]
 fn show_pairs(
     alloc: Global,
@@ -106,7 +106,7 @@ fn show_members(
     writer.end_object()
 }
 
-// Begins the object of a variant, up to what it holds.
+// Begins the object of a variant, up to the variant's value.
 fn begin_variant(writer: &mut Writer, name: &str) -> Result<(), AllocError>
     ensures tokens { OnOk result (writer.new.tokens ≡ writer.old.tokens ++ begin_object ∷ a_key name.now ∷ []) }
     ensures before { writer.new.before ≡ writer.old.before }
@@ -127,7 +127,7 @@ fn show_bytes(writer: &mut Writer, bytes: &Vec<u8>) -> Result<(), AllocError>
     writer.end_array()
 }
 
-// Writes the key of a map: the text that it is read from, and the empty one for what is never a key.
+// Writes the key of a map: the text from which it is read, or an empty one for data that is never a key.
 fn show_key(alloc: Global, writer: &mut Writer, key: &Data) -> Result<(), AllocError>
     ensures tokens { OnOk result (writer.new.tokens ≡ writer.old.tokens ++ a_key (key_of (data_of key.now)) ∷ []) }
     ensures before { writer.new.before ≡ writer.old.before }

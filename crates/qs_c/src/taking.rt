@@ -1,4 +1,4 @@
-//! Data of JSON.
+//! JSON as data.
 
 ghost use Rattle.std.specs.Prelude.{◌≡◌, ◌⊎◌, map, None, IfOk, IfErr};
 ghost use Rattle.std.specs.Str.{IsUtf8};
@@ -14,7 +14,7 @@ use json::{MAX_DEPTH, Reader, Scratch, Value};
 use qs_data::Data;
 use std::alloc::{AllocError, Global};
 
-/// Returns the data that the JSON is.
+/// Parses the JSON, and returns it as data.
 #[tactic(auto, using(crate::proofs::Messages::text_of_json))]
 pub(crate) fn taken(alloc: Global, text: &[u8]) -> Result<Data, Failure>
     ensures json { IfOk result (λ datum. IsJsonOf text.now (data_of datum)) }
@@ -34,7 +34,7 @@ pub(crate) fn taken(alloc: Global, text: &[u8]) -> Result<Data, Failure>
     }
 }
 
-// Returns where the JSON can't be read on, which is read once more.
+// Reads the JSON again, and returns where that stops.
 fn error_position(alloc: Global, text: &str) -> Result<usize, AllocError> {
     let mut scratch = Scratch::new(alloc);
     let mut reader = Reader::new(text, &mut scratch)?;
@@ -44,7 +44,7 @@ fn error_position(alloc: Global, text: &str) -> Result<usize, AllocError> {
     }
 }
 
-// Returns the data that the value is. It calls itself for each level.
+// Returns the value as data. Calls itself for each level.
 #[cycle(take)]
 #[tactic(auto, using(qs_data::proofs::lemmas::data::Levels::levels))]
 fn take(alloc: Global, value: &Value<'_>) -> Result<Data, AllocError>
@@ -59,7 +59,7 @@ fn take(alloc: Global, value: &Value<'_>) -> Result<Data, AllocError>
     }
 }
 
-// Returns the data of each item.
+// Returns the items as data.
 #[cycle(take)]
 fn take_items(alloc: Global, items: &Vec<Value<'_>>) -> Result<Vec<Data>, AllocError>
     ensures { IfOk result (λ taken. map data_of taken.items ≡ map item_data items.now.items) }
@@ -71,7 +71,7 @@ fn take_items(alloc: Global, items: &Vec<Value<'_>>) -> Result<Vec<Data>, AllocE
     Ok(taken)
 }
 
-// Returns the data of each member, under its name as a text.
+// Returns the members as data, with their names as text.
 #[cycle(take)]
 fn take_members(
     alloc: Global,

@@ -1,11 +1,10 @@
-//! Which library this is.
+//! The version of the library.
 
 ghost use Rattle.std.specs.Prelude.{◌≡◌, ◌+◌, ◌*◌};
 
-/// Returns the version of the library, and the number of the notation of shapes: from the highest byte down 1, 1, 3, and 1.
+/// Returns the version of the library and the number of the notation of shapes: from the highest byte down, 1, 1, 3 and 1.
 ///
-/// It is the header's `QS_VERSION` where the program was compiled with the header of this library. It doesn't allocate, and takes
-/// constant time.
+/// It equals `QS_VERSION` if the program was compiled with this library's header. It doesn't allocate, and takes constant time.
 ///
 /// ```
 /// if (qs_version() != QS_VERSION) abort(); // the header is of another library

@@ -24,14 +24,14 @@ use std::alloc::Global;
 
 /// Writes the JSON as a querystring.
 ///
-/// Returns 0 where the querystring stands at the front of `out`, and 1 where it doesn't fit there. `answer` has its length. Of an error
-/// `answer` has the length of its text, which stands at the front of `out` if it fits there. The errors, with position 0 where no other is
-/// given:
+/// Returns 0 and puts the querystring at the front of `out`, or returns 1 if it doesn't fit there. `answer.len` is its length. Any other
+/// status is an error: `answer.len` is the length of its text, which is at the front of `out` if it fits there. The position is 0 except
+/// as the list says:
 ///
 /// - 2: an allocation failed; there is no text.
 /// - 3: a number in the settings is too large.
-/// - 8: the JSON isn't UTF-8, or is none. The position is where it can't be read on.
-/// - 9: its data nest deeper than the settings allow.
+/// - 8: the text isn't UTF-8, or can't be read as JSON. The position is where reading it stopped.
+/// - 9: the JSON nests deeper than the settings allow.
 ///
 /// It allocates for the data and the querystring, and frees them before it returns. The time grows with the JSON and the querystring.
 ///
@@ -61,7 +61,7 @@ pub extern "C" fn qs_write(
     }
 }
 
-// Returns the querystring of data that are JSON.
+// Returns the JSON as a querystring.
 #[tactic(auto, using(crate::proofs::Messages::failure_unwritten))]
 fn written(alloc: Global, settings: &Settings, json: &[u8]) -> Result<Vec<u8>, Failure>
     ensures text { IfOk result (λ text. IsWritten (config_of settings.now) json.now text.items) }
@@ -79,7 +79,7 @@ fn written(alloc: Global, settings: &Settings, json: &[u8]) -> Result<Vec<u8>, F
     }
 }
 
-// Returns the text that the data are written as.
+// Returns the data as a querystring.
 fn text_of(alloc: Global, config: Config, datum: &Data) -> qs_data::Result<Vec<u8>>
     ensures whole { IfOk result (λ text. (entries config (data_of datum.now)).error ≡ None) }
     ensures text { IfOk result (λ text. text.items ≡ written config.form false (entries config (data_of datum.now)).entries) }

@@ -1,4 +1,4 @@
--- The words that a reader must believe, beside those of serde_qs: all modules. They say what the examples of callers promise.
+-- The definitions to review, in addition to those in serde_qs: all modules. They define what the example callers promise.
 pub mod Query
 pub mod Guard
 pub mod Client

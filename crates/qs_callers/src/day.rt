@@ -1,4 +1,4 @@
-//! The visits of a day: a struct that is only read, and its fields too.
+//! The visits of a day: a struct that is only read, as are its fields.
 
 ghost use Rattle.qs_callers.specs.declared.day.TheConstants.{NAMES};
 ghost use Rattle.serde_qs.specs.PartTables.{made_of};

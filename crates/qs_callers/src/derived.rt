@@ -1,4 +1,4 @@
-//! The search page, the posted form and the client once more, with types that have serde's derives.
+//! The search page, the posted form and the client again, with types that have serde's derives.
 
 mod client;
 mod order;

@@ -19,7 +19,7 @@ pub struct FieldError {
 
 /// Returns the value that is read from a form, or the error of its wrong field if no value is read.
 ///
-/// The one error is that an allocation failed.
+/// The only error is that an allocation failed.
 ///
 /// ```
 /// let reply = submitted::<Person>(alloc, b"name=Alice&age=300")?; // of the field `age`: expected u8, found the text "300"

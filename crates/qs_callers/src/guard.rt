@@ -1,4 +1,4 @@
-//! Limits in front of a typed call.
+//! Limits that are checked before a typed call.
 
 ghost use Rattle.qs_callers.specs.Guard.{Guards};
 
@@ -11,7 +11,7 @@ use std::alloc::Global;
 pub enum Rejected {
     /// The input is too large, and wasn't parsed.
     TooLarge(LimitError),
-    /// The input is no query.
+    /// The input isn't a query.
     Unread(Error),
 }
 

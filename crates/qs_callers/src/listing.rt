@@ -1,4 +1,4 @@
-//! A listing: a struct of four fields, of which one has an enum for its type.
+//! A listing: a struct of four fields, one of them an enum.
 
 ghost use Rattle.qs_callers.specs.declared.listing.TheConstants.{NAMES};
 ghost use Rattle.serde_qs.specs.PartTables.{made_of};

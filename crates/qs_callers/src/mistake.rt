@@ -9,7 +9,7 @@ use std::alloc::{AllocError, Global};
 
 /// Returns the value that is read from an input, or one line for the user that names the wrong part if no value is read.
 ///
-/// The one error is that an allocation failed.
+/// The only error is that an allocation failed.
 #[tactic(auto, using(crate::proofs::Unread::unread))]
 pub fn explained<T: Deserialize>(alloc: Global, input: &str) -> Result<Result<T, String>, Error>
     ensures { Replies T.table.value default T.table.form T.table.meaning input.now result }

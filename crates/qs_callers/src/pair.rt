@@ -1,4 +1,4 @@
-//! Two values under the names `a` and `b`, of whatever types whose values come back.
+//! Two values under the names `a` and `b`, of any types whose values are read back as they were written.
 
 ghost use Rattle.qs_callers.specs.declared.pair.TheConstants.{NAMES};
 ghost use Rattle.serde_qs.specs.PartTables.{made_of};

@@ -1,4 +1,4 @@
-//! A price: a struct round one value.
+//! A price: a struct around one value.
 
 ghost use Rattle.serde_qs.specs.PartTables.{made_of};
 ghost use Rattle.std.specs.Prelude.{[]};

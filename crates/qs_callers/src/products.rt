@@ -20,7 +20,7 @@ use std::collections::BTreeMap;
 /// Which products are shown, and the page of them.
 #[derive(Debug, PartialEq, Drop)]
 pub struct Products {
-    /// What a product has to be, as its colour: `filter[colour]=red`.
+    /// What a product has to be, for example its colour: `filter[colour]=red`.
     pub filter: BTreeMap<String, String>,
     /// What it costs: `price[from]=10&price[to]=20`.
     pub price: Option<Range>,

@@ -1,4 +1,4 @@
-//! A profile: a struct of ten fields, of which one has an enum for its type.
+//! A profile: a struct of ten fields, one of them an enum.
 
 ghost use Rattle.qs_callers.specs.declared.profile.TheConstants.{NAMES};
 ghost use Rattle.serde_qs.specs.PartTables.{made_of};

@@ -9,7 +9,7 @@ use serde_qs::{Data, Result, Serialize, struct_of};
 use std::alloc::Global;
 use std::collections::BTreeMap;
 
-/// Numbers with a title, and how often each name came.
+/// Numbers with a title, and how often each name occurred.
 #[derive(Debug, PartialEq, Drop)]
 pub struct Report {
     pub title: String,

@@ -1,4 +1,4 @@
-//! Equal keys, trees and data: what the laws of `==` say of a comparison's result.
+//! Equal keys, trees and data, by the laws of `==`.
 
 ghost use Rattle.std.specs.Prelude.{◌≡◌, ◌↔◌, IsTrue};
 ghost use Rattle.qs_spec.specs.Order.{unmarked};
@@ -10,7 +10,7 @@ use qs_data::{Data, equality_of_data};
 use qs_tree::{Key, ParsedValue, equality_of_keys, equality_of_values, order_of_keys};
 use std::cmp::Ordering;
 
-/// Returns whether two data are the same.
+/// Returns whether both are the same data.
 pub fn is_same_data(a: &Data, b: &Data) -> bool
     ensures { IsTrue result ↔ data_of a.now ≡ data_of b.now }
 {

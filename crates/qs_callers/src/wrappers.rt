@@ -92,14 +92,14 @@ pub fn form_inside<T>(form: &QsForm<T>) -> &T
     form.deref()
 }
 
-/// Returns the text of a query, which is its value's.
+/// Returns the text of a query, which is the text of its value.
 pub fn query_text<T: Display>(alloc: Global, query: &QsQuery<T>) -> Result<String, AllocError>
     ensures { IfOk result (λ text. IfSome (T.output query.now.0) (λ bytes. string_bytes text ≡ bytes)) }
 {
     query.to_string(alloc)
 }
 
-/// Returns the text of a form, which is its value's.
+/// Returns the text of a form, which is the text of its value.
 pub fn form_text<T: Display>(alloc: Global, form: &QsForm<T>) -> Result<String, AllocError>
     ensures { IfOk result (λ text. IfSome (T.output form.now.0) (λ bytes. string_bytes text ≡ bytes)) }
 {

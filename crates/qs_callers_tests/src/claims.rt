@@ -1,4 +1,4 @@
-//! What the tests claim of values, of what is written and read, and of errors.
+//! What the tests claim about values, about what is written and read, and about errors.
 
 use crate::round_trips::comes_back;
 use serde_qs::{Deserialize, Error, Result, RoundTrip, Serialize, from_str, to_string};
@@ -21,17 +21,17 @@ pub fn is_equal<R: Abort, T: PartialEq + Debug + Drop>(rt: &R, found: T, wanted:
     assert!(rt; found == wanted, "{found:?}");
 }
 
-/// Claims that there is a value, this one.
+/// Claims that the call returns this value.
 pub fn gives<R: Abort, T: PartialEq + Debug + Drop>(rt: &R, outcome: Result<T>, wanted: T) {
     is_equal(rt, outcome.expect(rt, "a value"), wanted);
 }
 
-/// Claims that there is a text, this one.
+/// Claims that the call returns this text.
 pub fn gives_text<R: Abort>(rt: &R, outcome: Result<String>, wanted: &str) {
     is_text(rt, outcome.expect(rt, wanted).as_str(), wanted);
 }
 
-/// Claims that there is an error with this message, a `Custom`.
+/// Claims that the call returns a `Custom` error with this message.
 pub fn fails<R: Abort, T: Drop>(rt: &R, outcome: Result<T>, wanted: &str) {
     match outcome {
         Ok(_) => panic!(rt; "a value, and not: {wanted}"),
@@ -40,7 +40,7 @@ pub fn fails<R: Abort, T: Drop>(rt: &R, outcome: Result<T>, wanted: &str) {
     }
 }
 
-/// Claims that the error is one of a text that isn't UTF-8.
+/// Claims that the call returns a `Utf8` error.
 pub fn is_not_utf8<R: Abort, T: Drop>(rt: &R, outcome: Result<T>, input: &str) {
     assert!(rt; matches!(outcome, Err(Error::Utf8(_))), "{input}");
 }
@@ -55,14 +55,14 @@ pub fn is_read<R: Abort, T: Deserialize + PartialEq + Debug + Drop>(
     gives(rt, from_str(alloc, input), wanted);
 }
 
-/// Claims that no `T` is read from each of these inputs, with the message beside it.
+/// Claims that no `T` is read from any of these inputs, and that the error has the message beside it.
 pub fn are_rejected<R: Abort, T: Deserialize + Drop>(rt: &R, alloc: Global, rows: &[(&str, &str)]) {
     for &(input, wanted) in rows {
         is_rejected::<R, T>(rt, alloc, input, wanted);
     }
 }
 
-/// Claims that no `T` is read from the input, with this message.
+/// Claims that no `T` is read from the input, and that the error has this message.
 pub fn is_rejected<R: Abort, T: Deserialize + Drop>(
     rt: &R,
     alloc: Global,
@@ -79,12 +79,12 @@ pub fn is_rejected<R: Abort, T: Deserialize + Drop>(
     }
 }
 
-/// Claims that the value is written so.
+/// Claims that the value is written as this text.
 pub fn is_written<R: Abort, T: Serialize>(rt: &R, alloc: Global, value: &T, wanted: &str) {
     gives_text(rt, to_string(alloc, value), wanted);
 }
 
-/// Claims that the value is written so, and comes back from what is written of it.
+/// Claims that the value is written as this text, and that it is read back in both modes.
 pub fn is_written_and_read<R: Abort, T: RoundTrip + PartialEq + Drop>(
     rt: &R,
     alloc: Global,
@@ -95,7 +95,7 @@ pub fn is_written_and_read<R: Abort, T: RoundTrip + PartialEq + Drop>(
     comes_back(rt, alloc, value);
 }
 
-/// Claims that the value that is read from the input is written as the input.
+/// Claims that the value that is read from the input is written as the same text.
 pub fn is_written_as_read<R: Abort, T: Deserialize + Serialize + Drop>(
     rt: &R,
     alloc: Global,

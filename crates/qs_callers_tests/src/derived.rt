@@ -1,5 +1,5 @@
-//! The search page, the posted form and the client, with types that have serde's derives. The values are those that the Rust crate `serde_qs`
-//! 1.1.3 reads and writes of the same types.
+//! The search page, the posted form and the client, with types that have serde's derives. The Rust crate `serde_qs` 1.1.3 reads and writes
+//! the same values of the same types.
 
 use crate::claims::{gives_text, is_equal, is_text};
 use crate::values::{list, text};

@@ -1,4 +1,4 @@
-//! Enums and tuples in structs and lists: which error is reported where there are several.
+//! Enums and tuples in structs and lists: which error is reported if there are several.
 
 use crate::claims::{are_rejected, is_not_utf8, is_read};
 use qs_callers::{Method, Pair, Place, Sort, Span};

@@ -1,11 +1,11 @@
-//! What a form's page says of the field that is wrong.
+//! What a form's page says about the wrong field.
 
 use crate::claims::{holds, is_text};
 use qs_callers::{FieldError, Order, Query, explained, submitted};
 use std::alloc::Global;
 use std::process::Abort;
 
-// Returns what the page says of a form from which no order is read.
+// Returns what the page says about a form that isn't read as an order.
 fn rejected<R: Abort>(rt: &R, alloc: Global, form: &[u8]) -> FieldError {
     match submitted::<Order>(alloc, form) {
         Ok(Err(report)) => report,
@@ -13,7 +13,7 @@ fn rejected<R: Abort>(rt: &R, alloc: Global, form: &[u8]) -> FieldError {
     }
 }
 
-// Claims that the page names this field of the form, and says this of it.
+// Claims that the page names this field of the form, with this message.
 fn is_reported<R: Abort>(rt: &R, alloc: Global, form: &[u8], field: &str, message: &str) {
     let report = rejected(rt, alloc, form);
     assert!(rt; report.field.as_str() == field, "{report:?}");

@@ -7,7 +7,7 @@ use serde_qs::{LimitError, Limits};
 use std::alloc::Global;
 use std::process::Abort;
 
-// Claims that the input is rejected for this, which is shown so.
+// Claims that the input is rejected with this error, which is printed as this text.
 fn is_too_large<R: Abort>(rt: &R, alloc: Global, limits: Limits, error: LimitError, shown: &str) {
     match guarded(alloc, limits, ALICE.as_bytes()) {
         Err(Rejected::TooLarge(found)) => is_equal(rt, found, error),
@@ -17,7 +17,7 @@ fn is_too_large<R: Abort>(rt: &R, alloc: Global, limits: Limits, error: LimitErr
     is_text(rt, text.as_str(), shown);
 }
 
-// Claims that the limits reject the input for this, or let it pass.
+// Claims that the limits reject the input with this error, or accept it.
 fn is_checked<R: Abort>(rt: &R, limits: Limits, input: &[u8], wanted: Result<(), LimitError>) {
     is_equal(rt, limits.check(input), wanted);
 }

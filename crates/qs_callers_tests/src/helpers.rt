@@ -27,7 +27,7 @@ fn text_of(outcome: Result<Data>) -> Result<String> {
     }
 }
 
-// Claims that data are this text.
+// Claims that the data is this text.
 fn is_datum<R: Abort>(rt: &R, outcome: Result<Data>, wanted: &str) {
     gives_text(rt, text_of(outcome), wanted);
 }

@@ -1,4 +1,4 @@
-//! An enum with every kind of variant, and names as other programs write them.
+//! An enum with every kind of variant, and names in the style of other programs.
 
 ghost use Rattle.qs_callers_tests.specs.declared.kinds.Message.TheVariants.{Unit as Empty, Newtype as One, Tuple as Two, Struct as Named};
 ghost use Rattle.qs_callers_tests.specs.declared.kinds.TheConstants.{MESSAGE_NAMES, LOUD_NAMES, PERSON_NAMES};
@@ -61,7 +61,7 @@ impl Compound for Message {
     }
 }
 
-/// Fields under names in capitals.
+/// Fields with names in capitals.
 #[derive(Debug, PartialEq, Drop)]
 struct Loud {
     one: u32,

@@ -1,4 +1,4 @@
-//! Nodes of a tree, each read by itself.
+//! Nodes of a tree, each read on its own.
 
 use crate::claims::{fails, gives, holds, is_equal, is_not_utf8, is_text};
 use crate::values::{list, text, tree};
@@ -45,7 +45,7 @@ fn by_its_parts(rt: HostRuntime) {
     holds(&rt, Shape::Option(part).is_option(), "an option");
 }
 
-// Returns the second of `ids`.
+// Returns the second item of `ids`.
 fn second_id(reader: Reader, tree: &ParsedValue<'_>) -> Result<Option<Data>> {
     let ParsedValue::Map(map) = tree else {
         return Ok(None);
@@ -98,7 +98,7 @@ fn by_a_name(rt: HostRuntime) {
     let two = Some(Data::Unsigned(2));
     gives(&rt, number_of(alloc, &tree, "b"), two);
     gives(&rt, number_of(alloc, &tree, "c"), None);
-    // the integer and the string key have one text
+    // the integer key and the string key have the same text
     gives(&rt, number_of(alloc, &tree, "1"), None);
 }
 
@@ -122,7 +122,7 @@ fn tested(alloc: Global, tree: &ParsedValue<'_>) -> Result<()> {
         .map_err(|key| key.into_error(alloc))
 }
 
-// Returns the number under a name, if there is one value alone.
+// Returns the number under a name, if the name has exactly one value.
 fn number_of(alloc: Global, tree: &ParsedValue<'_>, name: &str) -> Result<Option<Data>> {
     let ParsedValue::Map(map) = tree else {
         return Ok(None);

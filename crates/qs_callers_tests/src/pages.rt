@@ -51,7 +51,7 @@ fn a_posted_form(rt: HostRuntime) {
     comes_back(&rt, alloc, order(&rt, alloc));
 }
 
-// Returns a link with two parameters, each under its name, in this order or the other.
+// Returns a link with two named parameters, in one order or the other.
 fn link(alloc: Global, is_page_first: bool) -> Result<String> {
     let link = Link::to(alloc, "/found")?;
     let words = String::from_str(alloc, "red & blue")?;
@@ -81,7 +81,7 @@ fn a_link(rt: HostRuntime) {
     is_link(&rt, alloc, false, "/found?text=red+%26+blue&page=2");
 }
 
-// Claims that the server reads what the client wrote, and the value is written as before.
+// Claims that the client writes this text, and that the server reads the same query from it.
 fn is_served<R: Abort>(rt: &R, alloc: Global, query: Query, wanted: &str) {
     gives_text(rt, target(alloc, "/users", &query), wanted);
     let again = exchanged(alloc, &query).expect(rt, wanted);

@@ -8,7 +8,7 @@ use std::alloc::Global;
 use std::collections::BTreeMap;
 use std::process::Abort;
 
-/// Claims that the value comes back from what is written of it, in both modes.
+/// Claims that the value is read back from the text that it is written as, in both modes.
 pub(crate) fn comes_back<R: Abort, T: RoundTrip + PartialEq + Drop>(
     rt: &R,
     alloc: Global,
@@ -18,7 +18,7 @@ pub(crate) fn comes_back<R: Abort, T: RoundTrip + PartialEq + Drop>(
     comes_back_by(rt, alloc, Config::new().use_form_encoding(true), &value);
 }
 
-/// Claims that the pair of these comes back from what is written of it, in both modes.
+/// Claims that the pair of these values is read back from the text that it is written as, in both modes.
 pub(crate) fn pair_comes_back<
     R: Abort,
     A: RoundTrip + PartialEq + Drop,
@@ -27,7 +27,7 @@ pub(crate) fn pair_comes_back<
     comes_back(rt, alloc, Pair { a, b });
 }
 
-// Claims that the value comes back from what this configuration writes of it.
+// Claims that the value is read back from the text that this configuration writes.
 fn comes_back_by<R: Abort, T: RoundTrip + PartialEq + Drop>(
     rt: &R,
     alloc: Global,
@@ -74,7 +74,7 @@ const TEXTS: &[&str] = &[
     "50%",
 ];
 
-// Claims that the text comes back, as a value and as a key.
+// Claims that the text is read back, as a value and as a key.
 fn text_comes_back<R: Abort>(rt: &R, alloc: Global, row: &str) {
     pair_comes_back(rt, alloc, text(rt, alloc, row), true);
     // an empty key in brackets would be a push
@@ -83,7 +83,7 @@ fn text_comes_back<R: Abort>(rt: &R, alloc: Global, row: &str) {
         a: text(rt, alloc, row),
         b: one(rt, alloc, key, 1u8),
     };
-    // a key's brackets are brackets in form mode, even where they are escaped
+    // in form mode a key's brackets are brackets even if they are escaped
     if row.contains('[') {
         comes_back_by(rt, alloc, Config::new(), &pair);
     } else {
@@ -144,7 +144,7 @@ fn lists(rt: HostRuntime) {
     pair_comes_back(&rt, alloc, many, pairs);
 }
 
-// Returns lists of numbers, of which one is empty.
+// Returns lists of numbers, one of them empty.
 fn nested<R: Abort>(rt: &R, alloc: Global) -> Vec<Vec<u8>> {
     let first = list(rt, alloc, [1, 2]);
     let last = list(rt, alloc, [3, 4, 5]);

@@ -25,7 +25,7 @@ fn are_same<R: Abort>(rt: &R, alloc: Global, a: &str, b: &str, wanted: bool) {
 #[test]
 fn trees(rt: HostRuntime) {
     let alloc = rt.alloc();
-    // an escaped value is owned, and is the same
+    // an escaped value is owned, but equal
     are_same(&rt, alloc, "b=2&a=x", "a=%78&b=2", true);
     are_same(&rt, alloc, "b=2&a=x", "a=x&b=3", false);
 }

@@ -80,7 +80,7 @@ const IN_ANOTHER: &[(&str, &str)] = &[
 #[test]
 fn one_in_another(rt: HostRuntime) {
     let alloc = rt.alloc();
-    // by their indices, where further ones are ignored
+    // a list is read by the fields' indices; further items are ignored
     let input = "amount=5&method[]=1&method[]=2&method[]=3";
     let payment: Payment<Payment<u8>> = from_str(alloc, input).expect(&rt, "a payment");
     is_equal(&rt, payment.method.amount, 1);

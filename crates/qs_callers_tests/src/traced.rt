@@ -10,14 +10,14 @@ use std::process::Abort;
 /// Inputs, each with its error, which begins with the path.
 type Rows<'a> = &'a [(&'a [u8], &'a str)];
 
-// Claims that no `T` is read from each of these inputs, with the line beside it.
+// Claims that no `T` is read from any of these inputs, and that the error is printed as the line beside it.
 fn are_named<R: Abort, T: Deserialize + Drop>(rt: &R, alloc: Global, rows: Rows<'_>) {
     for &(input, line) in rows {
         is_named::<R, T>(rt, alloc, input, line);
     }
 }
 
-// Claims that no `T` is read from the input, with this line.
+// Claims that no `T` is read from the input, and that the error is printed as this line.
 fn is_named<R: Abort, T: Deserialize + Drop>(rt: &R, alloc: Global, input: &[u8], line: &str) {
     match read_explained::<T>(alloc, Config::new(), input) {
         Ok(Err(rejection)) => is_text(

@@ -1,4 +1,4 @@
-//! Values in memory of their own, and those that many tests read.
+//! Owned values, and values that many tests read.
 
 use qs_callers::Query;
 use qs_tree::{Config, ParsedValue, parse};
@@ -20,12 +20,12 @@ pub fn tree<'qs, R: Abort>(rt: &R, alloc: Global, input: &'qs str) -> ParsedValu
     parse(alloc, input.as_bytes(), Config::new()).expect(rt, "a tree")
 }
 
-/// Returns the string, in memory of its own.
+/// Returns the text as an owned string.
 pub fn text<R: Abort>(rt: &R, alloc: Global, text: &str) -> String {
     String::from_str(alloc, text).expect(rt, "memory")
 }
 
-/// Returns the list of these.
+/// Returns a list of these items.
 pub fn list<R: Abort, T: Drop, const N: usize>(rt: &R, alloc: Global, items: [T; N]) -> Vec<T> {
     Vec::from_array(alloc, items).expect(rt, "memory")
 }
@@ -43,7 +43,7 @@ pub fn with<R: Abort, T: Drop>(
     map
 }
 
-/// Returns the map with one entry.
+/// Returns a map with one entry.
 pub fn one<R: Abort, T: Drop>(rt: &R, alloc: Global, key: &str, value: T) -> BTreeMap<String, T> {
     with(rt, alloc, BTreeMap::new(alloc), key, value)
 }

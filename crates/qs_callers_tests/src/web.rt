@@ -92,7 +92,7 @@ fn text_of_the_value_inside(rt: HostRuntime) {
     is_text(&rt, number.as_str(), "7");
 }
 
-// Claims that the error is printed so.
+// Claims that the error is printed as this text.
 fn is_shown<R: Abort>(rt: &R, alloc: Global, error: Error, wanted: &str) {
     let shown = format!(in alloc; "{error}").expect(rt, "memory");
     is_text(rt, shown.as_str(), wanted);

@@ -17,7 +17,7 @@ fn is_written_by<R: Abort>(rt: &R, alloc: Global, config: Config) {
     is_put(rt, result, out, ALICE);
 }
 
-// Claims that all was put, and is this text.
+// Claims that the call succeeded and wrote this text.
 fn is_put<R: Abort>(rt: &R, outcome: Result<()>, out: Vec<u8>, wanted: &str) {
     outcome.expect(rt, wanted);
     gives_text(rt, String::from_utf8(out).map_err(Error::FromUtf8), wanted);
@@ -119,7 +119,7 @@ fn too_deep(rt: HostRuntime) {
     holds(&rt, out.as_slice() == b"a=1".as_slice(), "what is written");
 }
 
-// Claims that a writer with this room holds as much of the query's text, and that the call failed if there was more.
+// Claims that a writer with this capacity holds as much of the query's text, and that the call failed if there was more.
 fn stops_at<R: Abort>(rt: &R, alloc: Global, room: usize) {
     let mut writer = Narrow::new(alloc, 1, room, Stop::Fails).expect(rt, "a writer");
     let outcome = to_writer(alloc, &alice(rt, alloc), &mut writer);

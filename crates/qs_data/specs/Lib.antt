@@ -1,5 +1,5 @@
--- What the contracts of this crate mean. A reader must believe the words of data, shape, read and write, and those of qs_spec and
--- qs_tree that they are made of; the folders `internal` hold steps of proofs, of which no public clause speaks.
+-- What the contracts of this crate mean. A reader must believe the words of data, shape, read and write, and the words of qs_spec
+-- and qs_tree that they are made of. The folders `internal` hold steps of proofs, which no public clause mentions.
 pub mod «data»
 pub mod shape
 pub mod read

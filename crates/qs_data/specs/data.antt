@@ -1,4 +1,4 @@
--- To be believed: which data of the definitions a program's data are, and what `==` of two data is.
+-- To be believed: which data of the definitions a program's data is, and what `==` of two values is.
 pub mod Views
 pub mod Equality
 pub mod internal

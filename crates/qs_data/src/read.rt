@@ -1,4 +1,4 @@
-//! Reading: a querystring that was parsed, and its tree by a shape.
+//! Parsing a querystring, and reading its tree by a shape.
 
 mod any;
 mod by_shape;

@@ -1,4 +1,4 @@
-//! Shapes: what is to be read.
+//! Shapes: what is read from a querystring.
 
 mod distinct;
 mod fits;

@@ -39,7 +39,7 @@ fn word(alloc: Global, text: Result<String>) -> Line {
     }
 }
 
-// Returns the texts of a value in each array format, or the one text that they all are.
+// Returns the texts of a value in each array format, or one text if all are the same.
 fn texts(
     alloc: Global,
     indexed: Result<String>,
@@ -56,7 +56,7 @@ fn texts(
     }
 }
 
-// Returns the kind of an error, and the error as it is printed; `..` in the place of further lines.
+// Returns the kind of an error, and the error as it is printed, with `..` in place of further lines.
 fn rejection(alloc: Global, kind: &str, printed: &str) -> Line {
     match printed.split_once('\n') {
         Some((first, _)) => format!(in alloc; "{kind} {first} .."),
@@ -121,7 +121,7 @@ pub fn by_derive(alloc: Global, case: &Case<'_>) -> Line {
     }
 }
 
-// Returns the answer to a case, of a type that has nothing but derives.
+// Returns the answer to a case, of a type that has only derives.
 fn by_derive_alone(alloc: Global, case: &Case<'_>) -> Line {
     match case.name {
         "named" => derived::<Named>(alloc, case),

@@ -11,7 +11,7 @@ pub struct Case<'a> {
 }
 
 impl<'a> Case<'a> {
-    /// Returns the case that a line writes.
+    /// Returns the case in a line.
     pub fn parse(line: &'a str) -> Option<Case<'a>> {
         let (mode, rest) = line.split_once('\t')?;
         let (max_depth, rest) = rest.split_once('\t')?;

@@ -1,8 +1,9 @@
 //! A program for scripts: what types with serde's derives read from the querystrings of a table, and what they write.
 //!
-//! Each line of standard input is a case: `query` or `form`, the depth limit, `last` or `error` for repeated keys, the name of a type, and a
-//! querystring after a `?`, with tabs between. A line is printed for each: the value's text in each array format after a `?`, once where they are one
-//! text; or the kind of the error, and its line. With the argument `compound` the types of `qs_callers` answer, which implement `Compound`.
+//! Each line of standard input is a case: `query` or `form`, the depth limit, `last` or `error` for repeated keys, the name of a type, and
+//! a querystring after a `?`, separated by tabs. For each, the program prints a line: the value's text in each array format after a `?`,
+//! once if they are the same; or the kind of the error, and its line. With the argument `compound` it uses the types of `qs_callers`, which
+//! implement `Compound`.
 #![tactic(auto)]
 
 mod answers;

@@ -1,4 +1,4 @@
-//! The types: those of `qs_callers`, with derives in the place of `Compound`, and types for the attributes.
+//! The types of `qs_callers`, with derives in place of `Compound`, and types for the attributes.
 
 mod dashed;
 mod enums;

@@ -1,4 +1,4 @@
--- What stands below a node: each part that a segment leads to.
+-- The children of a node: each part that a segment leads to.
 use Rattle.std.specs.Prelude.{ℕ, ◌+◌, Bool, true, false, ◌||◌, cond, List, [], ◌∷◌, ◌++◌, Option, Some, None}
 use Rattle.qs_spec.specs.Segment.{Segment, segment_text}
 use Rattle.qs_spec.specs.Segment.Segment.{Int, Str}
@@ -14,12 +14,12 @@ use Rattle.qs_data.specs.shape.Variants.{variant_named}
 abbrev pub Child : Type 0
 Child = Segment × Shape × Tree
 
--- the first of some items, which may be missing
+-- the first of some items, if it isn't missing
 abbrev pub first_there : List (Option Tree) → Option Tree
 first_there [] = None
 first_there (x ∷ xs) = x
 
--- an item, or what stands for a missing one
+-- an item, or the tree without pairs if it is missing
 abbrev pub or_missing : Option Tree → Tree
 or_missing None = uninitialized
 or_missing (Some n) = n
@@ -30,14 +30,14 @@ item_children i s [] = []
 item_children i s (None ∷ xs) = (Int i, s, uninitialized) ∷ []
 item_children i s (Some n ∷ xs) = (Int i, s, n) ∷ item_children (i + 1) s xs
 
--- the same of a tuple, each of its own shape
+-- the same for a tuple, each item with its own shape
 abbrev pub tuple_children : ℕ → Shapes → List (Option Tree) → List Child
 tuple_children i no_shapes xs = []
 tuple_children i (one_shape s ss) [] = (Int i, s, uninitialized) ∷ []
 tuple_children i (one_shape s ss) (None ∷ xs) = (Int i, s, uninitialized) ∷ []
 tuple_children i (one_shape s ss) (Some n ∷ xs) = (Int i, s, n) ∷ tuple_children (i + 1) ss xs
 
--- a field by its name; where no key has it, it is missing, if it is neither optional nor an option
+-- a field by its name; if no key has the name, the field is missing, unless it is optional or an option
 abbrev pub name_child : List ℕ → Shape → (optional : Bool) → List Tree → List Child
 name_child name s optional [] = cond (optional || is_option s) [] ((Str name, s, uninitialized) ∷ [])
 name_child name s optional (n ∷ []) = (Str name, s, n) ∷ []
@@ -48,7 +48,7 @@ abbrev pub name_children : Fields → Entries → List Child
 name_children no_fields es = []
 name_children (one_field name s optional fs) es = name_child name s optional (found name es) ++ name_children fs es
 
--- the same of a node: one without a value has no keys
+-- the fields of a struct, in a node; one without a value has no keys
 abbrev pub struct_children : Fields → Tree → List Child
 struct_children fs (leaf NoValue) = name_children fs no_entries
 struct_children fs (leaf Null) = name_children fs no_entries
@@ -62,7 +62,7 @@ abbrev pub pair_children : Shape → Entries → List Child
 pair_children s no_entries = []
 pair_children s (entry key mark n es) = (key, s, n) ∷ pair_children s es
 
--- the same of a node: a text is the value of the empty key
+-- the values of a map, in a node; a text is the value of the empty key
 abbrev pub map_children : Shape → Tree → List Child
 map_children s (leaf (Text bytes mark)) = pair_children s (under_empty (leaf (Text bytes mark)))
 map_children s (mapping es) = pair_children s es
@@ -99,7 +99,7 @@ abbrev pub listed : (List (Option Tree) → List Child) → Option (List (Option
 listed children None = []
 listed children (Some xs) = children xs
 
--- what stands below a node that is read by a shape
+-- the children of a node that is read by a shape
 abbrev pub children : Shape → Tree → List Child
 children (Shape.sequence s) n = listed (item_children 0 s) (items n)
 children (Shape.tuple ss) n = listed (tuple_children 0 ss) (items n)

@@ -1,4 +1,4 @@
--- What is expected of a part, and what stands there.
+-- What is expected of a part, and what is found there.
 use Rattle.std.specs.Prelude.{◌≡◌, ℕ, ⊤, List, [], ◌∷◌, map, string_bytes}
 use Rattle.qs_spec.specs.Shape.{Shape, Variants, no_variants, one_variant}
 use Rattle.qs_spec.specs.Leaf as l
@@ -13,12 +13,12 @@ abbrev pub variant_names : Variants → List (List ℕ)
 variant_names no_variants = []
 variant_names (one_variant name k vs) = name ∷ variant_names vs
 
--- it is one of these names that is expected
+-- one of these names is expected
 abbrev pub IsOneOf : List (List ℕ) → Expected → Type 0
 IsOneOf names (e.OneOf listed) = map string_bytes listed.items ≡ names
 IsOneOf names _ = ⊥
 
--- this is expected by a shape: its kind, and of an enum the names of its variants; an option and a newtype expect what their part does
+-- what a shape expects: its kind, and for an enum the names of its variants; an option and a newtype expect what their part expects
 abbrev pub Expects : Shape → Expected → Type 0
 Expects Shape.unit expected = expected ≡ e.Unit
 Expects Shape.boolean expected = expected ≡ e.Bool
@@ -37,7 +37,7 @@ Expects (Shape.enumeration vs) expected = IsOneOf (variant_names vs) expected
 Expects Shape.any expected = expected ≡ e.Anything
 Expects Shape.ignored expected = expected ≡ e.Anything
 
--- this is what stands at a node, and of a text its bytes
+-- what is found at a node, and for a text its bytes
 abbrev pub Stands : Found → Tree → Type 0
 Stands f.NoValue (Tree.leaf l.Leaf.NoValue) = ⊤
 Stands f.Empty (Tree.leaf l.Leaf.Null) = ⊤

@@ -18,14 +18,14 @@ pub data IsChild (c : Child) : List Child → Type 0 where
   first : {cs : List Child} → IsChild c (c ∷ cs)
   later : {d : Child} {cs : List Child} → IsChild c cs → IsChild c (d ∷ cs)
 
--- A shape reads a node only if it reads this part of it by this shape; the segments lead from the node to the part.
+-- A part of a node, and the shape that must read it if the node is read. The segments lead from the node to the part.
 pub data Part : List Segment → Shape → Tree → Shape → Tree → Type 0 where
   option_null : {s : Shape} → Part [] (Shape.option s) (Tree.leaf Null) s (Tree.leaf NoValue)
   option_full : {s : Shape} {n : Tree} → IsFull n → Part [] (Shape.option s) n s n
   newtype : {s : Shape} {n : Tree} → Part [] (Shape.newtype s) n s n
   child : {key : Segment} {s part : Shape} {n node : Tree} → IsChild (key, part, node) (children s n) → Part (key ∷ []) s n part node
 
--- The path leads from a shape and a node to a part of a part .., and the shape that it is read by.
+-- The path leads from a node and its shape to a part of a part .. of the node, and to the shape of that part.
 pub data IsPathTo : List Segment → Shape → Tree → Shape → Tree → Type 0 where
   here : {s : Shape} {n : Tree} → IsPathTo [] s n s n
   within : {front path : List Segment} {s part last : Shape} {n node leaf : Tree} → Part front s n part node → IsPathTo path part node last leaf → IsPathTo (front ++ path) s n last leaf

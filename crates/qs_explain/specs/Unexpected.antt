@@ -10,12 +10,12 @@ use Rattle.qs_spec.specs.Tree.Tree.{mapping}
 use Rattle.qs_spec.specs.Tree.Entries.{no_entries, entry}
 use Rattle.qs_data.specs.shape.Variants.{variant_named}
 
--- the first key whose text isn't as the test asks
+-- the first key whose text fails the test
 abbrev pub first_other : (List ℕ → Bool) → Entries → Option Segment
 first_other test no_entries = None
 first_other test (entry key mark n es) = cond (test (segment_text key)) (first_other test es) (Some key)
 
--- a text, and a field's name where unknown keys are rejected
+-- UTF-8, and a field's name if unknown keys are rejected
 abbrev pub is_allowed : UnknownKeys → Fields → List ℕ → Bool
 is_allowed u fs name = is_utf8 name && (is_field_name name fs || are_ignored u)
 

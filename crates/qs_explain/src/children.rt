@@ -1,4 +1,4 @@
-//! What is found in a node below another one.
+//! Finds the mismatch of a child of a node.
 
 ghost use Rattle.qs_spec.specs.Config.{are_rejected};
 ghost use Rattle.qs_spec.specs.Segment.Segment.{Int};
@@ -14,7 +14,7 @@ use qs_data::{Config, Shape};
 use qs_tree::{Key, ParsedValue};
 use std::alloc::{AllocError, Global};
 
-// Finds the mismatch of a node, or of nothing where it is missing.
+// Finds the mismatch of a node. A missing node counts as a tree without pairs.
 #[cycle(walk)]
 fn find_in_node(
     alloc: Global,

@@ -1,4 +1,4 @@
-//! What isn't read of an enum's variant.
+//! The part of an enum's variant that isn't read.
 
 ghost use Rattle.std.specs.Prelude.{◌≡◌, ◌∷◌, [], None, IfOk};
 ghost use Rattle.qs_spec.specs.Config.{are_rejected};
@@ -25,7 +25,7 @@ use qs_data::{Config, Field, Shape, UnknownKeys, Variant, VariantKind};
 use qs_tree::{Key, ParsedMap, ParsedValue};
 use std::alloc::{AllocError, Global};
 
-/// Finds what isn't read of the variant that the first key of a map names, where the enum doesn't read the map.
+/// Finds what isn't read in the variant that the first key of a map names. The enum must not read the node.
 #[cycle(walk)]
 pub(crate) fn find_in_enum(
     alloc: Global,
@@ -46,7 +46,7 @@ pub(crate) fn find_in_enum(
     }
 }
 
-// Finds what isn't read of the variant that the first key of this map names.
+// Finds what isn't read in the variant that the first key of this map names.
 #[cycle(walk)]
 fn find_in_named(
     alloc: Global,
@@ -67,7 +67,7 @@ fn find_in_named(
     find_in_variant(alloc, config, key, &variant.kind, value)
 }
 
-// Finds what isn't read of the value under a variant's name.
+// Finds what isn't read in the value under a variant's name.
 #[cycle(walk)]
 fn find_in_variant(
     alloc: Global,
@@ -95,7 +95,7 @@ fn find_in_variant(
     }
 }
 
-// Finds what isn't read of a variant's fields. Nothing is found in a text, which counts as a map.
+// Finds what isn't read in a variant's fields. Finds nothing in a text, which counts as a map.
 #[cycle(walk)]
 fn find_in_held_fields(
     alloc: Global,
@@ -167,7 +167,7 @@ fn find_in_held_struct(
     }
 }
 
-// Returns the same mismatch, seen from where a key leads to the part.
+// Returns the mismatch with a key in front of its path.
 fn put_under(alloc: Global, key: &Key<'_>, mismatch: Mismatch) -> Result<Mismatch, AllocError>
     ensures path { IfOk result (λ m. path_of m ≡ segment_of_key key.now ∷ path_of mismatch) }
     ensures problem { IfOk result (λ m. m.problem ≡ mismatch.problem) }

@@ -9,7 +9,7 @@ use qs_data::{Shape, Variant};
 use std::alloc::{AllocError, Global};
 use std::fmt;
 
-/// What is expected of a part: the kind of its shape, and of an enum its variants.
+/// What is expected of a part: the kind of its shape, and for an enum the names of its variants.
 ///
 /// ```
 /// let text = Expected::Unsigned(8).to_string(alloc)?; // u8
@@ -20,32 +20,32 @@ pub enum Expected {
     Unit,
     /// `true` or `false`.
     Bool,
-    /// A whole number of so many bits.
+    /// An unsigned integer of this many bits.
     Unsigned(u32),
-    /// A signed number of so many bits.
+    /// A signed integer of this many bits.
     Signed(u32),
     /// One character.
     Char,
-    /// A text, which is UTF-8.
+    /// UTF-8 text.
     Text,
     /// A string of bytes.
     Bytes,
     /// A list.
     List,
-    /// A list whose length its type fixes.
+    /// A list of fixed length.
     Tuple,
     /// Keys and values.
     Map,
     /// The fields of a struct.
     Struct,
-    /// One of the variants of an enum, which have these names.
+    /// A variant of an enum, with one of these names.
     OneOf(Vec<String>),
     /// Any value.
     Anything,
 }
 
 impl Expected {
-    /// Returns what a shape expects. An option and a newtype expect what their part does. It allocates for the names of variants.
+    /// Returns what a shape expects. An option and a newtype expect what their part expects. Allocates for the names of variants.
     pub(crate) fn of(alloc: Global, shape: &Shape) -> Result<Expected, AllocError>
         ensures { IfOk result (λ expected. Expects (shape_of shape.now) expected) }
     {
@@ -109,7 +109,7 @@ impl fmt::Display for Expected {
     }
 }
 
-/// Names of variants, which are printed as ``one of "Card", "Cash"``.
+/// Names of variants, printed as ``one of "Card", "Cash"``.
 #[derive(Drop)]
 pub(crate) struct OneOfNames<'a>(pub(crate) &'a [String]);
 

@@ -14,11 +14,11 @@ use qs_data::{Config, Error, Shape};
 use qs_tree::{ParsedValue, parse};
 use std::alloc::{AllocError, Global};
 
-/// Explains why an input isn't read by a shape under a configuration. It returns `None` exactly where the input is read.
+/// Explains why a shape doesn't read an input under a configuration. Returns `None` if and only if the shape reads the input.
 ///
-/// Of an input without a tree it returns the very error that parsing returned. The path of a [`Mismatch`](crate::Mismatch) leads to the
-/// innermost part that isn't read. The input is parsed once and read at most once for each level of the path, and once more. It allocates
-/// what that takes, and the explanation; the only error is that an allocation failed.
+/// For an input without a tree, the explanation is the error that parsing returned. The path of a [`Mismatch`](crate::Mismatch) leads
+/// to the innermost part that isn't read. The input is parsed once, and read at most once for each level of the path and once more.
+/// Parsing, reading and the explanation allocate; the only error is a failed allocation.
 ///
 /// ```
 /// let explained = explain(alloc, Config::new(), &shape, b"ids[]=1&ids[]=x")?; // ids[1]: expected u8, found the text "x"

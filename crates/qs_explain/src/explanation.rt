@@ -24,11 +24,11 @@ use std::fmt::Write;
 /// ```
 #[derive(Debug, Drop)]
 pub enum Explanation {
-    /// It has no tree, by this error, which is the one that parsing returned: [`Parse`](Error::Parse).
+    /// The input has no tree. This is the error that parsing returned: [`Parse`](Error::Parse).
     Syntax(Error),
-    /// It has no pairs, though it isn't empty: it is `&` alone. No shape reads that.
+    /// The input has no pairs, but isn't empty: it is `&`. No shape reads it.
     NoPairs,
-    /// A part of its tree isn't read by its shape.
+    /// A part of the tree isn't read by its shape.
     Mismatch(Mismatch),
 }
 
@@ -39,7 +39,7 @@ pub enum Explanation {
 /// ```
 #[derive(Debug, Drop)]
 pub struct Mismatch {
-    /// The path to the part: the segments of a key that leads to it. It is empty where the whole isn't read.
+    /// The path to the part: the segments of a key that leads to it. It is empty if the part is the whole tree.
     pub path: Vec<Segment>,
     /// What is wrong with it.
     pub problem: Problem,
@@ -52,15 +52,15 @@ pub struct Mismatch {
 /// ```
 #[derive(Debug, Drop)]
 pub enum Problem {
-    /// This is expected, and that stands there.
+    /// What is expected, and what was found.
     Unfit(Expected, Found),
     /// The part has this key, which its shape doesn't allow: no field or variant has it, the key shape of a map doesn't read it,
-    /// or it isn't UTF-8. It has what is expected of the part, too: of an enum its variants.
+    /// or it isn't UTF-8. The second value is what is expected of the part: for an enum, its variants.
     UnexpectedKey(Segment, Expected),
 }
 
 impl Mismatch {
-    /// Returns the same mismatch, seen from where a segment leads to the part.
+    /// Returns the mismatch with this segment in front of its path.
     pub(crate) fn under(self, segment: Segment) -> Result<Mismatch, AllocError>
         ensures path { IfOk result (λ m. path_of m ≡ segment_of segment ∷ path_of self) }
         ensures problem { IfOk result (λ m. m.problem ≡ self.problem) }
@@ -71,8 +71,8 @@ impl Mismatch {
     }
 }
 
-/// One line: the error of an input without a tree, that the query has no pairs, or the path and the problem, as
-/// `age: expected u8, found the text "300"`. A control character of the input is written as its escape.
+/// One line: the error of parsing, that the query has no pairs, or the path and the problem, such as
+/// `age: expected u8, found the text "300"`. Control characters of the input are escaped.
 impl fmt::Display for Explanation {
     fn fmt<W: fmt::Write>(&self, f: &mut fmt::Formatter<W>) -> fmt::Result {
         match self {
@@ -83,7 +83,7 @@ impl fmt::Display for Explanation {
     }
 }
 
-/// The path as a key has it, `user[address][zip]`, and the problem. Where the path is empty, the problem alone.
+/// The path as in a key, `user[address][zip]`, and the problem. If the path is empty, only the problem.
 impl fmt::Display for Mismatch {
     fn fmt<W: fmt::Write>(&self, f: &mut fmt::Formatter<W>) -> fmt::Result {
         for (i, segment) in self.path.iter().enumerate() {

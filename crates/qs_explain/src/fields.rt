@@ -34,7 +34,7 @@ pub(crate) fn find_in_struct(
     }
 }
 
-// Finds the first of these fields that is missing or whose value isn't read, among the keys of a map, or among none.
+// Finds the first of these fields that is missing or whose value isn't read. Without a map, no key names a field.
 #[cycle(walk)]
 fn find_in_fields(
     alloc: Global,
@@ -73,7 +73,7 @@ fn find_in_field(
     }
 }
 
-// Finds the mismatch of a field that no key names, if it must be there.
+// Finds the mismatch of a field that no key names, if the field is required.
 #[cycle(walk)]
 fn find_missing(
     alloc: Global,
@@ -99,7 +99,7 @@ fn may_be_absent(shape: &Shape) -> bool
     }
 }
 
-// Finds what stands under a name, among the keys of a map, or none.
+// Finds the value under a name in a map. Without a map, it is missing.
 fn find_name<'t, 'qs>(map: Option<&'t ParsedMap<'qs>>, name: &str) -> Found<'t, 'qs>
     ensures { Finds result (found name.now (keys_of map.entry)) }
 {

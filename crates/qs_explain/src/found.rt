@@ -24,14 +24,14 @@ pub enum Found {
     Text(Vec<u8>),
     /// Several values of one key.
     List,
-    /// Keys below this one.
+    /// Nested keys.
     Map,
     /// No pair at all.
     Nothing,
 }
 
 impl Found {
-    /// Returns what is found at a node. It allocates for a text.
+    /// Returns what is found at a node. Allocates for a text.
     pub(crate) fn at(alloc: Global, node: &ParsedValue<'_>) -> Result<Found, AllocError>
         ensures { IfOk result (λ found. Stands found (tree_of node.now)) }
     {
@@ -46,8 +46,7 @@ impl Found {
     }
 }
 
-/// A text stands between double quotes, and within one line: with U+FFFD for what is no UTF-8, and an escape such as `\u{a}` for a
-/// control character.
+/// One line. A text is in double quotes, with U+FFFD for invalid UTF-8 and an escape such as `\u{a}` for a control character.
 impl fmt::Display for Found {
     fn fmt<W: fmt::Write>(&self, f: &mut fmt::Formatter<W>) -> fmt::Result {
         let name = match self {

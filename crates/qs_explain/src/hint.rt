@@ -1,4 +1,4 @@
-//! What is probably meant where brackets stand escaped.
+//! What escaped brackets were probably meant to be.
 
 ghost use Rattle.std.specs.Prelude.{◌≡◌, option_map};
 ghost use Rattle.qs_explain.specs.Hint.{hint_of, is_key_after, is_unread_bracket, unread_bracket};
@@ -6,27 +6,24 @@ ghost use Rattle.qs_explain.specs.Hint.{hint_of, is_key_after, is_unread_bracket
 use qs_data::Config;
 use std::fmt;
 
-/// What is probably meant by an input that isn't read as its sender meant it.
+/// Why an input is probably not read as its sender meant it.
 ///
 /// ```
 /// let hint = find_hint(Config::new().use_form_encoding(true), b"user%5bage%5d=7"); // Some(Hint::LowerCase(7))
 /// ```
 #[derive(Debug, Clone, Copy, PartialEq, Eq)]
 pub enum Hint {
-    /// A key holds a bracket that is escaped, `%5B` or `%5D` in either case, which ends at this position. In query mode it is part of
-    /// the key.
+    /// A key has an escaped bracket that ends at this position: `%5B` or `%5D`, in either case. In query mode it is part of the key.
     Escaped(usize),
-    /// A key holds a bracket that is escaped in lower case, `%5b` or `%5d`, which ends at this position. In form mode it is part of
-    /// the key.
+    /// A key has a bracket escaped in lower case that ends at this position: `%5b` or `%5d`. In form mode it is part of the key.
     LowerCase(usize),
 }
 
-/// Returns a hint exactly where a bracket stands escaped in a key and the mode of the configuration doesn't read it as one: in form
-/// mode `%5b` and `%5d`, in query mode `%5B` and `%5D` too. It names the position after the first of them.
+/// Returns a hint if and only if a key has an escaped bracket that the configuration's mode doesn't read as a bracket: `%5b` or `%5d`,
+/// and in query mode also `%5B` or `%5D`. The hint has the position after the first of them.
 ///
-/// A key is taken to be what stands before the first `=` of a pair, also where that `=` stands in brackets, and an `&` in brackets
-/// is taken to begin another pair, though in an input that is parsed both are bytes of the key. Doesn't allocate, and looks at each
-/// byte once at most.
+/// A key is taken to end at the first `=` of a pair, and an `&` to begin another pair, even in brackets, where parsing takes both
+/// for bytes of the key. Doesn't allocate, and looks at each byte at most once.
 ///
 /// ```
 /// let hint = find_hint(Config::new(), b"user%5Bage%5D=7"); // Some(Hint::Escaped(7))
@@ -42,7 +39,7 @@ pub fn find_hint(config: Config, input: &[u8]) -> Option<Hint>
     })
 }
 
-// Finds the position after the first bracket in a key that the mode doesn't read.
+// Returns the position after the first escaped bracket in a key that the mode doesn't read as one.
 fn find_unread_bracket(form: bool, input: &[u8]) -> Option<usize>
     ensures { result ≡ unread_bracket form input.now }
 {
@@ -58,7 +55,7 @@ fn find_unread_bracket(form: bool, input: &[u8]) -> Option<usize>
     None
 }
 
-// Returns whether three bytes are an escaped bracket that the mode doesn't read.
+// Returns whether three bytes are an escaped bracket that the mode doesn't read as one.
 fn is_unread(form: bool, percent: u8, five: u8, letter: u8) -> bool
     ensures { result ≡ is_unread_bracket form percent five letter }
 {
@@ -68,7 +65,7 @@ fn is_unread(form: bool, percent: u8, five: u8, letter: u8) -> bool
     is_escape && (is_lower || !form && is_upper)
 }
 
-// Returns whether the byte after this one stands in a key.
+// Returns whether the byte after this one is in a key.
 fn is_in_key(in_key: bool, byte: u8) -> bool
     ensures { result ≡ is_key_after in_key byte }
 {

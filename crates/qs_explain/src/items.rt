@@ -31,7 +31,7 @@ pub(crate) fn find_in_list(
     }
 }
 
-// Finds the first of so many items that is missing or isn't read.
+// Finds the first of `count` items that is missing or isn't read.
 #[cycle(walk)]
 fn find_in_items(
     alloc: Global,
@@ -86,7 +86,7 @@ fn find_in_parts(
     Ok(None)
 }
 
-// Returns how many items a node has, if it has a list of them.
+// Returns how many items a node has, if it counts as a list.
 fn count_items(node: &ParsedValue<'_>) -> Option<usize>
     ensures { result ≡ option_map length (items (tree_of node.now)) }
 {

@@ -104,7 +104,7 @@ fn find_among_keys(
     }
 }
 
-// Finds the first key that isn't UTF-8, or that no field has where unknown keys are rejected.
+// Finds the first key that isn't UTF-8 or, if unknown keys are rejected, names no field.
 fn find_unknown_field(
     alloc: Global,
     unknown: UnknownKeys,

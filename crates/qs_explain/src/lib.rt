@@ -1,7 +1,7 @@
 //! Why an input isn't read: which part of it, and what was expected there.
 //!
-//! The errors of [`qs_data`] say what is wrong and not where. [`explain`] is called after such an error, so that a call that
-//! succeeds pays nothing for it:
+//! The errors of [`qs_data`] say what is wrong, but not where. Call [`explain`] after such an error; a call that succeeds
+//! pays nothing for it:
 //!
 //! ```
 //! let shape = Person::shape(alloc)?; // a struct with a name, and an age of 8 bits

@@ -1,9 +1,9 @@
-//! Texts of an input, printed within one line.
+//! Text from an input, printed on one line.
 
 use std::fmt;
 use std::fmt::Write;
 
-/// Prints bytes as text, with U+FFFD for each run of bytes that is none.
+/// Prints bytes as text, with U+FFFD for each invalid UTF-8 sequence.
 pub(crate) fn write_bytes<W: fmt::Write>(bytes: &[u8], f: &mut fmt::Formatter<W>) -> fmt::Result {
     for chunk in bytes.utf8_chunks() {
         write_text(chunk.valid(), f)?;
@@ -27,7 +27,7 @@ fn write_text<W: fmt::Write>(text: &str, f: &mut fmt::Formatter<W>) -> fmt::Resu
     Ok(())
 }
 
-/// Prints what is written to it within one line.
+/// A writer that prints what is written to it on one line.
 #[derive(Drop)]
 pub(crate) struct OneLine<'a, W>(pub(crate) &'a mut fmt::Formatter<W>);
 

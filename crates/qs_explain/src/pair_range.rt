@@ -1,4 +1,4 @@
-//! Where the pair stands at which an error was found.
+//! The range of the pair with an error.
 
 ghost use Rattle.std.specs.Prelude.{◌≤◌, length};
 ghost use Rattle.qs_explain.specs.PairRange.{IsFirst, IsPairAt};
@@ -6,7 +6,7 @@ ghost use Rattle.qs_explain.specs.PairRange.{IsFirst, IsPairAt};
 use crate::place::{find_key_len, find_start};
 use qs_data::Config;
 
-/// Where a pair stands in an input: `input[start..end]`, without the `&` on either side.
+/// The range of a pair in an input: `input[start..end]`, without the `&` on either side.
 ///
 /// ```
 /// let pair = find_pair(Config::new(), input, position);
@@ -14,21 +14,21 @@ use qs_data::Config;
 /// ```
 #[derive(Debug, Clone, Copy, PartialEq, Eq)]
 pub struct PairRange {
-    /// Where it begins.
+    /// Where the pair begins.
     pub start: usize,
-    /// Where its key ends: at its first `=` that doesn't stand in brackets, or at its end where it has none.
+    /// Where its key ends: at the first `=` outside brackets, or at the end of the pair if there is none.
     pub key_end: usize,
-    /// Where it ends.
+    /// Where the pair ends.
     pub end: usize,
 }
 
-/// Returns where the pair stands at which parsing was given up, under the configuration that the input was parsed by, from the
-/// position of the error, which is [`Parse`](qs_data::Error::Parse): the number of bytes that were parsed.
+/// Returns the range of the pair in which parsing stopped. Pass the configuration that the input was parsed with, and the position
+/// of the [`Parse`](qs_data::Error::Parse) error, which is the number of bytes that were parsed.
 ///
-/// The last byte that was parsed lies in the pair, or is the `&` or the end of the input after it. `&` and `=` in brackets are bytes
-/// of the key, so where brackets aren't closed the pair goes on over each `&` that was parsed after them, and all of it is its key.
-/// What follows the error wasn't parsed: the pair goes on there to the next `&`, and its key to the first `=` as if there were no
-/// error. Doesn't allocate, and looks at each byte of the input up to the end of the pair at most twice.
+/// The pair has the last byte that was parsed, or ends right before it: at an `&` or at the end of the input. `&` and `=` in brackets
+/// are bytes of the key. If brackets aren't closed, the pair therefore includes each `&` that was parsed after them, and all of it
+/// is the key. The bytes after the error weren't parsed: there the pair continues to the next `&`, and its key to the first `=`, as
+/// if there were no error. Doesn't allocate, and looks at each byte of the input up to the end of the pair at most twice.
 ///
 /// ```
 /// let pair = find_pair(Config::new(), b"a[=]x=1&b=2", 5); // 0..7, with the key 0..5
@@ -49,7 +49,7 @@ pub fn find_pair(config: Config, input: &[u8], position: usize) -> PairRange
     }
 }
 
-// Finds the first of such bytes between two positions, or the second position.
+// Returns the position of the first such byte between two positions, or the second position if there is none.
 fn find_first(input: &[u8], byte: u8, from: usize, to: usize) -> usize
     requires order { from ≤ to }
     requires within { to ≤ length input.now }

@@ -12,7 +12,7 @@ use qs_data::{Config, Shape};
 use qs_tree::{Key, ParsedMap, ParsedValue};
 use std::alloc::{AllocError, Global};
 
-/// Finds the first value of a map, in the order of its keys, that isn't read. A text stands under the empty key.
+/// Finds the first value of a map, in the order of its keys, that isn't read. A text is the value of the empty key.
 #[cycle(walk)]
 pub(crate) fn find_in_map(
     alloc: Global,

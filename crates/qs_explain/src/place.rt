@@ -1,10 +1,10 @@
-//! Where the bytes of an input stand in its pairs.
+//! The places of an input's bytes in its pairs.
 
 ghost use Rattle.std.specs.Prelude.{◌≡◌, ◌≤◌, length};
 ghost use Rattle.qs_explain.specs.PairRange.{key_len};
 ghost use Rattle.qs_explain.specs.Places.{begins_after, kind_after, next_place, opened, pair_start};
 
-/// What a byte is, with the two before it.
+/// The kind of a byte, given the two before it.
 #[derive(Clone, Copy, PartialEq, Eq)]
 pub(crate) enum Kind {
     Ampersand,
@@ -14,24 +14,24 @@ pub(crate) enum Kind {
     Other,
 }
 
-/// Where a byte stands in a pair.
+/// The place of a byte in its pair.
 #[derive(Clone, Copy)]
 pub(crate) enum Place {
-    /// In front of the brackets of its key.
+    /// In the key, before its brackets.
     Root,
-    /// In brackets, after which so many more may follow.
+    /// In brackets. This many more may follow them.
     Inside(usize),
-    /// After brackets, which so many more may follow.
+    /// After brackets. This many more may follow.
     After(usize),
-    /// First in the last key, where no more brackets may follow.
+    /// Right after the bracket that begins the last segment, at the depth limit.
     LastFirst,
-    /// Later in the last key.
+    /// Later in the last segment.
     Last,
-    /// In its value.
+    /// In the value.
     Value,
 }
 
-/// Returns where the pair begins that goes on at the end of the input, if it has no error before.
+/// Returns where the last pair of the input begins, if the input has no error before its end.
 pub(crate) fn find_start(form: bool, max_depth: usize, input: &[u8]) -> usize
     ensures value { result ≡ pair_start form max_depth input.now }
     ensures within { result ≤ length input.now }
@@ -50,7 +50,7 @@ pub(crate) fn find_start(form: bool, max_depth: usize, input: &[u8]) -> usize
     start
 }
 
-/// Returns how many bytes of a pair are its key: those before the first `=` that doesn't stand in brackets, or else all.
+/// Returns the length of a pair's key: up to the first `=` outside brackets, or else the whole pair.
 pub(crate) fn find_key_len(form: bool, max_depth: usize, pair: &[u8]) -> usize
     ensures value { result ≡ key_len form max_depth pair.now }
     ensures within { result ≤ length pair.now }
@@ -68,7 +68,7 @@ pub(crate) fn find_key_len(form: bool, max_depth: usize, pair: &[u8]) -> usize
     pair.len()
 }
 
-// Returns what a byte is. In form mode the last byte of `%5B` or `%5D` is a bracket.
+// Returns the kind of a byte. In form mode the last byte of `%5B` or `%5D` is a bracket.
 fn kind_after(form: bool, percent: u8, five: u8, byte: u8) -> Kind
     ensures { result ≡ kind_after form percent five byte }
 {
@@ -96,7 +96,7 @@ fn begins_after(place: Place, kind: Kind) -> bool
     }
 }
 
-// Returns where the byte after a byte stands.
+// Returns the place of the next byte.
 fn next_place(max_depth: usize, place: Place, kind: Kind) -> Place
     ensures { result ≡ next_place max_depth place kind }
 {
@@ -132,7 +132,7 @@ fn next_place(max_depth: usize, place: Place, kind: Kind) -> Place
     }
 }
 
-// Returns where the byte after an opening bracket stands: in it, if there is room for another level, or else `full`.
+// Returns the place after an opening bracket: in it, if another level is allowed, or else `full`.
 fn opened(room: usize, full: Place) -> Place
     ensures { result ≡ opened room full }
 {

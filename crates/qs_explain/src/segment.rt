@@ -9,7 +9,7 @@ use qs_tree::Key;
 use std::alloc::{AllocError, Global};
 use std::fmt;
 
-/// A segment of a path: what stands between two brackets of a key, or in front of the first.
+/// A segment of a path: the part of a key in a pair of brackets, or before the first bracket.
 ///
 /// ```
 /// let text = Segment::Index(1).to_string(alloc)?; // 1
@@ -23,7 +23,7 @@ pub enum Segment {
 }
 
 impl Segment {
-    /// Returns the segment that a key is.
+    /// Returns a key as a segment.
     pub(crate) fn of(alloc: Global, key: &Key<'_>) -> Result<Segment, AllocError>
         ensures { IfOk result (λ segment. segment_of segment ≡ segment_of_key key.now) }
     {
@@ -34,7 +34,7 @@ impl Segment {
     }
 }
 
-/// A key stands as a text within one line, with U+FFFD for what is no UTF-8, and an escape such as `\u{a}` for a control character.
+/// One line. A key is printed as text, with U+FFFD for invalid UTF-8 and an escape such as `\u{a}` for a control character.
 impl fmt::Display for Segment {
     fn fmt<W: fmt::Write>(&self, f: &mut fmt::Formatter<W>) -> fmt::Result {
         match self {

@@ -24,7 +24,7 @@ pub(crate) fn find_variant(variants: &[Variant], key: &Key<'_>) -> Option<usize>
     }
 }
 
-// Returns the index of the variant of a name.
+// Returns the index of the variant with this name.
 fn variant_of_name(variants: &[Variant], name: &[u8]) -> Option<usize>
     ensures index { IfSome result (λ i. i < length variants.now) }
     ensures named { option_map (λ i. option_map variant_of (slice_get variants.now i)) result ≡ option_map Some (variant_named name.now (variants_in variants.now)) }

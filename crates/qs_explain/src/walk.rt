@@ -1,4 +1,4 @@
-//! The way to the first part that isn't read.
+//! The walk to the first part that isn't read.
 
 ghost use Rattle.std.specs.Prelude.{IfOk, option_map};
 ghost use Rattle.qs_spec.specs.Config.{are_rejected};
@@ -121,7 +121,7 @@ fn find_in_option(
     }
 }
 
-/// Returns the mismatch of a node itself: what is expected, and an unexpected key or else what stands there.
+/// Returns the mismatch of a node itself: what is expected, and the unexpected key, or else what is found.
 pub(crate) fn mismatch_here(
     alloc: Global,
     unexpected: Option<Segment>,

@@ -1,2 +1,2 @@
--- The words that a reader must believe, beside those of serde_qs: what is read of a request.
+-- The definitions to review, in addition to those in serde_qs: what is read from a request.
 pub mod Request

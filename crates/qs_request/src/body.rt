@@ -16,8 +16,7 @@ use std::alloc::Global;
 /// let order: QsForm<Order> = form(alloc, b"item=7&tags%5B%5D=new", config)?;
 /// ```
 ///
-/// The errors are those of [`from_bytes`](serde_qs::from_bytes) with this configuration. It allocates, and takes time, as that call
-/// does.
+/// Errors, allocations and time are as for [`from_bytes`](serde_qs::from_bytes) with this configuration.
 pub fn form<T: Deserialize>(alloc: Global, body: &[u8], config: Config) -> Result<QsForm<T>>
     ensures exact { ReturnsValue (λ form. T.table.value form.0) config T.table.form T.table.meaning body.now result }
     ensures back { ReturnsWritten (λ form. T.table.value form.0) config T.table.form T.table.meaning body.now result }

@@ -27,8 +27,8 @@ use std::alloc::Global;
 
 /// Returns the value that is read from the query of a request target under a configuration.
 ///
-/// The text that is read is that of [`query`](crate::query): what follows the first `?`, and the empty one where there is no query. The
-/// value may borrow from the target.
+/// It reads the same text as [`query`](crate::query): what follows the first `?`, or the empty text if there is no query. The value may
+/// borrow from the target.
 ///
 /// ```
 /// match derived::query::<Filter>(alloc, &target, Config::new()) {
@@ -37,8 +37,8 @@ use std::alloc::Global;
 /// }
 /// ```
 ///
-/// The errors are those of [`explain_str`](qs_serde::explain_str), with the path to the part that isn't read; `?` turns one into an
-/// [`Error`](crate::Error). It allocates, and takes time, as that call does; the target is unchanged.
+/// Errors, allocations and time are as for [`explain_str`](qs_serde::explain_str). An error has the path to the part that isn't read; `?`
+/// turns it into an [`Error`](crate::Error).
 pub fn query<'de, T: Deserialize<'de>>(
     alloc: Global,
     uri: &'de Uri,
@@ -62,7 +62,7 @@ pub fn query<'de, T: Deserialize<'de>>(
 /// let order: QsForm<Order> = derived::form(alloc, b"item=7&tags%5B%5D=new", config)?;
 /// ```
 ///
-/// The errors are those of [`explain_bytes`](qs_serde::explain_bytes), as for [`query`]. It allocates, and takes time, as that call does.
+/// Errors, allocations and time are as for [`explain_bytes`](qs_serde::explain_bytes).
 pub fn form<'de, T: Deserialize<'de>>(
     alloc: Global,
     body: &'de [u8],

@@ -1,7 +1,7 @@
 //! The query and the form of a request, read as values.
 //!
-//! A request target, as [`http_uri`] parses it, has a query; a body may be a form. Each is read as a value of a type that
-//! [`serde_qs`] reads, or, by [`derived`], of one with serde's derives:
+//! A request target, parsed by [`http_uri`], may have a query, and a body may be a form. [`query`] and [`form`] read types that
+//! [`serde_qs`] reads; the functions of [`derived`] read types with serde's derives:
 //!
 //! ```
 //! use http_uri::Uri;
@@ -12,7 +12,7 @@
 //! let count = users.id.len(); // 2
 //! ```
 //!
-//! [`Limits`] are checked first, against the text of a query or the bytes of a form:
+//! Check [`Limits`] first, against the text of a query or the bytes of a form:
 //!
 //! ```
 //! let limits = Limits::new().max_length(65_536).max_pairs(1_000);

@@ -11,8 +11,8 @@ use std::alloc::Global;
 
 /// Returns the value that is read from the query of a request target under a configuration.
 ///
-/// The query is what follows the first `?` (RFC 3986, section 3.4); a fragment is no part of it, and a `Uri` keeps none. Where there
-/// is no query, the empty querystring is read, so that a type without required fields has a value.
+/// The query is what follows the first `?` (RFC 3986, section 3.4). A fragment isn't part of it, and a `Uri` keeps none. If there is no
+/// query, the empty querystring is read, so that a type without required fields has a value.
 ///
 /// The default configuration reads brackets as they are. Clients that escape them need
 /// [`use_form_encoding`](Config::use_form_encoding), which reads both.
@@ -22,8 +22,7 @@ use std::alloc::Global;
 /// let filter: QsQuery<Filter> = query(alloc, &target, Config::new())?; // page 2
 /// ```
 ///
-/// The errors are those of [`from_str`](serde_qs::from_str) with this configuration. It allocates, and takes time, as that call does;
-/// the target is unchanged.
+/// Errors, allocations and time are as for [`from_str`](serde_qs::from_str) with this configuration.
 pub fn query<T: Deserialize>(alloc: Global, uri: &Uri, config: Config) -> Result<QsQuery<T>>
     ensures exact { ReturnsValue (λ query. T.table.value query.0) config T.table.form T.table.meaning (query_of uri.now) result }
     ensures back { ReturnsWritten (λ query. T.table.value query.0) config T.table.form T.table.meaning (query_of uri.now) result }
@@ -31,7 +30,7 @@ pub fn query<T: Deserialize>(alloc: Global, uri: &Uri, config: Config) -> Result
     config.deserialize_str(alloc, query_text(uri)).map(QsQuery)
 }
 
-/// Returns the query of a request target, empty where there is none.
+/// Returns the query of a request target, or the empty text if there is none.
 pub(crate) fn query_text(uri: &Uri) -> &str
     ensures { result.now ≡ query_of uri.now }
 {

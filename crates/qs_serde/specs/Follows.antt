@@ -7,6 +7,6 @@ use Rattle.qs_serde.specs.Texts.{Leads}
 use Rattle.qs_serde.specs.Placed.{IsIn}
 use Rattle.qs_serde.specs.declared.writing.position.Position.{Position}
 
--- the code is in a state to which the events lead, where they are known
+-- the code is in a state to which the events lead, if they are known
 abbrev pub Follows : Config → Log → Position → Type 0
 Follows config log p = ∥ ((s : State) × IsIn config p s × IfSome log (λ es. Leads config es s)) ∥₁

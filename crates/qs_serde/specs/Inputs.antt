@@ -10,8 +10,8 @@ use Rattle.qs_serde.specs.declared.reading.path_error.PathError.{PathError}
 abbrev pub HasTree : Config → List ℕ → Type 0
 HasTree config input = (tree : Tree) × IsTree config.form config.max_depth input tree
 
--- The error is `Parse` where the input has no tree, with a position in the input or right after its end. Where it has one, the error is
--- `Custom` or `Utf8`. Or an allocation failed.
+-- If the input has no tree, the error is `Parse`, at a position of at most the length plus one. If it has a tree, the error is `Custom` or
+-- `Utf8`. Or an allocation failed.
 abbrev pub IsErrorOf : Config → List ℕ → Error → Type 0
 IsErrorOf config input (Parse message position) = HasNoTree config.form config.max_depth input × (position ≤ length input + 1)
 IsErrorOf config input (Custom message) = HasTree config input
@@ -19,7 +19,7 @@ IsErrorOf config input (Utf8 cause) = HasTree config input
 IsErrorOf config input OutOfMemory = ⊤
 IsErrorOf config input _ = ⊥
 
--- a value is returned only where the input has a tree
+-- a value is returned only if the input has a tree
 abbrev pub ReturnsFrom : {X : Type 0} → Config → List ℕ → Result X Error → Type 0
 ReturnsFrom config input result = MatchResult result (λ _. HasTree config input) (IsErrorOf config input)
 

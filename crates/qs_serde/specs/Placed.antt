@@ -22,7 +22,7 @@ pub record Holds (config : Config) (w : Writer) (es : List Entry) : Type 0 where
   pub settings : w.config ≡ config
   pub adds : Adds config.form blank (state_of w) es
 
--- the part of a level has this segment, and its path was so long before
+-- the part of a level has this segment, and the path had this length before it
 abbrev pub PartIs : Bool → Path → Option ℕ → Option (List ℕ) → Type 0
 PartIs form path None None = ⊤
 PartIs form path None (Some segment) = ⊥
@@ -48,7 +48,7 @@ pub record Stands (config : Config) (p : Position) (s : State) : Type 0 where
   pub here : IsLevel config.form (path_of s.around) p.frame s.here
   pub around : AreAround config.form p.around.items s.around
 
--- or an error came before, and the text of these entries is there
+-- or there was an error before, and the text of these entries is there
 abbrev pub IsIn : Config → Position → State → Type 0
 IsIn config p s = Stands config p s ⊎ ((p.next ≡ Nothing) × (s.next ≡ Nothing) × Holds config p.writer s.entries)
 

@@ -24,13 +24,13 @@ abbrev pub value_or : Tree → Option (MarkedSegment × Tree) → Tree
 value_or t (Some entry) = entry.1
 value_or t None = t
 
--- the item or the value at an index of a node; the node itself where there is none, as a text is its only item
+-- the item or the value at an index of a node; the node itself if there is none, since a text is its own only item
 abbrev pub child_at : Tree → ℕ → Tree
 child_at (sequence xs) i = item_or (sequence xs) (first_item (drop i (sequence_items xs)))
 child_at (mapping es) i = value_or (mapping es) (slice_get (entry_list es) i)
 child_at t i = t
 
--- what came last of a list or a map of which so many parts came; itself where none came
+-- the current node of a list or a map after so many items or entries; the list or map itself before the first
 abbrev pub last_part : Tree → ℕ → Tree
 last_part t zero = t
 last_part t (suc i) = child_at t i
@@ -48,12 +48,12 @@ around frames = take (length frames - 1) frames
 abbrev pub last_frame : List Frame → Option Frame
 last_frame frames = slice_get frames (length frames - 1)
 
--- how many parts of a list or a map came
+-- how many items or entries of a list or a map were reached
 abbrev pub passed : Option Frame → ℕ
 passed None = 0
 passed (Some frame) = frame.next
 
--- how many parts of the innermost list or map came
+-- how many items or entries of the innermost list or map were reached
 abbrev pub count_of : TreeFormat → ℕ
 count_of f = passed (last_frame f.stack.items)
 
@@ -61,13 +61,13 @@ count_of f = passed (last_frame f.stack.items)
 abbrev pub kind_of : TreeFormat → Option FrameKind
 kind_of f = option_map (λ frame. frame.kind) (last_frame f.stack.items)
 
--- The format is where its open lists and maps lead from the root: `top` is the innermost, and `node` is what came last of it.
+-- The format is where its open lists and maps lead from the root: `top` is the innermost, and `node` is the current node in it.
 abbrev pub IsAt : TreeFormat → Type 0
 IsAt f =
     (tree_of f.top.now ≡ node_by (tree_of f.root.now) (around f.stack.items))
     × (tree_of f.node.now ≡ node_by (tree_of f.root.now) f.stack.items)
 
--- a part of what came last
+-- a part of the current node
 abbrev pub part_tree : Part → Tree → Tree → ℕ → Tree
 part_tree p.Value node top at = node
 part_tree p.Held node top at = node

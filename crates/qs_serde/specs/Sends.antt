@@ -1,4 +1,4 @@
--- The events that serde sends for data, and of which data these have the text of their entries.
+-- The events that serde sends for data, and for which data they have the text of its entries.
 use Rattle.std.specs.Prelude.{◌≡◌, ⊤, ℕ, suc, ◌^◌, ◌<◌, Bool, true, false, List, ◌∷◌, Some, None}
 use Rattle.qs_spec.specs.Data as d
 use Rattle.qs_spec.specs.Data.{Data, Values, no_values, one_value, Pairs, no_pairs, one_pair, Members, no_members, one_member}
@@ -50,8 +50,8 @@ abbrev mutual
   sends_members no_members rest = rest
   sends_members (one_member name x ms) rest = e.field_key name AsIs ∷ sends x (sends_members ms rest)
 
--- Data that serde's events can say, with no more items in a list than memory has bytes. A unit is sent as none, and what has no parts as an empty list or an empty
--- map. `inside` says that the data are a part of others: an empty map alone is written as nothing.
+-- Data that serde's events can express, with no more items in a list than memory has bytes. A unit is sent as none, and what has no parts
+-- as an empty list or an empty map. `inside` says that the data is part of other data: an empty map alone is written as nothing.
 abbrev mutual
   pub AreSaid : Bool → Data → Type 0
   AreSaid inside d.unit = ⊥

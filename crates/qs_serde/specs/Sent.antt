@@ -13,7 +13,8 @@ use Rattle.qs_serde.specs.declared.writing.frame.FrameKind.TheVariants as k
 use Rattle.qs_serde.specs.declared.writing.frame.Next.{Next}
 use Rattle.qs_serde.specs.declared.writing.frame.Next.TheVariants as n
 
--- a list or a map that is being written, or the top: how many parts it has, and the segment of the part that is being written, where that has one
+-- a list or a map that is being written, or the top: how many parts it has, and the segment of the part that is being written, if it has
+-- one
 pub record Level : Type 0 where
   pub kind : FrameKind
   pub count : ℕ
@@ -49,7 +50,7 @@ under_part None config segment s =
 abbrev pub goes_under : Config → List ℕ → State → Option State
 goes_under config segment s = under_part s.here.part config segment s
 
--- to where a value goes: an item goes under its index, a member is under its key
+-- to the place of a value: an item goes under its index, a member is under its key
 abbrev pub under_index : Option (List ℕ) → Config → State → Option State
 under_index None config s = Some s
 under_index (Some segment) config s = goes_under config segment s
@@ -134,7 +135,7 @@ closed (Some part) ls s = None
 abbrev pub closes : State → Option State
 closes s = closed s.here.part s.around s
 
--- as a part of what was around it: where it had no part itself, an empty value is written
+-- as a part of what was around it: if it has no parts itself, an empty value is written
 abbrev pub ends_as : Bool → State → State
 ends_as true s = puts (Some []) s
 ends_as false s = ends s
@@ -142,7 +143,7 @@ ends_as false s = ends s
 abbrev pub seq_ended : Config → State → Option State
 seq_ended config s = at_value s.next (option_map (ends_as (s.here.count == 0)) (closes s))
 
--- an empty map at the top writes nothing, and the parts of a flattened one are those of the map around it
+-- an empty map at the top writes nothing, and the parts of a flattened map are parts of the map around it
 abbrev pub is_inside : FrameKind → Bool
 is_inside k.Top = false
 is_inside k.Items = true

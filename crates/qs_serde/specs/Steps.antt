@@ -23,16 +23,16 @@ use Rattle.qs_serde.specs.declared.reading.frame.FrameKind.TheVariants as k
 use Rattle.qs_serde.specs.declared.reading.format.TreeFormat.{TreeFormat}
 use Rattle.qs_serde.specs.declared.reading.format.Mark.{Mark}
 
--- A format that doesn't look for the first error, as each that `TreeFormat::new` made: fields come in the order of the tree, and numbers are
--- those of the tree. Each step keeps it so.
+-- A format that doesn't look for the first error, such as each that `TreeFormat::new` makes: fields are in the order of the tree, and
+-- numbers are the tree's. Each step keeps it so.
 abbrev pub IsPlain : TreeFormat → Type 0
 IsPlain f = f.search.in_order ≡ false
 
--- A step keeps the tree and how it is read, and a format that is where its lists and maps lead is so afterwards.
+-- A step keeps the tree and how it is read. A format that is where its lists and maps lead is so afterwards, too.
 abbrev pub Keeps : TreeFormat → TreeFormat → Type 0
 Keeps old new = (new.reader ≡ old.reader) × (new.root ≡ old.root) × (new.search ≡ old.search) × (IsAt old → IsAt new)
 
--- the value comes after its key
+-- the value is next after its key
 abbrev pub part_after : Part → Part
 part_after p.Value = p.Value
 part_after p.Held = p.Held
@@ -106,7 +106,7 @@ HasParts k.Places t = HasItems t
 HasParts k.Fields t = option_map entry_list (node_entries t) ≡ Some (pairs_in t)
 HasParts k.Map t = option_map entry_list (node_entries t) ≡ Some (pairs_in t)
 
--- The list or the map of the node that is next was begun as this kind, and nothing of it came yet.
+-- The list or the map of the node that is next was begun as this kind, and is before its first item or entry.
 pub record Begins (old : TreeFormat) (kind : FrameKind) (new : TreeFormat) : Type 0 where
   pub stack : new.stack.items ≡ old.stack.items ++ record { kind = kind; next = 0; field = 0 } ∷ []
   pub top : new.top ≡ old.node
@@ -118,7 +118,7 @@ pub record Begins (old : TreeFormat) (kind : FrameKind) (new : TreeFormat) : Typ
 abbrev pub Leaves : TreeFormat → TreeFormat → Type 0
 Leaves old new = (new.stack.items ≡ around old.stack.items) × Keeps old new
 
--- What is at this index of the innermost list or map came, and the next index is next. Those around it are as they were.
+-- The format went to this index of the innermost list or map, and the next index is next. The lists and maps around it are as they were.
 pub record Moves (i : ℕ) (old new : TreeFormat) : Type 0 where
   pub count : count_of new ≡ suc i
   pub kind : kind_of new ≡ kind_of old
@@ -130,7 +130,7 @@ pub record Moves (i : ℕ) (old new : TreeFormat) : Type 0 where
 abbrev pub HasNoEntry : TreeFormat → Type 0
 HasNoEntry old = (last_frame old.stack.items ≡ None) ⊎ (slice_get (pairs_in (tree_of old.top.now)) (count_of old) ≡ None)
 
--- the entry at this index of the innermost map came: this is its key, and its value is next
+-- the format went to the entry at this index of the innermost map: this is its key, and its value is next
 pub record EntryComes (i : ℕ) (key : Node) (old new : TreeFormat) : Type 0 where
   pub entry : IsEntry (slice_get (pairs_in (tree_of old.top.now)) i) key (tree_of new.node.now)
   pub moves : Moves i old new
@@ -139,8 +139,7 @@ pub record EntryComes (i : ℕ) (key : Node) (old new : TreeFormat) : Type 0 whe
 abbrev pub HasNoItem : TreeFormat → Type 0
 HasNoItem old = first_item (drop (count_of old) (listed (tree_of old.top.now))) ≡ Some None
 
--- A map ends where no entry is left. But the map of an enum ends after its variant, and the fields of a struct in a sequence after the last
--- of them.
+-- A map ends if no entry is left. But the map of an enum ends after its variant, and a struct in a sequence after its last field.
 abbrev pub MayEndEarly : Option FrameKind → Type 0
 MayEndEarly (Some k.Fields) = ⊥
 MayEndEarly _ = ⊤
@@ -167,7 +166,7 @@ Reads old _ new = ⊤
 abbrev pub BeginsStruct : TreeFormat → TreeFormat → Type 0
 BeginsStruct old new = (kind : FrameKind) × Begins old kind new × (next_struct old ≡ Some kind)
 
--- an empty value is some of what is read from no value
+-- an empty value is `Some` of what is read from no value
 abbrev pub Empties : TreeFormat → TreeFormat → Type 0
 Empties old new = (tree_at old ≡ leaf Null) × (new ≡ record old { part = p.NoValue })
 
@@ -184,14 +183,13 @@ Stays old new = (new ≡ old) ⊎ Empties old new ⊎ Comes old new
 abbrev pub BeginsAfterLook : TreeFormat → Bool → TreeFormat → Type 0
 BeginsAfterLook old is_sequence new = Reads old (struct_begins is_sequence) new ⊎ ((looked : TreeFormat) × Stays old looked × Reads looked (struct_begins is_sequence) new)
 
--- the entry at an index of the innermost map came: its key was looked up among the names, and its value is next
+-- the format went to the entry at an index of the innermost map: its key was looked up among the names, and its value is next
 pub record EntryIs (i : ℕ) (names : List Name) (at : ℕ) (old new : TreeFormat) : Type 0 where
   pub key : LooksUp (key_tree (slice_get (pairs_in (tree_of old.top.now)) i)) names at
   pub value : option_map (λ e. e.1) (slice_get (pairs_in (tree_of old.top.now)) i) ≡ Some (tree_of new.node.now)
   pub moves : Moves i old new
 
--- The next key was looked up, or the next item stands at the place of a field. A format that looks for the first error may go to another
--- entry.
+-- The next key was looked up, or the next item is a field by its position. A format that looks for the first error may go to another entry.
 abbrev pub PicksAt : Option FrameKind → TreeFormat → List Name → ℕ → TreeFormat → Type 0
 PicksAt (Some k.Fields) old names at new = (i : ℕ) × EntryIs i names at old new × (IsPlain old → i ≡ count_of old)
 PicksAt (Some k.Places) old names at new = Comes old new

@@ -13,7 +13,7 @@ use Rattle.qs_data.specs.write.State.{IsVisible}
 use Rattle.serde.specs.Event.{Event, Log, single, double, text}
 use Rattle.qs_serde.specs.Sent.{State, start, all_sent, text_of_sent}
 
--- a float is written as a text, of which nothing is said
+-- a float is written as some text
 abbrev pub IsShown : Event → Event → Type 0
 IsShown (single x) e = (bytes : List ℕ) × (e ≡ text bytes)
 IsShown (double x) e = (bytes : List ℕ) × (e ≡ text bytes)
@@ -37,7 +37,7 @@ has_float (e ∷ es) = is_float e || has_float es
 abbrev pub Leads : Config → List Event → State → Type 0
 Leads config es s = (shown : List Event) × AreShown es shown × (all_sent config shown start ≡ Some s)
 
--- where the events are known, this is their text
+-- if the events are known, this is their text
 abbrev pub IsTextOf : Config → Log → List ℕ → Type 0
 IsTextOf config log bytes = ∥ IfSome log (λ es. (shown : List Event) × AreShown es shown × (text_of_sent config shown ≡ Some bytes)) ∥₁
 
@@ -50,8 +50,8 @@ abbrev pub ReturnsTextOf : Config → (Log → Log → Type 0) → Result (Strin
 ReturnsTextOf config writes (Ok made) = ((log : Log) × writes (Some []) log × IsTextOf config log (string_bytes made)) × IsTextOfEntries config (string_bytes made)
 ReturnsTextOf config writes (Err e) = ⊤
 
--- What was put to a writer, whose bytes were old and are new: on Ok the text of the events that the value sends. Unless the error is `Io` it is the
--- text of whole entries, and in any case a beginning of such a text.
+-- What was written to a writer, whose bytes were old and are new: on Ok, the text of the events that the value sends. It is the text of
+-- whole entries, or, if the error is `Io`, a prefix of such a text.
 pub record WritesTextOf (config : Config) (writes : Log → Log → Type 0) (old new : Option (List ℕ)) (result : Result (Unit {0}) Error) : Type 0 where
   pub whole : OnOk result ((log : Log) × writes (Some []) log × ((bytes : List ℕ) × IsTextOf config log bytes × Appends old new bytes))
   pub entries : ¬ IsIo result → (bytes : List ℕ) × IsTextOfEntries config bytes × Appends old new bytes

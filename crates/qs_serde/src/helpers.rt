@@ -17,8 +17,8 @@
 //! | [`space_delimited`] | a space | `values=1+2+3` |
 //! | [`generic_delimiter`] | any character, an argument | |
 //!
-//! An item is of any type that is read from one text and printed as it. A list of one empty string is written as the empty list is, and
-//! an item that holds the delimiter comes back as two.
+//! The items may be of any type that is printed as one text and read from it. A list of one empty string is written like the empty list,
+//! and an item that contains the delimiter is read back as two.
 
 pub mod comma_separated;
 pub mod generic_delimiter;

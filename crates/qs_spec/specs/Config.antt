@@ -28,7 +28,7 @@ abbrev pub are_rejected : Duplicates → Bool
 are_rejected take_last = false
 are_rejected reject = true
 
--- the segment that the i-th element adds to its path, if it adds one
+-- the segment that the i-th element adds to its path, if any
 abbrev pub element_segment : ArrayFormat → ℕ → Option (List ℕ)
 element_segment indexed i = Some (decimal i)
 element_segment empty_indexed i = Some []

@@ -1,7 +1,7 @@
--- Data: what is read by a shape, and what is written.
+-- Data: what a shape reads, and what is written.
 use Rattle.std.specs.Prelude.{ℕ, ℤ, Bool, List, [], ◌∷◌}
 
--- Texts, names and bytes are lists of bytes, a character is its code.
+-- Texts, names and bytes are lists of bytes. A character is its code.
 mutual
   pub data Data : Type 0 where
     unit : Data
@@ -35,7 +35,7 @@ mutual
     no_members : Members
     one_member : (name : List ℕ) → Data → Members → Members
 
--- lists of data, of pairs and of fields, as data hold them
+-- lists of data, of pairs and of fields, as data holds them
 abbrev pub values_of : List Data → Values
 values_of [] = no_values
 values_of (d ∷ ds) = one_value d (values_of ds)

@@ -9,7 +9,7 @@ use Rattle.qs_spec.specs.Data.{Data, Values, no_values, one_value, Pairs, no_pai
 abbrev pub Path : Type 0
 Path = List (List ℕ)
 
--- a path, and the bytes after `=`, if there is one
+-- a path, and the bytes after `=` if there is a `=`
 pub record Entry : Type 0 where
   pub path : Path
   pub value : Option (List ℕ)
@@ -19,7 +19,7 @@ pub data EntryError : Type 0 where
   too_deep : EntryError
   bad_key : EntryError
 
--- the entries, and the first error if there is one; then only the entries before it
+-- the entries, and the first error if there is one; in this case only the entries before the error
 pub record Output : Type 0 where
   pub entries : List Entry
   pub error : Option EntryError
@@ -43,7 +43,7 @@ follow es (Some r) o = record { entries = es; error = Some r }
 abbrev pub and_then : Output → Output → Output
 and_then a b = follow a.entries a.error b
 
--- a part under one more segment; a path of more segments than the limit isn't extended
+-- a part under one more segment; a path with more segments than the limit isn't extended
 unfoldable pub deeper : ℕ → Path → List ℕ → (Path → Output) → Output
 deeper limit path segment part = cond (nat_lt limit (length path)) (failure too_deep) (part (path ++ segment ∷ []))
 
@@ -52,12 +52,12 @@ abbrev pub maybe_deeper : ℕ → Path → Option (List ℕ) → (Path → Outpu
 maybe_deeper limit path None part = part path
 maybe_deeper limit path (Some segment) part = deeper limit path segment part
 
--- the word for a boolean
+-- the text of a boolean
 abbrev pub boolean_text : Bool → List ℕ
 boolean_text true = codes "true"
 boolean_text false = codes "false"
 
--- the text of a map's key, where it is a scalar other than unit and none
+-- the text of a map's key, if it is a scalar other than unit and none
 abbrev pub key_text : Data → Option (List ℕ)
 key_text (Data.boolean b) = Some (boolean_text b)
 key_text (Data.unsigned n) = Some (decimal n)

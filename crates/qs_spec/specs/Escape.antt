@@ -1,6 +1,6 @@
 -- How the bytes of a querystring are encoded and decoded.
 -- Query mode escapes the query percent-encode set of the URL Standard (section 1.3) and the separators of this notation;
--- form mode escapes all that the application/x-www-form-urlencoded set does (section 1.3), and a space as `%20`.
+-- form mode escapes the application/x-www-form-urlencoded percent-encode set (section 1.3), a space as `%20`.
 use Rattle.std.specs.Prelude.{ℕ, ◌+◌, ◌*◌, ◌/◌, ◌%◌, Bool, true, false, not, ◌&&◌, ◌||◌, ◌==◌, nat_le, List, [], ◌∷◌, if◌then◌else◌, flat_map}
 use Rattle.std.specs.List.{list_any}
 use Rattle.std.specs.Char.{digit_value, is_digit}
@@ -18,7 +18,7 @@ is_between low high b = nat_le low b && nat_le b high
 abbrev pub is_kept_in_form : ℕ → Bool
 is_kept_in_form b = is_between 48 57 b || is_between 65 90 b || is_between 97 122 b || b == 42 || b == 45 || b == 46 || b == 95
 
--- all above the space and below 0x7F but `"`, `#`, `<`, `>`, `%`, `+`, `[`, `]`, `=`, `&`
+-- all above the space and below 0x7F except `"`, `#`, `<`, `>`, `%`, `+`, `[`, `]`, `=`, `&`
 abbrev pub is_kept_in_query : ℕ → Bool
 is_kept_in_query b = is_between 33 126 b && not (b == 34 || b == 35 || b == 60 || b == 62 || b == 37 || b == 43 || b == 91 || b == 93 || b == 61 || b == 38)
 
@@ -27,7 +27,7 @@ abbrev pub encoded_byte : Bool → ℕ → List ℕ
 encoded_byte true b = if is_kept_in_form b then b ∷ [] else escape b
 encoded_byte false b = if is_kept_in_query b then b ∷ [] else (if b == 32 then 43 ∷ [] else escape b)
 
--- encoded bytes: each byte after the other
+-- encoded bytes, one after another
 abbrev pub encoded : Bool → List ℕ → List ℕ
 encoded form bytes = flat_map (encoded_byte form) bytes
 
@@ -36,7 +36,7 @@ abbrev pub unplus : ℕ → ℕ
 unplus b = if b == 43 then 32 else b
 
 -- Decoded bytes, by cases on the first ones: `+` is a space, and `%` with two hexadecimal digits of either case is one byte. A broken
--- escape is kept: `%` and the byte after it where that is no digit, and the next byte too where only that one is none.
+-- escape is kept: `%` and the byte after it if that isn't a digit, or `%` and the two bytes after it if only the second isn't a digit.
 abbrev pub decoded : List ℕ → List ℕ
 decoded [] = []
 decoded (b ∷ []) = unplus b ∷ []

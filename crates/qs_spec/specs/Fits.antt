@@ -1,11 +1,11 @@
--- Data that fit a shape: the same kinds at each place. Nothing fits `any` or `ignored`.
+-- Data that fits a shape: both have the same kind at each place. Nothing fits `any` or `ignored`.
 use Rattle.std.specs.Prelude.{ℕ, ◌+◌, ◌-◌, ◌^◌, ℤ, pos, negsuc, Bool, true, false, ◌&&◌, ◌||◌, nat_lt, nat_le, List, Option, Some, None, if◌then◌else◌}
 use Rattle.std.specs.List.{list_any, list_all}
 use Rattle.std.specs.Str.{bytes_eq, is_utf8}
 use Rattle.qs_spec.specs.Data.{Data, Values, no_values, one_value, Pairs, no_pairs, one_pair, Members, no_members, one_member}
 use Rattle.qs_spec.specs.Shape.{Shape, Shapes, no_shapes, one_shape, Fields, no_fields, one_field, Variants, no_variants, one_variant, VariantKind, unit_kind, newtype_kind, tuple_kind, struct_kind, KeyShape}
 
--- a number of so many bits, at most 64
+-- a number of this many bits, at most 64
 abbrev pub fits_unsigned : ℕ → ℕ → Bool
 fits_unsigned bits n = nat_lt n (2 ^ bits) && nat_lt n (2 ^ 64)
 
@@ -42,7 +42,7 @@ abbrev pub is_unit : Option VariantKind → Bool
 is_unit (Some unit_kind) = true
 is_unit _ = false
 
--- there is a variant, and it holds what passes a test: a value, the items of a tuple, or fields
+-- there is a variant, and what it holds passes a test: a value, the items of a tuple, or fields
 abbrev pub by_newtype : (Shape → Bool) → Option VariantKind → Bool
 by_newtype fits (Some (newtype_kind s)) = fits s
 by_newtype fits _ = false
@@ -60,7 +60,7 @@ abbrev pub are_optional : Fields → Bool
 are_optional no_fields = true
 are_optional (one_field n s o fs) = o && are_optional fs
 
--- the field of the name, which only optional fields precede, and the fields after it
+-- the test holds of the field with this name and the fields after it, and all fields before it are optional
 abbrev pub at_field : (Shape → Fields → Bool) → List ℕ → Fields → Bool
 at_field fits name no_fields = false
 at_field fits name (one_field n s o fs) = if bytes_eq n name then fits s fs else (o && at_field fits name fs)
@@ -102,7 +102,7 @@ abbrev mutual
   fits_pairs k s no_pairs = true
   fits_pairs k s (one_pair a d ps) = fits_key k a && fits s d && fits_pairs k s ps
 
-  -- fields in the shape's order; each that isn't optional is there
+  -- fields in the shape's order; only optional fields may be missing
   pub fits_fields : Fields → Members → Bool
   fits_fields fs no_members = are_optional fs
   fits_fields fs (one_member name d ms) = is_utf8 name && at_field (λ s rest. fits s d && fits_fields rest ms) name fs

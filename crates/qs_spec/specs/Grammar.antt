@@ -20,7 +20,7 @@ direct path leaf = record { path = path; push = false; leaf = leaf }
 abbrev pub pushed : List MarkedSegment → Leaf → Pair
 pushed path leaf = record { path = path; push = true; leaf = leaf }
 
--- which token it is
+-- the kind of a token
 abbrev pub is_amp : Kind → Bool
 is_amp Amp = true
 is_amp _ = false
@@ -41,7 +41,7 @@ is_close _ = false
 abbrev pub ends_last : Kind → Bool
 ends_last k = is_amp k || is_equals k
 
--- what ends a root key: a bracket too, where the depth limit is above 0
+-- what ends a root key: also an opening bracket, if the depth limit is above 0
 abbrev pub ends_root : ℕ → Kind → Bool
 ends_root zero k = ends_last k
 ends_root (suc depth) k = ends_last k || is_open k
@@ -64,7 +64,8 @@ pub data IsValue : List Token → Leaf → Type 0 where
   none : IsValue [] NoValue
   some : {t : Token} {v : List Token} → t.kind ≡ Equals → IsRun is_amp v → IsValue (t ∷ v) (value_leaf (raw_of v))
 
--- What follows an opening bracket with these bytes after a path, with room for so many segments: a push, a segment where there is room, or else the last key.
+-- What follows a path and an opening bracket with these bytes. At most `room` more segments are allowed. It is a push, a segment if
+-- one more is allowed, or the last key otherwise.
 pub data IsBrackets : ℕ → List MarkedSegment → List ℕ → List Token → Pair → Type 0 where
   push : {room : ℕ} {path : List MarkedSegment} {bracket : List ℕ} {t : Token} {value : List Token} {leaf : Leaf}
       → t.kind ≡ Close → IsValue value leaf
@@ -92,12 +93,12 @@ pub data IsPair (depth : ℕ) : List Token → Pair → Type 0 where
       → IsRun (ends_root depth) key → IsTrue (is_open t.kind) → IsTrue (ends_root depth Open) → IsBrackets depth (root key) t.raw rest pair
       → IsPair depth (key ++ t ∷ rest) pair
 
--- the end, or `&` first
+-- there are no tokens, or the first is `&`
 abbrev pub IsEnd : List Token → Type 0
 IsEnd [] = Unit {0}
 IsEnd (t ∷ rest) = t.kind ≡ Amp
 
--- the tokens are these pairs, with `&` between them and any number of `&` more
+-- the tokens are these pairs, separated by `&`, with any number of additional `&`
 pub data ArePairs (depth : ℕ) : List Token → List Pair → Type 0 where
   none : ArePairs depth [] []
   amp : {t : Token} {rest : List Token} {pairs : List Pair} → t.kind ≡ Amp → ArePairs depth rest pairs → ArePairs depth (t ∷ rest) pairs

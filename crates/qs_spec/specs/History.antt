@@ -21,7 +21,7 @@ event_of [] false leaf = direct leaf
 abbrev pub event : Pair → Event
 event p = event_of p.path p.push p.leaf
 
--- the pairs whose path begins with a segment, without it
+-- the pairs whose path begins with a segment, with that segment removed
 abbrev pub under : Segment → List Pair → List Pair
 under k [] = []
 under k (p ∷ ps) = elim p.path [
@@ -29,7 +29,7 @@ under k (p ∷ ps) = elim p.path [
   | (s ∷ path) ↦ if is_same_segment k s.seg then record p { path = path } ∷ under k ps else under k ps
 ]
 
--- the pairs whose path begins with a path, without it
+-- the pairs whose path begins with a path, with that path removed
 abbrev pub at : List Segment → List Pair → List Pair
 at [] ps = ps
 at (k ∷ path) ps = at path (under k ps)
@@ -38,7 +38,7 @@ at (k ∷ path) ps = at path (under k ps)
 abbrev pub events : List Pair → List Segment → List Event
 events ps path = map event (at path ps)
 
--- which event it is
+-- the kind of an event
 abbrev pub is_below : Event → Bool
 is_below below = true
 is_below _ = false
@@ -56,6 +56,6 @@ abbrev pub begins_direct_push : List Event → Bool
 begins_direct_push (direct leaf ∷ push other ∷ h) = true
 begins_direct_push _ = false
 
--- no event is below, and a single direct leaf isn't followed by a push; or below comes first, and nothing is pushed
+-- no event is below, and no push follows a single direct leaf; or the first event is below, and nothing is pushed
 abbrev pub permitted : List Event → Bool
 permitted h = (not (list_any is_below h) && not (begins_direct_push h)) || (begins_below h && not (list_any is_push h))

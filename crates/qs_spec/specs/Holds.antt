@@ -1,4 +1,4 @@
--- What a tree holds: its leaves, how deep its maps are nested, and what is true of each tree of an input.
+-- What a tree holds: its leaves, the depth of its maps, and what is true of the tree of any input.
 use Rattle.std.specs.Prelude.{◌≢◌, ℕ, suc, ◌+◌, max, [], ◌∷◌, ⊤}
 use Rattle.qs_spec.specs.Segment.{Segment}
 use Rattle.qs_spec.specs.Segment.Segment.{Int, Str}
@@ -23,7 +23,7 @@ abbrev mutual
   entries_leaf_count no_entries = 0
   entries_leaf_count (entry k mark t es) = leaf_count t + entries_leaf_count es
 
--- how many maps are nested at most
+-- how deep maps are nested
 abbrev mutual
   pub nesting : Tree → ℕ
   nesting (leaf l) = 0
@@ -57,7 +57,7 @@ IsLow (sequence xs) = ⊤
 IsLow (mapping es) = ⊥
 IsLow uninitialized = ⊥
 
--- the value of the empty key is such a node; any value of another key
+-- the value of the empty key is such a node; the value of another key may be any node
 abbrev pub IsLowAtEmpty : Segment → Tree → Type 0
 IsLowAtEmpty (Int n) t = ⊤
 IsLowAtEmpty (Str []) t = IsLow t

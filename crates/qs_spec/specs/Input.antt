@@ -4,11 +4,11 @@ use Rattle.qs_spec.specs.Token.{tokens}
 use Rattle.qs_spec.specs.Grammar.{Pair, ArePairs}
 use Rattle.qs_spec.specs.Order.{AreReordered}
 
--- the input has so many pairs
+-- the input has this many pairs
 abbrev pub HasPairs : Bool → ℕ → List ℕ → ℕ → Type 0
 HasPairs form depth bytes n = (pairs : List Pair) × ArePairs depth (tokens form bytes) pairs × (length pairs ≡ n)
 
--- the first input has pairs, and those of the second are the same but for their marks, in an order that keeps overlapping paths in order
+-- the first input has pairs, and the second has the same pairs, ignoring marks, in an order that keeps overlapping paths in order
 pub record IsReordered (form : Bool) (depth : ℕ) (first second : List ℕ) : Type 0 where
   pub pairs : List Pair
   pub others : List Pair

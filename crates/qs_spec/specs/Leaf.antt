@@ -2,7 +2,7 @@
 use Rattle.std.specs.Prelude.{ℕ, Bool, List, [], ◌∷◌}
 use Rattle.qs_spec.specs.Escape.{decoded, is_marked}
 
--- no `=`, nothing after it, or a text, with a mark where its raw bytes hold `+` or `%`
+-- no `=`, nothing after `=`, or a text, with a mark if its raw bytes hold `+` or `%`
 pub data Leaf : Type 0 where
   NoValue : Leaf
   Null : Leaf

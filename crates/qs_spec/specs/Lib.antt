@@ -1,7 +1,7 @@
--- The words that a reader must believe: all modules but `internal`. The clauses of the crates above and the laws of this crate say
--- what they say in these words.
--- `internal` has steps of proofs: functions that compute what a relation says, and words that laws lead to one another by. Laws
--- relate each of them to the words above.
+-- The definitions to review: all modules except `internal`. The clauses of the crates above and the laws of this
+-- crate are stated in them.
+-- `internal` has steps of proofs: functions that compute what a relation says, and definitions that connect one law to another. Laws
+-- relate each of them to the definitions above.
 pub mod Config
 pub mod Escape
 pub mod Token

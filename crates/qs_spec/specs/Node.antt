@@ -11,7 +11,7 @@ use Rattle.qs_spec.specs.Tree.Items.{no_items, item}
 use Rattle.qs_spec.specs.Tree.Entries.{no_entries, entry}
 use Rattle.qs_spec.specs.Shape.{Fields, UnknownKeys, are_ignored, is_field_name}
 
--- the bytes of a leaf among others, where Null and NoValue count as the empty text
+-- the bytes of a leaf in a sequence; Null and NoValue count as the empty text
 abbrev pub item_text : Tree → Option (List ℕ)
 item_text (leaf l) = Some (leaf_text l)
 item_text _ = None
@@ -22,18 +22,18 @@ last_item reject_duplicates no_items = None
 last_item reject_duplicates (item t no_items) = item_text t
 last_item reject_duplicates (item t (item u xs)) = cond reject_duplicates None (last_item reject_duplicates (item u xs))
 
--- the last text of a node: that of a text, or of a sequence's last item
+-- the last text of a node: its own if it is a text, or the text of a sequence's last item
 abbrev pub last_text : Bool → Tree → Option (List ℕ)
 last_text reject_duplicates (leaf (Text bytes mark)) = Some bytes
 last_text reject_duplicates (sequence xs) = last_item reject_duplicates xs
 last_text reject_duplicates _ = None
 
--- a pair was there
+-- there is a pair
 abbrev pub IsThere : Tree → Type 0
 IsThere uninitialized = ⊥
 IsThere _ = ⊤
 
--- and it has a value that isn't empty
+-- there is a pair, and its value isn't empty
 abbrev pub IsFull : Tree → Type 0
 IsFull uninitialized = ⊥
 IsFull (leaf NoValue) = ⊥
@@ -84,7 +84,7 @@ abbrev pub found : List ℕ → Entries → List Tree
 found name no_entries = []
 found name (entry k mark t es) = cond (bytes_eq (segment_text k) name) (t ∷ found name es) (found name es)
 
--- the text of every key is as the test asks
+-- the text of every key passes the test
 abbrev pub all_keys : (List ℕ → Bool) → Entries → Bool
 all_keys test no_entries = true
 all_keys test (entry k mark t es) = test (segment_text k) && all_keys test es
@@ -97,7 +97,7 @@ keys_are_text = all_keys is_utf8
 abbrev pub keys_are_names : Fields → Entries → Bool
 keys_are_names fs = all_keys (λ key. is_field_name key fs)
 
--- every key is UTF-8, and a field's name where unknown keys are rejected
+-- every key is UTF-8, and a field's name if unknown keys are rejected
 abbrev pub keys_are_allowed : UnknownKeys → Fields → Entries → Bool
 keys_are_allowed unknown fs es = keys_are_text es && (keys_are_names fs es || are_ignored unknown)
 

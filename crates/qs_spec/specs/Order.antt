@@ -1,4 +1,4 @@
--- Permutations of pairs, and inputs with the same tree. Marks are no part of what is compared.
+-- Permutations of pairs, and inputs with the same tree. Comparisons ignore marks.
 use Rattle.std.specs.Prelude.{◌≡◌, ℕ, Bool, true, false, ◌||◌, ◌&&◌, List, [], ◌∷◌, map}
 use Rattle.qs_spec.specs.Segment.{MarkedSegment, is_same_segment}
 use Rattle.qs_spec.specs.Leaf.{Leaf}
@@ -16,7 +16,7 @@ is_front [] q = true
 is_front (s ∷ p) [] = false
 is_front (s ∷ p) (t ∷ q) = is_same_segment s.seg t.seg && is_front p q
 
--- two pairs with overlapping paths: equal, or one the front of the other
+-- two pairs with overlapping paths: equal, or one a prefix of the other
 abbrev pub overlap : Pair → Pair → Bool
 overlap p q = is_front p.path q.path || is_front q.path p.path
 
@@ -47,11 +47,11 @@ abbrev mutual
   unmarked_entries no_entries = no_entries
   unmarked_entries (entry k mark t es) = entry k false (unmarked t) (unmarked_entries es)
 
--- the same pairs but for their marks, in an order that keeps overlapping paths in order
+-- the same pairs, ignoring marks, in an order that keeps overlapping paths in order
 abbrev pub AreReordered : List Pair → List Pair → Type 0
 AreReordered ps qs = KeepsOrder overlap (map unmarked_pair ps) (map unmarked_pair qs)
 
--- two inputs have trees that differ at most in marks, or neither has one
+-- two inputs have trees that differ at most in marks, or neither has a tree
 pub record AreEquivalent (form : Bool) (depth : ℕ) (a b : List ℕ) : Type 0 where
   pub there : (t : Tree) → IsTree form depth a t → (u : Tree) × IsTree form depth b u × (unmarked u ≡ unmarked t)
   pub back : (u : Tree) → IsTree form depth b u → (t : Tree) × IsTree form depth a t × (unmarked t ≡ unmarked u)

@@ -1,4 +1,4 @@
--- Plain data: their entries can be read back in any order.
+-- Plain data: its entries can be read back in any order.
 use Rattle.std.specs.Prelude.{ℕ, ◌+◌, Bool, true, false, not, ◌&&◌, ◌||◌, nat_le, List, [], ◌∷◌, Option, Some, None}
 use Rattle.std.specs.List.{list_any}
 use Rattle.std.specs.Str.{bytes_eq}
@@ -12,7 +12,7 @@ abbrev pub has_bytes : List ℕ → Bool
 has_bytes [] = false
 has_bytes (b ∷ s) = true
 
--- a name that is read back: some bytes, no digits after a leading zero, and in form mode no bracket
+-- a name that is read back: at least one byte, no digits after a leading zero, and in form mode no bracket
 abbrev pub is_plain_name : Bool → List ℕ → Bool
 is_plain_name form s = has_bytes s && not (is_numeral s && has_leading_zero s) && not (form && list_any is_bracket s)
 
@@ -23,7 +23,7 @@ is_optional (Data.some d) = true
 is_optional (Data.newtype d) = is_optional d
 is_optional _ = false
 
--- the text of a key, if it has one, is such a name
+-- if a key has a text, that is such a name
 abbrev pub is_plain_text : Bool → Option (List ℕ) → Bool
 is_plain_text form None = false
 is_plain_text form (Some t) = is_plain_name form t
@@ -78,7 +78,8 @@ count (one_value d ds) = count ds + 1
 abbrev pub are_few : Values → Bool
 are_few ds = nat_le (count ds) 4294967295
 
--- Options hold no options, structs and variants have parts, names and keys are plain and differ, lists have an index for each element.
+-- Options hold no options, structs and variants have parts, names and keys are plain and distinct, and lists have an index for each
+-- element.
 abbrev mutual
   pub is_plain : Bool → Data → Bool
   is_plain form Data.unit = true

@@ -1,4 +1,4 @@
--- What it means that written data are read back.
+-- What it means that written data is read back.
 use Rattle.std.specs.Prelude.{◌≡◌, ℕ, Bool, true, false, ◌&&◌, ◌||◌, List, [], ◌∷◌, None}
 use Rattle.std.specs.List.{AllByRecursion}
 use Rattle.std.specs.Str.{bytes_eq}
@@ -13,13 +13,13 @@ use Rattle.qs_spec.specs.Fits.{fits}
 use Rattle.qs_spec.specs.Same.{Same}
 use Rattle.qs_spec.specs.Permutation.{KeepsOrder, IsReordering}
 
--- the data are plain, fit the shape, and are written without an error
+-- the data is plain, fits the shape, and is written without an error
 pub record IsPlainFor (config : Config) (shape : Shape) (d : Data) : Type 0 where
   pub plain : is_plain config.form d ≡ true
   pub fits : fits shape d ≡ true
   pub whole : (entries config d).error ≡ None
 
--- the input has a tree, and the shape reads data from it that are the same
+-- the input has a tree, and the shape reads the same data from it
 pub record IsReadBack (config : Config) (shape : Shape) (d : Data) (input : List ℕ) : Type 0 where
   pub tree : Tree
   pub is_tree : IsTree config.form config.max_depth input tree
@@ -38,7 +38,7 @@ abbrev pub ArePathsApart : List Entry → Type 0
 ArePathsApart [] = Unit {0}
 ArePathsApart (e ∷ es) = AllByRecursion (λ (f : Entry). (is_prefix e.path f.path || is_prefix f.path e.path) ≡ false) es × ArePathsApart es
 
--- two paths are equal, and two entries have one path
+-- two paths are equal, and two entries have the same path
 abbrev pub is_same_path : Path → Path → Bool
 is_same_path [] [] = true
 is_same_path [] (t ∷ q) = false
@@ -48,7 +48,7 @@ is_same_path (s ∷ p) (t ∷ q) = bytes_eq s t && is_same_path p q
 abbrev pub have_one_path : Entry → Entry → Bool
 have_one_path e f = is_same_path e.path f.path
 
--- permutations that keep entries with one path in order, by recursion and by indices
+-- permutations that keep entries with the same path in order, by recursion and by indices
 abbrev pub KeepsPaths : List Entry → List Entry → Type 0
 KeepsPaths = IsReordering have_one_path
 

@@ -1,4 +1,4 @@
--- What a shape reads from a node: the table of docs/QUERYSTRINGS.md, and below a rule or more for each of its rows.
+-- What a shape reads from a node: the table of docs/QUERYSTRINGS.md, and below it one or more rules for each row.
 --
 -- | shape | node | data |
 -- |---|---|---|
@@ -121,14 +121,15 @@ mutual
     pairs_more : {k : KeyShape} {s : Shape} {key : Segment} {mark : Bool} {n : Tree} {es : Entries} {a d : Data} {ps : Pairs} → key_data k (segment_text key) ≡ Some a → Reads reject_duplicates s n d → ReadsPairs reject_duplicates k s es ps
         → ReadsPairs reject_duplicates k s (Entries.entry key mark n es) (one_pair a d ps)
 
-  -- the fields of a node: by their names in a map, whose keys are allowed, by their indices in a sequence
+  -- the fields of a node: by their names in a map whose keys are allowed, or by their indices in a sequence
   pub data ReadsStruct (reject_duplicates : Bool) : UnknownKeys → Fields → Tree → Members → Type 0 where
     fields_of_null : {u : UnknownKeys} {fs : Fields} {ms : Members} → ReadsNames reject_duplicates fs Entries.no_entries ms → ReadsStruct reject_duplicates u fs (Tree.leaf Null) ms
     fields_of_no_value : {u : UnknownKeys} {fs : Fields} {ms : Members} → ReadsNames reject_duplicates fs Entries.no_entries ms → ReadsStruct reject_duplicates u fs (Tree.leaf NoValue) ms
     fields_by_name : {u : UnknownKeys} {fs : Fields} {es : Entries} {ms : Members} → IsTrue (keys_are_allowed u fs es) → ReadsNames reject_duplicates fs es ms → ReadsStruct reject_duplicates u fs (Tree.mapping es) ms
     fields_by_place : {u : UnknownKeys} {fs : Fields} {xs : Items} {ms : Members} → ReadsPlaces reject_duplicates fs xs ms → ReadsStruct reject_duplicates u fs (Tree.sequence xs) ms
 
-  -- A field whose name one key has is read; a field whose name none has is left out if it is optional, and else none if its shape is an option.
+  -- A field is read if exactly one key has its name. If no key has it, the field is left out if it is optional, and otherwise none if
+  -- its shape is an option.
   pub data ReadsNames (reject_duplicates : Bool) : Fields → Entries → Members → Type 0 where
     names_end : {es : Entries} → ReadsNames reject_duplicates no_fields es no_members
     name_found : {name : List ℕ} {s : Shape} {optional : Bool} {fs : Fields} {es : Entries} {n : Tree} {d : Data} {ms : Members} → found name es ≡ n ∷ [] → Reads reject_duplicates s n d → ReadsNames reject_duplicates fs es ms
@@ -137,7 +138,7 @@ mutual
     name_as_none : {name : List ℕ} {s : Shape} {fs : Fields} {es : Entries} {ms : Members} → found name es ≡ [] → ReadsNames reject_duplicates fs es ms
         → ReadsNames reject_duplicates (one_field name (Shape.option s) false fs) es (one_member name Data.none ms)
 
-  -- A field at whose index there is an item is read; beyond the end it is left out if it is optional.
+  -- A field is read if there is an item at its index. Beyond the end it is left out if it is optional.
   pub data ReadsPlaces (reject_duplicates : Bool) : Fields → Items → Members → Type 0 where
     places_end : {xs : Items} → ReadsPlaces reject_duplicates no_fields xs no_members
     place_found : {name : List ℕ} {s : Shape} {optional : Bool} {fs : Fields} {n : Tree} {xs : Items} {d : Data} {ms : Members} → Reads reject_duplicates s n d → ReadsPlaces reject_duplicates fs xs ms

@@ -7,7 +7,7 @@ use Rattle.qs_spec.specs.Segment.{number}
 use Rattle.qs_spec.specs.Shape.{KeyShape}
 use Rattle.qs_spec.specs.Data.{Data}
 
--- one ASCII digit or more
+-- one or more ASCII digits
 abbrev pub is_numeral : List ℕ → Bool
 is_numeral [] = false
 is_numeral (b ∷ digits) = list_all (is_between 48 57) (b ∷ digits)
@@ -46,7 +46,7 @@ unsigned_data bits t = option_map Data.unsigned (unsigned_number bits t)
 abbrev pub signed_data : ℕ → List ℕ → Option Data
 signed_data bits t = option_map Data.signed (signed_number bits t)
 
--- one character alone
+-- exactly one character
 abbrev pub only_character : List ℕ → Option Data
 only_character [] = None
 only_character (c ∷ []) = Some (Data.character c)

@@ -12,7 +12,7 @@ pub data Segment : Type 0 where
   Int : ℕ → Segment
   Str : List ℕ → Segment
 
--- a segment of an input, and whether its raw bytes hold `+` or `%`
+-- a segment of an input, with a mark if its raw bytes hold `+` or `%`
 pub record MarkedSegment : Type 0 where
   pub seg : Segment
   pub mark : Bool
@@ -21,12 +21,12 @@ pub record MarkedSegment : Type 0 where
 abbrev pub number : List ℕ → ℕ
 number raw = fold (λ n b. 10 * n + (b - 48)) 0 raw
 
--- one ASCII digit or more, of a number below 2 ^ 32
+-- one or more ASCII digits of a number below 2 ^ 32
 abbrev pub is_index : List ℕ → Bool
 is_index [] = false
 is_index (b ∷ raw) = list_all (is_between 48 57) (b ∷ raw) && nat_le (number (b ∷ raw)) 4294967295
 
--- Raw bytes that are an index are an integer key, and others are decoded to a string key. So the escaped digit `%31` is a string key.
+-- Raw bytes that are an index are an integer key. Others are decoded to a string key, as is the escaped digit `%31`.
 abbrev pub segment_of : List ℕ → Segment
 segment_of raw = if is_index raw then Int (number raw) else Str (decoded raw)
 

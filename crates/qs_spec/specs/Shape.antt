@@ -3,7 +3,7 @@ use Rattle.std.specs.Prelude.{ℕ, Bool, true, false, not, ◌&&◌, ◌||◌, L
 use Rattle.std.specs.List.{list_any}
 use Rattle.std.specs.Str.{bytes_eq}
 
--- how the text of a map's key is read; numbers by their bits
+-- how the text of a map's key is read; a number has a count of bits
 pub data KeyShape : Type 0 where
   boolean : KeyShape
   unsigned : (bits : ℕ) → KeyShape
@@ -12,12 +12,12 @@ pub data KeyShape : Type 0 where
   text : KeyShape
   variants : (names : List (List ℕ)) → KeyShape
 
--- keys of a map that no field of a struct has: ignored or rejected
+-- map keys that are no field of a struct: ignored or rejected
 pub data UnknownKeys : Type 0 where
   ignored : UnknownKeys
   rejected : UnknownKeys
 
--- An optional field is left out where it is missing.
+-- An optional field is left out if it is missing.
 mutual
   pub data Shape : Type 0 where
     unit : Shape

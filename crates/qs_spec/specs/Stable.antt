@@ -1,4 +1,4 @@
--- Trees that come back: what `any` reads from them, written in the indexed format, has the same tree.
+-- Stable trees: what `any` reads from one, written in the indexed format, has the same tree.
 use Rattle.std.specs.Prelude.{Bool, true, false, not, ◌&&◌}
 use Rattle.std.specs.List.{list_any}
 use Rattle.qs_spec.specs.Token.{is_bracket}
@@ -20,7 +20,7 @@ abbrev pub has_entries : Entries → Bool
 has_entries no_entries = false
 has_entries (entry k mark t es) = true
 
--- Each key has `=`, none has several values, and keys are stable. In a tree of an input texts aren't empty, nor are maps.
+-- Each key has `=`, no key has several values, and keys are stable. In a tree of an input neither texts nor maps are empty.
 abbrev mutual
   pub is_stable : Bool → Tree → Bool
   is_stable form (leaf NoValue) = false

@@ -53,7 +53,7 @@ flat h = sequence (leaf_items (leaves_in h))
 abbrev pub empty_segment : MarkedSegment
 empty_segment = record { seg = Str []; mark = false }
 
--- the path with this segment, where it is empty and its leaf isn't pushed
+-- the path; if it is empty and its leaf isn't pushed, the path of the empty segment
 abbrev pub filled_path : List MarkedSegment → (pushed : Bool) → List MarkedSegment
 filled_path (s ∷ path) pushed = s ∷ path
 filled_path [] true = []
@@ -64,7 +64,7 @@ abbrev pub filled : List Pair → List Pair
 filled [] = []
 filled (p ∷ ps) = record p { path = filled_path p.path p.push } ∷ filled ps
 
--- ascending segments and one more, which is there once
+-- ascending segments with this one inserted, unless they already have it
 abbrev pub put : Segment → List Segment → List Segment
 put k [] = k ∷ []
 put k (x ∷ xs) = match_ordering (compare_segments k x) (k ∷ x ∷ xs) (x ∷ xs) (x ∷ put k xs)
@@ -92,7 +92,7 @@ abbrev pub entries_of : (Segment → Bool) → (Segment → Tree) → List Segme
 entries_of mark node [] = no_entries
 entries_of mark node (k ∷ ks) = entry k (mark k) (node k) (entries_of mark node ks)
 
--- the node where these pairs' paths begin, of no more than so many segments
+-- the node at which the paths of these pairs begin; the paths have at most this many segments
 abbrev pub node_within : ℕ → List Pair → Tree
 node_within zero ps = flat (events ps [])
 node_within (suc n) ps =
@@ -105,7 +105,7 @@ abbrev pub longest : List Pair → ℕ
 longest [] = 0
 longest (p ∷ ps) = max (length p.path) (longest ps)
 
--- the node of some pairs: a map where one of them goes below, with the node of the pairs under each segment
+-- the node of some pairs: if one of them goes below, a map with the node of the pairs under each segment
 abbrev pub node : List Pair → Tree
 node ps = node_within (longest ps) ps
 

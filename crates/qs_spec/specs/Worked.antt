@@ -1,4 +1,4 @@
--- Short words for the worked examples: trees, shapes and data, and what is read of an input and written of data.
+-- Short names for the worked examples: trees, shapes and data, what is read from an input, and what data is written as.
 use Rattle.std.specs.Prelude.{◌≡◌, ℕ, false, List, [], ◌∷◌, Option, Some, None}
 use Rattle.qs_spec.specs.Config.{Config}
 use Rattle.qs_spec.specs.Segment.{Segment}
@@ -31,7 +31,7 @@ at_text key t es = Entries.entry (Segment.Str key) false t es
 abbrev pub only : List ℕ → Tree → Tree
 only key t = Tree.mapping (at_text key t Entries.no_entries)
 
--- a struct of one field, which must be there
+-- a struct with one field, which isn't optional
 abbrev pub field : List ℕ → Shape → Shape
 field name s = Shape.struct UnknownKeys.ignored (one_field name s false no_fields)
 
@@ -43,7 +43,7 @@ struct_with name d = Data.struct (members_of ((name, d) ∷ []))
 abbrev pub map_with : List ℕ → Data → Data
 map_with key d = Data.mapping (pairs_of ((Data.text key, d) ∷ []))
 
--- this is what the shape reads from the tree, or it reads nothing
+-- this is what the shape reads from the tree, or None if it reads nothing
 abbrev pub ReadsOrNothing : Config → Shape → Tree → Option Data → Type 0
 ReadsOrNothing config shape tree None = ReadsNothing config shape tree
 ReadsOrNothing config shape tree (Some d) = ReadsBy config shape tree d
@@ -59,7 +59,7 @@ pub record IsWritten (config : Config) (d : Data) (text : List ℕ) (error : Opt
   pub text_is : written config.form false (entries config d).entries ≡ text
   pub error_is : (entries config d).error ≡ error
 
--- the data are written as the text, and this is what the shape reads from it
+-- the data is written as the text, and this is what the shape reads from it
 pub record IsReadAs (config : Config) (shape : Shape) (d : Data) (text : List ℕ) (answer : Option Data) : Type 0 where
   pub written : IsWritten config d text None
   pub read : IsRead config shape text answer
@@ -69,7 +69,7 @@ abbrev pub IsTreeOrNone : Config → List ℕ → Option Tree → Type 0
 IsTreeOrNone config input None = HasNoTree config.form config.max_depth input
 IsTreeOrNone config input (Some tree) = IsTree config.form config.max_depth input tree
 
--- The input has this tree, which isn't stable; what `any` reads from it is written as the text, and the text has the other tree, or none.
+-- The input has this tree, which isn't stable. What `any` reads from it is written as the text, which has the other tree, or none.
 pub record IsUnstable (config : Config) (input : List ℕ) (tree : Tree) (d : Data) (text : List ℕ) (other : Option Tree) : Type 0 where
   pub is_tree : IsTree config.form config.max_depth input tree
   pub unstable : is_stable config.form tree ≡ false

@@ -20,7 +20,7 @@ unfoldable pub path_text : Bool → Path → List ℕ
 path_text form [] = []
 path_text form (s ∷ path) = encoded form s ++ brackets_text form path
 
--- `=` and the value, if there is one
+-- `=` and the value, if there is a value
 abbrev pub value_text : Bool → Option (List ℕ) → List ℕ
 value_text form None = []
 value_text form (Some bytes) = 61 ∷ encoded form bytes
@@ -30,16 +30,16 @@ abbrev pub has_key : Path → Bool
 has_key [] = false
 has_key (s ∷ path) = true
 
--- an entry with a key has `&` in front of it where one with a key was written before
+-- `&` precedes an entry with a key if an entry with a key was written before
 unfoldable pub entry_text : Bool → Bool → Path → Option (List ℕ) → List ℕ
 entry_text form started path value = cond (has_key path) (cond started (38 ∷ []) []) [] ++ (path_text form path ++ value_text form value)
 
--- the entries one after the other; `started` says whether one with a key was written before
+-- the entries one after another; `started` says whether an entry with a key was written before
 unfoldable pub written : Bool → Bool → List Entry → List ℕ
 written form started [] = []
 written form started (e ∷ es) = entry_text form started e.path e.value ++ written form (started || has_key e.path) es
 
--- whether an entry with a key was written, in the end
+-- whether an entry with a key has been written after these
 unfoldable pub started_after : Bool → List Entry → Bool
 started_after started [] = started
 started_after started (e ∷ es) = started_after (started || has_key e.path) es

@@ -1,4 +1,4 @@
--- Steps of proofs: nothing here adds to what a public clause means.
+-- Steps of proofs. Nothing here adds to the meaning of a public clause.
 pub mod InPlace
 pub mod ReadFunction
 pub mod Parsing

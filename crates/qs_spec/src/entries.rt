@@ -8,7 +8,7 @@ ghost use Rattle.qs_spec.specs.Entry.{Entry};
 ghost use Rattle.qs_spec.specs.Written.{written};
 ghost use Rattle.qs_spec.specs.internal.WrittenEntries.{IsWritable, HasKey, entry_pair};
 
-/// The text of entries with paths, or of a single entry, is parsed as their pairs.
+/// The string of entries with paths, or of a single entry, is parsed as their pairs.
 pub fn written_entries_are_parsed()
     ensures entries { (form : Bool) (depth : ℕ) (es : List Entry) → AllByRecursion (IsWritable form depth) es → AllByRecursion HasKey es
         → ArePairs depth (tokens form (written form false es)) (map (entry_pair form) es) }

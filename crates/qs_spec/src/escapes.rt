@@ -4,19 +4,19 @@ ghost use Rattle.std.specs.Prelude.{◌≡◌, ◌<◌, ℕ, Bool, true, false, 
 ghost use Rattle.std.specs.List.{AllByRecursion};
 ghost use Rattle.qs_spec.specs.Escape.{decoded, encoded};
 
-/// Encoded bytes are decoded to what was encoded, in both modes.
+/// Decoding restores encoded bytes, in both modes.
 pub fn escapes_round_trip()
     ensures { (form : Bool) (s : List ℕ) → AllByRecursion (λ b. b < 256) s → decoded (encoded form s) ≡ s }
 {}
 
-/// What some encoded texts are decoded to.
+/// What some encoded strings are decoded to.
 pub fn decoded_texts()
     ensures brackets { decoded (codes "a%5Bb%5D%5Bc%5D=1") ≡ codes "a[b][c]=1" }
     ensures plus { decoded (codes "a+b%2Bc") ≡ codes "a b+c" }
     ensures digits_of_either_case { decoded (codes "%2f%2F%c3%A9") ≡ 47 ∷ 47 ∷ 195 ∷ 169 ∷ [] }
 {}
 
-/// A broken escape stays as it is, and what was looked at isn't looked at again.
+/// A broken escape isn't changed, and none of its bytes begins another escape.
 pub fn broken_escapes_stay()
     ensures percent_after_percent { decoded (codes "%%41") ≡ codes "%%41" }
     ensures plus_after_percent { decoded (codes "%+") ≡ codes "%+" }
@@ -25,7 +25,7 @@ pub fn broken_escapes_stay()
     ensures cut_short { decoded (codes "%4") ≡ codes "%4" }
 {}
 
-/// How some texts are escaped. The bytes 195 and 169 are the letter é.
+/// How some strings are escaped. The bytes 195 and 169 are the letter é.
 pub fn encoded_texts()
     ensures query { encoded false (codes "100% a+b") ≡ codes "100%25+a%2Bb" }
     ensures form { encoded true (codes "100% a+b") ≡ codes "100%25%20a%2Bb" }
@@ -35,7 +35,7 @@ pub fn encoded_texts()
     ensures letter_in_form { encoded true (195 ∷ 169 ∷ []) ≡ codes "%C3%A9" }
 {}
 
-/// Which bytes are kept and which are escaped, beside letters and digits.
+/// Which bytes other than letters and digits are kept, and which are escaped.
 pub fn kept_bytes()
     ensures query_keeps { encoded false (codes "*-._~:/@!',;?$") ≡ codes "*-._~:/@!',;?$" }
     ensures query_escapes { encoded false (codes "#<>[]=&") ≡ codes "%23%3C%3E%5B%5D%3D%26" }

@@ -1,4 +1,4 @@
-//! Worked inputs and their trees.
+//! Worked examples: inputs and their trees.
 
 ghost use Rattle.std.specs.Prelude.{true, false, codes, [], ◌∷◌};
 ghost use Rattle.qs_spec.specs.Segment.Segment.{Int, Str};
@@ -8,7 +8,7 @@ ghost use Rattle.qs_spec.specs.Tree.Tree.{leaf, mapping, uninitialized};
 ghost use Rattle.qs_spec.specs.Tree.Entries.{entry, no_entries};
 ghost use Rattle.qs_spec.specs.Worked.{text_leaf, text_leaves, at_text, only};
 
-/// Segments nest up to the limit; after it all brackets are one last key.
+/// Segments nest up to the limit. Deeper brackets make one last key.
 pub fn deep_keys()
     ensures last_key { IsTree false 5 (codes "a[b][c][d][e][f][g][h]=i")
         (only (codes "a") (only (codes "b") (only (codes "c") (only (codes "d") (only (codes "e") (only (codes "f") (only (codes "[g][h]") (text_leaf (codes "i"))))))))) }
@@ -26,7 +26,7 @@ pub fn deep_keys()
     ensures bracket_after_a_push { HasNoTree false 5 (codes "a[][b]=1") }
 {}
 
-/// In form mode `%5B` and `%5D` are brackets, in upper case alone; otherwise they are escapes.
+/// In form mode `%5B` and `%5D` are brackets, but only in upper case. Otherwise they are escapes.
 pub fn brackets_in_form_mode()
     ensures escaped { IsTree true 5 (codes "abc%5Bdef%5D=ghi") (only (codes "abc") (only (codes "def") (text_leaf (codes "ghi")))) }
     ensures lower_case { IsTree true 5 (codes "abc%5bdef%5d=ghi") (mapping (entry (Str (codes "abc[def]")) true (text_leaf (codes "ghi")) no_entries)) }
@@ -35,7 +35,7 @@ pub fn brackets_in_form_mode()
     ensures in_a_value { IsTree true 5 (codes "a=%5B") (only (codes "a") (leaf (Text (codes "[") true))) }
 {}
 
-/// A value may follow what is nested under its key, and is then the value of the empty key; it may not precede it.
+/// A value may follow pairs nested under its key, and is then the value of the empty key. It may not precede them.
 pub fn values_beside_maps()
     ensures value_after { IsTree false 5 (codes "a[b]=1&a=2") (only (codes "a") (mapping (at_text [] (text_leaf (codes "2")) (at_text (codes "b") (text_leaf (codes "1")) no_entries)))) }
     ensures value_before { HasNoTree false 5 (codes "a=2&a[b]=1") }
@@ -47,7 +47,7 @@ pub fn values_beside_maps()
     ensures push_after { HasNoTree false 5 (codes "a[b]=1&a[]=2") }
 {}
 
-/// Several values of a key are a sequence, and more may be pushed onto it; nothing is pushed onto a single value.
+/// Several values of a key are a sequence, and more may be pushed onto it. Nothing can be pushed onto a single value.
 pub fn repeated_keys()
     ensures values_and_a_push { IsTree false 5 (codes "a=1&a=2&a[]=3") (only (codes "a") (text_leaves (codes "1" ∷ codes "2" ∷ codes "3" ∷ []))) }
     ensures pushes { IsTree false 5 (codes "a[]=1&b=x&a[]=2") (mapping (at_text (codes "a") (text_leaves (codes "1" ∷ codes "2" ∷ [])) (at_text (codes "b") (text_leaf (codes "x")) no_entries))) }
@@ -55,7 +55,7 @@ pub fn repeated_keys()
     ensures value_after_a_push { IsTree false 5 (codes "a[]=1&a=2") (only (codes "a") (text_leaves (codes "1" ∷ codes "2" ∷ []))) }
 {}
 
-/// Digits of a number of 32 bits are an index, other keys and escaped digits are texts.
+/// The digits of a 32-bit number are an integer key. Other keys and escaped digits are string keys.
 pub fn indices_and_texts()
     ensures escaped_digit { IsTree false 5 (codes "1=a&%31=b") (mapping (entry (Int 1) false (text_leaf (codes "a")) (entry (Str (codes "1")) true (text_leaf (codes "b")) no_entries))) }
     ensures leading_zero { IsTree false 5 (codes "01=x") (mapping (entry (Int 1) false (text_leaf (codes "x")) no_entries)) }
@@ -72,7 +72,7 @@ pub fn nearly_empty_inputs()
     ensures no_key { IsTree false 5 (codes "=foo") (text_leaf (codes "foo")) }
 {}
 
-/// A key has the mark of the first pair that brought it, and a text that of its own bytes.
+/// A key has the mark that it has in the first pair with that key. A string has the mark of its own bytes.
 pub fn marks_of_keys_and_texts()
     ensures plain_first { IsTree false 5 (codes "a=1&%61=2") (mapping (entry (Str (codes "a")) false (text_leaves (codes "1" ∷ codes "2" ∷ [])) no_entries)) }
     ensures escaped_first { IsTree false 5 (codes "%61=1&a=2") (mapping (entry (Str (codes "a")) true (text_leaves (codes "1" ∷ codes "2" ∷ [])) no_entries)) }

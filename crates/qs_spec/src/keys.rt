@@ -1,4 +1,4 @@
-//! Laws of keys that are written, read back and looked up.
+//! Laws of writing, reading back and looking up keys.
 
 ghost use Rattle.std.specs.Prelude.{◌≡◌, ℕ, ◌^◌, ◌<◌, ◌≤◌, Bool, ◌&&◌, List, ◌∷◌, ◌++◌, decimal, IsTrue, IsFalse};
 ghost use Rattle.std.specs.List.{AllByRecursion};
@@ -13,7 +13,7 @@ ghost use Rattle.qs_spec.specs.Node.{found, value_at_key};
 ghost use Rattle.qs_spec.specs.Scalar.{is_numeral, has_leading_zero};
 ghost use Rattle.qs_spec.specs.internal.Keys.{written_segment, printed_index, value_at_index, list_of, AreAscending, IsAscending};
 
-/// Digits without a leading zero are the decimal digits of their number, and the decimal digits of a number are parsed as it.
+/// Digits without a leading zero are the decimal digits of their number, and the decimal digits of a number are parsed as that number.
 pub fn digits_and_numbers()
     ensures printed { (digits : List ℕ) → IsTrue (is_numeral digits) → IsFalse (has_leading_zero digits) → number digits < 2 ^ 64 → decimal (number digits) ≡ digits }
     ensures digits { (n : ℕ) → n < 2 ^ 64 → IsTrue (is_numeral (decimal n)) }
@@ -21,26 +21,26 @@ pub fn digits_and_numbers()
     ensures no_leading_zero { (n : ℕ) → n < 2 ^ 64 → IsFalse (has_leading_zero (decimal n)) }
 {}
 
-/// A key that is written is parsed as its number if it is an index, and else as itself. So its text comes back, unless it is an
-/// index with a leading zero; and an index comes back as that number.
+/// A written key is parsed as its number if it is an index, and as itself otherwise. So its string is restored, unless it is an index
+/// with a leading zero, and the decimal digits of an index are parsed as that index.
 pub fn written_keys_are_parsed()
     ensures segment { (form : Bool) (s : List ℕ) → AllByRecursion (λ b. b < 256) s → segment_of (encoded form s) ≡ written_segment s }
     ensures text { (form : Bool) (s : List ℕ) → AllByRecursion (λ b. b < 256) s → IsFalse (is_index s && has_leading_zero s) → segment_text (segment_of (encoded form s)) ≡ s }
     ensures place { (form : Bool) (i : ℕ) → i ≤ 4294967295 → segment_of (encoded form (decimal i)) ≡ Int i }
 {}
 
-/// A value that is written is parsed as its bytes.
+/// A written value is parsed as its bytes.
 pub fn written_values_are_parsed()
     ensures leaf { (form : Bool) (b : ℕ) (s : List ℕ) → AllByRecursion (λ b. b < 256) (b ∷ s) → value_leaf (encoded form (b ∷ s)) ≡ Text (b ∷ s) (is_marked (encoded form (b ∷ s))) }
     ensures bytes { (form : Bool) (s : List ℕ) → AllByRecursion (λ b. b < 256) s → leaf_text (value_leaf (encoded form s)) ≡ s }
 {}
 
-/// The keys of each map of a tree ascend, so they are distinct, and its indices have 32 bits.
+/// The keys of each map of a tree ascend, so they are distinct. Its integer keys have 32 bits.
 pub fn ascending_keys()
     ensures { (form : Bool) (depth : ℕ) (bytes : List ℕ) (t : Tree) → IsTree form depth bytes t → IsAscending t }
 {}
 
-/// The values whose key has a name as its text are found by two look-ups: the integer key that is printed so, if there is one, and the string key.
+/// Two look-ups find all values of a name: of the integer key that is written as the name, if there is one, and of the string key.
 pub fn found_by_lookup()
     ensures { (name : List ℕ) (es : Entries) → AreAscending es → found name es ≡ list_of (value_at_index (printed_index name) es) ++ list_of (value_at_key (Str name) es) }
 {}

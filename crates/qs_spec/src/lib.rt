@@ -1,4 +1,4 @@
-//! What querystrings mean, and the laws that hold of the meaning alone. No code runs here.
+//! What querystrings mean, and the laws that follow from the meaning alone. No code runs here.
 #![tactic(auto)]
 
 mod entries;

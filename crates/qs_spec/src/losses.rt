@@ -1,4 +1,4 @@
-//! Worked losses: data that are read back as others, each because one premise is missing.
+//! Worked examples of losses: data that is read back as other data, each because one premise is missing.
 
 ghost use Rattle.std.specs.Prelude.{◌≡◌, codes, decimal, [], ◌∷◌, Some, None, true, false, pos};
 ghost use Rattle.qs_spec.specs.Config.{default, empty_indexed, unindexed};
@@ -16,9 +16,9 @@ ghost use Rattle.qs_spec.specs.Shape.UnknownKeys.{ignored};
 ghost use Rattle.qs_spec.specs.Data.{Data, values_of, pairs_of, members_of};
 ghost use Rattle.qs_spec.specs.Worked.{field, struct_with, map_with, text_leaf, text_leaves, at_text, only, IsRead, IsReadAs, IsWritten, IsUnstable};
 
-/// Data that aren't plain are read as other data, or not at all: an option in an option as nothing; a struct without fields is
-/// missing; digits after a zero are another number, and a bracket nests at form encoding; an empty name or key is no key;
-/// equal keys are one; bytes are a text; and an element beyond the indices is no item.
+/// Data that isn't plain is read as other data, or not at all. An option in an option is read as none; a struct without fields is
+/// missing; a zero and further digits are another number, and in form mode a bracket nests; an empty name or key is no key; equal
+/// keys are one; bytes are a string; and an element beyond the indices is no item.
 pub fn not_plain_is_lost()
     ensures option_in_option { IsReadAs default (field (codes "a") (Shape.option (Shape.option Shape.unit))) (struct_with (codes "a") (Data.some Data.none)) (codes "a") (Some (struct_with (codes "a") Data.none)) }
     ensures option_in_newtype { IsReadAs default (field (codes "a") (Shape.option (Shape.newtype (Shape.option Shape.unit)))) (struct_with (codes "a") (Data.some (Data.newtype Data.none))) (codes "a") (Some (struct_with (codes "a") Data.none)) }
@@ -36,8 +36,8 @@ pub fn not_plain_is_lost()
     ensures index_too_great { segment_of (encoded false (decimal 4294967296)) ≡ Str (codes "4294967296") }
 {}
 
-/// Data that don't fit the shape are read as others, or not at all: the fields of a struct variant in the shape's order, a number
-/// as one with a sign, and one beyond the shape's bits as none.
+/// Data that doesn't fit the shape is read as other data, or not at all: the fields of a struct variant in the shape's order, a number
+/// as a signed one, and a number beyond the shape's bits not at all.
 pub fn not_fitting_is_lost()
     ensures order_of_fields { IsReadAs default (Shape.enumeration (one_variant (codes "c") (struct_kind ignored (fields_of ((codes "x", Shape.unsigned 8, false) ∷ (codes "y", Shape.unsigned 8, false) ∷ []))) no_variants)) (Data.struct_variant (codes "c") (members_of ((codes "y", Data.unsigned 1) ∷ (codes "x", Data.unsigned 2) ∷ []))) (codes "c[y]=1&c[x]=2") (Some (Data.struct_variant (codes "c") (members_of ((codes "x", Data.unsigned 2) ∷ (codes "y", Data.unsigned 1) ∷ [])))) }
     ensures sign { IsReadAs default (Shape.signed 8) (Data.unsigned 5) (codes "=5") (Some (Data.signed (pos 5))) }
@@ -46,9 +46,9 @@ pub fn not_fitting_is_lost()
     ensures any { IsReadAs default Shape.any (Data.unsigned 1) (codes "=1") (Some (Data.text (codes "1"))) }
 {}
 
-/// Where no index is written, a list without a path is read as other data, a list of lists loses how they were grouped or has no
-/// tree, the elements of a list come in the order of their entries, and without brackets a list of one empty text, or of one element
-/// without a text, is an empty one.
+/// If no index is written, a list without a path is read as other data, a list of lists loses its grouping or has no tree, and the
+/// elements of a list are read in the order of their entries. Without brackets a list of one empty string, or of one element without
+/// a string, counts as an empty list.
 pub fn lists_without_indices()
     ensures at_the_top { IsReadAs (record default { array_format = unindexed }) (Shape.sequence (Shape.unsigned 8)) (Data.sequence (values_of (Data.unsigned 1 ∷ Data.unsigned 2 ∷ []))) (codes "=1=2") None }
     ensures lists_in_a_list { IsReadAs (record default { array_format = unindexed }) (field (codes "v") (Shape.sequence (Shape.sequence (Shape.unsigned 8)))) (struct_with (codes "v") (Data.sequence (values_of (Data.sequence (values_of (Data.unsigned 1 ∷ Data.unsigned 2 ∷ [])) ∷ [])))) (codes "v=1&v=2") (Some (struct_with (codes "v") (Data.sequence (values_of (Data.sequence (values_of (Data.unsigned 1 ∷ [])) ∷ Data.sequence (values_of (Data.unsigned 2 ∷ [])) ∷ []))))) }
@@ -64,8 +64,8 @@ pub fn lists_without_indices()
     ensures other_order { IsRead default (field (codes "v") (Shape.sequence (Shape.unsigned 8))) (codes "v[]=2&v[]=1") (Some (struct_with (codes "v") (Data.sequence (values_of (Data.unsigned 2 ∷ Data.unsigned 1 ∷ []))))) }
 {}
 
-/// What `any` reads from a tree that isn't stable is written as another: a key without `=` has one; several values of a key have
-/// indices; escaped digits are an index; in form mode an escaped bracket nests; and an empty key beside others is a push. A key
+/// What `any` reads from a tree that isn't stable is written as another tree: a key without `=` gets one; several values of a key get
+/// indices; escaped digits become an index; in form mode an escaped bracket nests; and an empty key among others becomes a push. A key
 /// beyond the depth limit isn't written, and a key that isn't UTF-8 isn't read.
 pub fn unstable_trees_are_lost()
     ensures stable { is_stable true (mapping (entry (Int 7) false (leaf Null) (at_text (codes "a b") (mapping (entry (Int 0) false (text_leaf (codes "x")) (entry (Int 1) false (text_leaf (codes "[")) no_entries))) no_entries))) ≡ true }

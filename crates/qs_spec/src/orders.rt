@@ -9,18 +9,19 @@ ghost use Rattle.qs_spec.specs.Tree.{node};
 ghost use Rattle.qs_spec.specs.Permutation.{IsReordering, KeepsOrder};
 ghost use Rattle.qs_spec.specs.Order.{overlap, AreReordered, AreEquivalent, unmarked, unmarked_pair};
 
-/// A permutation that keeps overlapping paths in order changes no history, and of the node at most marks.
+/// A permutation that keeps overlapping paths in order changes no history, and nothing in the node except marks.
 pub fn reordered_pairs()
     ensures histories { (ps qs : List Pair) → IsReordering overlap ps qs → (path : List Segment) → events ps path ≡ events qs path }
     ensures nodes { (ps qs : List Pair) → IsReordering overlap ps qs → unmarked (node ps) ≡ unmarked (node qs) }
 {}
 
-/// A permutation of indices that keeps overlapping paths in order is one by recursion too.
+/// A permutation that keeps overlapping paths in order by indices also does so by recursion.
 pub fn orders_by_place()
     ensures { (ps qs : List Pair) → KeepsOrder overlap ps qs → IsReordering overlap ps qs }
 {}
 
-/// Inputs have equivalent trees, or both have none, if their pairs are, ignoring marks, permutations of one another that keep overlapping paths in order.
+/// Two inputs have equivalent trees, or both have none, if their pairs, ignoring marks, are permutations of one another that keep
+/// overlapping paths in order.
 pub fn reordered_inputs()
     ensures by_places { (form : Bool) (depth : ℕ) (a b : List ℕ) (p : Pair) (ps qs : List Pair) → ArePairs depth (tokens form a) (p ∷ ps) → ArePairs depth (tokens form b) qs
         → AreReordered (p ∷ ps) qs → AreEquivalent form depth a b }

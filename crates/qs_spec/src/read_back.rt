@@ -20,9 +20,9 @@ ghost use Rattle.qs_spec.specs.Relation.{ReadsBy};
 ghost use Rattle.qs_spec.specs.Order.{AreEquivalent};
 ghost use Rattle.qs_spec.specs.ReadBack.{IsPlainFor, IsReadBack, ArePathsApart, KeepsPaths, KeepsPlaces};
 
-/// Plain data that are written without an error are read by a fitting shape, under the same configuration, as data that are
-/// the same: in the indexed format from their entries in any order; in every format, where lists have a path and hold
-/// scalars, from an order that keeps entries with one path in theirs.
+/// If plain data is written without an error, a fitting shape reads the same data back, under the same configuration. In the indexed
+/// format it does so from the entries in any order. In every format, if lists have a path and hold scalars, it does so from any order
+/// that keeps entries with the same path in order.
 pub fn plain_data_are_read_back()
     ensures any_order { (config : Config) (shape : Shape) (d : Data) (es : List Entry) → config.array_format ≡ indexed → is_distinct shape ≡ true → IsPlainFor config shape d
         → IsPermutation (entries config d).entries es → IsReadBack config shape d (written config.form false es) }
@@ -32,8 +32,8 @@ pub fn plain_data_are_read_back()
         → KeepsPlaces (entries config d).entries es → IsReadBack config shape d (written config.form false es) }
 {}
 
-/// Plain data with the same entries in any order, that one shape fits, are the same: writing loses nothing. In the formats
-/// without indices, where lists have a path and hold scalars, so are data whose entries with one path come in one order.
+/// Writing loses nothing: two pieces of plain data that fit one shape are the same if their entries are, in any order. In the formats
+/// without indices, if lists have a path and hold scalars, they are the same if entries with the same path also have the same order.
 pub fn writing_loses_nothing()
     ensures any_order { (config : Config) (shape : Shape) (d e : Data) → config.array_format ≡ indexed → is_distinct shape ≡ true → IsPlainFor config shape d → IsPlainFor config shape e
         → IsPermutation (entries config d).entries (entries config e).entries → Same d e }
@@ -41,14 +41,15 @@ pub fn writing_loses_nothing()
         → is_listed config.array_format false d ≡ true → is_listed config.array_format false e ≡ true → KeepsPaths (entries config d).entries (entries config e).entries → Same d e }
 {}
 
-/// Whatever the shape `any` reads from a stable tree, written without an error in the indexed format, has that tree again,
-/// marks aside, from its entries in any order.
+/// If the shape `any` reads data from a stable tree, and the data is written without an error in the indexed format, its entries in
+/// any order have that tree again, ignoring marks.
 pub fn stable_trees_come_back()
     ensures { (config : Config) (input : List ℕ) (t : Tree) (d : Data) (es : List Entry) → config.array_format ≡ indexed → IsTree config.form config.max_depth input t → is_stable config.form t ≡ true
         → ReadsBy config Shape.any t d → (entries config d).error ≡ None → IsPermutation (entries config d).entries es → AreEquivalent config.form config.max_depth input (written config.form false es) }
 {}
 
-/// In the indexed format no entry of plain data has the path of another, or one that begins it. This also holds of the entries before an error.
+/// In the indexed format no entry's path, in plain data, begins with another entry's path. This also holds for the entries before an
+/// error.
 pub fn entries_are_apart()
     ensures { (config : Config) (d : Data) → config.array_format ≡ indexed → is_plain config.form d ≡ true → ArePathsApart (entries config d).entries }
 {}
@@ -64,8 +65,8 @@ pub fn hostile_names_are_plain()
         IsPlainFor default shape d }
 {}
 
-/// What isn't plain: an option in an option, a struct without fields, a name that is empty or digits after a zero, a bracket in a
-/// name in form mode, two fields of one name, two keys of one text, a key of bytes, a unit variant without a name.
+/// Data that isn't plain: an option in an option, a struct without fields, a name that is empty or a zero and further digits, a bracket
+/// in a name in form mode, two fields with one name, two keys with one string, a key of bytes, a unit variant without a name.
 pub fn data_that_are_not_plain()
     ensures option_in_option { is_plain false (Data.some (Data.newtype Data.none)) ≡ false }
     ensures empty_struct { is_plain false (Data.struct (members_of [])) ≡ false }
@@ -86,7 +87,8 @@ pub fn data_that_are_not_plain()
     ensures zero_key { is_plain false (Data.mapping (pairs_of ((Data.text (codes "07"), Data.unit) ∷ []))) ≡ false }
 {}
 
-/// Which data of each kind fit a shape: numbers within its bits, Unicode scalar values, as many elements as a tuple has, fields in the order of the shape.
+/// Which data of each kind fits a shape: numbers within its bits, Unicode scalar values, as many elements as a tuple has, fields in
+/// the order of the shape.
 pub fn data_that_fit()
     ensures greatest { fits (Shape.unsigned 8) (Data.unsigned 255) ≡ true }
     ensures too_great { fits (Shape.unsigned 8) (Data.unsigned 256) ≡ false }
@@ -106,7 +108,8 @@ pub fn data_that_fit()
     ensures another_variant { fits (Shape.enumeration (one_variant (codes "a") unit_kind no_variants)) (Data.newtype_variant (codes "a") Data.unit) ≡ false }
 {}
 
-/// Where no index is written, lists have a path and hold scalars alone; without brackets, none is one empty text or byte string. In the indexed format they may be any.
+/// If no index is written, lists have a path and hold only scalars; without brackets, no list holds just one empty string or byte
+/// string. In the indexed format any list is allowed.
 pub fn listed_data()
     ensures indexed { is_listed indexed false (Data.sequence (values_of (Data.sequence (values_of (Data.none ∷ [])) ∷ []))) ≡ true }
     ensures at_the_top { is_listed empty_indexed false (Data.tuple (values_of [])) ≡ false }
@@ -119,7 +122,8 @@ pub fn listed_data()
     ensures two_empty_texts { is_listed unindexed false (Data.tuple_variant (codes "v") (values_of (Data.text [] ∷ Data.bytes [] ∷ []))) ≡ true }
 {}
 
-/// A list has at most 4,294,967,295 elements, since so many have an index. A law, since no list of that length is written out here.
+/// A list has at most 4,294,967,295 elements, as many as there are indices. This is a law, not an example: no list of that length is
+/// written out here.
 pub fn lists_within_the_indices()
     ensures as_many { (ds : Values) → count ds ≡ 4294967295 → are_few ds ≡ true }
     ensures one_more { (ds : Values) → count ds ≡ 4294967296 → are_few ds ≡ false }

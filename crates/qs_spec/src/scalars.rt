@@ -9,7 +9,7 @@ ghost use Rattle.qs_spec.specs.Data.{Data};
 ghost use Rattle.qs_spec.specs.Scalar.{boolean_data, unsigned_data, signed_data, character_data, name_data};
 ghost use Rattle.qs_spec.specs.Entry.{boolean_text};
 
-/// The text of a scalar, also of a map's key, is read as that scalar, where the shape has room for it.
+/// The string of a scalar, also of a map's key, is read as that scalar if it fits the shape.
 pub fn written_scalars_are_parsed()
     ensures boolean { (b : Bool) → boolean_data (boolean_text b) ≡ Some (Data.boolean b) }
     ensures unsigned { (bits n : ℕ) → n < 2 ^ bits → n < 2 ^ 64 → unsigned_data bits (decimal n) ≡ Some (Data.unsigned n) }

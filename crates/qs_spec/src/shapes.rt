@@ -1,4 +1,4 @@
-//! Worked shapes: what they read from inputs.
+//! Worked examples: what shapes read from inputs.
 
 ghost use Rattle.std.specs.Prelude.{◌≡◌, true, false, codes, [], ◌∷◌, Some, None, pos, neg_ℤ};
 ghost use Rattle.qs_spec.specs.Config.{default, reject};
@@ -12,7 +12,7 @@ ghost use Rattle.qs_spec.specs.Shape.UnknownKeys.{ignored, rejected};
 ghost use Rattle.qs_spec.specs.Data.{Data, values_of, pairs_of, members_of};
 ghost use Rattle.qs_spec.specs.Worked.{field, struct_with, IsRead};
 
-/// A flag is true where its key is alone or followed by `=`; twice it is rejected.
+/// A flag is true if its key has no value or an empty one. A flag that occurs twice is rejected.
 pub fn flags()
     ensures key_alone { IsRead default (field (codes "flag") Shape.boolean) (codes "flag") (Some (struct_with (codes "flag") (Data.boolean true))) }
     ensures nothing_after { IsRead default (field (codes "flag") Shape.boolean) (codes "flag=") (Some (struct_with (codes "flag") (Data.boolean true))) }
@@ -21,7 +21,7 @@ pub fn flags()
     ensures twice_where_rejected { IsRead (record default { duplicates = reject }) (field (codes "flag") Shape.boolean) (codes "flag&flag") None }
 {}
 
-/// An option is none where its key is alone or missing, and some of the empty text where nothing follows `=`.
+/// An option is none if its key is missing or has no `=`, and some of the empty string if nothing follows `=`.
 pub fn options()
     ensures key_alone { IsRead default (field (codes "a") (Shape.option Shape.text)) (codes "a") (Some (struct_with (codes "a") Data.none)) }
     ensures nothing_after { IsRead default (field (codes "a") (Shape.option Shape.text)) (codes "a=") (Some (struct_with (codes "a") (Data.some (Data.text [])))) }
@@ -32,7 +32,8 @@ pub fn options()
     ensures nothing_at_all { IsRead default (Shape.option Shape.any) (codes "&") None }
 {}
 
-/// A field is found by the text of its key: twice is rejected, other keys are ignored where they are texts, and an optional field is left out.
+/// A field is found by the string of its key. Two such keys are rejected, other keys are ignored if they are strings, and a missing
+/// optional field is left out.
 pub fn fields_by_name()
     ensures index { IsRead default (field (codes "1") Shape.text) (codes "1=a") (Some (struct_with (codes "1") (Data.text (codes "a")))) }
     ensures index_and_text { IsRead default (field (codes "1") Shape.text) (codes "1=a&%31=b") None }
@@ -49,8 +50,8 @@ pub fn fields_by_name()
     ensures fields_of_nothing { IsRead default (field (codes "p") (Shape.struct ignored (one_field (codes "x") Shape.text true no_fields))) (codes "p=") (Some (struct_with (codes "p") (Data.struct (members_of [])))) }
 {}
 
-/// Where unknown keys are rejected, each key of a map is a field's name, as the empty key is of a struct variant that is read from
-/// a text. No value has no key, and a sequence's further items are ignored all the same.
+/// If unknown keys are rejected, each key of a map has to be a field's name. So does the empty key of a struct variant that is read
+/// from a string. No value has no key, and the further items of a sequence are ignored nevertheless.
 pub fn unknown_keys()
     ensures known { IsRead default (Shape.struct rejected (one_field (codes "a") Shape.text false no_fields)) (codes "a=x") (Some (struct_with (codes "a") (Data.text (codes "x")))) }
     ensures unknown { IsRead default (Shape.struct rejected (one_field (codes "a") Shape.text false no_fields)) (codes "a=x&b=y") None }
@@ -69,7 +70,7 @@ pub fn unknown_keys()
         (Some (struct_with (codes "e") (Data.struct_variant (codes "c") (members_of (([], Data.text (codes "v")) ∷ []))))) }
 {}
 
-/// A scalar is the last of several values, or they are rejected.
+/// A scalar is read as the last of several values, or several are rejected.
 pub fn last_of_several()
     ensures last { IsRead default (field (codes "f") Shape.text) (codes "f=a&f=b") (Some (struct_with (codes "f") (Data.text (codes "b")))) }
     ensures rejected { IsRead (record default { duplicates = reject }) (field (codes "f") Shape.text) (codes "f=a&f=b") None }
@@ -80,7 +81,7 @@ pub fn last_of_several()
     ensures one_where_rejected { IsRead (record default { duplicates = reject }) (field (codes "f") Shape.text) (codes "f[]=a") (Some (struct_with (codes "f") (Data.text (codes "a")))) }
 {}
 
-/// Items have the indices 0, 1, 2 and so on, as far as they are read.
+/// Items have the indices 0, 1, 2 and so on, up to the last one that is read.
 pub fn items_by_place()
     ensures gap { IsRead default (field (codes "v") (Shape.sequence (Shape.unsigned 8))) (codes "v[0]=1&v[2]=2") None }
     ensures after_the_first { IsRead default (field (codes "v") (Shape.tuple (one_shape (Shape.unsigned 8) no_shapes))) (codes "v[0]=1&v[2]=2") (Some (struct_with (codes "v") (Data.tuple (values_of (Data.unsigned 1 ∷ []))))) }
@@ -93,13 +94,13 @@ pub fn items_by_place()
     ensures beyond_the_last_place { placed 4294967295 (entry (Int 4294967295) false (leaf Null) no_entries) ≡ None ∷ [] }
 {}
 
-/// The smallest key of a map names the variant, whatever comes first in the input.
+/// The smallest key of a map names the variant, whatever the order of the input.
 pub fn smallest_key_names_the_variant()
     ensures { IsRead default (field (codes "e") (Shape.enumeration (one_variant (codes "A") (newtype_kind Shape.text) (one_variant (codes "B") (newtype_kind (Shape.unsigned 8)) no_variants)))) (codes "e[B]=1&e[A]=x")
         (Some (struct_with (codes "e") (Data.newtype_variant (codes "A") (Data.text (codes "x"))))) }
 {}
 
-/// Numbers lie in the range of their bits.
+/// Numbers are in the range of their bits.
 pub fn numbers_in_range()
     ensures greatest { IsRead default (field (codes "x") (Shape.unsigned 64)) (codes "x=18446744073709551615") (Some (struct_with (codes "x") (Data.unsigned 18446744073709551615))) }
     ensures too_great { IsRead default (field (codes "x") (Shape.unsigned 64)) (codes "x=18446744073709551616") None }
@@ -115,7 +116,8 @@ pub fn numbers_in_range()
     ensures nothing { IsRead default (field (codes "x") (Shape.unsigned 8)) (codes "x=") None }
 {}
 
-/// A map's keys are read by their texts, in the order of the keys; a text is the one pair of the empty key, and no value is no pair.
+/// A map's keys are read by their strings, in the order of the keys. A string is read as one pair with the empty key, and no value as
+/// no pairs.
 pub fn maps()
     ensures entries { IsRead default (field (codes "m") (Shape.mapping (KeyShape.unsigned 8) Shape.text)) (codes "m[10]=x&m[9]=y")
         (Some (struct_with (codes "m") (Data.mapping (pairs_of ((Data.unsigned 9, Data.text (codes "y")) ∷ (Data.unsigned 10, Data.text (codes "x")) ∷ []))))) }
@@ -137,7 +139,7 @@ pub fn maps()
     ensures keys_of_one_text { IsRead default (field (codes "m") (Shape.mapping (KeyShape.text) Shape.text)) (codes "m[1]=x&m[%31]=y") (Some (struct_with (codes "m") (Data.mapping (pairs_of ((Data.text (codes "1"), Data.text (codes "x")) ∷ (Data.text (codes "1"), Data.text (codes "y")) ∷ []))))) }
 {}
 
-/// Anything is a list where all keys are indices, and else a map of texts.
+/// `any` reads a map as a list if all keys are integers, and as a map with string keys otherwise.
 pub fn anything()
     ensures index { IsRead default Shape.any (codes "0=a") (Some (Data.sequence (values_of (Data.text (codes "a") ∷ [])))) }
     ensures gap { IsRead default Shape.any (codes "01=x") None }
@@ -149,7 +151,7 @@ pub fn anything()
     ensures no_text { IsRead default Shape.any (codes "=%FF") None }
 {}
 
-/// A unit is a key without a value, a character is a text of just one, and what is ignored may be anything.
+/// A unit is a key without a value, a character is a string of one character, and an ignored value may be anything.
 pub fn small_shapes()
     ensures unit { IsRead default (field (codes "u") Shape.unit) (codes "u=") (Some (struct_with (codes "u") Data.unit)) }
     ensures unit_of_a_text { IsRead default (field (codes "u") Shape.unit) (codes "u=x") None }
@@ -161,7 +163,7 @@ pub fn small_shapes()
     ensures several_characters { IsRead default (field (codes "c") (Shape.character)) (codes "c=a&c=b") None }
 {}
 
-/// A text names a unit variant; a key names any variant, and what it holds is read by its kind.
+/// A string names a unit variant. A key names any variant, and its value is read by the variant's kind.
 pub fn kinds_of_variants()
     ensures unit_by_text { IsRead default (field (codes "e") (Shape.enumeration (one_variant (codes "a") unit_kind no_variants))) (codes "e=a") (Some (struct_with (codes "e") (Data.unit_variant (codes "a")))) }
     ensures newtype_by_text { IsRead default (field (codes "e") (Shape.enumeration (one_variant (codes "b") (newtype_kind Shape.text) no_variants))) (codes "e=b") None }
@@ -184,7 +186,8 @@ pub fn kinds_of_variants()
     ensures several { IsRead default (field (codes "e") (Shape.enumeration (one_variant (codes "a") unit_kind no_variants))) (codes "e=a&e=a") None }
 {}
 
-/// The names of the fields differ in a struct and in a struct variant, those of the variants in an enum and in the shape of a key, wherever they are in a shape.
+/// Wherever they are in a shape, the field names differ in each struct and struct variant, and the variant names in each enum and key
+/// shape.
 pub fn distinct_shapes()
     ensures struct_fields { is_distinct (Shape.struct ignored (fields_of ((codes "a", Shape.unit, false) ∷ (codes "a", Shape.text, true) ∷ []))) ≡ false }
     ensures struct_variant { is_distinct (Shape.enumeration (one_variant (codes "v") (struct_kind ignored (fields_of ((codes "a", Shape.unit, false) ∷ (codes "a", Shape.unit, false) ∷ []))) no_variants)) ≡ false }

@@ -1,4 +1,4 @@
-//! Worked texts: what is written of data.
+//! Worked examples: the strings that data is written as.
 
 ghost use Rattle.std.specs.Prelude.{◌≡◌, codes, [], ◌++◌, ◌∷◌, Some, None, true, false, pos, neg_ℤ};
 ghost use Rattle.qs_spec.specs.Config.{default, empty_indexed, unindexed};
@@ -7,7 +7,7 @@ ghost use Rattle.qs_spec.specs.Entry.{entries, too_deep, bad_key};
 ghost use Rattle.qs_spec.specs.Written.{written, started_after};
 ghost use Rattle.qs_spec.specs.Worked.{struct_with, IsWritten};
 
-/// What is nested deeper than the limit is rejected, and the entries before it are written.
+/// Data nested deeper than the limit is rejected. The entries before it are written.
 pub fn depth_limit()
     ensures within { IsWritten (record default { max_depth = 2 })
         (Data.struct (members_of ((codes "a", Data.unsigned 1) ∷ (codes "b", Data.sequence (values_of (Data.unsigned 2 ∷ Data.unsigned 3 ∷ []))) ∷ (codes "c", Data.sequence (values_of (Data.sequence (values_of (Data.unsigned 4 ∷ [])) ∷ []))) ∷ [])))
@@ -38,7 +38,7 @@ pub fn variants()
     ensures struct_variant { IsWritten default (struct_with (codes "e") (Data.struct_variant (codes "c") (members_of ((codes "x", Data.unsigned 2) ∷ (codes "y", Data.unsigned 3) ∷ [])))) (codes "e[c][x]=2&e[c][y]=3") None }
 {}
 
-/// None is a key without a value, and an empty list one with nothing after `=`.
+/// None is written as a key without `=`, and an empty list as a key with nothing after `=`.
 pub fn optional_values()
     ensures none { IsWritten default (struct_with (codes "vec") Data.none) (codes "vec") None }
     ensures some { IsWritten default (struct_with (codes "vec") (Data.some (Data.sequence (values_of (Data.unsigned 1 ∷ Data.unsigned 2 ∷ []))))) (codes "vec[0]=1&vec[1]=2") None }
@@ -48,7 +48,7 @@ pub fn optional_values()
     ensures empty_map { IsWritten default (struct_with (codes "vec") (Data.mapping (pairs_of []))) (codes "vec=") None }
 {}
 
-/// A map's key is a scalar other than unit, which is tested before the depth.
+/// A map's key has to be a scalar other than unit. This is tested before the depth.
 pub fn keys_of_maps()
     ensures number { IsWritten default (struct_with (codes "m") (Data.mapping (pairs_of ((Data.unsigned 7, Data.text (codes "x")) ∷ [])))) (codes "m[7]=x") None }
     ensures unit { IsWritten default (Data.mapping (pairs_of ((Data.unit, Data.unit) ∷ []))) [] (Some bad_key) }
@@ -59,14 +59,14 @@ pub fn keys_of_maps()
     ensures newtype { IsWritten default (Data.mapping (pairs_of ((Data.newtype (Data.unsigned 7), Data.none) ∷ []))) [] (Some bad_key) }
 {}
 
-/// Scalars are written as their texts, and what a wrapper holds as itself.
+/// Scalars are written as their strings, and a wrapper as the data that it holds.
 pub fn scalar_values()
     ensures { IsWritten default
         (Data.struct (members_of ((codes "b", Data.boolean false) ∷ (codes "n", Data.signed (neg_ℤ (pos 5))) ∷ (codes "c", Data.character 233) ∷ (codes "u", Data.unit) ∷ (codes "y", Data.bytes (codes "x y")) ∷ (codes "w", Data.newtype (Data.unsigned 1)) ∷ [])))
         (codes "b=false&n=-5&c=%C3%A9&u=&y=x+y&w=1") None }
 {}
 
-/// Parts without fields write nothing.
+/// Structs and variants without fields or items write nothing.
 pub fn parts_without_fields()
     ensures struct_alone { IsWritten default (struct_with (codes "s") (Data.struct (members_of []))) [] None }
     ensures variant { IsWritten default (struct_with (codes "e") (Data.struct_variant (codes "c") (members_of []))) [] None }
@@ -74,7 +74,7 @@ pub fn parts_without_fields()
     ensures tuple_variant { IsWritten default (struct_with (codes "e") (Data.tuple_variant (codes "d") (values_of []))) [] None }
 {}
 
-/// An entry with a key has `&` in front of it exactly where one with a key was written before; an empty key is a key.
+/// `&` precedes an entry with a key exactly if an entry with a key was written before. An empty key is a key.
 pub fn entries_after_others()
     ensures after_a_key { written false true (entries default (struct_with (codes "b") (Data.unsigned 2))).entries ≡ codes "&b=2" }
     ensures without_a_key { written false true (entries default (Data.unsigned 2)).entries ≡ codes "=2" }

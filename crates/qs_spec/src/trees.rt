@@ -8,13 +8,13 @@ ghost use Rattle.qs_spec.specs.Tree.Tree.{uninitialized};
 ghost use Rattle.qs_spec.specs.Holds.{IsSound, leaf_count, nesting};
 ghost use Rattle.qs_spec.specs.internal.InPlace.{add_all};
 
-/// Tokens are at most one list of pairs, and an input has at most one tree.
+/// Tokens are parsed as at most one list of pairs, and an input has at most one tree.
 pub fn one_reading()
     ensures pairs { (depth : ℕ) (ts : List Token) (ps qs : List Pair) → ArePairs depth ts ps → ArePairs depth ts qs → ps ≡ qs }
     ensures tree { (form : Bool) (depth : ℕ) (bytes : List ℕ) (t u : Tree) → IsTree form depth bytes t → IsTree form depth bytes u → t ≡ u }
 {}
 
-/// Adding the pairs to one tree in place, one after another, gives the tree by histories, and is rejected where there is none.
+/// Adding the pairs to one tree in place, one after another, gives the input's tree, and is rejected if the input has none.
 pub fn in_place()
     ensures { (form : Bool) (depth b : ℕ) (bytes : List ℕ) (ps : List Pair) (t : Tree) → ArePairs depth (tokens form (b ∷ bytes)) ps
         → ((add_all ps uninitialized ≡ Some t) ↔ IsTree form depth (b ∷ bytes) t) }
@@ -25,7 +25,7 @@ pub fn sound_trees()
     ensures { (form : Bool) (depth : ℕ) (bytes : List ℕ) (t : Tree) → IsTree form depth bytes t → IsSound t }
 {}
 
-/// A tree has as many leaves as its input has pairs, and no more maps within one another than the depth and two.
+/// A tree has as many leaves as its input has pairs. Its maps are nested at most two levels deeper than the depth limit.
 pub fn nothing_lost()
     ensures leaves { (form : Bool) (depth b : ℕ) (bytes : List ℕ) (ps : List Pair) (t : Tree) → ArePairs depth (tokens form (b ∷ bytes)) ps
         → IsTree form depth (b ∷ bytes) t → leaf_count t ≡ length ps }

@@ -14,7 +14,7 @@ abbrev pub bracketed : Path → List ℕ
 bracketed [] = []
 bracketed (s ∷ path) = s ++ in_brackets path
 
--- a value, empty where there is none
+-- a value, empty if there is none
 abbrev pub value_or_empty : Option (List ℕ) → List ℕ
 value_or_empty None = []
 value_or_empty (Some bytes) = bytes
@@ -23,7 +23,7 @@ value_or_empty (Some bytes) = bytes
 abbrev pub entry_named : Entry → NameValue
 entry_named e = record { name = bracketed e.path; value = value_or_empty e.value }
 
--- bytes, in a list of them, in a path and a value
+-- a list, a path and a value hold only bytes
 abbrev pub AreBytes : List ℕ → Type 0
 AreBytes bytes = AllByRecursion (λ b. b < 256) bytes
 

@@ -1,13 +1,13 @@
--- Where a broken escape makes a difference. Here the bytes after its `%` stay as they are (Escape); the URL Standard looks at them again.
+-- When a broken escape makes a difference. Here the bytes after its `%` are unchanged (Escape); the URL Standard decodes them.
 use Rattle.std.specs.Prelude.{ℕ, Bool, false, ◌&&◌, ◌||◌, ◌==◌, List, [], ◌∷◌, if◌then◌else◌}
 use Rattle.std.specs.Char.{is_digit}
 
--- two hexadecimal digits come first
+-- the bytes begin with two hexadecimal digits
 abbrev pub begins_digits : List ℕ → Bool
 begins_digits (c ∷ e ∷ rest) = is_digit c 16 && is_digit e 16
 begins_digits _ = false
 
--- `+` or a whole escape comes first
+-- the bytes begin with `+` or a whole escape
 abbrev pub begins_encoded : List ℕ → Bool
 begins_encoded [] = false
 begins_encoded (b ∷ rest) = b == 43 || (b == 37 && begins_digits rest)

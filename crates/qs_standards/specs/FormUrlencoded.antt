@@ -8,7 +8,7 @@ pub record NameValue : Type 0 where
   pub name : List ℕ
   pub value : List ℕ
 
--- step 1: the byte sequences between the `&`
+-- step 1: the byte sequences between `&`
 abbrev pub before_first : ℕ → List (List ℕ) → List (List ℕ)
 before_first b [] = (b ∷ []) ∷ []
 before_first b (s ∷ sequences) = (b ∷ s) ∷ sequences
@@ -27,7 +27,7 @@ abbrev pub name_bytes : List ℕ → List ℕ
 name_bytes [] = []
 name_bytes (b ∷ bytes) = if b == 61 then [] else b ∷ name_bytes bytes
 
--- and those after it, or none
+-- and the bytes after it, or none
 abbrev pub value_bytes : List ℕ → List ℕ
 value_bytes [] = []
 value_bytes (b ∷ bytes) = if b == 61 then bytes else value_bytes bytes

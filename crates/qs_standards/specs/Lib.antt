@@ -1,4 +1,4 @@
--- Two public standards, defined from their own texts, and the words that relate this notation to them.
+-- Two public standards, defined from their own texts, and the definitions that relate this notation to them.
 pub mod PercentDecode
 pub mod FormUrlencoded
 pub mod Uri

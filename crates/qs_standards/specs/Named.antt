@@ -10,18 +10,18 @@ use Rattle.qs_spec.specs.Tree.Tree.{leaf, sequence, mapping, uninitialized}
 use Rattle.qs_spec.specs.Tree.Entries.{entry, no_entries}
 use Rattle.qs_standards.specs.FormUrlencoded.{NameValue, isnt_empty}
 
--- A key has a name: an integer key any digits that write it, a string key its bytes.
+-- A key has a name: for an integer key any digits of that number, for a string key its bytes.
 abbrev pub HasName : List ℕ → Segment → Type 0
 HasName name (Int n) = IsTrue (is_index name) × (number name ≡ n)
 HasName name (Str bytes) = name ≡ bytes
 
--- a path of one key, or of none for the empty name
+-- a path of one key, or the empty path for the empty name
 abbrev pub IsNamePath : List ℕ → List MarkedSegment → Type 0
 IsNamePath name [] = name ≡ []
 IsNamePath name (s ∷ []) = HasName name s.seg
 IsNamePath name (s ∷ t ∷ path) = ⊥
 
--- a pair has a name and a value; no value and null count as the empty one
+-- a pair has a name and a value; no value and null count as the empty value
 pub record IsNamed (n : NameValue) (p : Pair) : Type 0 where
   pub direct : IsFalse p.push
   pub name : IsNamePath n.name p.path
@@ -37,7 +37,7 @@ AreNamed _ _ = ⊥
 abbrev pub key_of : List ℕ → Segment
 key_of name = if is_index name then Int (number name) else Str name
 
--- no two names are one key
+-- no two names are the same key
 abbrev pub AreDistinct : List NameValue → Type 0
 AreDistinct [] = ⊤
 AreDistinct (n ∷ ns) = AllByRecursion (λ m. IsFalse (is_same_segment (key_of n.name) (key_of m.name))) ns × AreDistinct ns
@@ -53,7 +53,7 @@ AreEntries [] no_entries = ⊤
 AreEntries (n ∷ ns) (entry k mark t es) = HasName n.name k × IsValueLeaf n.value t × AreEntries ns es
 AreEntries _ _ = ⊥
 
--- The tree holds these names and values and nothing else: a map in the order of its keys, or a leaf for the empty name alone.
+-- The tree holds these names and values and nothing else: a map in the order of its keys, or a leaf if the empty name is the only one.
 abbrev pub HoldsNamed : List NameValue → Tree → Type 0
 HoldsNamed ns (leaf l) = ns ≡ record { name = []; value = leaf_text l } ∷ []
 HoldsNamed ns (mapping es) = (sorted : List NameValue) × IsPermutation ns sorted × AreEntries sorted es

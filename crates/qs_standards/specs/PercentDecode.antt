@@ -2,8 +2,8 @@
 use Rattle.std.specs.Prelude.{ℕ, ◌+◌, ◌*◌, ◌&&◌, ◌==◌, List, [], ◌∷◌, if◌then◌else◌}
 use Rattle.std.specs.Char.{digit_value, is_digit}
 
--- For each byte (step 2): `%` in front of two hexadecimal digits is the byte that they write, and they are skipped (2.3). Any other byte
--- stays as it is (2.1), and so does `%` where two such digits don't follow (2.2): what follows it is looked at next.
+-- For each byte (step 2): `%` before two hexadecimal digits is the byte that they write, and the digits are skipped (2.3). Any other
+-- byte is unchanged (2.1), and so is `%` if two such digits don't follow (2.2). Decoding goes on at the byte after it.
 abbrev pub percent_decoded : List ℕ → List ℕ
 percent_decoded [] = []
 percent_decoded (b ∷ []) = b ∷ []

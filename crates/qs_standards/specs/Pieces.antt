@@ -1,4 +1,4 @@
--- The pairs of this notation without depth, from the pieces of the URL Standard's parser.
+-- The pairs of this notation with depth limit 0, from the pieces of the URL Standard's parser.
 use Rattle.std.specs.Prelude.{ℕ, ◌==◌, List, [], ◌∷◌, map, filter, if◌then◌else◌}
 use Rattle.qs_spec.specs.Segment.{MarkedSegment, marked_segment_of}
 use Rattle.qs_spec.specs.Leaf.{Leaf, value_leaf}
@@ -11,7 +11,7 @@ abbrev pub piece_leaf : List ℕ → Leaf
 piece_leaf [] = NoValue
 piece_leaf (b ∷ bytes) = if b == 61 then value_leaf bytes else piece_leaf bytes
 
--- one segment, or none where no byte precedes it
+-- one segment, or none if there are no bytes
 abbrev pub name_path : List ℕ → List MarkedSegment
 name_path [] = []
 name_path (b ∷ bytes) = marked_segment_of (b ∷ bytes) ∷ []

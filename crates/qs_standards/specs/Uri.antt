@@ -1,4 +1,4 @@
--- The query of a URI: RFC 3986, section 3.4, with the rules of appendix A that it is made of.
+-- The query of a URI: RFC 3986, section 3.4, with the rules of appendix A that it uses.
 use Rattle.std.specs.Prelude.{ℕ, Bool, true, false, not, ◌&&◌, ◌||◌, ◌==◌, List, [], ◌∷◌, if◌then◌else◌}
 use Rattle.std.specs.Char.{is_digit}
 use Rattle.qs_spec.specs.Escape.{is_between}

@@ -1,4 +1,4 @@
--- Short words for the worked examples.
+-- Short names for the worked examples.
 use Rattle.std.specs.Prelude.{◌≡◌, ℕ, Bool, false, true, List}
 use Rattle.qs_spec.specs.Segment.{Segment}
 use Rattle.qs_spec.specs.Leaf.{Leaf}
@@ -14,7 +14,7 @@ named name value = record { name = name; value = value }
 abbrev pub one_leaf : Segment → Bool → Leaf → Tree
 one_leaf key mark l = Tree.mapping (entry key mark (Tree.leaf l) no_entries)
 
--- the names and values that the standard's parser returns for an input, and its tree without depth
+-- the names and values that the standard's parser returns for an input, and the input's tree with depth limit 0
 pub record ReadsBoth (input : List ℕ) (ns : List NameValue) (t : Tree) : Type 0 where
   pub parsed : form_parsed input ≡ ns
   pub in_query_mode : IsTree false 0 input t

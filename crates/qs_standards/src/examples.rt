@@ -1,4 +1,4 @@
-//! Worked examples: inputs on both sides, and texts.
+//! Worked examples: inputs as the standards and this library read them, and written strings.
 
 ghost use Rattle.std.specs.Prelude.{◌≡◌, true, false, codes, [], ◌∷◌, ◌++◌, None};
 ghost use Rattle.qs_spec.specs.Config.{default};
@@ -16,7 +16,7 @@ ghost use Rattle.qs_standards.specs.Named.{HoldsNamed};
 ghost use Rattle.qs_standards.specs.Uri.{is_query, is_query_with, is_unwise};
 ghost use Rattle.qs_standards.specs.Worked.{named, one_leaf, ReadsBoth};
 
-/// Percent-decoding decodes once, and looks again at what follows a `%` without two digits. It leaves `+` alone.
+/// Percent-decoding decodes once, and goes on right after a `%` that two digits don't follow. It doesn't change `+`.
 pub fn percent_decoding()
     ensures digits_of_either_case { percent_decoded (codes "%2f%2F%c3%A9") ≡ 47 ∷ 47 ∷ 195 ∷ 169 ∷ [] }
     ensures once { percent_decoded (codes "%2541") ≡ codes "%41" }
@@ -26,7 +26,7 @@ pub fn percent_decoding()
     ensures plus { percent_decoded (codes "a+b%") ≡ codes "a+b%" }
 {}
 
-/// Inputs that both read alike: each name is a key, and each value a leaf.
+/// Inputs that both read in the same way: each name is a key, and each value is a leaf.
 pub fn read_alike()
     ensures name { ReadsBoth (codes "a") (named (codes "a") [] ∷ []) (only (codes "a") (leaf NoValue)) }
     ensures empty_value { ReadsBoth (codes "a=") (named (codes "a") [] ∷ []) (only (codes "a") (leaf Null)) }
@@ -44,7 +44,8 @@ pub fn read_alike()
     ensures escaped_separators { ReadsBoth (codes "a%26b=%3D") (named (codes "a&b") (codes "=") ∷ []) (one_leaf (Str (codes "a&b")) true (Text (codes "=") true)) }
 {}
 
-/// Inputs that they read differently: of names that aren't distinct the tree makes one key, and nothing is beside a value of the empty name.
+/// Inputs that they read differently: names that aren't distinct are one key in the tree, a broken escape covers `+` or an escape, or
+/// the empty name is the first of several.
 pub fn read_differently()
     ensures repeated { ReadsBoth (codes "a=1&a=2") (named (codes "a") (codes "1") ∷ named (codes "a") (codes "2") ∷ []) (only (codes "a") (text_leaves (codes "1" ∷ codes "2" ∷ []))) }
     ensures one_index { ReadsBoth (codes "1=x&01=y") (named (codes "1") (codes "x") ∷ named (codes "01") (codes "y") ∷ [])
@@ -55,7 +56,7 @@ pub fn read_differently()
     ensures no_tree { HasNoTree false 0 (codes "=v&b") }
 {}
 
-/// A tree holds a name by its key, and its value as a leaf.
+/// A tree holds a name as its key, and the value as a leaf.
 pub fn not_held()
     ensures other_value { HoldsNamed (named (codes "a") (codes "1") ∷ []) (only (codes "a") (text_leaf (codes "2"))) → ⊥ }
     ensures other_name { HoldsNamed (named (codes "a") (codes "1") ∷ []) (only (codes "b") (text_leaf (codes "1"))) → ⊥ }
@@ -72,7 +73,7 @@ pub fn covering_escapes()
     ensures after_two { covers_encoded (codes "%%%41") ≡ false }
 {}
 
-/// What is a query of RFC 3986. Of the bytes 92, 94, 96, 123, 124 and 125 a value is written as it is in query mode.
+/// What is a query of RFC 3986. In query mode the bytes 92, 94, 96, 123, 124 and 125 of a value are written unchanged.
 pub fn queries_of_uris()
     ensures kept { is_query (codes "AZaz09-._~!$&'()*+,;=:@/?%2f%C3") ≡ true }
     ensures brackets { is_query (codes "a[b]=1") ≡ false }

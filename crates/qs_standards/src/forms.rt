@@ -10,22 +10,24 @@ ghost use Rattle.qs_standards.specs.Covered.{covers_encoded};
 ghost use Rattle.qs_standards.specs.Pieces.{piece_pairs};
 ghost use Rattle.qs_standards.specs.Named.{AreNamed};
 
-/// The kit's crate `form_urlencoded`, a port of the Rust crate, states what it returns by a definition with the same names and values.
+/// The definition by which the kit's crate `form_urlencoded`, a port of the Rust crate, states its result gives the same names and
+/// values.
 pub fn kit_parser()
     ensures { (input : List ℕ) → map (λ n. (n.name, n.value)) (form_parsed input) ≡ parse input }
 {}
 
-/// Bytes are decoded as the standard decodes them exactly if no broken escape covers `+` or another escape.
+/// Bytes are decoded as in the standard exactly if no broken escape covers `+` or another escape.
 pub fn broken_escapes()
     ensures { (raw : List ℕ) → (decoded raw ≡ form_decoded raw) ↔ IsFalse (covers_encoded raw) }
 {}
 
-/// Without depth, in both modes, every input is the pairs of the standard's pieces and no others.
+/// With depth limit 0, in both modes, every input is parsed as the pairs of the standard's pieces and no others.
 pub fn pairs_without_depth()
     ensures { (form : Bool) (input : List ℕ) (pairs : List Pair) → ArePairs 0 (tokens form input) pairs ↔ (pairs ≡ piece_pairs input) }
 {}
 
-/// Without depth, in both modes, the pairs of an input are the standard's names and values exactly if no broken escape covers `+` or another escape.
+/// With depth limit 0, in both modes, the pairs of an input are the standard's names and values exactly if no broken escape covers `+`
+/// or another escape.
 pub fn names_and_values()
     ensures { (form : Bool) (input : List ℕ) (pairs : List Pair) → ArePairs 0 (tokens form input) pairs
         → AreNamed (form_parsed input) pairs ↔ IsFalse (covers_encoded input) }

@@ -1,4 +1,5 @@
-//! Laws that relate querystrings to two public standards: the URL Standard's parser of forms, and the query of RFC 3986. No code runs here.
+//! Laws that relate querystrings to two public standards: the form parser of the URL Standard, and the query of RFC 3986. No code runs
+//! here.
 #![tactic(auto)]
 
 mod examples;

@@ -6,8 +6,8 @@ ghost use Rattle.qs_standards.specs.FormUrlencoded.{form_parsed};
 ghost use Rattle.qs_standards.specs.Covered.{covers_encoded};
 ghost use Rattle.qs_standards.specs.Named.{AreDistinct, HoldsNamed, begins_empty};
 
-/// Without depth, if names are distinct and no broken escape covers anything, the tree holds exactly the standard's names and values.
-/// There is a tree exactly if the empty name isn't the first of several.
+/// With depth limit 0, if names are distinct and no broken escape covers anything, the tree holds exactly the standard's names and
+/// values. There is a tree exactly if the empty name isn't the first of several.
 pub fn trees_without_depth()
     ensures tree { (form : Bool) (b : ℕ) (input : List ℕ) (t : Tree) → IsFalse (covers_encoded (b ∷ input)) → AreDistinct (form_parsed (b ∷ input))
         → IsTree form 0 (b ∷ input) t → HoldsNamed (form_parsed (b ∷ input)) t }

@@ -5,7 +5,7 @@ use serde_qs::{Data, Field, KeyShape, Shape, Variant, VariantKind};
 use std::alloc::Global;
 use std::process::Abort;
 
-/// Makes shapes and data. It ends the test where there is no memory for them.
+/// Makes shapes and data. Ends the test if an allocation fails.
 #[derive(Drop)]
 pub struct Build<'r, R: Abort> {
     pub rt: &'r R,
@@ -13,7 +13,7 @@ pub struct Build<'r, R: Abort> {
 }
 
 impl<'r, R: Abort> Build<'r, R> {
-    /// Returns a maker of shapes and data in this memory.
+    /// Returns a maker of shapes and data that allocates here.
     pub fn new(rt: &'r R, alloc: Global) -> Self {
         Build { rt, alloc }
     }
@@ -38,7 +38,7 @@ impl<'r, R: Abort> Build<'r, R> {
         (self.name(name), value)
     }
 
-    /// Returns a field that has to be there.
+    /// Returns a required field.
     pub fn required(&self, name: &str, shape: Shape) -> Field {
         let name = self.name(name);
         Field {
@@ -48,7 +48,7 @@ impl<'r, R: Abort> Build<'r, R> {
         }
     }
 
-    /// Returns a field that may be left out.
+    /// Returns an optional field.
     pub fn optional(&self, name: &str, shape: Shape) -> Field {
         let name = self.name(name);
         Field {
@@ -63,7 +63,7 @@ impl<'r, R: Abort> Build<'r, R> {
         Shape::Struct(self.vec(fields))
     }
 
-    /// Returns the shape of a struct with this one field, which has to be there.
+    /// Returns the shape of a struct with this one required field.
     pub fn field(&self, name: &str, shape: Shape) -> Shape {
         self.fields([self.required(name, shape)])
     }
@@ -79,7 +79,7 @@ impl<'r, R: Abort> Build<'r, R> {
         Data::Text(self.name(text))
     }
 
-    /// Returns a value that might have been absent.
+    /// Returns `Some` with this value.
     pub fn some(&self, value: Data) -> Data {
         Data::Some(self.boxed(value))
     }
@@ -89,12 +89,12 @@ impl<'r, R: Abort> Build<'r, R> {
         Data::Seq(self.vec(items))
     }
 
-    /// Returns a list that has its length from its type.
+    /// Returns a list of fixed length.
     pub fn items<const N: usize>(&self, items: [Data; N]) -> Data {
         Data::Tuple(self.vec(items))
     }
 
-    /// Returns keys with their values.
+    /// Returns a map with these pairs.
     pub fn pairs<const N: usize>(&self, pairs: [(Data, Data); N]) -> Data {
         Data::Map(self.vec(pairs))
     }

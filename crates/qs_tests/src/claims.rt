@@ -1,9 +1,9 @@
-//! What tests claim. A claim that fails ends the test, and says what was found.
+//! What tests claim. A claim that fails ends the test and says what was found.
 
 use std::fmt::Debug;
 use std::process::Abort;
 
-/// Claims that this holds of the case.
+/// Claims that this holds for the case.
 pub fn holds<R: Abort, C: Debug + Drop>(rt: &R, claim: bool, case: C) {
     assert!(rt; claim, "{case:?}");
 }

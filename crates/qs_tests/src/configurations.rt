@@ -1,10 +1,10 @@
-//! The defaults, and a configuration with every part changed.
+//! The defaults, and a configuration with every setting changed.
 
 use crate::claims::is_equal;
 use qs_tree::{ArrayFormat, Config, DuplicateKeyBehavior};
 use std::process::Abort;
 
-// Claims that the parts of the configuration are these.
+// Claims that the configuration has these settings.
 fn has<R: Abort>(
     rt: &R,
     config: Config,

@@ -1,17 +1,17 @@
-//! Data of 200,000 levels are discarded, and data of 2,000 are compared.
+//! Data of 200,000 levels is discarded, and data of 2,000 levels is compared.
 
 use crate::build::Build;
 use crate::claims::holds;
 use serde_qs::Data;
 use std::process::Abort;
 
-/// How deep data are that are compared, which takes a call for each level.
+/// The depth of the data that is compared. Comparison takes a call for each level.
 const COMPARED: usize = 2_000;
 
-/// How deep data are that are discarded, which is a loop.
+/// The depth of the data that is discarded. Discarding is a loop.
 const DISCARDED: usize = 200_000;
 
-// Returns data of the level's kind that hold these, with a leaf before or after them.
+// Returns data of the level's kind that holds the inner data, with a leaf before or after it.
 fn nested_once<R: Abort>(b: &Build<'_, R>, level: usize, inner: Data) -> Data {
     match level % 10 {
         0 => b.some(inner),
@@ -27,7 +27,7 @@ fn nested_once<R: Abort>(b: &Build<'_, R>, level: usize, inner: Data) -> Data {
     }
 }
 
-// Returns the data within so many levels, of each kind in turn.
+// Returns the data inside `levels` levels, of each kind in turn.
 fn deep<R: Abort>(b: &Build<'_, R>, levels: usize, bottom: Data) -> Data {
     let mut datum = bottom;
     for level in 0..levels {
@@ -36,7 +36,7 @@ fn deep<R: Abort>(b: &Build<'_, R>, levels: usize, bottom: Data) -> Data {
     datum
 }
 
-// Returns the data in as many options.
+// Returns the data inside `levels` options.
 fn deep_option<R: Abort>(b: &Build<'_, R>, levels: usize, bottom: Data) -> Data {
     let mut datum = bottom;
     for _ in 0..levels {
@@ -45,7 +45,7 @@ fn deep_option<R: Abort>(b: &Build<'_, R>, levels: usize, bottom: Data) -> Data 
     datum
 }
 
-// Returns the data as the first item of as many lists.
+// Returns the data as the first item of `levels` nested lists.
 fn deep_list<R: Abort>(b: &Build<'_, R>, levels: usize, bottom: Data) -> Data {
     let mut datum = bottom;
     for _ in 0..levels {
@@ -54,7 +54,7 @@ fn deep_list<R: Abort>(b: &Build<'_, R>, levels: usize, bottom: Data) -> Data {
     datum
 }
 
-// Asserts that the first two are the same, and the third is another.
+// Asserts that the first two are equal, and that the third differs.
 fn compared<R: Abort>(rt: &R, datum: Data, same: Data, other: Data) {
     holds(rt, datum == same, "the same data");
     holds(rt, datum != other, "other data");

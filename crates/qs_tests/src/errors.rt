@@ -9,7 +9,7 @@ use std::alloc::Global;
 use std::process::Abort;
 use std::{io, str};
 
-// Returns this text in memory of its own.
+// Returns this text as an owned string.
 fn owned<R: Abort>(rt: &R, alloc: Global, text: &str) -> String {
     made(rt, String::from_str(alloc, text))
 }
@@ -35,7 +35,7 @@ fn prints_texts(rt: HostRuntime) {
     prints_constant_texts(&rt, alloc);
 }
 
-// Claims that the errors that hold nothing print their texts.
+// Claims that the errors without values print their texts.
 fn prints_constant_texts<R: Abort>(rt: &R, alloc: Global) {
     let text = "unsupported type for serialization";
     prints(rt, alloc, Error::Unsupported, text);
@@ -43,7 +43,7 @@ fn prints_constant_texts<R: Abort>(rt: &R, alloc: Global) {
     prints(rt, alloc, Error::Failed, "serializer has failed");
 }
 
-// Returns the error of bytes that are no text, and what it prints.
+// Returns the error of bytes that aren't UTF-8, and what it prints.
 fn no_text<R: Abort>(rt: &R, alloc: Global) -> (str::Utf8Error, String) {
     let cause = fails(rt, str::from_utf8(b"\xFF"));
     let text = made(rt, cause.to_string(alloc));

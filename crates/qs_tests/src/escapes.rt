@@ -1,4 +1,4 @@
-//! Bytes escaped, and what escaped bytes are decoded to.
+//! Escaping bytes, and decoding escaped bytes.
 ghost use Rattle.std.specs.Prelude.{◌<◌, IfSome};
 
 use crate::claims::{holds, is_equal, made};
@@ -61,7 +61,7 @@ fn escaped_into_room(rt: HostRuntime) {
     is_equal(&rt, room.as_slice(), b"*1+%26**", "the room");
 }
 
-// Claims that a text of so many words is escaped, and decoded again.
+// Claims that a text of this many words is escaped, and decoded again.
 fn is_escaped_at_length<R: Abort>(rt: &R, alloc: Global, count: usize, form: bool) {
     let words = if form {
         "words%20and%20more%20words%2C%20then%20an%20%26%20"

@@ -9,7 +9,7 @@ use serde_qs::Shape;
 use std::alloc::Global;
 use std::process::Abort;
 
-/// Under a shape inputs, each with the line that explains why it isn't read, and none where it is.
+/// Inputs under a shape, each with the line that explains why it isn't read, or no line if it is read.
 const EXPLAINED: &str = "\
 # fields
 Struct:name:address Text Struct:number Option U8
@@ -100,7 +100,7 @@ StrictStruct:age U8
     age=3&%0D%7F%C3%A9=1 | unexpected key \"\\u{d}\\u{7f}é\"
 ";
 
-// Claims that an input is explained by this line under the default configuration: by the empty one where it is read.
+// Claims that an input is explained by this line under the default configuration: an empty line if it is read.
 fn says<R: Abort>(b: &Build<'_, R>, shape: &Shape, input: &str, line: &str) {
     let explained = explain(b.alloc, Config::new(), shape, input.as_bytes());
     let text = match made(b.rt, explained) {
@@ -163,17 +163,17 @@ fn hints_as_text(rt: HostRuntime) {
     is_text(&rt, &text, wanted, "a hint");
 }
 
-/// The place of a pair: its start, the end of its key, and its end.
+/// The range of a pair: its start, the end of its key, and its end.
 type Place = (usize, usize, usize);
 
-// Claims that the pair at this position has this place.
+// Claims that the pair at this position has this range.
 fn has_place<R: Abort>(rt: &R, config: Config, input: &[u8], position: usize, wanted: Place) {
     let pair = find_pair(config, input, position);
     let place = (pair.start, pair.key_end, pair.end);
     is_equal(rt, place, wanted, input);
 }
 
-// Claims that the input has no tree, and that the pair with the error has this place.
+// Claims that the input has no tree, and that the pair with the error has this range.
 fn is_wrong<R: Abort>(rt: &R, alloc: Global, config: Config, input: &[u8], wanted: Place) {
     let explained = explain(alloc, config, &Shape::Ignored, input);
     match &made(rt, explained) {
@@ -184,7 +184,7 @@ fn is_wrong<R: Abort>(rt: &R, alloc: Global, config: Config, input: &[u8], wante
     }
 }
 
-/// Inputs, each with the place of its first wrong pair. The comment after a row shows that pair.
+/// Inputs, each with the range of its first wrong pair. The comment after a row shows that pair.
 const WRONG_PAIRS: [(&[u8], Place); 6] = [
     (b"a=1&a[b]=2&c=3", (4, 8, 10)), // a[b]=2
     (b"a[b]c=1&d=2", (0, 5, 7)), // a[b]c=1
@@ -203,7 +203,7 @@ fn pairs_of_errors(rt: HostRuntime) {
     }
 }
 
-/// Whether form mode is used, an input, and the place of the first wrong pair, whose key stands at the end of the line. A `=` in
+/// Whether form mode is used, an input, and the range of the first wrong pair. The pair's key is at the end of the line. A `=` in
 /// brackets is a byte of the key.
 const WRONG_KEYS: [(bool, &[u8], Place); 14] = [
     (false, b"a[b=c]=1&a[b=c][x]=2", (9, 18, 20)), // a[b=c][x]
@@ -234,7 +234,7 @@ fn keys_of_pairs_with_errors(rt: HostRuntime) {
     }
 }
 
-// At the depth limit the first byte of the last part of a key may be a `=`, and the next one ends the key.
+// At the depth limit the byte after the bracket of a key's last segment may be a `=`, and the next `=` ends the key.
 #[test]
 fn keys_at_the_depth_limit(rt: HostRuntime) {
     let alloc = rt.alloc();
@@ -244,7 +244,7 @@ fn keys_at_the_depth_limit(rt: HostRuntime) {
     is_wrong(&rt, alloc, form, b"a[b]=1&a%5Bb%5D%5B=c=2", (7, 20, 22));
 }
 
-// At the depth limit a key goes on to its end, and its first byte may be an `&`.
+// At the depth limit the byte after the bracket of a key's last segment may be an `&`, and the key continues after it.
 #[test]
 fn pairs_at_the_depth_limit(rt: HostRuntime) {
     let query = Config::new().max_depth(1);

@@ -9,7 +9,7 @@ use serde_qs::helpers::{comma_separated, pipe_delimited, space_delimited};
 use serde_qs::{Config, Data, Deserializer, Shape};
 use std::process::Abort;
 
-// Returns the text of this field, and no other field.
+// Reads only this field, and returns its text.
 fn text_of<R: Abort>(b: &Build<'_, R>, input: &str, name: &str) -> Data {
     let shape = b.field(name, Shape::Text);
     if !shape.is_distinct() {
@@ -28,14 +28,14 @@ fn first_value<R: Abort>(b: &Build<'_, R>, mut members: Vec<(String, Data)>) -> 
     present(b.rt, members.pop(), "a member").1
 }
 
-// Claims that the numbers are written as this text, and read again from it.
+// Claims that the numbers are written as this text, and read back from it.
 fn between_commas<R: Abort>(b: &Build<'_, R>, numbers: &[u8], input: &str) {
     let data = made(b.rt, comma_separated::serialize(b.alloc, numbers));
     writes(b, Config::new(), &b.one("values", data), input);
     are_read_between_commas(b, input, "values", numbers);
 }
 
-// Claims that the field has these numbers with commas between.
+// Claims that the field has these numbers, separated by commas.
 fn are_read_between_commas<R: Abort>(b: &Build<'_, R>, input: &str, name: &str, numbers: &[u8]) {
     let text = text_of(b, input, name);
     let read = made(b.rt, comma_separated::deserialize::<u8>(b.alloc, text));

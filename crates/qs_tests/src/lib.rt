@@ -1,4 +1,4 @@
-//! Tests of `qs_tree`, `qs_data`, `serde_qs` and `qs_explain`, and what tests of other crates need: a writer that stops, and trees as lines.
+//! Tests of `qs_tree`, `qs_data`, `serde_qs` and `qs_explain`, and helpers for tests of other crates: a writer that stops, trees as lines.
 #![tactic(auto)]
 
 #[cfg(test)]

@@ -1,4 +1,4 @@
-//! Each call of keys and maps of a tree once, and deep maps.
+//! Each function of a tree's keys and maps once, and deep maps.
 
 use crate::claims::{holds, is_equal, is_text, made, present};
 use qs_tree::{Config, Key, ParsedMap, ParsedValue, Steps, parse, parse_with};
@@ -107,7 +107,7 @@ fn a_map_is_taken_apart(rt: HostRuntime) {
     is_spent(&rt, alloc, root);
 }
 
-// Claims that nothing is left of the map.
+// Claims that the map is empty.
 fn is_spent<R: Abort>(rt: &R, alloc: Global, mut map: ParsedMap<'_>) {
     holds(rt, map.is_empty(), "nothing is left");
     is_equal(rt, &map, &ParsedMap::new(alloc), "what is left");
@@ -140,7 +140,7 @@ fn a_value_alone_is_borrowed(rt: HostRuntime) {
     }
 }
 
-// Returns an input of maps in one another, with a leaf at the bottom and one more in the outermost.
+// Returns an input of nested maps, with a leaf in the innermost and another leaf in the outermost.
 fn nested<R: Abort>(rt: &R, alloc: Global, levels: usize, end: &str) -> String {
     let brackets = made(rt, "[b]".repeat(alloc, levels));
     made(rt, format!(in alloc; "a{brackets}{end}"))
@@ -156,7 +156,7 @@ fn deep_maps_are_dropped(rt: HostRuntime) {
     drop(map);
 }
 
-// Claims whether two inputs have one tree, ownership aside.
+// Claims whether two inputs have the same tree, ignoring ownership.
 fn have_one_tree<R: Abort>(rt: &R, alloc: Global, input: &str, other: &str, wanted: bool) {
     let config = Config::new().max_depth(COMPARED);
     let tree = made(rt, parse(alloc, input.as_bytes(), config));
@@ -175,7 +175,7 @@ fn deep_maps_are_compared(rt: HostRuntime) {
     have_one_tree(&rt, alloc, &input, &shorter, false);
 }
 
-// Returns sequences in one another.
+// Returns nested sequences.
 fn nested_items<R: Abort>(
     rt: &R,
     alloc: Global,

@@ -1,10 +1,10 @@
-//! A writer that takes little, and then stops once.
+//! A writer that takes few bytes at a time, and then stops once.
 
 use std::alloc::{AllocError, Global};
 use std::io;
 use std::io::Write;
 
-/// How a write ends that finds no room.
+/// How a write to a full writer ends.
 #[derive(Clone, Copy, Debug)]
 pub enum Stop {
     Fails,
@@ -12,7 +12,7 @@ pub enum Stop {
     TakesNothing,
 }
 
-/// Takes up to `step` bytes a write while there is room, and then stops once. It takes what is written after that, so a test sees it.
+/// Takes up to `step` bytes for each write until it is full, and then stops once. It takes what is written after that, so a test sees it.
 #[derive(Drop)]
 pub struct Narrow {
     pub held: Vec<u8>,
@@ -22,7 +22,7 @@ pub struct Narrow {
 }
 
 impl Narrow {
-    /// Returns such a writer that holds nothing yet. No write allocates.
+    /// Returns an empty writer. No write allocates until it is full.
     pub fn new(alloc: Global, step: usize, room: usize, stop: Stop) -> Result<Narrow, AllocError> {
         let held = Vec::with_capacity(alloc, room)?;
         Ok(Narrow {

@@ -1,8 +1,8 @@
-//! Shapes and data as words with spaces between, each before its parts: `Seq Option U8` and `Seq:2 None Some Unsigned:7`.
+//! Shapes and data as words separated by spaces, each before its parts: `Seq Option U8` and `Seq:2 None Some Unsigned:7`.
 //!
-//! After a colon stand a scalar's text, the count of parts, or names. They are escaped as in form mode. After the name of an
-//! optional field stands `?`. The variants of an enum stand after its count: `Enum:2 unit:a struct:b:x:y? U8 Text`, and `strict` in
-//! the place of `struct` for one that rejects unknown keys.
+//! A colon is followed by a scalar's text, the count of parts, or names, escaped as in form mode. The name of an optional field is
+//! followed by `?`, and the count of an enum by its variants: `Enum:2 unit:a struct:b:x:y? U8 Text`. A variant that rejects unknown
+//! keys is `strict` instead of `struct`.
 
 use crate::build::Build;
 use crate::claims::{made, present};
@@ -10,7 +10,7 @@ use qs_tree::decode;
 use serde_qs::{Data, Field, KeyShape, Shape, Variant, VariantKind};
 use std::process::Abort;
 
-// Returns what a text with escapes is decoded to.
+// Decodes a text with escapes.
 fn bytes<R: Abort>(b: &Build<'_, R>, text: &str) -> Vec<u8> {
     let decoded = made(b.rt, decode(b.alloc, text.as_bytes()));
     made(b.rt, Vec::from_slice(b.alloc, &decoded))
@@ -31,12 +31,12 @@ fn boxed<R: Abort, T: Drop>(b: &Build<'_, R>, parts: &mut Vec<T>) -> Box<T> {
     made(b.rt, Box::new(b.alloc, part(b, parts)))
 }
 
-// Returns the count that the text says.
+// Parses the text as a count.
 fn number_of<R: Abort>(b: &Build<'_, R>, count: &str) -> u32 {
     made(b.rt, count.parse::<u32>())
 }
 
-// Returns as many parts as the text says, from the last one on.
+// Returns as many parts as the text says, beginning with the last.
 fn counted<R: Abort, T: Drop>(b: &Build<'_, R>, count: &str, parts: &mut Vec<T>) -> Vec<T> {
     let mut counted = Vec::new(b.alloc);
     for _ in 0..number_of(b, count) {
@@ -46,7 +46,7 @@ fn counted<R: Abort, T: Drop>(b: &Build<'_, R>, count: &str, parts: &mut Vec<T>)
     counted
 }
 
-// Returns a field for each name after the first so many texts of the word, with the shapes from the last one on.
+// Returns a field for each name after the first `first` texts of the word, with the shapes beginning with the last.
 fn fields<R: Abort>(
     b: &Build<'_, R>,
     word: &str,
@@ -69,7 +69,7 @@ fn field<R: Abort>(b: &Build<'_, R>, text: &str, shape: Shape) -> Field {
     }
 }
 
-// Returns the shape of a key of that name.
+// Returns the key shape of this name.
 fn key<R: Abort>(b: &Build<'_, R>, word: &str) -> KeyShape {
     match word {
         "Bool" => KeyShape::Bool,
@@ -97,7 +97,7 @@ fn variant_names<R: Abort>(b: &Build<'_, R>, word: &str) -> Vec<String> {
     names
 }
 
-// Returns the variant of this word, where it is one.
+// Returns the variant of this word, if it is one.
 fn variant<R: Abort>(b: &Build<'_, R>, word: &str, shapes: &mut Vec<Shape>) -> Option<Variant> {
     let (kind, rest) = word.split_once(':').unwrap_or((word, ""));
     let (name, parts) = rest.split_once(':').unwrap_or((rest, ""));
@@ -134,7 +134,7 @@ fn scalar<R: Abort>(b: &Build<'_, R>, word: &str) -> Shape {
     }
 }
 
-/// Returns the shape that these words are.
+/// Returns the shape of these words.
 pub fn shape<R: Abort>(b: &Build<'_, R>, words: &str) -> Shape {
     let mut shapes = Vec::new(b.alloc);
     let mut variants = Vec::new(b.alloc);
@@ -149,7 +149,7 @@ pub fn shape<R: Abort>(b: &Build<'_, R>, words: &str) -> Shape {
     part(b, &mut shapes)
 }
 
-// Returns the shape of this word, where those of the words after it were made.
+// Returns the shape of this word. The shapes of the words after it were made before.
 fn next_shape<R: Abort>(
     b: &Build<'_, R>,
     word: &str,
@@ -170,7 +170,7 @@ fn next_shape<R: Abort>(
     }
 }
 
-// Returns a member for each name after the first so many texts of the word, with the data from the last one on.
+// Returns a member for each name after the first `first` texts of the word, with the data beginning with the last.
 fn members<R: Abort>(
     b: &Build<'_, R>,
     word: &str,
@@ -213,7 +213,7 @@ fn character<R: Abort>(b: &Build<'_, R>, text: &str) -> char {
     present(b.rt, string(b, text).chars().next(), text)
 }
 
-/// Returns the data that these words are.
+/// Returns the data of these words.
 pub fn data<R: Abort>(b: &Build<'_, R>, words: &str) -> Data {
     let mut data = Vec::new(b.alloc);
     for word in words.rsplit(' ') {
@@ -223,7 +223,7 @@ pub fn data<R: Abort>(b: &Build<'_, R>, words: &str) -> Data {
     part(b, &mut data)
 }
 
-// Returns the data that begin with this word, where those of the words after it were made.
+// Returns the data that begins with this word. The data of the words after it was made before.
 fn next_data<R: Abort>(b: &Build<'_, R>, word: &str, data: &mut Vec<Data>) -> Data {
     let (kind, rest) = word.split_once(':').unwrap_or((word, ""));
     match kind {

@@ -1,4 +1,4 @@
-//! Plain data that fit a shape, read back from their entries in other orders, and what isn't read back.
+//! Plain data that fits a shape, read back from its entries in other orders, and what isn't read back.
 
 mod cases;
 mod entries;

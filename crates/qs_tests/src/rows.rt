@@ -1,4 +1,4 @@
-//! A row: an input, a shape, and what is read or said.
+//! A row: an input, a shape, and what is read or reported.
 
 use crate::build::Build;
 use crate::claims::{holds, is_equal, is_text, made};
@@ -8,18 +8,18 @@ use serde_qs::{Config, Data, Deserializer, Error, Result, Shape};
 use std::alloc::Global;
 use std::process::Abort;
 
-/// What is printed after the error of a key that holds a bracket.
+/// What is printed after the error of a key with a bracket.
 const HINT: &str =
     "\nInvalid field contains an encoded bracket -- consider using form encoding mode\n  https://docs.rs/serde_qs/latest/serde_qs/#query-string-vs-form-encoding";
 
 /// How a table says that the error is `Utf8`.
 const NOT_UTF8: &str = "not UTF-8";
 
-/// Tries each case of a table, of which there are so many.
+/// Tries each of the `count` cases of a table.
 ///
-/// A heading is a shape. The inputs under it stand before a bar, each with the data that the shape reads from it, or with `!` and the text
-/// of the error: `not UTF-8` for `Utf8`, and `+ hint` at the end for the hint at form encoding. A configuration and a bar may stand in
-/// front.
+/// A heading is a shape. A case under it has an input, a bar, and the data that the shape reads from the input, or `!` and the text of
+/// the error: `not UTF-8` for `Utf8`, and `+ hint` at the end for the hint about form encoding. A case may begin with a configuration
+/// and a bar.
 pub fn reads_each<R: Abort>(rt: &R, alloc: Global, table: &str, count: usize) {
     let rows = Rows::new(rt, alloc);
     let cases = tables::cases(&rows.build, table, count);
@@ -78,7 +78,7 @@ impl<'r, R: Abort> Rows<'r, R> {
         }
     }
 
-    // Claims that the shape reads nothing from the input, and that the error is the one that a table names.
+    // Claims that the shape reads nothing from the input, and that the error is the one in the table.
     fn rejects(&self, input: &str, shape: &Shape, error: &str) {
         match error.strip_suffix(" + hint") {
             Some(NOT_UTF8) => self.breaks_and_hints(input, shape),
@@ -97,7 +97,7 @@ impl<'r, R: Abort> Rows<'r, R> {
         Deserializer::with_config(alloc, self.config, input.as_bytes())?.read(alloc, shape)
     }
 
-    /// Claims that the shape reads these data from the input, and that they can be copied.
+    /// Claims that the shape reads this data from the input, and that it can be copied.
     pub fn reads(&self, input: &str, shape: &Shape, wanted: Data) {
         match self.read(input, shape) {
             Ok(data) => are_copied(&self.build, input, data, wanted),
@@ -113,7 +113,7 @@ impl<'r, R: Abort> Rows<'r, R> {
         }
     }
 
-    /// Claims that the shape reads nothing from the input, and that this is said.
+    /// Claims that the shape reads nothing from the input, and that the error has this text.
     pub fn says(&self, input: &str, shape: &Shape, wanted: &str) {
         let rt = self.build.rt;
         let error = self.fails(input, shape);
@@ -121,7 +121,7 @@ impl<'r, R: Abort> Rows<'r, R> {
         is_text(rt, &said, wanted, input);
     }
 
-    // Claims that the shape reads nothing from the input, and that this is said, and then the hint.
+    // Claims that the shape reads nothing from the input, and that the error has this text, followed by the hint.
     fn hints(&self, input: &str, shape: &Shape, wanted: &str) {
         let wanted = made(
             self.build.rt,
@@ -130,7 +130,7 @@ impl<'r, R: Abort> Rows<'r, R> {
         self.says(input, shape, &wanted);
     }
 
-    // Claims that the input is rejected since a text or a key that is read isn't UTF-8.
+    // Claims that the input is rejected because a text or a key that is read isn't UTF-8.
     fn breaks(&self, input: &str, shape: &Shape) {
         match self.fails(input, shape) {
             Error::Utf8(_) => {}
@@ -138,7 +138,7 @@ impl<'r, R: Abort> Rows<'r, R> {
         }
     }
 
-    // Claims that the input is rejected since a key with a bracket isn't UTF-8, and that the hint is given.
+    // Claims that the input is rejected because a key with a bracket isn't UTF-8, and that the hint is given.
     fn breaks_and_hints(&self, input: &str, shape: &Shape) {
         match self.fails(input, shape) {
             Error::Custom(said) => holds(self.build.rt, said.ends_with(HINT), (input, said)),
@@ -147,7 +147,7 @@ impl<'r, R: Abort> Rows<'r, R> {
     }
 }
 
-// Claims that the data that were read are the wanted ones, and that a copy of them is too.
+// Claims that the wanted data was read, and that a copy of it is equal too.
 fn are_copied<R: Abort>(b: &Build<'_, R>, input: &str, data: Data, wanted: Data) {
     is_equal(b.rt, &data, &wanted, input);
     let copy = made(b.rt, data.try_clone(b.alloc));

@@ -1,4 +1,4 @@
-//! Searches held against a plain loop, at every length up to 100 and every index.
+//! Searches compared with a plain loop, at every length up to 100 and every index.
 
 use crate::claims::{is_equal, made};
 use qs_tree::{encode, find_ampersand, find_encoded, find_escape};
@@ -56,7 +56,7 @@ impl Class {
     }
 }
 
-// Asserts that the search for each class returns what the plain one does.
+// Asserts that the search for each class returns what the plain loop does.
 fn agree<R: Abort>(rt: &R, bytes: &[u8]) {
     for class in CLASSES {
         let case = (class, bytes);
@@ -71,7 +71,7 @@ fn have_none<R: Abort>(rt: &R, bytes: &[u8]) {
     }
 }
 
-// Claims that each search returns what the plain one does where one byte of so many letters is another.
+// Claims that each search returns what the plain loop does if one of many equal bytes is replaced.
 fn agree_at<R: Abort>(rt: &R, bytes: &mut [u8]) {
     for index in 0..bytes.len() {
         for byte in [b'+', b'%', b'&', b'[', b' '] {

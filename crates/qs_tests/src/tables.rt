@@ -1,12 +1,12 @@
-//! Tables of cases: a line that isn't indented is a heading, and those under it are its cases, with bars between their columns.
-//! Lines that begin with `#` are comments.
+//! Tables of cases: a line that isn't indented is a heading, and the indented lines under it are its cases, with columns separated by
+//! bars. Lines that begin with `#` are comments.
 
 use crate::build::Build;
 use crate::claims::{is_equal, made, present};
 use serde_qs::{ArrayFormat, Config, DuplicateKeyBehavior};
 use std::process::Abort;
 
-/// Returns each case of a table with its heading. Claims that there are so many.
+/// Returns each case of a table with its heading. Claims that there are `count` cases.
 pub fn cases<'t, R: Abort>(
     b: &Build<'_, R>,
     table: &'t str,
@@ -30,7 +30,7 @@ pub fn cases<'t, R: Abort>(
     cases
 }
 
-/// Returns what stands before the last bar of a case, and what stands after it: nothing before it, where there is no bar.
+/// Returns what precedes the last bar of a case, and what follows it. Without a bar, nothing precedes it and the whole case follows.
 pub fn last_column(case: &str) -> (&str, &str) {
     match case.rsplit_once('|') {
         Some((rest, column)) => (rest, column.trim()),
@@ -38,7 +38,7 @@ pub fn last_column(case: &str) -> (&str, &str) {
     }
 }
 
-/// Returns the configuration that these words with commas between are: `form, depth 2, reject duplicates`. `empty` and `unindexed` are
+/// Returns the configuration of these words, separated by commas: `form, depth 2, reject duplicates`. `empty` and `unindexed` are
 /// formats, and `query` is the default configuration.
 pub fn configuration<R: Abort>(b: &Build<'_, R>, words: &str) -> Config {
     let mut config = Config::new();

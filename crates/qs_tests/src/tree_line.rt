@@ -1,7 +1,7 @@
 //! Trees written as one line, for tests and for golden cases.
 //!
-//! A map is `{key:value,..}`, a sequence `[value,..]`, and integer keys stand bare. Other values are `NoValue`, `Null` and
-//! `Uninit`. After a text or a key, `*` says that its bytes are its own, and not borrowed from the input.
+//! A map is `{key:value,..}`, and a sequence is `[value,..]`. Integer keys aren't quoted. Other values are `NoValue`, `Null` and
+//! `Uninit`. A `*` after a text or a key says that its bytes are owned, and not borrowed from the input.
 #![tactic(auto)]
 
 use qs_tree::{Key, ParsedMap, ParsedValue};
@@ -43,7 +43,7 @@ pub fn line(alloc: Global, tree: &ParsedValue<'_>, texts: Texts) -> Result<Strin
     Ok(line)
 }
 
-// Appends what a node begins with, and keeps what it holds.
+// Appends the beginning of a node, and keeps the rest.
 fn push_value<'t, 'qs>(
     line: &mut String,
     rest: &mut Vec<Pending<'t, 'qs>>,
@@ -66,7 +66,7 @@ fn push_value<'t, 'qs>(
     }
 }
 
-// Returns what a sequence is written as, the last piece first.
+// Returns the pieces of a sequence, the last one first.
 fn stack_items<'t, 'qs>(
     rest: &mut Vec<Pending<'t, 'qs>>,
     items: &'t Vec<ParsedValue<'qs>>,
@@ -81,7 +81,7 @@ fn stack_items<'t, 'qs>(
     Ok(())
 }
 
-// Returns what a map is written as, the last piece first.
+// Returns the pieces of a map, the last one first.
 fn stack_entries<'t, 'qs>(
     rest: &mut Vec<Pending<'t, 'qs>>,
     map: &'t ParsedMap<'qs>,
@@ -113,7 +113,7 @@ fn push_text(line: &mut String, text: &CowSlice<'_, u8>, texts: Texts) -> Result
     }
 }
 
-// Returns the bytes between single quotes, where those beyond printable ASCII are escaped.
+// Returns the bytes between single quotes. Bytes other than printable ASCII are escaped.
 fn push_quoted(line: &mut String, bytes: &[u8]) -> Result<(), AllocError> {
     line.push('\'')?;
     for byte in bytes {

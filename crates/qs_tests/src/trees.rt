@@ -40,12 +40,12 @@ const MAP_IN_SEQUENCE: &str = "unsupported: unable to parse nested maps of unind
 const MIXED_SEQUENCE: &str =
     "unsupported: cannot mix unindexed sequences `abc[]=...` with indexed sequences `abc[0]=...`";
 
-// Returns query mode with this limit of depth.
+// Returns query mode with this depth limit.
 fn query(max_depth: usize) -> Config {
     Config::new().max_depth(max_depth)
 }
 
-// Returns form mode with this limit of depth.
+// Returns form mode with this depth limit.
 fn form(max_depth: usize) -> Config {
     query(max_depth).use_form_encoding(true)
 }
@@ -56,7 +56,7 @@ fn tree<R: Abort>(rt: &R, alloc: Global, config: Config, input: &[u8]) -> String
     made(rt, line(alloc, &tree, Texts::Quoted))
 }
 
-// Returns where a typed call finds that an input has no tree.
+// Returns the position of a typed call's error, if the input has no tree.
 fn typed_position(alloc: Global, config: Config, input: &[u8]) -> Option<usize> {
     let read: Result<BTreeMap<String, String>, Error> = config.deserialize_bytes(alloc, input);
     match read {
@@ -87,7 +87,7 @@ fn reject<R: Abort>(rt: &R, alloc: Global, config: Config, rows: &[(&str, usize,
     }
 }
 
-// Claims that the input is rejected at the position with the text.
+// Claims that the input is rejected at this position with this text.
 fn reject_bytes<R: Abort>(
     rt: &R,
     alloc: Global,

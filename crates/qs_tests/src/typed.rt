@@ -11,7 +11,7 @@ use std::process::Abort;
 
 type Map<T> = BTreeMap<String, T>;
 
-/// Maps in maps, as deep as the default configuration goes.
+/// Nested maps, as deep as the default configuration allows.
 type Deep = Map<Map<Map<Map<Map<Map<Map<String>>>>>>>;
 
 // Returns the querystring of the maps that are read from this input.
@@ -36,7 +36,7 @@ fn two_hundred_brackets(rt: HostRuntime) {
     );
 }
 
-// Claims that a list at this index alone is read.
+// Claims that a list with only this index is read.
 fn has_one_item<R: Abort>(rt: &R, alloc: Global, index: &str) {
     let input = made(rt, format!(in alloc; "a[{index}]=x"));
     let read: Map<Vec<String>> = made(rt, from_str(alloc, &input));
@@ -44,7 +44,7 @@ fn has_one_item<R: Abort>(rt: &R, alloc: Global, index: &str) {
     is_equal(rt, len, Some(1), index);
 }
 
-// Claims that no list is read at this index alone, and that this is said.
+// Claims that a list with only this index isn't read, and that the error has this text.
 fn has_no_first_item<R: Abort>(rt: &R, alloc: Global, index: &str, wanted: &str) {
     let input = made(rt, format!(in alloc; "a[{index}]=x"));
     let read: Result<Map<Vec<String>>> = from_str(alloc, &input);
@@ -72,7 +72,7 @@ fn a_thousand_digits(rt: HostRuntime) {
     has_key(&rt, alloc, &nines);
 }
 
-// Claims that each input has a text that is asked for and isn't UTF-8.
+// Claims that each input is rejected because a text that is read isn't UTF-8.
 fn breaks<R: Abort, T: Deserialize + Drop>(rt: &R, alloc: Global, inputs: &[&str]) {
     for input in inputs {
         let read: Result<T> = from_str(alloc, input);
@@ -96,7 +96,7 @@ const BROKEN: [&str; 5] = ["a=%FF", "a=%C3", "a=x%E2%82", "%FF=1", "x=1&%C3=2"];
 
 const BROKEN_LISTS: [&str; 4] = ["a[]=%FF", "a[0]=%FF", "a=x&a=%FF", "%FF[]=x"];
 
-// Claims that what `%` and these two bytes are decoded to is read as a value, or rejected as no text.
+// Claims that the decoded bytes of `%` and these two bytes are read as a value, or are rejected because they aren't UTF-8.
 fn is_read_after_a_percent_sign<R: Abort>(rt: &R, alloc: Global, first: u8, second: u8) {
     let bytes = made(rt, decoded(alloc, first, second));
     let wanted = String::from_utf8(bytes).ok();

@@ -15,7 +15,7 @@ use serde_qs::{ByWrite, Config, Data, Error, Serializer};
 use std::alloc::Global;
 use std::process::Abort;
 
-/// Claims that the data are written as this text.
+/// Claims that the data is written as this text.
 pub fn writes<R: Abort>(b: &Build<'_, R>, config: Config, datum: &Data, wanted: &str) {
     let mut serializer = Serializer::new(Vec::new(b.alloc), config);
     let outcome = serializer.serialize(b.alloc, datum);
@@ -33,7 +33,7 @@ fn written(serializer: Serializer<ByWrite<Vec<u8>>>) -> Vec<u8> {
     serializer.into_sink().into_writer()
 }
 
-// Claims that the data cause this error. This text stands before it, and nothing is written after it.
+// Claims that the data causes this error. This text is written before it, and nothing after it.
 fn stops<R: Abort>(b: &Build<'_, R>, config: Config, datum: &Data, wanted: &str, said: &str) {
     let mut serializer = Serializer::new(Vec::new(b.alloc), config);
     let error = fails(b.rt, serializer.serialize(b.alloc, datum));
@@ -49,10 +49,10 @@ fn stops<R: Abort>(b: &Build<'_, R>, config: Config, datum: &Data, wanted: &str,
     );
 }
 
-/// Tries each case of a table, of which there are so many.
+/// Tries each of the `count` cases of a table.
 ///
-/// A heading is data. Under it stands the text that is written of them, and after a bar, where writing ends with an error, `!` and the
-/// text of the error. A configuration and a bar may stand in front.
+/// A heading is data. A case under it has the text that the data is written as and, if writing ends with an error, a bar, `!` and the
+/// text of the error. A case may begin with a configuration and a bar.
 pub fn writes_each<R: Abort>(rt: &R, alloc: Global, table: &str, count: usize) {
     let b = Build::new(rt, alloc);
     for (data, case) in &tables::cases(&b, table, count) {

@@ -1,5 +1,5 @@
--- The words that a reader must believe, beside those of qs_spec: all modules but `internal`, which has steps of proofs. `Line` says which
--- line the program prints and which status it ends with, `Arguments` what its arguments ask for, `Shown` how `any` shows data.
+-- The definitions to review, in addition to those in qs_spec: all modules except `internal`, which has steps of proofs. `Line` defines the
+-- line that the program prints and its exit status, `Arguments` what its arguments ask for, `Shown` how `any` shows data.
 pub mod Arguments
 pub mod InputError
 pub mod Information

@@ -57,14 +57,14 @@ fn answer_to(alloc: Global, request: Request, input: &[u8]) -> Result<Answer, Al
     }
 }
 
-// Returns whether the error is that an allocation failed, or a write to memory, which fails for no other reason.
+// Returns whether the error is a failed allocation, or a failed write to memory, which has no other cause.
 fn is_memory(error: &Error) -> bool
     ensures { result ≡ is_memory error.now }
 {
     matches!(error, Error::OutOfMemory | Error::Io(_))
 }
 
-// Returns the line that says why.
+// Returns the line of an error.
 fn error_line(alloc: Global, error: &Error) -> Result<Vec<u8>, AllocError>
     ensures line { IfOk result (λ line. IsErrorLine line.items) }
     ensures text { IfOk result (λ line. IsLineOfError error.now line.items) }

@@ -30,7 +30,7 @@ pub struct Request {
     pub config: Config,
 }
 
-/// An option, with the value that it is given.
+/// An option with its value.
 #[derive(Clone, Copy)]
 enum Choice {
     Form,
@@ -51,8 +51,8 @@ struct Settings {
 }
 
 impl Request {
-    /// Returns what the words ask for: a command, and then options in any order, each at most once. Where they are anything else, what is
-    /// wrong with them.
+    /// Returns what the words ask for: a command, and then options in any order, each at most once. Returns what is wrong with any other
+    /// words.
     pub fn parse(words: &[String]) -> Result<Request, Misuse<'_>>
         ensures request { result_ok result ≡ asked (map string_bytes words.now) }
         ensures misuse { IfErr result (λ misuse. IsMisuse (map string_bytes words.now) misuse) }
@@ -68,7 +68,7 @@ impl Request {
             .ok_or(Misuse::DepthOfFlat)
     }
 
-    /// Returns what the words ask for, where they ask for something.
+    /// Returns what the words ask for, or `None` if they are invalid.
     pub fn from_words(words: &[String]) -> Option<Request>
         ensures { result ≡ asked (map string_bytes words.now) }
     {
@@ -91,7 +91,7 @@ impl Command {
 }
 
 impl Choice {
-    // Returns the option of this name, where it takes no value.
+    // Returns the option of this name, if it takes no value.
     fn flag(name: &str) -> Option<Choice>
         ensures { result ≡ flag_named name.now }
     {
@@ -116,7 +116,7 @@ impl Choice {
 }
 
 impl Settings {
-    // Returns the settings without an option.
+    // Returns the settings without options.
     fn new() -> Settings
         ensures { result ≡ unchosen }
     {
@@ -155,7 +155,7 @@ impl Settings {
         }
     }
 
-    // Returns the command under these options; `flat` has no depth to choose.
+    // Returns the command with these options, or `None` if they give `flat` a depth.
     fn configured(self, command: Command) -> Option<Request>
         ensures { result ≡ configured command self }
     {
@@ -178,7 +178,7 @@ impl Settings {
     }
 }
 
-// Returns the options that the words are, each given once at most; or the first that is wrong.
+// Parses words as options, each given at most once. Returns the first error, if there is one.
 fn options(words: &[String]) -> Result<Settings, Misuse<'_>>
     ensures settings { result_ok result ≡ option_and_then (chosen unchosen) (choices_of (map string_bytes words.now)) }
     ensures misuse { IfErr result (λ misuse. IsWrongOption (map string_bytes words.now) misuse) }
@@ -218,14 +218,14 @@ fn takes_value(name: &str) -> bool
     matches!(name, "--depth" | "--format" | "--duplicates")
 }
 
-// Returns the number that the text writes: digits, with or without `+` in front, of at most 64 bits.
+// Returns the number in the text: digits, with or without a leading `+`, of at most 64 bits.
 fn number(text: &str) -> Option<usize>
     ensures { result ≡ unsigned_number 64 text.now }
 {
     text.parse().ok()
 }
 
-// Returns the array format of that name.
+// Returns the array format of this name.
 fn format_named(name: &str) -> Option<ArrayFormat>
     ensures { result ≡ format_named name.now }
 {
@@ -237,7 +237,7 @@ fn format_named(name: &str) -> Option<ArrayFormat>
     }
 }
 
-// Returns the setting for repeated keys of that name.
+// Returns the setting of this name for repeated keys.
 fn duplicates_named(name: &str) -> Option<DuplicateKeyBehavior>
     ensures { result ≡ duplicates_named name.now }
 {

@@ -1,9 +1,9 @@
-//! What the program says of itself.
+//! What the program says about itself.
 
 ghost use Rattle.std.specs.Prelude.{◌≡◌, map, string_bytes};
 ghost use Rattle.qs_tool.specs.Information.{information_asked, information_named, IsInformation};
 
-/// What the program says of itself without reading anything.
+/// What the program says about itself, without reading anything.
 #[derive(Clone, Copy, Debug, PartialEq, Eq)]
 pub enum Information {
     /// How it is called, and what its commands and options do.
@@ -53,7 +53,7 @@ status: 0 done; 1 the querystring was rejected; 2 the arguments are wrong; 3 out
 const VERSION: &str = "qs_tool 1.1.3\n";
 
 impl Information {
-    /// Returns what the words ask for: `--help` or `--version`, where it is the only one.
+    /// Returns what the words ask for: `--help` or `--version`, if it is the only word.
     pub fn asked(words: &[String]) -> Option<Information>
         ensures { result ≡ information_asked (map string_bytes words.now) }
     {

@@ -1,4 +1,4 @@
-//! A reader that is read a limited number of times.
+//! A reader with a limited number of reads.
 
 ghost use Rattle.std.specs.Prelude.{◌≡◌, ◌≢◌, ◌+◌, ◌≤◌, None, length, take, IfSome};
 ghost use Rattle.std.specs.Option.{MatchOption};
@@ -7,26 +7,26 @@ ghost use Rattle.qs_tool.specs.declared.input.State.TheVariants.{Open, Ended, Fa
 
 use std::io::Read;
 
-/// How many reads there are at most.
+/// The maximum number of reads.
 const MAX_READS: usize = 1_000_000;
 
-/// How many bytes a read takes at most.
+/// The maximum number of bytes in a read.
 pub const READ_SIZE: usize = 8192;
 
-/// What became of the last read.
+/// The result of the last read.
 #[derive(Clone, Copy, Debug, PartialEq, Eq)]
 pub enum State {
-    /// It gave bytes, or there was none.
+    /// It returned bytes, or there was no read yet.
     Open,
-    /// It was the end.
+    /// It reached the end.
     Ended,
     /// It failed or was interrupted.
     Failed,
-    /// It was not made, since as many as are allowed were made before.
+    /// It wasn't made, because no read was left.
     Spent,
 }
 
-/// A reader, how many reads of it are left, and what became of the last one.
+/// A reader, how many reads of it are left, and the result of the last one.
 #[derive(Drop)]
 pub struct Input<R> {
     reader: R,
@@ -35,7 +35,7 @@ pub struct Input<R> {
 }
 
 impl<R: Read> Input<R> {
-    /// Returns the reader with all its reads.
+    /// Wraps a reader, with all reads left.
     pub fn new(reader: R) -> Input<R>
         ensures reader { result.reader ≡ reader }
         ensures reads { result.reads_left ≡ 1000000 }
@@ -48,7 +48,7 @@ impl<R: Read> Input<R> {
         }
     }
 
-    /// Reads once, and returns how many bytes that gave; none where it failed, or no read is left.
+    /// Reads once, and returns how many bytes were read. Returns `None` if the read failed or no read is left.
     pub fn read(&mut self, buffer: &mut [u8; READ_SIZE]) -> Option<usize>
         ensures size { length buffer.new ≡ 8192 }
         ensures bound { IfSome result (λ count. count ≤ 8192) }

@@ -2,18 +2,18 @@
 
 use std::fmt::{Display, Error, Formatter, Write};
 
-/// What is wrong with arguments that ask for nothing: the first word that no right arguments have there.
+/// The first error in invalid arguments.
 #[derive(Clone, Copy, Debug, PartialEq, Eq)]
 pub enum Misuse<'a> {
     /// There are no arguments.
     NoCommand,
-    /// The first word is no command.
+    /// The first word isn't a command.
     UnknownCommand(&'a str),
-    /// A word that stands where an option may stand is none.
+    /// A word in the place of an option isn't one.
     UnknownOption(&'a str),
-    /// No value follows the option, or one that it doesn't take.
+    /// The option has no value, or one that it doesn't take.
     Value(&'a str),
-    /// The option was given before.
+    /// The option is given twice.
     Twice(&'a str),
     /// The command `flat` is given a depth.
     DepthOfFlat,

@@ -1,4 +1,4 @@
-//! A writer of which is known whether a write failed.
+//! A writer that records whether a write failed.
 
 ghost use Rattle.std.specs.Prelude.{◌≡◌, ◌<◌, ◌≤◌, None, true, false, length, take, IfSome};
 ghost use Rattle.std.specs.Option.{MatchOption};
@@ -14,7 +14,7 @@ pub struct Output<W> {
 }
 
 impl<W: Write> Output<W> {
-    /// Returns the writer, of which no write failed yet.
+    /// Wraps a writer. No write has failed yet.
     pub fn new(writer: W) -> Output<W>
         ensures writer { result.writer ≡ writer }
         ensures sound { result.has_failed ≡ false }
@@ -25,7 +25,7 @@ impl<W: Write> Output<W> {
         }
     }
 
-    /// Writes once, and returns how many bytes were taken; none where that failed, or no byte was taken.
+    /// Writes once, and returns how many bytes were taken. Returns `None` if the write failed or took no byte.
     pub fn write(&mut self, bytes: &[u8]) -> Option<usize>
         ensures bound { IfSome result (λ count. (0 < count) × (count ≤ length bytes.now)) }
         ensures bytes { MatchOption result (Keeps (W.contents self.old.writer) (W.contents self.new.writer))

@@ -66,7 +66,7 @@ impl Compound for Strict<Address> {
     }
 }
 
-/// Five fields, of which the address and the list are nested. The address is an [`Address`], strict or not.
+/// Five fields. The address and the list are nested; the address is an [`Address`], strict or not.
 #[derive(Debug, Drop)]
 pub struct Params<A> {
     pub id: u8,

@@ -1,4 +1,4 @@
-//! What a command prints of the input that it reads.
+//! What a command prints for the input that it reads.
 
 ghost use Rattle.std.specs.Prelude.{◌≡◌, Some, IfOk};
 ghost use Rattle.qs_spec.specs.Shape as s;
@@ -19,7 +19,7 @@ use crate::strict::Strict;
 use serde_qs::{Config, ConfigExt, Data, Deserializer, Result, RoundTrip, Shape};
 use std::alloc::Global;
 
-/// Returns what is printed of the input, or why it is rejected.
+/// Returns what is printed for the input, or why the input is rejected.
 pub fn printed(alloc: Global, request: Request, input: &[u8]) -> Result<Vec<u8>>
     ensures text { IfOk result (λ text. IsPrinted request input.now text.items) }
     ensures fault { IfInputError result (IsFaulty request input.now) }
@@ -46,7 +46,7 @@ fn rewritten<T: RoundTrip + Drop>(alloc: Global, config: Config, input: &[u8]) -
     Ok(config.serialize_string(alloc, &value)?.into_bytes())
 }
 
-// Returns the data that are read from the input, as they are shown.
+// Returns the data that is read from the input, as it is shown.
 fn printed_any(alloc: Global, config: Config, input: &[u8]) -> Result<Vec<u8>>
     ensures text { IfOk result (λ text. IsPrintedBy config s.Shape.any (λ d. Some (shown d)) input.now text.items) }
     ensures fault { IfInputError result (IsFaultyBy config s.Shape.any (λ d. Some (shown d)) input.now) }
@@ -60,7 +60,7 @@ fn printed_any(alloc: Global, config: Config, input: &[u8]) -> Result<Vec<u8>>
     Ok(text)
 }
 
-// Parses the input as a querystring, with the clauses that are needed here.
+// Parses the input as a querystring. States only the clauses that are needed here.
 fn parsed<'qs>(alloc: Global, config: Config, input: &'qs [u8]) -> Result<Deserializer<'qs>>
     ensures config { IfOk result (λ d. (parsed_of d).config ≡ config) }
     ensures tree { IfOk result (λ d. IsTree config.form config.max_depth input.now (parsed_of d).tree) }
@@ -70,7 +70,7 @@ fn parsed<'qs>(alloc: Global, config: Config, input: &'qs [u8]) -> Result<Deseri
     Deserializer::with_config(alloc, config, input)
 }
 
-// Reads the data of a querystring, whatever they are, with the clauses that are needed here.
+// Reads any data from a querystring. States only the clauses that are needed here.
 fn read_data(alloc: Global, deserializer: Deserializer<'_>) -> Result<Data>
     ensures exact { ReturnsData (parsed_of deserializer.entry) s.Shape.any result }
     ensures errors { OnlyCustomUtf8OrOutOfMemory result }

@@ -15,11 +15,11 @@ use crate::streams::{Stop, write_all};
 use std::alloc::Global;
 use std::io::{Read, Write};
 
-/// What is written where the arguments are wrong.
+/// What is written if the arguments are wrong.
 const USAGE: &str =
     "usage: qs_tool flat|params|any [--form] [--strict] [--depth N] [--format indexed|empty|unindexed] [--duplicates last|error]\n";
 
-/// What is written where an allocation failed.
+/// What is written if an allocation failed.
 const NO_MEMORY: &str = "error: out of memory\n";
 
 /// Runs the program with these arguments: reads the input to its end, writes one line, and returns the status.
@@ -29,11 +29,11 @@ const NO_MEMORY: &str = "error: out of memory\n";
 /// | 0 | what was read, written again, or shown by the command `any` |
 /// | 1 | `error: ` and why the input was rejected |
 /// | 2 | how the program is called; nothing was read |
-/// | 3 | an allocation failed, with a line that says so where it can be written, or a read or a write failed |
+/// | 3 | an allocation failed, with a line that says so if it can be written, or a read or a write failed |
 ///
-/// The input is read by at most 1,000,000 reads of 8,192 bytes; where none of them was the end, that is a failed read. One final
-/// newline is no part of it. The line is written by one `write` after another, and none is repeated: one that fails, is
-/// interrupted or takes nothing ends the run with status 3.
+/// The input is read by at most 1,000,000 reads of 8,192 bytes; if none of them reaches the end, that counts as a failed read. A
+/// final newline isn't part of the input. The line is written by one `write` after another, and none is repeated: a write that
+/// fails, is interrupted or takes nothing ends the run with status 3.
 pub fn run<R: Read, W: Write>(
     alloc: Global,
     args: &[String],
@@ -64,7 +64,7 @@ pub fn run<R: Read, W: Write>(
     }
 }
 
-/// Writes the line, and returns the status, or 3 where the line was not taken whole.
+/// Writes the line, and returns the status, or 3 if the line wasn't written whole.
 pub fn finish<W: Write>(output: &mut Output<W>, line: &[u8], status: u8) -> u8
     ensures done { result ≢ 3 → (result ≡ status) × Appends (W.contents output.old.writer) (W.contents output.new.writer) line.now }
     ensures cut { status ≢ 3 → result ≡ 3 → (n : ℕ) × (n < length line.now) × Appends (W.contents output.old.writer) (W.contents output.new.writer) (take n line.now) }

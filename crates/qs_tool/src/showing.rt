@@ -1,6 +1,6 @@
-//! Data as the command `any` shows them.
+//! Data as the command `any` shows it.
 //!
-//! What is still to be written is on a stack on the heap, so data may be nested as deep as they like.
+//! What is still to be written is on a stack on the heap, so data may be nested to any depth.
 
 ghost use Rattle.std.specs.Prelude.{◌≡◌, ◌<◌, ◌++◌, OnOk};
 ghost use Rattle.qs_tree.specs.Error.{OnlyOutOfMemory};
@@ -17,16 +17,16 @@ use std::alloc::Global;
 enum Pending<'d> {
     /// The data.
     Datum(&'d Data),
-    /// The items that are left of a list, each after a comma, and the bracket that closes it.
+    /// The remaining items of a list, each after a comma, and the bracket that closes it.
     Items(&'d [Data]),
     /// The value of a pair, after a colon.
     Value(&'d Data),
-    /// The pairs that are left of a map, each after a comma, and the brace that closes it.
+    /// The remaining pairs of a map, each after a comma, and the brace that closes it.
     Pairs(&'d [(Data, Data)]),
 }
 
-/// Appends the data: `()`, `'text'`, `[x,y]` or `{'k':x,'l':y}`, and `?` for what the shape that reads whatever is there never reads.
-/// A list or a map takes room on the heap for each level that is open.
+/// Appends the data: `()`, `'text'`, `[x,y]` or `{'k':x,'l':y}`, and `?` for data that `Shape::Any` never reads. Each open level of a
+/// list or a map takes space on the heap.
 pub fn show(alloc: Global, line: &mut Vec<u8>, datum: &Data) -> Result<()>
     ensures ok { OnOk result (line.new.items ≡ line.old.items ++ shown (data_of datum.now)) }
     ensures errors { OnlyOutOfMemory result }
@@ -39,7 +39,7 @@ pub fn show(alloc: Global, line: &mut Vec<u8>, datum: &Data) -> Result<()>
     Ok(())
 }
 
-// Appends what the piece begins with, and puts on the stack what is left of it.
+// Appends the beginning of the piece, and pushes the rest onto the stack.
 fn proceed<'d>(line: &mut Vec<u8>, stack: &mut Vec<Pending<'d>>, piece: Pending<'d>) -> Result<()>
     ensures ok { OnOk result (Begins (piece_text piece.entry) line.old.items stack.old.items line.new.items stack.new.items) }
     ensures errors { OnlyOutOfMemory result }
@@ -55,7 +55,7 @@ fn proceed<'d>(line: &mut Vec<u8>, stack: &mut Vec<Pending<'d>>, piece: Pending<
     }
 }
 
-// Appends what the data begin with, and puts on the stack what is left of them.
+// Appends the beginning of the data, and pushes the rest onto the stack.
 #[tactic(auto, using(qs_data::proofs::lemmas::data::Levels::levels, crate::proofs::Pieces::begins_whole))]
 fn begin<'d>(line: &mut Vec<u8>, stack: &mut Vec<Pending<'d>>, datum: &'d Data) -> Result<()>
     ensures ok { OnOk result (Begins (shown (data_of datum.now)) line.old.items stack.old.items line.new.items stack.new.items) }
@@ -89,7 +89,7 @@ fn show_text(line: &mut Vec<u8>, text: &str) -> Result<()>
     Ok(line.push(b'\'')?)
 }
 
-// Appends the bracket that opens a list, and puts its items on the stack.
+// Appends the bracket that opens a list, and pushes its items onto the stack.
 fn begin_list<'d>(line: &mut Vec<u8>, stack: &mut Vec<Pending<'d>>, items: &'d [Data]) -> Result<()>
     ensures ok { OnOk result (Begins (in_brackets (shown_values (values_in items.now))) line.old.items stack.old.items line.new.items stack.new.items) }
     ensures errors { OnlyOutOfMemory result }
@@ -104,7 +104,7 @@ fn begin_list<'d>(line: &mut Vec<u8>, stack: &mut Vec<Pending<'d>>, items: &'d [
     }
 }
 
-// Appends a comma and what the next item of a list begins with, or the bracket that closes the list.
+// Appends a comma and the beginning of the next item of a list, or the bracket that closes the list.
 fn next_item<'d>(line: &mut Vec<u8>, stack: &mut Vec<Pending<'d>>, items: &'d [Data]) -> Result<()>
     ensures ok { OnOk result (Begins (items_left (shown_values (values_in items.now))) line.old.items stack.old.items line.new.items stack.new.items) }
     ensures errors { OnlyOutOfMemory result }
@@ -119,7 +119,7 @@ fn next_item<'d>(line: &mut Vec<u8>, stack: &mut Vec<Pending<'d>>, items: &'d [D
     }
 }
 
-// Appends the brace that opens a map, and puts its pairs on the stack.
+// Appends the brace that opens a map, and pushes its pairs onto the stack.
 fn begin_map<'d>(
     line: &mut Vec<u8>,
     stack: &mut Vec<Pending<'d>>,
@@ -139,7 +139,7 @@ fn begin_map<'d>(
     }
 }
 
-// Appends a comma and what the next pair of a map begins with, or the brace that closes the map.
+// Appends a comma and the beginning of the next pair of a map, or the brace that closes the map.
 fn next_pair<'d>(
     line: &mut Vec<u8>,
     stack: &mut Vec<Pending<'d>>,

@@ -1,4 +1,4 @@
-//! The input taken whole, and the line put whole.
+//! Reads the whole input, and writes the whole line.
 
 ghost use Rattle.std.specs.Prelude.{◌≡◌, ℕ, ◌<◌, true, length, take, IfErr, IfOk, IfSome, OnOk, OnErr};
 ghost use Rattle.std.specs.Io.KnownBytes.{Appends, IsAtEnd};
@@ -15,7 +15,7 @@ use std::io::{Read, Write};
 pub enum Stop {
     /// An allocation failed.
     OutOfMemory,
-    /// A read or a write failed or was interrupted, a write took nothing, or no read was the end.
+    /// A read or a write failed or was interrupted, a write took nothing, or no read reached the end.
     Stream,
 }
 
@@ -30,7 +30,7 @@ impl From<AllocError> for Stop {
     }
 }
 
-/// Returns all that the input has, by as many reads as are left.
+/// Reads the input to its end, with the reads that are left.
 pub fn read_input<R: Read>(alloc: Global, input: &mut Input<R>) -> Result<Vec<u8>, Stop>
     ensures all { IfOk result (λ bytes. IfSome (R.remaining input.old.reader) (λ known. bytes.items ≡ known)) }
     ensures ended { OnOk result ((input.new.state ≡ Ended) × IsAtEnd (R.remaining input.new.reader)) }
@@ -49,7 +49,7 @@ pub fn read_input<R: Read>(alloc: Global, input: &mut Input<R>) -> Result<Vec<u8
     }
 }
 
-/// Writes these bytes, by one write after another, none of which is repeated.
+/// Writes these bytes, by one write after another. No write is repeated.
 pub fn write_all<W: Write>(output: &mut Output<W>, bytes: &[u8]) -> Result<(), Stop>
     ensures whole { OnOk result (Appends (W.contents output.old.writer) (W.contents output.new.writer) bytes.now) }
     ensures part { OnErr result ((n : ℕ) × (n < length bytes.now)

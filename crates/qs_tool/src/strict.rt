@@ -1,5 +1,5 @@
 //! Structs that reject unknown keys.
 
-/// A struct of which unknown keys are rejected.
+/// A struct that rejects unknown keys.
 #[derive(Debug, Drop)]
 pub struct Strict<T>(pub T);

@@ -15,7 +15,7 @@ use std::io::{Read, Write};
 use std::process::Abort;
 use std::test::Fail;
 
-// Returns the words of a line, with a space between.
+// Returns the words of a line, separated by spaces.
 fn words(alloc: Global, line: &str) -> Result<Vec<String>, AllocError> {
     let mut words = Vec::new(alloc);
     for word in line.split(' ') {
@@ -39,7 +39,8 @@ fn status_of<R: Read + Drop, W: Write>(
     )
 }
 
-// Asserts that runs over memory write these lines and end with this status. A row is the arguments, the input and the line, with ` | ` between.
+// Asserts that runs over memory write these lines and end with this status. A row is the arguments, the input and the line, separated by
+// ` | `.
 fn expect(rt: &impl Abort, alloc: Global, status: u8, rows: &[&str]) -> Result<(), Fail> {
     for row in rows {
         let mut parts = row.split(" | ");

@@ -27,12 +27,12 @@ abbrev pub IsParse : {T : Type 0} → Result T Error → Type 0
 IsParse (Err (Parse message position)) = ⊤
 IsParse _ = ⊥
 
--- where the call returned that the querystring is rejected, this holds of the position
+-- if the call returned that the querystring is rejected, this holds of the position
 abbrev pub IfParse : {T : Type 0} → Result T Error → (ℕ → Type 0) → Type 0
 IfParse (Err (Parse message position)) P = P position
 IfParse _ P = ⊤
 
--- the call returned that a map's key is of a kind that can't be written
+-- the call returned that a map's key has a kind that can't be written
 abbrev pub IsUnsupported : {T : Type 0} → Result T Error → Type 0
 IsUnsupported (Err Unsupported) = ⊤
 IsUnsupported _ = ⊥
@@ -52,13 +52,13 @@ abbrev pub IsFailed : {T : Type 0} → Result T Error → Type 0
 IsFailed (Err Failed) = ⊤
 IsFailed _ = ⊥
 
--- an error, if the call returned one, is that an allocation failed
+-- if the call returned an error, an allocation failed
 abbrev pub OnlyOutOfMemory : {T : Type 0} → Result T Error → Type 0
 OnlyOutOfMemory (Ok x) = ⊤
 OnlyOutOfMemory (Err OutOfMemory) = ⊤
 OnlyOutOfMemory _ = ⊥
 
--- an error, if the call returned one, is that the querystring is rejected or that an allocation failed
+-- if the call returned an error, the querystring is rejected or an allocation failed
 abbrev pub OnlyParseOrOutOfMemory : {T : Type 0} → Result T Error → Type 0
 OnlyParseOrOutOfMemory (Ok x) = ⊤
 OnlyParseOrOutOfMemory (Err (Parse message position)) = ⊤

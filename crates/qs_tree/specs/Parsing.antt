@@ -1,4 +1,4 @@
--- What the clauses of `parse` promise of an input.
+-- What the clauses of `parse` promise for an input.
 use Rattle.std.specs.Prelude.{◌≡◌, ◌≢◌, ℕ, ◌+◌, ◌≤◌, ◌⊎◌, Bool, false, not, ◌&&◌, ◌||◌, ◌==◌, List, [], ◌∷◌, length, Result, Ok, Err, IfOk, IsOk, IsTrue, ⊤}
 use Rattle.std.specs.List.{list_all}
 use Rattle.qs_spec.specs.Tree.{Tree, IsTree, HasNoTree}
@@ -22,24 +22,24 @@ is_ampersands bytes = list_all is_ampersand bytes
 abbrev pub is_unescaped : List ℕ → Bool
 is_unescaped bytes = list_all (λ b. not (b == 38 || b == 43 || b == 37)) bytes
 
--- such bytes after `=`
+-- `=`, and after it no `&`, `+` or `%`
 abbrev pub is_unescaped_value : List ℕ → Bool
 is_unescaped_value [] = false
 is_unescaped_value (b ∷ value) = b == 61 && is_unescaped value
 
--- the empty input, `&` alone, or an empty key with a value without `&`, `+` and `%`: nothing is allocated for them
+-- Inputs for which nothing is allocated: the empty input, `&` alone, or an empty key with a value without `&`, `+` and `%`.
 abbrev pub AllocatesNothing : List ℕ → Type 0
 AllocatesNothing bytes = IsTrue (is_ampersands bytes || is_unescaped_value bytes)
 
--- this input has the tree of the result, ignoring ownership, or no tree where the result is a `Parse` error
+-- this input has the tree of the result, ignoring ownership, or no tree if the result is a `Parse` error
 abbrev pub HoldsOf : Bool → ℕ → List ℕ → Result ParsedValue Error → Type 0
 HoldsOf form depth bytes (Ok value) = (t : Tree) × IsTree form depth bytes t × (unmarked t ≡ unmarked (tree_of value))
 HoldsOf form depth bytes (Err (Parse message position)) = HasNoTree form depth bytes
 HoldsOf form depth bytes (Err _) = ⊤
 
--- What `parse` promises of its result.
+-- What `parse` promises for its result.
 pub record Parses (form : Bool) (max_depth : ℕ) (input : List ℕ) (result : Result ParsedValue Error) : Type 0 where
-  -- the value has the input's tree, and there is an error exactly where the input has none
+  -- the value has the input's tree, and there is an error exactly if the input has no tree
   pub tree : IfOk result (λ value. IsTree form max_depth input (tree_of value))
   pub no_tree : IsParse result → HasNoTree form max_depth input
   pub accepted : (t : Tree) → IsTree form max_depth input t → OnlyOutOfMemory result

@@ -1,4 +1,4 @@
--- The settings of a `Config` as those of the definitions.
+-- The settings of a `Config` as settings of the definitions.
 use Rattle.qs_spec.specs.Config.{Duplicates, take_last, reject, indexed, empty_indexed, unindexed, ArrayFormat as Format}
 use Rattle.qs_tree.specs.declared.config.ArrayFormat.{ArrayFormat}
 use Rattle.qs_tree.specs.declared.config.ArrayFormat.TheVariants.{Indexed, EmptyIndexed, Unindexed}
@@ -11,7 +11,7 @@ array_format_of Indexed = indexed
 array_format_of EmptyIndexed = empty_indexed
 array_format_of Unindexed = unindexed
 
--- what happens to repeated values
+-- how repeated values are handled
 abbrev pub duplicates_of : DuplicateKeyBehavior → Duplicates
 duplicates_of TakeLast = take_last
 duplicates_of Error = reject

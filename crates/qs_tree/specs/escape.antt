@@ -1,3 +1,3 @@
--- What is decoded and encoded: each word here is in a public clause.
+-- What is decoded and encoded. Each definition here is used in a public clause.
 pub mod Classes
 pub mod Copies

@@ -1,4 +1,4 @@
--- Steps of proofs. No public clause uses a word of this folder.
+-- Steps of proofs. No public clause uses a definition of this folder.
 pub mod Settings
 pub mod Parsing
 pub mod escape

@@ -1,4 +1,4 @@
--- From keys, values and maps to the definitions: each word here is in a public clause, or defines one that is.
+-- From keys, values and maps to the definitions of `qs_spec`. Each definition here is used in a public clause, or by one that is.
 pub mod Views
 pub mod Keys
 pub mod Equality

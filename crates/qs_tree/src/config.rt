@@ -22,24 +22,24 @@ pub enum ArrayFormat {
     Unindexed,
 }
 
-/// What happens to repeated values where one value is read.
+/// How repeated values are handled if a single value is read.
 ///
 /// ```
 /// let config = Config::new().duplicate_key_behavior(DuplicateKeyBehavior::Error);
 /// ```
 #[derive(Clone, Copy, Debug, Default, PartialEq, Eq)]
 pub enum DuplicateKeyBehavior {
-    /// The last one is read.
+    /// The last value is read.
     #[default]
     TakeLast,
-    /// They are an error.
+    /// Repeated values are an error.
     Error,
 }
 
 /// How a querystring is parsed, read and written.
 ///
-/// A method that sets a part returns the configuration with that part changed and the others as they were. No method allocates, and
-/// each takes constant time.
+/// A method that sets a value returns the configuration with only that value changed. No method allocates, and each takes constant
+/// time.
 ///
 /// ```
 /// let config = Config::new().max_depth(2).use_form_encoding(true);
@@ -110,7 +110,7 @@ impl Config {
         Config { max_depth, ..self }
     }
 
-    /// Sets form encoding (`true`), which parses escaped brackets too and writes a space as `%20`, or query encoding (`false`).
+    /// Selects form encoding (`true`) or query encoding (`false`). Form encoding parses escaped brackets too, and writes a space as `%20`.
     ///
     /// ```
     /// parse(alloc, b"a%5Bb%5D=1", Config::new().use_form_encoding(true)) // the keys `a` and `b`
@@ -135,7 +135,7 @@ impl Config {
         }
     }
 
-    /// Sets what happens to repeated values where one value is read.
+    /// Sets how repeated values are handled if a single value is read.
     ///
     /// ```
     /// let config = Config::new().duplicate_key_behavior(DuplicateKeyBehavior::Error); // rejects a=1&a=2 for one value
@@ -179,7 +179,7 @@ impl Config {
         self.array_format
     }
 
-    /// Returns what happens to repeated values where one value is read.
+    /// Returns how repeated values are handled if a single value is read.
     ///
     /// ```
     /// Config::new().get_duplicates() // DuplicateKeyBehavior::TakeLast

@@ -17,8 +17,8 @@ pub type Result<T, E = Error> = std::result::Result<T, E>;
 
 /// Why a call failed.
 ///
-/// Its `Display` writes a message. That of [`FromUtf8`](Error::FromUtf8), [`Io`](Error::Io),
-/// [`ParseInt`](Error::ParseInt) and [`Utf8`](Error::Utf8) is the message of the cause.
+/// Its `Display` writes a message. For [`FromUtf8`](Error::FromUtf8), [`Io`](Error::Io),
+/// [`ParseInt`](Error::ParseInt) and [`Utf8`](Error::Utf8) this is the cause's message.
 ///
 /// ```
 /// match parse(alloc, body, config) {
@@ -28,12 +28,12 @@ pub type Result<T, E = Error> = std::result::Result<T, E>;
 pub enum Error {
     /// The tree can't be read by the shape. Holds the message.
     Custom(String),
-    /// A value nests deeper than the configuration's `max_depth`, which it holds.
+    /// A value nests deeper than the configuration's `max_depth`. Holds that limit.
     MaxSerializationDepthExceeded(usize),
-    /// The querystring can't be parsed. Holds the message and the position: the number of bytes that were parsed, and one more
-    /// where the end was parsed.
+    /// The querystring can't be parsed. Holds the message and the position: the number of bytes that were parsed, plus one if the
+    /// end was parsed.
     Parse(String, usize),
-    /// A map's key is of a kind that can't be written as a key.
+    /// A map's key has a kind that can't be written as a key.
     Unsupported,
     /// An owned string isn't UTF-8. No call returns it; it is for callers' conversions.
     FromUtf8(string::FromUtf8Error),
@@ -52,7 +52,8 @@ pub enum Error {
 impl Error {
     /// Returns a [`Custom`](Error::Custom) error for a kind of value that can't be read at the top level.
     ///
-    /// Allocates the message, and takes time with its length. Returns [`OutOfMemory`](Error::OutOfMemory) where that failed.
+    /// Allocates the message, and takes time that grows with its length. Returns [`OutOfMemory`](Error::OutOfMemory) if the
+    /// allocation fails.
     ///
     /// ```
     /// Error::top_level(alloc, "primitive") // cannot deserialize primitive at the top level.Try deserializing into a struct.
@@ -72,8 +73,8 @@ impl Error {
 
     /// Returns a [`Parse`](Error::Parse) error with a message and a position.
     ///
-    /// Allocates the message, and takes time with its length. Returns [`OutOfMemory`](Error::OutOfMemory) where that failed, or where
-    /// `message.fmt` fails.
+    /// Allocates the message, and takes time that grows with its length. Returns [`OutOfMemory`](Error::OutOfMemory) if the
+    /// allocation or `message.fmt` fails.
     ///
     /// ```
     /// Error::parse_err(alloc, "m", 3) // parsing failed with error: 'm' at position: 3
@@ -89,8 +90,8 @@ impl Error {
 
     /// Returns a [`Custom`](Error::Custom) error with a message. The last argument isn't used.
     ///
-    /// Allocates the message, and takes time with its length. Returns [`OutOfMemory`](Error::OutOfMemory) where that failed, or where
-    /// `message.fmt` fails.
+    /// Allocates the message, and takes time that grows with its length. Returns [`OutOfMemory`](Error::OutOfMemory) if the
+    /// allocation or `message.fmt` fails.
     ///
     /// ```
     /// Error::custom(alloc, "no such page", &()) // no such page

@@ -33,14 +33,15 @@ use std::mem;
 ///
 /// # Errors
 ///
-/// The first error is returned. It is [`Error::Parse`] for a pair with a syntax error, or one that is in conflict with an earlier
-/// pair, as in `a=1&a[b]=2`, and [`Error::OutOfMemory`] where an allocation failed.
+/// Returns the first error: [`Error::Parse`] for a pair that has a syntax error or conflicts with an earlier pair, as in
+/// `a=1&a[b]=2`, and [`Error::OutOfMemory`] if an allocation failed.
 ///
 /// # Memory and time
 ///
-/// Strings and string keys without `+` and `%` are borrowed from the input. It allocates for all others, for paths of more than one
-/// key, for each map and sequence, and for the text of an error. It doesn't allocate for the empty input, for `&` alone, and for `=` with a value without
-/// `&`, `+` and `%`. Each byte is taken once, as [`parse_with`] counts, and each key is looked up in its map in logarithmic time.
+/// Borrows strings and string keys without `+` and `%` from the input. Allocates for all others, for paths of more than one key, for
+/// each map and sequence, and for the message of an error. Doesn't allocate for the empty input, for `&` alone, or for `=` followed
+/// by a value without `&`, `+` and `%`. Takes each byte once, as [`parse_with`] counts, and looks up each key in its map in
+/// logarithmic time.
 ///
 /// ```
 /// let tree = parse(alloc, b"a[b]=1&a[c]=x%20y", Config::new())?; // a map with a map under `a`
@@ -51,13 +52,13 @@ pub fn parse(alloc: Global, input: &[u8], config: Config) -> Result<ParsedValue<
     parse_with(alloc, &mut Steps::new(), input, config)
 }
 
-/// Parses a querystring as [`parse`] does, and adds to `steps` how many steps that took, after an error too.
+/// Parses a querystring as [`parse`] does, and adds the number of steps to `steps`, even if it returns an error.
 ///
-/// A step is a byte that the parser takes, or its look at the end. So an input without an error takes as many steps as its length and
-/// one, and one with an [`Error::Parse`] at least as many as the error's position. Only what takes the bytes counts them.
+/// A step is a byte that the parser takes, or reaching the end. So an input without an error takes one step more than its length, and
+/// an input with an [`Error::Parse`] takes at least as many steps as the error's position. Only the code that takes bytes counts them.
 ///
-/// Further looks aren't counted: a byte may be looked at more than once while it is taken, up to 31 bytes are looked at after a value,
-/// and what was taken is looked at again for an index, for escapes, for comparisons and for the text of an error.
+/// Other reads aren't counted. The parser may read a byte several times while it takes it, and up to 31 bytes after a value. It reads
+/// what it took again for an index, for escapes, for comparisons and for the message of an error.
 ///
 /// ```
 /// let mut steps = Steps::new();

@@ -1,4 +1,4 @@
--- Values whose data fit their shape, and come back from data that are the same.
+-- Values whose data fits their shape, and that come back from data that is the same.
 use Rattle.std.specs.Prelude.{◌≡◌, ℕ, Bool, true, List, Option, Some}
 use Rattle.qs_spec.specs.Data.{Data, Members, members_of, Named}
 use Rattle.qs_spec.specs.Fits.{fits, fits_fields}
@@ -7,13 +7,13 @@ use Rattle.qs_spec.specs.Shape.{Shape, Field, fields_of, field_names_differ}
 use Rattle.qs_spec.specs.Same.{Same, SameMembers}
 use Rattle.serde_qs.specs.Records.{are_text_names}
 
--- These laws speak of values whose data are plain, in query mode or in form mode.
+-- These laws are about values whose data is plain, in query mode or in form mode.
 
--- the data of each such value fit the shape
+-- the data of each such value fits the shape
 abbrev pub DataFit : {A : Type 0} → (A → Data) → Shape → Type 0
 DataFit {A} datum form = (mode : Bool) (x : A) → is_plain mode (datum x) ≡ true → fits form (datum x) ≡ true
 
--- each such value comes back: from data that are the same as its own, comes that value
+-- each such value comes back: data that is the same as its own means that value
 abbrev pub ComesBack : {A V : Type 0} → (A → Data) → (Data → Option V) → (A → V) → Type 0
 ComesBack {A} datum meaning value = (mode : Bool) (x : A) (e : Data) → is_plain mode (datum x) ≡ true → Same (datum x) e → meaning e ≡ Some (value x)
 

@@ -24,7 +24,7 @@ pub record NumberComesBack {A V : Type 0} (meaning : List ℕ → Option V) (pri
   pub back : meaning (printed x) ≡ Some (value x)
   pub piece : IsPiece delimiter (printed x)
 
--- the data of a list, where each item is in range, as in every list of a program
+-- the data of a list, if each item is in range, as in every list of a program
 abbrev pub list_data : {A : Type 0} → (A → Bool) → (A → List ℕ) → ℕ → List A → Data
 list_data in_range printed delimiter xs = only_where (list_all in_range xs) (text (joined delimiter (map printed xs)))
 

@@ -1,4 +1,4 @@
--- Where the parts of a value go.
+-- The destination of a value's parts.
 use Rattle.std.specs.Prelude.{◌≡◌, Result, Ok, Err, Option, Some, None}
 use Rattle.qs_spec.specs.Data as d
 use Rattle.qs_data.specs.data.Views.{data_of}
@@ -10,23 +10,23 @@ use Rattle.qs_data.specs.write.Parts.{WritesPart, data_part}
 use Rattle.serde_qs.specs.declared.compound.out.Exit.{Exit}
 use Rattle.serde_qs.specs.declared.compound.out.Exit.TheVariants as exit
 
--- on Ok these data are in the place; the one error is that an allocation failed
+-- on Ok this data is in the place; the one error is that an allocation failed
 abbrev pub Keeps : Option Data → Result (Unit {0}) Stop → d.Data → Type 0
 Keeps (Some made) (Ok t) x = data_of made ≡ x
 Keeps None (Ok t) x = ⊥
 Keeps place (Err e) x = e ≡ stop.OutOfMemory
 
--- it goes into data, and keeps these
+-- it goes into data, and keeps this data
 abbrev pub Makes : Exit → Result (Unit {0}) Stop → d.Data → Type 0
 Makes (exit.Data alloc place) result x = Keeps place result x
 Makes _ result x = ⊥
 
--- it is a writer to which the entries of these data were written, with this result
+-- it is a writer to which the entries of this data were written, with this result
 abbrev pub Wrote : Writer → Exit → Result (Unit {0}) Stop → d.Data → Type 0
 Wrote old (exit.Writer new) result x = WritesPart result old new (data_part x)
 Wrote old _ result x = ⊥
 
--- where the parts go into data, these are made; where they go to a writer, they are written, and the result is that of writing them
+-- if the parts go into data, the data is made; if they go to a writer, they are written, and the result is the result of writing them
 abbrev pub Takes : Exit → Exit → Result (Unit {0}) Stop → d.Data → Type 0
 Takes (exit.Data alloc before) new result x = Makes new result x
 Takes (exit.Writer old) new result x = Wrote old new result x

@@ -10,7 +10,7 @@ use Rattle.qs_spec.specs.Tree.{Tree}
 abbrev pub by_shapes : {V : Type 0} → Bool → List Shape → (Values → Option V) → List (Option Tree) → Option V
 by_shapes reject_duplicates shapes meaning xs = option_and_then (λ ds. meaning (values_of ds)) (reads_tuple reject_duplicates (shapes_of shapes) xs)
 
--- The data of the variant of a name, and of a variant of a kind and a name: from the value that it holds, or those of a unit variant where
+-- The data of the variant of a name, and of a variant of a kind and a name: from the value that it holds, or the data of a unit variant if
 -- it holds none.
 
 abbrev pub variant_held : Bool → Variants → List ℕ → Option Tree → Option Data

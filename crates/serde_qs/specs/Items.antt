@@ -11,7 +11,7 @@ abbrev pub each_after : List ℕ → List (List ℕ) → List ℕ
 each_after delimiter [] = []
 each_after delimiter (t ∷ ts) = delimiter ++ (t ++ each_after delimiter ts)
 
--- the texts, with the delimiter between any two that follow one another
+-- the texts, with the delimiter between them
 abbrev pub joined : ℕ → List (List ℕ) → List ℕ
 joined delimiter [] = []
 joined delimiter (t ∷ ts) = t ++ each_after (encode_utf8 delimiter) ts
@@ -30,7 +30,7 @@ abbrev pub listed_in : {A : Type 0} → (List ℕ → Option A) → ℕ → List
 listed_in m delimiter [] = Some []
 listed_in m delimiter (b ∷ bs) = items_in m (pieces delimiter (b ∷ bs))
 
--- the list that data mean
+-- the list that data means
 abbrev pub list_in : {A : Type 0} → (List ℕ → Option A) → ℕ → Data → Option (List A)
 list_in m delimiter (text t) = listed_in m delimiter t
 list_in m delimiter _ = None

@@ -1,6 +1,6 @@
--- The words that a reader must believe, beside those of qs_spec and the views of qs_data: all modules but `internal`. They say which data
--- a type's values are written as, which value data mean, and what each call returns. `internal` has steps of proofs;
--- a `RoundTrip` that is written by hand may cite those of `internal.ComesBack`.
+-- The words to review, in addition to qs_spec's words and qs_data's views: all modules except `internal`. They say how a
+-- type's values are written as data, which value data means, and what each call returns. `internal` has steps of proofs; a `RoundTrip` that
+-- is written by hand may cite the steps in `internal.ComesBack`.
 pub mod Meaning
 pub mod Maps
 pub mod Names

@@ -1,4 +1,4 @@
--- What data mean as a value.
+-- What data means as a value.
 use Rattle.std.specs.Prelude.{ℕ, ◌-◌, ◌^◌, ℤ, pos, neg_ℤ, int_le, Bool, ◌&&◌, List, [], ◌∷◌, Option, Some, None, option_map, option_and_then, nat_le, if◌then◌else◌}
 use Rattle.qs_spec.specs.Data.{Data, Values, no_values, one_value}
 use Rattle.qs_spec.specs.Data.Data.{unit, none, some, boolean, unsigned, signed, character, text, sequence, newtype}
@@ -26,7 +26,7 @@ signed_between low high _ = None
 abbrev pub is_signed : ℕ → ℤ → Bool
 is_signed bits z = int_le (neg_ℤ (pos (2 ^ (bits - 1)))) z && int_le z (pos (2 ^ (bits - 1) - 1))
 
--- a signed number of so many bits
+-- a signed number of this many bits
 abbrev pub signed_in : ℕ → Data → Option ℤ
 signed_in bits x = signed_between (neg_ℤ (pos (2 ^ (bits - 1)))) (pos (2 ^ (bits - 1) - 1)) x
 

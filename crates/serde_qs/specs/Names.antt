@@ -1,4 +1,4 @@
--- Names that suit the fields, and names in UTF-8, by tests that compute: of the names in a program the check sees it without a proof.
+-- Names that suit the fields, and names in UTF-8, by tests that compute: for the names in a program, the check needs no proof.
 use Rattle.std.specs.Prelude.{◌≡◌, refl, true, false, ℕ, ◌+◌, ◌-◌, ◌*◌, ◌/◌, Bool, ◌&&◌, cond, nat_le, nat_lt, List, [], ◌∷◌, ◌++◌}
 use Rattle.std.specs.Str.{bytes_eq}
 use lib.Utf8.{next, scalars}
@@ -30,7 +30,7 @@ abbrev pub front : List ℕ → Front
 front [] = (0, 1, [])
 front (b ∷ bs) = byte_before b (front bs)
 
--- the bytes are those of the characters that they were decoded to
+-- the bytes are the encoding of the characters that they were decoded to
 abbrev pub is_text : List ℕ → Bool
 is_text bs = scalars (front bs).2 && bytes_eq (all_encoded (front bs).2) bs
 

@@ -6,16 +6,16 @@ use Rattle.qs_spec.specs.Shape.{Field, Fields, fields_of, is_field_name}
 use Rattle.serde_qs.specs.Meaning.{both}
 use Rattle.serde_qs.specs.Records.{first_of, others_of}
 
--- a value's data under a name, in front of others; nothing where there is none
+-- a value's data under a name, in front of others; nothing if there is none
 abbrev pub some_data : {A : Type 0} → (A → Data) → List ℕ → Option A → List Named → List Named
 some_data datum n None rest = rest
 some_data datum n (Some x) rest = (n, datum x) ∷ rest
 
--- the same under the first name, in front of the others by theirs
+-- the same under the first name, in front of the others' data by their names
 abbrev pub optional_data : {A : Type 0} → (A → Data) → Option A → (List (List ℕ) → List Named) → List (List ℕ) → List Named
 optional_data datum x rest names = some_data datum (first_of names) x (rest (others_of names))
 
--- the first member means a value of the field where it has its name; otherwise the field was left out
+-- the first member means a value of the field if it has the field's name; otherwise the field was left out
 abbrev pub optional_in : {A B : Type 0} → (Data → Option A) → (List (List ℕ) → Members → Option B) → List (List ℕ) → Members → Option (Option A × B)
 optional_in m rest names no_members = option_map (λ y. (None, y)) (rest (others_of names) no_members)
 optional_in m rest names (one_member k d ms) =

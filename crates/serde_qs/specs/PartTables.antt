@@ -31,9 +31,9 @@ use Rattle.serde_qs.specs.internal.Records.{differ}
 use Rattle.serde_qs.specs.internal.Tuples.{items_back, no_item_back, tuple_back, tuple_variant_back}
 use Rattle.serde_qs.specs.internal.Variants.{enum_back, enum_distinct, last_back, last_distinct, last_named, newtype_variant_back, one_back, one_distinct, one_named, struct_variant_back, unit_variant_back}
 
--- The fields of a struct: how many there are and, by their names, what is read for them, their data, and what members mean. The first member that
--- is written has the name of a field. Where the names differ and are UTF-8, plain data of fields fit, the fields come back from them, and no struct or
--- enum in their shapes has a name twice.
+-- The fields of a struct: how many there are and, by their names, what is read for them, their data, and what members mean. The first
+-- member that is written has the name of a field. If the names differ and are UTF-8, plain data of fields fits, the fields come back from
+-- it, and no struct or enum in their shapes has a name twice.
 pub record FieldsTable (A : Type 0) : Type 1 where
   pub Value : Type 0
   pub value : A → Value
@@ -95,7 +95,7 @@ optional_field t r = record {
   are_distinct = λ names. both_true t.distinct (r.are_distinct (others_of names));
 }
 
--- a field that has the value of `missing` where its key is missing
+-- a field that has the value of `missing` if its key is missing
 abbrev pub defaulted_field : {A B : Type 0} → Data → Table A → FieldsTable B → FieldsTable (Defaulted A B)
 defaulted_field missing t r = record {
   Value = t.Value × r.Value;
@@ -148,9 +148,9 @@ item t r = record {
   distinct = both_true t.distinct r.distinct;
 }
 
--- What a variant holds: how many names it has besides its own and, by them, what is read for it, its data under its name, and what such data mean.
--- Its data have that name. Where the names differ and are UTF-8, they fit if they are plain, it comes back from them, and no struct or enum in its
--- shapes has a name twice.
+-- What a variant holds: how many names it has in addition to its own and, by them, what is read for it, its data under its name, and what
+-- such data means. Its data has that name. If the names differ and are UTF-8, its data fits if it is plain, the variant comes back from the
+-- data, and no struct or enum in its shapes has a name twice.
 pub record PayloadTable (A : Type 0) : Type 1 where
   pub Value : Type 0
   pub value : A → Value
@@ -236,7 +236,7 @@ struct_payload t = fields_payload UnknownKeys.ignored (λ x. x.0) t
 abbrev pub strict_payload : {A : Type 0} → FieldsTable A → PayloadTable (StrictStruct A)
 strict_payload t = fields_payload UnknownKeys.rejected (λ x. x.0) t
 
--- the variants of an enum, by their names and those of their fields
+-- the variants of an enum, by their names and their fields' names
 pub record VariantsTable (A : Type 0) : Type 1 where
   pub Value : Type 0
   pub value : A → Value

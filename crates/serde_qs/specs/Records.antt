@@ -20,7 +20,7 @@ texts names = map (λ (n : Bor (List ℕ)). n.now) names
 abbrev pub members_back : List (String Global × Data) → Members
 members_back ms = members_of (map (named data_of) (reverse ms))
 
--- the first name, which is empty where there is none, and the others
+-- the first name, which is empty if there is none, and the others
 abbrev pub first_of : List (List ℕ) → List ℕ
 first_of [] = []
 first_of (n ∷ names) = n
@@ -29,7 +29,7 @@ abbrev pub others_of : List (List ℕ) → List (List ℕ)
 others_of [] = []
 others_of (n ∷ names) = names
 
--- the first field and its data by the first name, in front of the others by theirs
+-- the first field and its data by the first name, in front of the others' data by their names
 abbrev pub field_form : Shape → Bool → (List (List ℕ) → List Field) → List (List ℕ) → List Field
 field_form s optional rest names = (first_of names, s, optional) ∷ rest (others_of names)
 
@@ -45,7 +45,7 @@ are_text_names (one_field n s optional fs) = is_text n && are_text_names fs
 abbrev pub are_names : List (List ℕ) → ℕ → List Field → Bool
 are_names names count fields = (length names == count) && (field_names_differ (fields_of fields) && are_text_names (fields_of fields))
 
--- no field, where no member is left
+-- no field, if no member is left
 abbrev pub nothing_in : Members → Option (Unit {0})
 nothing_in no_members = Some tt
 nothing_in _ = None

@@ -1,4 +1,4 @@
--- Where the parts of a value come from.
+-- The source of a value's parts.
 use Rattle.std.specs.Prelude.{Bool, true, Result, Option, Some, option_and_then}
 use Rattle.qs_tree.specs.declared.error.Error.{Error}
 use Rattle.qs_tree.specs.tree.Views.{tree_of}
@@ -11,7 +11,7 @@ use Rattle.qs_spec.specs.Shape.{Shape}
 use Rattle.serde_qs.specs.declared.compound.source.Source.{Source}
 use Rattle.serde_qs.specs.declared.compound.source.Source.TheVariants as from
 
--- the data that are there, or those that the shape reads from the node
+-- the source's data, or the data that the shape reads from the node
 abbrev pub source_data : Shape → Source → Option Data
 source_data form (from.Data alloc datum) = Some (data_of datum)
 source_data form (from.Node reader node) = reads reader.reject_duplicates form (tree_of node.now)
@@ -23,6 +23,6 @@ source_text (from.Data alloc datum) = true
 source_text (from.Node reader node) = is_text (tree_of node.now)
 source_text (from.Traced reader node path) = is_text (tree_of node.now)
 
--- By view, the result is what these data mean: of data that are there what `Means` says, and of a node what `ReadsNode` says.
+-- By view, the result is what this data means, as `Means` says for data, and `ReadsNode` for a node.
 abbrev pub ReadsSource : {X V : Type 0} → (X → V) → Shape → (Data → Option V) → Source → Result X Error → Type 0
 ReadsSource view form meaning source result = Gives view (source_text source) result (option_and_then meaning (source_data form source))

@@ -1,5 +1,5 @@
--- Tables: what a type is read by and written as, with the proofs that belong to it, as one value. That of a struct or an enum holds those of
--- its parts, each once.
+-- Tables: what a type is read by and written as, with the proofs that belong to it, as one value. The table of a struct or an enum holds
+-- its parts' tables, each once.
 use Rattle.std.specs.Prelude.{◌≡◌, ℕ, Bool, true, List, map, Option, Some, option_map, refl}
 use Rattle.std.specs.BTreeMap.{BTreeMap}
 use Rattle.std.specs.declared.alloc.Global.{Global}
@@ -26,8 +26,8 @@ use Rattle.serde_qs.specs.internal.Fits.{mapping_fits, option_fits, sequence_fit
 use Rattle.serde_qs.specs.internal.Fitting.{fitting_back, fitting_fits, not_plain}
 use Rattle.serde_qs.specs.internal.MapsComeBack.{mapping_back}
 
--- What a value holds, its data, the shape that is read for them, and what data mean. No struct or enum in the shape has a name twice. Where the data
--- of a value are plain they fit the shape, and from data that are the same as those comes that value.
+-- What a value holds, its data, the shape that is read for them, and what data means. No struct or enum in the shape has a name twice. If
+-- the data of a value is plain, it fits the shape, and data that is the same means that value.
 pub record Table (A : Type 0) : Type 1 where
   pub Value : Type 0
   pub value : A → Value
@@ -44,13 +44,13 @@ abbrev pub table_with : {A V : Type 0} (value : A → V) (datum : A → Data) (f
 table_with {A} {V} value datum form meaning distinct fit back =
     record { Value = V; value = value; datum = datum; form = form; meaning = meaning; distinct = distinct; fit = fit; comes_back = back }
 
--- a table of these, for values whose data fit the shape
+-- a table of these, for values whose data fits the shape
 abbrev pub table_of : {A V : Type 0} (value : A → V) (datum : A → Data) (form : Shape) (meaning : Data → Option V) → is_distinct form ≡ true
     → ((x : A) (e : Data) → fits form (datum x) ≡ true → Same (datum x) e → meaning e ≡ Some (value x)) → Table A
 table_of value datum form meaning distinct back =
     table_with value (λ x. fitting form (datum x)) form meaning distinct (fitting_fits datum form) (fitting_back value datum form meaning back)
 
--- a table whose data unfold only where that is asked for
+-- a table whose data unfolds only on request
 abbrev pub closed : {A : Type 0} → Table A → Table A
 closed t =
     table_with t.value (data_by t.datum) t.form t.meaning t.distinct (data_by_fit t.datum t.form t.fit) (data_by_back t.datum t.meaning t.value t.comes_back)
@@ -96,7 +96,7 @@ delimited_table n delimiter free =
     (λ mode list h. list_fits n.in_range n.meaning n.printed n.value n.come_back delimiter free mode list.items.items h)
     (λ mode list e h p. list_comes_back n.in_range n.meaning n.printed n.value n.come_back delimiter free mode list.items.items e h p)
 
--- They are a type's own, but for how a value is kept.
+-- They are a type's own, except for how a value is kept.
 pub record AreNumbersOf {A V : Type 0} (n : Numbers A) (value : A → V) (in_range : A → Bool) (printed : A → List ℕ) (meaning : List ℕ → Option V) : Type 0 where
   pub same_range : (x : A) → n.in_range x ≡ in_range x
   pub same_printed : (x : A) → n.printed x ≡ printed x

@@ -14,7 +14,7 @@ use Rattle.serde_qs.specs.Meaning.{both}
 abbrev pub values_back : List Data → Values
 values_back xs = values_of (map data_of (reverse xs))
 
--- no item, where no value is left
+-- no item, if no value is left
 abbrev pub no_item_in : Values → Option (Unit {0})
 no_item_in no_values = Some tt
 no_item_in _ = None
@@ -33,10 +33,10 @@ abbrev pub tuple_variant_in : {A : Type 0} → (Values → Option A) → v.Data 
 tuple_variant_in m (v.tuple_variant n ds) = m ds
 tuple_variant_in m _ = None
 
--- where the data of items are plain, they fit their shapes
+-- if the data of items is plain, it fits their shapes
 abbrev pub ItemsFit : {A : Type 0} → List Shape → (A → List v.Data) → Type 0
 ItemsFit {A} form written = (mode : Bool) (x : A) → are_plain mode (values_of (written x)) ≡ true → fits_tuple (shapes_of form) (values_of (written x)) ≡ true
 
--- and from values that are the same as those, the items come back
+-- and from values that are the same as these, the items come back
 abbrev pub ItemsComeBack : {A V : Type 0} → (A → List v.Data) → (Values → Option V) → (A → V) → Type 0
 ItemsComeBack {A} written meaning value = (mode : Bool) (x : A) (es : Values) → are_plain mode (values_of (written x)) ≡ true → SameValues (values_of (written x)) es → meaning es ≡ Some (value x)

@@ -16,12 +16,12 @@ use Rattle.qs_spec.specs.ReadBack.{IsPlainFor}
 use Rattle.qs_data.specs.read.ReadBack.{IsOrder}
 use Rattle.qs_spec.specs.Same.{Same}
 
--- By view, the result is the value that the data mean. A Custom or Utf8 error is returned exactly where they mean none, and the only other
+-- By view, the result is the value that the data means. A Custom or Utf8 error is returned exactly if it means none, and the only other
 -- error is that an allocation failed.
 abbrev pub Means : {X Y : Type 0} → (X → Y) → Result X Error → Option Y → Type 0
 Means view result r = Gives view true result r
 
--- The input is read as this value under a configuration: it has a tree, the shape reads data from it, and these mean the value.
+-- The input is read as this value under a configuration: it has a tree, the shape reads data from it, and the data means the value.
 pub record IsRead {V : Type 0} (config : Config) (form : Shape) (meaning : Data → Option V) (input : List ℕ) (value : V) : Type 0 where
   pub tree : Tree
   pub datum : Data
@@ -29,12 +29,12 @@ pub record IsRead {V : Type 0} (config : Config) (form : Shape) (meaning : Data 
   pub is_read : ReadsBy config form tree datum
   pub is_meant : meaning datum ≡ Some value
 
--- the data are plain, and are written without an error
+-- the data is plain, and is written without an error
 pub record IsPlainWithin (config : Config) (d : Data) : Type 0 where
   pub plain : is_plain config.form d ≡ true
   pub whole : (entries config d).error ≡ None
 
--- it has a tree, and no data that the shape reads from it mean a value
+-- it has a tree, and no data that the shape reads from it means a value
 pub record IsUnread {V : Type 0} (config : Config) (form : Shape) (meaning : Data → Option V) (input : List ℕ) : Type 0 where
   pub tree : Tree
   pub has_tree : IsTree config.form config.max_depth input tree
@@ -44,9 +44,9 @@ pub record IsUnread {V : Type 0} (config : Config) (form : Shape) (meaning : Dat
 abbrev pub HasOtherBytes : Config → List ℕ → Type 0
 HasOtherBytes config input = (t : Tree) × IsTree config.form config.max_depth input t × (is_text t ≡ false)
 
--- what a typed call returns: the value that the input is read as; a Parse error exactly where it has no tree, with a position in the input
--- or right behind its end; a Custom or Utf8 error exactly where it has one but is read as no value, and Utf8 only where a text or a key
--- isn't UTF-8; or that an allocation failed
+-- what a typed call returns: the value that the input is read as; a Parse error exactly if it has no tree, with a position of at most the
+-- input's length plus one; a Custom or Utf8 error exactly if it has a tree but is read as no value, and Utf8 only if a text or a key isn't
+-- UTF-8; or that an allocation failed
 abbrev pub ReturnsValue : {X V : Type 0} → (X → V) → Config → Shape → (Data → Option V) → List ℕ → Result X Error → Type 0
 ReturnsValue view config form meaning input (Ok x) = IsRead config form meaning input (view x)
 ReturnsValue view config form meaning input (Err (Custom m)) = IsUnread config form meaning input
@@ -55,7 +55,7 @@ ReturnsValue view config form meaning input (Err (Parse m n)) = HasNoTree config
 ReturnsValue view config form meaning input (Err OutOfMemory) = ⊤
 ReturnsValue view config form meaning input (Err _) = ⊥
 
--- data that are the same as these, but for the order of maps, mean the value; or they mean none and the result is a Custom or Utf8 error;
+-- data that is the same as this, except for the order of maps, means the value; or it means none and the result is a Custom or Utf8 error;
 -- or an allocation failed
 abbrev pub ReturnsSame : {X V : Type 0} → (X → V) → (Data → Option V) → Data → Result X Error → Type 0
 ReturnsSame view meaning x (Ok y) = (e : Data) × Same x e × (meaning e ≡ Some (view y))
@@ -64,6 +64,6 @@ ReturnsSame view meaning x (Err (Utf8 m)) = (e : Data) × Same x e × (meaning e
 ReturnsSame view meaning x (Err OutOfMemory) = ⊤
 ReturnsSame view meaning x (Err _) = ⊥
 
--- what a typed call returns to an input that was written of plain data which fit, from their entries in any order
+-- what a typed call returns for an input that was written from the entries of plain data that fits, in any order that `IsOrder` allows
 pub record ReturnsWritten {X V : Type 0} (view : X → V) (config : Config) (form : Shape) (meaning : Data → Option V) (input : List ℕ) (result : Result X Error) : Type 0 where
   pub returns : (x : Data) (es : List Entry) → IsPlainFor config form x → IsOrder config x es → input ≡ written config.form false es → ReturnsSame view meaning x result

@@ -28,7 +28,7 @@ kind_differs (newtype_kind s) = true
 kind_differs (tuple_kind ss) = true
 kind_differs (struct_kind u fs) = field_names_differ fs
 
--- the names of the variants differ, and in each variant those of its fields
+-- the names of the variants differ, and in each variant the names of its fields
 abbrev pub variants_differ : Variants → Bool
 variants_differ no_variants = true
 variants_differ (one_variant n k vs) = not (is_variant_name n vs) && (kind_differs k && variants_differ vs)
@@ -49,7 +49,7 @@ variants_are_text (one_variant n k vs) = is_text n && (kind_is_text k && variant
 abbrev pub are_variants : List (List ℕ) → ℕ → List Variant → Bool
 are_variants names count vs = (length names == count) && (variants_differ (variants_of vs) && variants_are_text (variants_of vs))
 
--- what data mean as a variant of a kind, whatever its name
+-- what data means as a variant of a kind, whatever its name
 
 abbrev pub unit_variant_in : Data → Option (Unit {0})
 unit_variant_in (d.unit_variant n) = Some tt
@@ -73,7 +73,7 @@ abbrev pub each : {A B C D : Type 0} → (A → C) → (B → D) → OneOf A B �
 each f g (First x) = First (f x)
 each f g (Later y) = Later (g y)
 
--- The first variant has the first name, and the names after it are those of its fields; `after` leaves out these.
+-- The first variant has the first name, followed by the names of its fields; `after` drops the fields' names.
 
 abbrev pub last_form : (List (List ℕ) → VariantKind) → List (List ℕ) → List Variant
 last_form kind names = (first_of names, kind (others_of names)) ∷ []
@@ -104,7 +104,7 @@ abbrev pub KindComesBack : {A V : Type 0} → (List (List ℕ) → VariantKind) 
 KindComesBack {A} form written meaning value = (mode : Bool) (n : List ℕ) (names : List (List ℕ)) (x : A) (e : Data)
     → kind_differs (form names) ≡ true → is_plain mode (written n names x) ≡ true → Same (written n names x) e → meaning names e ≡ Some (value x)
 
--- a variant that is written has the name that it was given, and that of one of the variants
+-- a variant that is written has the name that it was given, and the name of one of the variants
 
 abbrev pub KindIsNamed : {A : Type 0} → (List ℕ → List (List ℕ) → A → Data) → Type 0
 KindIsNamed {A} written = (n : List ℕ) (names : List (List ℕ)) (x : A) → name_in (written n names x) ≡ n
@@ -114,7 +114,7 @@ AreNamed {A} form written = (names : List (List ℕ)) (x : A) → is_variant_nam
 
 -- an enum fits, and comes back
 
--- the data are one of these variants, and what it holds fits
+-- the data is one of these variants, and what it holds fits
 abbrev pub fits_one_of : Variants → Data → Bool
 fits_one_of vs x = is_utf8 (name_in x) && fits_variant (variant_kind (name_in x) vs) x
 
@@ -126,7 +126,7 @@ abbrev pub VariantsComeBack : {A V : Type 0} → (List (List ℕ) → List Varia
 VariantsComeBack {A} form written meaning value = (mode : Bool) (names : List (List ℕ)) (x : A) (e : Data)
     → variants_differ (variants_of (form names)) ≡ true → is_plain mode (written names x) ≡ true → Same (written names x) e → meaning names e ≡ Some (value x)
 
--- where the names differ, the shape is distinct
+-- if the names differ, the shape is distinct
 
 abbrev pub KindIsDistinct : (List (List ℕ) → VariantKind) → Type 0
 KindIsDistinct form = (names : List (List ℕ)) → kind_differs (form names) ≡ true → is_distinct_kind (form names) ≡ true

@@ -13,7 +13,7 @@ use Rattle.qs_spec.specs.Data.{Data}
 use Rattle.qs_spec.specs.Entry.{entries, too_deep, bad_key}
 use Rattle.qs_spec.specs.Written.{written}
 
--- the querystring of data: the text of their entries
+-- the querystring of data: the text of its entries
 abbrev pub text_of : Config → Data → List ℕ
 text_of config x = written config.form false (entries config x).entries
 
@@ -21,7 +21,7 @@ text_of config x = written config.form false (entries config x).entries
 abbrev pub text_of_first : ℕ → Config → Data → List ℕ
 text_of_first k config x = written config.form false (take k (entries config x).entries)
 
--- the whole text, of visible bytes, exactly where nothing is rejected; otherwise the error, or that an allocation failed
+-- the whole text, of visible bytes, exactly if nothing is rejected; otherwise the error, or that an allocation failed
 abbrev pub ReturnsText : Config → Data → Result (String Global) Error → Type 0
 ReturnsText config x (Ok text) = ((entries config x).error ≡ None) × (string_bytes text ≡ text_of config x) × All IsVisible (string_bytes text)
 ReturnsText config x (Err (MaxSerializationDepthExceeded n)) = (n ≡ config.max_depth) × ((entries config x).error ≡ Some too_deep)
@@ -29,7 +29,7 @@ ReturnsText config x (Err Unsupported) = (entries config x).error ≡ Some bad_k
 ReturnsText config x (Err OutOfMemory) = ⊤
 ReturnsText config x (Err _) = ⊥
 
--- no other error than those of a serializer that hadn't failed
+-- only the errors of a serializer that hadn't failed
 abbrev pub IsValueWriteError : {T : Type 0} → Result T Error → Type 0
 IsValueWriteError (Ok x) = ⊤
 IsValueWriteError (Err (MaxSerializationDepthExceeded n)) = ⊤
@@ -38,9 +38,9 @@ IsValueWriteError (Err (Io e)) = ⊤
 IsValueWriteError (Err OutOfMemory) = ⊤
 IsValueWriteError (Err _) = ⊥
 
--- What a call wrote to a writer, whose bytes were old and are new: on Ok the whole text; where an entry was rejected the text of the entries
--- before it; where a write failed a proper prefix of the text; where an allocation failed the text of the first few entries. Only visible
--- bytes are written.
+-- What a call wrote to a writer, whose bytes were old and are new: on Ok the whole text; if an entry was rejected, the text of the entries
+-- before it; if a write failed, a proper prefix of the text; if an allocation failed, the text of the first few entries. Only visible bytes
+-- are written.
 pub record WritesValue {T : Type 0} (config : Config) (x : Data) (old new : Option (List ℕ)) (result : Result T Error) : Type 0 where
   pub whole : OnOk result ((entries config x).error ≡ None)
   pub text : OnOk result (Appends old new (text_of config x))

@@ -10,7 +10,7 @@
 //! | [`space_delimited`] | a space | `values=1+2+3` |
 //! | [`generic_delimiter`] | any character, an argument | |
 //!
-//! A list of one empty string is written as the empty list is, and an item that holds the delimiter comes back as two.
+//! A list of one empty string is written like the empty list, and an item that contains the delimiter is read back as two.
 
 pub mod comma_separated;
 pub mod generic_delimiter;

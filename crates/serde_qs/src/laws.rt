@@ -1,4 +1,4 @@
-//! Values that come back from what was written of them.
+//! Values that can be read back from what was written.
 
 ghost use Rattle.std.specs.Prelude.{List, false};
 ghost use Rattle.qs_spec.specs.Config.{Config as Settings};
@@ -9,8 +9,9 @@ ghost use Rattle.serde_qs.specs.Typed.{IsPlainWithin, IsRead};
 
 use crate::traits::RoundTrip;
 
-/// The text of a value's entries is read as that value, if its data are plain and within the depth limit, for they fit its shape: in the indexed format in
-/// any order, and where lists hold scalars, in every format, in an order that keeps entries with one path in order.
+/// The text of a value's entries is read as that value, if its data is plain and within the depth limit; such data fits the value's shape.
+/// In the indexed format the entries may be in any order. If lists hold scalars, every format will do, with the entries in an order that
+/// keeps those with the same path in order.
 ///
 /// It does nothing when it runs.
 ///

@@ -17,7 +17,7 @@ use std::fmt;
 /// let order: Order = from_bytes(alloc, body).map_err(Rejected::Unread)?;
 /// ```
 ///
-/// `Limits::new()` has no limits. No method allocates. What a querystring means doesn't depend on them: they are no part of a
+/// `Limits::new()` has no limits. No method allocates. What a querystring means doesn't depend on them: they aren't part of a
 /// [`Config`](crate::Config).
 #[derive(Clone, Copy, Debug, PartialEq, Eq)]
 pub struct Limits {
@@ -36,9 +36,9 @@ pub struct Limits {
 /// ```
 #[derive(Clone, Copy, Debug, PartialEq, Eq)]
 pub enum LimitError {
-    /// The input has so many bytes, more than are allowed.
+    /// The input has this many bytes, more than are allowed.
     TooLong(usize),
-    /// The first pair too many begins at this byte.
+    /// The first pair beyond the limit begins at this byte.
     TooManyPairs(usize),
 }
 
@@ -58,7 +58,7 @@ impl Limits {
         }
     }
 
-    /// Returns these limits with another greatest length in bytes, in constant time.
+    /// Returns these limits with another maximum length in bytes, in constant time.
     ///
     /// ```
     /// Limits::new().max_length(3).check(b"a=12") // Err(LimitError::TooLong(4))
@@ -71,7 +71,7 @@ impl Limits {
         Limits { max_length, ..self }
     }
 
-    /// Returns these limits with another greatest number of pairs, in constant time.
+    /// Returns these limits with another maximum number of pairs, in constant time.
     ///
     /// ```
     /// Limits::new().max_pairs(1).check(b"a=1&b=2") // Err(LimitError::TooManyPairs(4))
@@ -84,10 +84,10 @@ impl Limits {
         Limits { max_pairs, ..self }
     }
 
-    /// Returns `Ok` if the input is within both limits, and else which one it exceeds.
+    /// Returns `Ok` if the input is within both limits, and otherwise the limit that it exceeds.
     ///
-    /// The pieces between `&` are counted as pairs, empty ones too, as Rack counts them; the empty input has none. The length is
-    /// checked first. It doesn't allocate, and looks at each byte once at most, many at a time, up to the first pair too many.
+    /// The pieces between `&` are counted as pairs, empty ones too, as Rack counts them; the empty input has none. The length is checked
+    /// first. It doesn't allocate, and looks at each byte at most once, many at a time, up to the first pair beyond the limit.
     ///
     /// ```
     /// Limits::new().max_pairs(2).check(b"a=1&b=2&c=3") // Err(LimitError::TooManyPairs(8))
@@ -128,7 +128,7 @@ impl fmt::Display for LimitError {
     }
 }
 
-// Returns the index of the first byte of the pair that has so many before it.
+// Returns the index of the first byte of the pair that has this many before it.
 fn first_beyond(input: &[u8], pairs: usize) -> Option<usize>
     ensures { result ≡ slice_get (starts input.now) pairs }
 {
@@ -138,7 +138,7 @@ fn first_beyond(input: &[u8], pairs: usize) -> Option<usize>
     }
 }
 
-// Returns the index of the `&` that has so many before it.
+// Returns the index of the `&` that has this many before it.
 fn nth_separator(input: &[u8], n: usize) -> Option<usize>
     ensures value { result ≡ slice_get (places (is_byte 38) input.now) n }
     ensures within { IfSome result (λ at. at < length input.now) }

@@ -11,7 +11,7 @@ ghost use Rattle.qs_data.specs.write.Scalars.{scalar_text};
 use crate::traits::Serialize;
 use qs_data::{ArrayFormat, Data, Error, Result, Scalar, Stop, WriteResult, Writer};
 
-/// Returns data that were made, or that an allocation failed, as writing returns it.
+/// Returns data that was made, or the error of a failed allocation as writing returns it.
 pub(crate) fn data_made(made: Result<Data>) -> Result<Data, Stop>
     requires { OnlyOutOfMemory made }
     ensures { MatchResult result (λ d. made ≡ Ok d) (λ stop. stop ≡ OutOfMemory) }
@@ -23,7 +23,7 @@ pub(crate) fn data_made(made: Result<Data>) -> Result<Data, Stop>
     }
 }
 
-/// Writes data, if they were made.
+/// Writes data, if it was made.
 pub(crate) fn write_made(writer: &mut Writer, made: Result<Data>) -> WriteResult
     requires { OnlyOutOfMemory made }
     ensures { (x : Datum) → IfOk made (λ d. data_of d ≡ x) → WritesPart result writer.old writer.new (data_part x) }

@@ -21,14 +21,14 @@ pub enum Step {
     Key(String),
 }
 
-/// What leads to a part of a value: from the whole to the part, step by step. It is empty for the whole.
+/// The steps from a whole value to one of its parts. It is empty for the whole.
 ///
 /// ```
 /// let field = rejection.path.to_string(alloc)?; // address[city]
 /// ```
 #[derive(Debug, Drop)]
 pub struct Path {
-    /// The steps, from the outermost on.
+    /// The steps, outermost first.
     pub steps: Vec<Step>,
 }
 
@@ -39,14 +39,14 @@ pub struct Path {
 /// ```
 #[derive(Debug, Drop)]
 pub struct Rejection {
-    /// The path to the part. It is empty where that is the whole, and where the input has no tree.
+    /// The path to the part. It is empty if the part is the whole value, or if the input has no tree.
     pub path: Path,
     /// The error that the typed call returns.
     pub error: Error,
 }
 
 impl Step {
-    /// Returns the step that a key is, with U+FFFD for what is no UTF-8.
+    /// Returns the step for a key, with U+FFFD for what isn't UTF-8.
     pub(crate) fn of(alloc: Global, key: &Key<'_>) -> Result<Step, AllocError> {
         match key {
             Key::Int(number) => Ok(Step::Index(*number as usize)),
@@ -66,8 +66,8 @@ impl Path {
         }
     }
 
-    /// Returns whether a part isn't read, by what was read there, and puts the step to it in front of the path. Where the part is read,
-    /// the path is that to the whole.
+    /// Returns whether a part isn't read, by what was read there. If so, it puts the step to the part at the start of the path; if the part
+    /// is read, it clears the path.
     pub(crate) fn enters<T: Drop>(
         &mut self,
         read: Result<T>,
@@ -125,7 +125,7 @@ impl fmt::Display for Path {
     }
 }
 
-/// The path and the error's message. Where the path is empty, the message alone.
+/// The path and the error's message. If the path is empty, the message alone.
 impl fmt::Display for Rejection {
     fn fmt<W: fmt::Write>(&self, f: &mut fmt::Formatter<W>) -> fmt::Result {
         let (path, error) = (&self.path, &self.error);

@@ -7,24 +7,24 @@ from functions import FN, at_line
 
 
 class Verdict(Enum):
-    # A goal of the function is left unproved, or a proof of it fails at a goal's type.
+    # A goal of the function isn't proved, or a proof of it fails at a goal's type.
     REJECTED = "rejected"
     # The function is proved.
     SURVIVES = "survives"
-    # It doesn't compile, can't be applied or can't be read, or names alone were lost in a proof.
+    # It doesn't compile, can't be applied or can't be read, or a proof only lost names.
     BAD = "bad"
     # Nothing is known yet: it has to be tried again, with fewer others or alone.
     UNDECIDED = "undecided"
 
 
-# An error of a proof file that names what an edit took away, or that stands on such a proof. It says nothing of a contract.
+# An error of a proof file that names what an edit took away, or that depends on such a proof. It says nothing of a contract.
 LOST = re.compile(r"has no field|is not in scope|has no `|that can be named|was not admitted|was not checked|is no name")
-# What is said of a function without a proof file, where a goal of its is left.
+# What is said of a function without a proof file, if one of its goals is left.
 UNFOUND = "`search` did not prove"
 # What says that a loop or a recursion ends.
 ENDING = re.compile(r"\bends\b|measure")
 FUNCTION = re.compile(r"^fn (\w+)::(\S+): (.*)$", re.M)
-# A goal that is left in a source file (which is told as a note), or an error there. Other notes and warnings say nothing of a verdict.
+# A goal that is left in a source file (which is reported as a note), or an error there. Other notes and warnings don't matter.
 IN_SOURCE = re.compile(r"^(?:note: )?(?:\./)?(src/\S+?\.rt):(\d+):\d+: (error.*|it is not proved.*)$", re.M)
 IN_PROOF = re.compile(r"^(?:note: )?(?:\./)?(proofs/\S+?)\.antt:\d+:\d+: (error.*)$", re.M)
 IN_SPECS = re.compile(r"^(?:note: )?(?:\./)?(specs/\S+?)\.antt:\d+:\d+: (error.*)$", re.M)

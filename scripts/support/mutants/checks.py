@@ -15,7 +15,7 @@ import rtlib  # noqa: E402
 GUARD = rtlib.guarded()
 
 
-# What makes up a crate: besides its parts, what its program reads and prints tells what it is.
+# What makes up a crate. In addition to its parts, what its program reads and prints tells what it is.
 COPIED = (*rtlib.PARTS, "stdin", "stdout", "args", "status", "data")
 
 

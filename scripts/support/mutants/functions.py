@@ -18,7 +18,7 @@ class Function:
     body: int
     ends: int
     cycle: str
-    # The type and the trait of its `impl`, where it is in one.
+    # The type and the trait of its `impl`, if it is in one.
     type: str
     trait: str
 

@@ -11,9 +11,9 @@ from checks import KIT, rtlib
 
 PLACE = pathlib.Path(os.environ.get("XDG_CACHE_HOME") or pathlib.Path.home() / ".cache") / "serde_qs_mutants"
 DAYS = 30
-# To be raised where a verdict comes to mean something else.
+# To be raised when the meaning of a verdict changes.
 FORM = 3
-# What a later run needn't find again. That an edit is bad can lie in this run.
+# What a later run needn't find again. An edit may be bad only because of this run.
 LEARNED = (Verdict.REJECTED, Verdict.SURVIVES)
 
 

@@ -9,7 +9,7 @@ import tempfile
 import threading
 import time
 
-# A check was seen to take so many bytes at most, and `rt ci` may run beside.
+# The most bytes that a check was seen to take. `rt ci` may run in parallel.
 MEMORY = 6_000_000_000
 EVERY = 15
 

@@ -7,12 +7,12 @@ use serde_qs::{Config, Data, Deserializer, Error, KeyShape, Result, Shape};
 use std::alloc::Global;
 use std::str;
 
-// Returns the text of the input, or the error that says that it is none.
+// Returns the text of the input, or the error if it isn't text.
 fn owned_text(alloc: Global, input: &[u8]) -> Result<String> {
     Ok(String::from_utf8(Vec::from_slice(alloc, input)?)?)
 }
 
-// Returns the error of this maker, with the input as its message.
+// Returns the error that this function makes, with the input as its message.
 fn made(alloc: Global, maker: &str, input: &[u8]) -> Result<String> {
     let message = str::from_utf8(input)?;
     Err(match maker {
@@ -22,31 +22,31 @@ fn made(alloc: Global, maker: &str, input: &[u8]) -> Result<String> {
     })
 }
 
-// Returns the text of the number, or the error that says that it is none.
+// Returns the text of the number, or the error if it isn't one.
 fn number(alloc: Global, input: &[u8]) -> Result<String> {
     let number = str::from_utf8(input)?.parse::<u8>()?;
     Ok(format!(in alloc; "{number}")?)
 }
 
-// Returns the items, after they were written and read with bars between.
+// Returns the items, after they were written and read, separated by bars.
 fn between_bars(alloc: Global, items: &[String]) -> Result<Vec<String>> {
     let data = pipe_delimited::serialize(alloc, items)?;
     pipe_delimited::deserialize(alloc, data)
 }
 
-// Returns the items, after they were written and read with spaces between.
+// Returns the items, after they were written and read, separated by spaces.
 fn between_spaces(alloc: Global, items: &[String]) -> Result<Vec<String>> {
     let data = space_delimited::serialize(alloc, items)?;
     space_delimited::deserialize(alloc, data)
 }
 
-// Returns the items, after they were written and read with dots between.
+// Returns the items, after they were written and read, separated by dots.
 fn between_dots(alloc: Global, items: &[String]) -> Result<Vec<String>> {
     let data = generic_delimiter::serialize(alloc, items, '.')?;
     generic_delimiter::deserialize(alloc, data, '.')
 }
 
-// Returns the items between commas.
+// Returns the items, separated by commas.
 fn between_commas(alloc: Global, items: &[String]) -> Result<String> {
     match comma_separated::serialize(alloc, items)? {
         Data::Text(text) => Ok(text),
@@ -54,7 +54,7 @@ fn between_commas(alloc: Global, items: &[String]) -> Result<String> {
     }
 }
 
-// Returns the items between commas again, after they were written and read with each other delimiter.
+// Returns the items, separated by commas again, after they were written and read with each other delimiter.
 fn relisted(alloc: Global, input: &[u8]) -> Result<String> {
     let data = Data::Text(owned_text(alloc, input)?);
     let items: Vec<String> = comma_separated::deserialize(alloc, data)?;
@@ -89,7 +89,7 @@ fn struct_of(alloc: Global, names: Vec<String>) -> Result<Data> {
     Ok(Data::Struct(members))
 }
 
-// Returns whether a map and a struct are plain whose keys and names are the items between commas.
+// Takes the items between commas as keys of a map and as names of a struct. Returns whether both are plain.
 fn plainness(alloc: Global, input: &[u8]) -> Result<String> {
     let items = Data::Text(owned_text(alloc, input)?);
     let names: Vec<String> = comma_separated::deserialize(alloc, items)?;
@@ -98,7 +98,7 @@ fn plainness(alloc: Global, input: &[u8]) -> Result<String> {
     Ok(format!(in alloc; "{map} {structure}")?)
 }
 
-// Returns the texts of the bytes at each key of the input, in query mode and at form encoding.
+// Returns the text of the bytes at each key of the input, in query mode and with form encoding.
 fn bytes(alloc: Global, input: &[u8]) -> Result<String> {
     let shape = Shape::Map(KeyShape::Text, Box::new(alloc, Shape::Bytes)?);
     let data = Deserializer::new(alloc, input)?.read(alloc, &shape)?;
@@ -116,7 +116,7 @@ fn bytes(alloc: Global, input: &[u8]) -> Result<String> {
 /// | `helpers` | the items between commas, after they were written and read with each other delimiter |
 /// | `web` | the texts of copies of a query and a form |
 /// | `plain` | whether a map and a struct are plain whose keys and names are the items between commas |
-/// | `bytes` | the bytes at each key of the input, written in query mode and at form encoding |
+/// | `bytes` | the bytes at each key of the input, written in query mode and with form encoding |
 /// | `data` | data with a character, bytes, and a key that isn't written, as the text of their entries |
 pub fn answer(alloc: Global, name: &str, input: &[u8]) -> Option<Result<String>> {
     match name {

@@ -15,7 +15,7 @@ struct Case {
 }
 
 impl Case {
-    // Returns the case that the line writes.
+    // Parses a line as a case.
     fn parse(alloc: Global, line: &str) -> Option<Case> {
         let (form, rest) = line.split_once('\t')?;
         let (max_depth, input) = rest.split_once('\t')?;

@@ -1,4 +1,4 @@
-//! What a writer holds that takes a byte at a time and has room for some.
+//! What a writer holds that takes one byte at a time, up to its capacity.
 
 use qs_tests::{Narrow, Stop};
 use serde_qs::{
@@ -6,7 +6,7 @@ use serde_qs::{
 };
 use std::alloc::Global;
 
-/// A call that writes to a writer, which stops once its room is full.
+/// A call that writes to a writer, which stops once it is full.
 #[derive(Clone, Copy)]
 pub enum Call {
     /// `to_writer`, to a writer that then takes nothing.
@@ -36,7 +36,8 @@ impl Call {
         }
     }
 
-    // Returns the text of which whole entries may be written before an allocation fails: none of a typed call's, which makes its text first.
+    // Returns the text whose entries may be written before an allocation fails. For a typed call it is empty, since the call makes its
+    // text first.
     fn text_in_part<T: Serialize>(self, alloc: Global, value: &T) -> Result<String> {
         match self {
             Call::Lent | Call::Configured => Ok(String::new(alloc)),
@@ -58,7 +59,7 @@ fn write_twice(alloc: Global, data: &Data, writer: &mut Narrow) -> Result<()> {
     }
 }
 
-// Returns whether the text is that of the first few entries of the whole text.
+// Returns whether the text is a prefix of the whole text that ends with an entry, or is empty.
 fn ends_with_an_entry(text: &str, whole: &str) -> bool {
     match whole.strip_prefix(text) {
         Some(rest) => text.is_empty() || rest.is_empty() || rest.starts_with('&'),
@@ -66,7 +67,7 @@ fn ends_with_an_entry(text: &str, whole: &str) -> bool {
     }
 }
 
-// Returns what a writer holds after a call, and the error of the call. After `OutOfMemory` it has to hold whole entries of this text.
+// Returns what a writer holds after a call, and the error of the call. After `OutOfMemory` the writer must hold whole entries of this text.
 fn held(alloc: Global, writer: Narrow, outcome: Result<()>, whole: &str) -> Result<String> {
     let held = String::from_utf8(writer.held)?;
     match outcome {
@@ -78,7 +79,7 @@ fn held(alloc: Global, writer: Narrow, outcome: Result<()>, whole: &str) -> Resu
     }
 }
 
-/// Returns what a writer holds to which a value was written by this call, and the error of the call.
+/// Writes a value by this call. Returns what the writer holds, and the error of the call.
 pub fn written<T: Serialize>(alloc: Global, call: Call, room: usize, value: &T) -> Result<String> {
     let whole = call.text_in_part(alloc, value)?;
     let mut writer = Narrow::new(alloc, 1, room, call.stop())?;
@@ -86,7 +87,7 @@ pub fn written<T: Serialize>(alloc: Global, call: Call, room: usize, value: &T) 
     held(alloc, writer, outcome, &whole)
 }
 
-// Adds a member of this name to those of a struct.
+// Adds a member of this name to a struct's members.
 fn add(alloc: Global, members: &mut Vec<(String, Data)>, name: &str, value: Data) -> Result<()> {
     Ok(members.push((String::from_str(alloc, name)?, value))?)
 }
@@ -115,7 +116,7 @@ pub fn text_of(alloc: Global, config: Config, data: &Data) -> Result<String> {
     Ok(String::from_utf8(writer.held)?)
 }
 
-/// Returns what a writer holds to which a copy of data was written that no type has, and the error of the call.
+/// Writes a copy of data that no type has. Returns what the writer holds, and the error of the call.
 pub fn written_data(alloc: Global) -> Result<String> {
     let copy = data(alloc)?.try_clone(alloc)?;
     let mut writer = Narrow::new(alloc, 1, 100, Stop::Fails)?;

@@ -3,7 +3,7 @@ use Rattle.std.specs.Prelude.{◌≡◌, ⊤, ℕ}
 use Rattle.qs_tree.specs.declared.error.Error.{Error}
 use Rattle.qs_tree.specs.declared.error.Error.TheVariants.{MaxSerializationDepthExceeded, Unsupported, Io, OutOfMemory}
 
--- the error is one of a serializer that hadn't failed before, with this limit
+-- a serializer with this limit that hadn't failed before may return the error
 abbrev pub IsUnwritten : ℕ → Error → Type 0
 IsUnwritten max_depth (MaxSerializationDepthExceeded depth) = depth ≡ max_depth
 IsUnwritten max_depth Unsupported = ⊤

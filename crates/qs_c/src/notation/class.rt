@@ -10,13 +10,13 @@ ghost use Rattle.qs_spec.specs.Escape.{is_between};
 #[derive(Clone, Copy)]
 pub(crate) enum Class {
     Blank,
-    /// Letters, digits, `_`, `-` and all that isn't ASCII.
+    /// ASCII letters and digits, `_`, `-`, and bytes beyond ASCII.
     Word,
     NoQuote,
 }
 
 impl Class {
-    // Returns whether the byte is of the class.
+    // Returns whether the byte is in the class.
     fn has(self, byte: u8) -> bool
         ensures { result ≡ is_in self byte }
     {
@@ -35,7 +35,7 @@ fn is_blank(byte: u8) -> bool
     byte == b' ' || byte == b'\t' || byte == b'\n' || byte == b'\r'
 }
 
-// Returns whether a word may have the byte: an ASCII letter or digit, `_`, `-`, or a byte beyond ASCII.
+// Returns whether a word may contain the byte: an ASCII letter or digit, `_`, `-`, or a byte beyond ASCII.
 fn is_of_word(byte: u8) -> bool
     ensures { result ≡ is_of_word byte }
 {
@@ -47,14 +47,14 @@ fn is_of_word(byte: u8) -> bool
         || byte >= 128
 }
 
-// Returns whether the byte is one of these, both ends included.
+// Returns whether the byte is between `low` and `high`, both included.
 fn is_between(low: u8, high: u8, byte: u8) -> bool
     ensures { result ≡ is_between low high byte }
 {
     low <= byte && byte <= high
 }
 
-/// Returns how many bytes of the class stand at the front.
+/// Returns how many bytes at the front are in the class.
 pub(crate) fn run(class: Class, bytes: &[u8]) -> usize
     ensures len { result ≡ prefix_len (is_in class) bytes.now }
     ensures within { result ≤ length bytes.now }

@@ -1,4 +1,4 @@
-//! Words, names and signs of a shape's text.
+//! Words, names and signs in a shape's text.
 
 ghost use Rattle.std.specs.Prelude.{◌≡◌, ℕ, List, IsTrue, IsFalse, length, string_bytes};
 ghost use Rattle.qs_c.specs.Notation.{after_word, after_sign, comes, goes_on, name, name_of, quoted, trimmed, wanted, word, word as word_of, word_name};
@@ -10,7 +10,7 @@ use super::stop::{Result, Stop};
 use qs_tree::decode;
 use std::alloc::Global;
 
-/// What is left of the text, which begins with no blank.
+/// The rest of the text, without white space at its front.
 #[derive(Drop)]
 pub(crate) struct Cursor<'t> {
     rest: &'t [u8],
@@ -26,14 +26,14 @@ impl<'t> Cursor<'t> {
         }
     }
 
-    /// Returns how many bytes are left.
+    /// Returns the number of bytes left.
     pub(crate) fn len(&self) -> usize
         ensures { result ≡ length self.now.rest.now }
     {
         self.rest.len()
     }
 
-    /// Takes the sign, if it comes next.
+    /// Takes the sign if it is next, and returns whether it is.
     pub(crate) fn take(&mut self, sign: u8) -> bool
         ensures comes { result ≡ comes sign self.old.rest.now }
         ensures taken { IsTrue result → self.new.rest.now ≡ after_sign self.old.rest.now }
@@ -48,7 +48,7 @@ impl<'t> Cursor<'t> {
         }
     }
 
-    /// Takes the sign, which has to come next.
+    /// Takes the sign, or returns an error with the reason if it isn't next.
     pub(crate) fn expect(&mut self, sign: u8, reason: &'static str) -> Result<()>
         ensures { Parses (λ u. tt) (wanted sign reason.now self.old.rest.now) result self.new.rest.now }
     {
@@ -59,7 +59,7 @@ impl<'t> Cursor<'t> {
         }
     }
 
-    /// Returns whether a list goes on, after a comma; else the sign has to come next.
+    /// Returns whether a list goes on. If so it takes a comma, and otherwise the sign that closes the list.
     #[tactic(auto, using(crate::proofs::Found::steps), unfolding(crate::specs::Notation::goes_on))]
     pub(crate) fn goes_on(&mut self, sign: u8, reason: &'static str) -> Result<bool>
         ensures { Parses (λ more. more) (goes_on sign reason.now self.old.rest.now) result self.new.rest.now }
@@ -71,7 +71,7 @@ impl<'t> Cursor<'t> {
         Ok(false)
     }
 
-    /// Takes the letters, digits, `_` and `-` that come next.
+    /// Takes the next word, which may be empty.
     #[tactic(auto, using(crate::proofs::Found::steps), unfolding(crate::specs::Notation::word, crate::specs::Notation::after_word))]
     pub(crate) fn word(&mut self) -> &'t [u8]
         ensures word { result.now ≡ word self.old.rest.now }
@@ -83,7 +83,7 @@ impl<'t> Cursor<'t> {
         word
     }
 
-    /// Takes the word, if it comes next.
+    /// Takes the word if it is next, and returns whether it is.
     pub(crate) fn take_word(&mut self, word: &[u8]) -> bool
         ensures comes { result ≡ bytes_eq (word_of self.old.rest.now) word.now }
         ensures taken { IsTrue result → self.new.rest.now ≡ after_word self.old.rest.now }
@@ -97,7 +97,7 @@ impl<'t> Cursor<'t> {
         false
     }
 
-    /// Takes the name that comes next: a word, or what stands between two `"`, decoded as in a querystring.
+    /// Takes the next name: a word, or the text between two `"`, decoded as in a querystring.
     #[tactic(auto, using(crate::proofs::Found::steps), unfolding(crate::specs::Notation::name))]
     pub(crate) fn name(&mut self, alloc: Global) -> Result<String>
         ensures { Parses string_bytes (name self.old.rest.now) result self.new.rest.now }
@@ -111,7 +111,7 @@ impl<'t> Cursor<'t> {
         }
     }
 
-    // Takes the name up to the closing quote, decoded.
+    // Takes a name up to the closing quote, and decodes it.
     #[tactic(auto, using(crate::proofs::Found::steps), unfolding(crate::specs::Notation::quoted))]
     fn quoted(&mut self, alloc: Global) -> Result<String>
         ensures { Parses string_bytes (quoted self.old.rest.now) result self.new.rest.now }
@@ -126,7 +126,7 @@ impl<'t> Cursor<'t> {
         }
     }
 
-    // Returns the word as a name.
+    // Takes the next word as a name.
     fn word_name(&mut self, alloc: Global) -> Result<String>
         ensures { Parses string_bytes (word_name self.old.rest.now) result self.new.rest.now }
     {
@@ -148,7 +148,7 @@ fn name_of(alloc: Global, bytes: &[u8]) -> Result<String>
     }
 }
 
-// Returns the text without the white space in front.
+// Returns the text without the white space at its front.
 #[tactic(auto, using(crate::proofs::Found::steps), unfolding(crate::specs::Notation::trimmed))]
 fn without_blanks(text: &[u8]) -> &[u8]
     ensures { result.now ≡ trimmed text.now }

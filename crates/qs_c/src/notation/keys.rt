@@ -11,7 +11,7 @@ use super::words::scalar_key;
 use qs_data::KeyShape;
 use std::alloc::Global;
 
-/// Parses how the keys are read.
+/// Parses the shape of the keys.
 #[tactic(auto, using(crate::proofs::Found::steps), unfolding(crate::specs::Notation::key))]
 pub(crate) fn map_key(alloc: Global, cursor: &mut Cursor<'_>) -> Result<KeyShape>
     ensures { Parses key_shape_of (key cursor.old.rest.now) result cursor.new.rest.now }

@@ -1,4 +1,4 @@
-//! A shape, and what shapes hold.
+//! Shapes and their parts.
 
 ghost use Rattle.std.specs.Prelude.{map};
 ghost use Rattle.qs_data.specs.shape.Views.{field_of, shape_of};
@@ -14,7 +14,7 @@ use super::words::scalar;
 use qs_data::{Field, Shape};
 use std::alloc::Global;
 
-/// Parses the shape that comes next, which may nest so deep.
+/// Parses the next shape, which may nest at most `levels` deep.
 #[cycle(shape)]
 #[tactic(auto, using(crate::proofs::Found::steps), unfolding(crate::specs::Notation::shape))]
 pub(crate) fn shape(alloc: Global, cursor: &mut Cursor<'_>, levels: usize) -> Result<Shape>
@@ -27,7 +27,7 @@ pub(crate) fn shape(alloc: Global, cursor: &mut Cursor<'_>, levels: usize) -> Re
     options(alloc, cursor, levels - 1, shape)
 }
 
-// Returns the shape with an option round it for each `?` that comes next, of which there are so many at most.
+// Takes at most `most` `?`s, and returns the shape in an option for each.
 #[tactic(auto, using(crate::proofs::Found::steps), unfolding(crate::specs::Notation::options))]
 fn options(alloc: Global, cursor: &mut Cursor<'_>, most: usize, shape: Shape) -> Result<Shape>
     ensures { Parses shape_of (n.options most (shape_of shape) cursor.old.rest.now) result cursor.new.rest.now }
@@ -42,7 +42,7 @@ fn options(alloc: Global, cursor: &mut Cursor<'_>, most: usize, shape: Shape) ->
     Ok(shape)
 }
 
-// Parses a shape before any `?`.
+// Parses a shape, without the `?`s after it.
 #[cycle(shape)]
 #[tactic(auto, using(crate::proofs::Found::steps), unfolding(crate::specs::Notation::base))]
 fn base(alloc: Global, cursor: &mut Cursor<'_>, levels: usize) -> Result<Shape>
@@ -95,7 +95,7 @@ fn named(alloc: Global, cursor: &mut Cursor<'_>, levels: usize, word: &[u8]) -> 
     scalar(word).ok_or(Stop::Fault("the word before is no shape"))
 }
 
-// Parses a value in a type of its own.
+// Parses the shape in a newtype, in parentheses.
 #[cycle(shape)]
 #[tactic(auto, using(crate::proofs::Found::steps), unfolding(crate::specs::Notation::newtype))]
 fn newtype(alloc: Global, cursor: &mut Cursor<'_>, levels: usize) -> Result<Shape>
@@ -107,7 +107,7 @@ fn newtype(alloc: Global, cursor: &mut Cursor<'_>, levels: usize) -> Result<Shap
     Ok(Shape::Newtype(Box::new(alloc, inner)?))
 }
 
-// Parses the key and the value of a map.
+// Parses the shapes of a map's keys and values, in parentheses.
 #[cycle(shape)]
 #[tactic(auto, using(crate::proofs::Found::steps), unfolding(crate::specs::Notation::map))]
 fn map(alloc: Global, cursor: &mut Cursor<'_>, levels: usize) -> Result<Shape>
@@ -157,7 +157,7 @@ fn field(alloc: Global, cursor: &mut Cursor<'_>, levels: usize) -> Result<Field>
     })
 }
 
-/// Parses shapes after these, up to the parenthesis that closes them.
+/// Parses shapes, up to the parenthesis that closes them, and appends them to `items`.
 #[cycle(shape)]
 #[tactic(auto, using(crate::proofs::Found::steps), unfolding(crate::specs::Notation::items))]
 pub(crate) fn items(

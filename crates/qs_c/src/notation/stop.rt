@@ -1,17 +1,17 @@
-//! Why a text isn't parsed on.
+//! Why parsing a shape stopped.
 
 use std::alloc::{AllocError, AllocFailed};
 
-/// Why a text isn't parsed on.
+/// Why parsing a shape stopped.
 #[derive(Clone, Copy, Debug)]
 pub(crate) enum Stop {
-    /// It is no shape, for this reason.
+    /// The text isn't a shape, for this reason.
     Fault(&'static str),
     /// An allocation failed.
     OutOfMemory,
 }
 
-/// A part of a shape's text, or why it isn't parsed.
+/// A part of a shape, or why parsing it stopped.
 pub(crate) type Result<T> = std::result::Result<T, Stop>;
 
 impl From<AllocError> for Stop {

@@ -61,7 +61,7 @@ fn kind(alloc: Global, cursor: &mut Cursor<'_>, levels: usize) -> Result<Variant
     held(alloc, cursor, levels)
 }
 
-// Parses what a variant holds in parentheses: a tuple, or a value, which has no comma after it.
+// Parses what a variant holds in parentheses: a value if there is no comma after it, or else a tuple.
 #[cycle(shape)]
 #[tactic(auto, using(crate::proofs::Found::steps), unfolding(crate::specs::Notation::held))]
 fn held(alloc: Global, cursor: &mut Cursor<'_>, levels: usize) -> Result<VariantKind>

@@ -1,4 +1,4 @@
-//! Shapes that are a word alone.
+//! Shapes of a single word.
 
 ghost use Rattle.std.specs.Prelude.{◌≡◌, option_map};
 ghost use Rattle.qs_spec.specs.Shape as s;
@@ -7,7 +7,7 @@ ghost use Rattle.qs_c.specs.Notation.{integer, scalar, scalar_key};
 
 use qs_data::{KeyShape, Shape};
 
-/// Returns the shape of a scalar that the word is, or `None`.
+/// Returns the scalar shape that the word names, or `None`.
 pub(crate) fn scalar(word: &[u8]) -> Option<Shape>
     ensures { option_map shape_of result ≡ scalar word.now }
 {
@@ -30,7 +30,7 @@ pub(crate) fn scalar(word: &[u8]) -> Option<Shape>
     }
 }
 
-// Returns the shape of a number that the word names.
+// Returns the integer shape that the word names, or `None`.
 fn integer(word: &[u8]) -> Option<Shape>
     ensures { option_map shape_of result ≡ integer s.Shape.unsigned s.Shape.signed word.now }
 {
@@ -55,7 +55,7 @@ fn integer(word: &[u8]) -> Option<Shape>
     }
 }
 
-/// Returns the shape of a map's key that the word is, or `None`.
+/// Returns the shape of a map's key that the word names, or `None`.
 pub(crate) fn scalar_key(word: &[u8]) -> Option<KeyShape>
     ensures { option_map key_shape_of result ≡ scalar_key word.now }
 {
@@ -70,7 +70,7 @@ pub(crate) fn scalar_key(word: &[u8]) -> Option<KeyShape>
     }
 }
 
-// Returns the shape of a key that is a number.
+// Returns the shape of an integer key that the word names, or `None`.
 fn integer_key(word: &[u8]) -> Option<KeyShape>
     ensures { option_map key_shape_of result ≡ integer s.KeyShape.unsigned s.KeyShape.signed word.now }
 {

@@ -8,7 +8,7 @@ use std::collections::BTreeMap;
 /// Which products are shown, and the page of them.
 #[derive(Debug, PartialEq, Drop, Serialize, Deserialize)]
 pub struct Products {
-    /// What a product has to be, as its colour: `filter[colour]=red`.
+    /// What a product has to be, for example its colour: `filter[colour]=red`.
     pub filter: BTreeMap<String, String>,
     /// What it costs: `price[from]=10&price[to]=20`.
     #[serde(skip_serializing_if = "Option::is_none")]
@@ -28,7 +28,7 @@ pub struct Range {
     pub to: u32,
 }
 
-/// Returns the querystring of the next page. Without a number a page is the first.
+/// Returns the querystring of the next page. A page without a number is the first.
 pub fn next_page(alloc: Global, input: &str) -> Result<String> {
     let mut products: Products = from_str(alloc, input)?;
     products.page = Some(products.page.unwrap_or(1).saturating_add(1));

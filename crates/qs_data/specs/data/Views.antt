@@ -1,4 +1,4 @@
--- The data of the definitions that data of a program are.
+-- The data of the definitions that data of a program is.
 use Rattle.std.specs.Prelude.{ℕ, List, map, string_bytes}
 use Rattle.std.specs.declared.string.String.{String}
 use Rattle.std.specs.declared.alloc.Global.{Global}

@@ -3,8 +3,8 @@ use Rattle.std.specs.Prelude.{◌≡◌, ⊤, Bool, false, Result, Ok, Err, Opti
 use Rattle.qs_tree.specs.declared.error.Error.{Error}
 use Rattle.qs_tree.specs.declared.error.Error.TheVariants.{Custom, Utf8, OutOfMemory}
 
--- The error says that there is nothing to return, unless it says that an allocation failed; and `Utf8` comes only where not all
--- that was read is text.
+-- The error says that there is nothing to return, or that an allocation failed. It is `Utf8` only if not all that was read is
+-- text.
 abbrev pub Rejects : {Y : Type 0} → Bool → Error → Option Y → Type 0
 Rejects all_text (Custom message) r = r ≡ None
 Rejects all_text (Utf8 cause) r = (r ≡ None) × (all_text ≡ false)

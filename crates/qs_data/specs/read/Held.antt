@@ -1,4 +1,4 @@
--- What a variant of an enum holds: the value under its name, or nothing where a text alone names it.
+-- What a variant of an enum holds: the value under its name, or nothing if a text alone names it.
 use Rattle.std.specs.Prelude.{Bool, true, Option, Some, None}
 use Rattle.qs_spec.specs.Tree.{Tree}
 use Rattle.qs_data.specs.read.TreeText.{is_text}

@@ -8,10 +8,10 @@ use Rattle.qs_spec.specs.Node.{under_empty}
 use Rattle.qs_tree.specs.tree.Views.{tree_of, entries_of_map}
 use Rattle.qs_data.specs.declared.read.keys.Entries.{Entries}
 use Rattle.qs_data.specs.declared.read.keys.Entries.TheVariants as e
--- what becomes of unknown keys, and nothing more to return where a test is passed
+-- what happens to unknown keys, and nothing more to return if a test is passed
 pub use Rattle.qs_data.specs.read.internal.Keys.{unknown_of, when}
 
--- each key with its value; a leaf stands under the empty text
+-- each key with its value; a leaf is under the empty text
 abbrev pub entries_view : Entries → t.Entries
 entries_view e.Empty = no_entries
 entries_view (e.Map map) = entries_of_map map.now
@@ -27,7 +27,7 @@ abbrev pub NumbersFit : t.Entries → Type 0
 NumbersFit no_entries = ⊤
 NumbersFit (entry k mark t es) = KeyFits k × NumbersFit es
 
--- the result is Ok where the test is passed, and an error where it isn't
+-- the result is Ok if the test is passed, and an error if it isn't
 abbrev pub PassesTest : {X E : Type 0} → Result X E → Bool → Type 0
 PassesTest (Ok x) test = test ≡ true
 PassesTest (Err e) test = test ≡ false

@@ -1,4 +1,4 @@
--- The errors that reading has, and what they are among those of all calls.
+-- The errors of reading, and which of the errors of all calls they are.
 use Rattle.std.specs.Prelude.{◌≡◌, Result, Ok, Err}
 use Rattle.qs_tree.specs.declared.error.Error.{Error}
 use Rattle.qs_tree.specs.declared.error.Error.TheVariants as e

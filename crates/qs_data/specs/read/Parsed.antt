@@ -22,12 +22,12 @@ pub record Parsed : Type 0 where
 abbrev pub parsed_of : Deserializer → Parsed
 parsed_of d = record { config = d.config; tree = tree_of d.tree }
 
--- of the texts in its tree, from left to right, which it owns
+-- which texts in its tree it owns, from left to right
 abbrev pub owned_by : Deserializer → List Bool
 owned_by d = owns d.tree
 
--- Ok holds data that the shape relates to the tree, and an error comes where the shape relates it to none, or memory ran out; `Utf8`
--- only where not every text and key in the tree is UTF-8.
+-- Ok holds data that the shape relates to the tree. An error says that the shape relates the tree to no data, or that memory ran
+-- out. It is `Utf8` only if not every text and key in the tree is UTF-8.
 abbrev pub ReturnsData : Parsed → Shape → Result Data Error → Type 0
 ReturnsData parsed shape (Ok d) = ReadsBy parsed.config shape parsed.tree (data_of d)
 ReturnsData parsed shape (Err (Custom message)) = ReadsNothing parsed.config shape parsed.tree
@@ -35,7 +35,7 @@ ReturnsData parsed shape (Err (Utf8 cause)) = ReadsNothing parsed.config shape p
 ReturnsData parsed shape (Err OutOfMemory) = ⊤
 ReturnsData parsed shape (Err _) = ⊥
 
--- memory runs out only where the shape relates the tree to no data
+-- memory runs out only if the shape relates the tree to no data
 abbrev pub AllocatesOnlyForErrors : Parsed → Shape → Result Data Error → Type 0
 AllocatesOnlyForErrors parsed shape (Err OutOfMemory) = ReadsNothing parsed.config shape parsed.tree
 AllocatesOnlyForErrors parsed shape _ = ⊤

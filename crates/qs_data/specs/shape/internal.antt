@@ -1,2 +1,2 @@
--- Steps of proofs: how data are compared with a shape part by part.
+-- Steps of proofs: how data is compared with a shape part by part.
 pub mod Fitting

@@ -6,7 +6,7 @@ use Rattle.qs_tree.specs.declared.error.Error.TheVariants.{MaxSerializationDepth
 use Rattle.qs_data.specs.declared.write.stop.Stop.{Stop}
 use Rattle.qs_data.specs.declared.write.stop.Stop.TheVariants as stop
 
--- no other error than those of writing
+-- only the errors of writing
 abbrev pub IsWriteError : {T : Type 0} → Result T Error → Type 0
 IsWriteError (Ok x) = Unit {0}
 IsWriteError (Err (MaxSerializationDepthExceeded depth)) = Unit {0}

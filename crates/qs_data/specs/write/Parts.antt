@@ -42,7 +42,8 @@ both a b config path = and_then (a config path) (b config path)
 abbrev pub state_of : Writer → StreamState
 state_of w = record { taken = Some w.stream.sink.writer.items; failed = w.stream.sink.failed; writer = 0; started = w.stream.started }
 
--- Wherever the writer was, all of the part was written after what was written before, and the writer is there again; or what the stop says.
+-- Wherever the writer was, all of the part was written after what was written before, and the writer is back there; or the stop says what
+-- was written.
 pub record WritesPart (result : Result (Unit {0}) Stop) (old new : Writer) (part : Part) : Type 0 where
   pub config : new.config ≡ old.config
   pub writes : WritesAt old.config result (state_of old) (state_of new) old.walk new.walk part
@@ -53,14 +54,14 @@ pub record IsFresh (config : Config) (w : Writer) : Type 0 where
   pub top : IsAt config [] w.walk
   pub state : state_of w ≡ record { taken = Some []; failed = false; writer = 0; started = false }
 
--- wherever the writer was, it is under one more segment; its text was so long before
+-- wherever the writer was, it is under one more segment; its text had this length before
 pub record Enters (segment : List ℕ) (len : ℕ) (old new : Writer) : Type 0 where
   pub config : new.config ≡ old.config
   pub state : state_of new ≡ state_of old
   pub before : len ≡ length old.walk.text
   pub within : EntersAt old.config segment old.walk new.walk
 
--- the writer is where it was before its last segment, if its text was so long there
+-- the writer is where it was before its last segment, if its text had this length there
 pub record Leaves (len : ℕ) (old new : Writer) : Type 0 where
   pub config : new.config ≡ old.config
   pub state : state_of new ≡ state_of old

@@ -16,7 +16,7 @@ pub record State (S : Type 0) : Type 0 where
 abbrev pub output_of : {S : Type 0} → State S → Data → Output
 output_of s d = entries s.config d
 
--- the text that those entries are, after what was written before
+-- the text of those entries, after what was written before
 abbrev pub text_of : {S : Type 0} → State S → Data → List ℕ
 text_of s d = written s.config.form s.started (output_of s d).entries
 
@@ -24,7 +24,7 @@ text_of s d = written s.config.form s.started (output_of s d).entries
 abbrev pub IsVisible : ℕ → Type 0
 IsVisible b = (33 ≤ b) × (b ≤ 126)
 
--- no value or nothing, also in options and types of their own: what doesn't allocate where it is alone
+-- no value or nothing, also in options and types of their own: what doesn't allocate if it is alone
 abbrev pub IsBare : Data → Type 0
 IsBare Data.unit = Unit {0}
 IsBare Data.none = Unit {0}

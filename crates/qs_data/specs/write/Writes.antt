@@ -1,4 +1,4 @@
--- What a call that writes leaves.
+-- What a call that writes leaves behind.
 use Rattle.std.specs.Prelude.{◌≡◌, ℕ, ◌<◌, ◌≤◌, ◌⊎◌, Bool, true, List, [], ◌∷◌, ◌++◌, length, take, Option, Some, None, Result, Ok, Err}
 use Rattle.std.specs.List.{All}
 use Rattle.std.specs.Io.KnownBytes.{Appends}
@@ -12,7 +12,7 @@ use Rattle.qs_data.specs.declared.write.stop.Stop.{Stop}
 use Rattle.qs_data.specs.declared.write.stop.Stop.TheVariants as stop
 use Rattle.qs_data.specs.write.State.{IsVisible}
 
--- what is known of a sink and of the text in it: the bytes where the sink reports them, whether a put failed, the name of a
+-- what is known of a sink and of the text in it: the bytes if the sink reports them, whether a put failed, the name of a
 -- lent writer, and whether an entry with a key was written
 pub record StreamState : Type 0 where
   pub taken : Option (List ℕ)
@@ -35,7 +35,7 @@ pub record AddsSome (form : Bool) (old new : StreamState) (es : List Entry) : Ty
   pub parts : es ≡ front ++ rest
   pub adds : Adds form old new front
 
--- a proper beginning of the text was added, and then a put failed
+-- a proper prefix of the text was added, and then a put failed
 pub record AddsPart (form : Bool) (old new : StreamState) (es : List Entry) : Type 0 where
   pub count : ℕ
   pub proper : count < length (written form old.started es)
@@ -77,7 +77,7 @@ Writes (Err e) config path old new walk o = Stops e config old new o
 abbrev pub state_in : {S : Type 0} → (S → Option (List ℕ)) → (S → Bool) → (S → ℕ) → Stream S → StreamState
 state_in taken failed name stream = record { taken = taken stream.sink; failed = failed stream.sink; writer = name stream.sink; started = stream.started }
 
--- what a call leaves that writes a part under this configuration, wherever the walk was
+-- what a call that writes a part leaves, under this configuration, wherever the walk was
 abbrev pub WritesAt : Config → Result (Unit {0}) Stop → StreamState → StreamState → Walk → Walk → (Config → Path → Output) → Type 0
 WritesAt config result old new from to part = (path : Path) → IsAt config path from → Writes result config path old new to (part config path)
 
@@ -93,6 +93,6 @@ EntersAt config segment from within = (path : Path) → IsAt config path from �
 abbrev pub IsBarred : Config → Stop → Walk → Type 0
 IsBarred config e from = (path : Path) → IsAt config path from → ((e ≡ stop.TooDeep) × (config.max_depth < length path)) ⊎ (e ≡ stop.OutOfMemory)
 
--- the walk is where it was before its last segment, if its text was so long there
+-- the walk is where it was before its last segment, if its text had this length there
 abbrev pub LeavesAt : Config → ℕ → Walk → Walk → Type 0
 LeavesAt config len from to = (path : Path) (segment : List ℕ) → IsAt config (path ++ segment ∷ []) from → len ≡ length (path_after config.form path) → IsAt config path to

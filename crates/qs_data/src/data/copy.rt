@@ -7,10 +7,10 @@ use crate::data::Data;
 use std::alloc::{AllocError, Global};
 
 impl Data {
-    /// Returns data that are equal to these, in memory of their own.
+    /// Returns equal data in memory of its own.
     ///
-    /// It allocates for each text, list and nested value. The one error is that an allocation failed; what was copied is dropped then.
-    /// It takes time with the size of the data, and stack with their depth.
+    /// It allocates for each string, list and nested value. The only error is that an allocation failed; the part that was copied is
+    /// then dropped. Time grows with the size of the data, and stack with its depth.
     ///
     /// ```
     /// let copy = data.try_clone(alloc)?; // copy == data

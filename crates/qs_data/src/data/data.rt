@@ -8,7 +8,8 @@ use crate::data::sameness::same_data;
 
 /// A value as a querystring carries it.
 ///
-/// Two data are equal exactly where they hold the same, whatever room they have to grow: [`equality_of_data`](crate::equality_of_data).
+/// Two `Data` values are equal exactly if they hold the same, whatever the capacity of their vectors: see
+/// [`equality_of_data`](crate::equality_of_data).
 ///
 /// ```
 /// let ids = Data::Seq(vec![in alloc; Data::Unsigned(7)]?); // a list of one number
@@ -31,7 +32,7 @@ pub enum Data {
     Char(char),
     /// A string.
     Text(String),
-    /// A string of bytes, which need not be a text.
+    /// A string of bytes, which need not be UTF-8.
     Bytes(Vec<u8>),
     /// A list of any length.
     Seq(Vec<Data>),
@@ -39,7 +40,7 @@ pub enum Data {
     Tuple(Vec<Data>),
     /// Keys and their values, in order.
     Map(Vec<(Data, Data)>),
-    /// Fields by name, in order; one that was left out is not there.
+    /// Fields by name, in order, without those that were left out.
     Struct(Vec<(String, Data)>),
     /// A value in a type of its own.
     Newtype(Box<Data>),

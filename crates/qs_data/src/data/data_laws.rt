@@ -4,7 +4,8 @@ ghost use Rattle.qs_data.specs.declared.data.data.Data.{Data};
 ghost use Rattle.qs_data.specs.data.Equality.{data_eq};
 ghost use Rattle.qs_data.specs.data.Views.{data_of};
 
-/// Two data are equal by `==` exactly where they are the same data of the definitions: the capacity of a vector doesn't count.
+/// Two `Data` values are equal by `==` exactly if they are the same data of the definitions: the capacity of a vector doesn't
+/// count.
 ///
 /// ```
 /// let same = a == b;

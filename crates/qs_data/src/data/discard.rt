@@ -7,24 +7,24 @@ ghost use Rattle.qs_data.specs.data.internal.Weight.{weight, is_leaf, parts_weig
 use crate::data::Data;
 use std::alloc::Global;
 
-/// What data held.
+/// The parts that data held.
 enum Parts {
-    /// One.
+    /// One value.
     One(Box<Data>),
-    /// Those of a list.
+    /// The items of a list.
     Items(Vec<Data>),
-    /// Those of a map.
+    /// The pairs of a map.
     Pairs(Vec<(Data, Data)>),
-    /// Those of fields.
+    /// The fields of a struct or a struct variant.
     Members(Vec<(String, Data)>),
 }
 
 impl Data {
-    /// Drops the data by a loop over a stack on the heap, so they may be nested to any depth. A plain drop calls itself once for each
-    /// level.
+    /// Drops the data in a loop, with a stack on the heap, so the data may be nested to any depth. A plain drop calls itself once for
+    /// each level.
     ///
-    /// Allocates the stack, which holds lists, maps and the like, and no leaves. One for which an allocation fails is
-    /// dropped plainly. It takes time with the size of the data, and returns no error.
+    /// It allocates the stack, which holds lists, maps and the like, but no leaves. A value for which an allocation fails is dropped
+    /// plainly. Time grows with the size of the data. There is no error.
     ///
     /// ```
     /// let data = deserializer.read(alloc, &Shape::Any)?;
@@ -45,7 +45,7 @@ impl Data {
         stack.destroy_empty();
     }
 
-    // Returns whether these data are of a kind that holds no others.
+    // Returns whether the data is of a kind that holds no other data.
     fn is_leaf(&self) -> bool
         ensures { result ≡ is_leaf self.now }
     {
@@ -56,7 +56,7 @@ impl Data {
         }
     }
 
-    // Returns the data that these data hold, and their allocator. A leaf is dropped.
+    // Returns the parts of the data, and their allocator; None for a leaf, which is dropped.
     #[tactic(auto, using(crate::proofs::lemmas::data::Weights::weights))]
     fn into_parts(self) -> Option<(Global, Parts)>
         ensures { MatchOption result (weight self ≡ 1) (λ p. parts_weight p.1 + 1 ≡ weight self) }
@@ -83,7 +83,7 @@ impl Data {
         }
     }
 
-    // Puts these data on the stack. A leaf is dropped at once, and so are data for which an allocation fails.
+    // Puts the data on the stack. A leaf is dropped at once, and so is data for which an allocation fails.
     fn put_on(self, stack: &mut Vec<Data>)
         ensures leaf { is_leaf self ≡ true → stack.new.items ≡ stack.old.items }
         ensures weight { sum_by weight stack.new.items ≤ sum_by weight stack.old.items + weight self }
@@ -97,7 +97,7 @@ impl Data {
 }
 
 impl Parts {
-    // Puts each of the data on the stack.
+    // Puts each part on the stack.
     fn put_on(self, stack: &mut Vec<Data>)
         ensures { sum_by weight stack.new.items ≤ sum_by weight stack.old.items + parts_weight self }
     {

@@ -1,4 +1,4 @@
-//! Data whose lists can be read back where no index is written.
+//! Data whose lists can be read back if no index is written.
 
 ghost use Rattle.std.specs.Prelude.{◌≡◌, false};
 ghost use Rattle.qs_spec.specs.Listed.{is_listed, are_listed, are_listed_pairs, are_listed_members, is_placed, is_list, are_scalars, is_one_empty};
@@ -10,17 +10,18 @@ use crate::write::Scalar;
 use qs_tree::{ArrayFormat, Config};
 
 impl Data {
-    /// Returns whether the lists in these data can be read back in the array format of the configuration.
+    /// Returns whether the lists in the data can be read back in the array format of the configuration.
     ///
-    /// In the indexed format all can. In the other two, at every depth:
-    /// - each list and tuple has a key, of its own or of what it is in, so it isn't the whole;
-    /// - lists, tuples and tuple variants hold booleans, whole numbers, characters, texts, bytes and unit variants alone;
-    /// - without brackets, none of them is one empty text or byte string, which is written as an empty list is.
+    /// In the indexed format all can. In the other two formats, all of these must hold at every depth:
+    /// - each list and tuple is under a key, directly or within another value, so it isn't the whole;
+    /// - lists, tuples and tuple variants hold only booleans, whole numbers, characters, strings, bytes and unit variants;
+    /// - in the format without brackets, none of them holds just one empty string or byte string, which is written like an empty list.
     ///
-    /// [Plain](Data::is_plain) data for which this holds, written within the depth limit, are read by each shape whose names
-    /// differ and that they [fit](crate::Shape::fits), from their entries in every order that keeps entries with one path as they were.
+    /// If such data is also [plain](Data::is_plain), and is written within the depth limit, each shape that it
+    /// [fits](crate::Shape::fits) and whose names differ reads it back. The entries may be in any order that keeps entries with the
+    /// same path in order.
     ///
-    /// It takes time with the size of the data, and stack with their depth. It doesn't allocate.
+    /// Time grows with the size of the data, and stack with its depth. It doesn't allocate.
     ///
     /// ```
     /// let config = Config::new().array_format(ArrayFormat::EmptyIndexed);
@@ -35,7 +36,7 @@ impl Data {
     }
 }
 
-// Returns whether lists can be read back; `below` says that they are under a key.
+// Returns whether lists can be read back; `below` says whether they are under a key.
 #[cycle(listed)]
 #[tactic(auto, using(crate::proofs::lemmas::data::Levels::levels))]
 fn is_listed(datum: &Data, format: ArrayFormat, below: bool) -> bool
@@ -95,7 +96,7 @@ fn are_listed_members(members: &Vec<(String, Data)>, format: ArrayFormat) -> boo
     true
 }
 
-// Returns whether a list is where it can be written: where no index is written, it needs a key above it.
+// Returns whether a list can be written at its position: if no index is written, it must be under a key.
 fn is_placed(format: ArrayFormat, below: bool) -> bool
     ensures { result ≡ is_placed (array_format_of format) below }
 {
@@ -105,7 +106,7 @@ fn is_placed(format: ArrayFormat, below: bool) -> bool
     }
 }
 
-// Returns whether a list of these elements is read as them.
+// Returns whether a list of these elements is read back as these elements.
 fn is_list(items: &[Data], format: ArrayFormat) -> bool
     ensures { result ≡ is_list (array_format_of format) (values_in items.now) }
 {
@@ -123,7 +124,7 @@ fn are_scalars(items: &[Data]) -> bool
     items.iter().all(|item| Scalar::of(item).is_some())
 }
 
-// Returns whether this is one empty text.
+// Returns whether there is just one item, and its text is empty.
 #[tactic(auto, using(crate::proofs::lemmas::data::Filled::several))]
 fn is_one_empty(items: &[Data]) -> bool
     ensures { result ≡ is_one_empty (values_in items.now) }

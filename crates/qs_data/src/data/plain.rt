@@ -15,24 +15,24 @@ use qs_tree::Config;
 use std::alloc::{AllocError, Global};
 use std::collections::BTreeSet;
 
-/// How many keys of a map, or names of a struct, are compared two by two.
+/// Up to how many keys of a map, or names of a struct, are always compared pairwise.
 const FEW: usize = 16;
 
 impl Data {
-    /// Returns whether these data can be read back: written in the indexed format, within the depth limit, they are read by each shape
-    /// whose names differ and that they [fit](Shape::fits), from their entries in any order.
+    /// Returns whether the data can be read back. If so, and if it is written in the indexed format within the depth limit, each shape
+    /// that it [fits](Shape::fits) and whose names differ reads it back, from its entries in any order.
     ///
-    /// That takes all of these, at every depth:
-    /// - no option is directly in an option, also within newtypes;
-    /// - each struct, struct variant and tuple variant has a part;
-    /// - names are distinct in a struct, and the texts of keys in a map, whose keys are not bytes;
-    /// - names and keys are not empty, nor digits after a leading zero; at form encoding they hold no bracket;
+    /// All of these must hold at every depth:
+    /// - no option holds an option, directly or through newtypes;
+    /// - each struct, struct variant and tuple variant has at least one part;
+    /// - the names in a struct differ, and so do the texts of the keys in a map; no key is a byte string;
+    /// - no name or key is empty, or is a zero with further digits after it; at form encoding none holds a bracket;
     /// - a unit variant has a name;
     /// - a list has at most 4,294,967,295 elements.
     ///
-    /// Of the configuration only the encoding matters. It takes time with the size of the data, and with the logarithm of how many
-    /// keys a map has, and stack with their depth. More than 16 keys of a map, or names of a struct, are put into a sorted set,
-    /// which allocates; where an allocation fails they are compared two by two.
+    /// Of the configuration, only the encoding matters. Time grows with the size of the data and the logarithm of the number of keys
+    /// in a map, and stack with the depth of the data. If a map has more than 16 keys, or a struct more than 16 names, they are put
+    /// into a sorted set, which allocates. If an allocation fails, they are compared pairwise.
     ///
     /// ```
     /// if !data.is_plain(config) {
@@ -46,7 +46,7 @@ impl Data {
     }
 }
 
-// Returns whether data can be read back, at form encoding or without it.
+// Returns whether data can be read back, with form encoding or without it.
 #[cycle(plain)]
 #[tactic(auto, using(crate::proofs::lemmas::data::Levels::levels))]
 fn is_plain(datum: &Data, form: bool) -> bool
@@ -139,7 +139,7 @@ fn has_values(items: &[Data]) -> bool
     !items.is_empty()
 }
 
-// Returns whether the data are an option, also within newtypes.
+// Returns whether the data is an option, possibly within newtypes.
 fn is_optional(datum: &Data) -> bool
     ensures { result ≡ is_optional (data_of datum.now) }
 {
@@ -159,7 +159,7 @@ fn is_plain_name(name: &[u8], form: bool) -> bool
         && !(form && holds_bracket(name))
 }
 
-// Returns whether these are digits, at least one.
+// Returns whether the bytes are digits, at least one.
 fn is_numeral(bytes: &[u8]) -> bool
     ensures { result ≡ is_numeral bytes.now }
 {
@@ -203,7 +203,7 @@ fn written_keys_differ(pairs: &Vec<(Data, Data)>) -> bool
     few_keys_differ(pairs)
 }
 
-// Returns whether keys are written differently, by a sorted set of their texts. Returns an error only where an allocation failed.
+// Returns whether keys are written differently, by a sorted set of their texts. Returns an error only if an allocation failed.
 fn many_keys_differ(pairs: &[(Data, Data)], alloc: Global) -> Result<bool, AllocError>
     ensures { IfOk result (λ differ. differ ≡ written_keys_differ (pairs_in pairs.now)) }
 {
@@ -245,7 +245,7 @@ fn is_written_key(text: &[u8], pairs: &[(Data, Data)]) -> bool
     false
 }
 
-/// Adds a text to a set, and returns whether it wasn't there.
+/// Adds a text to a set, and returns whether it is new.
 pub(crate) fn add_text(
     text: &[u8],
     alloc: Global,
@@ -269,7 +269,7 @@ fn member_names_differ(members: &Vec<(String, Data)>) -> bool
     few_names_differ(members)
 }
 
-// Returns whether the names of fields differ, by a sorted set of them. Returns an error only where an allocation failed.
+// Returns whether the names of fields differ, by a sorted set of them. Returns an error only if an allocation failed.
 fn many_names_differ(members: &[(String, Data)], alloc: Global) -> Result<bool, AllocError>
     ensures { IfOk result (λ differ. differ ≡ member_names_differ (members_in members.now)) }
 {

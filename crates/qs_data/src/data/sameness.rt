@@ -1,4 +1,4 @@
-//! When two data are the same.
+//! When two values are the same.
 
 ghost use Rattle.std.specs.Prelude.{◌≡◌};
 ghost use Rattle.qs_data.specs.data.internal.Equality.{data_same, values_same, pairs_same, members_same};
@@ -6,7 +6,7 @@ ghost use Rattle.qs_data.specs.data.Views.{data_of, values_in, pairs_in, members
 
 use crate::data::Data;
 
-/// Returns whether two data are of one kind and hold the same.
+/// Returns whether two values are of the same kind and hold the same.
 #[cycle(sameness)]
 #[tactic(auto, using(crate::proofs::lemmas::data::Levels::levels, crate::proofs::lemmas::data::Levels::data_of_map, crate::proofs::lemmas::data::Weights::weights))]
 pub(crate) fn same_data(left: &Data, right: &Data) -> bool

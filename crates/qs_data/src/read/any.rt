@@ -14,8 +14,8 @@ use qs_tree::ParsedValue;
 use std::alloc::Global;
 use std::mem;
 
-/// Reads whatever is there: a text as a text, and an empty one where nothing follows `=`. A sequence is a list, and so is a map
-/// whose keys are all integers; another map keeps its keys as texts.
+/// Reads whatever is there: a text as a text, and an empty value as an empty text. A sequence is a list, and so is a map whose
+/// keys are all integers; any other map keeps its keys as texts.
 ///
 /// Iterative: it takes constant stack at any depth, and keeps the lists and maps around on the heap.
 #[inline(always)]
@@ -28,7 +28,7 @@ pub(crate) fn read_any(alloc: Global, value: &ParsedValue<'_>) -> Result<Data>
     }
 }
 
-// Reads a list or a map. Those around the innermost one are on a stack.
+// Reads a list or a map. The lists and maps around the innermost one are on a stack.
 fn read_frame(alloc: Global, outermost: Frame<'_, '_>) -> Result<Data>
     ensures { ReadGives data_of (frame_is_text outermost.entry) result (frame_data outermost.entry) }
 {

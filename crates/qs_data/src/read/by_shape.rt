@@ -37,7 +37,7 @@ use std::alloc::Global;
 /// ```
 #[derive(Clone, Copy)]
 pub struct Reader {
-    /// Where memory comes from.
+    /// The allocator.
     pub alloc: Global,
     /// Whether several values for a scalar are rejected.
     pub reject_duplicates: bool,
@@ -60,7 +60,7 @@ pub(crate) fn read_node(reader: Reader, shape: &Shape, value: &ParsedValue<'_>) 
     read_inline(reader, shape, value)
 }
 
-/// Reads a value by a shape as [`read_node`] does, inlined: so the data of a field are moved once less.
+/// Reads a value by a shape like [`read_node`], but inlined, so the data of a field is moved once less.
 #[cycle(read)]
 #[inline(always)]
 #[tactic(auto, using(crate::proofs::lemmas::data::Levels::levels), unfolding(qs_spec::specs::internal::ReadFunction::reads))]
@@ -159,7 +159,7 @@ fn newtype_data(reader: Reader, part: &Shape, value: &ParsedValue<'_>) -> Result
     Ok(Data::Newtype(Box::new(reader.alloc, held)?))
 }
 
-// Reads a value that may be absent: `None` where there is no value. An empty value is `Some` of what the shape reads from no value.
+// Reads a value that may be absent: `None` if there is no value. An empty value is `Some` of what the shape reads from no value.
 #[cycle(read)]
 fn read_option(reader: Reader, part: &Shape, value: &ParsedValue<'_>) -> Result<Data>
     ensures { ReadGives data_of (is_text (tree_of value.now)) result (read_option (reads reader.reject_duplicates (shape_of part.now)) (tree_of value.now)) }
@@ -178,7 +178,7 @@ fn read_option(reader: Reader, part: &Shape, value: &ParsedValue<'_>) -> Result<
     }
 }
 
-// Passes over whatever is there.
+// Ignores whatever is there.
 fn read_ignored(alloc: Global, value: &ParsedValue<'_>) -> Result<Data>
     ensures { ReadGives data_of true result (read_ignored (tree_of value.now)) }
 {

@@ -1,4 +1,4 @@
-//! The deserializer: a querystring that was parsed, and is to be read by a shape.
+//! The deserializer: a parsed querystring, to be read by a shape.
 
 ghost use Rattle.std.specs.Prelude.{◌≡◌, ◌≢◌, ◌+◌, ◌≤◌, ◌⊎◌, ℕ, List, [], true, length, IfOk, IsOk};
 ghost use Rattle.qs_spec.specs.Config.{default};
@@ -22,7 +22,7 @@ use crate::shape::Shape;
 use qs_tree::{Config, ParsedValue, Result, parse};
 use std::alloc::Global;
 
-/// A querystring that was parsed, to be read by a [`Shape`].
+/// A parsed querystring, to be read by a [`Shape`].
 ///
 /// ```
 /// let deserializer = Deserializer::with_config(alloc, Config::new(), b"age=24&name=Alice")?;
@@ -37,7 +37,7 @@ pub struct Deserializer<'qs> {
 impl<'qs> Deserializer<'qs> {
     /// Returns the querystring, parsed with the default configuration.
     ///
-    /// The errors are those of [`with_config`](Deserializer::with_config). It allocates, and takes time, as that call does.
+    /// The errors, the allocations and the time are the same as for [`with_config`](Deserializer::with_config).
     ///
     /// ```
     /// let deserializer = Deserializer::new(alloc, b"age=24&name=Alice")?;
@@ -55,14 +55,14 @@ impl<'qs> Deserializer<'qs> {
 
     /// Returns the querystring, parsed.
     ///
-    /// It is rejected, with [`Parse`](qs_tree::Error::Parse) and the position of the first error, exactly where it has no tree. The only
-    /// other error is [`OutOfMemory`](qs_tree::Error::OutOfMemory), where an allocation failed. It allocates as
-    /// [`parse`](qs_tree::parse) does: texts and keys that hold neither `+` nor `%` are borrowed from the input. The time grows with the
-    /// input's length and the depth of its keys.
+    /// It is rejected, with [`Parse`](qs_tree::Error::Parse) and the position of the first error, exactly if it has no tree. The only other
+    /// error is [`OutOfMemory`](qs_tree::Error::OutOfMemory), if an allocation failed. It allocates like [`parse`](qs_tree::parse): strings
+    /// and keys that hold neither `+` nor `%` are borrowed from the input. The time grows with the input's length and the depth of its
+    /// keys.
     ///
-    /// The clauses are those of [`parse`](qs_tree::parse) about the tree. If there is a pair, an input with the same pairs, in another order
-    /// that keeps those with overlapping paths in theirs, has the same tree but for what is borrowed, or is rejected too (`equivalent`).
-    /// Steps aren't counted: [`parse_with`](qs_tree::parse_with) counts them.
+    /// The clauses about the tree are the same as for [`parse`](qs_tree::parse). If there is a pair, an input with the same pairs in
+    /// another order has the same tree, except for what is borrowed, or is rejected too (`equivalent`), provided that pairs with
+    /// overlapping paths keep their order. Steps aren't counted: [`parse_with`](qs_tree::parse_with) counts them.
     ///
     /// ```
     /// let config = Config::new().use_form_encoding(true);
@@ -91,22 +91,22 @@ impl<'qs> Deserializer<'qs> {
 
     /// Reads the querystring by a shape whose names differ.
     ///
-    /// The data are those that docs/QUERYSTRINGS.md has for the shape and the tree. Where there are none, the error is
-    /// [`Custom`](qs_tree::Error::Custom) with the first mismatch, or [`Utf8`](qs_tree::Error::Utf8) where a text that is read isn't
-    /// UTF-8; where an allocation failed, it is [`OutOfMemory`](qs_tree::Error::OutOfMemory). Fields are read in the shape's order, then
-    /// the other keys are looked at.
+    /// The data is what docs/QUERYSTRINGS.md gives for the shape and the tree. If it gives none, the error is
+    /// [`Custom`](qs_tree::Error::Custom) with the first mismatch, or [`Utf8`](qs_tree::Error::Utf8) if a string that is read isn't UTF-8.
+    /// If an allocation failed, it is [`OutOfMemory`](qs_tree::Error::OutOfMemory). Fields are read in the shape's order; then the other
+    /// keys are looked at.
     ///
-    /// The items of a list are read in their order, and the pairs of a map in the order of its keys, of each the key first. The
-    /// error of a key that holds `[` has a hint at form encoding.
+    /// The items of a list are read in order, and the pairs of a map in the order of its keys, each key before its value. The error of a
+    /// key that holds `[` has a hint to use form encoding.
     ///
-    /// Where the querystring was written of [plain](Data::is_plain) data that [fit](Shape::fits) the shape, under the same
-    /// configuration, these data are read back: in the indexed format from their entries in any order, and in each format where
-    /// their [lists can be](Data::is_listed) from an order that keeps entries with one path as they were. A map has its pairs in
-    /// the order of its keys.
+    /// If the querystring was written from [plain](Data::is_plain) data that [fits](Shape::fits) the shape, under the same configuration,
+    /// that data is read back. In the indexed format the entries may be in any order. In each format for which
+    /// [`is_listed`](Data::is_listed) holds, they may be in any order that keeps entries with the same path in order. A map has its pairs
+    /// in the order of its keys.
     ///
-    /// Memory is allocated for what the data keep, for a struct with room for each field of its shape, and for an error's message. A
-    /// unit, a boolean, a number or a character is read without an allocation. The time grows with the tree and the data: a field is
-    /// found by two look-ups at most.
+    /// Memory is allocated for what the data keeps, for a struct with capacity for each field of its shape, and for an error's message. A
+    /// unit, a boolean, a number or a character is read without an allocation. The time grows with the tree and the data: a field is found
+    /// by at most two look-ups.
     ///
     /// ```
     /// let numbers = Shape::Seq(Box::new(alloc, Shape::U8)?);

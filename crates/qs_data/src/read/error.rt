@@ -11,10 +11,10 @@ use std::alloc::{AllocError, AllocFailed, Global};
 use std::fmt::Display;
 use std::str::Utf8Error;
 
-/// What a function that reads returns: a value, or why there is none.
+/// The result of a function that reads: a value, or why there is none.
 pub(crate) type Result<T, E = ReadError> = std::result::Result<T, E>;
 
-/// Those errors that reading has. Each level of a tree passes them on, so they are a third as long as an [`Error`].
+/// The errors of reading. Each level of a tree passes them on, so they take a third of the space of an [`Error`].
 ///
 /// ```
 /// Err(error) => Err(Error::from(error)), // the public error
@@ -30,7 +30,8 @@ pub enum ReadError {
 }
 
 impl ReadError {
-    /// Returns an error of reading as reading passes it on: the same kind, with what it holds. It doesn't allocate.
+    /// Converts an error of reading to the type that reading passes on: the same kind, with the same contents. It
+    /// doesn't allocate.
     ///
     /// ```
     /// Found::Several => Err(ReadError::of(reader.duplicate_field("1"))),
@@ -48,7 +49,7 @@ impl ReadError {
         }
     }
 
-    /// Returns a result of reading with its error as reading passes it on. It doesn't allocate.
+    /// Converts the error of a result, as [`of`](ReadError::of) does. It doesn't allocate.
     ///
     /// ```
     /// Found::One(node) => ReadError::of_result(T::from_node(reader, node)),

@@ -54,8 +54,8 @@ pub(crate) fn read_struct(
     }
 }
 
-/// Reads the fields by their names, and then tests all keys: for one that no field has, where such are rejected, and for one that isn't
-/// a text.
+/// Reads the fields by their names, and then tests all keys: each must be a field's name, if unknown keys are rejected, and each must
+/// be UTF-8.
 #[cycle(read)]
 #[tactic(auto, using(crate::proofs::lemmas::read::Entries::keys_bad))]
 pub(crate) fn read_entries(

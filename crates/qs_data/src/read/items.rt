@@ -28,11 +28,11 @@ use std::alloc::Global;
 /// ```
 #[derive(Clone, Copy)]
 pub enum Items<'t, 'qs> {
-    /// None.
+    /// No items.
     Empty,
-    /// A text alone.
+    /// A string, as the only item.
     One(&'t ParsedValue<'qs>),
-    /// Those of a sequence.
+    /// The elements of a sequence.
     Sequence(&'t [ParsedValue<'qs>]),
     /// The values of a map whose keys are integers.
     Places(&'t ParsedMap<'qs>),
@@ -78,7 +78,7 @@ pub(crate) fn are_integers(map: &ParsedMap<'_>) -> bool
 }
 
 impl<'t, 'qs> Items<'t, 'qs> {
-    /// Returns how many items there are, in constant time.
+    /// Returns the number of items, in constant time.
     ///
     /// ```
     /// let count = reader.items(&ParsedValue::Null)?.len(); // 0
@@ -95,7 +95,8 @@ impl<'t, 'qs> Items<'t, 'qs> {
         }
     }
 
-    /// Returns the item at an index, if there are so many; rejected where a map has another key there.
+    /// Returns the item at an index, or `None` if the index is out of range. It is an error if a map has
+    /// another key there.
     #[inline(always)]
     #[tactic(auto, using(crate::proofs::lemmas::read::Items::item_first))]
     pub(crate) fn at(self, alloc: Global, place: usize) -> Result<Option<&'t ParsedValue<'qs>>>
@@ -115,8 +116,8 @@ impl<'t, 'qs> Items<'t, 'qs> {
         }
     }
 
-    /// Returns the item at an index, if there are so many. Where a map has another key there, the error is
-    /// [`Custom`](qs_tree::Error::Custom), for which it allocates. It takes constant time.
+    /// Returns the item at an index, or `None` if the index is out of range. If a map has another key there,
+    /// the error is [`Custom`](qs_tree::Error::Custom), for which it allocates. It takes constant time.
     ///
     /// ```
     /// let Some(first) = items.get(reader, 0)? else {

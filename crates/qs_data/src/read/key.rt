@@ -19,7 +19,8 @@ use itoa::Buffer;
 use qs_tree::Key;
 use std::alloc::Global;
 
-/// Reads a key by its text; that of a number is its digits. The error of a key that holds a bracket has a hint.
+/// Reads a key from its text; the text of a number is its digits. If the key holds a bracket, the error has a
+/// hint.
 #[inline(always)]
 pub(crate) fn read_key(alloc: Global, shape: &KeyShape, key: &Key<'_>) -> Result<Data>
     ensures { ReadGives data_of (is_utf8 (segment_text (segment_of_key key.now))) result
@@ -40,7 +41,8 @@ pub(crate) fn read_key(alloc: Global, shape: &KeyShape, key: &Key<'_>) -> Result
     }
 }
 
-/// Returns the text of a key; that of a number is its digits. The error of a key that holds a bracket has a hint.
+/// Returns the text of a key; the text of a number is its digits. If the key holds a bracket, the error has a
+/// hint.
 #[tactic(auto, using(crate::proofs::lemmas::read::FirstEntry::utf8_is, crate::proofs::lemmas::read::Numbers::decimal_text))]
 pub(crate) fn key_string(alloc: Global, key: &Key<'_>) -> Result<String>
     ensures { ReadGives string_bytes (is_utf8 (segment_text (segment_of_key key.now))) result (utf8_text (segment_text (segment_of_key key.now))) }

@@ -30,14 +30,14 @@ pub struct BrokenKey<'t> {
 }
 
 impl BrokenKey<'_> {
-    /// Returns the error that says so.
+    /// Returns the error of this key.
     pub(crate) fn error(self, alloc: Global) -> ReadError
         ensures { IsKeyError self.entry.text.now (Utf8 self.entry.cause) result }
     {
         key_error(alloc, self.text, ReadError::Utf8(self.cause))
     }
 
-    /// Returns the error that says so: [`Utf8`](qs_tree::Error::Utf8), or [`Custom`](qs_tree::Error::Custom) with a hint where the key holds a
+    /// Returns the error of this key: [`Utf8`](qs_tree::Error::Utf8), or [`Custom`](qs_tree::Error::Custom) with a hint if the key holds a
     /// bracket. It allocates for the hint.
     ///
     /// ```
@@ -65,7 +65,7 @@ pub(crate) fn test_keys<'t>(entries: Entries<'t, '_>) -> Result<(), BrokenKey<'t
     }
 }
 
-// Tests the keys of a map. All keys are looked at, so their numbers are known to have 32 bits whatever comes of the test.
+// Tests the keys of a map. It looks at all keys, so the integers among them are known to have 32 bits whatever the result.
 #[tactic(auto, using(crate::proofs::lemmas::read::Entries::after_none, crate::proofs::lemmas::read::Entries::after_all, crate::proofs::lemmas::read::Entries::tested_all, crate::proofs::lemmas::read::Entries::tested_done, crate::proofs::lemmas::read::Entries::fit_done))]
 fn test_map<'t>(map: &'t ParsedMap<'_>) -> Result<(), BrokenKey<'t>>
     ensures text { PassesTest result (keys_are_text (entries_of_map map.now)) }
@@ -81,7 +81,7 @@ fn test_map<'t>(map: &'t ParsedMap<'_>) -> Result<(), BrokenKey<'t>>
     tested
 }
 
-/// Returns whether the keys of a map are UTF-8. All keys are looked at, as by `test_map`.
+/// Returns whether the keys of a map are UTF-8. It looks at all keys, as `test_map` does.
 #[tactic(auto, using(crate::proofs::lemmas::read::Entries::after_none, crate::proofs::lemmas::read::Entries::after_all, crate::proofs::lemmas::read::Entries::passed_all, crate::proofs::lemmas::read::Entries::passed_done, crate::proofs::lemmas::read::Entries::passed_fit))]
 #[inline(always)]
 pub(crate) fn keys_are_text(map: &ParsedMap<'_>) -> bool

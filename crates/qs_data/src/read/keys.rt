@@ -18,7 +18,7 @@ use itoa::Buffer;
 use qs_tree::{Error, Key, ParsedMap, ParsedValue};
 use std::alloc::Global;
 
-/// Keys with their values, of which the fields of a struct and the pairs of a map are read.
+/// Keys with their values, from which the fields of a struct or the pairs of a map are read.
 ///
 /// ```
 /// let entries = reader.entries(node)?;
@@ -33,9 +33,9 @@ use std::alloc::Global;
 /// ```
 #[derive(Clone, Copy)]
 pub enum Entries<'t, 'qs> {
-    /// None.
+    /// No entries.
     Empty,
-    /// Those of a map.
+    /// The entries of a map.
     Map(&'t ParsedMap<'qs>),
     /// A leaf under the empty string key.
     Leaf(&'t ParsedValue<'qs>),
@@ -56,16 +56,16 @@ pub enum Found<'t, 'qs> {
     Missing,
     /// This value.
     One(&'t ParsedValue<'qs>),
-    /// Two values, one under the string key and one under the integer key that is written so.
+    /// Two values: one under the string key, and one under the integer key with the same digits.
     Several,
 }
 
 impl<'t, 'qs> Entries<'t, 'qs> {
-    /// Looks up the value under a name: under the text, or under the integer that is written so. It makes two look-ups by binary
-    /// search at most, and doesn't allocate.
+    /// Looks up the value under a name: under the string key, or under the integer key whose digits are the name. It makes at most two
+    /// look-ups by binary search, and doesn't allocate.
     ///
-    /// The clause asks that the integer keys have 32 bits, as those of every tree have. [`test`](Entries::test) and
-    /// [`keys_are_text`](Entries::keys_are_text) show it, so one of them is called first.
+    /// The clause requires integer keys of 32 bits, which every tree has. [`test`](Entries::test) and
+    /// [`keys_are_text`](Entries::keys_are_text) show this, so call one of them first.
     ///
     /// ```
     /// if let Found::One(node) = entries.find("age") {
@@ -80,7 +80,7 @@ impl<'t, 'qs> Entries<'t, 'qs> {
         find(self, name)
     }
 
-    /// Tests whether all keys are UTF-8, and returns the first that isn't. It looks at each key once, and doesn't allocate.
+    /// Tests whether all keys are UTF-8. If not, the error is the first key that isn't. It looks at each key once, and doesn't allocate.
     ///
     /// ```
     /// entries.test().map_err(|broken| broken.into_error(alloc))?;
@@ -92,7 +92,7 @@ impl<'t, 'qs> Entries<'t, 'qs> {
         test_keys(self)
     }
 
-    /// Returns whether all keys are UTF-8. It is [`test`](Entries::test) without the key that isn't, and takes less time.
+    /// Returns whether all keys are UTF-8. It takes less time than [`test`](Entries::test), which also returns the broken key.
     ///
     /// ```
     /// if !entries.keys_are_text() {
@@ -112,7 +112,7 @@ impl<'t, 'qs> Entries<'t, 'qs> {
         }
     }
 
-    /// Returns how many entries there are, in constant time.
+    /// Returns the number of entries, in constant time.
     ///
     /// ```
     /// let count = Entries::Map(&map).len();
@@ -127,11 +127,11 @@ impl<'t, 'qs> Entries<'t, 'qs> {
         }
     }
 
-    /// Returns the entry at an index, in the order of the keys, if there are so many: its key as a string, an integer by its digits, and its
-    /// value. It allocates the string.
+    /// Returns the entry at an index in the order of the keys, or `None` if the index is out of range: its key as a string, with an
+    /// integer as its digits, and its value. It allocates the string.
     ///
-    /// Where the key isn't UTF-8, the error is [`Utf8`](qs_tree::Error::Utf8), or [`Custom`](qs_tree::Error::Custom) with a hint if it holds a
-    /// bracket.
+    /// If the key isn't UTF-8, the error is [`Utf8`](qs_tree::Error::Utf8), or [`Custom`](qs_tree::Error::Custom) with a hint if the key
+    /// holds a bracket.
     ///
     /// ```
     /// let Some((key, node)) = entries.get(reader, 0)? else {
@@ -199,7 +199,7 @@ pub(crate) fn find<'t, 'qs>(entries: Entries<'t, 'qs>, name: &str) -> Found<'t, 
     }
 }
 
-// Returns the value under a name in a map: by the text, and by the integer that is written so.
+// Returns the value under a name in a map: by the string key, and by the integer key whose digits are the name.
 #[inline(always)]
 fn find_in_map<'t, 'qs>(map: &'t ParsedMap<'qs>, name: &str) -> Found<'t, 'qs>
     requires { NumbersFit (entries_of_map map.now) }
@@ -212,7 +212,7 @@ fn find_in_map<'t, 'qs>(map: &'t ParsedMap<'qs>, name: &str) -> Found<'t, 'qs>
     }
 }
 
-// Returns the value that is there, of two that may be.
+// Returns what two look-ups found: nothing, one value, or two.
 #[inline(always)]
 fn either<'t, 'qs>(
     a: Option<&'t ParsedValue<'qs>>,
@@ -227,7 +227,7 @@ fn either<'t, 'qs>(
     }
 }
 
-// Returns the number whose digits the name is, if it is one's. Most names don't begin with a digit, and aren't parsed.
+// Returns the number whose digits are the name, if there is one. Most names don't begin with a digit, and aren't parsed.
 #[inline(always)]
 fn number_of(name: &str) -> Option<u32>
     ensures { ParsesNumber result name.now }
@@ -239,7 +239,7 @@ fn number_of(name: &str) -> Option<u32>
     }
 }
 
-// Returns the number whose digits the name is, if it is one's.
+// Returns the number whose digits are the name, if there is one.
 #[inline(never)]
 fn parsed_number(name: &str) -> Option<u32>
     ensures { ParsesNumber result name.now }
@@ -257,7 +257,7 @@ fn parsed_number(name: &str) -> Option<u32>
     }
 }
 
-// Returns whether a text begins with a digit, as the digits of each number do.
+// Returns whether a text begins with a digit, as every number does.
 #[inline(always)]
 #[tactic(auto, using(crate::proofs::lemmas::read::Numbers::decimal_begins))]
 fn begins_with_a_digit(text: &[u8]) -> bool

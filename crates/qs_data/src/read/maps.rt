@@ -17,7 +17,7 @@ use crate::read::message::{Expected, Message};
 use crate::shape::{KeyShape, Shape};
 use qs_tree::{ParsedMap, ParsedValue};
 
-/// Reads the pairs of a node: those of a map, and a text under the empty key.
+/// Reads the pairs of a node: the pairs of a map, or a text under the empty key.
 #[cycle(read)]
 #[tactic(auto, unfolding(qs_spec::specs::internal::ReadFunction::read_map))]
 pub(crate) fn read_map(
@@ -41,7 +41,7 @@ pub(crate) fn read_map(
     }
 }
 
-/// Reads the pairs of a map, in the order of its keys: of each the key first, and then the value.
+/// Reads the pairs of a map, in the order of its keys, each key before its value.
 #[cycle(read)]
 pub(crate) fn read_pairs(
     reader: Reader,

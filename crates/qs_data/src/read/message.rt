@@ -14,14 +14,14 @@ use std::fmt;
 pub(crate) enum Message<'a> {
     /// The tree holds nothing at all.
     Uninitialized,
-    /// A key that isn't the index that is due.
+    /// A key that isn't the next index.
     MissingIndex {
         due: usize,
         index: u32,
     },
     /// More items than there are indices.
     TooManyElements,
-    /// Several values where one is asked for.
+    /// Several values, but one is expected.
     SeveralValues,
     /// Another kind of value, or a string that can't be parsed as one.
     InvalidType {
@@ -36,11 +36,11 @@ pub(crate) enum Message<'a> {
     UnknownField(&'a str),
     /// No variant of this name.
     UnknownVariant(&'a str),
-    /// Too few items: this many are there.
+    /// Too few items: only this many.
     InvalidLength(usize),
 }
 
-/// What is there instead.
+/// What was found instead.
 #[derive(Clone, Copy)]
 pub(crate) enum Unexpected {
     /// A key without a value.
@@ -55,7 +55,7 @@ pub(crate) enum Unexpected {
     UnitVariant,
 }
 
-/// What a shape asks for.
+/// What a shape expects.
 #[derive(Clone, Copy)]
 pub(crate) enum Expected {
     Unit,
@@ -83,7 +83,7 @@ impl Message<'_> {
         ReadError::saying(alloc, self)
     }
 
-    /// Returns the error of a node of another kind than the one that is asked for.
+    /// Returns the error of a node that isn't of the expected kind.
     pub(crate) fn mismatch(alloc: Global, value: &ParsedValue<'_>, expected: Expected) -> ReadError
         ensures { ReadIsCustom result }
     {
@@ -97,7 +97,7 @@ impl Message<'_> {
         Message::InvalidType { found, expected }.error(alloc)
     }
 
-    /// Returns the error of a string that can't be parsed as what is asked for.
+    /// Returns the error of a string that can't be parsed as what is expected.
     pub(crate) fn unreadable(alloc: Global, expected: Expected) -> ReadError
         ensures { ReadIsCustom result }
     {
@@ -106,7 +106,7 @@ impl Message<'_> {
     }
 }
 
-/// Returns the error of a key that can't be read, from why it can't: a hint follows it where the key holds a bracket.
+/// Returns the error of a key that can't be read, with a hint after it if the key holds a bracket.
 pub(crate) fn key_error(alloc: Global, key: &[u8], error: ReadError) -> ReadError
     ensures { IsKeyError key.now error result }
 {

@@ -30,18 +30,18 @@ use std::mem;
 pub(crate) enum Visited<'t, 'qs> {
     /// A leaf, which is read at once.
     Leaf(Data),
-    /// A list or a map, of which nothing is read yet.
+    /// A list or a map that isn't read yet.
     Inner(Frame<'t, 'qs>),
 }
 
-/// A list or a map of which a first part is read.
+/// A list or a map that is partly read.
 #[derive(Drop)]
 pub(crate) enum Frame<'t, 'qs> {
     List(ListFrame<'t, 'qs>),
     Map(MapFrame<'t, 'qs>),
 }
 
-/// A list of which the first items are read.
+/// A list whose first items are read.
 pub(crate) struct ListFrame<'t, 'qs> {
     items: Items<'t, 'qs>,
     /// The index of the first item that wasn't visited.
@@ -49,7 +49,7 @@ pub(crate) struct ListFrame<'t, 'qs> {
     values: Vec<Data>,
 }
 
-/// A map of which the first entries are read.
+/// A map whose first entries are read.
 pub(crate) struct MapFrame<'t, 'qs> {
     entries: &'t ParsedMap<'qs>,
     /// The index of the first entry that wasn't visited.
@@ -59,7 +59,7 @@ pub(crate) struct MapFrame<'t, 'qs> {
     pairs: Vec<(Data, Data)>,
 }
 
-/// Reads a leaf, or begins a list or a map. A text is copied, which allocates, as an error's message does; nothing else does.
+/// Reads a leaf, or begins a list or a map. It allocates only to copy a text and for an error's message.
 #[tactic(auto, unfolding(qs_spec::specs::internal::ReadFunction::any_data))]
 pub(crate) fn visit<'t, 'qs>(alloc: Global, value: &'t ParsedValue<'qs>) -> Result<Visited<'t, 'qs>>
     ensures { Visits result (tree_of value.now) }
@@ -84,7 +84,7 @@ pub(crate) fn visit<'t, 'qs>(alloc: Global, value: &'t ParsedValue<'qs>) -> Resu
 }
 
 impl<'t, 'qs> Frame<'t, 'qs> {
-    // Returns a list of which nothing is read yet.
+    // Returns a list that isn't read yet.
     fn list(alloc: Global, items: Items<'t, 'qs>) -> Self
         ensures value { frame_data result ≡ option_map (λ ds. sequence (values_of ds)) (read_each any_data (items_view items.entry)) }
         ensures text { frame_is_text result ≡ are_text (items_view items.entry) }
@@ -97,7 +97,7 @@ impl<'t, 'qs> Frame<'t, 'qs> {
         })
     }
 
-    // Returns a map of which nothing is read yet.
+    // Returns a map that isn't read yet.
     fn map(alloc: Global, entries: &'t ParsedMap<'qs>) -> Self
         ensures value { frame_data result ≡ option_map (λ ps. mapping (pairs_of ps)) (read_pairs text any_data (entries_of_map entries.now)) }
         ensures text { frame_is_text result ≡ entries_are_text (entries_of_map entries.now) }
@@ -111,7 +111,7 @@ impl<'t, 'qs> Frame<'t, 'qs> {
         })
     }
 
-    /// Reads leaves up to the next list or map, and returns that; nothing where the list or map ends.
+    /// Reads leaves up to the next inner list or map, and returns it. None if there is no further one.
     pub fn advance(&mut self, alloc: Global) -> Result<Option<Frame<'t, 'qs>>>
         ensures { Advances result self.old self.new }
     {
@@ -121,7 +121,7 @@ impl<'t, 'qs> Frame<'t, 'qs> {
         }
     }
 
-    /// Adds what the list or map that came last was read as.
+    /// Adds the value of the inner list or map that was read last.
     pub fn add(&mut self, value: Data) -> Result<()>
         ensures ok { OnOk result (Extends (data_of value) self.old self.new) }
         ensures err { IfErr result (λ e. e ≡ OutOfMemory) }
@@ -132,7 +132,7 @@ impl<'t, 'qs> Frame<'t, 'qs> {
         }
     }
 
-    /// Returns what was read, where nothing is left.
+    /// Returns what was read, once nothing is left.
     pub fn done(self) -> Data
         ensures { data_of result ≡ done_of self.entry }
     {

@@ -24,9 +24,9 @@ use std::alloc::Global;
 
 /// Reads one node of a tree by a shape, as [`Deserializer::read`](crate::Deserializer::read) does with the whole tree.
 ///
-/// The data are those that docs/QUERYSTRINGS.md has for the shape and the node; of variants with one name the first counts. Where there
-/// are none, that is [`Custom`](qs_tree::Error::Custom), or [`Utf8`](qs_tree::Error::Utf8) where a text that is read isn't UTF-8. It
-/// allocates for what the data keep and for an error's message, and takes time as that call does.
+/// The data is what docs/QUERYSTRINGS.md gives for the shape and the node; of several variants with the same name, the first counts. If
+/// it gives none, the error is [`Custom`](qs_tree::Error::Custom), or [`Utf8`](qs_tree::Error::Utf8) if a string that is read isn't
+/// UTF-8. It allocates for what the data keeps and for an error's message, and takes time like that call.
 ///
 /// ```
 /// let age = read_value(alloc, Config::new(), &Shape::U8, &ParsedValue::Null); // an error: u8 is expected
@@ -45,7 +45,8 @@ pub fn read_value(
     read(Reader::new(alloc, config), shape, node)
 }
 
-/// Looks up the value under a name, as a field of a struct is looked up: under the text, or under the integer that is written so.
+/// Looks up the value under a name, as a field of a struct is looked up: under the string key, or under the integer key whose digits
+/// are the name.
 ///
 /// It doesn't allocate, and looks at each key once.
 ///

@@ -1,4 +1,4 @@
-//! Reading a node without a shape, for types that read themselves: the errors, and the data of a part.
+//! Reading a node step by step, for types that read themselves: its parts, and the errors.
 
 ghost use Rattle.std.specs.Prelude.{◌≡◌, IfOk, None, true, false, option_and_then, option_map};
 ghost use Rattle.std.specs.Str.{is_utf8};
@@ -34,7 +34,7 @@ use std::alloc::Global;
 
 #[tactic(auto, unfolding(qs_spec::specs::internal::ReadFunction::reads))]
 impl Reader {
-    /// Returns how a configuration reads. It doesn't allocate.
+    /// Returns a reader for a configuration. It doesn't allocate.
     ///
     /// ```
     /// let reader = Reader::new(alloc, Config::new());
@@ -49,7 +49,7 @@ impl Reader {
         }
     }
 
-    /// Reads a node by a shape, as [`read_value`](crate::read_value) does, with its errors.
+    /// Reads a node by a shape, like [`read_value`](crate::read_value), with the same errors.
     ///
     /// ```
     /// let datum = reader.read(&shape, node)?;
@@ -60,7 +60,7 @@ impl Reader {
         read(self, shape, node)
     }
 
-    /// Reads the unit, as by its shape. It allocates for an error alone.
+    /// Reads the unit, as its shape does. It allocates only for an error.
     ///
     /// ```
     /// let unit = reader.unit(node)?; // Data::Unit
@@ -72,7 +72,7 @@ impl Reader {
         Ok(read_unit(self.alloc, node)?)
     }
 
-    /// Reads a boolean, as by its shape. It allocates for an error alone.
+    /// Reads a boolean, as its shape does. It allocates only for an error.
     ///
     /// ```
     /// let flag = reader.boolean(node)?; // Data::Bool(true)
@@ -84,7 +84,7 @@ impl Reader {
         Ok(read_bool(self, node)?)
     }
 
-    /// Reads an unsigned number of this width, as by its shape. It allocates for an error alone.
+    /// Reads an unsigned number of this width, as its shape does. It allocates only for an error.
     ///
     /// ```
     /// let age = reader.unsigned(Width::Bits8, node)?; // Data::Unsigned(24)
@@ -96,7 +96,7 @@ impl Reader {
         Ok(read_unsigned(self, width, node)?)
     }
 
-    /// Reads a signed number of this width, as by its shape. It allocates for an error alone.
+    /// Reads a signed number of this width, as its shape does. It allocates only for an error.
     ///
     /// ```
     /// let offset = reader.signed(Width::Bits16, node)?; // Data::Signed(-7)
@@ -108,7 +108,7 @@ impl Reader {
         Ok(read_signed(self, width, node)?)
     }
 
-    /// Reads a character, as by its shape. It allocates for an error alone.
+    /// Reads a character, as its shape does. It allocates only for an error.
     ///
     /// ```
     /// let initial = reader.character(node)?; // Data::Char('A')
@@ -120,7 +120,7 @@ impl Reader {
         Ok(read_char(self.alloc, node)?)
     }
 
-    /// Reads a text, as by its shape. It allocates the text.
+    /// Reads a string, as its shape does. It allocates the string.
     ///
     /// ```
     /// let name = reader.text(node)?; // Data::Text: Alice
@@ -132,11 +132,14 @@ impl Reader {
         Ok(read_text(self, node)?)
     }
 
-    /// Returns the items of a node, if it has a list of them: none where there is no value or an empty one, a text alone, the elements of a
-    /// sequence, and the values of a map whose keys are all integers.
+    /// Returns the items of a node:
+    /// - no value or an empty value has none;
+    /// - a string is the only item;
+    /// - a sequence has its elements;
+    /// - a map whose keys are all integers has its values.
     ///
-    /// For another map, and a node that holds nothing at all, the error is [`Custom`](qs_tree::Error::Custom). It allocates for an error alone.
-    /// Of a map it looks at each key up to the first that isn't an integer; else it takes constant time.
+    /// For any other map, and for a node that holds nothing at all, the error is [`Custom`](qs_tree::Error::Custom). It allocates only for
+    /// an error. In a map it looks at each key up to the first that isn't an integer; otherwise it takes constant time.
     ///
     /// ```
     /// let items = reader.items(node)?;
@@ -148,8 +151,8 @@ impl Reader {
         self.items_for(Expected::Sequence, node)
     }
 
-    /// Returns the items of a node for a tuple of this size, as [`items`](Reader::items) does for a list, with its errors, allocations and time.
-    /// There may be more or fewer; the size is named by the error.
+    /// Returns the items of a node for a tuple of this size, like [`items`](Reader::items), with the same errors, allocations and time.
+    /// There may be more or fewer items; only the error's message names the size.
     ///
     /// ```
     /// let items = reader.tuple(2, node)?;
@@ -161,11 +164,13 @@ impl Reader {
         self.items_for(Expected::Tuple(size), node)
     }
 
-    /// Returns the entries of a node, if it has a map of them: those of a map, none where there is no value or an empty one, and a text under
-    /// the empty key.
+    /// Returns the entries of a node:
+    /// - a map has its entries;
+    /// - no value or an empty value has none;
+    /// - a string is one entry, under the empty key.
     ///
-    /// For a sequence, and a node that holds nothing at all, the error is [`Custom`](qs_tree::Error::Custom), for which alone it allocates. It
-    /// takes constant time.
+    /// For a sequence, and for a node that holds nothing at all, the error is [`Custom`](qs_tree::Error::Custom). It allocates only for an
+    /// error, and takes constant time.
     ///
     /// ```
     /// let entries = reader.entries(node)?;
@@ -219,7 +224,7 @@ impl Reader {
         Error::from(Message::DuplicateField(name).error(self.alloc))
     }
 
-    /// Returns the error of a list with too few items, namely so many: [`Custom`](qs_tree::Error::Custom), for which it allocates.
+    /// Returns the error of a list with too few items, only `count` of them: [`Custom`](qs_tree::Error::Custom), for which it allocates.
     ///
     /// ```
     /// None => Err(reader.missing_item(1)), // invalid length 1
@@ -230,7 +235,7 @@ impl Reader {
         Error::from(Message::InvalidLength(count).error(self.alloc))
     }
 
-    /// Returns the node that a newtype variant holds. Where a text alone names the variant it holds none, and the error is
+    /// Returns the node that a newtype variant holds. If only a string names the variant, it holds none, and the error is
     /// [`Custom`](qs_tree::Error::Custom), for which it allocates.
     ///
     /// ```
@@ -248,8 +253,8 @@ impl Reader {
         }
     }
 
-    /// Returns the items that a tuple variant holds, as [`items`](Reader::items) does for a list. Where a text alone names the variant it holds
-    /// none, and the error is [`Custom`](qs_tree::Error::Custom), for which it allocates.
+    /// Returns the items that a tuple variant holds, like [`items`](Reader::items). If only a string names the variant, it holds none, and
+    /// the error is [`Custom`](qs_tree::Error::Custom), for which it allocates.
     ///
     /// ```
     /// let items = reader.tuple_variant(held)?;
@@ -267,7 +272,7 @@ impl Reader {
         }
     }
 
-    /// Returns the node that a struct variant holds. Where a text alone names the variant it holds none, and the error is
+    /// Returns the node that a struct variant holds. If only a string names the variant, it holds none, and the error is
     /// [`Custom`](qs_tree::Error::Custom), for which it allocates.
     ///
     /// ```
@@ -297,7 +302,7 @@ impl Reader {
     }
 
     /// Returns the error of a name that no variant has: [`Custom`](qs_tree::Error::Custom), for which it allocates, or
-    /// [`Utf8`](qs_tree::Error::Utf8) where the name isn't UTF-8.
+    /// [`Utf8`](qs_tree::Error::Utf8) if the name isn't UTF-8.
     ///
     /// ```
     /// _ => Err(reader.unknown_variant(b"Price")), // unknown variant `Price`
@@ -308,7 +313,7 @@ impl Reader {
         Error::from(variant_error(self.alloc, name))
     }
 
-    // Returns the items of a node, of which these are expected.
+    // Returns the items of a node. An error says what was expected.
     #[tactic(auto, using(crate::proofs::lemmas::read::Items::items_bad))]
     fn items_for<'t, 'qs>(
         self,
@@ -321,7 +326,7 @@ impl Reader {
         Ok(items_of(self.alloc, node, expected)?)
     }
 
-    // Returns the error of a variant that holds something, where a text alone names it.
+    // Returns the error of a variant that must hold something, but is named by a text alone.
     fn no_unit_variant(self, expected: Expected) -> Error
         ensures { IsCustomOrOutOfMemory result }
     {
@@ -330,7 +335,7 @@ impl Reader {
     }
 
     /// Returns the error of a node that holds no struct: [`Custom`](qs_tree::Error::Custom), for which it allocates, or
-    /// [`Utf8`](qs_tree::Error::Utf8) where the node is a text that isn't UTF-8.
+    /// [`Utf8`](qs_tree::Error::Utf8) if the node is a string that isn't UTF-8.
     ///
     /// ```
     /// ParsedValue::String(_) => Err(reader.not_a_struct(node)),
@@ -342,7 +347,7 @@ impl Reader {
     }
 }
 
-// Returns the error of a node that holds no struct: of a text that isn't UTF-8 it says so.
+// Returns the error of a node that holds no struct. For a text that isn't UTF-8, the error says so.
 fn struct_error(alloc: Global, node: &ParsedValue<'_>) -> ReadError
     ensures { ReadRejects {Y = Unit {0}} (is_text (tree_of node.now)) result None }
 {
@@ -354,7 +359,7 @@ fn struct_error(alloc: Global, node: &ParsedValue<'_>) -> ReadError
     Message::mismatch(alloc, node, Expected::Struct)
 }
 
-// Returns the error of a name that no variant has: of one that isn't UTF-8 it says so.
+// Returns the error of a name that no variant has. If the name isn't UTF-8, the error says so.
 fn variant_error(alloc: Global, name: &[u8]) -> ReadError
     ensures { ReadRejects {Y = Unit {0}} (is_utf8 name.now) result None }
 {

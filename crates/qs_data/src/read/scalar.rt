@@ -23,7 +23,7 @@ use qs_tree::ParsedValue;
 use std::alloc::Global;
 use std::str;
 
-/// Reads the unit, where there is no value or an empty one.
+/// Reads the unit from no value or an empty one.
 pub(crate) fn read_unit(alloc: Global, value: &ParsedValue<'_>) -> Result<Data>
     ensures gives { ReadGives data_of (is_text (tree_of value.now)) result (read_unit (tree_of value.now)) }
     ensures frugal { ReadIsFrugal result (read_unit (tree_of value.now)) }
@@ -38,7 +38,7 @@ pub(crate) fn read_unit(alloc: Global, value: &ParsedValue<'_>) -> Result<Data>
     }
 }
 
-/// Reads a boolean: the last text, and true where there is none.
+/// Reads a boolean from the last text; true if there is none.
 pub(crate) fn read_bool(reader: Reader, value: &ParsedValue<'_>) -> Result<Data>
     ensures gives { ReadGives data_of (is_text (tree_of value.now)) result
         (read_scalar reader.reject_duplicates (Some (d.boolean true)) boolean_data (tree_of value.now)) }
@@ -50,7 +50,7 @@ pub(crate) fn read_bool(reader: Reader, value: &ParsedValue<'_>) -> Result<Data>
     }
 }
 
-/// Reads an unsigned number: the last text.
+/// Reads an unsigned number from the last text.
 #[inline(always)]
 pub(crate) fn read_unsigned(reader: Reader, width: Width, value: &ParsedValue<'_>) -> Result<Data>
     ensures gives { ReadGives data_of (is_text (tree_of value.now)) result
@@ -64,7 +64,7 @@ pub(crate) fn read_unsigned(reader: Reader, width: Width, value: &ParsedValue<'_
     }
 }
 
-/// Reads a signed number: the last text.
+/// Reads a signed number from the last text.
 #[inline(always)]
 pub(crate) fn read_signed(reader: Reader, width: Width, value: &ParsedValue<'_>) -> Result<Data>
     ensures gives { ReadGives data_of (is_text (tree_of value.now)) result
@@ -78,7 +78,7 @@ pub(crate) fn read_signed(reader: Reader, width: Width, value: &ParsedValue<'_>)
     }
 }
 
-/// Reads a character: a text of just one.
+/// Reads a character from a text of one character.
 pub(crate) fn read_char(alloc: Global, value: &ParsedValue<'_>) -> Result<Data>
     ensures gives { ReadGives data_of (is_text (tree_of value.now)) result (read_character (tree_of value.now)) }
     ensures frugal { ReadIsFrugal result (read_character (tree_of value.now)) }
@@ -89,7 +89,7 @@ pub(crate) fn read_char(alloc: Global, value: &ParsedValue<'_>) -> Result<Data>
     }
 }
 
-/// Reads a text: the last one, and the empty one where there is none.
+/// Reads the last text; the empty text if there is none.
 #[inline(always)]
 pub(crate) fn read_text(reader: Reader, value: &ParsedValue<'_>) -> Result<Data>
     ensures { ReadGives data_of (is_text (tree_of value.now)) result (read_scalar reader.reject_duplicates (Some (d.text [])) text_data (tree_of value.now)) }
@@ -100,7 +100,7 @@ pub(crate) fn read_text(reader: Reader, value: &ParsedValue<'_>) -> Result<Data>
     }
 }
 
-/// Reads bytes: those of the last text, and none where there is none.
+/// Reads the bytes of the last text; no bytes if there is none.
 pub(crate) fn read_bytes(reader: Reader, value: &ParsedValue<'_>) -> Result<Data>
     ensures { ReadGives data_of (is_text (tree_of value.now)) result
         (read_scalar reader.reject_duplicates (Some (d.bytes [])) (λ b. Some (d.bytes b)) (tree_of value.now)) }
@@ -111,7 +111,7 @@ pub(crate) fn read_bytes(reader: Reader, value: &ParsedValue<'_>) -> Result<Data
     }
 }
 
-// Returns the last text of a node, if it has one; none where there is no value or an empty one.
+// Returns the last text of a node. None if the node has no value or an empty one.
 #[inline(always)]
 fn given_text<'t>(
     reader: Reader,
@@ -153,7 +153,7 @@ fn last_text<'t>(
     item_text(reader.alloc, last, expected)
 }
 
-// Returns the text of an item, which is empty where there is no value or an empty one.
+// Returns the text of an item: the empty text if the item has no value or an empty one.
 fn item_text<'t>(alloc: Global, value: &'t ParsedValue<'_>, expected: Expected) -> Result<&'t [u8]>
     ensures gives { ReadGives (λ b. b.now) true result (item_text (tree_of value.now)) }
     ensures frugal { ReadIsFrugal result (item_text (tree_of value.now)) }
@@ -165,7 +165,7 @@ fn item_text<'t>(alloc: Global, value: &'t ParsedValue<'_>, expected: Expected) 
     }
 }
 
-/// Returns bytes as text, where they are UTF-8.
+/// Returns bytes as text, if they are UTF-8.
 #[inline(always)]
 #[tactic(auto, using(crate::proofs::lemmas::read::Errors::utf8_tests))]
 pub(crate) fn as_text(bytes: &[u8]) -> Result<&str>
@@ -190,7 +190,7 @@ pub(crate) fn bool_data(alloc: Global, bytes: &[u8]) -> Result<Data>
     }
 }
 
-/// Parses an unsigned number: digits, and a `+` before them or none.
+/// Parses an unsigned number: digits, optionally after a `+`.
 #[inline(always)]
 #[tactic(auto, using(crate::proofs::lemmas::read::Scalars::unsigned_none, crate::proofs::lemmas::read::ReadErrors::gives_exit, crate::proofs::lemmas::read::ReadErrors::frugal_exit))]
 pub(crate) fn unsigned_data(alloc: Global, width: Width, bytes: &[u8]) -> Result<Data>
@@ -203,7 +203,7 @@ pub(crate) fn unsigned_data(alloc: Global, width: Width, bytes: &[u8]) -> Result
     }
 }
 
-/// Parses a signed number: digits, and a `+` or a `-` before them or none.
+/// Parses a signed number: digits, optionally after a `+` or a `-`.
 #[inline(always)]
 #[tactic(auto, using(crate::proofs::lemmas::read::Scalars::signed_none, crate::proofs::lemmas::read::ReadErrors::gives_exit, crate::proofs::lemmas::read::ReadErrors::frugal_exit))]
 pub(crate) fn signed_data(alloc: Global, width: Width, bytes: &[u8]) -> Result<Data>
@@ -216,7 +216,7 @@ pub(crate) fn signed_data(alloc: Global, width: Width, bytes: &[u8]) -> Result<D
     }
 }
 
-/// Parses a character: a text of just one.
+/// Parses a text of one character.
 #[tactic(auto, using(crate::proofs::lemmas::read::Scalars::character_is, crate::proofs::lemmas::read::Scalars::character_none, crate::proofs::lemmas::read::ReadErrors::custom, crate::proofs::lemmas::read::ReadErrors::custom_spared))]
 pub(crate) fn char_data(alloc: Global, bytes: &[u8]) -> Result<Data>
     ensures gives { ReadGives data_of (is_utf8 bytes.now) result (character_data bytes.now) }
@@ -237,7 +237,7 @@ pub(crate) fn text_data(alloc: Global, bytes: &[u8]) -> Result<Data>
     Ok(Data::Text(String::from_str(alloc, text)?))
 }
 
-// Returns the number of a text, where it has this width.
+// Returns the unsigned number that a text holds, if it fits this width.
 #[tactic(auto, using(crate::proofs::lemmas::read::Numbers::unsigned_err, crate::proofs::lemmas::read::Numbers::width_fits, crate::proofs::lemmas::read::Numbers::unsigned_ok, crate::proofs::lemmas::read::Numbers::unsigned_past))]
 fn unsigned(width: Width, text: &str) -> Option<u64>
     ensures { result ≡ unsigned_number (bits_of width) text.now }
@@ -254,7 +254,7 @@ fn unsigned(width: Width, text: &str) -> Option<u64>
     }
 }
 
-// Returns the signed number of a text, where it has this width.
+// Returns the signed number that a text holds, if it fits this width.
 #[tactic(auto, using(crate::proofs::lemmas::read::Numbers::signed_err, crate::proofs::lemmas::read::Numbers::signed_width_fits))]
 fn signed(width: Width, text: &str) -> Option<i64>
     ensures { result ≡ signed_number (bits_of width) text.now }

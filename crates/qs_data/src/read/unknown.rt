@@ -21,7 +21,7 @@ use itoa::Buffer;
 use qs_tree::{Error, Key, ParsedMap};
 use std::alloc::Global;
 
-/// What becomes of a key that no field has.
+/// What happens to a key that no field has.
 ///
 /// ```
 /// UnknownKeys::Rejected.reject(reader, &fields, entries)?; // an error for age=24&x=1 where only `age` is a field
@@ -62,10 +62,11 @@ impl FieldNames for Vec<Field> {
 }
 
 impl UnknownKeys {
-    /// Rejects the smallest key that no field has, where such keys are rejected. It allocates for the error alone.
+    /// Rejects the smallest key that no field has, if unknown keys are rejected. It allocates only for the error.
     ///
-    /// The error is [`Custom`](qs_tree::Error::Custom), with a hint if the key holds a bracket, or [`Utf8`](qs_tree::Error::Utf8) if the key
-    /// isn't UTF-8 and holds none. Each key is compared with the fields' names up to its own, and none after the first that is unknown.
+    /// The error is [`Custom`](qs_tree::Error::Custom), with a hint if the key holds a bracket, or [`Utf8`](qs_tree::Error::Utf8) if the
+    /// key isn't UTF-8 and holds none. Each key is compared with the fields' names up to its own. Keys after the first unknown one aren't
+    /// looked at.
     ///
     /// ```
     /// unknown.reject(reader, &names, entries)?;
@@ -83,7 +84,7 @@ impl UnknownKeys {
         Ok(self.test(reader.alloc, names, entries)?)
     }
 
-    /// Rejects the smallest key that no field has as [`reject`](UnknownKeys::reject) does, with the error that is used inside reading.
+    /// Does the same as [`reject`](UnknownKeys::reject), with the error type that is used inside reading.
     #[inline(always)]
     pub(crate) fn test<N: FieldNames>(
         self,
@@ -117,7 +118,7 @@ fn test_map<N: FieldNames>(alloc: Global, names: &N, map: &ParsedMap<'_>) -> Res
     Ok(())
 }
 
-// Tests whether the text of a key is a name, and returns an error where it isn't.
+// Tests whether the text of a key is a name, and returns an error if it isn't.
 fn test_key<N: FieldNames>(alloc: Global, names: &N, key: &Key<'_>) -> Result<()>
     ensures { let name = segment_text (segment_of_key key.now) in
         ReadGives (λ _. tt) (is_utf8 name) result (when (is_field_name name (N.fields names.now))) }
@@ -131,7 +132,7 @@ fn test_key<N: FieldNames>(alloc: Global, names: &N, key: &Key<'_>) -> Result<()
     }
 }
 
-// Tests whether a text is a name, and returns an error where it isn't.
+// Tests whether a text is a name, and returns an error if it isn't.
 fn test_name<N: FieldNames>(alloc: Global, names: &N, name: &[u8]) -> Result<()>
     ensures { ReadGives (λ _. tt) (is_utf8 name.now) result (when (is_field_name name.now (N.fields names.now))) }
 {

@@ -47,7 +47,7 @@ pub(crate) fn read_enum(
     }
 }
 
-// Reads the unit variant of a name.
+// Reads the unit variant with a name.
 #[tactic(auto, using(crate::proofs::lemmas::read::Variants::no_unit))]
 fn read_name(alloc: Global, variants: &[Variant], name: &[u8]) -> Result<Data>
     ensures { ReadGives data_of (is_utf8 name.now) result (unit_variant_data (variants_in variants.now) name.now) }
@@ -65,7 +65,7 @@ fn read_name(alloc: Global, variants: &[Variant], name: &[u8]) -> Result<Data>
     Err(Message::InvalidType { found, expected }.error(alloc))
 }
 
-// Reads the variant that the smallest key of a map names, of the value there. The other keys are passed over.
+// Reads the variant that the smallest key of a map names, from the value under that key. The other keys are ignored.
 #[cycle(read)]
 #[tactic(auto, unfolding(qs_spec::specs::internal::ReadFunction::read_enum))]
 fn read_least(reader: Reader, variants: &Vec<Variant>, map: &ParsedMap<'_>) -> Result<Data>
@@ -97,7 +97,7 @@ fn place_of_key(alloc: Global, variants: &[Variant], key: &Key<'_>) -> Result<us
     }
 }
 
-// Returns the index of the variant of a name.
+// Returns the index of the variant with a name.
 #[tactic(auto, using(crate::proofs::lemmas::read::Variants::named_here, crate::proofs::lemmas::read::Variants::named_later))]
 fn place_of(alloc: Global, variants: &[Variant], name: &[u8]) -> Result<usize>
     ensures place { IfOk result (λ i. i < length variants.now) }
@@ -112,7 +112,7 @@ fn place_of(alloc: Global, variants: &[Variant], name: &[u8]) -> Result<usize>
     Err(Message::UnknownVariant(as_text(name)?).error(alloc))
 }
 
-// Reads what a variant holds, of the value under its name.
+// Reads what a variant holds, from the value under its name.
 #[cycle(read)]
 #[tactic(auto, using(crate::proofs::lemmas::data::Levels::levels), unfolding(qs_spec::specs::internal::ReadFunction::reads))]
 fn read_variant(reader: Reader, variant: &Variant, value: &ParsedValue<'_>) -> Result<Data>
@@ -147,7 +147,7 @@ fn read_variant(reader: Reader, variant: &Variant, value: &ParsedValue<'_>) -> R
     }
 }
 
-// Reads the fields of a struct variant of this name.
+// Reads the fields of the struct variant with this name.
 #[cycle(read)]
 #[inline(always)]
 #[tactic(auto, using(crate::proofs::lemmas::data::Levels::levels), unfolding(qs_spec::specs::internal::ReadFunction::reads))]
@@ -165,7 +165,8 @@ fn struct_variant_data(
     Ok(Data::StructVariant(name, members))
 }
 
-// Reads the fields of a struct variant: those of a struct, where a text counts as a map with that text under the empty key.
+// Reads the fields of a struct variant like the fields of a struct, but a text counts as a map with that text under the
+// empty key.
 #[cycle(read)]
 #[tactic(auto, unfolding(qs_spec::specs::internal::ReadFunction::struct_members))]
 fn read_variant_fields(

@@ -14,22 +14,22 @@ use std::collections::BTreeSet;
 /// How names of one list are compared.
 #[derive(Clone, Copy)]
 enum Comparing {
-    /// Each with the ones after it.
+    /// Each with those after it.
     TwoByTwo,
     /// By a sorted set, if it can be allocated and there are more than a few.
     Sorted,
 }
 
-/// How many names of a list are always compared two by two.
+/// How many names of a list are always compared pairwise.
 const FEW: usize = 16;
 
 impl Shape {
-    /// Returns whether names differ: those of the fields in each struct and struct variant, and those of the variants in each
-    /// enum and key shape, at every depth. Only such a shape can be read.
+    /// Returns whether the names of the fields differ in each struct and struct variant, and the names of the variants in each enum and key
+    /// shape, at every depth. [`Deserializer::read`](crate::Deserializer::read) requires this.
     ///
-    /// Each name is compared with the ones after it in its list, so ten times as many names in one list take a hundred times as long:
-    /// 1,000 take milliseconds, and 100,000 many seconds. It takes stack with the depth of the shape, and doesn't allocate.
-    /// [`is_distinct_by_sorting`](Shape::is_distinct_by_sorting) returns the same for long lists in less time.
+    /// Each name is compared with those after it in its list, so the time is quadratic in the length of a list: 1,000 names take
+    /// milliseconds, and 100,000 many seconds. Stack grows with the depth of the shape. It doesn't allocate.
+    /// [`is_distinct_by_sorting`](Shape::is_distinct_by_sorting) returns the same, in less time for long lists.
     ///
     /// ```
     /// if !shape.is_distinct() {
@@ -44,8 +44,8 @@ impl Shape {
 
     /// Returns the same as [`is_distinct`](Shape::is_distinct).
     ///
-    /// More than 16 names of a list are put into a sorted set, so it takes time with the names, and with the logarithm of how many a list has.
-    /// The set allocates; where an allocation fails the names are compared two by two. It takes stack with the depth of the shape.
+    /// If a list has more than 16 names, they are put into a sorted set, so the time grows with the number of names and the logarithm of a
+    /// list's length. The set allocates; if an allocation fails, the names are compared pairwise. Stack grows with the depth of the shape.
     ///
     /// ```
     /// if !shape.is_distinct_by_sorting() {
@@ -94,7 +94,7 @@ fn are_distinct(shapes: &Vec<Shape>, comparing: Comparing) -> bool
     true
 }
 
-// Returns whether the names of fields differ, and those in the shape of each.
+// Returns whether the names of fields differ, and the names in the shape of each field.
 #[cycle(distinct)]
 fn is_distinct_struct(fields: &Vec<Field>, comparing: Comparing) -> bool
     ensures { result ≡ (field_names_differ (fields_in fields.now.items) && are_distinct_fields (fields_in fields.now.items)) }
@@ -165,7 +165,7 @@ fn field_names_differ(fields: &Vec<Field>, comparing: Comparing) -> bool
     few_field_names_differ(fields)
 }
 
-// Returns whether the names of fields differ, by a sorted set of them. Returns an error only where an allocation failed.
+// Returns whether the names of fields differ, by a sorted set of them. Returns an error only if an allocation failed.
 fn many_field_names_differ(fields: &[Field], alloc: Global) -> Result<bool, AllocError>
     ensures { IfOk result (λ differ. differ ≡ field_names_differ (fields_in fields.now)) }
 {
@@ -208,7 +208,7 @@ fn variant_names_differ(variants: &Vec<Variant>, comparing: Comparing) -> bool
     few_variant_names_differ(variants)
 }
 
-// Returns whether the names of variants differ, by a sorted set of them. Returns an error only where an allocation failed.
+// Returns whether the names of variants differ, by a sorted set of them. Returns an error only if an allocation failed.
 fn many_variant_names_differ(variants: &[Variant], alloc: Global) -> Result<bool, AllocError>
     ensures { IfOk result (λ differ. differ ≡ variant_names_differ (variants_in variants.now)) }
 {
@@ -251,7 +251,7 @@ fn names_differ(names: &Vec<String>, comparing: Comparing) -> bool
     few_names_differ(names)
 }
 
-// Returns whether the names of a key's variants differ, by a sorted set of them. Returns an error only where an allocation failed.
+// Returns whether the names of a key's variants differ, by a sorted set of them. Returns an error only if an allocation failed.
 fn many_names_differ(names: &[String], alloc: Global) -> Result<bool, AllocError>
     ensures { IfOk result (λ differ. differ ≡ names_differ (map string_bytes names.now)) }
 {

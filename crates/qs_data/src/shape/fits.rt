@@ -1,4 +1,4 @@
-//! Data that fit a shape.
+//! Data that fits a shape.
 
 mod scalar;
 
@@ -17,16 +17,16 @@ use crate::shape::fits::scalar::{
 use crate::shape::{Field, KeyShape, Shape, Variant, VariantKind, Width};
 
 impl Shape {
-    /// Returns whether the data are such as this shape reads: the same kinds in each position.
+    /// Returns whether the data fits this shape: each part is of the kind that the shape reads there.
     ///
-    /// Numbers lie in their width, an `Unsigned` in that of an unsigned shape and a `Signed` in that of a signed one. Variants and
-    /// keys are of the shape. A tuple has the shape's length. The fields of a struct, and of a struct variant, are fields of the
-    /// shape in its order, and each that isn't optional is there. Nothing fits [`Any`](Shape::Any) or [`Ignored`](Shape::Ignored).
+    /// An `Unsigned` number fits the width of an unsigned shape, and a `Signed` number the width of a signed one. Variants and
+    /// keys are those of the shape. A tuple has the shape's length. The fields of a struct or a struct variant are fields of the
+    /// shape, in its order, and only optional ones are missing. Nothing fits [`Any`](Shape::Any) or [`Ignored`](Shape::Ignored).
     ///
-    /// Where the data are plain too, and the names of the shape differ, they are read back by it from what is written of them, as
-    /// [`Data::is_plain`] says for the indexed format, and [`Data::is_listed`] for the others. To fit alone isn't enough.
+    /// If the data is also plain, and the names of the shape differ, the shape reads the data back from its written form: see
+    /// [`Data::is_plain`] for the indexed format, and [`Data::is_listed`] for the others. Fitting alone isn't enough.
     ///
-    /// It takes time with the size of the data and of the shape, and stack with their depth. It doesn't allocate.
+    /// Time grows with the size of the data and of the shape, and stack with their depth. It doesn't allocate.
     ///
     /// ```
     /// if !shape.fits(&data) {
@@ -40,7 +40,7 @@ impl Shape {
     }
 }
 
-// Returns whether data fit a shape.
+// Returns whether data fits a shape.
 #[cycle(fits)]
 fn fits(shape: &Shape, datum: &Data) -> bool
     ensures { result ≡ fits (shape_of shape.now) (data_of datum.now) }
@@ -113,7 +113,7 @@ fn fits_pairs(key: &KeyShape, part: &Shape, pairs: &Vec<(Data, Data)>) -> bool
     true
 }
 
-// Returns whether data fit a struct.
+// Returns whether data fits a struct.
 #[cycle(fits)]
 #[tactic(auto, using(crate::proofs::lemmas::data::Levels::levels))]
 fn fits_struct(fields: &Vec<Field>, datum: &Data) -> bool
@@ -126,7 +126,7 @@ fn fits_struct(fields: &Vec<Field>, datum: &Data) -> bool
     }
 }
 
-// Returns whether the members are fields in their order, and each field that isn't optional is there.
+// Returns whether the members are fields in their order, and only optional fields are missing.
 #[cycle(fits)]
 fn fits_fields(fields: &Vec<Field>, members: &Vec<(String, Data)>) -> bool
     ensures { result ≡ fits_fields (fields_in fields.now.items) (members_in members.now.items) }
@@ -168,7 +168,7 @@ fn is_next(members: &[(String, Data)], name: &str) -> bool
     }
 }
 
-// Returns whether data fit an enum.
+// Returns whether data fits an enum.
 #[cycle(fits)]
 #[tactic(auto, using(crate::proofs::lemmas::data::Levels::levels))]
 fn fits_enum(variants: &Vec<Variant>, datum: &Data) -> bool
@@ -183,7 +183,7 @@ fn fits_enum(variants: &Vec<Variant>, datum: &Data) -> bool
     }
 }
 
-// Returns whether the variant of a name is of the kind of the data.
+// Returns whether the variant with a name is of the same kind as the data.
 #[cycle(fits)]
 #[tactic(auto, using(crate::proofs::lemmas::shape::Fitting::no_kind))]
 fn fits_named(variants: &Vec<Variant>, name: &str, datum: &Data) -> bool
@@ -197,7 +197,7 @@ fn fits_named(variants: &Vec<Variant>, name: &str, datum: &Data) -> bool
     false
 }
 
-// Returns whether data are a variant of this kind, and what they hold fits.
+// Returns whether data is a variant of this kind, and what it holds fits.
 #[cycle(fits)]
 fn fits_kind(kind: &VariantKind, datum: &Data) -> bool
     ensures { result ≡ fits_variant (Some (view.kind_of kind.now)) (data_of datum.now) }
@@ -213,7 +213,7 @@ fn fits_kind(kind: &VariantKind, datum: &Data) -> bool
     }
 }
 
-// Returns whether data are a variant with fields that fit.
+// Returns whether data is a variant with fields that fit.
 #[cycle(fits)]
 #[tactic(auto, using(crate::proofs::lemmas::data::Levels::levels))]
 fn fits_struct_variant(fields: &Vec<Field>, datum: &Data) -> bool

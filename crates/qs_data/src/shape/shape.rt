@@ -1,10 +1,10 @@
-//! Shapes: what is to be read.
+//! Shapes: what is read from a querystring.
 
 ghost use Rattle.std.specs.Prelude.{◌≡◌};
 ghost use Rattle.qs_spec.specs.Shape.{is_option};
 ghost use Rattle.qs_data.specs.shape.Views.{shape_of};
 
-/// What is to be read of a querystring, and so what its text means.
+/// What is read from a querystring, and so what its text means.
 ///
 /// ```
 /// let ids = Shape::Seq(Box::new(alloc, Shape::U8)?); // a list of numbers of 8 bits
@@ -32,9 +32,9 @@ pub enum Shape {
     I32,
     /// A signed number of 64 bits.
     I64,
-    /// A text of one character.
+    /// A string of one character.
     Char,
-    /// A text, which must be UTF-8.
+    /// A string, which must be UTF-8.
     Text,
     /// A string of bytes.
     Bytes,
@@ -48,7 +48,7 @@ pub enum Shape {
     Map(KeyShape, Box<Shape>),
     /// Fields, by their names or by their indices.
     Struct(Vec<Field>),
-    /// Fields as those of a [`Struct`](Shape::Struct), where a map's keys that no field has are rejected.
+    /// Like [`Struct`](Shape::Struct), but a map's keys that no field has are rejected.
     StrictStruct(Vec<Field>),
     /// A value in a type of its own.
     Newtype(Box<Shape>),
@@ -56,7 +56,7 @@ pub enum Shape {
     Enum(Vec<Variant>),
     /// Whatever is there.
     Any,
-    /// Whatever is there, which is passed over.
+    /// Whatever is there; it is ignored.
     Ignored,
 }
 
@@ -71,9 +71,9 @@ pub enum Shape {
 pub struct Field {
     /// Its name, which is the text of its key.
     pub name: String,
-    /// What is read of it.
+    /// The shape of its value.
     pub shape: Shape,
-    /// Whether it is left out where it is not there.
+    /// Whether it may be missing; it is then left out of the data.
     pub optional: bool,
 }
 
@@ -108,12 +108,12 @@ pub enum VariantKind {
     Tuple(Vec<Shape>),
     /// Fields, by their names or by their indices.
     Struct(Vec<Field>),
-    /// Fields as those of a [`Struct`](VariantKind::Struct), where a map's keys that no field has are rejected.
+    /// Like [`Struct`](VariantKind::Struct), but a map's keys that no field has are rejected.
     StrictStruct(Vec<Field>),
 }
 
 impl Shape {
-    /// Returns whether this is an option: a field of such a shape is None where its key is missing.
+    /// Returns whether this is an option. A field of such a shape is `None` if its key is missing.
     ///
     /// ```
     /// assert!(!Shape::Text.is_option());
@@ -153,9 +153,9 @@ pub enum KeyShape {
     I32,
     /// A signed number of 64 bits.
     I64,
-    /// A text of one character.
+    /// A string of one character.
     Char,
-    /// A text, which must be UTF-8.
+    /// A string, which must be UTF-8.
     Text,
     /// One of these names.
     Variants(Vec<String>),

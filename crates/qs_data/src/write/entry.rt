@@ -1,4 +1,5 @@
-//! Entries. Each is made whole before it is put, but for a long value, which is put in pieces after its key and allocates nothing.
+//! Entries. Each is built whole before it is put, except for a long value, which is put in pieces after its key and doesn't
+//! allocate.
 
 ghost use Rattle.std.specs.Prelude.{◌≡◌, ◌==◌, ◌||◌, cond, ◌≤◌, ◌++◌, [], length, take, Some, Err, OnOk, OnErr, IfOk, IfErr, IsNone, option_map};
 ghost use Rattle.qs_spec.specs.Config.{Config as Settings};
@@ -32,7 +33,7 @@ pub(crate) struct Walk {
     pub(crate) config: Config,
     /// How many segments lead there.
     depth: usize,
-    /// Their text after an `&`. Going in appends, leaving truncates.
+    /// Their text after an `&`. Entering a segment appends, leaving it truncates.
     text: TextBuffer,
 }
 
@@ -48,7 +49,7 @@ impl Walk {
         }
     }
 
-    /// Goes under one more segment, unless the path is as long as the limit allows. Returns how long the text was before.
+    /// Enters one more segment, unless the path is as long as the limit allows. Returns the length of the text before.
     #[inline(always)]
     pub(crate) fn enter(&mut self, segment: Scalar<'_>) -> Result<usize, Stop>
         ensures len { IfOk result (λ len. len ≡ length self.old.text) }
@@ -64,7 +65,7 @@ impl Walk {
         Ok(len)
     }
 
-    /// Leaves the last segment; the text was this long before it.
+    /// Leaves the last segment, before which the text had this length.
     pub(crate) fn leave(&mut self, len: usize)
         ensures { (config : Settings) → LeavesAt config len self.old self.new }
     {
@@ -89,7 +90,7 @@ fn append_segment(out: &mut TextBuffer, form: bool, segment: Scalar<'_>) -> Resu
     Ok(())
 }
 
-// Appends a bracket that opens, as it is written.
+// Appends an opening bracket, encoded if `form`.
 #[inline(always)]
 fn open_bracket(form: bool, out: &mut TextBuffer) -> Result<(), AllocError>
     ensures { OnOk result (out.new ≡ out.old ++ open_bytes form) }
@@ -101,7 +102,7 @@ fn open_bracket(form: bool, out: &mut TextBuffer) -> Result<(), AllocError>
     }
 }
 
-// Appends a bracket that closes, as it is written.
+// Appends a closing bracket, encoded if `form`.
 #[inline(always)]
 fn close_bracket(form: bool, out: &mut TextBuffer) -> Result<(), AllocError>
     ensures { OnOk result (out.new ≡ out.old ++ close_bytes form) }
@@ -113,7 +114,7 @@ fn close_bracket(form: bool, out: &mut TextBuffer) -> Result<(), AllocError>
     }
 }
 
-// Appends the value after `=`, where there is one. Of a long value `=` alone, and the value is returned.
+// Appends `=` and the value, if there is one. For a long value, appends only `=` and returns the value.
 #[inline(always)]
 #[tactic(auto, using(crate::proofs::lemmas::write::Visible::joined))]
 fn append_value<'a>(
@@ -138,7 +139,7 @@ fn append_value<'a>(
     Ok(&[])
 }
 
-/// Puts the entry with this value, or with none, where the walk is. A long value isn't copied: it is put in pieces.
+/// Puts the entry at the walk's path, with this value or without one. A long value isn't copied: it is put in pieces.
 pub(crate) fn put<S: Sink>(
     stream: &mut Stream<S>,
     walk: &mut Walk,
@@ -159,7 +160,7 @@ pub(crate) fn put<S: Sink>(
     Ok(())
 }
 
-/// Puts the entry with an empty value where the walk is.
+/// Puts the entry at the walk's path, with an empty value.
 pub(crate) fn put_empty<S: Sink>(stream: &mut Stream<S>, walk: &mut Walk) -> Result<(), Stop>
     ensures writes { WritesTo S.taken S.failed S.writer_name result stream.old stream.new walk.old walk.new
         (λ config path. one path (Some [])) }
@@ -172,7 +173,7 @@ pub(crate) fn put_empty<S: Sink>(stream: &mut Stream<S>, walk: &mut Walk) -> Res
     Ok(())
 }
 
-// Returns how much of the text is left out: the `&` where no entry with a key was put before.
+// Returns how many bytes of the text are left out: the `&`, if no entry with a key was put before.
 fn skipped(started: bool, len: usize) -> usize
     ensures skips { result ≡ cond (started || len == 0) 0 1 }
     ensures within { result ≤ len }

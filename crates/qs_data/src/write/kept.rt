@@ -9,12 +9,12 @@ use std::io;
 #[derive(Drop)]
 pub(crate) struct Kept<S> {
     pub(crate) sink: S,
-    /// Why a put failed: as long as none returned an error, that one took nothing.
+    /// Why a put failed. If none returned an error, it is that a put took nothing.
     pub(crate) cause: io::Error,
 }
 
 impl<S> Kept<S> {
-    /// Returns the sink, of which no put failed yet.
+    /// Returns the sink, with no failed put yet.
     pub(crate) fn new(sink: S) -> Kept<S>
         ensures { result.sink ≡ sink }
     {

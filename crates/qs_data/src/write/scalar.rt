@@ -1,4 +1,4 @@
-//! Scalars: data that are written as one text.
+//! Scalars: data that is written as one text.
 
 ghost use Rattle.std.specs.Prelude.{◌≡◌, ◌⊎◌, ◌++◌, length, Bool, OnOk, Some, decimal, option_map};
 ghost use Rattle.std.specs.Fmt.{signed_decimal};
@@ -30,13 +30,13 @@ pub enum Scalar<'a> {
     Bool(bool),
     /// A number, by its digits.
     Unsigned(u64),
-    /// A number, by its digits, after `-` where it is negative.
+    /// A number, by its digits, after `-` if it is negative.
     Signed(i64),
     /// A character, in UTF-8.
     Char(char),
 }
 
-/// Room for the text of a number or a character.
+/// A buffer for the text of a number or a character.
 #[derive(Drop)]
 pub(crate) struct Room {
     digits: Buffer,
@@ -44,7 +44,7 @@ pub(crate) struct Room {
 }
 
 impl Room {
-    /// Returns room that is unused.
+    /// Returns an unused buffer.
     pub(crate) fn new() -> Room {
         Room {
             digits: Buffer::new(),
@@ -54,7 +54,7 @@ impl Room {
 }
 
 impl<'a> Scalar<'a> {
-    /// Returns the scalar that the data are, where they are one.
+    /// Returns the scalar that the data is, if it is one.
     #[tactic(auto, using(crate::proofs::lemmas::data::Levels::levels))]
     pub(crate) fn of(datum: &'a Data) -> Option<Scalar<'a>>
         ensures { option_map scalar_text result ≡ key_text (data_of datum.now) }
@@ -71,7 +71,7 @@ impl<'a> Scalar<'a> {
         }
     }
 
-    /// Returns its text. That of a number or a character is put into the room.
+    /// Returns its text. The text of a number or a character is put into the buffer.
     pub(crate) fn text<'t>(self, room: &'t mut Room) -> &'t [u8]
     where
         'a: 't,
@@ -97,7 +97,7 @@ impl<'a> Scalar<'a> {
         }
     }
 
-    /// Returns its bytes, where they are too many to be copied before they are put, or none.
+    /// Returns its bytes if they are too many to be copied before they are put, and otherwise no bytes.
     #[inline(always)]
     pub(crate) fn long_bytes(self) -> &'a [u8]
         ensures which { (length result.now ≡ 0) ⊎ (result.now ≡ scalar_text self.entry) }
@@ -132,7 +132,7 @@ pub(crate) fn word(value: bool) -> &'static str
     if value { "true" } else { "false" }
 }
 
-// Returns the bytes, where they are too many to be copied before they are put, or none.
+// Returns the bytes if they are too many to be copied before they are put, and otherwise no bytes.
 #[tactic(auto, using(crate::proofs::lemmas::write::Visible::encoded_visible))]
 fn long(bytes: &[u8]) -> &[u8]
     ensures which { (length result.now ≡ 0) ⊎ (result.now ≡ bytes.now) }
@@ -153,7 +153,7 @@ fn append_unsigned(n: u64, out: &mut TextBuffer) -> Result<(), AllocError>
     out.append(Buffer::new().format(n).as_bytes())
 }
 
-// Appends the digits of the number, after `-` where it is negative.
+// Appends the digits of the number, after `-` if it is negative.
 #[tactic(auto, using(crate::proofs::lemmas::write::Visible::numbers))]
 fn append_signed(n: i64, out: &mut TextBuffer) -> Result<(), AllocError>
     ensures ok { (form : Bool) → OnOk result (out.new ≡ out.old ++ encoded form (signed_decimal n)) }

@@ -103,18 +103,18 @@ impl<S: Sink> Serializer<S> {
 
     /// Writes the entries of the data after what was written before.
     ///
-    /// Each scalar in the data is one entry, under the names, keys and indices that lead to it; `&` precedes
-    /// each that has a key, but the first. What is written holds only bytes from 0x21 to 0x7E.
+    /// Each scalar in the data is one entry, under the names, keys and indices that lead to it. `&` precedes each entry that has a
+    /// key, except the first. The text holds only bytes from 0x21 to 0x7E.
     ///
     /// The walk stops at the first error:
     /// - [`Failed`](Error::Failed): an earlier call returned an error. Nothing is written.
-    /// - [`MaxSerializationDepthExceeded`](Error::MaxSerializationDepthExceeded): a path is longer than the
-    ///   configuration's `max_depth` allows; [`Unsupported`](Error::Unsupported): a map's key is no scalar, which is
-    ///   reported whatever the depth. The entries before it are written.
-    /// - [`Io`](Error::Io): the sink failed in this call: a put took nothing, was interrupted or failed. It is not
-    ///   repeated. A proper beginning of the text is written.
-    /// - [`OutOfMemory`](Error::OutOfMemory): an allocation failed. Some first entries are written, each whole: what an entry
-    ///   takes is allocated before its first byte is put.
+    /// - [`MaxSerializationDepthExceeded`](Error::MaxSerializationDepthExceeded): a path is longer than the configuration's
+    ///   `max_depth` allows; [`Unsupported`](Error::Unsupported): a map's key isn't a scalar, which is reported whatever the depth.
+    ///   The entries before it are written.
+    /// - [`Io`](Error::Io): the sink failed in this call: a put took nothing, was interrupted or failed. It is not repeated. A
+    ///   proper prefix of the text is written.
+    /// - [`OutOfMemory`](Error::OutOfMemory): an allocation failed. Some first entries are written, each whole: the memory for an
+    ///   entry is allocated before its first byte is put.
     ///
     /// It allocates for the path and for values of up to 1,024 bytes; longer ones are put in pieces. It doesn't allocate
     /// for `Unit` or `None` alone (also within `Some` or `Newtype`). Its time grows with the data and the length of what is written.

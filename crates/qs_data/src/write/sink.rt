@@ -27,13 +27,13 @@ pub(crate) const PIECE: usize = 1024;
 /// let lost_bytes = serializer.into_sink().has_failed(); // then the result is an `Io` error
 /// ```
 pub trait Sink {
-    // The bytes that it took so far, where the sink reports them.
+    // The bytes that it took so far, if the sink reports them.
     ghost taken: { Self → Option (List ℕ) };
 
     // Whether a put failed.
     ghost failed: { Self → Bool };
 
-    // Which writer of a caller's it writes to, where it holds one by reference.
+    // The caller's writer that it writes to, if it holds one by reference.
     ghost writer_name: { Self → ℕ } = { λ _. 0 };
 
     /// Takes the first bytes of `bytes`, and returns how many; with an error it takes none.

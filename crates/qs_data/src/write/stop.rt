@@ -5,7 +5,7 @@ ghost use Rattle.std.specs.Prelude.{◌≡◌};
 use qs_tree::{Config, Error};
 use std::alloc::AllocError;
 
-/// Why the writing of a value, or of a part of it, stopped before its end.
+/// Why writing a value, or a part of one, stopped before its end.
 ///
 /// ```
 /// let stop = writer.data(&datum); // Err(Stop::TooDeep) where a path is longer than is allowed
@@ -14,15 +14,15 @@ use std::alloc::AllocError;
 pub enum Stop {
     /// A path is longer than the configuration allows.
     TooDeep,
-    /// A map's key is no scalar.
+    /// A map's key isn't a scalar.
     BadKey,
-    /// The sink failed. That of a [`Writer`](crate::Writer) is text in memory, and fails where an allocation fails.
+    /// The sink failed. The sink of a [`Writer`](crate::Writer) is text in memory, which fails if an allocation fails.
     Io,
     /// An allocation failed.
     OutOfMemory,
 }
 
-/// What a call returns that writes a part of a value: unit, or why it stopped.
+/// The result of a call that writes a part of a value: unit, or why it stopped.
 ///
 /// ```
 /// fn write_to(&self, writer: &mut Writer) -> WriteResult {

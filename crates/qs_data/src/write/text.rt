@@ -9,7 +9,7 @@ use qs_tree::encode_to;
 use std::alloc::{AllocError, Global};
 use std::marker::Model;
 
-/// Bytes at the front of a buffer that is longer: appending writes by index, and truncating changes a number.
+/// The first bytes of a longer buffer: appending writes by index, and truncating changes a number.
 #[derive(Drop)]
 pub(crate) struct TextBuffer {
     room: Vec<u8>,
@@ -45,7 +45,7 @@ impl TextBuffer {
         self.len
     }
 
-    /// Returns the bytes after so many.
+    /// Returns the bytes from `start` on.
     pub(crate) fn after(&self, start: usize) -> &[u8]
         requires { start ≤ length self.now }
         ensures { result.now ≡ drop start self.now }
@@ -53,7 +53,7 @@ impl TextBuffer {
         &self.room[start..self.len]
     }
 
-    /// Keeps so many bytes, where there are more.
+    /// Keeps the first `len` bytes, if there are more.
     pub(crate) fn truncate(&mut self, len: usize)
         ensures { self.new ≡ take len self.old }
     {
@@ -87,7 +87,7 @@ impl TextBuffer {
     }
 }
 
-// Makes room for so many bytes after the first `len`.
+// Makes the buffer long enough for `more` bytes after the first `len`.
 #[inline(always)]
 fn make_room(room: &mut Vec<u8>, len: usize, more: usize) -> Result<(), AllocError>
     requires { len ≤ length room.old.items }
@@ -101,7 +101,7 @@ fn make_room(room: &mut Vec<u8>, len: usize, more: usize) -> Result<(), AllocErr
     grow(room, len, more)
 }
 
-// Makes room where there is less: for at least twice the bytes, so that growing is rare.
+// Grows the buffer to at least twice its length, so that growing is rare.
 #[inline(never)]
 fn grow(room: &mut Vec<u8>, len: usize, more: usize) -> Result<(), AllocError>
     requires { len ≤ length room.old.items }

@@ -16,7 +16,7 @@ use crate::write::sink::Sink;
 use crate::write::stop::Stop;
 use qs_tree::{ArrayFormat, Config};
 
-/// Writes the entries of the data, where the walk is at the top, under this configuration.
+/// Writes the entries of the data from the top, under this configuration.
 pub(crate) fn write_all<S: Sink>(
     stream: &mut Stream<S>,
     walk: &mut Walk,

@@ -16,13 +16,13 @@ use qs_tree::Config;
 use std::alloc::{AllocError, Global};
 use std::mem;
 
-/// Writes a value part by part, each at the path where the writer is, as text in memory.
+/// Writes a value part by part as text in memory, each part at the writer's path.
 ///
-/// A type that writes itself calls one of [`scalar`](Writer::scalar), [`none`](Writer::none), [`unit`](Writer::unit) and [`data`](Writer::data), or goes
-/// in to the key of each part by [`enter`](Writer::enter), and out again by [`leave`](Writer::leave).
+/// A type that writes itself calls one of [`scalar`](Writer::scalar), [`none`](Writer::none), [`unit`](Writer::unit) and
+/// [`data`](Writer::data), or enters the key of each part by [`enter`](Writer::enter), and leaves it by [`leave`](Writer::leave).
 ///
-/// After a [`Stop`] it isn't known at which path the writer is, so write nothing more to it: take its text by
-/// [`into_text`](Writer::into_text), or let it go.
+/// After a [`Stop`] the writer's path is unknown, so write nothing more to it: take its text by [`into_text`](Writer::into_text), or drop
+/// it.
 ///
 /// ```
 /// let len = writer.enter(Scalar::Bytes(b"age"))?;
@@ -31,7 +31,7 @@ use std::mem;
 /// ```
 #[derive(Drop)]
 pub struct Writer {
-    /// Where memory comes from.
+    /// The allocator.
     pub alloc: Global,
     /// How it writes.
     pub config: Config,
@@ -40,8 +40,8 @@ pub struct Writer {
 }
 
 impl Writer {
-    /// Returns a writer at the top, that wrote nothing yet. It allocates 128 bytes for the text; where that fails, the error is [`AllocError`],
-    /// and there is no other.
+    /// Returns a writer at the top that has written nothing yet. It allocates 128 bytes for the text. The only error is [`AllocError`], if
+    /// that allocation fails.
     ///
     /// ```
     /// let writer = Writer::new(alloc, Config::new())?;
@@ -95,7 +95,7 @@ impl Writer {
 
     /// Writes one entry with this value at the writer's path.
     ///
-    /// The errors are [`OutOfMemory`](Stop::OutOfMemory) and [`Io`](Stop::Io), both where an allocation failed.
+    /// The errors are [`OutOfMemory`](Stop::OutOfMemory) and [`Io`](Stop::Io), both if an allocation failed.
     ///
     /// ```
     /// writer.scalar(Scalar::Bool(true))?;
@@ -106,7 +106,8 @@ impl Writer {
         put(&mut self.stream, &mut self.walk, Some(value))
     }
 
-    /// Writes one entry without a value at the writer's path, as an absent value is written. The errors are those of [`scalar`](Writer::scalar).
+    /// Writes one entry without a value at the writer's path, like an absent value. The errors are the same as for
+    /// [`scalar`](Writer::scalar).
     ///
     /// ```
     /// writer.none()?;
@@ -117,8 +118,8 @@ impl Writer {
         put(&mut self.stream, &mut self.walk, None)
     }
 
-    /// Writes one entry with an empty value at the writer's path, as a unit, an empty list and an empty map are written. The errors are those of
-    /// [`scalar`](Writer::scalar).
+    /// Writes one entry with an empty value at the writer's path, like a unit, an empty list or an empty map. The errors are the same as
+    /// for [`scalar`](Writer::scalar).
     ///
     /// ```
     /// writer.unit()?;
@@ -131,7 +132,8 @@ impl Writer {
 
     /// Writes the entries of the data at the writer's path, up to the first error.
     ///
-    /// The errors are those of [`scalar`](Writer::scalar), and of [`enter`](Writer::enter) and [`BadKey`](Stop::BadKey), after the entries before the rejected one.
+    /// The errors are those of [`scalar`](Writer::scalar) and of [`enter`](Writer::enter), and [`BadKey`](Stop::BadKey). With
+    /// [`TooDeep`](Stop::TooDeep) and `BadKey`, the entries before the rejected one are written.
     ///
     /// ```
     /// writer.data(&datum)?;
@@ -142,10 +144,11 @@ impl Writer {
         write_data(&mut self.stream, &mut self.walk, datum)
     }
 
-    /// Goes in to the part under this key, the name of a field or the index of an item. Returns how long the path was, for [`leave`](Writer::leave).
+    /// Enters the part under this key, which is the name of a field or the index of an item. Returns the length of the path before, for
+    /// [`leave`](Writer::leave).
     ///
-    /// The errors are [`TooDeep`](Stop::TooDeep), where the path is as long as the configuration allows, and [`OutOfMemory`](Stop::OutOfMemory). Nothing
-    /// is written.
+    /// The errors are [`TooDeep`](Stop::TooDeep), if the path is as long as the configuration allows, and
+    /// [`OutOfMemory`](Stop::OutOfMemory). Nothing is written.
     ///
     /// ```
     /// let len = writer.enter(Scalar::Unsigned(0))?;
@@ -160,7 +163,7 @@ impl Writer {
         }
     }
 
-    /// Goes out again, to where the path was so long. It doesn't allocate.
+    /// Goes back to where the path had this length. It doesn't allocate.
     ///
     /// ```
     /// writer.leave(len);

@@ -23,7 +23,7 @@ abbrev pub Tests : Bool → Shape → Tree → Bool → Type 0
 Tests reject_duplicates s n true = ReadsSome reject_duplicates s n
 Tests reject_duplicates s n false = reads reject_duplicates s n ≡ None
 
--- a mismatch is found exactly where the node isn't read; memory may run out before
+-- a mismatch is found exactly if the node isn't read, unless memory runs out
 abbrev pub FindsMismatch : {E : Type 0} → Bool → Shape → Tree → Result (Option Mismatch) E → Type 0
 FindsMismatch reject_duplicates s n (Ok None) = ReadsSome reject_duplicates s n
 FindsMismatch reject_duplicates s n (Ok (Some m)) = (reads reject_duplicates s n ≡ None) × IsMismatch reject_duplicates s n m

@@ -19,22 +19,23 @@ use std::alloc::Global;
 ///
 /// # Errors
 ///
-/// - [`Parse`](Error::Parse): the querystring has no tree, as `a[b` has none. The position is at most the length and one.
-/// - [`Custom`](Error::Custom) or [`Utf8`](Error::Utf8): it has one, but the type doesn't read it, as where a field is missing or a text is
-///   no number; or the type's own code rejects the value. An error of its code that is of another kind becomes `Custom`, with its message.
+/// - [`Parse`](Error::Parse): the querystring, such as `a[b`, has no tree. The position is at most the length plus one.
+/// - [`Custom`](Error::Custom) or [`Utf8`](Error::Utf8): the type doesn't read the tree, for example because a field is missing or a text
+///   isn't a number; or the type's own code rejects the value. If that code returns an error of another kind, the error becomes `Custom`,
+///   with its message.
 /// - [`OutOfMemory`](Error::OutOfMemory): an allocation failed.
 ///
-/// Of several mistakes the first in the order of the fields is reported, then one in another key, and then a missing field. It allocates for
-/// the tree, for a number for each list or map that is open, and for what the type allocates. The time grows with the input and the value.
-/// After an error the tree is read once more to find which comes first, and up to three times more to find the type of a number.
+/// If there are several mistakes, the error is the first in this order: mistakes in fields, in the order of the fields; a mistake in
+/// another key; a missing field. The call allocates for the tree, for a stack of the open lists and maps, and for what the type allocates.
+/// The time grows with the input and the value. After an error the call reads the tree once more to find the error to report, and up to
+/// three times more to find the type of a number.
 pub fn from_str<'de, T: Deserialize<'de>>(alloc: Global, input: &'de str) -> Result<T>
     ensures { ReturnsFrom default input.now result }
 {
     from_bytes_with(alloc, Config::new(), input.as_bytes())
 }
 
-/// Returns the value that is read from a querystring, with the default configuration. It returns the same errors as [`from_str`], and
-/// allocates and takes time as that call does.
+/// Returns the value that is read from a querystring, with the default configuration. Errors, allocations and time are as for [`from_str`].
 ///
 /// ```
 /// let query: Query = from_bytes(alloc, b"age=24&name=Alice")?;
@@ -45,8 +46,7 @@ pub fn from_bytes<'de, T: Deserialize<'de>>(alloc: Global, input: &'de [u8]) -> 
     from_bytes_with(alloc, Config::new(), input)
 }
 
-/// Returns the value that is read from a querystring under a configuration. It returns the same errors as [`from_str`], and allocates and takes
-/// time as that call does.
+/// Returns the value that is read from a querystring under a configuration. Errors, allocations and time are as for [`from_str`].
 ///
 /// ```
 /// let config = Config::new().use_form_encoding(true);
@@ -62,8 +62,8 @@ pub fn from_str_with<'de, T: Deserialize<'de>>(
     from_bytes_with(alloc, config, input.as_bytes())
 }
 
-/// Returns the value that is read from a querystring under a configuration. The error is the one that [`from_str`] returns, with the path to
-/// the part that isn't read. It allocates and takes time as that call does, and for the path.
+/// Returns the value that is read from a querystring under a configuration. The error is the one that [`from_str`] returns, with the path
+/// to the part that isn't read. Allocations and time are as for that call, and for the path.
 ///
 /// ```
 /// match explain_str::<Query>(alloc, Config::new(), "age=x&name=Alice") {
@@ -81,8 +81,7 @@ pub fn explain_str<'de, T: Deserialize<'de>>(
     explain_bytes(alloc, config, input.as_bytes())
 }
 
-/// Returns the value that is read from a querystring under a configuration, with the errors of [`explain_str`]. It allocates, and takes time,
-/// as that call does.
+/// Returns the value that is read from a querystring under a configuration. Errors, allocations and time are as for [`explain_str`].
 ///
 /// ```
 /// let query: Query = explain_bytes(alloc, Config::new(), b"age=24&name=Alice")?;
@@ -103,8 +102,7 @@ pub fn explain_bytes<'de, T: Deserialize<'de>>(
     }
 }
 
-/// Returns the value that is read from a querystring under a configuration. It returns the same errors as [`from_str`], and allocates and takes
-/// time as that call does.
+/// Returns the value that is read from a querystring under a configuration. Errors, allocations and time are as for [`from_str`].
 ///
 /// ```
 /// let query: Query = from_bytes_with(alloc, config, b"age=24&name=Alice")?;

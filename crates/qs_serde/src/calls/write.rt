@@ -26,13 +26,13 @@ use std::marker::Brand;
 ///
 /// - [`MaxSerializationDepthExceeded`](Error::MaxSerializationDepthExceeded): a value nests deeper than the configuration's `max_depth`
 ///   allows.
-/// - [`Unsupported`](Error::Unsupported): a map's key is no value of one text.
-/// - [`Custom`](Error::Custom): the type's own code rejects the value, or what is flattened is no map and no struct; or it writes a value without a key
-///   in a map, or a key in the place of a value.
-/// - [`Failed`](Error::Failed): the type's own code went on after one of these errors.
+/// - [`Unsupported`](Error::Unsupported): a map's key isn't a value of one text.
+/// - [`Custom`](Error::Custom): the type's own code rejects the value, or writes a map's value without its key, or a key in place of a
+///   value; or what is flattened is neither a map nor a struct.
+/// - [`Failed`](Error::Failed): the type's own code continued after one of these errors.
 /// - [`OutOfMemory`](Error::OutOfMemory): an allocation failed.
 ///
-/// It allocates for the text, the longest path in it, and a number for each list or map that is open; the time grows with the text.
+/// It allocates for the text, for the longest path in it and for a stack of the open lists and maps. The time grows with the text.
 pub fn to_string<T: Serialize>(alloc: Global, value: &T) -> Result<String>
     ensures { ReturnsTextOf default (T.writes value.now) result }
 {
@@ -46,21 +46,20 @@ pub fn to_string<T: Serialize>(alloc: Global, value: &T) -> Result<String>
 /// to_writer(alloc, &query, &mut out)?; // name=Alice&age=24
 /// ```
 ///
-/// The text is made in memory first, as [`to_string`] makes it and with its allocations, and then written by as few writes as the writer
-/// allows.
+/// The text is first built in memory, with the allocations of [`to_string`], and then written in as few writes as the writer allows.
 ///
 /// # Errors
 ///
-/// - those of [`to_string`]: the text of the entries before the rejected one was written; none after [`OutOfMemory`](Error::OutOfMemory).
-/// - [`Io`](Error::Io): a write failed, was interrupted or took no byte. It isn't repeated.
+/// - the errors of [`to_string`]: the text of the entries before the rejected one was written, or nothing after
+///   [`OutOfMemory`](Error::OutOfMemory).
+/// - [`Io`](Error::Io): a write failed, was interrupted or wrote no byte. It isn't retried.
 pub fn to_writer<T: Serialize, W: Write>(alloc: Global, value: &T, writer: &mut W) -> Result<()>
     ensures { WritesTextOf default (T.writes value.now) (W.contents writer.old) (W.contents writer.new) result }
 {
     to_writer_with(alloc, Config::new(), value, writer)
 }
 
-/// Returns the querystring of a value under a configuration. The errors are those of [`to_string`]. It allocates, and takes time, as that call
-/// does.
+/// Returns the querystring of a value under a configuration. Errors, allocations and time are as for [`to_string`].
 ///
 /// ```
 /// let config = Config::new().array_format(ArrayFormat::Unindexed);
@@ -72,7 +71,7 @@ pub fn to_string_with<T: Serialize>(alloc: Global, config: Config, value: &T) ->
     write_text::<Brand, T>(alloc, config, value)
 }
 
-// Returns the querystring of a value, by a serializer of which contracts know the configuration.
+// Returns the querystring of a value, by a serializer whose configuration contracts know.
 fn write_text<K: Settings, T: Serialize>(alloc: Global, config: Config, value: &T) -> Result<String>
     requires { config ≡ K.config }
     ensures { ReturnsTextOf K.config (T.writes value.now) result }
@@ -93,8 +92,8 @@ fn string_of(text: Vec<u8>) -> String
     }
 }
 
-/// Writes the querystring of a value under a configuration. The errors, and what was written before each, are those of [`to_writer`]. It
-/// allocates, and takes time, as that call does.
+/// Writes the querystring of a value under a configuration. Errors, what was written before them, allocations and time are as for
+/// [`to_writer`].
 ///
 /// ```
 /// to_writer_with(alloc, config, &query, &mut out)?; // ids=7&ids=8
@@ -110,7 +109,7 @@ pub fn to_writer_with<T: Serialize, W: Write>(
     write_to::<Brand, T, W>(alloc, config, value, writer)
 }
 
-// Writes the querystring of a value, by a serializer of which contracts know the configuration.
+// Writes the querystring of a value, by a serializer whose configuration contracts know.
 fn write_to<K: Settings, T: Serialize, W: Write>(
     alloc: Global,
     config: Config,
@@ -128,7 +127,7 @@ fn write_to<K: Settings, T: Serialize, W: Write>(
     put(writer, &serializer.into_text(), made)
 }
 
-// Puts all of these bytes, one write after another, and returns this result; where a write fails `Io`.
+// Writes all of these bytes, one write after another, and returns the given result, or `Io` if a write fails.
 fn put<W: Write>(writer: &mut W, bytes: &[u8], made: Result<()>) -> Result<()>
     ensures { ((result ≡ made) × Appends (W.contents writer.old) (W.contents writer.new) bytes.now) ⊎ (IsIo result × (n : ℕ) × (n < length bytes.now) × Appends (W.contents writer.old) (W.contents writer.new) (take n bytes.now)) }
 {

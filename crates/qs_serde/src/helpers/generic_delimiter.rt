@@ -1,4 +1,4 @@
-//! Lists in one text, with a delimiter of the caller's.
+//! Lists in one text, with a delimiter of the caller's choice.
 
 ghost use Rattle.std.specs.Prelude.{ℕ, List, OnOk};
 ghost use Rattle.serde.specs.Event.{text};
@@ -12,7 +12,7 @@ use std::borrow::CowSlice;
 use std::fmt;
 use std::fmt::{Display, InlineText};
 
-/// Writes a list as one text: what its items print, with the delimiter between any two that follow one another.
+/// Writes a list as one text: what its items print, with the delimiter between them.
 ///
 /// ```
 /// mod dotted {
@@ -22,7 +22,7 @@ use std::fmt::{Display, InlineText};
 /// }
 /// ```
 ///
-/// The errors are those of the serializer for a text that is printed. It allocates, and takes time, as a serializer does for that text.
+/// Errors, allocations and time are those of the serializer for a printed text.
 pub fn serialize<T: Display, S: Serializer>(
     items: &[T],
     delimiter: char,
@@ -31,8 +31,8 @@ pub fn serialize<T: Display, S: Serializer>(
     out.collect_str(&Joined { items, delimiter })
 }
 
-/// Reads a text as a list: as the empty one if it is empty, and else each piece between delimiters as an item, by the rules for a value of
-/// one text in a querystring.
+/// Reads a text as a list. The empty text is the empty list. In any other text each piece between delimiters is an item, which is read like
+/// a value of one text in a querystring.
 ///
 /// ```
 /// mod dotted {
@@ -42,9 +42,9 @@ pub fn serialize<T: Display, S: Serializer>(
 /// }
 /// ```
 ///
-/// The errors are those of the format for a string. Where a piece is no item, it is the format's `custom` error with the message
-/// ``invalid item `x` ``, cut short after 128 bytes. It allocates for the text, for the list and as the items do, and takes time with the
-/// length of the text.
+/// The errors are those of the format for a string. If a piece isn't an item, the error is the format's `custom` error with the message
+/// ``invalid item `x` ``, cut short after 128 bytes. It allocates for the text, the list and the items. The time grows with the length of
+/// the text.
 pub fn deserialize<T: DeserializeOwned, F: Format>(
     alloc: Global,
     delimiter: char,

@@ -15,7 +15,7 @@ use qs_tree::{Error, Key, ParsedValue};
 use std::str;
 
 impl<'t, 'qs> TreeFormat<'t, 'qs> {
-    /// Returns the error of a value that doesn't fit its type, where no more is known.
+    /// Returns the error of a value that doesn't fit its type, if no more is known.
     #[cold]
     #[inline(never)]
     pub(crate) fn no_value(&self) -> Error
@@ -24,7 +24,7 @@ impl<'t, 'qs> TreeFormat<'t, 'qs> {
         self.saying("invalid value")
     }
 
-    /// Returns the error of a text that is no number.
+    /// Returns the error of a text that isn't a number.
     #[cold]
     #[inline(never)]
     pub(crate) fn no_number(&self) -> Error
@@ -33,7 +33,7 @@ impl<'t, 'qs> TreeFormat<'t, 'qs> {
         self.saying("invalid type: string, expected a number")
     }
 
-    /// Returns the error of a text that isn't borrowed from the input: where it is no text, the one of that.
+    /// Returns the error of a text that isn't borrowed from the input, or of a node that isn't read as a text.
     #[cold]
     #[inline(never)]
     #[tactic(auto, using(crate::proofs::Errors::step_errors))]
@@ -46,7 +46,7 @@ impl<'t, 'qs> TreeFormat<'t, 'qs> {
         }
     }
 
-    /// Returns the error of a value that doesn't fit its type, as what was asked of it says.
+    /// Returns the error of a value that doesn't fit its type, by what the type requested.
     #[cold]
     #[inline(never)]
     pub(crate) fn unfit(&self) -> Error {
@@ -67,7 +67,7 @@ impl<'t, 'qs> TreeFormat<'t, 'qs> {
         }
     }
 
-    /// Returns the error of a number that was asked for last, if this width doesn't hold it.
+    /// Returns the error of the number that was requested last, if this width doesn't hold it.
     pub(crate) fn number_misfit(&self, width: Width) -> Option<Error> {
         match self.asked {
             Asked::Unsigned(part) => self.misfit(part, &unsigned_shape(width)),
@@ -76,7 +76,7 @@ impl<'t, 'qs> TreeFormat<'t, 'qs> {
         }
     }
 
-    // Returns the error of a part that a shape doesn't read.
+    // Returns the error of a part, if this shape doesn't read it.
     fn misfit(&self, part: Part, shape: &Shape) -> Option<Error> {
         self.read_key(self.part(part), shape).err()
     }
@@ -89,7 +89,7 @@ impl<'t, 'qs> TreeFormat<'t, 'qs> {
         Error::custom(self.reader.alloc, message, &())
     }
 
-    /// Returns the error of what names no variant.
+    /// Returns the error of a node that names no variant.
     #[cold]
     #[inline(never)]
     #[tactic(auto, using(crate::proofs::Errors::step_errors))]
@@ -125,7 +125,7 @@ impl<'t, 'qs> TreeFormat<'t, 'qs> {
         }
     }
 
-    /// Returns the error of a key that no field has.
+    /// Returns the error of a key that names no field.
     #[cold]
     #[inline(never)]
     pub(crate) fn no_field(&self) -> Error {
@@ -144,13 +144,13 @@ impl<'t, 'qs> TreeFormat<'t, 'qs> {
         self.hinted(key, error)
     }
 
-    // Returns the error of a key with this text, which no field has.
+    // Returns the error of a key with this text, which names no field.
     fn unknown_field(&self, name: &str) -> Error {
         let message = format_args!("unknown field `{name}`");
         Error::custom(self.reader.alloc, message, &())
     }
 
-    /// Returns the error of a key or a value. Where a key holds a bracket it has a hint.
+    /// Returns the error of a node, with a hint if the node is a key that contains a bracket.
     #[cold]
     #[inline(never)]
     #[tactic(auto, using(crate::proofs::Errors::step_errors))]
@@ -174,7 +174,7 @@ fn buffered(buffer: &mut Buffer, number: u32) -> &str {
     buffer.format(number)
 }
 
-// Returns the shape of a number without a sign.
+// Returns the shape of an unsigned number.
 fn unsigned_shape(width: Width) -> Shape {
     match width {
         Width::Bits8 => Shape::U8,
@@ -184,7 +184,7 @@ fn unsigned_shape(width: Width) -> Shape {
     }
 }
 
-// Returns the shape of a number with a sign.
+// Returns the shape of a signed number.
 fn signed_shape(width: Width) -> Shape {
     match width {
         Width::Bits8 => Shape::I8,

@@ -1,4 +1,4 @@
-//! The format: where it is in a tree, and how it moves there.
+//! The format: its place in a tree, and how it moves.
 
 ghost use Rattle.std.specs.Prelude.{◌≡◌, ◌≢◌, ◌<◌, ◌-◌, ◌++◌, ◌∷◌, [], false, suc, true, Some, slice_get, IfErr, IfOk, OnOk};
 ghost use Rattle.qs_spec.specs.Config.{are_rejected};
@@ -16,68 +16,68 @@ use qs_tree::{Config, ParsedValue, Result};
 use serde::{Deserialize, Deserializer};
 use std::alloc::Global;
 
-/// A tree that is read step by step: the [`Format`](serde::Format) of serde's derives.
+/// A tree that serde's derives read step by step, as a [`Format`](serde::Format).
 ///
 /// ```
 /// let mut format = TreeFormat::new(alloc, Config::new(), &tree);
 /// let query = Query::deserialize(alloc, &mut Deserializer::new(input, &mut format))?;
 /// ```
 ///
-/// The input is the one that the tree was parsed from. The calls of this crate read a tree again after an error, to report the one that
-/// comes first; this type alone reports the first that it meets.
+/// The input is the one that the tree was parsed from. This type reports the first error that it meets. The calls of this crate then read
+/// the tree again, to report the first in the order that [`from_str`](crate::from_str) describes.
 #[derive(Drop)]
 pub struct TreeFormat<'t, 'qs> {
     pub(crate) reader: Reader,
     pub(crate) root: &'t ParsedValue<'qs>,
-    // The innermost list or map, if one is open.
+    // The innermost open list or map; the root if none is open.
     pub(crate) top: &'t ParsedValue<'qs>,
-    // What came last of it, and which part of that is next.
+    // The current node in it, and which part of that node is read next.
     pub(crate) node: &'t ParsedValue<'qs>,
     pub(crate) part: Part,
-    // The lists and maps that are open, the innermost last.
+    // The open lists and maps, the innermost last.
     pub(crate) stack: Vec<Frame>,
-    // What was asked of what came last.
+    // What the type requested of the current node.
     pub(crate) asked: Asked,
-    // How many items the list had that ended last, and whether these were the fields of a struct.
+    // How many items the list that ended last had, and whether they were the fields of a struct.
     pub(crate) count: usize,
     pub(crate) lacks_items: bool,
     pub(crate) search: Search,
 }
 
-/// What was asked of what came last, for the error that may be wanted afterwards.
+/// What the type requested of the current node, for an error that is made later.
 #[derive(Clone, Copy)]
 pub(crate) enum Asked {
-    /// Nothing that is noted: where an error is wanted, a unit.
+    /// No request is noted. An error is then the one for a unit.
     Unit,
-    /// A number without a sign, of this part.
+    /// An unsigned number, from this part.
     Unsigned(Part),
-    /// A number with a sign, of this part.
+    /// A signed number, from this part.
     Signed(Part),
     /// The variant that a text names.
     Variant,
-    /// The variant that a key names, which stands for none. Where a unit is asked for then, as of `Unit`.
+    /// A variant by a key, which names none. The error for a unit is then as for `Unit`.
     Key,
-    /// The variant that the first key of a map names, and there is no key.
+    /// A variant by the first key of a map that has no key.
     Enum,
-    /// Each of several ways to read it.
+    /// Each of several ways to read the node.
     Tried,
-    /// Nothing that is known.
+    /// Not known.
     Nothing,
 }
 
-/// How an error is looked for after a read that failed.
+/// How a tree is read again after a read that failed, to find the error.
 #[derive(Clone, Copy)]
 pub(crate) struct Search {
-    /// Whether fields come in their own order.
+    /// Whether fields are read in their own order, not in the order of the tree.
     pub(crate) in_order: bool,
-    /// How many numbers were asked for.
+    /// How many numbers were requested.
     pub(crate) numbers: usize,
-    /// Which of them is given as one that this width doesn't hold; none for 0.
+    /// Which of them, counted from 1, is replaced by a number that `width` doesn't hold; 0 for none.
     pub(crate) probed: usize,
     pub(crate) width: Width,
 }
 
-/// A place to come back to.
+/// A place in a tree that a format can return to.
 #[derive(Clone, Copy)]
 pub struct Mark {
     pub(crate) depth: usize,
@@ -85,7 +85,7 @@ pub struct Mark {
 }
 
 impl Search {
-    /// Returns the search of a read that looks for no error.
+    /// Returns the search of a read that doesn't look for an error.
     pub(crate) fn none() -> Search
         ensures { result.in_order ≡ false }
     {
@@ -124,7 +124,7 @@ impl<'t, 'qs> TreeFormat<'t, 'qs> {
         }
     }
 
-    /// Returns the innermost list or map.
+    /// Returns the frame of the innermost list or map, if one is open.
     #[inline(always)]
     pub(crate) fn last(&self) -> Option<Frame>
         ensures { result ≡ last_frame self.now.stack.items }
@@ -135,7 +135,7 @@ impl<'t, 'qs> TreeFormat<'t, 'qs> {
         }
     }
 
-    /// Returns the key that came last.
+    /// Returns the key of the current entry.
     pub(crate) fn key(&self) -> Node<'t, 'qs>
         ensures { node_tree result ≡ key_tree (slice_get (pairs_in (tree_of self.now.top.now)) (passed (last_frame self.now.stack.items) - 1)) }
     {
@@ -149,7 +149,7 @@ impl<'t, 'qs> TreeFormat<'t, 'qs> {
         }
     }
 
-    /// Returns this part of what came last.
+    /// Returns this part of the current node.
     #[inline(always)]
     pub(crate) fn part(&self, part: Part) -> Node<'t, 'qs>
         ensures { node_tree result ≡ part_view self.now part }
@@ -161,7 +161,7 @@ impl<'t, 'qs> TreeFormat<'t, 'qs> {
         }
     }
 
-    /// Takes what is next, and goes to what comes after it.
+    /// Takes what is next. After a key, its value is next.
     #[inline(always)]
     pub(crate) fn take(&mut self) -> Node<'t, 'qs>
         ensures node { node_tree result ≡ tree_at self.old }
@@ -174,7 +174,7 @@ impl<'t, 'qs> TreeFormat<'t, 'qs> {
         node
     }
 
-    /// Returns the node that is next. Of a key it returns an error.
+    /// Returns the node that is next, or an error if a key is next.
     #[tactic(auto, using(crate::proofs::Errors::rejects_custom))]
     pub(crate) fn next_node(&self) -> Result<&'t ParsedValue<'qs>>
         ensures node { Gives (λ v. tree_of v.now) true result (next_node self.now) }
@@ -186,7 +186,7 @@ impl<'t, 'qs> TreeFormat<'t, 'qs> {
         }
     }
 
-    /// Begins a list or a map of what is next.
+    /// Begins the current node as a list or a map.
     pub(crate) fn open(&mut self, kind: FrameKind) -> Result<()>
         ensures begins { OnOk result (Begins self.old kind self.new) }
         ensures errors { IfErr result (λ e. e ≡ OutOfMemory) }
@@ -206,7 +206,7 @@ impl<'t, 'qs> TreeFormat<'t, 'qs> {
         self.asked = Asked::Unit;
     }
 
-    /// Finds the innermost list or map from the root, and what came last of it.
+    /// Finds the innermost list or map and its current node, from the root.
     pub(crate) fn find_place(&mut self)
         ensures kept { self.new ≡ record self.old { top = self.new.top; node = self.new.node } }
         ensures place { IsAt self.new }
@@ -220,7 +220,7 @@ impl<'t, 'qs> TreeFormat<'t, 'qs> {
         self.go_to(top, node);
     }
 
-    // Changes the innermost list or map, and what came last of it.
+    // Sets the innermost list or map, and the current node.
     #[inline(always)]
     fn go_to(&mut self, top: &'t ParsedValue<'qs>, node: &'t ParsedValue<'qs>)
         ensures kept { self.new ≡ record self.old { top = self.new.top; node = self.new.node } }
@@ -231,7 +231,7 @@ impl<'t, 'qs> TreeFormat<'t, 'qs> {
         self.node = node;
     }
 
-    /// Goes to this part of the innermost list or map, which is at the frame's index of it.
+    /// Goes to this item or value of the innermost list or map, which is at the frame's index.
     #[inline(always)]
     pub(crate) fn advance(&mut self, frame: Frame, value: &'t ParsedValue<'qs>)
         ensures moves { kind_of self.old ≡ Some frame.kind → frame.next < 18446744073709551615 → child_at (tree_of self.old.top.now) frame.next ≡ tree_of value.now → Moves frame.next self.old self.new }
@@ -243,7 +243,7 @@ impl<'t, 'qs> TreeFormat<'t, 'qs> {
         self.asked = Asked::Unit;
     }
 
-    // Changes the frame of the innermost list or map to this.
+    // Sets the frame of the innermost list or map.
     #[inline(always)]
     #[tactic(auto, using(crate::proofs::Places::put_last))]
     fn set_last(&mut self, frame: Frame)
@@ -256,7 +256,7 @@ impl<'t, 'qs> TreeFormat<'t, 'qs> {
     }
 }
 
-/// Reads a value of what is next.
+/// Reads a value from what is next.
 pub(crate) fn read_tree<'de, T: Deserialize<'de>>(
     alloc: Global,
     input: &'de [u8],

@@ -6,27 +6,27 @@ ghost use Rattle.std.specs.Prelude.{◌≡◌, ◌<◌, ◌-◌, suc};
 #[derive(Clone, Copy)]
 pub(crate) struct Frame {
     pub(crate) kind: FrameKind,
-    /// The index of what comes next. What came last is at the index before.
+    /// The index of the next item or entry. The current one is at the index before.
     pub(crate) next: usize,
-    /// Where fields are read in their order: the next of them.
+    /// The next field, if fields are read in their own order.
     pub(crate) field: usize,
 }
 
-/// What is read of it.
+/// What is read from it.
 #[derive(Clone, Copy, PartialEq, Eq)]
 pub(crate) enum FrameKind {
     /// The items of a list or a tuple.
     Items,
     /// The fields of a struct, by their names.
     Fields,
-    /// The fields of a struct, by their places in a sequence.
+    /// The fields of a struct, by their positions in a sequence.
     Places,
     /// The entries of a map, or the variant that its first key names.
     Map,
 }
 
 impl Frame {
-    /// Returns a frame of which nothing came yet.
+    /// Returns a frame before its first item or entry.
     pub(crate) fn new(kind: FrameKind) -> Frame
         ensures { result ≡ record { kind = kind; next = 0; field = 0 } }
     {
@@ -37,7 +37,7 @@ impl Frame {
         }
     }
 
-    /// Returns the frame after one more part came.
+    /// Returns the frame one item or entry further.
     #[inline(always)]
     pub(crate) fn advanced(self) -> Frame
         ensures { self.next < 18446744073709551615 → result ≡ record self { next = suc self.next } }
@@ -48,7 +48,7 @@ impl Frame {
         }
     }
 
-    /// Returns the index of what came last, or 0 where nothing came.
+    /// Returns the index of the current item or entry, or 0 before the first.
     pub(crate) fn last_index(self) -> usize
         ensures { result ≡ self.next - 1 }
     {

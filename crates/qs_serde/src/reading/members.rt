@@ -1,4 +1,4 @@
-//! The parts of lists and maps, one after another.
+//! The items of lists and the entries of maps, one after another.
 
 ghost use Rattle.std.specs.Prelude.{◌≡◌, true, ℕ, ◌≢◌, [], Ok, None, Some, IfErr, IfOk, OnOk, IfSome, IfNone, MatchBool, MatchOption, slice_get};
 ghost use Rattle.qs_tree.specs.tree.Views.{tree_of};
@@ -17,7 +17,7 @@ use qs_tree::{ParsedValue, Result};
 use serde::Name;
 
 impl<'t, 'qs> TreeFormat<'t, 'qs> {
-    /// Goes to the next item of the innermost list, if there is one. At the end it leaves the list.
+    /// Goes to the next item of the innermost list, and returns whether there is one. At the end it leaves the list.
     #[inline(always)]
     #[tactic(auto, using(crate::proofs::Places::item_child, crate::proofs::Errors::step_errors))]
     pub(crate) fn go_to_item(&mut self, frame: Frame) -> Result<bool>
@@ -58,7 +58,7 @@ impl<'t, 'qs> TreeFormat<'t, 'qs> {
         self.close();
     }
 
-    /// Goes to the entry at the frame's index of the innermost map, and returns its key. At the end it leaves the map.
+    /// Goes to the entry at the frame's index in the innermost map, and returns its key. At the end it leaves the map.
     #[inline(always)]
     #[tactic(auto, using(crate::proofs::Places::entry_child))]
     pub(crate) fn go_to_entry(&mut self, frame: Frame) -> Option<Node<'t, 'qs>>
@@ -77,7 +77,7 @@ impl<'t, 'qs> TreeFormat<'t, 'qs> {
         }
     }
 
-    /// Goes to the entry at the frame's index of the innermost map, and returns the index of the name that its key stands for.
+    /// Goes to the entry at the frame's index in the innermost map, and returns the index of the name that its key matches.
     #[inline(always)]
     pub(crate) fn go_to_member(
         &mut self,
@@ -119,7 +119,8 @@ impl<'t, 'qs> TreeFormat<'t, 'qs> {
         }
     }
 
-    /// Goes to the next entry of a struct in the order of its fields, and then to the others, and returns the index of its field.
+    /// Goes to the next entry of a struct, and returns the index of its field. Entries are in the order of their fields, with other keys
+    /// last.
     #[inline(never)]
     pub(crate) fn go_to_field(&mut self, names: &[Name<'_>], frame: Frame) -> Result<Option<usize>>
         ensures errors { IfErr result (IsStepError (is_text (tree_of self.old.top.now))) }
@@ -154,8 +155,8 @@ impl<'t, 'qs> TreeFormat<'t, 'qs> {
         None
     }
 
-    // Returns the index of the first entry from an index on whose key stands for this field; for the index after the last field, whose key
-    // stands for none.
+    // Returns the index of the first entry, from an index on, whose key names this field. If `field` is `names.len()`, it is the first
+    // whose key names no field.
     fn entry_of(&self, names: &[Name<'_>], field: usize, from: usize) -> Option<usize> {
         for at in from..usize::MAX {
             let (key, _) = entry_at(self.top, at)?;
@@ -170,8 +171,8 @@ impl<'t, 'qs> TreeFormat<'t, 'qs> {
         None
     }
 
-    /// Goes to the next entry of a map that names a variant or is shared, and returns the index of the name that its key stands for. An enum asks
-    /// for a key among no names at its end: the other keys of its map are passed over.
+    /// Goes to the next entry of a map that names a variant or is shared, and returns the index of the name that its key matches. At the
+    /// end of an enum there are no names: its map ends, and the other keys are passed over.
     #[inline(always)]
     pub(crate) fn go_to_shared(&mut self, names: &[Name<'_>], frame: Frame) -> Result<Option<usize>>
         ensures some { kind_of self.old ≡ Some frame.kind → IfOk result (λ o. IfSome o (λ at. EntryIs frame.next names.now at self.old self.new)) }
@@ -189,7 +190,7 @@ impl<'t, 'qs> TreeFormat<'t, 'qs> {
         Ok(found)
     }
 
-    // Notes which key came, for the error of an enum that has no variant of its name.
+    // Notes what the key matches, for the error of an enum that has no variant of its name.
     #[inline(always)]
     fn note(&mut self, found: Option<usize>, is_first: bool)
         ensures { self.new ≡ record self.old { asked = self.new.asked } }
@@ -202,7 +203,7 @@ impl<'t, 'qs> TreeFormat<'t, 'qs> {
         };
     }
 
-    /// Returns as what kind a struct is begun of what is next. A text holds fields only in a variant, under the empty key.
+    /// Returns the kind of frame by which what is next is read as a struct. A text holds fields only in a variant, under the empty key.
     #[tactic(auto, using(crate::proofs::Errors::rejects_custom, crate::proofs::Errors::rejects_further))]
     pub(crate) fn kind_of_struct(&self) -> Result<FrameKind>
         ensures exact { Gives (λ kind. kind) (is_text (tree_of self.now.node.now)) result (next_struct self.now) }

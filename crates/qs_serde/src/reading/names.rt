@@ -1,4 +1,4 @@
-//! Names, and the texts and keys that stand for them.
+//! Names, and the texts and keys that match them.
 
 ghost use Rattle.std.specs.Prelude.{◌≡◌, ◌≤◌, false, decimal, HoldsAt, IfSome};
 ghost use Rattle.qs_spec.specs.Segment.{segment_text};
@@ -12,8 +12,8 @@ use qs_tree::{Key, ParsedValue};
 use serde::Name;
 use std::str;
 
-/// Returns the index of the name that a text or a key stands for, `usize::MAX` where it stands for none, and nothing where it isn't UTF-8
-/// or no text.
+/// Returns the index of the name that a text or a key matches, or `usize::MAX` if it matches none. Returns `None` if it isn't UTF-8, or
+/// isn't a text.
 #[inline(always)]
 pub(crate) fn find_node(names: &[Name<'_>], node: Node<'_, '_>) -> Option<usize>
     ensures { IfSome result (λ at. LooksUp (node_tree node.entry) names.now at) }
@@ -26,7 +26,7 @@ pub(crate) fn find_node(names: &[Name<'_>], node: Node<'_, '_>) -> Option<usize>
     }
 }
 
-// Returns the index of the name that a key stands for.
+// Returns the index of the name that a key matches.
 #[inline(always)]
 fn find_key(names: &[Name<'_>], key: &Key<'_>) -> Option<usize>
     ensures { IfSome result (λ at. FindsText names.now (segment_text (segment_of_key key.now)) at) }
@@ -37,7 +37,7 @@ fn find_key(names: &[Name<'_>], key: &Key<'_>) -> Option<usize>
     }
 }
 
-// Returns the index of the name that the text of a node stands for. An empty value is the empty name.
+// Returns the index of the name that the text of a node matches. The text of an empty value is empty.
 #[inline(always)]
 fn find_value(names: &[Name<'_>], value: &ParsedValue<'_>) -> Option<usize>
     ensures { IfSome result (λ at. LooksUp (tree_of value.now) names.now at) }
@@ -49,7 +49,7 @@ fn find_value(names: &[Name<'_>], value: &ParsedValue<'_>) -> Option<usize>
     }
 }
 
-// Returns the index of the name that a text stands for.
+// Returns the index of the name that a text matches.
 #[inline(always)]
 #[tactic(auto, unfolding(crate::specs::Lookups::FindsText))]
 fn find_text(names: &[Name<'_>], text: &[u8]) -> Option<usize>
@@ -61,7 +61,7 @@ fn find_text(names: &[Name<'_>], text: &[u8]) -> Option<usize>
     }
 }
 
-// Returns the index of the name that the digits of a number stand for.
+// Returns the index of the name that the digits of a number match.
 #[inline(never)]
 #[tactic(auto, unfolding(crate::specs::Lookups::FindsText))]
 fn find_number(names: &[Name<'_>], number: u32) -> usize
@@ -71,7 +71,7 @@ fn find_number(names: &[Name<'_>], number: u32) -> usize
     serde::find(names, buffer.format(number))
 }
 
-/// Returns the index of the first name from an index on that a key may stand for.
+/// Returns the index of the first name, from an index on, that isn't skipped.
 pub(crate) fn first_name(names: &[Name<'_>], from: usize) -> Option<usize>
     ensures { IfSome result (λ at. (from ≤ at) × HoldsAt (λ name. name.skipped ≡ false) names.now at) }
 {

@@ -29,11 +29,11 @@ pub(crate) enum Node<'t, 'qs> {
     NoValue,
     /// A key of a map.
     Key(&'t Key<'qs>),
-    /// The empty key, under which a text is found.
+    /// The empty key, under which a text is an entry.
     EmptyKey,
 }
 
-/// Which part of what came last is next.
+/// Which part of the current node is read next.
 #[derive(Clone, Copy, PartialEq, Eq)]
 pub(crate) enum Part {
     /// The value.
@@ -54,7 +54,7 @@ fn text_node(bytes: &[u8]) -> ParsedValue<'_>
 }
 
 impl<'t, 'qs> Node<'t, 'qs> {
-    /// Reads it by a shape. A key is read as its text.
+    /// Reads the node by a shape. A key is read as its text.
     pub(crate) fn read(self, reader: Reader, shape: &Shape) -> Result<Data>
         ensures { Gives data_of (is_text (node_tree self.entry)) result (reads reader.reject_duplicates (shape_of shape.now) (node_tree self.entry)) }
     {
@@ -70,7 +70,7 @@ impl<'t, 'qs> Node<'t, 'qs> {
         }
     }
 
-    /// Returns whether it is a key that holds a bracket, as one may that should have been read in form mode.
+    /// Returns whether this is a key that contains a bracket. Perhaps the input should have been read in form mode.
     pub(crate) fn has_bracket(self) -> bool {
         match self {
             Node::Key(Key::String(text)) => text.as_slice().contains(&b'['),
@@ -79,7 +79,7 @@ impl<'t, 'qs> Node<'t, 'qs> {
     }
 }
 
-/// Returns the item at an index of a node, if there are so many; rejected where a map has another key there.
+/// Returns the item at an index of a node, if there is one. It is an error if a map has another key there.
 #[inline(always)]
 pub(crate) fn item_at<'t, 'qs>(
     reader: Reader,
@@ -121,7 +121,7 @@ pub(crate) fn entries_in<'t, 'qs>(value: &'t ParsedValue<'qs>) -> Entries<'t, 'q
     }
 }
 
-/// Returns the key at an index, and its value.
+/// Returns the key at an index and its value, if there is an entry.
 #[inline(always)]
 pub(crate) fn entry_at<'t, 'qs>(
     value: &'t ParsedValue<'qs>,
@@ -151,7 +151,7 @@ pub(crate) fn entry_at<'t, 'qs>(
     }
 }
 
-/// Returns what came last of a list or a map of which so many parts came; itself where none came.
+/// Returns the current node of a list or a map after `count` items or entries; the list or map itself before the first.
 #[inline(always)]
 pub(crate) fn last_of<'t, 'qs>(value: &'t ParsedValue<'qs>, count: usize) -> &'t ParsedValue<'qs>
     ensures { tree_of result.now ≡ last_part (tree_of value.now) count }
@@ -163,7 +163,7 @@ pub(crate) fn last_of<'t, 'qs>(value: &'t ParsedValue<'qs>, count: usize) -> &'t
     }
 }
 
-// Returns the item or the value at an index; the node itself where there is none.
+// Returns the item or the value at an index, or the node itself if there is none.
 fn child<'t, 'qs>(value: &'t ParsedValue<'qs>, at: usize) -> &'t ParsedValue<'qs>
     ensures { tree_of result.now ≡ child_at (tree_of value.now) at }
 {
@@ -174,7 +174,7 @@ fn child<'t, 'qs>(value: &'t ParsedValue<'qs>, at: usize) -> &'t ParsedValue<'qs
     }
 }
 
-// Returns the value of an entry, if there is one.
+// Returns the value of an entry, or the other value if there is none.
 fn value_or<'t, 'qs>(
     entry: Option<(&'t Key<'qs>, &'t ParsedValue<'qs>)>,
     other: &'t ParsedValue<'qs>,
@@ -187,7 +187,7 @@ fn value_or<'t, 'qs>(
     }
 }
 
-// Returns the item, if there is one.
+// Returns the item, or the other value if there is none.
 fn item_or<'t, 'qs>(
     item: Option<&'t ParsedValue<'qs>>,
     other: &'t ParsedValue<'qs>,

@@ -15,7 +15,7 @@ use qs_tree::{Error, Result};
 use std::str;
 
 impl Search {
-    // Counts a number that is asked for, and returns whether another one is given in its place.
+    // Counts a number that is requested, and returns whether it is replaced by another.
     fn is_probed(&mut self) -> bool
         ensures { self.new ≡ record self.old { numbers = self.new.numbers } }
     {
@@ -24,7 +24,7 @@ impl Search {
     }
 }
 
-// Returns the smallest number without a sign that this width doesn't hold.
+// Returns the smallest unsigned number that this width doesn't hold; for 64 bits, the largest number.
 fn past_unsigned(width: Width) -> u64 {
     match width {
         Width::Bits8 => 1 << 8,
@@ -34,7 +34,7 @@ fn past_unsigned(width: Width) -> u64 {
     }
 }
 
-// Returns the smallest positive number that this width doesn't hold beside a sign.
+// Returns the smallest positive number that a signed number of this width doesn't hold; for 64 bits, the largest number.
 fn past_signed(width: Width) -> i64 {
     match width {
         Width::Bits8 => 1 << 7,
@@ -45,7 +45,7 @@ fn past_signed(width: Width) -> i64 {
 }
 
 impl<'t, 'qs> TreeFormat<'t, 'qs> {
-    /// Reads a number with a sign.
+    /// Reads a signed number.
     #[tactic(auto, using(crate::proofs::Errors::step_errors))]
     pub(crate) fn signed(&mut self) -> Result<i64>
         ensures notes { Notes self.old self.new }
@@ -68,7 +68,7 @@ impl<'t, 'qs> TreeFormat<'t, 'qs> {
         }
     }
 
-    /// Reads a number without a sign.
+    /// Reads an unsigned number.
     #[tactic(auto, using(crate::proofs::Errors::step_errors))]
     pub(crate) fn unsigned(&mut self) -> Result<u64>
         ensures notes { Notes self.old self.new }
@@ -91,7 +91,7 @@ impl<'t, 'qs> TreeFormat<'t, 'qs> {
         }
     }
 
-    /// Reads a number that 64 bits don't hold.
+    /// Reads an unsigned number that 64 bits don't hold.
     #[tactic(auto, using(crate::proofs::Errors::step_errors))]
     pub(crate) fn wide_unsigned(&mut self) -> Result<u128>
         ensures takes { Takes self.old self.new }
@@ -106,7 +106,7 @@ impl<'t, 'qs> TreeFormat<'t, 'qs> {
         }
     }
 
-    /// Reads a number that 64 bits with a sign don't hold.
+    /// Reads a signed number that 64 bits don't hold.
     #[tactic(auto, using(crate::proofs::Errors::step_errors))]
     pub(crate) fn wide_signed(&mut self) -> Result<i128>
         ensures takes { Takes self.old self.new }

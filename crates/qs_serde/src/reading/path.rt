@@ -1,4 +1,4 @@
-//! Where a format is, as text.
+//! The path to the current node of a format, as text.
 
 use super::format::TreeFormat;
 use super::frame::{Frame, FrameKind};
@@ -8,7 +8,7 @@ use std::alloc::AllocError;
 use std::fmt::{Display, Write};
 
 impl<'t, 'qs> TreeFormat<'t, 'qs> {
-    /// Returns the path to what came last.
+    /// Returns the path to the current node.
     pub(crate) fn path(&self) -> Result<String, AllocError> {
         let mut path = String::new(self.reader.alloc);
         let mut value = self.root;
@@ -22,7 +22,7 @@ impl<'t, 'qs> TreeFormat<'t, 'qs> {
     }
 }
 
-// Appends the segment that leads from a node to what came last of it.
+// Appends the segment that leads from a list or a map to its current item or entry.
 fn append_segment(
     path: &mut String,
     frame: Frame,
@@ -45,7 +45,7 @@ fn append_index(path: &mut String, at: usize) -> Result<(), AllocError> {
     path.push(']')
 }
 
-// Appends a key, after a point if it isn't the first.
+// Appends a key, after a dot if the path isn't empty.
 fn append_key(path: &mut String, key: &Key<'_>) -> Result<(), AllocError> {
     if !path.is_empty() {
         path.push('.')?;
@@ -56,7 +56,7 @@ fn append_key(path: &mut String, key: &Key<'_>) -> Result<(), AllocError> {
     }
 }
 
-// Appends bytes as text, with U+FFFD for each run of bytes that is none.
+// Appends bytes as text, with U+FFFD for each run of bytes that isn't UTF-8.
 fn append_text(path: &mut String, bytes: &[u8]) -> Result<(), AllocError> {
     for chunk in bytes.utf8_chunks() {
         append_line(path, chunk.valid())?;

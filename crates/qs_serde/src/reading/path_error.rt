@@ -7,7 +7,7 @@ use qs_tree::Error;
 use std::alloc::Global;
 use std::fmt;
 
-/// Why a value isn't read, and which part of it.
+/// An error of reading, with the path to the part that isn't read.
 ///
 /// Its `Display` writes the path before the error: `address.lines[2]: invalid type: string, expected u8`.
 ///
@@ -17,15 +17,15 @@ use std::fmt;
 /// ```
 #[derive(Debug, Drop)]
 pub struct PathError {
-    /// The path to the part that isn't read: the keys that lead to it with `.` between them, and each index of a list in brackets. It is
-    /// empty for the whole, and for an input that can't be parsed. Control characters of a key are escaped.
+    /// The path to the part that isn't read: its keys, separated by `.`, and its list indices, each in brackets. It is empty if that part
+    /// is the whole value, or if the input can't be parsed. Control characters in keys are escaped.
     pub path: String,
     /// What is wrong there.
     pub error: Error,
 }
 
 impl PathError {
-    /// Returns the error of a value. An error of the type's own code that no step returns becomes `Custom`, with its message.
+    /// Returns the error of a read. An error of the type's own code becomes `Custom`, with its message, if no step returns such an error.
     #[cold]
     #[inline(never)]
     pub(crate) fn of_reading(self, alloc: Global) -> PathError

@@ -1,4 +1,4 @@
-//! The steps that serde asks for.
+//! The steps of reading that serde calls.
 
 ghost use Rattle.std.specs.Prelude.{◌≡◌, ⊤, true, false, None, slice_range, string_bytes, IfErr, IfOk, IsOk, OnOk, IsTrue, MatchBool, MatchOption};
 ghost use Rattle.qs_spec.specs.Leaf.Leaf.{NoValue};
@@ -61,7 +61,7 @@ impl<'t, 'qs> Format for TreeFormat<'t, 'qs> {
         self.unsigned()
     }
 
-    // What has 64 bits is read as every number is.
+    // A number that 64 bits hold is read as `i64` reads it.
     fn i128(&mut self, _input: &[u8]) -> Result<i128>
         ensures step { IfOk result (λ v. Reads self.old (signed v) self.new) }
         ensures errors { IfErr result (IsStepError (is_text (tree_at self.old))) }
@@ -114,7 +114,7 @@ impl<'t, 'qs> Format for TreeFormat<'t, 'qs> {
         }
     }
 
-    // The tree doesn't say where its texts stand in the input, so they are searched for.
+    // The tree doesn't say where in the input its texts are, so they are searched for.
     #[tactic(auto, using(crate::proofs::Errors::step_errors, crate::proofs::Borrowed::text_read, qs_data::proofs::lemmas::read::Scalars::scalar_bad))]
     fn plain_str(&mut self, input: &[u8]) -> Result<(usize, usize)>
         ensures step { IfOk result (λ r. Reads self.old (text (slice_range input.now r.0 r.1)) self.new) }
@@ -189,7 +189,7 @@ impl<'t, 'qs> Format for TreeFormat<'t, 'qs> {
         }
     }
 
-    // An empty value is some of what the part reads from no value.
+    // An empty value is `Some` of what is read from no value.
     #[tactic(auto, using(crate::proofs::Errors::step_errors), unfolding(qs_spec::specs::internal::ReadFunction::reads))]
     fn take_none(&mut self, _input: &[u8]) -> Result<bool>
         ensures step { IfOk result (λ b. MatchBool b (Reads self.old nothing self.new) (Stays self.old self.new)) }
@@ -233,7 +233,7 @@ impl<'t, 'qs> Format for TreeFormat<'t, 'qs> {
         self.go_to_item(frame)
     }
 
-    // More items than a tuple has are passed over.
+    // Items after those of the tuple are passed over.
     fn end_tuple(&mut self, _input: &[u8]) -> Result<()>
         ensures step { OnOk result (Reads self.old seq_ends self.new) }
         ensures returns { IsOk result }
@@ -371,7 +371,7 @@ impl<'t, 'qs> Format for TreeFormat<'t, 'qs> {
         self.no_field()
     }
 
-    // A text was looked up among the names, or the key that came last.
+    // The text was looked up among the names, or the current key.
     fn unknown_variant(&self) -> Error {
         match self.asked {
             Asked::Variant => self.no_variant(Node::Value(self.node)),

@@ -8,11 +8,11 @@ pub(crate) struct Frame {
     pub(crate) kind: FrameKind,
     /// How many parts were written.
     pub(crate) count: usize,
-    /// How long the path was before the part that is being written, where that has a segment.
+    /// The length of the path before the part that is being written, if that part has a segment.
     pub(crate) part: Option<usize>,
 }
 
-/// What is written of it.
+/// What is written into it.
 #[derive(Clone, Copy, PartialEq, Eq)]
 pub(crate) enum FrameKind {
     /// One value, in no list or map.
@@ -25,10 +25,10 @@ pub(crate) enum FrameKind {
     Flattened,
 }
 
-/// What comes next.
+/// What is written next.
 #[derive(Clone, Copy, PartialEq, Eq)]
 pub(crate) enum Next {
-    /// A value, or what ends a list or a map.
+    /// A value, or the end of a list or a map.
     Value,
     /// A key.
     Key,
@@ -39,7 +39,7 @@ pub(crate) enum Next {
 }
 
 impl Frame {
-    /// Returns a frame of which nothing was written.
+    /// Returns a frame before its first part.
     pub(crate) fn new(kind: FrameKind) -> Frame
         ensures { result ≡ record { kind = kind; count = 0; part = None } }
     {

@@ -6,14 +6,14 @@ use qs_data::{Stop, Writer};
 use qs_tree::Error;
 use std::alloc::{AllocError, AllocFailed};
 
-/// Why an event isn't written. It is small, since each step returns one: [`into_error`](Halt::into_error) makes an [`Error`] of it.
+/// Why an event isn't written. It is small, since each step returns one; [`into_error`](Halt::into_error) makes an [`Error`] of it.
 #[derive(Drop)]
 pub(crate) enum Halt {
-    /// The event can't come, for this reason.
+    /// The event isn't allowed here, for this reason.
     Misplaced(&'static str),
     /// The writer stopped, or an allocation failed.
     Stopped(Stop),
-    /// An error came before.
+    /// There was an error before.
     Failed,
 }
 

@@ -1,4 +1,4 @@
-//! What is kept of an event, and the texts that a serializer needs room for.
+//! What is kept of an event, and the texts that need a buffer.
 
 ghost use Rattle.std.specs.Prelude.{◌≡◌, ℕ, List, OnOk, IfSome};
 ghost use Rattle.qs_spec.specs.Config.{Config as Settings};
@@ -21,7 +21,7 @@ use ryu::{Buffer, Float};
 use serde::{Case, NameKind};
 use std::fmt::{Display, Write};
 
-/// Keeps an event, of which this was made. After an error nothing comes next.
+/// Keeps an event with the result of writing it. After an error nothing more is written.
 #[inline(always)]
 pub(crate) fn keep(
     position: &mut Position,
@@ -63,7 +63,7 @@ pub(crate) fn variant(
     position.scalar(Scalar::Bytes(room.as_bytes()))
 }
 
-/// Goes under a name in a case.
+/// Extends the path by a name in a case.
 pub(crate) fn key(
     position: &mut Position,
     room: &mut String,
@@ -81,7 +81,7 @@ pub(crate) fn key(
     position.key(room.as_bytes())
 }
 
-/// Writes a float by the fewest digits that are read as it, as the Rust crate does.
+/// Writes a float with the fewest digits that are read back as it, as the Rust crate does.
 pub(crate) fn float<F: Float>(position: &mut Position, value: F) -> Result<(), Halt>
     ensures { (bytes : List ℕ) × Moves (λ config s. text_sent config bytes s) result position.old position.new }
 {
@@ -90,7 +90,7 @@ pub(crate) fn float<F: Float>(position: &mut Position, value: F) -> Result<(), H
     position.scalar(Scalar::Bytes(text.as_bytes()))
 }
 
-/// Writes what is printed.
+/// Writes what a value prints.
 pub(crate) fn printed<T: Display>(
     position: &mut Position,
     room: &mut String,

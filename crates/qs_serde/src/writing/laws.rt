@@ -1,4 +1,4 @@
-//! Laws of writing: the events of data have the text of their entries, and worked texts.
+//! Laws of writing: the text of data's events, and worked texts.
 
 ghost use Rattle.std.specs.Prelude.{◌≡◌, ℕ, List, codes, false, true, [], ◌∷◌, Some, None};
 ghost use Rattle.qs_spec.specs.Config.{default, empty_indexed, unindexed};
@@ -12,7 +12,8 @@ ghost use Rattle.qs_serde.specs.Sent.{text_of_sent};
 ghost use Rattle.qs_serde.specs.Sends.{AreSaid, sends};
 ghost use Rattle.qs_serde.specs.Texts.{IsTextOf, has_float};
 
-/// The texts of some events, in each format of lists, and events that have none: they go too deep, or are out of order. It does nothing at run time.
+/// The texts of some events in each array format, and events without a text, which nest too deep or are out of order. It does nothing at
+/// run time.
 ///
 /// ```
 /// worked_texts(); // its clauses are the texts
@@ -32,7 +33,7 @@ pub fn worked_texts()
     ensures two_keys { text_of_sent default (map_begins None ∷ field_key (codes "a") AsIs ∷ field_key (codes "b") AsIs ∷ unsigned 1 ∷ map_ends ∷ []) ≡ None }
 {}
 
-/// The events that serde sends for data have the text of the data's entries, if none of these is rejected. It does nothing at run time.
+/// The events that serde sends for data have the text of the data's entries, if no entry is rejected. It does nothing at run time.
 ///
 /// ```
 /// events_of_data(); // its clause is the law
@@ -41,7 +42,8 @@ pub fn events_of_data()
     ensures { (config : Config) (x : Data) → AreSaid false x → (entries config x).error ≡ None → text_of_sent config (sends x []) ≡ Some (written config.form false (entries config x).entries) }
 {}
 
-/// Events without floats have one text: what [`to_string`](crate::to_string) promises of them is an equation. It does nothing at run time.
+/// Events without floats have exactly one text, so the promise of [`to_string`](crate::to_string) is an equation. It does nothing at run
+/// time.
 ///
 /// ```
 /// texts_without_floats(); // its clause is the law

@@ -1,4 +1,4 @@
-//! The events that a serializer was sent. They are seen by contracts only.
+//! The events that a serializer was sent. Only contracts see them.
 
 ghost use Rattle.std.specs.Prelude.{◌≡◌, [], Some};
 ghost use base.Fml.{ftrue};
@@ -8,7 +8,7 @@ ghost use Rattle.qs_serde.specs.Logged.{log_code};
 use serde::Case;
 use std::marker::Model;
 
-/// The events so far, where they are known. At run time it has no bytes.
+/// The events so far, if they are known. At run time it has no bytes.
 #[derive(Drop)]
 pub(crate) struct Log {
     ghost events: { Events } by { log_code },
@@ -42,14 +42,14 @@ pub(crate) enum Note<'a> {
     BeginKey,
     EndKey,
     Flatten,
-    /// After an error, or a text of which contracts don't know it: what was written isn't known from then on.
+    /// After an error, or after a text that contracts don't know. From then on it isn't known what was written.
     Lost,
 }
 
 impl Log {
     ghost use Rattle.qs_serde.specs.Noted.{noted};
 
-    /// Returns the log of no event.
+    /// Returns an empty log.
     pub(crate) fn new() -> Log
         ensures { result.events ≡ Some [] }
     {

@@ -1,4 +1,4 @@
-//! Where in a value the next part goes, and how each event moves on.
+//! Where in a value the next part goes, and how each event moves the position.
 
 ghost use Rattle.std.specs.Prelude.{◌≡◌, ◌↔◌, ℕ, List, Option, IsOk, IfOk, Some, option_map};
 ghost use Rattle.qs_spec.specs.Config.{Config as Settings, element_segment};
@@ -21,13 +21,13 @@ pub(crate) struct Position {
     pub(crate) writer: Writer,
     /// The list or map that is open, or the top.
     pub(crate) frame: Frame,
-    /// Those around it, the innermost last.
+    /// The ones around it, the innermost last.
     pub(crate) around: Vec<Frame>,
     pub(crate) next: Next,
 }
 
 impl Position {
-    /// Returns the position of a value of which nothing was written.
+    /// Returns the position before the first event.
     pub(crate) fn new(alloc: Global, config: Config) -> Result<Position, AllocError>
         ensures { IfOk result (λ position. Stands config position start) }
     {
@@ -47,7 +47,7 @@ impl Position {
         writer.into_text()
     }
 
-    // Whether a value may come.
+    // Tests whether a value may be written next.
     #[inline(always)]
     fn value_comes(&self) -> Result<(), Halt>
         ensures { IsOk result ↔ (self.now.next ≡ Value) }
@@ -58,7 +58,7 @@ impl Position {
         }
     }
 
-    // Returns why an event isn't written that isn't what comes next.
+    // Returns the error of an event that isn't allowed next.
     fn misplaced(&self) -> Halt {
         match self.next {
             Next::Value => Halt::Misplaced("a key ended that didn't begin"),
@@ -68,7 +68,7 @@ impl Position {
         }
     }
 
-    // Goes under a segment, for a part of what is open.
+    // Extends the path by a segment, for a part of what is open.
     #[inline(always)]
     fn enter(&mut self, segment: Scalar<'_>) -> Result<(), Halt>
         ensures { Goes (λ config s. goes_under config (scalar_text segment.entry) s) result self.old self.new }
@@ -85,7 +85,7 @@ impl Position {
         }
     }
 
-    // Goes under the index of an item.
+    // Extends the path by the index of an item.
     #[inline(always)]
     fn begin_item(&mut self) -> Result<(), Halt>
         ensures { Goes (λ config s. under_index (element_segment config.array_format s.here.count) config s) result self.old self.new }
@@ -97,7 +97,7 @@ impl Position {
         }
     }
 
-    // Goes to where the value is: an item goes under its index, a member is under its key.
+    // Goes to the place of a value: extends the path by the index of an item, while a member's key already did.
     #[inline(always)]
     fn begin(&mut self) -> Result<(), Halt>
         ensures { Goes goes_to_value result self.old self.new }
@@ -115,7 +115,7 @@ impl Position {
         }
     }
 
-    // Ends a part: the position is where what is open was before it.
+    // Ends a part: counts it, and takes its segment from the path.
     #[inline(always)]
     fn end(&mut self)
         ensures { (config : Settings) (s : State) → Stands config self.old s → Stands config self.new (ends s) }
@@ -144,7 +144,7 @@ impl Position {
         }
     }
 
-    // Ends the part that was written. Where an allocation failed nothing of the text is kept.
+    // Ends the part that was written. If an allocation failed, none of the text is kept.
     #[inline(always)]
     fn put_or_stop(&mut self, written: WriteResult) -> Result<(), Halt>
         ensures { (before : Position) (value : Option (List ℕ)) → self.old ≡ record before { writer = self.old.writer }
@@ -181,7 +181,7 @@ impl Position {
         Ok(())
     }
 
-    // Returns what is open, and goes to what is around it.
+    // Returns the open list or map, and goes to the one around it.
     fn close(&mut self) -> Result<Frame, Halt>
         ensures goes { Goes (λ config s. closes s) result self.old self.new }
         ensures frame { IfOk result (λ frame. frame ≡ self.old.frame) }
@@ -197,7 +197,7 @@ impl Position {
         Ok(closed)
     }
 
-    // Ends a list or a map as a part of what is around it. Where it had no part an empty value is written.
+    // Ends a list or a map as a part of what is around it. If it has no parts, an empty value is written.
     fn end_as(&mut self, is_empty: bool) -> Result<(), Halt>
         ensures { Goes (λ config s. Some (ends_as is_empty s)) result self.old self.new }
     {
@@ -211,7 +211,7 @@ impl Position {
 
 // The events.
 impl Position {
-    /// Writes a value of one text, or goes under it if it is a key.
+    /// Writes a value of one text, or extends the path by it if it is a key.
     pub(crate) fn scalar(&mut self, value: Scalar<'_>) -> Result<(), Halt>
         ensures { Moves (λ config s. text_sent config (scalar_text value.entry) s) result self.old self.new }
     {
@@ -222,7 +222,7 @@ impl Position {
         }
     }
 
-    /// Writes no value. In the place of a map that is flattened it writes nothing.
+    /// Writes no value. In place of a map that is flattened it writes nothing.
     pub(crate) fn nothing(&mut self) -> Result<(), Halt>
         ensures { Moves nothing_sent result self.old self.new }
     {
@@ -271,8 +271,8 @@ impl Position {
         }
     }
 
-    // An empty map and a struct of which no field is shown come by the same events of serde's: at the top nothing is written, which both are
-    // read from.
+    // serde sends the same events for an empty map and for a struct without shown fields. At the top nothing is written, and both are read
+    // from that.
     /// Ends a map.
     pub(crate) fn end_map(&mut self) -> Result<(), Halt>
         ensures { Moves map_ended result self.old self.new }
@@ -291,7 +291,7 @@ impl Position {
         }
     }
 
-    /// Goes under a name.
+    /// Extends the path by a name.
     pub(crate) fn key(&mut self, name: &[u8]) -> Result<(), Halt>
         ensures { Moves (λ config s. key_sent config name.now s) result self.old self.new }
     {
@@ -299,7 +299,7 @@ impl Position {
         self.enter(Scalar::Bytes(name))
     }
 
-    /// Says that a key comes.
+    /// Begins a key.
     pub(crate) fn begin_key(&mut self) -> Result<(), Halt>
         ensures { Moves (λ config s. goes_on Key s) result self.old self.new }
     {
@@ -308,7 +308,7 @@ impl Position {
         Ok(())
     }
 
-    /// Says that the key came.
+    /// Ends a key.
     pub(crate) fn end_key(&mut self) -> Result<(), Halt>
         ensures { Moves (λ config s. key_ended_at s.next s) result self.old self.new }
     {
@@ -321,7 +321,7 @@ impl Position {
         }
     }
 
-    /// Says that the members of the next map go into the one that is open.
+    /// Flattens the next map: its members go into the one that is open.
     pub(crate) fn flatten(&mut self) -> Result<(), Halt>
         ensures { Moves (λ config s. goes_on Flattened s) result self.old self.new }
     {

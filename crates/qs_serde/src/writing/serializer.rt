@@ -68,7 +68,7 @@ impl<K: Settings> Serializer for TextSerializer<K> {
         keep(&mut self.position, &mut self.log, made, &Note::Bytes(v))
     }
 
-    // `None` and `()` come by one event of serde's, and are written as no value.
+    // serde sends the same event for `None` and `()`. Both are written as no value.
     fn unit(&mut self) -> Result<()> {
         let made = self.position.nothing();
         keep(&mut self.position, &mut self.log, made, &Note::Unit)

@@ -10,7 +10,7 @@ use qs_tree::{Config, Result};
 use std::alloc::Global;
 use std::marker::{Brand, PhantomData};
 
-/// A configuration that contracts name. At run time it is nothing.
+/// A type by which contracts name a configuration. It does nothing at run time.
 pub trait Settings {
     ghost config: { Meaning };
 }
@@ -19,10 +19,10 @@ impl Settings for Brand {
     ghost config = { default };
 }
 
-/// A value that is written step by step: the [`Serializer`](serde::Serializer) of serde's derives. Its text is kept in memory.
+/// A [`Serializer`](serde::Serializer) that writes a querystring in memory, step by step.
 ///
-/// After an error nothing more is written: each step returns [`Failed`](qs_tree::Error::Failed). Take the text by
-/// [`into_text`](TextSerializer::into_text), or let it go.
+/// After an error nothing more is written: each step returns [`Failed`](qs_tree::Error::Failed). [`into_text`](TextSerializer::into_text)
+/// returns the text.
 ///
 /// ```
 /// let mut serializer: TextSerializer<Brand> = TextSerializer::new(alloc, Config::new())?;
@@ -32,7 +32,7 @@ impl Settings for Brand {
 #[derive(Drop)]
 pub struct TextSerializer<K: Settings> {
     pub(crate) position: Position,
-    // Room for a name in another case, and for a printed text.
+    // A buffer for a name in another case, and for a printed text.
     pub(crate) room: String,
     pub(crate) log: Log,
     of: PhantomData<K>,
@@ -42,8 +42,8 @@ pub struct TextSerializer<K: Settings> {
 impl<K: Settings> TextSerializer<K> {
     ghost use Rattle.qs_serde.specs.Texts.{IsTextOf, IsTextOfEntries};
 
-    /// Returns a serializer that wrote nothing yet. It allocates 128 bytes; where that fails, the error is
-    /// [`OutOfMemory`](qs_tree::Error::OutOfMemory), and there is no other.
+    /// Returns a serializer that has written nothing. It allocates 128 bytes. The only error is
+    /// [`OutOfMemory`](qs_tree::Error::OutOfMemory).
     ///
     /// ```
     /// let mut serializer: TextSerializer<Brand> = TextSerializer::new(alloc, Config::new())?;
@@ -60,7 +60,7 @@ impl<K: Settings> TextSerializer<K> {
         })
     }
 
-    /// Returns what was written: of whole entries, also after an error. It doesn't allocate.
+    /// Returns the text that was written: whole entries only, even after an error. It doesn't allocate.
     ///
     /// ```
     /// let text = serializer.into_text();

@@ -1,4 +1,4 @@
--- What one pair does to a tree in place, as the parser does it: by cases on the pair and the node at its path.
+-- How one pair changes a tree in place, as in the parser: by cases on the pair and the node at its path.
 use Rattle.std.specs.Prelude.{Bool, true, false, List, [], ◌∷◌, Option, Some, None, option_map, option_and_then}
 use Rattle.std.specs.declared.cmp.Ordering.{Ordering}
 use Rattle.std.specs.declared.cmp.Ordering.TheVariants.{Less, Equal, Greater}
@@ -25,7 +25,7 @@ abbrev pub push_item : Items → Tree → Items
 push_item no_items t = item t no_items
 push_item (item x xs) t = item x (push_item xs t)
 
--- at a node that is no map
+-- at a node that isn't a map
 abbrev pub add_flat : Bool → Leaf → Tree → Option Tree
 add_flat false l uninitialized = Some (leaf l)
 add_flat true l uninitialized = Some (sequence (item (leaf l) no_items))

@@ -8,11 +8,11 @@ use Rattle.qs_spec.specs.Node.{value_at_key}
 use Rattle.qs_spec.specs.Tree.{Tree, Entries}
 use Rattle.qs_spec.specs.Tree.Entries.{entry, no_entries}
 
--- the segment as which bytes are parsed that were written: their number, or themselves
+-- the segment that written bytes are parsed as: their number, or the bytes themselves
 abbrev pub written_segment : List ℕ → Segment
 written_segment s = if is_index s then Int (number s) else Str s
 
--- the number that is printed so, if one of 32 bits is
+-- the 32-bit number whose decimal digits these are, if there is one
 abbrev pub printed_index : List ℕ → Option ℕ
 printed_index s = if is_index s && not (has_leading_zero s) then Some (number s) else None
 
@@ -21,7 +21,7 @@ abbrev pub value_at_index : Option ℕ → Entries → Option Tree
 value_at_index None es = None
 value_at_index (Some n) es = value_at_key (Int n) es
 
--- a list of one, or of none
+-- a list of one element, or the empty list
 abbrev pub list_of : Option Tree → List Tree
 list_of None = []
 list_of (Some t) = t ∷ []
@@ -31,12 +31,12 @@ abbrev pub IsInRange : Segment → Type 0
 IsInRange (Int n) = n ≤ 4294967295
 IsInRange (Str bytes) = ⊤
 
--- a key is below those of the entries
+-- a key is less than the keys of the entries
 abbrev pub AreAbove : Segment → Entries → Type 0
 AreAbove k no_entries = ⊤
 AreAbove k (entry j mark t es) = (compare_segments k j ≡ Less) × AreAbove k es
 
--- each key is in range, and below those after it
+-- each key is in range, and less than the keys after it
 abbrev pub AreAscending : Entries → Type 0
 AreAscending no_entries = ⊤
 AreAscending (entry k mark t es) = IsInRange k × AreAbove k es × AreAscending es

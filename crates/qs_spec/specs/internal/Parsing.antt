@@ -1,4 +1,4 @@
--- The grammar as a function: it parses the pairs of some tokens from the left, and returns what it parsed and the tokens that are left.
+-- The grammar as a function: it parses the pairs of some tokens from the left, and returns what it parsed and the remaining tokens.
 use Rattle.std.specs.Prelude.{ℕ, zero, suc, Bool, true, false, List, [], ◌∷◌, ◌++◌, length, Option, Some, None, option_map}
 use Rattle.qs_spec.specs.Token.{Kind, Token, raw_of}
 use Rattle.qs_spec.specs.Segment.{MarkedSegment}
@@ -7,7 +7,7 @@ use Rattle.qs_spec.specs.Token.Kind.{Amp, Equals, Open, Close, Other}
 use Rattle.qs_spec.specs.Leaf.Leaf.{NoValue}
 use Rattle.qs_spec.specs.Grammar.{Pair, direct, pushed, is_amp, is_close, ends_last, ends_root, root, longer}
 
--- what was parsed and the tokens that are left, or nothing where the tokens are no such thing
+-- what was parsed and the remaining tokens, or None if the tokens can't be parsed so
 abbrev pub Rest : Type 0 → Type 0
 Rest A = Option (A × List Token)
 
@@ -32,7 +32,7 @@ value_at Open t ts = None
 value_at Close t ts = None
 value_at Other t ts = None
 
--- the same, where the tokens may have ended
+-- the same, if the tokens may have ended
 abbrev pub parsed_value : List Token → Rest Leaf
 parsed_value [] = Some (NoValue, [])
 parsed_value (t ∷ ts) = value_at t.kind t ts
@@ -58,16 +58,16 @@ abbrev pub after_close : Brackets → List MarkedSegment → List Token → Rest
 after_close brackets q [] = with_leaf (direct q) (parsed_value [])
 after_close brackets q (u ∷ rest) = after_close_at u.kind brackets q u rest
 
--- after the bytes of a segment, whose closing bracket comes first
+-- after the bytes of a segment, at its closing bracket
 abbrev pub after_run : Brackets → List MarkedSegment → List Token → Rest Pair
 after_run brackets q [] = None
 after_run brackets q (t ∷ rest) = after_close brackets q rest
 
--- the last key, where no more brackets may open: it goes up to `&` or `=`
+-- the last key, if no more brackets may open: it goes up to `&` or `=`
 abbrev pub last_key : List MarkedSegment → List ℕ → Token → List Token × List Token → Rest Pair
 last_key path bracket t c = with_leaf (direct (longer path (bracket ++ t.raw ++ raw_of c.0))) (parsed_value c.1)
 
--- after an opening bracket, where no more may open and where more may: a push, or a key
+-- after an opening bracket, if no more may open, and if more may: a push, or a key
 abbrev pub in_last : Bool → List MarkedSegment → List ℕ → Token → List Token → Rest Pair
 in_last true path bracket t ts = with_leaf (pushed path) (parsed_value ts)
 in_last false path bracket t ts = last_key path bracket t (cut ends_last ts)
@@ -76,14 +76,14 @@ abbrev pub in_segment : Bool → Brackets → List MarkedSegment → Token → L
 in_segment true brackets path t ts = with_leaf (pushed path) (parsed_value ts)
 in_segment false brackets path t ts = after_run brackets (longer path (raw_of (t ∷ (cut is_close ts).0))) (cut is_close ts).1
 
--- after an opening bracket, where so many more may open
+-- after an opening bracket, if this many more may open
 abbrev pub parsed_brackets : ℕ → Brackets
 parsed_brackets zero path bracket [] = None
 parsed_brackets zero path bracket (t ∷ ts) = in_last (is_close t.kind) path bracket t ts
 parsed_brackets (suc room) path bracket [] = None
 parsed_brackets (suc room) path bracket (t ∷ ts) = in_segment (is_close t.kind) (parsed_brackets room) path t ts
 
--- a root key alone, if there is one
+-- only a root key, if there is one
 abbrev pub named : List Token → List Token → Rest Pair
 named [] rest = None
 named (t ∷ key) rest = Some (direct (root (t ∷ key)) NoValue, rest)
@@ -110,7 +110,7 @@ parsed_pairs_at true skipped pair more = skipped
 parsed_pairs_at false skipped None more = None
 parsed_pairs_at false skipped (Some r) more = option_map (λ ps. r.0 ∷ ps) (more r.1)
 
--- The number bounds the steps; the count of the tokens is always enough.
+-- The number bounds the steps. The number of tokens is always enough.
 abbrev pub parsed_pairs_within : ℕ → ℕ → List Token → Option (List Pair)
 parsed_pairs_within depth zero [] = Some []
 parsed_pairs_within depth zero (t ∷ ts) = None
@@ -121,7 +121,7 @@ parsed_pairs_within depth (suc n) (t ∷ ts) = parsed_pairs_at (is_amp t.kind) (
 abbrev pub parsed_pairs : ℕ → List Token → Option (List Pair)
 parsed_pairs depth ts = parsed_pairs_within depth (length ts) ts
 
--- a pair that was parsed, and the pairs of the tokens that are left
+-- a pair that was parsed, and the pairs of the remaining tokens
 abbrev pub and_pairs : ℕ → Rest Pair → Option (List Pair)
 and_pairs depth None = None
 and_pairs depth (Some r) = option_map (λ ps. r.0 ∷ ps) (parsed_pairs depth r.1)

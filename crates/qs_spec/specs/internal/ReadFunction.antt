@@ -17,7 +17,7 @@ use Rattle.qs_spec.specs.Scalar.{boolean_data, unsigned_data, signed_data, chara
 abbrev pub Reader : Type 0
 Reader = Tree → Option Data
 
--- a scalar, with what it is for Null and NoValue, and how the last text is read otherwise
+-- a scalar: what it is for Null and NoValue, and how the last text is read otherwise
 abbrev pub read_scalar : Bool → Option Data → (List ℕ → Option Data) → Reader
 read_scalar reject_duplicates empty get (leaf NoValue) = empty
 read_scalar reject_duplicates empty get (leaf Null) = empty
@@ -46,7 +46,7 @@ read_option r (leaf Null) = option_map Data.some (r (leaf NoValue))
 read_option r uninitialized = None
 read_option r t = option_map Data.some (r t)
 
--- a list with one more in front, if there is a list
+-- a list with one more element at the front, if there is a list
 abbrev pub with_front : {A : Type 0} → A → Option (List A) → Option (List A)
 with_front x r = option_map (λ xs. x ∷ xs) r
 
@@ -59,8 +59,8 @@ read_each r (x ∷ xs) = option_and_then (λ d. with_front d (read_each r xs)) (
 unfoldable pub read_list : Reader → Tree → Option (List Data)
 read_list r t = option_and_then (read_each r) (items t)
 
--- A field by its name: Some None where it is left out. Two keys with its text are rejected; with none it is left out if it is
--- optional, and else none if its shape is an option.
+-- A field by its name: Some None if it is left out. Two keys with its text are rejected. Without such a key it is left out if it is
+-- optional, and otherwise none if its shape is an option.
 abbrev pub read_field : Bool → Bool → Reader → List Tree → Option (Option Data)
 read_field optional is_opt r [] = cond optional (Some None) (cond is_opt (Some (Some Data.none)) None)
 read_field optional is_opt r (t ∷ []) = option_map Some (r t)
@@ -76,7 +76,7 @@ abbrev pub items_after : Items → Items
 items_after no_items = no_items
 items_after (item t xs) = xs
 
--- a field in front of the others, unless it is left out
+-- a field before the others, unless it is left out
 abbrev pub with_field : List ℕ → Option Data → Option (List Named) → Option (List Named)
 with_field name None rest = rest
 with_field name (Some d) rest = with_front (name, d) rest
@@ -119,7 +119,7 @@ read_enum vs by_name (leaf (Text bytes mark)) = unit_variant_data vs bytes
 read_enum vs by_name (mapping (entry k mark t es)) = by_name (segment_text k) t
 read_enum vs by_name _ = None
 
--- anything: maps with integer keys alone and sequences as sequences, other maps with their keys as texts
+-- anything: sequences and maps with only integer keys as sequences, other maps with their keys as texts
 unfoldable mutual
   pub any_data : Reader
   any_data (leaf NoValue) = Some Data.unit

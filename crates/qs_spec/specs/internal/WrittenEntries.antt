@@ -1,4 +1,4 @@
--- Entries that can be parsed as they were written, and the pairs as which they are parsed.
+-- Entries that can be parsed as they were written, and the pairs that they are parsed as.
 use Rattle.std.specs.Prelude.{◌≡◌, true, ℕ, ◌+◌, ◌<◌, ◌≤◌, Bool, ◌&&◌, IsFalse, List, [], ◌∷◌, length, map, Option, Some, None, ⊤}
 use Rattle.std.specs.List.{AllByRecursion}
 use Rattle.qs_spec.specs.Escape.{encoded}
@@ -10,7 +10,7 @@ use Rattle.qs_spec.specs.Grammar.{Pair, direct}
 use Rattle.qs_spec.specs.Entry.{Path, Entry}
 use Rattle.qs_spec.specs.Written.{has_key}
 
--- the leaf and the path as which an entry's value and path are parsed
+-- the leaf and the path that an entry's value and path are parsed as
 abbrev pub entry_leaf : Bool → Option (List ℕ) → Leaf
 entry_leaf form None = NoValue
 entry_leaf form (Some bytes) = value_leaf (encoded form bytes)
@@ -18,11 +18,11 @@ entry_leaf form (Some bytes) = value_leaf (encoded form bytes)
 abbrev pub marked_path : Bool → Path → List MarkedSegment
 marked_path form path = map (λ s. marked_segment_of (encoded form s)) path
 
--- the pair as which an entry is parsed
+-- the pair that an entry is parsed as
 abbrev pub entry_pair : Bool → Entry → Pair
 entry_pair form e = direct (marked_path form e.path) (entry_leaf form e.value)
 
--- a segment that is some bytes, and in form mode holds no bracket
+-- a segment: at least one byte, and in form mode no bracket
 abbrev pub IsSegment : Bool → List ℕ → Type 0
 IsSegment form [] = ⊥
 IsSegment form (b ∷ s) = AllByRecursion (λ b. (b < 256) × IsFalse (form && is_bracket b)) (b ∷ s)

@@ -1,7 +1,7 @@
 //! The table of `golden`.
 
-/// Each line is a case: `query` or `form`, the depth limit, the shape, the data, their entries in a shuffled order, and the data
-/// that are read where their maps have another order. Tabs stand between. Shapes and data are written as `notation` says.
+/// Each line is a case: `query` or `form`, the depth limit, the shape, the data, its entries in a shuffled order, and the data that is
+/// read if its maps have another order, separated by tabs. For shapes and data see `notation`.
 pub const CASES: &str = "\
 form\t3\tEnum:2 tuple:%20:1 Bool newtype:04294967296 Seq Tuple:1 I64\tTupleVariant:%20:1 Bool:true\t%20%5B0%5D=true\n\
 query\t1\tOption U64\tNone\t\n\

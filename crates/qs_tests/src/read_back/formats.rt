@@ -8,7 +8,7 @@ use crate::writing::writes_each;
 use serde_qs::{ArrayFormat, Config};
 use std::process::Abort;
 
-/// Data, and what is written of them.
+/// Data, and the text that it is written as.
 const WRITTEN: &str = "\
 # lists
 Struct:empty:one:many Seq:0 Seq:1 Text:only%20one Seq:2 Unsigned:1 Unsigned:2
@@ -42,7 +42,7 @@ Struct:a Seq:1 None
     unindexed | a
 ";
 
-/// What is read of such texts.
+/// What is read from such texts.
 const READ: &str = "\
 # lists come back, also in another order
 Struct:empty:one:many Seq U8 Seq Text Seq U8
@@ -122,7 +122,7 @@ fn read(rt: HostRuntime) {
     reads_each(&rt, rt.alloc(), READ, 17);
 }
 
-// Claims whether the lists of data come back in this format.
+// Claims whether the lists in the data come back in this format.
 fn is_listed<R: Abort>(b: &Build<'_, R>, data: &str, format: ArrayFormat, wanted: bool) {
     let config = Config::new().array_format(format);
     let is_listed = notation::data(b, data).is_listed(config);

@@ -1,4 +1,4 @@
-//! Golden cases: data of every kind, read back from their entries in a shuffled order. They were made by a model that was
+//! Golden cases: data of every kind, read back from its entries in a shuffled order. The cases were made by a model that was
 //! written from the documents alone, and agree with the Rust original.
 
 use super::cases::CASES;
@@ -10,7 +10,7 @@ use serde_qs::{Config, Shape};
 use std::alloc::Global;
 use std::process::Abort;
 
-/// Claims that each line is a case whose data come back, and that there are so many.
+/// Claims that each line is a case whose data comes back, and that there are `count` lines.
 pub fn come_back<R: Abort>(rt: &R, alloc: Global, cases: &str, count: usize) {
     let b = Build::new(rt, alloc);
     is_equal(rt, cases.lines().count(), count, "the cases of a table");
@@ -19,7 +19,7 @@ pub fn come_back<R: Abort>(rt: &R, alloc: Global, cases: &str, count: usize) {
     }
 }
 
-// Claims that the data of the case are plain, fit its shape, and are read from its text.
+// Claims that the data of the case is plain, fits its shape, and is read from its text.
 fn comes_back<R: Abort>(b: &Build<'_, R>, case: &str) {
     let (mode, rest) = column(b, case);
     let (depth, rest) = column(b, rest);
@@ -37,14 +37,14 @@ fn column<'t, R: Abort>(b: &Build<'_, R>, case: &'t str) -> (&'t str, &'t str) {
     present(b.rt, case.split_once('\t'), case)
 }
 
-// Returns rows in this mode, with the depth limit that a case has.
+// Returns rows in this mode, with this depth limit.
 fn rows<'r, R: Abort>(b: &Build<'r, R>, form: bool, depth: &str) -> Rows<'r, R> {
     let depth = made(b.rt, depth.parse::<usize>());
     let rows = Rows::new(b.rt, b.alloc).deep(depth);
     if form { rows.form() } else { rows }
 }
 
-// Claims that the data are plain, and fit the shape.
+// Claims that the data is plain, and fits the shape.
 fn is_plain<R: Abort>(b: &Build<'_, R>, shape: &Shape, words: &str, form: bool) {
     let data = notation::data(b, words);
     let config = Config::new().use_form_encoding(form);

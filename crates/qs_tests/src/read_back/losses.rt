@@ -1,4 +1,4 @@
-//! Data that aren't plain: what is read in their place.
+//! Data that isn't plain: what is read instead.
 
 use crate::build::Build;
 use crate::claims::holds;
@@ -7,14 +7,14 @@ use crate::rows::reads_each;
 use serde_qs::Config;
 use std::process::Abort;
 
-/// Shapes, and data that fit them.
+/// Shapes, and data that fits them.
 const LOST: [(&str, &str); 3] = [
     ("Struct:a Option Option U8", "Struct:a Some None"),
     ("Struct:m Map:Text Text", "Struct:m Map:1 Text:01 Text:x"),
     ("Struct:s Struct", "Struct:s Struct"),
 ];
 
-/// What is read of their texts.
+/// What is read from their texts.
 const READ: &str = "\
 Struct:a Option Option U8
     a | Struct:a None
@@ -24,7 +24,7 @@ Struct:s Struct
      | ! missing field `s`
 ";
 
-// Claims that the data fit the shape, and aren't plain.
+// Claims that the data fits the shape, and isn't plain.
 fn is_lost<R: Abort>(b: &Build<'_, R>, shape: &str, data: &str) {
     let lost = notation::data(b, data);
     holds(b.rt, !lost.is_plain(Config::new()), data);

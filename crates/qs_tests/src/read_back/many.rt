@@ -1,4 +1,4 @@
-//! Data of more keys and names than are compared two by two.
+//! Data with more keys and names than are compared two by two.
 
 use crate::build::Build;
 use crate::claims::{is_equal, made};
@@ -7,7 +7,7 @@ use std::process::Abort;
 
 const COUNT: u64 = 50;
 
-// Steps of this length come to each number below `COUNT` once.
+// Steps of this length reach each number below `COUNT` once.
 const STEP: u64 = 7;
 
 // Returns a map whose keys are the numbers below `COUNT` in no order, and then this one.
@@ -21,7 +21,7 @@ fn map<R: Abort>(b: &Build<'_, R>, last: Data) -> Data {
     Data::Map(pairs)
 }
 
-// Returns a struct whose names are those numbers after a letter, and then this one.
+// Returns a struct whose names are `k` and each of these numbers, and then this one.
 fn structure<R: Abort>(b: &Build<'_, R>, last: &str) -> Data {
     let mut members = Vec::new(b.alloc);
     for place in 0..COUNT {
@@ -33,7 +33,7 @@ fn structure<R: Abort>(b: &Build<'_, R>, last: &str) -> Data {
     Data::Struct(members)
 }
 
-// Claims whether the data are plain.
+// Claims whether the data is plain.
 fn is_plain<R: Abort>(b: &Build<'_, R>, data: Data, wanted: bool) {
     let is_plain = data.is_plain(Config::new());
     is_equal(b.rt, is_plain, wanted, data);

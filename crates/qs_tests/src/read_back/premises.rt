@@ -1,4 +1,4 @@
-//! Which data are plain, and which fit a shape. Before those that aren't or don't stands `!`.
+//! Which data is plain, and which data fits a shape. A `!` precedes data that isn't plain or doesn't fit.
 
 use crate::build::Build;
 use crate::claims::is_equal;
@@ -156,7 +156,7 @@ Enum:1 unit:u
     ! NewtypeVariant:u Unit
 ";
 
-// Returns the data of a case, and whether no `!` stands before them.
+// Returns the data of a case, and whether no `!` precedes it.
 fn split(case: &str) -> (&str, bool) {
     match case.strip_prefix("! ") {
         Some(data) => (data, false),
@@ -164,7 +164,7 @@ fn split(case: &str) -> (&str, bool) {
     }
 }
 
-// Claims whether the data are plain under the configuration of these words.
+// Claims whether the data is plain under the configuration of these words.
 fn is_plain<R: Abort>(b: &Build<'_, R>, words: &str, data: &str, wanted: bool) {
     let config = tables::configuration(b, words);
     let is_plain = notation::data(b, data).is_plain(config);
@@ -181,7 +181,7 @@ fn plain(rt: HostRuntime) {
     }
 }
 
-// Claims whether the data fit the shape.
+// Claims whether the data fits the shape.
 fn fits<R: Abort>(b: &Build<'_, R>, shape: &str, data: &str, wanted: bool) {
     let fits = notation::shape(b, shape).fits(&notation::data(b, data));
     is_equal(b.rt, fits, wanted, (shape, data));

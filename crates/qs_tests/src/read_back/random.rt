@@ -1,4 +1,4 @@
-//! Random plain data of every kind, written, read back from their entries in another order.
+//! Random plain data of every kind, written, and read back from its entries in another order.
 
 use crate::build::Build;
 use crate::claims::{holds, made, present};
@@ -20,7 +20,7 @@ impl Random {
         Random { state: seed }
     }
 
-    /// Returns a number below the bound, and 0 where the bound is 0.
+    /// Returns a number below the bound, or 0 if the bound is 0.
     pub fn below(&mut self, bound: usize) -> usize {
         self.state = self
             .state
@@ -92,7 +92,7 @@ const WHOLES: [(&str, &str); 13] = [
     ("Newtype Tuple:1 <x>", "Newtype Tuple:1 <x>"),
 ];
 
-/// The words of a shape and of data that fit it.
+/// The words of a shape and of data that fits it.
 #[derive(Drop)]
 pub struct Words {
     pub shape: String,
@@ -122,7 +122,7 @@ fn filled<R: Abort>(b: &Build<'_, R>, words: &str, names: [&str; 2], x: &str, y:
     filled
 }
 
-// Returns the words of a random whole of these parts, which has two of the first so many names.
+// Returns the words of a random whole of these parts, with one of the first `names` pairs of names.
 fn whole<R: Abort>(
     b: &Build<'_, R>,
     random: &mut Random,
@@ -158,7 +158,7 @@ fn scalars<R: Abort>(b: &Build<'_, R>, random: &mut Random) -> Vec<Words> {
     scalars
 }
 
-// Returns a whole of wholes, so deep, each with two of the first so many names.
+// Returns a whole of wholes of this depth, each with one of the first `names` pairs of names.
 fn nested<R: Abort>(b: &Build<'_, R>, random: &mut Random, names: usize, depth: u32) -> Words {
     let mut parts = scalars(b, random);
     for _ in 0..depth {
@@ -184,7 +184,7 @@ fn wholes<R: Abort>(
     wholes
 }
 
-/// Returns the data as they are written.
+/// Returns the text of the data.
 pub fn written<R: Abort>(b: &Build<'_, R>, config: Config, data: &Data) -> String {
     let mut serializer = Serializer::new(Vec::new(b.alloc), config);
     let outcome = serializer.serialize(b.alloc, data);

@@ -1,4 +1,4 @@
-//! Random plain data in the formats without indices, read back where their lists can be.
+//! Random plain data in the formats without indices, read back if its lists can be.
 
 use super::random::{Random, fitting, rows, written};
 use crate::build::Build;
@@ -7,7 +7,7 @@ use serde_qs::{ArrayFormat, Config};
 use std::alloc::Global;
 use std::process::Abort;
 
-// Returns what stands before the first `=`.
+// Returns what precedes the first `=`.
 fn key_of(entry: &str) -> &str {
     match entry.split_once('=') {
         Some((key, _)) => key,
@@ -25,8 +25,8 @@ fn has_entry_of(text: &str, key: &str) -> bool {
     false
 }
 
-// Returns the text with its entries in another order, but those with one key as they were: each is put after those so far, or before
-// them where none has its key.
+// Returns the text with its entries in another order, except that entries with the same key keep theirs: each entry is put after the
+// entries so far, or before them if none has its key.
 fn shuffled<R: Abort>(b: &Build<'_, R>, random: &mut Random, text: &str) -> String {
     let mut shuffled = String::new(b.alloc);
     for (place, entry) in text.split('&').enumerate() {
@@ -42,7 +42,7 @@ fn shuffled<R: Abort>(b: &Build<'_, R>, random: &mut Random, text: &str) -> Stri
     shuffled
 }
 
-// Claims that data of this depth come back where their lists can, for each of 40 seeds. Returns how many of them can.
+// Claims for each of 40 seeds that data of this depth comes back, if its lists can. Returns how many of them can.
 fn come_back<R: Abort>(
     rt: &R,
     alloc: Global,
@@ -69,7 +69,7 @@ fn come_back<R: Abort>(
     count
 }
 
-// Claims that of the data of each depth more than four come back in this format, in query mode and in form mode.
+// Claims that at each depth, the data of more than four seeds comes back in this format, in query mode and in form mode.
 fn enough_come_back<R: Abort>(rt: &R, alloc: Global, format: ArrayFormat) {
     for depth in 1..5 {
         let query = come_back(rt, alloc, format, false, depth);

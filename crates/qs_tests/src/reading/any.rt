@@ -1,4 +1,4 @@
-//! Whatever is there: inputs as data of no shape, and inputs that are passed over.
+//! `Any` and `Ignored`: inputs as data of any shape, and inputs that are ignored.
 
 use crate::claims::made;
 use crate::notation;

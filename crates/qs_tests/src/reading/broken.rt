@@ -1,4 +1,4 @@
-//! Texts that aren't UTF-8, in each place where one can be asked for.
+//! Texts that aren't UTF-8, in each place where a text can be read.
 
 use crate::rows::reads_each;
 

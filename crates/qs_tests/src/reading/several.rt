@@ -1,4 +1,4 @@
-//! Several values where one is asked for.
+//! Several values for a shape that reads one.
 
 use crate::rows::reads_each;
 

@@ -1,4 +1,4 @@
-//! Pairs that can't stand beside the earlier ones.
+//! Pairs that conflict with earlier ones.
 
 use super::{
     Config, Error, Global, SEQUENCE_AND_MAP, UNIT_AND_MAP, VALUE_AND_MAP, VALUE_AND_SEQUENCE,
@@ -23,14 +23,14 @@ fn below_a_leaf(rt: HostRuntime) {
     reject(&rt, rt.alloc(), Config::new(), &BELOW_A_LEAF);
 }
 
-// Claims that a path of a hundred keys after this pair is rejected at the position with the text.
+// Claims that a path of a hundred keys after this pair is rejected at this position with this text.
 fn is_barred<R: Abort>(rt: &R, alloc: Global, first: &str, position: usize, text: &str) {
     let brackets = made(rt, "[b]".repeat(alloc, 100));
     let input = made(rt, format!(in alloc; "{first}&a{brackets}=2"));
     reject_bytes(rt, alloc, query(1000), input.as_bytes(), position, text);
 }
 
-// A path of a hundred keys is in conflict where a short one is.
+// A path of a hundred keys conflicts where a short one does.
 #[test]
 fn below_a_leaf_by_a_long_path(rt: HostRuntime) {
     is_barred(&rt, rt.alloc(), "a=1", 7, VALUE_AND_MAP);
@@ -102,7 +102,7 @@ const TWENTY_KEYS: &str =
     "invalid input: the key `m` appears in the input as both a sequence and a map (with keys \
     \"a\", \"b\", \"c\", \"d\", \"e\", \"f\", \"g\", \"h\", \"i\", \"j\", \"k\", \"l\", \"m\", \"n\", \"o\", \"p\", \"q\", \"r\", \"s\", \"t\")";
 
-// Returns a map of twenty keys from the last to the first, with this after each.
+// Returns a map of twenty keys, from the last to the first, with this text after each.
 fn twenty_keys<R: Abort>(rt: &R, alloc: Global, end: &str) -> String {
     let mut input = String::new(alloc);
     for key in ('a'..='t').rev() {
@@ -112,7 +112,7 @@ fn twenty_keys<R: Abort>(rt: &R, alloc: Global, end: &str) -> String {
     input
 }
 
-// Claims that a push at a map of twenty keys, with this after each, is rejected.
+// Claims that a push at a map of twenty keys, with this text after each, is rejected.
 fn is_no_sequence<R: Abort>(rt: &R, alloc: Global, end: &str) {
     let mut input = twenty_keys(rt, alloc, end);
     let position = input.len().saturating_add(3);
@@ -127,7 +127,7 @@ fn is_no_sequence<R: Abort>(rt: &R, alloc: Global, end: &str) {
     );
 }
 
-// Twenty keys that come from the last to the first are listed in their order.
+// Twenty keys that are given from the last to the first are listed in order.
 #[test]
 fn a_push_at_a_map_of_many_keys(rt: HostRuntime) {
     is_no_sequence(&rt, rt.alloc(), "");
@@ -150,7 +150,7 @@ fn before_an_error_after_a_push(rt: HostRuntime) {
     );
 }
 
-// The key is shown whole at the depth limit too, and not at all where it is no UTF-8.
+// The key is shown whole at the depth limit too, and not at all if it isn't UTF-8.
 #[test]
 fn a_push_at_a_map_with_another_key(rt: HostRuntime) {
     let alloc = rt.alloc();
@@ -193,7 +193,7 @@ fn have_tree<R: Abort>(rt: &R, alloc: Global, acts: &[Act], wanted: bool) {
     is_equal(rt, typed, position, acts);
 }
 
-// Returns the text of the pairs with these acts.
+// Returns an input of pairs with these acts.
 fn text_of<R: Abort>(rt: &R, alloc: Global, acts: &[Act]) -> String {
     let mut input = String::new(alloc);
     for act in acts {
@@ -203,7 +203,7 @@ fn text_of<R: Abort>(rt: &R, alloc: Global, acts: &[Act]) -> String {
     input
 }
 
-// Returns where the input has no tree.
+// Returns the position of the input's error, if it has no tree.
 fn position<R: Abort>(rt: &R, alloc: Global, input: &str) -> Option<usize> {
     match parse(alloc, input.as_bytes(), Config::new()) {
         Ok(_) => None,
@@ -231,7 +231,7 @@ fn two_pairs(rt: HostRuntime) {
     }
 }
 
-// Returns whether a third pair with this act is accepted after two others: no below without one that comes first, no push beside one.
+// Returns whether a third pair with this act is accepted after two others. A below needs a below as the first pair, and allows no push.
 fn is_accepted(first: Act, second: Act, third: Act) -> bool {
     let acts = [first, second, third];
     if first == Act::Below {
@@ -252,7 +252,7 @@ fn accepted_after<R: Abort>(rt: &R, alloc: Global, first: Act, second: Act) -> u
     accepted
 }
 
-// Ten have a tree: six without below that don't begin with direct and push, and four that begin with below and hold no push.
+// Ten have a tree: six without below that don't begin with plain and push, and four that begin with below and have no push.
 #[test]
 fn three_pairs(rt: HostRuntime) {
     let mut accepted = 0u32;

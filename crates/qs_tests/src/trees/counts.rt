@@ -1,4 +1,4 @@
-//! How many steps a short input takes, and how many keys a look-up compares: counts that have no bytes, so that contracts say them.
+//! How many steps a short input takes, and how many keys a look-up compares. The counts take no bytes, so contracts check them.
 
 ghost use Rattle.std.specs.Prelude.{◌≡◌, ◌≤◌, [], length, codes, IfOk};
 ghost use Rattle.qs_tree.specs.tree.Views.{map_pairs};
@@ -50,7 +50,7 @@ fn numbers<R: Abort>(rt: &R, alloc: Global, count: u32) -> String {
     input
 }
 
-// Claims that the map has the keys below this number alone.
+// Claims that the map has only the keys below this number.
 fn has_numbers<R: Abort>(rt: &R, map: &ParsedMap<'_>, count: u32) {
     is_equal(rt, map.len(), count as usize, "keys");
     for number in 0..=count {

@@ -7,9 +7,9 @@ const NUMBERS_AND_TEXTS: [(&str, &str); 6] = [
     ("abc[1]=1&abc[0]=0", "{'abc':{0:'0',1:'1'}}"),
     ("0=a", "{0:'a'}"),
     ("01=x", "{1:'x'}"),
-    // an escaped digit makes a text
+    // an escaped digit makes a string key
     ("1=a&%31=b", "{1:'a','1'*:'b'}"),
-    // the greatest number that a key may be, and one more
+    // the greatest integer key, and one more
     (
         "a[4294967296]=p&a[4294967295]=q",
         "{'a':{4294967295:'q','4294967296':'p'}}",
@@ -41,7 +41,7 @@ const THE_FIRST_ENCODING_IS_KEPT: [(&str, &str); 4] = [
     ("%61[b]=1&a[c]=2", "{'a'*:{'b':'1','c':'2'}}"),
 ];
 
-// A map keeps the key of the pair that brought it.
+// A map keeps the key of the first pair with it.
 #[test]
 fn the_first_encoding_is_kept(rt: HostRuntime) {
     accept(&rt, rt.alloc(), Config::new(), &THE_FIRST_ENCODING_IS_KEPT);

@@ -1,4 +1,4 @@
-//! Inputs of 8,192 keys in no order.
+//! Inputs of 8,192 unordered keys.
 
 use super::{
     Config, ENDED_IN_KEY, Global, SEQUENCE_AND_MAP, VALUE_AND_MAP, form, reject_bytes, tree,
@@ -8,7 +8,7 @@ use std::process::Abort;
 
 const KEYS: usize = 8_192;
 
-// Steps of this length, which is odd, come to each number below 8,192 once.
+// Steps of this length, which is odd, reach each number below 8,192 once.
 const STEP: usize = 4_099;
 
 // Returns the pairs `key0000=val0000`, `key4099=val4099` and so on, with these texts around each key, and `&` after each value.
@@ -22,7 +22,7 @@ fn shuffled<R: Abort>(rt: &R, alloc: Global, before: &str, after: &str) -> Strin
     input
 }
 
-// Returns the map of these pairs as a line, with other entries before and after theirs.
+// Returns the map of these pairs as a line, with other entries before and after them.
 fn in_order<R: Abort>(rt: &R, alloc: Global, before: &str, end: &str) -> String {
     let mut line = made(rt, format!(in alloc; "{{{before}"));
     for number in 0..KEYS {
@@ -35,7 +35,7 @@ fn in_order<R: Abort>(rt: &R, alloc: Global, before: &str, end: &str) -> String 
     line
 }
 
-// Claims that the pairs, with these after them, have this tree.
+// Claims that the pairs, followed by these, have this tree.
 fn accept_followed<R: Abort>(
     rt: &R,
     alloc: Global,
@@ -49,7 +49,7 @@ fn accept_followed<R: Abort>(
     holds(rt, found.as_str() == wanted, more);
 }
 
-// Claims that the pairs, with these after them, are rejected at this position of what follows.
+// Claims that the pairs, followed by these, are rejected at this position of the following ones.
 fn reject_after<R: Abort>(rt: &R, alloc: Global, more: &str, position: usize, text: &str) {
     let mut input = shuffled(rt, alloc, "", "");
     let position = input.len().saturating_add(position);

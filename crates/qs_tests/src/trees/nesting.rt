@@ -1,4 +1,4 @@
-//! Keys below keys, and the limit of depth.
+//! Nested keys, and the depth limit.
 
 use super::{Config, Global, accept, has_tree, query, tree};
 use crate::claims::{holds, is_equal, is_text, made};
@@ -6,7 +6,7 @@ use std::process::Abort;
 
 const SEVEN_MAPS: &str = "{'a':{'b':{'c':{'d':{'e':{'f':{'[g][h]':'i'}}}}}}}";
 
-// Returns how many maps stand inside one another at most.
+// Returns how deep maps are nested.
 fn nesting(tree: &str) -> usize {
     let mut open: usize = 0;
     let mut most = 0;
@@ -59,13 +59,13 @@ fn maps_in_maps(rt: HostRuntime) {
     is_equal(&rt, nesting(SEVEN_MAPS), limit + 2, "maps");
 }
 
-// Returns an input of so many keys in brackets.
+// Returns an input with `count` keys in brackets.
 fn bracketed<R: Abort>(rt: &R, alloc: Global, count: usize) -> String {
     let brackets = made(rt, "[b]".repeat(alloc, count));
     made(rt, format!(in alloc; "a{brackets}=1"))
 }
 
-// Claims that so many keys in brackets make as many maps and one more under this limit of depth, and that no bracket is left.
+// Claims that `count` keys in brackets make `maps` nested maps with this depth limit, and that no bracket is left.
 fn is_nested<R: Abort>(rt: &R, alloc: Global, count: usize, max_depth: usize, maps: usize) {
     let input = bracketed(rt, alloc, count);
     let found = tree(rt, alloc, query(max_depth), input.as_bytes());

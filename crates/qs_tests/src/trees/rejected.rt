@@ -1,4 +1,4 @@
-//! What is reported of a pair that can't be read, and where.
+//! What is reported for a pair that can't be parsed, and where.
 
 use super::{
     Config, ENDED, ENDED_IN_KEY, Error, Global, MAP_IN_SEQUENCE, MIXED_SEQUENCE, VALUE_AND_MAP,
@@ -51,7 +51,7 @@ fn after_a_push(rt: HostRuntime) {
 const LINE: &[u8] =
     b"id=42&name=Acme&phone=12345&address[city]=Carrot+City&address[street]=Special-Street*+No.+11&address[postcode]=12345&user_ids[0]=1&user_ids[1]=2&user_ids[2]=3&user_ids[3]=4";
 
-// Returns whether a front of the line is rejected, where a typed call finds the same. Claims that it is where its end was read.
+// Returns whether a prefix of the line is rejected. Claims that a typed call finds the same, and that the error is at the prefix's end.
 fn is_rejected<R: Abort>(rt: &R, alloc: Global, front: &[u8]) -> bool {
     let typed = typed_position(alloc, Config::new(), front);
     match parse(alloc, front, Config::new()) {
@@ -68,7 +68,7 @@ fn is_rejected<R: Abort>(rt: &R, alloc: Global, front: &[u8]) -> bool {
     }
 }
 
-// Of the fronts of a line those that end inside brackets are rejected, each where its end was read.
+// The prefixes of a line that end inside brackets are rejected, each at its end.
 #[test]
 fn fronts(rt: HostRuntime) {
     let mut rejected = 0u32;

@@ -1,4 +1,4 @@
-//! Data that are rejected, and the entries that stand before.
+//! Data that is rejected, and the entries that are written before the error.
 
 use super::writes_each;
 

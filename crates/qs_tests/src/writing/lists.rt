@@ -1,4 +1,4 @@
-//! Lists, in each format, and data inside one another.
+//! Lists, in each format, and nested data.
 
 use super::writes_each;
 

@@ -1,4 +1,4 @@
-//! Values that are one text, and values that have none.
+//! Values that are written as one text, and values that have none.
 
 use super::{writes, writes_each};
 use crate::build::Build;
@@ -71,7 +71,7 @@ fn each_case(rt: HostRuntime) {
     writes_each(&rt, rt.alloc(), CASES, 29);
 }
 
-// Asserts that a field with so many letters and spaces is written.
+// Asserts that a field with `count` letters and spaces is written.
 fn is_written<R: Abort>(b: &Build<'_, R>, count: usize) {
     let value = made(b.rt, "\u{e9} ".repeat(b.alloc, count));
     let encoded = made(b.rt, "%C3%A9+".repeat(b.alloc, count));
@@ -79,7 +79,7 @@ fn is_written<R: Abort>(b: &Build<'_, R>, count: usize) {
     writes(b, Config::new(), &b.one("a", b.text(&value)), &wanted);
 }
 
-// Values on both sides of the length from which one is put in pieces, which may end within a character.
+// Values just below and above the length from which a value is written in pieces. A piece may end inside a character.
 #[test]
 fn long(rt: HostRuntime) {
     let build = Build::new(&rt, rt.alloc());

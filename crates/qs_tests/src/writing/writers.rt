@@ -1,4 +1,4 @@
-//! Writers that take little, and writers that stop.
+//! Writers that take few bytes at a time, and writers that stop.
 
 use crate::build::Build;
 use crate::claims::{fails, holds, is_equal, made};
@@ -23,7 +23,7 @@ fn number_and_list<R: Abort>(b: &Build<'_, R>) -> Data {
     notation::data(b, "Struct:a:b Unsigned:1 Seq:1 Unsigned:2")
 }
 
-// Claims that a writer with this room holds as many bytes of the text, no write is repeated, and the serializer has failed for good.
+// Claims that a writer with this capacity holds as many bytes of the text, no write is repeated, and the serializer fails from then on.
 fn stops_at<R: Abort>(rt: &R, alloc: Global, datum: &Data, room: usize, step: usize, stop: Stop) {
     let case = (stop, step, room);
     let mut writer = made(rt, Narrow::new(alloc, step, room, stop));
@@ -75,7 +75,7 @@ fn is_cause<R: Abort>(b: &Build<'_, R>, error: &Error, kind: io::ErrorKind, stop
     is_equal(b.rt, said, wanted, stop);
 }
 
-// The error is the writer's own, and that of a write that took nothing is std's for it.
+// The error is the writer's own. If a write took nothing, the error is std's for that.
 #[test]
 fn the_cause_is_reported(rt: HostRuntime) {
     let b = Build::new(&rt, rt.alloc());
@@ -84,7 +84,7 @@ fn the_cause_is_reported(rt: HostRuntime) {
     reports(&b, Stop::TakesNothing, io::ErrorKind::WriteZero);
 }
 
-// The text of an entry is put whole, however long its key is.
+// The text of an entry is written whole, however long its key is.
 #[test]
 fn long_keys_are_put(rt: HostRuntime) {
     let b = Build::new(&rt, rt.alloc());
@@ -97,7 +97,7 @@ fn long_keys_are_put(rt: HostRuntime) {
     holds(&rt, written.as_slice() == wanted.as_bytes(), "a long key");
 }
 
-// Claims that a writer which takes so many bytes at a time holds the whole text.
+// Claims that a writer that takes this many bytes at a time holds the whole text.
 fn takes_all<R: Abort>(b: &Build<'_, R>, datum: &Data, step: usize) {
     let narrow = Narrow::new(b.alloc, step, WHOLE.len(), Stop::Fails);
     let mut writer = made(b.rt, narrow);
@@ -135,7 +135,7 @@ impl Call {
     }
 }
 
-// Claims that a writer with this room holds as much of the text, and that the call failed where there was more.
+// Claims that a writer with this capacity holds as much of the text, and that the call failed if there was more.
 fn holds_front<R: Abort, C: Debug + Copy + Drop>(
     rt: &R,
     held: &[u8],
@@ -149,7 +149,7 @@ fn holds_front<R: Abort, C: Debug + Copy + Drop>(
     holds(rt, matches!(outcome, Ok(()) | Err(Error::Io(_))), case);
 }
 
-// Claims that each front of the line is what a writer holds that has room for it.
+// Claims that each prefix of the line is what a writer with its length as capacity holds.
 fn fronts<R: Abort>(
     rt: &R,
     alloc: Global,
@@ -178,7 +178,7 @@ fn typed_calls_stop_in_mid_stream(rt: HostRuntime) {
     }
 }
 
-// A text of more than 8,192 bytes is put in pieces.
+// A text of more than 8,192 bytes is written in pieces.
 #[test]
 fn typed_calls_stop_in_a_long_text(rt: HostRuntime) {
     let alloc = rt.alloc();
@@ -193,7 +193,7 @@ fn typed_calls_stop_in_a_long_text(rt: HostRuntime) {
     }
 }
 
-// Claims that a writer with this room holds as much of the text of the addresses.
+// Claims that a writer with this capacity holds as much of the text of the addresses.
 fn stops_in<R: Abort>(
     rt: &R,
     alloc: Global,

@@ -1,4 +1,4 @@
-//! Whatever is there, shown.
+//! The command `any` with inputs of every kind.
 use super::expect;
 use std::test::Fail;
 

@@ -1,4 +1,4 @@
-//! Arguments that are right, and wrong ones.
+//! Valid and invalid arguments.
 use super::{expect, words};
 use crate::arguments::Request;
 use crate::information::Information;
@@ -26,7 +26,7 @@ fn right(rt: HostRuntime) -> Result<(), Fail> {
     expect(&rt, rt.alloc(), 0, &rows)
 }
 
-// Asserts that the usage is printed for these arguments, and that this is said to be wrong with them.
+// Asserts that the usage is printed for these arguments, with this message about what is wrong.
 fn expect_misuse<R: Abort>(rt: &R, alloc: Global, arguments: &str, said: &str) -> Result<(), Fail> {
     let row = format!(in alloc; "{arguments} | {PERSON} | {USAGE}")?;
     expect(rt, alloc, 2, &[row.as_str()])?;

@@ -10,7 +10,7 @@ fn written_again(rt: HostRuntime) -> Result<(), Fail> {
         "flat | active&name=a&age=1&occupation=b | name=a&age=1&occupation=b&active=true&note",
         "flat | a[b]=1&name=x&age=1&occupation=y | name=x&age=1&occupation=y&note",
         "flat | age=1&age=2&name=a&occupation=b&note= | name=a&age=2&occupation=b&note=",
-        // the newline that ends the input, and one more that is its own
+        // the newline that ends the input, and one more that is part of the input
         "flat | age=1&name=a&occupation=b\n | name=a&age=1&occupation=b&note",
         "flat | age=1&name=a&occupation=b\n\n | name=a&age=1&occupation=b%0A&note",
     ];

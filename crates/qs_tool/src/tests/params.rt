@@ -1,4 +1,4 @@
-//! Five fields, of which an address and a list are nested.
+//! Five fields, with a nested address and a nested list.
 use super::expect;
 use std::test::Fail;
 

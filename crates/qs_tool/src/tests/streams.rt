@@ -10,7 +10,7 @@ const INPUT: &[u8] = b"age=24&occupation=Student&name=Alice+B.";
 
 const LINE: &[u8] = b"name=Alice+B.&age=24&occupation=Student&note\n";
 
-/// What a stream does when it has no room or no bytes left.
+/// What a stream does when it is full or has no bytes left.
 #[derive(Clone, Copy)]
 enum End {
     Fails,
@@ -31,7 +31,7 @@ impl End {
     }
 }
 
-/// Gives a byte a read, and then ends once. After that it gives the bytes of an input, so a test sees a read that is repeated.
+/// Returns one byte for each read, and then ends once. After that it returns the bytes of an input, so a test sees a repeated read.
 #[derive(Drop)]
 struct Source<'a> {
     rest: &'a [u8],
@@ -53,7 +53,7 @@ impl Read for Source<'_> {
     }
 }
 
-/// Gives bytes for ever.
+/// Returns bytes forever.
 #[derive(Drop)]
 struct Endless;
 
@@ -67,7 +67,7 @@ impl Read for Endless {
     }
 }
 
-/// Takes up to `step` bytes a write while there is room, and then ends once. It takes what is written after that, so a test sees it.
+/// Takes up to `step` bytes for each write until it is full, and then ends once. It takes what is written after that, so a test sees it.
 #[derive(Drop)]
 struct Target {
     held: Vec<u8>,
@@ -126,7 +126,7 @@ fn an_input_without_end(rt: HostRuntime) -> Result<(), Fail> {
     Ok(())
 }
 
-// A byte a read, and one read more that is the end: a million at most.
+// Each read returns one byte, and one more read reaches the end: a million reads at most.
 #[test]
 fn as_many_reads_as_are_allowed(rt: HostRuntime) -> Result<(), Fail> {
     let words = words(rt.alloc(), "flat")?;

@@ -1,4 +1,4 @@
--- The settings of the definitions as those of a `Config`, and back.
+-- The settings of the definitions as settings of a `Config`, and back.
 use Rattle.std.specs.Prelude.{◌≡◌, refl}
 use Rattle.qs_spec.specs.Config.{Duplicates, take_last, reject, indexed, empty_indexed, unindexed, ArrayFormat as Format}
 use Rattle.qs_tree.specs.declared.config.ArrayFormat.{ArrayFormat}

@@ -7,7 +7,7 @@ use Rattle.qs_tree.specs.contracts.tree.key.KeyOrd.TheImpl as key_order
 use Rattle.qs_tree.specs.contracts.tree.key.KeyPartialEq.TheImpl as key_equality
 use Rattle.qs_tree.specs.contracts.tree.value.ParsedValuePartialEq.TheImpl as value_equality
 
--- as `Ord` and `PartialEq` of `Key`, and `PartialEq` of `ParsedValue`, have them
+-- as defined by `Ord` and `PartialEq` of `Key`, and by `PartialEq` of `ParsedValue`
 abbrev pub key_cmp : Key → Key → Ordering
 key_cmp = key_order.ghosts.cmp
 

@@ -2,6 +2,6 @@
 use Rattle.std.specs.Prelude.{ℕ, length}
 use Rattle.std.specs.Int.Digits.{digits_of}
 
--- how many digits a number has in base two, none for 0
+-- how many binary digits a number has; 0 has none
 abbrev pub binary_digits : ℕ → ℕ
 binary_digits n = length (digits_of 2 n)

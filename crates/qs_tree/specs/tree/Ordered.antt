@@ -9,7 +9,7 @@ abbrev pub IsBefore : Segment → Entries → Type 0
 IsBefore s no_entries = ⊤
 IsBefore s (entry k mark t es) = (compare_segments s k ≡ Less) × IsBefore s es
 
--- the keys are strictly ascending, and so distinct
+-- the keys are strictly ascending, and therefore distinct
 abbrev pub AreOrdered : Entries → Type 0
 AreOrdered no_entries = ⊤
 AreOrdered (entry k mark t es) = IsBefore k es × AreOrdered es

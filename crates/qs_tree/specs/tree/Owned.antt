@@ -1,4 +1,4 @@
--- Which strings a value owns, and doesn't borrow.
+-- Which strings a value owns instead of borrowing them.
 use Rattle.std.specs.Prelude.{Bool, List, [], ◌∷◌, ◌++◌}
 use Rattle.qs_tree.specs.declared.tree.key.Key.{Key}
 use Rattle.qs_tree.specs.declared.tree.key.Key.TheVariants as key
@@ -38,6 +38,6 @@ map_owns_step m = entries_own m.map
 abbrev pub owns : ParsedValue → List Bool
 owns = fold-ParsedValue (List Bool) (List Bool) owns_step map_owns_step
 
--- the same of a map
+-- the same for a map
 abbrev pub map_owns : ParsedMap → List Bool
 map_owns = fold-ParsedMap (List Bool) (List Bool) owns_step map_owns_step

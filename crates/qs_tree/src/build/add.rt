@@ -31,7 +31,7 @@ const LEVELS: usize = 64;
 
 /// Adds a pair to a tree, at the end of its path. The keys and the leaf are taken out of the pair.
 ///
-/// Returns an error where a node is in conflict with the pair, or where an allocation failed. The tree isn't used after that.
+/// Returns an error if a node is in conflict with the pair, or if an allocation failed. The tree isn't used after that.
 /// Adding a direct leaf with an empty path to an empty tree doesn't allocate.
 #[inline(always)]
 pub(crate) fn add_pair<'qs>(
@@ -71,7 +71,7 @@ fn add_along<'qs>(
     add_further(alloc, node, pair, level)
 }
 
-// Adds a pair to a node that isn't finished, or that has to become a map under construction, or at the end of the path.
+// Adds a pair at the end of its path, or to a node that is unfinished or has to become a map under construction.
 #[cycle(adding)]
 #[inline(never)]
 fn add_further<'qs>(
@@ -119,7 +119,7 @@ fn add_unsorted<'qs>(
     Ok(leaves.push(key, pair.leaf.take())?)
 }
 
-// Adds a pair to a map with many entries, one of which is after the pair's.
+// Adds a pair to a map with many entries, one of which is after the pair's key.
 #[cycle(adding)]
 #[inline(never)]
 fn add_out_of_order<'qs>(
@@ -142,7 +142,7 @@ fn add_out_of_order<'qs>(
     add_in_new_map(alloc, node, key, pair, level)
 }
 
-// Adds a pair to a finished node. Returns `false`, and changes nothing, where the node has to become a map under construction.
+// Adds a pair to a finished node. Returns `false`, and changes nothing, if the node has to become a map under construction.
 #[inline(always)]
 fn add_in_place<'qs>(
     alloc: Global,
@@ -319,7 +319,7 @@ impl<'qs> MapBuilder<'qs> {
         Ok(())
     }
 
-    // Returns the conflict of a leaf with this map, or `OutOfMemory` where an allocation failed. Drops the map's entries.
+    // Returns the conflict of a leaf with this map, or `OutOfMemory` if an allocation failed. Drops the map's entries.
     #[inline(never)]
     fn conflict(&mut self, alloc: Global, level: usize) -> AddError {
         let map = mem::replace(self, MapBuilder::new(alloc));

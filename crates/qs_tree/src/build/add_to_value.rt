@@ -20,10 +20,10 @@ use crate::tree::value::ParsedValue;
 use std::alloc::{AllocError, Global};
 use std::mem;
 
-/// Adds a pair to the node at a level of its path. Recurses for each key that is left.
+/// Adds a pair to the node at a level of its path. Recurses for each remaining key.
 ///
-/// Returns `false`, and changes nothing, where a key would be inserted before the end of a map with many entries. Returns an error
-/// where a node is in conflict with the pair, or where an allocation failed. The node isn't used after that.
+/// Returns `false`, and changes nothing, if a key would be inserted before the end of a map with many entries. Returns an error if a
+/// node is in conflict with the pair, or if an allocation failed. The node isn't used after that.
 #[cycle(add_to_value)]
 #[inline(always)]
 pub(crate) fn add_to_value<'qs>(
@@ -115,7 +115,7 @@ fn add_in_entries<'qs>(
     }
 }
 
-// Returns a node with a pair alone, at a level of the pair's path. Takes the keys that are left and the leaf out of the pair.
+// Returns a node with only this pair, at a level of the pair's path. Takes the remaining keys and the leaf out of the pair.
 #[inline(always)]
 fn chain_of<'qs>(
     alloc: Global,
@@ -135,7 +135,7 @@ fn chain_of<'qs>(
     Ok(value)
 }
 
-// Returns a node with a pair's leaf alone, which is taken out of the pair.
+// Takes the leaf out of a pair, and returns a node with only that leaf.
 #[inline(always)]
 fn value_at_end<'qs>(alloc: Global, pair: &mut Pair<'qs>) -> Result<ParsedValue<'qs>, AllocError>
     ensures value { IfOk result (λ value. add_flat (is_push pair.old.manner) (leaf_of pair.old.leaf) uninitialized ≡ Some (tree_of value)) }
@@ -150,7 +150,7 @@ fn value_at_end<'qs>(alloc: Global, pair: &mut Pair<'qs>) -> Result<ParsedValue<
 
 /// Adds a pair's leaf at the end of its path.
 ///
-/// Returns an error where the node is in conflict with it, or where an allocation failed. The node isn't used after that.
+/// Returns an error if the node is in conflict with it, or if an allocation failed. The node isn't used after that.
 #[inline(always)]
 #[tactic(auto, using(crate::proofs::lemmas::Views::views))]
 pub(crate) fn add_at_end<'qs>(
@@ -279,7 +279,7 @@ pub(crate) fn add_leaf_at<'qs>(
     }
 }
 
-// Returns the conflict of a leaf with a map, or `OutOfMemory` where an allocation failed.
+// Returns the conflict of a leaf with a map, or `OutOfMemory` if an allocation failed.
 #[inline(never)]
 fn conflict(alloc: Global, map: &ParsedMap<'_>, level: usize) -> AddError {
     match key_list(alloc, map.map.as_slice()) {

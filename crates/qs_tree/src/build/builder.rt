@@ -1,7 +1,7 @@
 //! A tree under construction.
 //!
-//! It is a finished tree, to which pairs are added in place. Only the maps on the way to what that doesn't suit are in a form of their
-//! own: a map with many entries that gets keys in no order, or a path of many keys.
+//! Pairs are added in place to a finished tree. That doesn't suit a map with many entries that gets keys in no order, or a path of
+//! many keys. Only the maps on the way to one of these have a form of their own.
 ghost use Rattle.std.specs.Prelude.{◌≡◌, ◌+◌, ◌<◌, ◌≤◌, length, true, Some, Err, IfOk, IsOk, OnOk, MatchResult};
 ghost use Rattle.std.specs.List.Sorted.{IsStrictlySortedBy};
 ghost use Rattle.std.specs.Map.{keys_of};
@@ -36,12 +36,12 @@ pub(crate) enum TreeBuilder<'qs> {
     Value(ParsedValue<'qs>),
     /// A map that isn't finished.
     Map(MapBuilder<'qs>),
-    /// A map of many leaves, some of whose keys came before the end.
+    /// A map of many leaves, some of whose keys were added before the end.
     Unsorted(Unsorted<'qs>),
 }
 
 /// A map that isn't finished: a sorted vector, or a search tree after a key was inserted before the end of a vector with many
-/// entries. So an insertion takes logarithmic time for keys in any order.
+/// entries. So inserting a key takes logarithmic time in any order of keys.
 #[cycle(builder)]
 pub(crate) enum MapBuilder<'qs> {
     Vector(Entries<Key<'qs>, TreeBuilder<'qs>>),
@@ -59,7 +59,7 @@ impl<'qs> TreeBuilder<'qs> {
         TreeBuilder::Value(ParsedValue::Uninitialized)
     }
 
-    /// Returns the finished node, or as `Err` the map that is to be finished. Allocates only for a map of leaves in no order.
+    /// Returns the finished node, or as `Err` the map to be finished. Allocates only for a map of leaves in no order.
     #[tactic(auto, using(crate::proofs::lemmas::Views::views))]
     pub fn into_value(
         self,
@@ -78,7 +78,7 @@ impl<'qs> TreeBuilder<'qs> {
         }
     }
 
-    /// Returns a finished map of leaves alone as one to which leaves are added in any order, and any other node as it is.
+    /// Returns a finished map of only leaves as one to which leaves are added in any order, and any other node unchanged.
     #[tactic(auto, using(crate::proofs::lemmas::Views::views))]
     pub fn unsorted(self) -> Self
         ensures { built_tree result ≡ built_tree self.entry }
@@ -98,7 +98,7 @@ impl<'qs> MapBuilder<'qs> {
         MapBuilder::Vector(Entries::new(alloc))
     }
 
-    /// Returns a finished map as one that isn't finished. Allocates a vector.
+    /// Returns a finished map as an unfinished one. Allocates a vector.
     #[inline(never)]
     pub fn reopen(alloc: Global, map: ParsedMap<'qs>) -> Result<Self, AllocError>
         ensures { IfOk result (λ builder. built_entries builder ≡ entries_of_map map.entry) }
@@ -106,7 +106,7 @@ impl<'qs> MapBuilder<'qs> {
         Ok(MapBuilder::Vector(as_builders(alloc, map.into_entries())?))
     }
 
-    /// Takes the node at a key, and leaves an empty one. Returns an empty node where the key is missing. Doesn't allocate.
+    /// Takes the node at a key, and leaves an empty one. Returns an empty node if the key is missing. Doesn't allocate.
     pub fn take(&mut self, key: &Key<'qs>) -> TreeBuilder<'qs>
         ensures { Takes key.now (built_entries self.old) (built_tree result) (built_entries self.new) }
     {
@@ -116,7 +116,7 @@ impl<'qs> MapBuilder<'qs> {
         }
     }
 
-    /// Puts a node at a key. An equal key that the map has already is kept. Returns an error only where an allocation failed.
+    /// Puts a node at a key. If the map has an equal key, that key is kept. Returns an error only if an allocation failed.
     pub fn put(
         &mut self,
         alloc: Global,
@@ -196,7 +196,7 @@ pub(crate) fn key_list<'qs, V>(
     Ok(text)
 }
 
-// Returns a finished map as a node, unsorted where it has leaves alone.
+// Returns a finished map as a node, unsorted if it has only leaves.
 #[tactic(auto, using(crate::proofs::lemmas::Views::views))]
 fn unsorted_map<'qs>(map: ParsedMap<'qs>) -> TreeBuilder<'qs>
     ensures { built_tree result ≡ mapping (entries_of_map map.entry) }
@@ -245,7 +245,7 @@ pub(crate) fn place_among<'qs, V>(entries: &[(Key<'qs>, V)], key: &Key<'qs>) -> 
     place_with(entries, key, &mut Steps::new())
 }
 
-// Does the same, and adds the number of comparisons to `steps`: one for a key after all others.
+// Does what `place_among` does, and adds the number of comparisons to `steps`: one for a key after all others.
 #[inline(always)]
 fn place_with<'qs, V>(
     entries: &[(Key<'qs>, V)],
@@ -332,7 +332,7 @@ fn insert<'qs>(
     Ok(())
 }
 
-/// Returns the entries of a vector as a search tree. Returns an error only where an allocation failed.
+/// Returns the entries of a vector as a search tree. Returns an error only if an allocation failed.
 #[inline(never)]
 pub(crate) fn into_tree<'qs>(
     alloc: Global,

@@ -15,7 +15,7 @@ pub(crate) enum AddError {
 }
 
 impl AddError {
-    /// Returns the conflict of a pair with the node at a level of its path. Allocates the box, and returns `OutOfMemory` where that
+    /// Returns the conflict of a pair with the node at a level of its path. Allocates the box, and returns `OutOfMemory` if that
     /// failed.
     #[inline(never)]
     pub fn conflict(alloc: Global, level: usize, kind: ConflictKind) -> AddError {
@@ -25,8 +25,8 @@ impl AddError {
         }
     }
 
-    /// Returns the conflict of a pair whose path leads through a node at a level that isn't a map. Allocates the box, and returns
-    /// `OutOfMemory` where that failed.
+    /// Returns the conflict of a pair whose path leads, at a level, through a node that isn't a map. Allocates the box, and returns
+    /// `OutOfMemory` if that failed.
     #[inline(never)]
     pub fn below(alloc: Global, level: usize, node: &ParsedValue<'_>) -> AddError {
         AddError::conflict(alloc, level, ConflictKind::below(node))
@@ -84,7 +84,8 @@ impl<T: Drop> From<AllocFailed<T>> for AddError {
     }
 }
 
-/// Finds the first node on a path that can't have a child at the next key, and returns its level and why, or `None`. Doesn't allocate.
+/// Finds the first node on a path that can't have a child at the next key. Returns its level and the conflict, or `None`. Doesn't
+/// allocate.
 pub(crate) fn conflict_below<'qs>(
     tree: &ParsedValue<'qs>,
     path: &Path<'qs>,
@@ -103,7 +104,7 @@ pub(crate) fn conflict_below<'qs>(
     None
 }
 
-// Returns the child of a node at a key, or `None`, or as `Err` why the node can't have one.
+// Returns the child of a node at a key, or `None`, or as `Err` the conflict if the node can't have one.
 fn node_below<'t, 'qs>(
     node: &'t ParsedValue<'qs>,
     key: &Key<'qs>,

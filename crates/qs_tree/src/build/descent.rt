@@ -14,7 +14,7 @@ use crate::tree::map::ParsedMap;
 use crate::tree::value::ParsedValue;
 use std::alloc::Global;
 
-/// A map with the node at one of its keys taken out.
+/// A map from which the node at one key is taken out.
 #[derive(Drop)]
 pub(crate) struct Frame<'qs> {
     map: MapBuilder<'qs>,
@@ -29,9 +29,9 @@ pub(crate) struct Zipper<'qs> {
     pub node: TreeBuilder<'qs>,
 }
 
-/// Goes down from the node at a level along the remaining keys of a pair, which are taken out of it. Empty nodes become maps.
+/// Goes down from the node at a level along the remaining keys of a pair, and takes them out of the pair. Empty nodes become maps.
 ///
-/// Returns an error where a node can't have a child at the next key, or where an allocation failed. The node is dropped then.
+/// Returns an error if a node can't have a child at the next key, or if an allocation failed. The node is dropped then.
 /// Allocates the frames.
 pub(crate) fn descend<'qs>(
     alloc: Global,
@@ -60,7 +60,7 @@ pub(crate) fn descend<'qs>(
 
 /// Puts a node back into the maps above it, the lowest first.
 ///
-/// Returns an error only where an allocation failed.
+/// Returns an error only if an allocation failed.
 pub(crate) fn rebuild<'qs>(
     alloc: Global,
     maps: Vec<Frame<'qs>>,
@@ -77,7 +77,7 @@ pub(crate) fn rebuild<'qs>(
     Ok(node)
 }
 
-// Takes the node at a key, which may be empty, out of the map that a node is or that an empty node becomes.
+// Takes the node at a key out of a map. An empty node becomes a map first. The node at the key may be empty.
 fn open<'qs>(
     alloc: Global,
     node: TreeBuilder<'qs>,
@@ -93,10 +93,10 @@ fn open<'qs>(
     Ok((Frame { map, key }, child))
 }
 
-/// Returns the map that a node is, or that an empty node becomes.
+/// Returns the node as a map. An empty node becomes an empty map.
 ///
-/// Returns a conflict for every other node, or `OutOfMemory` where an allocation failed. Allocates for a conflict, for a finished map
-/// and for one of leaves in no order.
+/// Returns a conflict for every other node, or `OutOfMemory` if an allocation failed. Allocates for a conflict, for a finished map
+/// and for a map of leaves in no order.
 pub(crate) fn map_of<'qs>(
     alloc: Global,
     node: TreeBuilder<'qs>,
@@ -114,7 +114,7 @@ pub(crate) fn map_of<'qs>(
     }
 }
 
-// Returns the map that a finished node is, or that an empty node becomes, as `map_of` does.
+// Returns a finished node as a map, as `map_of` does.
 #[tactic(auto, using(crate::proofs::lemmas::Views::views))]
 fn map_of_value<'qs>(
     alloc: Global,

@@ -8,7 +8,7 @@ use crate::tree::value::ParsedValue;
 use std::alloc::{AllocError, Global};
 use std::hash::{FoldHasher, Hasher};
 
-/// Returns whether all keys have distinct hashes, so that no two are equal. Takes eight bytes for each.
+/// Returns whether all keys have distinct hashes, and so are distinct. Takes eight bytes for each key.
 pub(crate) fn have_distinct_keys<'qs>(
     alloc: Global,
     leaves: &[(Key<'qs>, ParsedValue<'qs>)],

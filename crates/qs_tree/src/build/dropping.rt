@@ -1,6 +1,6 @@
 //! Drops a tree under construction by a loop that doesn't allocate, at any depth.
 //!
-//! The loop follows first entries. Each vector stores the one above it in place of its first node, so that only the lowest has to be
+//! The loop follows first entries. Each vector stores the vector above it in place of its first node, so only the lowest has to be
 //! kept. Nodes below a search tree are dropped by recursion. That isn't deep: each search tree has so many keys that an input's length
 //! is quadratic in their depth.
 ghost use Rattle.std.specs.Prelude.{◌≡◌, ◌+◌, ◌<◌, ◌≤◌};

@@ -17,7 +17,7 @@ use crate::tree::value::ParsedValue;
 use std::alloc::{AllocError, Global};
 use std::vec::IntoIter;
 
-/// A map that is being finished.
+/// A map being finished.
 #[derive(Drop)]
 struct Level<'qs> {
     /// The finished entries.
@@ -36,7 +36,7 @@ struct Frame<'qs> {
 impl<'qs> TreeBuilder<'qs> {
     /// Finishes the node, and returns it.
     ///
-    /// Returns an error only where an allocation failed. A finished node needs no allocation, and a map without maps in it only those
+    /// Returns an error only if an allocation failed. A finished node needs no allocation. A map without inner maps allocates only
     /// for its own entries. Takes constant stack: unfinished maps are kept in a vector.
     #[inline(always)]
     pub fn finish(self, alloc: Global) -> Result<ParsedValue<'qs>, AllocError>
@@ -85,7 +85,7 @@ fn open_level<'qs>(alloc: Global, map: MapBuilder<'qs>) -> Result<Level<'qs>, Al
 }
 
 impl<'qs> Level<'qs> {
-    // Finishes the entries before the next map, and takes out that map with its key.
+    // Finishes the entries before the next map, and takes that map out with its key.
     #[tactic(auto, using(crate::proofs::lemmas::build::Levels::may_push))]
     fn next_map(&mut self, alloc: Global) -> Result<Option<(Key<'qs>, MapBuilder<'qs>)>, AllocError>
         requires { IsStrictlySortedBy key_cmp (keys_of (level_pairs self.old)) }

@@ -1,6 +1,6 @@
-//! A map of leaves alone, in the order in which they came.
+//! A map of only leaves, in the order in which they were added.
 //!
-//! It is the map of their pairs. They are sorted once, when it is finished, so a leaf takes constant time until then.
+//! It is the map of their pairs. They are sorted once, when the map is finished; until then adding a leaf takes constant time.
 ghost use Rattle.std.specs.Prelude.{◌≡◌, Some, false, IfOk, OnOk};
 ghost use Rattle.std.specs.List.{list_all};
 ghost use Rattle.std.specs.List.Sorted.{IsPermutation};
@@ -19,10 +19,10 @@ use crate::tree::map::ParsedMap;
 use crate::tree::value::ParsedValue;
 use std::alloc::{AllocError, Global};
 
-/// How many keys rise, or fall, one after another in runs that a stable sort takes as they are.
+/// How many keys rise, or fall, in a row in runs that a stable sort leaves as they are.
 const RUN: usize = 8;
 
-/// A map of leaves alone, in the order in which they came. Those of one key make a sequence.
+/// A map of only leaves, in the order in which they were added. Leaves with the same key make a sequence.
 #[derive(Drop)]
 pub(crate) struct Unsorted<'qs> {
     leaves: Vec<(Key<'qs>, ParsedValue<'qs>)>,
@@ -32,7 +32,7 @@ pub(crate) struct Unsorted<'qs> {
 impl<'qs> Unsorted<'qs> {
     ghost use Rattle.qs_tree.specs.internal.build.Builder.{entries_held, unsorted_entries};
 
-    /// Returns a finished map of leaves alone as an unsorted one. Doesn't allocate.
+    /// Returns a finished map of only leaves as an unsorted one. Doesn't allocate.
     pub fn of(map: ParsedMap<'qs>) -> Self
         requires { AreLeaves map.map }
         ensures { unsorted_entries result ≡ entries_of_map map.entry }
@@ -53,7 +53,7 @@ impl<'qs> Unsorted<'qs> {
         Ok(())
     }
 
-    /// Returns the finished entries. Sorts the leaves in their vector, and copies them to another one only where a key has several.
+    /// Returns the finished entries. Sorts the leaves in their vector, and copies them to another one only if a key has several.
     #[inline(never)]
     pub fn into_entries(
         self,
@@ -69,7 +69,7 @@ impl<'qs> Unsorted<'qs> {
         }
     }
 
-    // Returns the entries of sorted leaves, of which those of one key make a sequence.
+    // Returns the entries of sorted leaves. Leaves with the same key make a sequence.
     #[inline(never)]
     fn merge(
         alloc: Global,
@@ -82,7 +82,7 @@ impl<'qs> Unsorted<'qs> {
             match add_leaf_at(alloc, &mut entries, entry.0, Leaf::of(entry.1), 0) {
                 Ok(()) => {}
                 Err(AddError::OutOfMemory) => return Err(AllocError),
-                // Leaves are in no conflict with one another.
+                // Leaves don't conflict with one another.
                 Err(AddError::Conflict(_)) => unreachable!(),
             }
         }
@@ -90,8 +90,8 @@ impl<'qs> Unsorted<'qs> {
     }
 }
 
-// Sorts leaves by their keys, and keeps those of one key in their order. Takes a buffer as long as the leaves only where they are in runs,
-// or where a key has several.
+// Sorts leaves by their keys, and keeps leaves with the same key in order. Takes a buffer as long as the leaves only if they are in
+// runs, or if a key has several.
 fn sort<'qs>(
     alloc: Global,
     leaves: &mut Vec<(Key<'qs>, ParsedValue<'qs>)>,

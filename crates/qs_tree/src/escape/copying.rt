@@ -16,8 +16,8 @@ pub(crate) fn put(bytes: &[u8], room: &mut [u8], at: usize)
     room[at..at + bytes.len()].copy_from_slice(bytes);
 }
 
-/// Copies bytes before the first of a class to `room` from `at` on, with `from` replaced by `to`, and returns how many: up to 32
-/// where there are 32 bytes, or else one. The contents of `room` after them aren't specified.
+/// Copies bytes before the first of a class to `room` from `at` on, with `from` replaced by `to`, and returns how many: up to 32 if
+/// there are 32 bytes, one otherwise. The contents of `room` after them aren't specified.
 #[inline(always)]
 pub(crate) fn copy_run<C: Class>(
     class: C,

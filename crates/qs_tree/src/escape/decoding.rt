@@ -16,11 +16,12 @@ use std::borrow::CowSlice;
 /// Percent-decodes bytes: `+` is a space, and `%` with two hexadecimal digits of either case is one byte, as in the [URL Standard],
 /// sections 5.1 and 1.3.
 ///
-/// An invalid escape isn't changed. It is `%` and the next byte where that is no digit, and `%` and the next two bytes where only the
-/// second is no digit. None of them begins another escape, so `%%41` is decoded to `%%41`, where the standard has `%A`.
+/// An invalid escape isn't changed. It is `%` and the next byte if that isn't a digit, or `%` and the next two bytes if only the
+/// second isn't a digit. None of these bytes begins another escape: `%%41` is decoded to `%%41`, unlike in the standard, which decodes
+/// it to `%A`.
 ///
-/// Bytes without `+` and `%` are borrowed, and it doesn't allocate. Others are copied into one allocation; the only error is
-/// [`OutOfMemory`](crate::Error::OutOfMemory), where that failed. Takes linear time.
+/// Borrows bytes without `+` and `%`, and doesn't allocate for them. Copies others into one allocation; the only error is
+/// [`OutOfMemory`](crate::Error::OutOfMemory), if that fails. Takes linear time.
 ///
 /// [URL Standard]: https://url.spec.whatwg.org/
 ///
@@ -49,7 +50,7 @@ pub(crate) fn unescape(alloc: Global, bytes: &[u8]) -> Result<CowSlice<'_, u8>, 
     }
 }
 
-/// Percent-decodes bytes as [`decode`] does. Doesn't look for `+` and `%` where it is known that there are none (`is_unmarked`).
+/// Percent-decodes bytes as [`decode`] does. Doesn't look for `+` and `%` if it is known that there are none (`is_unmarked`).
 #[inline(always)]
 #[tactic(auto, using(crate::proofs::lemmas::escape::DecodedFronts::decoded_unmarked))]
 pub(crate) fn unescape_unless(
@@ -68,7 +69,7 @@ pub(crate) fn unescape_unless(
     unescape(alloc, bytes)
 }
 
-// Percent-decodes bytes into a vector. So many bytes at the front are without `+` and `%`.
+// Percent-decodes bytes into a vector. The first `front` bytes have no `+` and `%`.
 #[inline(never)]
 fn unescaped(alloc: Global, bytes: &[u8], front: usize) -> Result<Vec<u8>, AllocError>
     requires within { front ≤ length bytes.now }
@@ -82,7 +83,7 @@ fn unescaped(alloc: Global, bytes: &[u8], front: usize) -> Result<Vec<u8>, Alloc
     Ok(text)
 }
 
-// Writes the decoded bytes to the front of `room`, and returns how many they are.
+// Writes the decoded bytes to the front of `room`, and returns their number.
 #[inline(always)]
 fn fill(bytes: &[u8], front: usize, room: &mut [u8]) -> usize
     requires within { front ≤ length bytes.now }
@@ -94,7 +95,7 @@ fn fill(bytes: &[u8], front: usize, room: &mut [u8]) -> usize
     fill_after(&bytes[front..], room, front)
 }
 
-// Writes the decoded bytes to `room` from `begin` on, and returns where they end.
+// Writes the decoded bytes to `room` from `begin` on, and returns the index after the last one.
 #[inline(always)]
 fn fill_after(bytes: &[u8], room: &mut [u8], begin: usize) -> usize
     requires { begin + length bytes.now ≤ length room.old }
@@ -110,7 +111,7 @@ fn fill_after(bytes: &[u8], room: &mut [u8], begin: usize) -> usize
     at
 }
 
-// Decodes some bytes of the front to `room` from `at` on. Returns how many it read, and how many it wrote.
+// Decodes some of the first bytes to `room` from `at` on. Returns how many it read, and how many it wrote.
 #[inline(always)]
 fn put_front(bytes: &[u8], room: &mut [u8], at: usize) -> (usize, usize)
     requires some { 0 < length bytes.now }
@@ -138,7 +139,7 @@ fn put_front(bytes: &[u8], room: &mut [u8], at: usize) -> (usize, usize)
     }
 }
 
-// Copies so many bytes as they are.
+// Copies the first `len` bytes unchanged. Returns `len` twice.
 fn put_raw(bytes: &[u8], len: usize, room: &mut [u8], at: usize) -> (usize, usize)
     requires within { len ≤ length bytes.now }
     requires room { at + len ≤ length room.old }

@@ -14,12 +14,12 @@ use percent_encoding::percent_encode_byte;
 /// Form encoding (`form`) escapes the application/x-www-form-urlencoded percent-encode set of the [URL Standard], section 1.3. Query
 /// encoding escapes the query percent-encode set of that section without the space, and `%`, `+`, `[`, `]`, `=` and `&`; it writes a
 /// space as `+`. An escape is `%` and two upper case hexadecimal digits, as in RFC 3986, section 2.1. [`decode`](crate::decode)
-/// returns the same bytes.
+/// reverses both encodings.
 ///
-/// Of 32 bytes or more, those before the first that changes, which [`find_encoded`](crate::find_encoded) finds, are copied at once, in
-/// multiples of 32.
+/// If there are 32 bytes or more, those before the first one that changes ([`find_encoded`](crate::find_encoded) finds it) are copied
+/// at once, in multiples of 32.
 ///
-/// Allocates room in `out` first. The only error is [`OutOfMemory`](crate::Error::OutOfMemory), where that failed; `out` isn't changed
+/// Reserves capacity in `out` first. The only error is [`OutOfMemory`](crate::Error::OutOfMemory), if that fails; `out` isn't changed
 /// then. Takes linear time.
 ///
 /// [URL Standard]: https://url.spec.whatwg.org/#application-x-www-form-urlencoded-percent-encode-set
@@ -63,7 +63,8 @@ fn append_from(bytes: &[u8], form: bool, at: usize, out: &mut Vec<u8>) -> Result
     Ok(())
 }
 
-/// Percent-encodes bytes into `room` from `begin` on, as [`encode`] does, and returns where they end. Each takes at most three bytes.
+/// Percent-encodes bytes into `room` from `begin` on, as [`encode`] does, and returns the index after the last encoded byte. Each byte
+/// is encoded as at most three.
 ///
 /// The contents of `room` after the end aren't specified. Doesn't allocate. Takes linear time.
 ///
@@ -85,7 +86,7 @@ pub fn encode_to(bytes: &[u8], form: bool, room: &mut [u8], begin: usize) -> usi
     put_each(rest, form, room, at)
 }
 
-// Encodes bytes to `room` from `begin` on, one by one, and returns where they end.
+// Encodes bytes to `room` from `begin` on, one by one, and returns the index after the last encoded byte.
 #[inline(always)]
 fn put_each(bytes: &[u8], form: bool, room: &mut [u8], begin: usize) -> usize
     requires { begin + length (encoded form bytes.now) ≤ length room.old }
@@ -131,7 +132,7 @@ fn put_escape(byte: u8, room: &mut [u8], at: usize)
     room[at + 2] = low;
 }
 
-// Returns the length of the encoded bytes, or `usize::MAX` where it is greater.
+// Returns the length of the encoded bytes, or `usize::MAX` if it is greater.
 #[tactic(auto, using(crate::proofs::lemmas::escape::EncodedFronts::length_encoded))]
 fn encoded_len(bytes: &[u8], form: bool) -> usize
     ensures { result ≡ min (length (encoded form bytes.now)) usize.MAX }
@@ -140,7 +141,7 @@ fn encoded_len(bytes: &[u8], form: bool) -> usize
     bytes.len().saturating_add(escapes.saturating_mul(2))
 }
 
-// Encodes some bytes of the front to `room` from `at` on. Returns how many it read, and how many it wrote.
+// Encodes some of the first bytes to `room` from `at` on. Returns how many it read, and how many it wrote.
 #[inline(always)]
 fn put_front(bytes: &[u8], form: bool, room: &mut [u8], at: usize) -> (usize, usize)
     requires some { 0 < length bytes.now }

@@ -49,7 +49,7 @@ pub fn find_ampersand(bytes: &[u8]) -> Option<usize>
     if end < bytes.len() { Some(end) } else { None }
 }
 
-/// Returns the index of the first `&`, or the length, and whether it is known that `+` and `%` aren't before it.
+/// Returns the index of the first `&`, or the length, and whether it is known that no `+` or `%` is before it.
 #[tactic(auto, using(crate::proofs::lemmas::escape::FirstPlace::none_in_front))]
 pub(crate) fn find_value_end(bytes: &[u8]) -> (usize, bool)
     ensures first { result.0 ≡ position_or_len is_ampersand bytes.now }
@@ -83,7 +83,7 @@ pub(crate) fn find_value_end(bytes: &[u8]) -> (usize, bool)
 }
 
 /// Returns the index of the first byte that [`encode`](crate::encode) changes in form encoding (`form`) or query encoding, or `None`.
-/// A space is such a byte in both. `encode` begins there with 32 bytes or more, and copies those before it.
+/// Both encodings change a space. If there are 32 bytes or more, `encode` copies those before the index at once, in multiples of 32.
 ///
 /// Doesn't allocate. Tests 32 bytes at a time, each once.
 ///

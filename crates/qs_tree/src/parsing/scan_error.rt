@@ -1,4 +1,4 @@
-//! Errors of parsing: their text and position, which are made only when there is an error.
+//! Errors of parsing: their message and position, made only if there is an error.
 
 ghost use Rattle.std.specs.Prelude.{◌≡◌, ◌+◌, ◌-◌, None, length};
 ghost use Rattle.qs_tree.specs.declared.build.conflict.AddError.TheVariants as no_allocation;
@@ -33,8 +33,8 @@ impl From<AllocError> for ScanError {
     }
 }
 
-/// Returns the error of a pair with a syntax error. A conflict with the tree before the syntax error is returned in its place, and so
-/// is `OutOfMemory` where an allocation failed.
+/// Returns the error of a pair with a syntax error. Returns a conflict with the tree before the syntax error in its place, and
+/// `OutOfMemory` if an allocation failed.
 #[inline(never)]
 pub(crate) fn syntax_error<'qs>(
     alloc: Global,
@@ -84,8 +84,8 @@ fn conflict_before<'qs>(
 }
 
 impl ScanError {
-    /// Returns the error of an input that takes `all` steps, where the cursor is. Its position is at most the number of steps that were
-    /// taken. Allocates its text.
+    /// Returns the error at the cursor, in an input that takes `all` steps. The error's position is at most the number of steps taken.
+    /// Allocates its message.
     #[inline(never)]
     pub fn into_error(self, alloc: Global, cursor: &Cursor<'_>, all: usize) -> Error
         ensures { Reports self (all - (length cursor.now.rest.now + to_come cursor.now.ended)) result }
@@ -122,7 +122,7 @@ fn conflict_error(alloc: Global, kind: ConflictKind, key: &[u8], position: usize
     Error::parse_err(alloc, text, position)
 }
 
-// Returns the error of a leaf for a map with these keys.
+// Returns the error of a leaf added to a map with these keys.
 fn leaf_on_map(alloc: Global, key: &[u8], keys: String, position: usize) -> Error
     ensures { IsParseSaying result None position }
 {

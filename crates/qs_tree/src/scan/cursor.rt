@@ -68,7 +68,7 @@ pub(crate) struct Token<'qs> {
 }
 
 impl Token<'_> {
-    /// Returns whether it is known to be without `+` and `%`.
+    /// Returns whether it is known to have no `+` and `%`.
     #[inline(always)]
     pub fn is_unmarked(&self) -> bool
         ensures { IsTrue result → is_marked self.now.raw.now ≡ false }
@@ -132,7 +132,7 @@ fn first_token(bytes: &[u8], form: bool) -> (Kind, usize)
     }
 }
 
-// Returns the length of a run, without the token that ends it, and whether it is known to be without `+` and `%`.
+// Returns the length of a run, without the token that ends it, and whether it is known to have no `+` and `%`.
 #[inline(always)]
 #[tactic(auto, using(crate::proofs::lemmas::escape::FirstPlace::none_in_front))]
 fn run_len(bytes: &[u8], form: bool, until: Until) -> (usize, bool)
@@ -158,22 +158,23 @@ fn run_len(bytes: &[u8], form: bool, until: Until) -> (usize, bool)
     (at, is_unmarked)
 }
 
-/// A cursor over an input. A step is a byte that the cursor takes, or its look at the end; the methods that take no byte count none,
-/// and hand out only bytes that were taken.
+/// A cursor over an input. A step is a byte that the cursor takes, or reaching the end. Methods that take no byte count no step, and
+/// return only bytes that were taken.
 ///
-/// Other looks aren't counted. All of them are these:
+/// Other reads aren't counted. These are all of them:
 ///
-/// - A method may look several times at a byte that it takes: whether it is a letter, whether an escape, which token it begins; and at
-///   the token that ends a run or a value again when it takes that. Where nothing is left it compares lengths alone.
-/// - In form encoding it looks at the two bytes after a `%`, which may be a bracket's.
-/// - It looks at up to 31 bytes after the `&` that ends a value, since the search for it tests 32 bytes at a time.
-/// - What was taken is looked at again: for an index, for escapes, for comparisons of keys, and for the text of an error.
+/// - A method may read a byte that it takes several times: to tell whether `is_letter` holds, whether it is an escape, and which token
+///   it begins. It reads the token that ends a run or a value again when it takes that token. If nothing is left, it only compares
+///   lengths.
+/// - In form encoding it reads the two bytes after a `%`, which may be part of an escaped bracket.
+/// - It reads up to 31 bytes after the `&` that ends a value, since the search for it tests 32 bytes at a time.
+/// - Bytes that were taken are read again for an index, for escapes, for comparisons of keys, and for the message of an error.
 #[derive(Drop)]
 pub(crate) struct Cursor<'qs> {
     rest: &'qs [u8],
     ended: bool,
     form: bool,
-    /// Whether the last run or value is known to be without `+` and `%`.
+    /// Whether the last run or value is known to have no `+` and `%`.
     is_unmarked: bool,
     steps: Steps,
     trail: Trail<'qs>,
@@ -217,7 +218,7 @@ impl<'qs> Cursor<'qs> {
         self.ended
     }
 
-    /// Returns whether the last run or value is known to be without `+` and `%`.
+    /// Returns whether the last run or value is known to have no `+` and `%`.
     pub fn is_unmarked(&self) -> bool
         ensures { result ≡ self.now.is_unmarked }
     {
@@ -231,7 +232,7 @@ impl<'qs> Cursor<'qs> {
         Place { rest: self.rest }
     }
 
-    /// Returns how many steps remain: one for each byte that is left, and one for the end unless it was reached.
+    /// Returns how many steps remain: one for each remaining byte, and one for the end unless it was reached.
     pub fn to_come(&self) -> usize
         ensures { result ≡ length self.now.rest.now + to_come self.now.ended }
     {
@@ -273,7 +274,7 @@ impl<'qs> Cursor<'qs> {
         Some(Token { kind, raw, place })
     }
 
-    /// Takes a run and the token that ends it, or all up to the end. Returns the bytes of the run and that token.
+    /// Takes a run and the token that ends it, or everything up to the end. Returns the bytes of the run, and that token.
     #[inline(always)]
     pub fn run(&mut self, until: Until) -> (&'qs [u8], Option<Token<'qs>>)
         ensures run { result.0.now ≡ raw_of (cut (ends_of until) (left self.old)).0 }

@@ -26,7 +26,7 @@ pub(crate) enum Leaf<'qs> {
 /// How a pair adds its leaf to the node at its path.
 #[derive(Clone, Copy, Debug)]
 pub(crate) enum Manner {
-    /// Adds it to the leaves that are there, for any other key.
+    /// Adds it to the existing leaves, for any other key.
     Direct,
     /// Pushes it onto a sequence, for a key that ends in `[]`.
     Push,
@@ -99,7 +99,7 @@ impl<'qs> Pair<'qs> {
 }
 
 impl<'qs> Leaf<'qs> {
-    /// Returns the leaf that a node is, or `NoValue` for another node.
+    /// Returns a node as a leaf, or `NoValue` if it isn't one.
     pub fn of(value: ParsedValue<'qs>) -> Leaf<'qs>
         ensures { leaf_of result ≡ leaf_held value.entry }
     {

@@ -69,7 +69,7 @@ impl<T: Drop> From<AllocFailed<T>> for ParseError {
 
 /// Parses up to the next `&` or the end, and stores the pair in `pair`. After the end it returns [`Item::End`] without a step.
 ///
-/// Returns an error where the pair has a syntax error, or where an allocation failed. Allocates for a path of more than one key, and
+/// Returns an error if the pair has a syntax error, or if an allocation failed. Allocates for a path of more than one key, and
 /// for strings with `+` or `%`.
 pub(crate) fn parse_item<'qs>(
     alloc: Global,
@@ -166,7 +166,7 @@ fn parse_root<'qs>(
     Ok(())
 }
 
-// Parses the value after `=`, or returns `NoValue` where another token or the end follows the key.
+// Parses the value after `=`, or returns `NoValue` if another token or the end follows the key.
 #[inline(always)]
 fn parse_value<'qs>(
     alloc: Global,
@@ -240,7 +240,7 @@ fn parse_push<'qs>(
     Err(ParseError::Syntax(error))
 }
 
-// Parses a pair after an opening bracket, where so many more levels of brackets may follow.
+// Parses a pair after an opening bracket. This many more levels of brackets may follow.
 fn parse_brackets<'qs>(
     alloc: Global,
     cursor: &mut Cursor<'qs>,

@@ -41,7 +41,7 @@ impl<'qs> Path<'qs> {
         }
     }
 
-    /// Returns how many keys there are.
+    /// Returns the number of keys.
     pub fn len(&self) -> usize
         ensures { result ≡ length self.now }
     {

@@ -13,11 +13,11 @@ use crate::scan::pair::Leaf;
 use crate::tree::key::Key;
 use std::alloc::{AllocError, Global};
 
-/// Returns the key of a segment with these raw bytes. It is an integer key for digits alone whose value fits in 32 bits, and a string
-/// key with the decoded bytes otherwise.
+/// Returns the key of a segment with these raw bytes. It is an integer key if they are digits whose value fits in 32 bits, and a
+/// string key with the decoded bytes otherwise.
 ///
-/// Returns an error only where an allocation failed. Borrows a string without `+` and `%`. Where it is known that there are none
-/// (`is_unmarked`), they aren't looked for.
+/// Returns an error only if an allocation failed. Borrows a string without `+` and `%`. Doesn't look for them if it is known that
+/// there are none (`is_unmarked`).
 #[inline(always)]
 #[tactic(auto, using(crate::proofs::lemmas::scan::Indexes::string_key))]
 pub(crate) fn parse_key(alloc: Global, raw: &[u8], is_unmarked: bool) -> Result<Key<'_>, AllocError>
@@ -32,8 +32,8 @@ pub(crate) fn parse_key(alloc: Global, raw: &[u8], is_unmarked: bool) -> Result<
 
 /// Returns the leaf of a value with these raw bytes.
 ///
-/// Returns an error only where an allocation failed. Borrows a value without `+` and `%`. Where it is known that there are none
-/// (`is_unmarked`), they aren't looked for.
+/// Returns an error only if an allocation failed. Borrows a value without `+` and `%`. Doesn't look for them if it is known that
+/// there are none (`is_unmarked`).
 pub(crate) fn parse_leaf(
     alloc: Global,
     raw: &[u8],
@@ -49,7 +49,7 @@ pub(crate) fn parse_leaf(
     Ok(Leaf::Text(unescape_unless(is_unmarked, alloc, raw)?))
 }
 
-// Returns the value of digits alone, at least one, where it fits in 32 bits, or `None`.
+// Returns the value of one or more digits if it fits in 32 bits, or `None`.
 fn parse_index(raw: &[u8]) -> Option<u32>
     ensures { result ≡ index_of raw.now }
 {
@@ -59,7 +59,7 @@ fn parse_index(raw: &[u8]) -> Option<u32>
     parse_digits(raw)
 }
 
-// Returns the value of digits alone where it fits in 32 bits, or `None`. Without digits it is 0.
+// Returns the value of digits if it fits in 32 bits, or `None`. Without digits the value is 0.
 fn parse_digits(raw: &[u8]) -> Option<u32>
     ensures { result ≡ index_from 0 raw.now }
 {

@@ -1,7 +1,7 @@
 //! Drops a tree by a loop that doesn't allocate, at any depth.
 //!
 //! The loop drops last children, and below one of them follows first children. Each node stores its parent in place of its first
-//! child, so that only the lowest has to be kept.
+//! child, so only the lowest node has to be kept.
 ghost use Rattle.std.specs.Prelude.{◌+◌, ◌<◌};
 ghost use Rattle.qs_spec.specs.Tree.Tree.{sequence, mapping};
 ghost use Rattle.qs_tree.specs.internal.tree.NodeCount.{node_count, DropsOne};

@@ -12,10 +12,10 @@ use std::alloc::{AllocError, Global};
 use std::marker::Model;
 use std::mem;
 
-/// How many entries the first allocation has room for.
+/// The capacity of the first allocation.
 const FIRST_ROOM: usize = 4;
 
-/// Vectors with fewer entries than these grow to more than twice their length, and longer ones by a third.
+/// Vectors with fewer entries than this grow to more than twice their length, others by a third.
 const MANY: usize = 1000;
 
 /// A sorted vector of entries with distinct keys. Contracts see the list of entries.
@@ -53,7 +53,7 @@ impl<K: Ord, V> Entries<K, V> {
         }
     }
 
-    /// Returns a vector without entries, with capacity for so many. Returns an error only where the allocation failed.
+    /// Returns an empty vector with this capacity. Returns an error only if the allocation failed.
     #[tactic(auto, using(crate::proofs::lemmas::tree::Places::sorted_none))]
     pub fn with_capacity(alloc: Global, capacity: usize) -> Result<Self, AllocError>
         ensures { IfOk result (λ entries. entries ≡ []) }
@@ -74,7 +74,7 @@ impl<K: Ord, V> Entries<K, V> {
         }
     }
 
-    /// Returns how many entries there are.
+    /// Returns the number of entries.
     pub fn len(&self) -> usize
         ensures { result ≡ length self.now }
     {
@@ -151,7 +151,7 @@ impl<K: Ord, V> Entries<K, V> {
 }
 
 impl<K: Ord + Drop, V: Drop> Entries<K, V> {
-    /// Returns a vector of one entry. Returns an error only where the allocation failed.
+    /// Returns a vector of one entry. Returns an error only if the allocation failed.
     #[inline(always)]
     #[tactic(auto, using(crate::proofs::lemmas::tree::Places::sorted_one))]
     pub fn of(alloc: Global, key: K, value: V) -> Result<Self, AllocError>
@@ -197,7 +197,7 @@ impl<K: Ord + Drop, V: Drop> Entries<K, V> {
     }
 }
 
-// Inserts an item at an index of a vector that has room for it. The item is moved fewer times than by `insert`.
+// Inserts an item at an index of a vector with spare capacity. Moves the item fewer times than `insert` does.
 #[inline(always)]
 fn insert_reserved<T>(items: &mut Vec<T>, at: usize, item: T)
     requires within { at ≤ length items.old.items }
@@ -211,8 +211,7 @@ fn insert_reserved<T>(items: &mut Vec<T>, at: usize, item: T)
     }
 }
 
-/// Makes room for one more entry, so that a vector has little room that it doesn't need. Returns an error only where the allocation
-/// failed.
+/// Reserves capacity for one more entry, and little that may stay unused. Returns an error only if the allocation failed.
 #[inline(always)]
 pub(crate) fn reserve_one<T>(items: &mut Vec<T>) -> Result<(), AllocError>
     ensures items { items.new.items ≡ items.old.items }

@@ -23,7 +23,7 @@ use std::fmt;
 /// ```
 #[derive(Debug, Drop)]
 pub enum Key<'a> {
-    /// A key of digits alone whose value fits in 32 bits.
+    /// A key that consists of digits, and whose value fits in 32 bits.
     Int(u32),
     /// Any other key.
     String(CowSlice<'a, u8>),

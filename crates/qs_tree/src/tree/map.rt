@@ -52,7 +52,7 @@ impl<'qs> ParsedMap<'qs> {
         }
     }
 
-    /// Returns a map with one entry. Returns an error only where the allocation failed.
+    /// Returns a map with one entry. Returns an error only if the allocation failed.
     #[inline(always)]
     pub(crate) fn of(
         alloc: Global,
@@ -134,7 +134,7 @@ impl<'qs> ParsedMap<'qs> {
         self.map.at(at)
     }
 
-    /// Removes a key, and returns its value. Returns `None` for a missing key, and changes nothing.
+    /// Removes a key, and returns its value. Returns `None` and changes nothing if the key is missing.
     ///
     /// Finds the key in logarithmic time, and moves the entries after it. Doesn't allocate.
     ///

@@ -9,7 +9,7 @@ ghost use Rattle.qs_tree.specs.declared.tree.value.ParsedValue.{ParsedValue};
 ghost use Rattle.qs_tree.specs.tree.Keys.{key_cmp, key_eq, value_eq};
 ghost use Rattle.qs_tree.specs.tree.Views.{segment_of_key, tree_of};
 
-/// The order of keys is that of their segments, which ignores ownership, and is total.
+/// Keys are ordered as their segments are, ignoring ownership. The order is total.
 ///
 /// ```
 /// let is_less = a < b;
@@ -21,7 +21,7 @@ pub fn order_of_keys()
     ensures total { IsTotalOrder key_cmp }
 {}
 
-/// Two keys are equal exactly where their segments are, which ignores ownership, and where they compare as `Equal`.
+/// Two keys are equal exactly if their segments are equal, ignoring ownership, and exactly if they compare as `Equal`.
 ///
 /// ```
 /// let same = a == b;
@@ -33,7 +33,7 @@ pub fn equality_of_keys()
     ensures order { (a b : Key) → IsTrue (key_eq a b) ↔ key_cmp a b ≡ Equal }
 {}
 
-/// Two values are equal exactly where their trees are, ignoring ownership.
+/// Two values are equal exactly if their trees are equal, ignoring ownership.
 ///
 /// ```
 /// let same = a == b;

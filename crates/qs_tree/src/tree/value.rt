@@ -21,9 +21,9 @@ use std::borrow::CowSlice;
 #[cycle(tree)]
 #[derive(Debug, Drop)]
 pub enum ParsedValue<'qs> {
-    /// A map, as `a[b]=1` and `a[0]=1` make at `a`.
+    /// A map, such as `a[b]=1` or `a[0]=1` makes at `a`.
     Map(ParsedMap<'qs>),
-    /// Several leaves of one path, as `a=1&a=2` and `a[]=1` make at `a`.
+    /// The leaves of one path, such as `a=1&a=2` or `a[]=1` makes at `a`.
     Sequence(Vec<ParsedValue<'qs>>),
     /// The decoded bytes after `=`, at least one.
     String(CowSlice<'qs, u8>),

@@ -1,4 +1,4 @@
--- Values come back from data that are the same as theirs.
+-- Values come back from data that is the same as theirs.
 use Rattle.std.proofs.Common.{ap, ◌∙◌, refl}
 use Rattle.std.proofs.lemmas.Slice.Eq.{bytes_eq-Decides}
 use Rattle.std.specs.Prelude.{◌≡◌, ℕ, ◌==◌, ℤ, Bool, true, false, not, ◌&&◌, nat_le, List, length, [], ◌∷◌, map, Option, Some, None, option_map, option_and_then, if◌then◌else◌}

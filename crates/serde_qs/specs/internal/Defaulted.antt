@@ -1,4 +1,4 @@
--- Fields that take a default where they are missing.
+-- Fields that take a default if they are missing.
 use Rattle.std.proofs.Common.{ap, ◌∙◌, refl}
 use Rattle.std.proofs.lemmas.Slice.Eq.{bytes_eq-Decides}
 use Rattle.std.specs.Prelude.{◌≡◌, ℕ, Bool, true, not, List, Option, Some, option_map, if◌then◌else◌}

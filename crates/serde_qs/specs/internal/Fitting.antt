@@ -1,4 +1,4 @@
--- Where data are plain, the test that they were made by holds, and so do those of their parts.
+-- If data is plain, the test by which it was made holds, and so do the tests of its parts.
 use Rattle.std.proofs.Common.{ap, ◌∙◌, refl}
 use Rattle.std.proofs.lemmas.Bool.{false≢true}
 use Rattle.std.specs.Prelude.{◌≡◌, ◌&&◌, ℕ, Bool, true, false, List, Option, Some}

@@ -1,4 +1,4 @@
--- Maps come back from data that are the same as theirs, in whatever order.
+-- Maps come back from data that is the same as theirs, in any order.
 use Rattle.std.proofs.Common.{ap, ◌∙◌, refl, sym, subst, ⊎_elim}
 use Rattle.std.proofs.lemmas.Bool.{cases_Bool, cond-false, false≢true}
 use Rattle.std.proofs.lemmas.Slice.Eq.{bytes_eq-Decides}
@@ -99,7 +99,7 @@ pairs_back datum meaning value back mode (x ∷ es) qs f h n (SamePairs.pairs_mo
     taken_onto meaning (string_bytes x.0) e (value x.1) (back mode x.1 e parts.0 p) w n f
     ∙ pairs_back datum meaning value back mode es rest (with_value (string_bytes x.0) (value x.1) f) parts.1 (differ_left w n) more
 
--- where keys differ, those are what a look-up finds
+-- if keys differ, a look-up finds these values
 
 abbrev or_else : {V : Type 0} → Option V → Option V → Option V
 or_else (Some v) r = Some v

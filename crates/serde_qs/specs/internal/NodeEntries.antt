@@ -6,7 +6,7 @@ use Rattle.qs_spec.specs.Tree.{Tree, Entries}
 use Rattle.qs_spec.specs.Tree.Entries.{no_entries, entry}
 use Rattle.serde_qs.specs.Maps.{with_value}
 
--- values and those of the entries, one after another, each at the text of its key
+-- values with the values of the entries, one after another, each at the text of its key
 abbrev pub entries_onto : {V : Type 0} → (Tree → Option V) → (List ℕ → Option V) → Entries → Option (List ℕ → Option V)
 entries_onto r f no_entries = Some f
 entries_onto r f (entry k mark t es) =

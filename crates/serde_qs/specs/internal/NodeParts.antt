@@ -7,7 +7,7 @@ use Rattle.qs_spec.specs.Shape.{Field, UnknownKeys, fields_of}
 use Rattle.qs_spec.specs.Tree.{Tree, Entries, Items}
 use Rattle.qs_spec.specs.Tree.Items.{no_items, item}
 
--- what fields mean that are read by their names, where every key is allowed
+-- the meaning of fields that are read by their names, if every key is allowed
 abbrev pub names_read : {V : Type 0} → UnknownKeys → Bool → List Field → (Members → Option V) → Entries → Option V
 names_read unknown reject_duplicates fields meaning es =
     option_and_then (λ ms. meaning (members_of ms))

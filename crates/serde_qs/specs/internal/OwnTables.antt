@@ -60,7 +60,7 @@ module _ {A : Type 0} (t : Table A) (datum : A → Data) (same : (x : A) → t.d
   pub mapping_datum : (m : BTreeMap (String Global) A) → d.mapping (pairs_of (map (entry_data t.datum) m.entries)) ≡ d.mapping (pairs_of (map (entry_data datum) m.entries))
   mapping_datum m = ap (λ f. d.mapping (pairs_of (map (entry_data f) m.entries))) (fun_ext same)
 
-  -- each value's own data fit, and it comes back from them
+  -- each value's own data fits, and the value comes back from it
 
   pub own_fit : DataFit datum t.form
   own_fit mode x h = ap (fits t.form) (sym (same x)) ∙ t.fit mode x (ap (is_plain mode) (same x) ∙ h)

@@ -114,7 +114,7 @@ one_back form written meaning value named back after rest more others seen prese
     ap (λ t. if t then option_map First (meaning later e) else option_map Later (others (after later) e)) (ap (λ m. bytes_eq m n) (sym (same_name p)) ∙ tested)
     ∙ ap (λ r. option_map Later r) (again mode (after later) y e differ.1 h p)
 
--- of names that suit an enum, those of its variants differ and are UTF-8
+-- if names suit an enum, the names of its variants differ and are UTF-8
 pub variants_of_names : (names : List (List ℕ)) (count : ℕ) (vs : List Variant) → are_variants names count vs ≡ true → (variants_differ (variants_of vs) ≡ true) × (variants_are_text (variants_of vs) ≡ true)
 variants_of_names names count vs k =
     let differ = variants_differ (variants_of vs) in

@@ -11,7 +11,7 @@ use qs_data::{Config, Result};
 use std::alloc::Global;
 use std::io::Write;
 
-/// Typed calls under a configuration. Each allocates, and takes time, as the call whose errors it has.
+/// Typed calls under a configuration. Each allocates, and takes time, as the function whose errors it returns.
 ///
 /// ```
 /// let config = Config::new().use_form_encoding(true);
@@ -22,7 +22,7 @@ pub trait ConfigExt {
     // The configuration.
     ghost settings: { Self → Settings };
 
-    /// Returns the value that is read from a querystring. The errors are those of [`from_bytes`](crate::from_bytes).
+    /// Returns the value that is read from a querystring. It returns the same errors as [`from_bytes`](crate::from_bytes).
     ///
     /// ```
     /// let query: Query = Config::new().deserialize_bytes(alloc, b"name=Alice&age=24")?;
@@ -31,7 +31,7 @@ pub trait ConfigExt {
         ensures exact { ReturnsValue T.table.value (settings self) T.table.form T.table.meaning input.now result }
         ensures back { ReturnsWritten T.table.value (settings self) T.table.form T.table.meaning input.now result };
 
-    /// Returns the value that is read from a querystring. The errors are those of [`from_str`](crate::from_str).
+    /// Returns the value that is read from a querystring. It returns the same errors as [`from_str`](crate::from_str).
     ///
     /// ```
     /// let query: Query = Config::new().deserialize_str(alloc, "name=Alice&age=24")?;
@@ -40,7 +40,7 @@ pub trait ConfigExt {
         ensures exact { ReturnsValue T.table.value (settings self) T.table.form T.table.meaning input.now result }
         ensures back { ReturnsWritten T.table.value (settings self) T.table.form T.table.meaning input.now result };
 
-    /// Returns the querystring of a value. The errors are those of [`to_string`](crate::to_string).
+    /// Returns the querystring of a value. It returns the same errors as [`to_string`](crate::to_string).
     ///
     /// ```
     /// let text = Config::new().serialize_string(alloc, &query)?; // name=Alice&age=24
@@ -48,7 +48,7 @@ pub trait ConfigExt {
     fn serialize_string<T: Serialize>(self, alloc: Global, value: &T) -> Result<String>
         ensures { ReturnsText (settings self) (T.datum value.now) result };
 
-    /// Writes the querystring of a value. The errors, and what was written before each, are those of
+    /// Writes the querystring of a value. The errors, and what was written before each, are the same as for
     /// [`to_writer`](crate::to_writer).
     ///
     /// ```

@@ -24,12 +24,13 @@ use std::result;
 /// }
 /// ```
 ///
-/// There is a [`Rejection`] exactly where there is no value: its error is [`Parse`](qs_data::Error::Parse), [`Custom`](qs_data::Error::Custom)
-/// or [`Utf8`](qs_data::Error::Utf8). The path goes through the fields that structs read by their names, the items of lists and tuples, the
-/// values of maps, options and newtypes, to the first part whose type reads nothing there, and in an enum to the variant. It is empty where that is
-/// the whole: a struct that rejects fields which are read, or the input has no tree. The one error is that an allocation failed.
+/// There is a [`Rejection`] exactly if there is no value. Its error is [`Parse`](qs_data::Error::Parse), [`Custom`](qs_data::Error::Custom)
+/// or [`Utf8`](qs_data::Error::Utf8). The path leads to the first part whose type reads nothing there, and in an enum to the variant. It
+/// goes through the fields that structs read by their names, the items of lists and tuples, and the values of maps, options and newtypes.
+/// It is empty if that part is the whole, such as a struct that rejects fields which are read, or if the input has no tree. The one error
+/// is that an allocation failed.
 ///
-/// A value costs what it costs by `from_bytes`. Without one each part is read again, once for each level above it.
+/// Reading a value costs the same as with `from_bytes`. If there is none, each part is read again, once for each level above it.
 pub fn read_explained<T: Deserialize>(
     alloc: Global,
     config: Config,
@@ -46,7 +47,7 @@ pub fn read_explained<T: Deserialize>(
     }
 }
 
-// Returns the value that is read from a querystring, and puts into the path what leads to the part that isn't read.
+// Returns the value that is read from a querystring, and puts the steps to the part that isn't read into the path.
 fn read_traced<T: Deserialize>(
     alloc: Global,
     config: Config,
@@ -59,7 +60,7 @@ fn read_traced<T: Deserialize>(
     read_root_traced(alloc, config, &tree, path)
 }
 
-// Returns the value that is read from a tree. Where there is none, it is read again for the path.
+// Returns the value that is read from a tree. If there is none, it is read again for the path.
 fn read_root_traced<T: Deserialize>(
     alloc: Global,
     config: Config,

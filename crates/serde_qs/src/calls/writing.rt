@@ -22,13 +22,14 @@ use std::io::Write;
 ///
 /// # Errors
 ///
-/// - [`MaxSerializationDepthExceeded`](Error::MaxSerializationDepthExceeded): a value nests deeper than the configuration's
-///   `max_depth` allows, and [`Unsupported`](Error::Unsupported): a map's key is no scalar, which no type of this crate has.
+/// - [`MaxSerializationDepthExceeded`](Error::MaxSerializationDepthExceeded): a value nests deeper than the configuration's `max_depth`
+///   allows.
+/// - [`Unsupported`](Error::Unsupported): a map's key isn't a scalar. No type of this crate has such keys.
 /// - [`OutOfMemory`](Error::OutOfMemory): an allocation failed.
 ///
-/// The text is that of the value's entries. The first two are returned exactly in these cases, and there is no other error. The text
-/// has only bytes from 0x21 to 0x7E. It allocates for the text and the longest path in it, and for the data of parts
-/// that don't write themselves ([`write_to`](Serialize::write_to)); the time grows with the text.
+/// The first two are returned exactly in these cases, and there is no other error. The text is written from the value's entries, and has
+/// only bytes from 0x21 to 0x7E. It allocates for the text and the longest path in it, and for the data of parts that don't write
+/// themselves ([`write_to`](Serialize::write_to)). The time grows with the text.
 pub fn to_string<T: Serialize>(alloc: Global, value: &T) -> Result<String>
     ensures { ReturnsText default (T.datum value.now) result }
 {
@@ -42,20 +43,20 @@ pub fn to_string<T: Serialize>(alloc: Global, value: &T) -> Result<String>
 /// to_writer(alloc, &query, &mut out)?; // name=Alice&age=24
 /// ```
 ///
-/// Only bytes from 0x21 to 0x7E are written. On `Ok` the whole text was written. The text is made in memory first, as [`to_string`] makes it
-/// and with its allocations, and then written by as few writes as the writer allows.
+/// Only bytes from 0x21 to 0x7E are written. On `Ok` the whole text was written. The text is made in memory first, with the allocations of
+/// [`to_string`], and then written in as few writes as the writer allows.
 ///
 /// # Errors
 ///
-/// - [`MaxSerializationDepthExceeded`](Error::MaxSerializationDepthExceeded) and [`Unsupported`](Error::Unsupported), as of
-///   [`to_string`]: the text of the entries before the rejected one was written.
+/// - [`MaxSerializationDepthExceeded`](Error::MaxSerializationDepthExceeded) and [`Unsupported`](Error::Unsupported), as for [`to_string`]:
+///   the text of the entries before the rejected one was written.
 /// - [`Io`](Error::Io): a write failed, was interrupted or took no byte. It isn't repeated. A proper prefix of the text was
 ///   written.
 /// - [`OutOfMemory`](Error::OutOfMemory): an allocation failed, before the first write. The contract allows that the text of the first few
 ///   entries was written.
 ///
-/// What was written is promised of a writer that reports its bytes, as one over memory does; std's files report none. That
-/// [`Io`](Error::Io) is returned only where a write failed is tested, and not promised.
+/// What was written is promised only for a writer that reports its bytes, such as one over memory; std's files report none. That
+/// [`Io`](Error::Io) is returned only if a write failed is tested, not promised.
 pub fn to_writer<T: Serialize, W: Write>(alloc: Global, value: &T, writer: &mut W) -> Result<()>
     ensures { WritesValue default (T.datum value.now) (W.contents writer.old) (W.contents writer.new) result }
 {
@@ -84,7 +85,7 @@ fn string_of(text: Vec<u8>) -> String
     }
 }
 
-/// Writes the querystring of a value under a configuration: the text is made in memory, and then put.
+/// Writes the querystring of a value under a configuration: the text is made in memory, and then written.
 pub(crate) fn write_to<T: Serialize, W: Write>(
     alloc: Global,
     config: Config,
@@ -105,7 +106,7 @@ pub(crate) fn write_to<T: Serialize, W: Write>(
     }
 }
 
-// Puts all of these bytes, one write after another, and returns this result; where a write fails `Io`.
+// Writes all of these bytes, one write after another, and returns this result, or `Io` if a write fails.
 fn put<W: Write>(writer: &mut W, bytes: &[u8], made: Result<()>) -> Result<()>
     ensures { ((result ≡ made) × Appends (W.contents writer.old) (W.contents writer.new) bytes.now) ⊎ (IsIo result × (n : ℕ) × (n < length bytes.now) × Appends (W.contents writer.old) (W.contents writer.new) (take n bytes.now)) }
 {

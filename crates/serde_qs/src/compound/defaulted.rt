@@ -1,4 +1,4 @@
-//! Fields that take a default where they are missing.
+//! Fields that take a default if they are missing.
 
 ghost use Rattle.qs_spec.specs.Data.{Data as Datum};
 ghost use Rattle.serde_qs.specs.PartTables.{defaulted_field};
@@ -29,8 +29,8 @@ pub trait OrDefault: Deserialize {
     // The data of the value that a missing field has.
     ghost default: { Datum };
 
-    /// Returns the value of a missing field. Where an allocation failed, the error is
-    /// [`OutOfMemory`](qs_data::Error::OutOfMemory), and [`Custom`](qs_data::Error::Custom) only where the data of the default mean no value.
+    /// Returns the value of a missing field. If an allocation failed, the error is [`OutOfMemory`](qs_data::Error::OutOfMemory). It is
+    /// [`Custom`](qs_data::Error::Custom) only if the data of the default means no value.
     ///
     /// For a type of this crate it doesn't allocate, and takes constant time.
     ///
@@ -41,8 +41,8 @@ pub trait OrDefault: Deserialize {
         ensures { Means Self.table.value result (Self.table.meaning default) };
 }
 
-/// A field that takes a default where its key is missing, and the fields after it: `(String, Defaulted<u32, ()>)` for a text and a number,
-/// which is 0 where there is none.
+/// A field that takes a default if its key is missing, and the fields after it: `(String, Defaulted<u32, ()>)` for a string and a number,
+/// which is 0 by default.
 ///
 /// ```
 /// let Struct((text, Defaulted(page, ()))) = PagingParts::read(source, NAMES)?; // page: u32

@@ -20,7 +20,7 @@ use qs_data::{Data, Entries, Field, Reader, Result};
 use qs_tree::ParsedValue;
 use std::alloc::{AllocError, Global};
 
-/// The fields of a struct, each pair a field and those after it: `(A, (B, (C, ())))`.
+/// The fields of a struct, as nested pairs of a field and the fields after it: `(A, (B, (C, ())))`.
 ///
 /// A field that may be left out is an [`Optional`](crate::Optional) in place of the pair, and one with a default a
 /// [`Defaulted`](crate::Defaulted). It is implemented for these alone; a user names them in a [`Struct`](crate::Struct).
@@ -32,22 +32,22 @@ pub trait Fields: Sized + Drop {
     // How they are read and written, by their names, with the proofs that belong to them.
     ghost table: { FieldsTable Self };
 
-    /// Returns the names after those of the fields. It doesn't allocate, and takes a step for each field.
+    /// Returns the names after the fields' names. It doesn't allocate, and takes a step for each field.
     fn skip<'a>(names: &'a [&'static str]) -> &'a [&'static str]
         ensures { texts result.now ≡ table.after (texts names.now) };
 
-    /// Returns whether one of the fields has this name. It doesn't allocate, and compares one name for each field at most.
+    /// Returns whether one of the fields has this name. It doesn't allocate, and compares at most one name for each field.
     fn has(names: &[&'static str], name: &[u8]) -> bool
         ensures { result ≡ is_field_name name.now (fields_of (table.form (texts names.now))) };
 
-    /// Returns these fields and after them, in order, what is read for the fields of these names. The one error is
+    /// Returns these fields, followed in order by what is read for the fields of these names. The one error is
     /// [`OutOfMemory`](qs_data::Error::OutOfMemory). It allocates for the names, which are copied, and the shapes.
     fn push_fields(alloc: Global, names: &[&'static str], fields: Vec<Field>) -> Result<Vec<Field>>
         ensures exact { IfOk result (λ all. map field_of all.items ≡ map field_of fields.items ++ table.form (texts names.now)) }
         ensures errors { OnlyOutOfMemory result };
 
-    /// Returns the fields that members mean, of which the last is the first field's. The errors are those of
-    /// [`from_data`](Deserialize::from_data). It allocates, and takes time, as that of each field does.
+    /// Returns the fields that members mean; the last member is the first field's. It returns the same errors as
+    /// [`from_data`](Deserialize::from_data). It allocates, and takes time, as `from_data` of each field does.
     fn from_members(
         alloc: Global,
         names: &[&'static str],
@@ -55,8 +55,8 @@ pub trait Fields: Sized + Drop {
     ) -> Result<Self>
         ensures { Means table.value result (table.meaning (texts names.now) (members_back members.items)) };
 
-    /// Returns the fields that are read by their names, from keys with their values. The errors are those of
-    /// [`from_node`](Deserialize::from_node). It allocates as that of each field does, and looks each name up.
+    /// Returns the fields that are read by their names, from keys with their values. It returns the same errors as
+    /// [`from_node`](Deserialize::from_node). It allocates as `from_node` of each field does, and looks up each name.
     fn from_entries(
         reader: Reader,
         names: &[&'static str],
@@ -67,8 +67,8 @@ pub trait Fields: Sized + Drop {
         ensures { Gives table.value (entries_are_text (entries_view entries.entry)) result
             (by_names reader.reject_duplicates (table.form (texts names.now)) (table.meaning (texts names.now)) (entries_view entries.entry)) };
 
-    /// Returns the fields that are read by their indices, from the last of so many items. The errors are those of
-    /// [`from_node`](Deserialize::from_node). It allocates, and takes time, as that of each field does.
+    /// Returns the fields that are read by their indices, from these items, which are the last of `count`. It returns the same errors as
+    /// [`from_node`](Deserialize::from_node). It allocates, and takes time, as `from_node` of each field does.
     fn from_places(
         reader: Reader,
         names: &[&'static str],
@@ -79,7 +79,7 @@ pub trait Fields: Sized + Drop {
         ensures { Gives table.value (items_are_text (items_from (map tree_of items.now))) result
             (by_places reader.reject_duplicates (table.form (texts names.now)) (table.meaning (texts names.now)) (items_from (map tree_of items.now))) };
 
-    /// Puts into the path what leads to the first field that isn't read by its name, if there is one. The one error is that an allocation
+    /// Puts the steps to the first field that isn't read by its name into the path, if there is one. The one error is that an allocation
     /// failed. It reads each field up to that one.
     fn trace(
         reader: Reader,
@@ -248,7 +248,7 @@ pub(crate) fn push_field<T: Deserialize, R: Fields>(
     R::push_fields(alloc, rest, fields)
 }
 
-/// Returns the first name, which is empty where there is none, and the others.
+/// Returns the first name, which is empty if there is none, and the others.
 #[inline(always)]
 pub(crate) fn split<'a, 'n>(names: &'a [&'n str]) -> (&'n str, &'a [&'n str])
     ensures first { result.0.now ≡ first_of (texts names.now) }

@@ -16,7 +16,7 @@ use crate::traits::{Deserialize, unexpected};
 use qs_data::{Data, Items as NodeItems, Reader, Result, Shape};
 use std::alloc::{AllocError, Global};
 
-/// The items of a tuple, each pair an item and those after it: `(A, (B, (C, ())))`.
+/// The items of a tuple, as nested pairs of an item and the items after it: `(A, (B, (C, ())))`.
 ///
 /// It is implemented for these alone; a user names them in a [`Tuple`](crate::Tuple).
 ///
@@ -27,28 +27,28 @@ pub trait Items: Sized {
     // How they are read and written, with the proofs that belong to them.
     ghost table: { ItemsTable Self };
 
-    /// Returns these shapes and after them, in order, those that are read for the items. The one error is
+    /// Returns these shapes, followed in order by the shapes that are read for the items. The one error is
     /// [`OutOfMemory`](qs_data::Error::OutOfMemory). It allocates for the shapes.
     fn push_shapes(alloc: Global, shapes: Vec<Shape>) -> Result<Vec<Shape>>
         ensures exact { IfOk result (λ all. map shape_of all.items ≡ map shape_of shapes.items ++ table.form) }
         ensures errors { OnlyOutOfMemory result };
 
-    /// Returns how many items there are. Of more than the largest number it returns that one. It doesn't allocate.
+    /// Returns how many items there are, at most `usize::MAX`. It doesn't allocate.
     fn count() -> usize
         ensures { result ≡ min (length table.form) (2 ^ 64 - 1) };
 
-    /// Returns the items that values mean, of which the last is the first item's. The errors are those of
-    /// [`from_data`](Deserialize::from_data). It allocates, and takes time, as that of each item does.
+    /// Returns the items that values mean; the last value is the first item's. It returns the same errors as
+    /// [`from_data`](Deserialize::from_data). It allocates, and takes time, as `from_data` of each item does.
     fn from_items(alloc: Global, values: Vec<Data>) -> Result<Self>
         ensures { Means table.value result (table.meaning (values_back values.items)) };
 
-    /// Returns the items that are read from those of a node, from an index on. The errors are those of
-    /// [`from_node`](Deserialize::from_node). It allocates, and takes time, as that of each item does.
+    /// Returns the items that are read from a node's items, from an index on. It returns the same errors as
+    /// [`from_node`](Deserialize::from_node). It allocates, and takes time, as `from_node` of each item does.
     fn from_places(reader: Reader, items: NodeItems<'_, '_>, place: usize) -> Result<Self>
         ensures { Gives table.value (are_text (items_view items.entry)) result
             (by_shapes reader.reject_duplicates table.form table.meaning (drop place (items_view items.entry))) };
 
-    /// Puts into the path what leads to the first item from an index on that isn't read, if there is one. The one error is that an
+    /// Puts the steps to the first item from an index on that isn't read into the path, if there is one. The one error is that an
     /// allocation failed. It reads each item up to that one.
     fn trace(
         reader: Reader,

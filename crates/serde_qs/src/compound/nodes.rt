@@ -47,7 +47,7 @@ pub(crate) fn fields_of_struct<F: Fields>(
     read_entries(reader, unknown, names, entries)
 }
 
-/// Returns the fields that a struct variant holds: those of a struct, where a text counts as a map from the empty key to it.
+/// Returns the fields that a struct variant holds, as for a struct, except that a string counts as a map from the empty key to it.
 #[tactic(auto, unfolding(qs_spec::specs::internal::ReadFunction::struct_members))]
 pub(crate) fn fields_of_variant<F: Fields>(
     reader: Reader,
@@ -65,7 +65,7 @@ pub(crate) fn fields_of_variant<F: Fields>(
     }
 }
 
-// Returns the fields that are read by their names. All keys must be texts, and where others are rejected, names of fields.
+// Returns the fields that are read by their names. All keys must be UTF-8, and names of fields if other keys are rejected.
 #[tactic(auto, using(crate::proofs::Narrowed::of_reading))]
 #[inline(always)]
 fn read_entries<F: Fields>(
@@ -164,7 +164,7 @@ pub(crate) fn defaulted_by_name<T: OrDefault>(
     }
 }
 
-/// Returns the value of a field by its index, that of the first of these items. There are so many items in all.
+/// Returns the value of a field by its index, the first of these items. There are `count` items in all.
 #[inline(always)]
 pub(crate) fn by_place<T: Deserialize>(
     reader: Reader,

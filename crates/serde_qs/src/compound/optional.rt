@@ -10,14 +10,14 @@ use qs_data::{Data, Entries, Field, Reader, Result};
 use qs_tree::ParsedValue;
 use std::alloc::{AllocError, Global};
 
-/// A field that may be left out, and the fields after it: `(String, Optional<u32, ()>)` for a text and perhaps a number.
+/// A field that may be left out, and the fields after it: `(String, Optional<u32, ()>)` for a string and perhaps a number.
 ///
 /// ```
 /// let Struct((text, Optional(page, ()))) = FilterParts::read(source, NAMES)?; // page: Option<u32>
 /// ```
 ///
-/// Where it is None, nothing is written of it; where its key is missing, it is read as None. Its shape is that of `T`, so
-/// `page=` for a number is rejected.
+/// If it is None, it isn't written; if its key is missing, it is read as None. Its shape is the shape of `T`, so `page=` for a number is
+/// rejected.
 #[derive(Debug, PartialEq, Drop)]
 pub struct Optional<T, R>(pub Option<T>, pub R);
 

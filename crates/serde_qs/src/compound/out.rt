@@ -1,4 +1,4 @@
-//! Where the parts of a value go.
+//! The destination of a value's parts.
 
 ghost use Rattle.std.specs.Prelude.{◌≡◌, IfOk};
 ghost use Rattle.qs_spec.specs.Data.{members_of, values_of};
@@ -21,13 +21,13 @@ use crate::traits::RoundTrip;
 use qs_data::{Data, Error, Result, Scalar, Stop, WriteResult, Writer};
 use std::alloc::Global;
 
-/// Where the parts of a value go: into its data, or to a writer. It is passed to [`Compound::written`](crate::Compound::written),
-/// which passes the parts to one of its methods.
+/// The destination of a value's parts: its data, or a writer. It is passed to [`Compound::written`](crate::Compound::written), which passes
+/// the parts to one of its methods.
 ///
-/// Each method returns an error only where something failed. Into data it is [`OutOfMemory`](qs_data::Stop::OutOfMemory), where an allocation
-/// failed; to a writer, what the writing of the parts returned, whose errors are those of [`Writer::data`].
+/// Each method returns an error only if something failed. Into data, the error is [`OutOfMemory`](qs_data::Stop::OutOfMemory): an
+/// allocation failed. To a writer, it is the error of writing the parts, one that [`Writer::data`] returns.
 ///
-/// It allocates for the data and their names, or for the text of the writer, and takes time with the value.
+/// It allocates for the data and its names, or for the text of the writer, and the time grows with the value.
 ///
 /// ```
 /// out.fields(NAMES, (&self.x, (&self.y, ())))
@@ -42,16 +42,16 @@ pub type Out<'a> = &'a mut Exit;
 /// ```
 #[derive(Drop)]
 pub enum Exit {
-    /// Into data that are allocated here. Beside the allocator are the data, once they were made.
+    /// Into data that is allocated here: the allocator, and the data once it was made.
     Data(Global, Option<Data>),
     /// To a writer.
     Writer(Writer),
 }
 
 impl Exit {
-    /// Takes the fields of a struct, under their names. Errors and allocation are those of [`Out`].
+    /// Takes the fields of a struct, under their names. Errors and allocation are as for [`Out`].
     ///
-    /// A field for which no name is left has the empty name.
+    /// If there are fewer names than fields, the last fields have the empty name.
     ///
     /// ```
     /// out.fields(NAMES, (&self.x, (&self.y, ())))
@@ -66,8 +66,8 @@ impl Exit {
         }
     }
 
-    /// Takes a value that stands for the whole, as the number of a type that allows only some numbers. Errors and allocation are
-    /// those of [`Out`].
+    /// Takes the value that represents the whole, such as the number of a type that allows only some numbers. Errors and allocation are as
+    /// for [`Out`].
     ///
     /// ```
     /// out.value(&self.years)
@@ -81,7 +81,7 @@ impl Exit {
         }
     }
 
-    /// Takes the items of a tuple. Errors and allocation are those of [`Out`].
+    /// Takes the items of a tuple. Errors and allocation are as for [`Out`].
     ///
     /// ```
     /// out.items((&self.0, (&self.1, ())))
@@ -95,7 +95,7 @@ impl Exit {
         }
     }
 
-    /// Takes the value of a newtype. Errors and allocation are those of [`Out`].
+    /// Takes the value of a newtype. Errors and allocation are as for [`Out`].
     ///
     /// ```
     /// out.newtype(&self.0)
@@ -110,7 +110,7 @@ impl Exit {
         }
     }
 
-    /// Takes the name of a variant that holds nothing. Errors and allocation are those of [`Out`].
+    /// Takes the name of a variant that holds nothing. Errors and allocation are as for [`Out`].
     ///
     /// ```
     /// Sort::Relevance => out.unit_variant("Relevance"),
@@ -125,7 +125,7 @@ impl Exit {
         }
     }
 
-    /// Takes the name of a variant and the one value that it holds. Errors and allocation are those of [`Out`].
+    /// Takes the name of a variant and the one value that it holds. Errors and allocation are as for [`Out`].
     ///
     /// ```
     /// Sort::By(field) => out.newtype_variant("By", field),
@@ -140,7 +140,7 @@ impl Exit {
         }
     }
 
-    /// Takes the name of a variant and the items that it holds. Errors and allocation are those of [`Out`].
+    /// Takes the name of a variant and the items that it holds. Errors and allocation are as for [`Out`].
     ///
     /// ```
     /// Area::Circle(radius, unit) => out.tuple_variant("Circle", (radius, (unit, ()))),
@@ -154,9 +154,9 @@ impl Exit {
         }
     }
 
-    /// Takes the name of a variant and its fields, under their names. Errors and allocation are those of [`Out`].
+    /// Takes the name of a variant and its fields, under their names. Errors and allocation are as for [`Out`].
     ///
-    /// A field for which no name is left has the empty name.
+    /// If there are fewer names than fields, the last fields have the empty name.
     ///
     /// ```
     /// Sort::Between { from, to } => out.struct_variant("Between", &["from", "to"], (from, (to, ()))),
@@ -176,7 +176,7 @@ impl Exit {
         }
     }
 
-    /// Returns the data that were made, from what taking the parts returned.
+    /// Returns the data that was made, or the error that taking the parts returned.
     pub(crate) fn into_data(self, taken: WriteResult) -> Result<Data>
         requires { (x : d.Data) × Makes self taken x }
         ensures exact { (x : d.Data) → Makes self taken x → IfOk result (λ v. data_of v ≡ x) }
@@ -193,7 +193,7 @@ impl Exit {
         }
     }
 
-    /// Puts the writer back that took the parts, and returns what taking them returned.
+    /// Puts back the writer that took the parts, and returns what taking them returned.
     pub(crate) fn give_back(self, writer: &mut Writer, taken: WriteResult) -> WriteResult
         requires { (old : Writer) × (x : d.Data) × Wrote old self taken x }
         ensures { (old : Writer) (x : d.Data) → Wrote old self taken x → WritesPart result old writer.new (data_part x) }
@@ -206,7 +206,7 @@ impl Exit {
     }
 }
 
-// Keeps data in their place, if they were made.
+// Keeps data in its place, if it was made.
 fn keep(place: &mut Option<Data>, made: Result<Data>) -> WriteResult
     requires { OnlyOutOfMemory made }
     ensures { (x : d.Data) → IfOk made (λ v. data_of v ≡ x) → Keeps place.new result x }

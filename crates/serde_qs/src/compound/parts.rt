@@ -45,7 +45,7 @@ pub trait Parts: Sized {
     ghost table: { PartsTable Self };
 
     /// Returns the shape that is read for them. The one error is [`OutOfMemory`](qs_data::Error::OutOfMemory). It allocates for the names,
-    /// which are copied, and the nested shapes, and takes time with them.
+    /// which are copied, and the nested shapes, and the time grows with them.
     ///
     /// ```
     /// let shape = PointParts::shape(alloc, &["x", "y"])?; // Shape::Struct
@@ -54,8 +54,8 @@ pub trait Parts: Sized {
         ensures exact { IfOk result (λ s. shape_of s ≡ table.form (texts names.now)) }
         ensures errors { OnlyOutOfMemory result };
 
-    /// Returns the parts that data mean. The errors are those of [`from_data`](Deserialize::from_data) of the whole. It allocates, and takes
-    /// time, as that of each part does.
+    /// Returns the parts that data means. It returns the same errors as [`from_data`](Deserialize::from_data) of the whole. It allocates,
+    /// and takes time, as `from_data` of each part does.
     ///
     /// ```
     /// let Struct((x, (y, ()))) = PointParts::from_data(alloc, NAMES, datum)?;
@@ -63,8 +63,8 @@ pub trait Parts: Sized {
     fn from_data(alloc: Global, names: &[&'static str], datum: Data) -> Result<Self>
         ensures { Means table.value result (table.meaning (texts names.now) (data_of datum)) };
 
-    /// Returns the parts that are read from a node of a tree, without a shape or data in between. The errors are those of
-    /// [`from_node`](Deserialize::from_node) of the whole. It allocates as that of each part does, and takes time with the node.
+    /// Returns the parts that are read from a node of a tree, without a shape or data in between. It returns the same errors as
+    /// [`from_node`](Deserialize::from_node) of the whole. It allocates as `from_node` of each part does, and the time grows with the node.
     ///
     /// ```
     /// let Struct((x, (y, ()))) = PointParts::from_node(reader, NAMES, node)?;
@@ -73,8 +73,8 @@ pub trait Parts: Sized {
         requires { is_distinct (table.form (texts names.now)) ≡ true }
         ensures node { ReadsNode table.value (table.form (texts names.now)) (table.meaning (texts names.now)) reader.reject_duplicates (tree_of node.now) result };
 
-    /// Returns the same parts. Where there are none, it puts into the path what leads to the first part that isn't read. The errors are those
-    /// of [`from_traced`](Deserialize::from_traced) of the whole.
+    /// Returns the same parts. If there are none, it puts the steps to the first part that isn't read into the path. It returns the same
+    /// errors as [`from_traced`](Deserialize::from_traced) of the whole.
     ///
     /// ```
     /// let Struct((x, (y, ()))) = PointParts::from_traced(reader, NAMES, node, path)?;
@@ -88,8 +88,8 @@ pub trait Parts: Sized {
         requires { is_distinct (table.form (texts names.now)) ≡ true }
         ensures node { ReadsNode table.value (table.form (texts names.now)) (table.meaning (texts names.now)) reader.reject_duplicates (tree_of node.now) result };
 
-    /// Returns the parts that come from data or from a node. Errors, allocation and time are those of [`from_data`](Parts::from_data), or of
-    /// [`from_node`](Parts::from_node).
+    /// Returns the parts that are read from data or from a node. Errors, allocation and time are the same as for
+    /// [`from_data`](Parts::from_data) or [`from_node`](Parts::from_node).
     ///
     /// ```
     /// let Struct((x, (y, ()))) = PointParts::read(source, NAMES)?;
@@ -143,7 +143,7 @@ impl<F: Fields> Parts for Struct<F> {
     }
 }
 
-/// Returns the fields that the data of a struct mean.
+/// Returns the fields that the data of a struct means.
 #[inline(never)]
 #[tactic(auto, using(crate::proofs::Levels::levels))]
 pub(crate) fn struct_fields<F: Fields>(

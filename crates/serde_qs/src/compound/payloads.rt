@@ -22,7 +22,7 @@ use qs_data::{Data, Reader, Result, UnknownKeys, VariantKind};
 use qs_tree::ParsedValue;
 use std::alloc::Global;
 
-/// What a variant of one value holds, or a struct round one value, which is read and written as that value.
+/// What a variant of one value holds, or a struct around one value, which is read and written as that value.
 ///
 /// ```
 /// let Newtype(cents) = PriceParts::read(source, &[])?; // PriceParts = Newtype<u32>
@@ -67,13 +67,13 @@ pub trait Payload: Sized {
         ensures exact { IfOk result (λ k. kind_of k ≡ table.form (texts names.now)) }
         ensures errors { OnlyOutOfMemory result };
 
-    /// Returns what data of such a variant mean. The errors are those of [`from_data`](Deserialize::from_data). It allocates, and takes time,
-    /// as that of each part does.
+    /// Returns what data of such a variant means. It returns the same errors as [`from_data`](Deserialize::from_data). It allocates, and
+    /// takes time, as `from_data` of each part does.
     fn from_data(alloc: Global, names: &[&'static str], datum: Data) -> Result<Self>
         ensures { Means table.value result (table.meaning (texts names.now) (data_of datum)) };
 
-    /// Returns what is read from the value that such a variant holds. Where a text alone names the variant, it holds none. The errors are
-    /// those of [`from_node`](Deserialize::from_node). It allocates, and takes time, as that of each part does.
+    /// Returns what is read from the value that such a variant holds. If a string alone names the variant, it holds none. It returns the
+    /// same errors as [`from_node`](Deserialize::from_node). It allocates, and takes time, as `from_node` of each part does.
     fn from_node(
         reader: Reader,
         names: &[&'static str],
@@ -200,7 +200,7 @@ impl<I: Items> Payload for Tuple<I> {
     }
 }
 
-/// Returns the fields that the data of a struct variant mean.
+/// Returns the fields that the data of a struct variant means.
 #[tactic(auto, using(crate::proofs::Levels::levels))]
 pub(crate) fn variant_fields<F: Fields>(
     alloc: Global,

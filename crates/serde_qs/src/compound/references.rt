@@ -17,7 +17,7 @@ use std::alloc::Global;
 
 /// References to the fields of a struct that is written, as nested pairs: `(&self.x, (&self.y, ()))`.
 ///
-/// A field that is left out where it is None is a [`SkipNone`] in place of the reference.
+/// A field that is left out if it is None is a [`SkipNone`] in place of the reference.
 ///
 /// ```
 /// struct_of(alloc, &["x", "y"], (&self.x, (SkipNone(&self.y), ())))
@@ -26,8 +26,8 @@ pub trait References: Sized {
     // The members of the fields, by their names.
     ghost members: { List (List ℕ) → Self → List Named };
 
-    /// Returns these members and after them those of the fields. The one error is
-    /// [`OutOfMemory`](qs_data::Error::OutOfMemory). It allocates for the data and the names, which are copied, and takes time with them.
+    /// Returns these members, followed by the fields' members. The one error is [`OutOfMemory`](qs_data::Error::OutOfMemory). It allocates
+    /// for the data and the names, which are copied, and the time grows with them.
     fn push_members(
         self,
         alloc: Global,
@@ -37,13 +37,13 @@ pub trait References: Sized {
         ensures exact { IfOk result (λ all. map (named data_of) all.items ≡ map (named data_of) before.items ++ members (texts names.now) self) }
         ensures errors { OnlyOutOfMemory result };
 
-    /// Writes the fields under their names, where the writer is. The errors, and what was written before each, are those of
+    /// Writes the fields under their names, where the writer is. The errors, and what was written before each, are the same as for
     /// [`Writer::data`]. It allocates for the text, and as [`write_to`](Serialize::write_to) of each field does.
     fn write_members(self, names: &[&str], writer: &mut Writer) -> WriteResult
         ensures written { WritesPart result writer.old writer.new (members_part (members_of (members (texts names.now) self))) };
 }
 
-/// A field that is left out where it is None, for a field that is [`Optional`](crate::Optional).
+/// A field that is left out if it is None, for a field that is [`Optional`](crate::Optional).
 ///
 /// ```
 /// out.fields(NAMES, (&self.text, (SkipNone(&self.page), ())))
@@ -161,8 +161,8 @@ pub trait ItemReferences: Sized {
     // The data of the items.
     ghost listed: { Self → List Datum };
 
-    /// Returns these data and after them those of the items. The one error is
-    /// [`OutOfMemory`](qs_data::Error::OutOfMemory). It allocates for the data, and takes time with them.
+    /// Returns this data, followed by the items' data. The one error is [`OutOfMemory`](qs_data::Error::OutOfMemory). It allocates for the
+    /// data, and the time grows with it.
     fn push_items(self, alloc: Global, before: Vec<Data>) -> Result<Vec<Data>>
         ensures exact { IfOk result (λ all. map data_of all.items ≡ map data_of before.items ++ listed self) }
         ensures errors { OnlyOutOfMemory result };
@@ -195,7 +195,7 @@ pub trait ListedReferences: ItemReferences {
     // The data of the items, in the words of their tables.
     ghost own_data: { Self → List Datum };
 
-    // These are the data that are written.
+    // This is the data that is written.
     ghost same: { (x : Self) → Self.listed x ≡ own_data x };
 }
 

@@ -1,4 +1,4 @@
-//! Where the parts of a value come from.
+//! The source of a value's parts.
 
 ghost use Rattle.serde_qs.specs.Sources.{ReadsSource};
 
@@ -8,24 +8,24 @@ use qs_data::{Data, Reader, Result};
 use qs_tree::ParsedValue;
 use std::alloc::Global;
 
-/// Where the parts of a value come from: from data, or from a node of a tree. It is passed to [`Compound::read`](crate::Compound::read), which
-/// passes it on to its [`Parts`](crate::Parts).
+/// The source of a value's parts: data, or a node of a tree. It is passed to [`Compound::read`](crate::Compound::read), which passes it on
+/// to its [`Parts`](crate::Parts).
 ///
 /// ```
 /// let point = Point::read(Source::Data(alloc, datum))?;
 /// ```
 #[derive(Drop)]
 pub enum Source<'t, 'qs> {
-    /// Data, and where memory comes from.
+    /// Data, and the allocator.
     Data(Global, Data),
     /// A node, and how it is read.
     Node(Reader, &'t ParsedValue<'qs>),
-    /// The same, and what is to lead to the part that isn't read.
+    /// The same, and the path into which the steps to the part that isn't read are put.
     Traced(Reader, &'t ParsedValue<'qs>, &'t mut Path),
 }
 
 impl Source<'_, '_> {
-    /// Returns where memory comes from, in constant time. It doesn't allocate.
+    /// Returns the allocator, in constant time. It doesn't allocate.
     ///
     /// ```
     /// let alloc = source.alloc();
@@ -37,14 +37,13 @@ impl Source<'_, '_> {
         }
     }
 
-    /// Reads a value that stands for the whole, as the number of a type that allows only some numbers.
+    /// Reads the value that represents the whole, such as the number of a type that allows only some numbers.
     ///
     /// ```
     /// let years: u8 = source.value()?;
     /// ```
     ///
-    /// The errors are those of [`from_data`](Deserialize::from_data), or of [`from_node`](Deserialize::from_node). It allocates, and takes
-    /// time, as that call does.
+    /// Errors, allocation and time are the same as for [`from_data`](Deserialize::from_data) or [`from_node`](Deserialize::from_node).
     pub fn value<T: Deserialize>(self) -> Result<T>
         ensures { ReadsSource T.table.value T.table.form T.table.meaning self.entry result }
     {

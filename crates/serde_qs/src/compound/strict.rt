@@ -11,8 +11,8 @@ use qs_data::{Data, Reader, Result, Shape, UnknownKeys, VariantKind};
 use qs_tree::ParsedValue;
 use std::alloc::Global;
 
-/// The fields of a struct, or of a variant with named fields, as those of a [`Struct`](crate::Struct), where a map with a key that no
-/// field has is rejected: `StrictStruct<(u8, (u8, ()))>`.
+/// The fields of a struct, or of a variant with named fields, as in a [`Struct`](crate::Struct), except that a map with a key that no field
+/// has is rejected: `StrictStruct<(u8, (u8, ()))>`.
 ///
 /// ```
 /// let StrictStruct((amount, (method, ()))) = PaymentParts::read(source, NAMES)?;

@@ -10,7 +10,7 @@ use qs_data::{Entries, Error, Found, Items as NodeItems, Reader, Result};
 use qs_tree::ParsedValue;
 use std::alloc::{AllocError, Global};
 
-/// Puts into the path what leads to the first field of a struct that isn't read, where fields are read by their names.
+/// Puts the steps to the first field of a struct that isn't read into the path, if fields are read by their names.
 pub(crate) fn trace_struct<F: Fields>(
     reader: Reader,
     names: &[&'static str],
@@ -28,7 +28,8 @@ pub(crate) fn trace_struct<F: Fields>(
     F::trace(reader, names, entries, path)
 }
 
-/// Returns whether a field isn't read, and puts into the path what leads to it then. One that may be missing is read without a key.
+/// Returns whether a field isn't read. If so, it puts the steps to the field into the path. A field that may be missing is read without a
+/// key.
 pub(crate) fn is_unread<T: Deserialize + Drop>(
     reader: Reader,
     name: &'static str,
@@ -47,7 +48,7 @@ pub(crate) fn is_unread<T: Deserialize + Drop>(
     path.enters(read, Step::Field(name))
 }
 
-/// Puts into the path what leads to the first item of a list that isn't read.
+/// Puts the steps to the first item of a list that isn't read into the path.
 pub(crate) fn trace_items<T: Deserialize + Drop>(
     reader: Reader,
     node: &ParsedValue<'_>,
@@ -65,7 +66,7 @@ pub(crate) fn trace_items<T: Deserialize + Drop>(
     Ok(())
 }
 
-/// Puts into the path what leads to the first item of a tuple that isn't read.
+/// Puts the steps to the first item of a tuple that isn't read into the path.
 pub(crate) fn trace_tuple<I: Items>(
     reader: Reader,
     node: &ParsedValue<'_>,
@@ -77,7 +78,7 @@ pub(crate) fn trace_tuple<I: Items>(
     }
 }
 
-/// Returns whether the item at an index isn't read, and puts into the path what leads to it then.
+/// Returns whether the item at an index isn't read. If so, it puts the steps to the item into the path.
 pub(crate) fn is_unread_item<T: Deserialize + Drop>(
     reader: Reader,
     items: NodeItems<'_, '_>,
@@ -92,7 +93,7 @@ pub(crate) fn is_unread_item<T: Deserialize + Drop>(
     path.enters(read, Step::Index(place))
 }
 
-/// Puts into the path what leads to the first value of a map that isn't read.
+/// Puts the steps to the first value of a map that isn't read into the path.
 pub(crate) fn trace_values<T: Deserialize + Drop>(
     reader: Reader,
     node: &ParsedValue<'_>,
@@ -114,7 +115,7 @@ pub(crate) fn trace_values<T: Deserialize + Drop>(
     Ok(())
 }
 
-/// Puts the name of the variant into the path whose value isn't read: the first key of a map.
+/// Puts the name of the variant whose value isn't read into the path: the first key of a map.
 pub(crate) fn trace_variant(
     alloc: Global,
     node: &ParsedValue<'_>,
@@ -128,7 +129,7 @@ pub(crate) fn trace_variant(
     Ok(())
 }
 
-// Returns the error of memory, if this is one.
+// Returns `AllocError` if this error is `OutOfMemory`, and otherwise `Ok`.
 fn without_memory(error: Error) -> Result<(), AllocError> {
     match error {
         Error::OutOfMemory => Err(AllocError),

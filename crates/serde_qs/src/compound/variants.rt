@@ -55,10 +55,10 @@ pub struct Last<V>(pub V);
 /// type SortParts = Enum<OneOf<(), OneOf<Newtype<String>, Last<Struct<(u32, (u32, ()))>>>>>;
 /// ```
 pub trait Variants: Sized {
-    // How they are read and written, by their names, a variant's before those of its fields, with the proofs that belong to them.
+    // How they are read and written, by their names (a variant's name precedes its fields' names), with the proofs that belong to them.
     ghost table: { VariantsTable Self };
 
-    /// Returns these variants and after them, in order, what is read for the variants of these names. The one error is
+    /// Returns these variants, followed in order by what is read for the variants of these names. The one error is
     /// [`OutOfMemory`](qs_data::Error::OutOfMemory). It allocates for the names, which are copied, and the nested shapes.
     fn push_variants(
         alloc: Global,
@@ -68,13 +68,14 @@ pub trait Variants: Sized {
         ensures exact { IfOk result (λ all. map variant_of all.items ≡ map variant_of variants.items ++ table.form (texts names.now)) }
         ensures errors { OnlyOutOfMemory result };
 
-    /// Returns the variant that data mean. The errors are those of [`from_data`](crate::Deserialize::from_data). It allocates as that of each
-    /// part does, and compares one name for each variant at most.
+    /// Returns the variant that data means. It returns the same errors as [`from_data`](crate::Deserialize::from_data). It allocates as
+    /// `from_data` of each part does, and compares at most one name for each variant.
     fn from_variant(alloc: Global, names: &[&'static str], datum: Data) -> Result<Self>
         ensures { Means table.value result (table.meaning (texts names.now) (data_of datum)) };
 
-    /// Returns the variant of a name, read from the value that it holds. Where a text alone names it, it holds none. The errors are those of
-    /// [`from_node`](crate::Deserialize::from_node). It allocates as that of each part does, and compares one name for each variant at most.
+    /// Returns the variant of a name, read from the value that it holds. If a string alone names it, it holds none. It returns the same
+    /// errors as [`from_node`](crate::Deserialize::from_node). It allocates as `from_node` of each part does, and compares at most one name
+    /// for each variant.
     fn from_name(
         reader: Reader,
         names: &[&'static str],
@@ -161,7 +162,8 @@ impl<V: Payload, R: Variants> Variants for OneOf<V, R> {
     }
 }
 
-/// Returns the variant that a node names: the smallest key of a map names the one that holds its value, and a text a unit variant.
+/// Returns the variant that a node names: the smallest key of a map names the variant that holds its value, and a string names a unit
+/// variant.
 #[tactic(auto, unfolding(qs_spec::specs::internal::ReadFunction::reads, qs_spec::specs::internal::ReadFunction::read_enum))]
 pub(crate) fn variant_of<V: Variants>(
     reader: Reader,

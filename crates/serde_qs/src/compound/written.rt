@@ -1,4 +1,4 @@
-//! The data that structs and variants are written as.
+//! The data that is written for structs and variants.
 
 ghost use Rattle.std.specs.Prelude.{◌≡◌, IfOk};
 ghost use Rattle.qs_spec.specs.Data.{members_of, values_of};
@@ -12,10 +12,10 @@ use crate::traits::Serialize;
 use qs_data::{Data, Result};
 use std::alloc::Global;
 
-/// Returns the struct of these fields under their names, for a [`to_data`](crate::Serialize::to_data) that is written by hand. The one error is
-/// [`OutOfMemory`](qs_data::Error::OutOfMemory). It allocates for the data and their names, and takes time with them.
+/// Returns the struct of these fields under their names, for a [`to_data`](crate::Serialize::to_data) that is written by hand. The one
+/// error is [`OutOfMemory`](qs_data::Error::OutOfMemory). It allocates for the data and its names, and the time grows with them.
 ///
-/// A field for which no name is left has the empty name.
+/// If there are fewer names than fields, the last fields have the empty name.
 ///
 /// ```
 /// struct_of(alloc, &["x", "y"], (&self.x, (&self.y, ())))
@@ -28,10 +28,10 @@ pub fn struct_of<R: References + Drop>(alloc: Global, names: &[&str], fields: R)
     Ok(Data::Struct(fields.push_members(alloc, names, Vec::new(alloc))?))
 }
 
-/// Returns the variant of this name with these fields, for a [`to_data`](crate::Serialize::to_data) that is written by hand. The one error is
-/// [`OutOfMemory`](qs_data::Error::OutOfMemory). It allocates for the data and their names, and takes time with them.
+/// Returns the variant of this name with these fields, for a [`to_data`](crate::Serialize::to_data) that is written by hand. The one error
+/// is [`OutOfMemory`](qs_data::Error::OutOfMemory). It allocates for the data and its names, and the time grows with them.
 ///
-/// A field for which no name is left has the empty name.
+/// If there are fewer names than fields, the last fields have the empty name.
 ///
 /// ```
 /// Sort::Between { from, to } => struct_variant(alloc, "Between", &["from", "to"], (from, (to, ()))),
@@ -52,7 +52,7 @@ pub fn struct_variant<R: References + Drop>(
 }
 
 /// Returns the data of a variant that holds nothing, for a [`to_data`](crate::Serialize::to_data) that is written by hand. The one error is
-/// [`OutOfMemory`](qs_data::Error::OutOfMemory). It allocates for the data and their names, and takes time with them.
+/// [`OutOfMemory`](qs_data::Error::OutOfMemory). It allocates for the data and its names, and the time grows with them.
 ///
 /// ```
 /// Sort::Relevance => unit_variant(alloc, "Relevance"),
@@ -64,8 +64,8 @@ pub fn unit_variant(alloc: Global, name: &str) -> Result<Data>
     Ok(Data::UnitVariant(String::from_str(alloc, name)?))
 }
 
-/// Returns the data of a variant that holds one value, for a [`to_data`](crate::Serialize::to_data) that is written by hand. The one error is
-/// [`OutOfMemory`](qs_data::Error::OutOfMemory). It allocates for the data and their names, and takes time with them.
+/// Returns the data of a variant that holds one value, for a [`to_data`](crate::Serialize::to_data) that is written by hand. The one error
+/// is [`OutOfMemory`](qs_data::Error::OutOfMemory). It allocates for the data and its names, and the time grows with them.
 ///
 /// ```
 /// Sort::By(field) => newtype_variant(alloc, "By", field),
@@ -78,8 +78,8 @@ pub fn newtype_variant<T: Serialize>(alloc: Global, name: &str, value: &T) -> Re
     Ok(Data::NewtypeVariant(String::from_str(alloc, name)?, part))
 }
 
-/// Returns the data of a struct round one value, for a [`to_data`](crate::Serialize::to_data) that is written by hand. The one error is
-/// [`OutOfMemory`](qs_data::Error::OutOfMemory). It allocates for the data and their names, and takes time with them.
+/// Returns the data of a struct around one value, for a [`to_data`](crate::Serialize::to_data) that is written by hand. The one error is
+/// [`OutOfMemory`](qs_data::Error::OutOfMemory). It allocates for the data and its names, and the time grows with them.
 ///
 /// ```
 /// newtype_struct(alloc, &self.0)
@@ -91,8 +91,8 @@ pub fn newtype_struct<T: Serialize>(alloc: Global, value: &T) -> Result<Data>
     Ok(Data::Newtype(Box::new(alloc, value.to_data(alloc)?)?))
 }
 
-/// Returns the variant of this name with these items, for a [`to_data`](crate::Serialize::to_data) that is written by hand. The one error is
-/// [`OutOfMemory`](qs_data::Error::OutOfMemory). It allocates for the data and their names, and takes time with them.
+/// Returns the variant of this name with these items, for a [`to_data`](crate::Serialize::to_data) that is written by hand. The one error
+/// is [`OutOfMemory`](qs_data::Error::OutOfMemory). It allocates for the data and its names, and the time grows with them.
 ///
 /// ```
 /// Area::Circle(radius, unit) => tuple_variant(alloc, "Circle", (radius, (unit, ()))),
@@ -107,7 +107,7 @@ pub fn tuple_variant<R: ItemReferences + Drop>(alloc: Global, name: &str, items:
 }
 
 /// Returns the tuple of these items, for a [`to_data`](crate::Serialize::to_data) that is written by hand. The one error is
-/// [`OutOfMemory`](qs_data::Error::OutOfMemory). It allocates for the data and their names, and takes time with them.
+/// [`OutOfMemory`](qs_data::Error::OutOfMemory). It allocates for the data and its names, and the time grows with them.
 ///
 /// ```
 /// tuple_struct(alloc, (&self.0, (&self.1, ())))

@@ -1,4 +1,4 @@
-//! Lists in one text, with a delimiter of the caller's.
+//! Lists in one text, with a delimiter that the caller chooses.
 
 ghost use Rattle.std.specs.Prelude.{◌≡◌, ◌++◌, true, IfOk, map, string_bytes};
 ghost use Rattle.std.specs.Char.{encode_utf8};
@@ -14,14 +14,13 @@ use crate::traits::unexpected;
 use qs_data::{Data, Result};
 use std::alloc::Global;
 
-/// Returns the text of a list: the items, with the delimiter between any two that follow one another.
+/// Returns the text of a list: the items, with the delimiter between them.
 ///
 /// ```
 /// let datum = serialize(alloc, &[1u8, 2, 3], '.')?; // the text 1.2.3
 /// ```
 ///
-/// The one error is [`OutOfMemory`](qs_data::Error::OutOfMemory). It allocates for the text, and takes time
-/// with its length.
+/// The one error is [`OutOfMemory`](qs_data::Error::OutOfMemory). It allocates for the text, and the time grows with its length.
 pub fn serialize<T: Item>(alloc: Global, list: &[T], delimiter: char) -> Result<Data>
     ensures exact { IfOk result (λ x. data_of x ≡ d.text (joined delimiter (map T.printed list.now))) }
     ensures errors { OnlyOutOfMemory result }
@@ -30,7 +29,7 @@ pub fn serialize<T: Item>(alloc: Global, list: &[T], delimiter: char) -> Result<
     Ok(Data::Text(joined_text(alloc, list, delimiter)?))
 }
 
-/// Returns the list of a text: the empty one of the empty text, and else an item of each piece between delimiters.
+/// Returns the list of a text: empty if the text is empty, and otherwise one item for each piece between delimiters.
 ///
 /// ```
 /// let list: Vec<u8> = deserialize(alloc, datum, '.')?; // of the text 1.2.3: 1, 2, 3
@@ -38,12 +37,12 @@ pub fn serialize<T: Item>(alloc: Global, list: &[T], delimiter: char) -> Result<
 ///
 /// # Errors
 ///
-/// - [`Custom`](qs_data::Error::Custom): the data are no text (`invalid type: data, expected a string`), or a piece is no
-///   item (``invalid item `x` ``).
+/// - [`Custom`](qs_data::Error::Custom): the data isn't a string (`invalid type: data, expected a string`), or a piece isn't an item
+///   (``invalid item `x` ``).
 /// - [`OutOfMemory`](qs_data::Error::OutOfMemory): an allocation failed.
 ///
-/// The first is returned exactly in these cases, and there is no other error. It allocates for the list,
-/// and takes time with the length of the text.
+/// The first is returned exactly in these cases, and there is no other error. It allocates for the list, and the time grows with the length
+/// of the text.
 pub fn deserialize<T: Item + Drop>(alloc: Global, datum: Data, delimiter: char) -> Result<Vec<T>>
     ensures { Means (λ list. map T.value list.items) result (list_in T.meaning delimiter (data_of datum)) }
 {

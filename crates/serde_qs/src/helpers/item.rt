@@ -34,8 +34,8 @@ pub trait Item: Sized {
 
     /// Appends the text of this item. The one error is [`OutOfMemory`](Error::OutOfMemory), and then `out` is unchanged.
     ///
-    /// It is the text of the same value in a querystring, before it is escaped. It allocates where `out` has no room for it, and takes
-    /// time with its length.
+    /// It is the text of the same value in a querystring, before it is escaped. It allocates if `out` lacks the capacity, and the time
+    /// grows with the text's length.
     ///
     /// ```
     /// true.print(&mut out)?; // true
@@ -48,9 +48,8 @@ pub trait Item: Sized {
 
     /// Returns the item that a text is parsed as.
     ///
-    /// Where it is no item, the error is [`Custom`](Error::Custom); where an allocation failed,
-    /// [`OutOfMemory`](Error::OutOfMemory). There is no other error. It allocates for a string, and for the message of an error, and takes
-    /// time with the length of the text.
+    /// If it isn't an item, the error is [`Custom`](Error::Custom); if an allocation failed, [`OutOfMemory`](Error::OutOfMemory). There is
+    /// no other error. It allocates for a string, and for the message of an error, and the time grows with the length of the text.
     ///
     /// ```
     /// let item = <bool as Item>::parse(alloc, "true")?; // true; of "x" the error is: invalid item `x`
@@ -59,7 +58,7 @@ pub trait Item: Sized {
         ensures { Means value result (meaning text.now) };
 }
 
-/// Returns the error of a text that is no item.
+/// Returns the error for a text that isn't an item.
 pub(crate) fn invalid(alloc: Global, text: &str) -> Error
     ensures { IsCustomOrOutOfMemory result }
 {

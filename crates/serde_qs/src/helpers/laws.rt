@@ -1,4 +1,4 @@
-//! Lists of whole numbers come back.
+//! Lists of whole numbers can be read back.
 
 ghost use Rattle.std.specs.Prelude.{◌≡◌, ◌≤◌, ◌<◌, ◌^◌, ◌-◌, ◌≤ℤ◌, ◌<ℤ◌, ℕ, ℤ, pos, neg_ℤ, List, Some, false, map, decimal, ◌≢◌};
 ghost use Rattle.std.specs.Char.{IsScalar};
@@ -9,8 +9,7 @@ ghost use Rattle.qs_spec.specs.Escape.{is_between};
 ghost use Rattle.qs_spec.specs.Scalar.{unsigned_number, signed_number};
 ghost use Rattle.serde_qs.specs.Items.{joined, list_in};
 
-/// The text of a list of unsigned numbers is parsed as that list, where the delimiter is no digit. It does nothing when it
-/// runs.
+/// The text of a list of unsigned numbers is parsed as that list, if the delimiter isn't a digit. It does nothing when it runs.
 ///
 /// ```
 /// unsigned_list_comes_back(); // from here on a proof knows what is read from such a text
@@ -20,8 +19,7 @@ pub fn unsigned_list_comes_back()
         → list_in (unsigned_number bits) delimiter (d.text (joined delimiter (map decimal list))) ≡ Some list }
 {}
 
-/// The text of a list of signed numbers is parsed as that list, where the delimiter is neither a digit nor `-`. It does
-/// nothing when it runs.
+/// The text of a list of signed numbers is parsed as that list, if the delimiter is neither a digit nor `-`. It does nothing when it runs.
 ///
 /// ```
 /// signed_list_comes_back(); // from here on a proof knows what is read from such a text

@@ -53,7 +53,7 @@ pub trait Delimiter {
 
     ghost is_free: { is_number_delimiter delimiter ≡ true };
 
-    /// Returns the character. Of the types of this crate it takes constant time and doesn't allocate.
+    /// Returns the character. For the types of this crate it takes constant time and doesn't allocate.
     ///
     /// ```
     /// let delimiter = Comma::delimiter(); // ','
@@ -86,7 +86,7 @@ pub struct Pipe;
 #[derive(Debug, PartialEq, Drop)]
 pub struct Space;
 
-/// A list of whole numbers that is read from one text, with a delimiter between them, and written so.
+/// A list of whole numbers that is read from and written as one text, with a delimiter between the numbers.
 ///
 /// ```
 /// pub struct Chart {
@@ -94,7 +94,7 @@ pub struct Space;
 /// }
 /// ```
 ///
-/// The empty list is the empty text, `values=`. A text with a piece that is no number is rejected: ``invalid item `x` ``.
+/// The empty list is the empty text, `values=`. A text with a piece that isn't a number is rejected: ``invalid item `x` ``.
 #[derive(Debug, PartialEq, Drop)]
 pub struct Delimited<T, D> {
     pub items: Vec<T>,

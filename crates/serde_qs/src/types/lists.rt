@@ -77,7 +77,7 @@ impl<T: Deserialize + Drop> Deserialize for Vec<T> {
     }
 }
 
-// Returns the values that these data mean, in order.
+// Returns the values that this data means, in order.
 fn items_of<T: Deserialize + Drop>(alloc: Global, parts: Vec<Data>) -> Result<Vec<T>>
     ensures { Means (λ (xs : Vec T Global). map T.table.value xs.items) result (values_meant T.table.meaning (values_in parts.items)) }
 {

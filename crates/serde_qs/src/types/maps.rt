@@ -86,7 +86,7 @@ impl<T: RoundTrip + Drop> RoundTrip for BTreeMap<String, T> {
     ghost same_datum = { mapping_datum T.table T.datum T.same_datum };
 }
 
-// Returns the map of these pairs, of which the last with a key counts.
+// Returns the map of these pairs. Of several with one key, the last counts.
 #[tactic(auto, using(crate::proofs::PairsPut::empty))]
 fn map_of<T: Deserialize + Drop>(
     alloc: Global,
@@ -120,7 +120,7 @@ fn with_pair<T: Deserialize + Drop>(
     }
 }
 
-// Returns the map of these entries, each value read from its node. Of two with a key the later counts.
+// Returns the map of these entries, each value read from its node. Of two with one key, the later counts.
 #[tactic(auto, using(crate::proofs::PairsPut::empty))]
 fn entries_of<T: Deserialize + Drop>(
     reader: Reader,

@@ -18,7 +18,7 @@ use qs_data::{Data, Reader, Result, Scalar, Shape, Width, WriteResult, Writer};
 use qs_tree::ParsedValue;
 use std::alloc::Global;
 
-// Returns the number that these data mean, if it is from `least` to `most`.
+// Returns the number that this data means, if it is from `least` to `most`.
 #[inline(always)]
 fn signed(alloc: Global, datum: Data, least: i64, most: i64, expected: &'static str) -> Result<i64>
     ensures exact { Means (λ (z : ℤ). z) result (signed_between least most (data_of datum)) }

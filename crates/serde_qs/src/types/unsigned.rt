@@ -18,7 +18,7 @@ use qs_data::{Data, Reader, Result, Scalar, Shape, Width, WriteResult, Writer};
 use qs_tree::ParsedValue;
 use std::alloc::Global;
 
-// Returns the number that these data mean, if it is at most `most`.
+// Returns the number that this data means, if it is at most `most`.
 #[inline(always)]
 fn unsigned(alloc: Global, datum: Data, most: u64, expected: &'static str) -> Result<u64>
     ensures exact { Means (λ (n : ℕ). n) result (unsigned_in most (data_of datum)) }

@@ -1,4 +1,4 @@
--- How the code compares two data. Being the same is being equal (EqualityLaws.antt).
+-- How the code compares two values. Being the same is being equal (EqualityLaws.antt).
 use Rattle.std.specs.Prelude.{Bool, true, false, ◌&&◌, ◌==◌}
 use Rattle.std.specs.Bool.{beq}
 use Rattle.std.specs.Ordering.{int_eq}
@@ -6,7 +6,8 @@ use Rattle.std.specs.Str.{bytes_eq}
 use Rattle.qs_spec.specs.Data.{Data, Values, no_values, one_value, Pairs, no_pairs, one_pair, Members, no_members, one_member}
 use Rattle.qs_spec.specs.Data.Data.{unit, none, some, boolean, unsigned, signed, character, text, bytes, sequence, tuple, mapping, struct, newtype, unit_variant, newtype_variant, tuple_variant, struct_variant}
 
--- data are the same where they are of one kind and hold the same: the same parts, by the same names, in the same order
+-- two values are the same if they are of the same kind and hold the same: the same parts, by the same names, in the
+-- same order
 abbrev mutual
   pub data_same : Data → Data → Bool
   data_same unit unit = true

@@ -60,7 +60,7 @@ mutual
       all_three one_member (bytes_equal m n here.0) (sound d e here.1) (members_sound ms ns parts.1)
   members_sound ms ns h = cc
 
--- data are the same as themselves
+-- data is the same as itself
 mutual
   itself : (d : Data) → data_same d d ≡ true
   itself unit = refl

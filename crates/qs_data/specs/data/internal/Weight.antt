@@ -1,4 +1,4 @@
--- How many data there are to drop.
+-- How many values there are to drop.
 use Rattle.std.specs.Prelude.{ℕ, ◌+◌, Bool, true, false, map}
 use Rattle.std.specs.List.{sum, sum_by}
 use Rattle.std.specs.declared.string.String.{String}
@@ -7,7 +7,7 @@ use Rattle.qs_data.specs.declared.data.data.Data.{Data, Data-F, fold-Data}
 use Rattle.qs_data.specs.declared.data.discard.Parts.{Parts}
 use Rattle.qs_data.specs.declared.data.discard.Parts.TheVariants.{One, Items, Pairs, Members}
 
--- data count as one, and as much as the data in them
+-- data counts as one, and as much as the data in it
 abbrev pub weight_layer : Data-F ℕ → ℕ
 weight_layer (Data-F.Some part) = part.value + 1
 weight_layer (Data-F.Newtype part) = part.value + 1
@@ -20,7 +20,7 @@ weight_layer (Data-F.Struct members) = sum (map (λ m. m.1) members.items) + 1
 weight_layer (Data-F.StructVariant name members) = sum (map (λ m. m.1) members.items) + 1
 weight_layer _ = 1
 
--- how many data there are in data, with themselves
+-- how many values there are in data, with itself
 abbrev pub weight : Data → ℕ
 weight = fold-Data ℕ weight_layer
 
@@ -36,7 +36,7 @@ is_leaf_layer (Data-F.Struct members) = false
 is_leaf_layer (Data-F.StructVariant name members) = false
 is_leaf_layer _ = true
 
--- the data are of a kind that holds no data
+-- the data is of a kind that holds no data
 abbrev pub is_leaf : Data → Bool
 is_leaf = fold-Data Bool is_leaf_layer
 
@@ -46,7 +46,7 @@ pair_weight p = weight p.0 + weight p.1
 abbrev pub member_weight : String Global × Data → ℕ
 member_weight m = weight m.1
 
--- how many data there are in parts
+-- how many values there are in parts
 abbrev pub parts_weight : Parts → ℕ
 parts_weight (One part) = weight part.value
 parts_weight (Items items) = sum_by weight items.items

@@ -1,14 +1,14 @@
--- Where reading doesn't allocate.
+-- When reading doesn't allocate.
 use Rattle.std.specs.Prelude.{◌≡◌, ⊤, Result, Ok, Err, Option, None}
 use Rattle.qs_tree.specs.declared.error.Error.{Error}
 use Rattle.qs_tree.specs.declared.error.Error.TheVariants.{OutOfMemory}
 
--- the error says that memory ran out only where there is nothing to return
+-- the error says that memory ran out only if there is nothing to return
 abbrev pub Spares : {Y : Type 0} → Error → Option Y → Type 0
 Spares OutOfMemory r = r ≡ None
 Spares _ r = ⊤
 
--- memory runs out only where there is nothing to return
+-- memory runs out only if there is nothing to return
 abbrev pub IsFrugal : {X Y : Type 0} → Result X Error → Option Y → Type 0
 IsFrugal (Ok x) r = ⊤
 IsFrugal (Err e) r = Spares e r

@@ -7,7 +7,7 @@ use Rattle.qs_spec.specs.Tree.Tree.{leaf, sequence, mapping, uninitialized}
 use Rattle.qs_spec.specs.Data.{Data}
 use Rattle.qs_spec.specs.Node.{last_item}
 
--- none where there is no value or an empty one, and else the last text
+-- none if there is no value or an empty one, and otherwise the last text
 abbrev pub given_text : Bool → Tree → Option (Option (List ℕ))
 given_text reject_duplicates (leaf NoValue) = Some None
 given_text reject_duplicates (leaf Null) = Some None
@@ -16,11 +16,11 @@ given_text reject_duplicates (sequence xs) = option_map Some (last_item reject_d
 given_text reject_duplicates (mapping es) = None
 given_text reject_duplicates uninitialized = None
 
--- what is read where there is no text, and of one
+-- what is read if there is no text, and what is read from a text
 abbrev pub data_by_text : Option Data → (List ℕ → Option Data) → Option (List ℕ) → Option Data
 data_by_text empty get None = empty
 data_by_text empty get (Some bytes) = get bytes
 
--- the bytes, where they are UTF-8
+-- the bytes, if they are UTF-8
 abbrev pub utf8_text : List ℕ → Option (List ℕ)
 utf8_text bytes = if is_utf8 bytes then Some bytes else None

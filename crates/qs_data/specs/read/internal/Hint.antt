@@ -1,4 +1,4 @@
--- What is reported of a key that can't be read.
+-- What is reported for a key that can't be read.
 use Rattle.std.specs.Prelude.{◌≡◌, ℕ, ◌==◌, ◌++◌, List, Option, option_map, codes}
 use Rattle.std.specs.Bool.{MatchBool}
 use Rattle.std.specs.List.{list_any}
@@ -17,6 +17,6 @@ abbrev pub IsHinted : ReadError → ReadError → Type 0
 IsHinted OutOfMemory reported = reported ≡ OutOfMemory
 IsHinted e reported = IsCustomSaying (error_of reported) (hinted_text (error_of e))
 
--- the error with the hint where the key holds `[`, and else the error
+-- the error with the hint if the key holds `[`, and otherwise the error
 abbrev pub IsKeyError : List ℕ → ReadError → ReadError → Type 0
 IsKeyError key e reported = MatchBool (list_any (λ b. b == 91) key) (IsHinted e reported) (reported ≡ e)

@@ -18,7 +18,7 @@ abbrev pub value_in : Option (Bor ParsedValue) → List t.Tree
 value_in None = []
 value_in (Some value) = tree_of value.now ∷ []
 
--- the number of 32 bits that is written so, if there is one
+-- the number of 32 bits whose digits these are, if there is one
 abbrev pub ParsesNumber : Option ℕ → List ℕ → Type 0
 ParsesNumber None name = (n : ℕ) → n < 2 ^ 32 → decimal n ≡ name → ⊥
 ParsesNumber (Some n) name = (n < 2 ^ 32) × (decimal n ≡ name)
@@ -29,7 +29,7 @@ entries_after zero es = es
 entries_after (suc i) no_entries = no_entries
 entries_after (suc i) (entry k mark t es) = entries_after i es
 
--- nothing more to return, where a test is passed
+-- nothing more to return, if a test is passed
 abbrev pub when : Bool → Option (Unit {0})
 when true = Some tt
 when false = None

@@ -1,4 +1,4 @@
--- What lists and maps give that are being read, one within the other.
+-- What lists and maps give while they are read, one within the other.
 use Rattle.std.specs.Prelude.{◌≡◌, ℕ, suc, ◌+◌, ◌≤◌, Bool, false, List, ◌++◌, map, drop, Option, Some, None, option_map, option_and_then, Result, Ok, Err}
 use Rattle.qs_spec.specs.Data.{Data, values_of, pairs_of}
 use Rattle.qs_spec.specs.Shape.{KeyShape}
@@ -40,7 +40,7 @@ abbrev pub frame_data : Frame → Option Data
 frame_data (frame.List l) = list_begun (map data_of l.values.items) (read_each any_data (items_left l))
 frame_data (frame.Map m) = map_begun (map pair_of m.pairs.items) (read_pairs KeyShape.text any_data (entries_left m))
 
--- what a frame gives where the node that is being read gives this
+-- what a frame gives if the node that is being read gives this
 abbrev pub frame_after : Frame → Option Data → Option Data
 frame_after (frame.List l) node = list_begun (map data_of l.values.items) (option_and_then (λ d. with_front d (read_each any_data (items_left l))) node)
 frame_after (frame.Map m) node =

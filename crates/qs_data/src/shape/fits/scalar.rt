@@ -13,14 +13,14 @@ use crate::data::Data;
 use crate::shape::distinct::is_name;
 use crate::shape::{KeyShape, Width};
 
-/// Returns whether data are no value.
+/// Returns whether data is the unit.
 pub(super) fn is_unit(datum: &Data) -> bool
     ensures { result ≡ fits s.Shape.unit (data_of datum.now) }
 {
     matches!(datum, Data::Unit)
 }
 
-/// Returns whether data are a boolean.
+/// Returns whether data is a boolean.
 pub(super) fn is_bool(datum: &Data) -> bool
     ensures shape { result ≡ fits s.Shape.boolean (data_of datum.now) }
     ensures key { result ≡ fits_key s.KeyShape.boolean (data_of datum.now) }
@@ -28,7 +28,7 @@ pub(super) fn is_bool(datum: &Data) -> bool
     matches!(datum, Data::Bool(_))
 }
 
-/// Returns whether data are an unsigned number of this width.
+/// Returns whether data is an unsigned number of this width.
 pub(super) fn is_unsigned(width: Width, datum: &Data) -> bool
     ensures shape { result ≡ fits (s.Shape.unsigned (bits_of width)) (data_of datum.now) }
     ensures key { result ≡ fits_key (s.KeyShape.unsigned (bits_of width)) (data_of datum.now) }
@@ -39,7 +39,7 @@ pub(super) fn is_unsigned(width: Width, datum: &Data) -> bool
     }
 }
 
-/// Returns whether data are a signed number of this width.
+/// Returns whether data is a signed number of this width.
 pub(super) fn is_signed(width: Width, datum: &Data) -> bool
     ensures shape { result ≡ fits (s.Shape.signed (bits_of width)) (data_of datum.now) }
     ensures key { result ≡ fits_key (s.KeyShape.signed (bits_of width)) (data_of datum.now) }
@@ -50,7 +50,7 @@ pub(super) fn is_signed(width: Width, datum: &Data) -> bool
     }
 }
 
-/// Returns whether data are a character.
+/// Returns whether data is a character.
 pub(super) fn is_char(datum: &Data) -> bool
     ensures shape { result ≡ fits s.Shape.character (data_of datum.now) }
     ensures key { result ≡ fits_key s.KeyShape.character (data_of datum.now) }
@@ -69,7 +69,7 @@ fn is_any_char(c: char) -> bool
     true
 }
 
-/// Returns whether data are a text.
+/// Returns whether data is a text.
 pub(super) fn is_text(datum: &Data) -> bool
     ensures shape { result ≡ fits s.Shape.text (data_of datum.now) }
     ensures key { result ≡ fits_key s.KeyShape.text (data_of datum.now) }
@@ -89,7 +89,7 @@ pub(super) fn is_any_text(text: &String) -> bool
     true
 }
 
-/// Returns whether data are bytes.
+/// Returns whether data is bytes.
 pub(super) fn is_bytes(datum: &Data) -> bool
     ensures { result ≡ fits s.Shape.bytes (data_of datum.now) }
 {
@@ -108,7 +108,7 @@ fn are_bytes(bytes: &[u8]) -> bool
     true
 }
 
-/// Returns whether data fit the shape of a key.
+/// Returns whether data fits the shape of a key.
 pub(super) fn fits_key(key: &KeyShape, datum: &Data) -> bool
     ensures { result ≡ fits_key (key_shape_of key.now) (data_of datum.now) }
 {
@@ -128,7 +128,7 @@ pub(super) fn fits_key(key: &KeyShape, datum: &Data) -> bool
     }
 }
 
-// Returns whether data are a unit variant of one of the names.
+// Returns whether data is a unit variant of one of the names.
 fn is_named(names: &Vec<String>, datum: &Data) -> bool
     ensures { result ≡ fits_key (s.KeyShape.variants (map string_bytes names.now.items)) (data_of datum.now) }
 {

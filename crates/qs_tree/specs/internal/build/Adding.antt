@@ -10,7 +10,7 @@ use Rattle.qs_tree.specs.declared.scan.pair.Pair.{Pair}
 abbrev pub IsRejected : {B : Type 0} → Option B → AddError → Type 0
 IsRejected expected e = e ≢ OutOfMemory → expected ≡ None
 
--- the call returns what is expected, or an error where nothing is
+-- the call returns what is expected, or an error if nothing is expected
 abbrev pub AddGives : {A B : Type 0} → (A → B) → Option B → Result A AddError → Type 0
 AddGives view expected (Ok a) = expected ≡ Some (view a)
 AddGives view expected (Err e) = IsRejected expected e

@@ -53,7 +53,7 @@ fresh = Value Uninitialized
 abbrev pub as_builders : List (Key × ParsedValue) → List (Key × TreeBuilder)
 as_builders es = map (λ p. (p.0, Value p.1)) es
 
--- the node at a segment of a map, which may be missing
+-- the node at a segment of a map, or an empty one if it is missing
 abbrev pub child : Segment → Entries → Tree
 child s es = unwrap_or (value_at_key s es) uninitialized
 
@@ -63,7 +63,7 @@ pub record Takes (k : Key) (old : Entries) (taken : Tree) (new : Entries) : Type
   pub rest : (u : Tree) → update (marked_segment_of_key k) (λ _. Some u) new ≡ update (marked_segment_of_key k) (λ _. Some u) old
   pub ordered : AreOrdered old
 
--- the node is no map
+-- the node isn't a map
 abbrev pub IsNoMap : Tree → Type 0
 IsNoMap (mapping es) = ⊥
 IsNoMap t = Unit {0}

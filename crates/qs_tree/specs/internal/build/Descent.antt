@@ -23,8 +23,8 @@ put_all_back (m ∷ ms) t = option_and_then (put_back m) (put_all_back ms t)
 abbrev pub IsOpen : MarkedSegment → Tree → Frame → Tree → Type 0
 IsOpen s before m taken = (f : Tree → Option Tree) → add_below s f before ≡ option_and_then (put_back m) (f taken)
 
--- The path from a node leads to another, below these frames: a pair is added to the one as a pair with the rest of its path is to
--- the other.
+-- The path from one node leads to another, below these frames. Adding a pair to the first node is adding the pair with the rest of its
+-- path to the other.
 abbrev pub Leads : List MarkedSegment → Tree → List Frame → List MarkedSegment → Tree → Type 0
 Leads path node ms rest end = (tail : List MarkedSegment) (push : Bool) (l : Leaf) → add (path ++ tail) push l node ≡ option_and_then (put_all_back ms) (add (rest ++ tail) push l end)
 

@@ -12,7 +12,7 @@ use Rattle.qs_tree.specs.tree.Views.{segment_of_key}
 abbrev pub HaveDistinctKeys : List (Key × ParsedValue) → Type 0
 HaveDistinctKeys es = AllPairs (λ p q. segment_of_key p.0 ≢ segment_of_key q.0) es
 
--- an integer itself, and the hash of a string
+-- an integer key as it is, and the hash of a string key
 abbrev pub hash_of : Segment → ℕ
 hash_of (Int n) = n
 hash_of (Str bytes) = finish (write initial bytes)

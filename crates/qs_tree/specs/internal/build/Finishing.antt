@@ -18,7 +18,7 @@ use Rattle.qs_tree.specs.internal.build.Builder.{built_tree, built_entries}
 abbrev pub built_pairs : List (Key × TreeBuilder) → List (Key × Tree)
 built_pairs es = map (λ p. (p.0, built_tree p.1)) es
 
--- the entries of a level that are left
+-- the remaining entries of a level
 abbrev pub left_pairs : Level → List (Key × Tree)
 left_pairs level = built_pairs (into_iter_items level.left)
 
@@ -26,7 +26,7 @@ left_pairs level = built_pairs (into_iter_items level.left)
 abbrev pub level_pairs : Level → List (Key × Tree)
 level_pairs level = key_trees level.done ++ left_pairs level
 
--- the entries from the map on that was found, or none
+-- the entries from the map that was found on, or none
 abbrev pub from_map : Option (Key × MapBuilder) → Level → List (Key × Tree)
 from_map None level = []
 from_map (Some p) level = (p.0, mapping (built_entries p.1)) ∷ left_pairs level

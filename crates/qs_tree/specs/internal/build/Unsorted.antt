@@ -11,7 +11,7 @@ use Rattle.qs_tree.specs.declared.tree.value.ParsedValue.{ParsedValue}
 use Rattle.qs_tree.specs.internal.scan.Pairs.{leaf_in}
 use Rattle.qs_tree.specs.tree.Views.{marked_segment_of_key, tree_of}
 
--- the leaf that a value is, or `NoValue` for another value
+-- a value as a leaf, or `NoValue` if it isn't one
 abbrev pub leaf_held : ParsedValue → Leaf
 leaf_held v = unwrap_or (leaf_in (tree_of v)) NoValue
 
@@ -19,7 +19,7 @@ leaf_held v = unwrap_or (leaf_in (tree_of v)) NoValue
 abbrev pub leaf_pairs : List (Key × ParsedValue) → List Pair
 leaf_pairs ls = map (λ p. record { path = marked_segment_of_key p.0 ∷ []; push = false; leaf = leaf_held p.1 }) ls
 
--- the entries of a map with these pairs alone
+-- the entries of a map with only these pairs
 abbrev pub entries_of_leaves : List (Key × ParsedValue) → Entries
 entries_of_leaves ls = let ps = leaf_pairs ls in entries_of (λ k. head_mark k ps) (λ k. node_within 0 (under k ps)) (heads ps)
 

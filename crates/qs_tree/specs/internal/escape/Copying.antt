@@ -1,4 +1,4 @@
--- What copying makes of a byte.
+-- What a byte is copied as.
 use Rattle.std.specs.Prelude.{ℕ, ◌==◌, if◌then◌else◌}
 
 -- the byte with `to` in place of `from`

@@ -7,7 +7,7 @@ use Rattle.qs_tree.specs.declared.scan.cursor.Token as token
 use Rattle.qs_tree.specs.declared.scan.cursor.Until as until
 use Rattle.qs_tree.specs.declared.scan.cursor.Cursor as cursor
 
--- from the kinds of the code to those of the grammar
+-- from the kinds of the code to the kinds of the grammar
 abbrev pub kind_of_token : kind.Kind → Kind
 kind_of_token kind.TheVariants.Ampersand = Kind.Amp
 kind_of_token kind.TheVariants.Equals = Kind.Equals
@@ -24,7 +24,7 @@ ends_of until.TheVariants.Separator = ends_last
 ends_of until.TheVariants.SeparatorOrOpen = ends_root 1
 ends_of until.TheVariants.Close = is_close
 
--- the first token is of this kind and so many bytes, and the others follow
+-- the first token has this kind and this many bytes, and the others follow
 abbrev pub BeginsWith : Bool → List ℕ → kind.Kind → ℕ → Type 0
 BeginsWith form bytes k len = tokens form bytes ≡ record { kind = kind_of_token k; raw = take len bytes } ∷ tokens form (drop len bytes)
 

@@ -1,4 +1,4 @@
--- From the types of a pair to those of the definitions.
+-- From the types of a pair to the types of the definitions.
 use Rattle.std.specs.Prelude.{◌≡◌, [], List, Bool, true, false, map, Option, Some, None}
 use Rattle.std.specs.declared.borrow.CowSlice.TheVariants.{Borrowed, Owned}
 use Rattle.qs_spec.specs.Segment.{MarkedSegment}
@@ -20,7 +20,7 @@ leaf_of variant.Null = Null
 leaf_of (variant.Text (Borrowed r)) = Text r.now false
 leaf_of (variant.Text (Owned v)) = Text v.items true
 
--- the leaf that a node is
+-- a node as a leaf
 abbrev pub leaf_in : Tree → Option Leaf
 leaf_in (leaf l) = Some l
 leaf_in t = None

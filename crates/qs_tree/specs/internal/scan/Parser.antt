@@ -49,7 +49,7 @@ abbrev pub ParsesPair : {A : Type 0} → Rest Pair → Result A parse_error.Pars
 ParsesPair found (Ok a) new p = (rest : List Token) × (found ≡ Some (pair_of p, rest)) × IsPast rest new
 ParsesPair found (Err f) new p = IsParseError found f
 
--- the tokens are no pairs, those that are left, or one pair and those that are left; or they aren't pairs
+-- the tokens are no pairs, the remaining tokens, or one pair and the remaining tokens; or they aren't pairs
 abbrev pub ParsesItem : ℕ → List Token → Result item.Item parse_error.ParseError → cursor.Cursor → code_pair.Pair → Type 0
 ParsesItem depth ts (Ok item.TheVariants.End) new p = parsed_pairs depth ts ≡ Some []
 ParsesItem depth ts (Ok item.TheVariants.Ampersand) new p = parsed_pairs depth ts ≡ parsed_pairs depth (left new)

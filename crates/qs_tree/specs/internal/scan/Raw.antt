@@ -3,7 +3,7 @@ use Rattle.std.specs.Prelude.{ℕ, ◌+◌, ◌-◌, ◌*◌, ◌&&◌, nat_le, 
 use Rattle.qs_spec.specs.Escape.{is_between}
 use Rattle.qs_spec.specs.Segment.{is_index, number}
 
--- the value of the bytes, where they are an index
+-- the value of the bytes, if they are an index
 abbrev pub index_of : List ℕ → Option ℕ
 index_of raw = if is_index raw then Some (number raw) else None
 

@@ -17,7 +17,7 @@ abbrev pub IsEqualsStop : Option token.Token → Type 0
 IsEqualsStop None = ⊥
 IsEqualsStop (Some t) = IsTrue (is_equals (kind_of_token t.kind))
 
--- a direct pair with an empty path was parsed, and nothing is left
+-- a direct pair with an empty path was parsed, and nothing remains
 abbrev pub ParsesBare : {A : Type 0} → Result A parse_error.ParseError → cursor.Cursor → pair.Pair → Type 0
 ParsesBare (Ok a) new p = IsBare p × (new.rest.now ≡ [])
 ParsesBare (Err f) new p = ⊥
@@ -29,6 +29,6 @@ ParsesSmall (Ok item.TheVariants.Ampersand) new p = IsTrue (is_ampersands new.re
 ParsesSmall (Ok item.TheVariants.Pair) new p = IsBare p × (new.rest.now ≡ [])
 ParsesSmall (Err f) new p = ⊥
 
--- nothing is left, and the tree is no map; or the tree is empty, and what is left is such an input
+-- nothing remains, and the tree isn't a map; or the tree is empty, and such an input remains
 abbrev pub StaysSmall : List ℕ → TreeBuilder → Type 0
 StaysSmall rest tree = ((rest ≡ []) × IsFlat tree) ⊎ (AllocatesNothing rest × (tree ≡ fresh))

@@ -1,4 +1,4 @@
--- Equality of trees is that of the trees without their marks, and so an equivalence.
+-- Two trees are equal exactly if they are the same without their marks, so equality is an equivalence.
 use Rattle.std.proofs.Common.{◌≡◌, Bool, false, ◌&&◌, refl, sym, ap, ap₂, ◌∙◌}
 use Rattle.std.specs.Bool.{Decides, one_answer}
 use Rattle.std.specs.Cmp.{IsPartialEquivalence}

@@ -1,8 +1,8 @@
--- A measure of a tree that is dropped.
+-- A measure of a tree that is being dropped.
 use Rattle.std.specs.Prelude.{ℕ, ◌+◌, ◌<◌, ◌≤◌}
 use Rattle.qs_spec.specs.Tree.{Tree, Items, Entries, leaf, sequence, mapping, uninitialized, no_items, item, no_entries, entry}
 
--- how many nodes a tree has, where a map and a sequence count twice
+-- how many nodes a tree has; maps and sequences count twice
 abbrev mutual
   pub node_count : Tree → ℕ
   node_count (leaf l) = 1
@@ -18,6 +18,6 @@ abbrev mutual
   entries_node_count no_entries = 0
   entries_node_count (entry k mark t es) = node_count t + entries_node_count es
 
--- at least one node less, and at most one empty map or sequence less
+-- at least one node fewer, and at most one empty map or sequence fewer
 abbrev pub DropsOne : ℕ → ℕ → Type 0
 DropsOne before after = (after < before) × (before ≤ after + 2)

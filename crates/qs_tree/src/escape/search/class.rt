@@ -10,17 +10,17 @@ pub(crate) const LANES: usize = 32;
 pub(crate) trait Class: Copy {
     ghost contains: { Self → ℕ → Bool };
 
-    /// Returns a mask with a bit for each of the 32 bytes from `at` on, which is set where the byte is of the class.
+    /// Returns a mask with a bit for each of the 32 bytes from `at` on. A bit is set if the byte is in the class.
     fn mask(self, bytes: &[u8], at: usize) -> u64
         requires { at + LANES ≤ length bytes.now }
         ensures { result ≡ class_mask (contains self) bytes.now at LANES };
 
-    /// Returns whether a byte is of the class.
+    /// Returns whether a byte is in the class.
     fn has(self, byte: u8) -> bool
         ensures { result ≡ contains self byte };
 }
 
-/// Returns how many of the 32 bytes from `at` on are before the first of the class.
+/// Returns how many of the 32 bytes from `at` on are before the first one in the class.
 #[inline(always)]
 pub(crate) fn run<C: Class>(class: C, bytes: &[u8], at: usize) -> usize
     requires { at + LANES ≤ length bytes.now }
@@ -29,7 +29,7 @@ pub(crate) fn run<C: Class>(class: C, bytes: &[u8], at: usize) -> usize
     first_set(class.mask(bytes, at))
 }
 
-/// Returns how many of the bytes are of the class. Tests 32 bytes at a time, and the rest one by one.
+/// Returns how many of the bytes are in the class. Tests 32 bytes at a time, and the rest one by one.
 pub(crate) fn count<C: Class>(class: C, bytes: &[u8]) -> usize
     ensures { result ≡ count_by (C.contains class) bytes.now }
 {
@@ -48,7 +48,7 @@ pub(crate) fn count<C: Class>(class: C, bytes: &[u8]) -> usize
     count
 }
 
-// Returns the index of the lowest bit of a mask that is set, or the number of lanes where none is.
+// Returns the index of the lowest set bit of a mask, or the number of lanes if none is set.
 #[inline(always)]
 fn first_set(mask: u64) -> usize
     ensures { result ≡ first_set mask LANES }

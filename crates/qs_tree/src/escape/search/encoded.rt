@@ -9,7 +9,7 @@ use super::class::{Class, LANES};
 use super::marks::Byte;
 use std::simd::prelude::*;
 
-// What form encoding writes for each byte; `%` for those that it escapes, which are those of the application/x-www-form-urlencoded
+// What form encoding writes for each byte. It is `%` for each byte to escape: those of the application/x-www-form-urlencoded
 // percent-encode set of the URL Standard, section 1.3.
 static FORM: [u8; 256] = *b"\
     %%%%%%%%%%%%%%%%%%%%%%%%%%%%%%%%\
@@ -21,7 +21,7 @@ static FORM: [u8; 256] = *b"\
     %%%%%%%%%%%%%%%%%%%%%%%%%%%%%%%%\
     %%%%%%%%%%%%%%%%%%%%%%%%%%%%%%%%";
 
-// The same of query encoding: the query percent-encode set of that section without the space, and the delimiters of a querystring.
+// The same for query encoding: the query percent-encode set of that section without the space, and the delimiters of a querystring.
 static QUERY: [u8; 256] = *b"\
     %%%%%%%%%%%%%%%%%%%%%%%%%%%%%%%%\
     +!%%$%%'()*%,-./0123456789:;%%%?\
@@ -77,7 +77,7 @@ impl Class for Escaped {
     }
 }
 
-/// The bytes that form encoding (`form`) or query encoding changes: those that it escapes, and the space.
+/// The bytes that form encoding (`form`) or query encoding changes: the bytes that it escapes, and the space.
 #[derive(Clone, Copy)]
 pub(super) struct Encoded {
     pub(super) form: bool,

@@ -4,7 +4,7 @@ ghost use Rattle.std.specs.Prelude.{◌≡◌, false, IsTrue};
 ghost use Rattle.qs_tree.specs.escape.Classes.{is_escape};
 ghost use Rattle.qs_tree.specs.internal.scan.Cursor.{IsLetter};
 
-// `.` for each letter.
+// `.` for each of these bytes.
 static LETTERS: [u8; 256] = *b"\
     ................................\
     .....%&....+.................=..\

@@ -1,4 +1,4 @@
-//! Steps, which are counted in contracts only.
+//! Steps, counted in contracts only.
 
 ghost use Rattle.std.specs.Prelude.{◌≡◌, ℕ, ◌+◌};
 ghost use Rattle.std.specs.Borrow.{ftrue};
@@ -10,7 +10,7 @@ use std::marker::Model;
 
 /// A number of steps. Contracts see a natural number; at run time it has no bytes.
 ///
-/// Only the cursor of a parse adds to it, and a comparison of two keys in a search.
+/// Only two things add to it: the cursor of a parse, and a comparison of two keys in a search.
 ///
 /// ```
 /// let mut steps = Steps::new();
@@ -41,7 +41,7 @@ impl Steps {
         Steps {}
     }
 
-    /// Compares two keys, which is a step.
+    /// Compares two keys, and adds one step.
     #[inline(always)]
     pub(crate) fn compare<'k, 'qs>(&mut self, key: &Key<'k>, other: &Key<'qs>) -> Ordering
         ensures order { result ≡ key_cmp key.now other.now }
@@ -51,7 +51,7 @@ impl Steps {
         key.compare(other)
     }
 
-    /// Adds `taken` steps. Only the cursor sees this.
+    /// Adds `taken` steps. Only the cursor can call this.
     pub(super) fn add(&mut self, taken: usize)
         ensures { self.new ≡ self.old + taken }
     {

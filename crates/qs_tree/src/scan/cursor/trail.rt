@@ -1,4 +1,4 @@
-//! What the error of a conflict needs of the current pair.
+//! What the error of a conflict needs to know of the current pair.
 
 ghost use Rattle.std.specs.Prelude.{◌≡◌, ◌+◌, ◌≤◌, length, take};
 ghost use Rattle.qs_tree.specs.internal.scan.Cursor.{taken, to_come};
@@ -19,7 +19,7 @@ pub(super) struct Trail<'qs> {
 /// The key and position of a conflict's error.
 #[derive(Clone, Copy)]
 pub(crate) struct Site<'qs> {
-    /// The bytes of the pair before the bracket at which the conflict is.
+    /// The bytes of the pair before the bracket of the conflict.
     pub key: &'qs [u8],
     /// How many steps remain.
     pub to_come: usize,
@@ -62,8 +62,8 @@ impl<'qs> Cursor<'qs> {
         self.keep_spot(bracket)
     }
 
-    /// Returns the key and position of a conflict at a level of the pair's path: all that was taken of the pair, and the current
-    /// position, where no bracket is stored for it. No byte is handed out that wasn't taken.
+    /// Returns the key and position of a conflict at a level of the pair's path. If no bracket is stored for the level, these are all
+    /// bytes taken of the pair, and the current position. Returns only bytes that were taken.
     pub fn site(&self, level: usize) -> Site<'qs>
         ensures key { result.key.now ≡ take (length result.key.now) (taken self.now.trail.start.now self.now.rest.now) }
         ensures to_come { length self.now.rest.now + to_come self.now.ended ≤ result.to_come }

@@ -1,6 +1,6 @@
 -- What a call returns that writes, and what it put to a writer.
 use Rattle.std.proofs.Common.{◌≡◌, ℕ, ◌<◌, List, [], length, take, ◌⊎◌, inl, inr, refl, sym, subst, string_bytes, Option, Some, Result, Ok, Err}
-use Rattle.std.specs.Prelude.{OnOk}
+use Rattle.std.specs.Prelude.{⊤, IsOkAnd, OnOk}
 use Rattle.std.specs.List.{All}
 use Rattle.std.specs.Result.{IsErrAnd}
 use Rattle.std.specs.Io.KnownBytes.{Appends}
@@ -16,6 +16,7 @@ use Rattle.qs_spec.specs.Written.{written}
 use Rattle.qs_tree.specs.Error.{IsIo}
 use Rattle.qs_tree.specs.declared.error.Error.{Error}
 use Rattle.qs_data.specs.write.State.{IsVisible}
+use Rattle.qs_serde.specs.declared.writing.halt.Halt.{Halt}
 use Rattle.qs_serde.specs.Texts.{IsTextOf, IsTextOfEntries, ReturnsTextOf, WritesTextOf}
 
 pub are_visible : (config : Config) (bytes : List ℕ) → IsTextOfEntries config bytes → ∥ All IsVisible bytes ∥₁
@@ -25,6 +26,15 @@ pub returned : (config : Config) (writes : Log → Log → Type 0) (first last :
     → IsTextOfEntries config bytes → string_bytes s ≡ bytes → ReturnsTextOf config writes (Ok s)
 returned config writes first last bytes s fresh sends text entries is =
     ((last, subst (λ l. writes l last) fresh sends, subst (IsTextOf config last) (sym is) text), subst (IsTextOfEntries config) (sym is) entries)
+
+-- the serializer's steps, where the call has their result
+pub was_ok : (A : Type 0) (made : Result (Unit {0}) Halt) → IsOkAnd made (λ _. ⊤) → OnOk made A → A
+was_ok A (Ok x) ok h = h
+was_ok A (Err e) ok h = absurd ok
+
+pub of_ok : (A : Type 0) (made : Result (Unit {0}) Halt) (r : Result (Unit {0}) Error) → OnOk r (IsOkAnd made (λ _. ⊤)) → OnOk made A → OnOk r A
+of_ok A made (Ok x) f h = was_ok A made f h
+of_ok A made (Err e) f h = tt
 
 -- nothing was put
 no_entries : (config : Config) → IsTextOfEntries config []

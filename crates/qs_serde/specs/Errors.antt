@@ -1,11 +1,10 @@
 -- The errors of the steps.
 use Rattle.std.specs.Prelude.{◌≡◌, ⊤, Bool, false}
-use Rattle.qs_tree.specs.declared.error.Error.{Error}
-use Rattle.qs_tree.specs.declared.error.Error.TheVariants.{Custom, Utf8, OutOfMemory}
+use Rattle.qs_data.specs.declared.read.error.ReadError.{ReadError}
+use Rattle.qs_data.specs.declared.read.error.ReadError.TheVariants.{Custom, Utf8, OutOfMemory}
 
 -- The error is `Custom`, or an allocation failed; or it is `Utf8`, and what was read isn't all text.
-abbrev pub IsStepError : Bool → Error → Type 0
+abbrev pub IsStepError : Bool → ReadError → Type 0
 IsStepError all_text (Custom message) = ⊤
 IsStepError all_text (Utf8 cause) = all_text ≡ false
 IsStepError all_text OutOfMemory = ⊤
-IsStepError all_text _ = ⊥

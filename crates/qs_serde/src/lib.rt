@@ -25,4 +25,6 @@ pub use calls::{
 };
 pub use qs_tree::{ArrayFormat, Config, DuplicateKeyBehavior, Error, Result};
 pub use reading::{Mark, PathError, TreeFormat};
-pub use writing::{Settings, TextSerializer, events_of_data, texts_without_floats, worked_texts};
+pub use writing::{
+    Halt, Settings, TextSerializer, events_of_data, texts_without_floats, worked_texts,
+};

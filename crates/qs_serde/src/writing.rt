@@ -9,5 +9,6 @@ mod position;
 mod serializer;
 mod text;
 
+pub use halt::Halt;
 pub use laws::{events_of_data, texts_without_floats, worked_texts};
 pub use text::{Settings, TextSerializer};

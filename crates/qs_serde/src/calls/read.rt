@@ -1,12 +1,10 @@
 //! Calls that read.
 
-ghost use Rattle.std.specs.Prelude.{IfErr};
 ghost use Rattle.qs_spec.specs.Config.{default};
-ghost use Rattle.qs_data.specs.read.Errors.{IsOfReading};
 ghost use Rattle.qs_serde.specs.Inputs.{ExplainsFrom, ReturnsFrom};
 
 use crate::reading::{PathError, TreeFormat, explained, read_tree};
-use qs_tree::{Config, Error, ParsedValue, Result, parse};
+use qs_tree::{Config, Error, Result, parse};
 use serde::Deserialize;
 use std::alloc::Global;
 
@@ -21,8 +19,7 @@ use std::alloc::Global;
 ///
 /// - [`Parse`](Error::Parse): the querystring, such as `a[b`, has no tree. The position is at most the length plus one.
 /// - [`Custom`](Error::Custom) or [`Utf8`](Error::Utf8): the type doesn't read the tree, for example because a field is missing or a text
-///   isn't a number; or the type's own code rejects the value. If that code returns an error of another kind, the error becomes `Custom`,
-///   with its message.
+///   isn't a number; or the type's own code rejects the value.
 /// - [`OutOfMemory`](Error::OutOfMemory): an allocation failed.
 ///
 /// If there are several mistakes, the error is the first in this order: mistakes in fields, in the order of the fields; a mistake in
@@ -86,6 +83,7 @@ pub fn explain_str<'de, T: Deserialize<'de>>(
 /// ```
 /// let query: Query = explain_bytes(alloc, Config::new(), b"age=24&name=Alice")?;
 /// ```
+#[tactic(auto, using(crate::proofs::Errors::of_tree))]
 pub fn explain_bytes<'de, T: Deserialize<'de>>(
     alloc: Global,
     config: Config,
@@ -93,12 +91,17 @@ pub fn explain_bytes<'de, T: Deserialize<'de>>(
 ) -> Result<T, PathError>
     ensures { ExplainsFrom config input.now result }
 {
-    match parse(alloc, input, config) {
-        Ok(tree) => read_parsed(alloc, config, input, &tree),
-        Err(error) => Err(PathError {
-            path: String::new(alloc),
-            error,
-        }),
+    let tree = match parse(alloc, input, config) {
+        Ok(tree) => tree,
+        Err(error) => {
+            let path = String::new(alloc);
+            return Err(PathError { path, error });
+        }
+    };
+    let mut format = TreeFormat::new(alloc, config, &tree);
+    match read_tree(alloc, input, &mut format) {
+        Ok(value) => Ok(value),
+        Err(error) => Err(explained::<T>(alloc, config, input, &tree, error)),
     }
 }
 
@@ -107,6 +110,7 @@ pub fn explain_bytes<'de, T: Deserialize<'de>>(
 /// ```
 /// let query: Query = from_bytes_with(alloc, config, b"age=24&name=Alice")?;
 /// ```
+#[tactic(auto, using(crate::proofs::Errors::of_tree))]
 pub fn from_bytes_with<'de, T: Deserialize<'de>>(
     alloc: Global,
     config: Config,
@@ -114,24 +118,10 @@ pub fn from_bytes_with<'de, T: Deserialize<'de>>(
 ) -> Result<T>
     ensures { ReturnsFrom config input.now result }
 {
-    match explain_bytes(alloc, config, input) {
-        Ok(value) => Ok(value),
-        Err(error) => Err(error.error),
-    }
-}
-
-// Returns the value that is read from the tree of a querystring.
-fn read_parsed<'de, T: Deserialize<'de>>(
-    alloc: Global,
-    config: Config,
-    input: &'de [u8],
-    tree: &ParsedValue<'_>,
-) -> Result<T, PathError>
-    ensures { IfErr result (λ e. IsOfReading e.error) }
-{
-    let mut format = TreeFormat::new(alloc, config, tree);
+    let tree = parse(alloc, input, config)?;
+    let mut format = TreeFormat::new(alloc, config, &tree);
     match read_tree(alloc, input, &mut format) {
         Ok(value) => Ok(value),
-        Err(error) => Err(explained::<T>(alloc, config, input, tree, error).of_reading(alloc)),
+        Err(error) => Err(explained::<T>(alloc, config, input, &tree, error).error),
     }
 }

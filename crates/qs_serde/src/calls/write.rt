@@ -1,6 +1,6 @@
 //! Calls that write.
 
-ghost use Rattle.std.specs.Prelude.{◌≡◌, ◌⊎◌, ◌<◌, ℕ, length, take, string_bytes};
+ghost use Rattle.std.specs.Prelude.{◌≡◌, ◌⊎◌, ◌<◌, ℕ, length, take, string_bytes, ⊤, IsOkAnd, OnOk};
 ghost use Rattle.std.specs.List.{All};
 ghost use Rattle.std.specs.Io.KnownBytes.{Appends};
 ghost use Rattle.qs_spec.specs.Config.{default};
@@ -8,7 +8,7 @@ ghost use Rattle.qs_tree.specs.Error.{IsIo};
 ghost use Rattle.qs_data.specs.write.State.{IsVisible};
 ghost use Rattle.qs_serde.specs.Texts.{ReturnsTextOf, WritesTextOf};
 
-use crate::writing::{Settings, TextSerializer};
+use crate::writing::{Halt, Settings, TextSerializer};
 use qs_tree::{Config, Error, Result};
 use serde::Serialize;
 use std::alloc::Global;
@@ -77,8 +77,20 @@ fn write_text<K: Settings, T: Serialize>(alloc: Global, config: Config, value: &
     ensures { ReturnsTextOf K.config (T.writes value.now) result }
 {
     let mut serializer: TextSerializer<K> = TextSerializer::new(alloc, config)?;
-    value.serialize(&mut serializer)?;
+    let made = value.serialize(&mut serializer);
+    finished(alloc, config, made)?;
     Ok(string_of(serializer.into_text()))
+}
+
+// Returns the result of a serializer's last step as the result of a call.
+#[inline(always)]
+fn finished(alloc: Global, config: Config, made: Result<(), Halt>) -> Result<()>
+    ensures { OnOk result (IsOkAnd made (λ _. ⊤)) }
+{
+    match made {
+        Ok(()) => Ok(()),
+        Err(halt) => Err(halt.into_error(alloc, config)),
+    }
 }
 
 // Returns visible bytes as a string. They are UTF-8. It doesn't allocate.
@@ -120,7 +132,8 @@ fn write_to<K: Settings, T: Serialize, W: Write>(
     ensures { WritesTextOf K.config (T.writes value.now) (W.contents writer.old) (W.contents writer.new) result }
 {
     let mut serializer: TextSerializer<K> = TextSerializer::new(alloc, config)?;
-    let made = value.serialize(&mut serializer);
+    let sent = value.serialize(&mut serializer);
+    let made = finished(alloc, config, sent);
     if let Err(Error::OutOfMemory) = made {
         return made;
     }

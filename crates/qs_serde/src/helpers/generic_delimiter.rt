@@ -5,6 +5,7 @@ ghost use Rattle.serde.specs.Event.{text};
 ghost use Rattle.serde.specs.Steps.{Gives};
 
 use crate::reading::TreeFormat;
+use qs_data::ReadError;
 use qs_tree::{Config, Error, ParsedValue, Result};
 use serde::{DeserializeOwned, Deserializer, Format, Serializer};
 use std::alloc::Global;
@@ -103,7 +104,7 @@ fn item<T: DeserializeOwned>(alloc: Global, piece: &str) -> Result<T> {
     let mut from = Deserializer::new(piece.as_bytes(), &mut format);
     match T::deserialize_owned(alloc, &mut from) {
         Ok(item) => Ok(item),
-        Err(Error::OutOfMemory) => Err(Error::OutOfMemory),
+        Err(ReadError::OutOfMemory) => Err(Error::OutOfMemory),
         Err(_) => Err(Error::custom(alloc, format_args!("invalid item `{piece}`"), &())),
     }
 }

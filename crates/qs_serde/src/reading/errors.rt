@@ -1,8 +1,9 @@
 //! The errors of values that don't fit their types.
 
 ghost use Rattle.std.specs.Prelude.{Bool};
+ghost use Rattle.std.specs.Str.{is_utf8};
 ghost use Rattle.qs_tree.specs.tree.Views.{tree_of};
-ghost use Rattle.qs_data.specs.read.Errors.{IsCustomOrOutOfMemory};
+ghost use Rattle.qs_data.specs.read.internal.ReadError.{ReadIsCustom};
 ghost use Rattle.qs_data.specs.read.TreeText.{is_text};
 ghost use Rattle.qs_serde.specs.Errors.{IsStepError};
 ghost use Rattle.qs_serde.specs.Nodes.{node_tree};
@@ -10,16 +11,17 @@ ghost use Rattle.qs_serde.specs.Nodes.{node_tree};
 use super::format::{Asked, TreeFormat};
 use super::node::{Node, Part, entries_in};
 use itoa::Buffer;
-use qs_data::{Shape, Width};
+use qs_data::{ReadError, Shape, Width};
 use qs_tree::{Error, Key, ParsedValue};
+use std::fmt::Display;
 use std::str;
 
 impl<'t, 'qs> TreeFormat<'t, 'qs> {
     /// Returns the error of a value that doesn't fit its type, if no more is known.
     #[cold]
     #[inline(never)]
-    pub(crate) fn no_value(&self) -> Error
-        ensures { IsCustomOrOutOfMemory result }
+    pub(crate) fn no_value(&self) -> ReadError
+        ensures { ReadIsCustom result }
     {
         self.saying("invalid value")
     }
@@ -27,8 +29,8 @@ impl<'t, 'qs> TreeFormat<'t, 'qs> {
     /// Returns the error of a text that isn't a number.
     #[cold]
     #[inline(never)]
-    pub(crate) fn no_number(&self) -> Error
-        ensures { IsCustomOrOutOfMemory result }
+    pub(crate) fn no_number(&self) -> ReadError
+        ensures { ReadIsCustom result }
     {
         self.saying("invalid type: string, expected a number")
     }
@@ -37,7 +39,7 @@ impl<'t, 'qs> TreeFormat<'t, 'qs> {
     #[cold]
     #[inline(never)]
     #[tactic(auto, using(crate::proofs::Errors::step_errors))]
-    pub(crate) fn not_borrowed(&self, node: Node<'t, 'qs>) -> Error
+    pub(crate) fn not_borrowed(&self, node: Node<'t, 'qs>) -> ReadError
         ensures { IsStepError (is_text (node_tree node.entry)) result }
     {
         match self.read_key(node, &Shape::Text) {
@@ -49,12 +51,12 @@ impl<'t, 'qs> TreeFormat<'t, 'qs> {
     /// Returns the error of a value that doesn't fit its type, by what the type requested.
     #[cold]
     #[inline(never)]
-    pub(crate) fn unfit(&self) -> Error {
+    pub(crate) fn unfit(&self) -> ReadError {
         let found = match self.asked {
             Asked::Unit | Asked::Key => self.misfit(self.part, &Shape::Unit),
             Asked::Unsigned(part) => self.misfit(part, &unsigned_shape(self.search.width)),
             Asked::Signed(part) => self.misfit(part, &signed_shape(self.search.width)),
-            Asked::Enum => Some(self.reader.not_an_enum(self.node)),
+            Asked::Enum => Some(ReadError::of(self.reader.not_an_enum(self.node))),
             Asked::Variant => Some(self.saying(
                 "invalid type: unit variant, expected a variant that holds a value",
             )),
@@ -68,7 +70,7 @@ impl<'t, 'qs> TreeFormat<'t, 'qs> {
     }
 
     /// Returns the error of the number that was requested last, if this width doesn't hold it.
-    pub(crate) fn number_misfit(&self, width: Width) -> Option<Error> {
+    pub(crate) fn number_misfit(&self, width: Width) -> Option<ReadError> {
         match self.asked {
             Asked::Unsigned(part) => self.misfit(part, &unsigned_shape(width)),
             Asked::Signed(part) => self.misfit(part, &signed_shape(width)),
@@ -77,58 +79,63 @@ impl<'t, 'qs> TreeFormat<'t, 'qs> {
     }
 
     // Returns the error of a part, if this shape doesn't read it.
-    fn misfit(&self, part: Part, shape: &Shape) -> Option<Error> {
+    fn misfit(&self, part: Part, shape: &Shape) -> Option<ReadError> {
         self.read_key(self.part(part), shape).err()
     }
 
-    // Returns the error with this message.
+    /// Returns the error with this message.
     #[tactic(auto, using(crate::proofs::Errors::step_errors))]
-    fn saying(&self, message: &'static str) -> Error
-        ensures { IsCustomOrOutOfMemory result }
+    pub(crate) fn saying<T: Display + Drop>(&self, message: T) -> ReadError
+        ensures { ReadIsCustom result }
     {
-        Error::custom(self.reader.alloc, message, &())
+        ReadError::of(Error::custom(self.reader.alloc, message, &()))
     }
 
     /// Returns the error of a node that names no variant.
     #[cold]
     #[inline(never)]
     #[tactic(auto, using(crate::proofs::Errors::step_errors))]
-    pub(crate) fn no_variant(&self, node: Node<'t, 'qs>) -> Error
+    pub(crate) fn no_variant(&self, node: Node<'t, 'qs>) -> ReadError
         ensures { IsStepError (is_text (node_tree node.entry)) result }
     {
         match node {
-            Node::Value(ParsedValue::String(text)) => {
-                self.reader.unknown_variant(text.as_slice())
-            }
-            Node::Value(ParsedValue::Null) => self.reader.unknown_variant(&[]),
-            Node::Value(value) => self.reader.not_an_enum(value),
-            Node::Key(Key::String(text)) => self.reader.unknown_variant(text.as_slice()),
+            Node::Value(ParsedValue::String(text)) => self.unnamed_variant(text.as_slice()),
+            Node::Value(ParsedValue::Null) => self.unnamed_variant(&[]),
+            Node::Value(value) => ReadError::of(self.reader.not_an_enum(value)),
+            Node::Key(Key::String(text)) => self.unnamed_variant(text.as_slice()),
             Node::Key(Key::Int(number)) => {
                 let mut buffer = Buffer::new();
-                self.reader
-                    .unknown_variant(buffer.format(*number).as_bytes())
+                self.unnamed_variant(buffer.format(*number).as_bytes())
             }
-            Node::EmptyKey | Node::NoValue => self.reader.unknown_variant(&[]),
+            Node::EmptyKey | Node::NoValue => self.unnamed_variant(&[]),
         }
+    }
+
+    // Returns the error of a text that names no variant.
+    #[tactic(auto, using(crate::proofs::Errors::step_errors))]
+    fn unnamed_variant(&self, name: &[u8]) -> ReadError
+        ensures { IsStepError (is_utf8 name.now) result }
+    {
+        ReadError::of(self.reader.unknown_variant(name))
     }
 
     /// Returns the error of a key of this map that isn't UTF-8.
     #[cold]
     #[inline(never)]
     #[tactic(auto, using(crate::proofs::Errors::step_errors))]
-    pub(crate) fn broken_key(&self, map: &ParsedValue<'_>) -> Error
+    pub(crate) fn broken_key(&self, map: &ParsedValue<'_>) -> ReadError
         ensures { IsStepError (is_text (tree_of map.now)) result }
     {
         match entries_in(map).test() {
             Ok(()) => self.no_value(),
-            Err(key) => key.into_error(self.reader.alloc),
+            Err(key) => ReadError::of(key.into_error(self.reader.alloc)),
         }
     }
 
     /// Returns the error of a key that names no field.
     #[cold]
     #[inline(never)]
-    pub(crate) fn no_field(&self) -> Error {
+    pub(crate) fn no_field(&self) -> ReadError {
         let key = self.key();
         let error = match key {
             Node::Key(Key::Int(number)) => self.unknown_field(buffered(
@@ -137,7 +144,7 @@ impl<'t, 'qs> TreeFormat<'t, 'qs> {
             )),
             Node::Key(Key::String(text)) => match str::from_utf8(text.as_slice()) {
                 Ok(name) => self.unknown_field(name),
-                Err(cause) => Error::Utf8(cause),
+                Err(cause) => ReadError::Utf8(cause),
             },
             _ => self.unknown_field(""),
         };
@@ -145,27 +152,26 @@ impl<'t, 'qs> TreeFormat<'t, 'qs> {
     }
 
     // Returns the error of a key with this text, which names no field.
-    fn unknown_field(&self, name: &str) -> Error {
-        let message = format_args!("unknown field `{name}`");
-        Error::custom(self.reader.alloc, message, &())
+    fn unknown_field(&self, name: &str) -> ReadError {
+        self.saying(format_args!("unknown field `{name}`"))
     }
 
     /// Returns the error of a node, with a hint if the node is a key that contains a bracket.
     #[cold]
     #[inline(never)]
     #[tactic(auto, using(crate::proofs::Errors::step_errors))]
-    pub(crate) fn hinted(&self, node: Node<'t, 'qs>, error: Error) -> Error
+    pub(crate) fn hinted(&self, node: Node<'t, 'qs>, error: ReadError) -> ReadError
         ensures { (all_text : Bool) → IsStepError all_text error → IsStepError all_text result }
     {
-        if !node.has_bracket() || matches!(error, Error::OutOfMemory) {
+        if !node.has_bracket() || matches!(error, ReadError::OutOfMemory) {
             return error;
         }
-        let message = format_args!(
-            "{error}\n\
+        self.saying(format_args!(
+            "{}\n\
             Invalid field contains an encoded bracket -- consider using form encoding mode\n\
-            \u{20} https://docs.rs/serde_qs/latest/serde_qs/#query-string-vs-form-encoding"
-        );
-        Error::custom(self.reader.alloc, message, &())
+            \u{20} https://docs.rs/serde_qs/latest/serde_qs/#query-string-vs-form-encoding",
+            Error::from(error)
+        ))
     }
 }
 

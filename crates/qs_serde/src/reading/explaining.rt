@@ -1,29 +1,36 @@
 //! The error that comes first, and its path: the tree is read again, with fields in their own order.
 
+ghost use Rattle.qs_data.specs.read.Errors.{IsOfReading};
+
 use super::format::{Asked, Search, TreeFormat, read_tree};
 use super::path_error::PathError;
+use super::{ReadError, Result};
 use qs_data::Width;
-use qs_tree::{Config, Error, ParsedValue, Result};
+use qs_tree::{Config, ParsedValue};
 use serde::Deserialize;
 use std::alloc::Global;
 
 /// Returns why a tree isn't read, after a read that failed with this error.
+#[cold]
+#[inline(never)]
 pub(crate) fn explained<'de, T: Deserialize<'de>>(
     alloc: Global,
     config: Config,
     input: &'de [u8],
     tree: &ParsedValue<'_>,
-    error: Error,
-) -> PathError {
+    error: ReadError,
+) -> PathError
+    ensures { IsOfReading result.error }
+{
     let path = String::new(alloc);
-    if matches!(error, Error::OutOfMemory) {
-        return PathError { path, error };
+    if matches!(error, ReadError::OutOfMemory) {
+        return PathError::new(path, error);
     }
     let mut format = TreeFormat::new(alloc, config, tree);
     format.search.in_order = true;
     let read: Result<T> = read_tree(alloc, input, &mut format);
     match read {
-        Ok(_) => PathError { path, error },
+        Ok(_) => PathError::new(path, error),
         Err(error) => located::<T>(alloc, config, input, tree, &format, error),
     }
 }
@@ -35,16 +42,15 @@ fn located<'de, T: Deserialize<'de>>(
     input: &'de [u8],
     tree: &ParsedValue<'_>,
     format: &TreeFormat<'_, '_>,
-    error: Error,
-) -> PathError {
+    error: ReadError,
+) -> PathError
+    ensures { IsOfReading result.error }
+{
     let Ok(path) = format.path() else {
-        return PathError {
-            path: String::new(alloc),
-            error: Error::OutOfMemory,
-        };
+        return PathError::new(String::new(alloc), ReadError::OutOfMemory);
     };
     if !matches!(format.asked, Asked::Unsigned(_) | Asked::Signed(_)) {
-        return PathError { path, error };
+        return PathError::new(path, error);
     }
     for width in [Width::Bits8, Width::Bits16, Width::Bits32] {
         let search = Search {
@@ -53,10 +59,10 @@ fn located<'de, T: Deserialize<'de>>(
             ..format.search
         };
         if let Some(error) = probed::<T>(alloc, config, input, tree, search) {
-            return PathError { path, error };
+            return PathError::new(path, error);
         }
     }
-    PathError { path, error }
+    PathError::new(path, error)
 }
 
 // Reads the tree with a number given as one that this width doesn't hold. If the read fails at that number, the number is of this width:
@@ -67,7 +73,7 @@ fn probed<'de, T: Deserialize<'de>>(
     input: &'de [u8],
     tree: &ParsedValue<'_>,
     search: Search,
-) -> Option<Error> {
+) -> Option<ReadError> {
     let mut format = TreeFormat::new(alloc, config, tree);
     format.search = Search {
         numbers: 0,
@@ -87,9 +93,9 @@ fn probed<'de, T: Deserialize<'de>>(
 }
 
 // Returns whether two errors print the same.
-fn have_one_text(a: &Error, b: &Error) -> bool {
+fn have_one_text(a: &ReadError, b: &ReadError) -> bool {
     match (a, b) {
-        (Error::Custom(a), Error::Custom(b)) => a == b,
+        (ReadError::Custom(a), ReadError::Custom(b)) => a == b,
         _ => false,
     }
 }

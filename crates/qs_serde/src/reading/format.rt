@@ -3,16 +3,17 @@
 ghost use Rattle.std.specs.Prelude.{◌≡◌, ◌≢◌, ◌<◌, ◌-◌, ◌++◌, ◌∷◌, [], false, suc, true, Some, slice_get, IfErr, IfOk, OnOk};
 ghost use Rattle.qs_spec.specs.Config.{are_rejected};
 ghost use Rattle.qs_tree.specs.tree.Views.{tree_of};
-ghost use Rattle.qs_tree.specs.declared.error.Error.TheVariants.{OutOfMemory};
-ghost use Rattle.qs_data.specs.read.Gives.{Gives};
+ghost use Rattle.qs_data.specs.declared.read.error.ReadError.TheVariants.{OutOfMemory};
+ghost use Rattle.qs_data.specs.read.internal.ReadError.{ReadGives};
 ghost use Rattle.qs_serde.specs.Nodes.{key_tree, node_tree, pairs_in};
 ghost use Rattle.qs_serde.specs.Places.{IsAt, around, child_at, kind_of, last_frame, part_view, passed, tree_at};
 ghost use Rattle.qs_serde.specs.Steps.{Begins, IsPlain, Leaves, Moves, Takes, next_node};
 
+use super::Result;
 use super::frame::{Frame, FrameKind};
 use super::node::{Node, Part, entry_at, last_of};
 use qs_data::{Reader, Width};
-use qs_tree::{Config, ParsedValue, Result};
+use qs_tree::{Config, ParsedValue};
 use serde::{Deserialize, Deserializer};
 use std::alloc::Global;
 
@@ -177,7 +178,7 @@ impl<'t, 'qs> TreeFormat<'t, 'qs> {
     /// Returns the node that is next, or an error if a key is next.
     #[tactic(auto, using(crate::proofs::Errors::rejects_custom))]
     pub(crate) fn next_node(&self) -> Result<&'t ParsedValue<'qs>>
-        ensures node { Gives (λ v. tree_of v.now) true result (next_node self.now) }
+        ensures node { ReadGives (λ v. tree_of v.now) true result (next_node self.now) }
         ensures same { IfOk result (λ v. v.now ≡ self.now.node.now) }
     {
         match self.part {

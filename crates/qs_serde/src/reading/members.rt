@@ -2,7 +2,7 @@
 
 ghost use Rattle.std.specs.Prelude.{◌≡◌, true, ℕ, ◌≢◌, [], Ok, None, Some, IfErr, IfOk, OnOk, IfSome, IfNone, MatchBool, MatchOption, slice_get};
 ghost use Rattle.qs_tree.specs.tree.Views.{tree_of};
-ghost use Rattle.qs_data.specs.read.Gives.{Gives};
+ghost use Rattle.qs_data.specs.read.internal.ReadError.{ReadGives};
 ghost use Rattle.qs_data.specs.read.TreeText.{is_text};
 ghost use Rattle.qs_serde.specs.Errors.{IsStepError};
 ghost use Rattle.qs_serde.specs.Nodes.{pairs_in};
@@ -13,7 +13,8 @@ use super::format::{Asked, TreeFormat};
 use super::frame::{Frame, FrameKind};
 use super::names::{find_node, first_name};
 use super::node::{Node, Part, entry_at, item_at};
-use qs_tree::{ParsedValue, Result};
+use super::{ReadError, Result};
+use qs_tree::ParsedValue;
 use serde::Name;
 
 impl<'t, 'qs> TreeFormat<'t, 'qs> {
@@ -206,7 +207,7 @@ impl<'t, 'qs> TreeFormat<'t, 'qs> {
     /// Returns the kind of frame by which what is next is read as a struct. A text holds fields only in a variant, under the empty key.
     #[tactic(auto, using(crate::proofs::Errors::rejects_custom, crate::proofs::Errors::rejects_further))]
     pub(crate) fn kind_of_struct(&self) -> Result<FrameKind>
-        ensures exact { Gives (λ kind. kind) (is_text (tree_of self.now.node.now)) result (next_struct self.now) }
+        ensures exact { ReadGives (λ kind. kind) (is_text (tree_of self.now.node.now)) result (next_struct self.now) }
         ensures parts { IfOk result (λ kind. HasParts kind (tree_of self.now.node.now)) }
         ensures node { OnOk result (next_node self.now ≡ Some (tree_of self.now.node.now)) }
     {
@@ -215,8 +216,8 @@ impl<'t, 'qs> TreeFormat<'t, 'qs> {
             ParsedValue::NoValue | ParsedValue::Null | ParsedValue::Map(_) => Ok(FrameKind::Fields),
             ParsedValue::Sequence(_) => Ok(FrameKind::Places),
             ParsedValue::String(_) if self.part == Part::Held => Ok(FrameKind::Fields),
-            ParsedValue::String(_) => Err(self.reader.not_a_struct(node)),
-            ParsedValue::Uninitialized => Err(self.reader.nothing()),
+            ParsedValue::String(_) => Err(ReadError::of(self.reader.not_a_struct(node))),
+            ParsedValue::Uninitialized => Err(ReadError::of(self.reader.nothing())),
         }
     }
 }

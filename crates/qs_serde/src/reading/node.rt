@@ -9,15 +9,16 @@ ghost use Rattle.qs_data.specs.data.Views.{data_of};
 ghost use Rattle.qs_data.specs.shape.Views.{shape_of};
 ghost use Rattle.qs_data.specs.read.Items.{first_item, items_view};
 ghost use Rattle.qs_data.specs.read.Reads.{reads};
-ghost use Rattle.qs_data.specs.read.Gives.{Gives};
+ghost use Rattle.qs_data.specs.read.internal.ReadError.{ReadGives};
 ghost use Rattle.qs_data.specs.read.Keys.{entries_view};
 ghost use Rattle.qs_data.specs.read.TreeText.{is_text};
 ghost use Rattle.qs_serde.specs.Nodes.{IsEntry, listed, node_tree, pairs_in};
 ghost use Rattle.qs_serde.specs.Places.{child_at, item_or, last_part, value_or};
 
+use super::{ReadError, Result};
 use itoa::Buffer;
 use qs_data::{Data, Entries, Items, Reader, Shape};
-use qs_tree::{Key, ParsedValue, Result};
+use qs_tree::{Key, ParsedValue};
 use std::borrow::CowSlice;
 
 /// What the next step reads.
@@ -56,17 +57,20 @@ fn text_node(bytes: &[u8]) -> ParsedValue<'_>
 impl<'t, 'qs> Node<'t, 'qs> {
     /// Reads the node by a shape. A key is read as its text.
     pub(crate) fn read(self, reader: Reader, shape: &Shape) -> Result<Data>
-        ensures { Gives data_of (is_text (node_tree self.entry)) result (reads reader.reject_duplicates (shape_of shape.now) (node_tree self.entry)) }
+        ensures { ReadGives data_of (is_text (node_tree self.entry)) result (reads reader.reject_duplicates (shape_of shape.now) (node_tree self.entry)) }
     {
         match self {
-            Node::Value(value) => reader.read(shape, value),
-            Node::NoValue => reader.read(shape, &ParsedValue::NoValue),
-            Node::EmptyKey => reader.read(shape, &text_node(&[])),
+            Node::Value(value) => ReadError::of_result(reader.read(shape, value)),
+            Node::NoValue => ReadError::of_result(reader.read(shape, &ParsedValue::NoValue)),
+            Node::EmptyKey => ReadError::of_result(reader.read(shape, &text_node(&[]))),
             Node::Key(Key::Int(number)) => {
                 let mut buffer = Buffer::new();
-                reader.read(shape, &text_node(buffer.format(*number).as_bytes()))
+                let digits = buffer.format(*number).as_bytes();
+                ReadError::of_result(reader.read(shape, &text_node(digits)))
             }
-            Node::Key(Key::String(text)) => reader.read(shape, &text_node(text.as_slice())),
+            Node::Key(Key::String(text)) => {
+                ReadError::of_result(reader.read(shape, &text_node(text.as_slice())))
+            }
         }
     }
 
@@ -86,12 +90,12 @@ pub(crate) fn item_at<'t, 'qs>(
     value: &'t ParsedValue<'qs>,
     at: usize,
 ) -> Result<Option<&'t ParsedValue<'qs>>>
-    ensures item { Gives (option_map (λ v. tree_of v.now)) true result (first_item (drop at (listed (tree_of value.now)))) }
+    ensures item { ReadGives (option_map (λ v. tree_of v.now)) true result (first_item (drop at (listed (tree_of value.now)))) }
     ensures index { IfOk result (λ item. IfSome item (λ _. at < 18446744073709551615)) }
 {
     let items = items_in(value);
     if at < items.len() {
-        items.get(reader, at)
+        ReadError::of_result(items.get(reader, at))
     } else {
         Ok(None)
     }

@@ -10,8 +10,8 @@ ghost use Rattle.qs_serde.specs.Steps.{HasText, Is, IsPlain, Notes, Takes};
 
 use super::format::{Asked, Search, TreeFormat};
 use super::node::Node;
+use super::{ReadError, Result};
 use qs_data::{Data, Shape, Width};
-use qs_tree::{Error, Result};
 use std::str;
 
 impl Search {
@@ -59,7 +59,7 @@ impl<'t, 'qs> TreeFormat<'t, 'qs> {
             return Ok(past_signed(self.search.width));
         }
         let read = match node {
-            Node::Value(value) => self.reader.signed(Width::Bits64, value),
+            Node::Value(value) => ReadError::of_result(self.reader.signed(Width::Bits64, value)),
             node => self.read_key(node, &Shape::I64),
         };
         match read? {
@@ -82,7 +82,7 @@ impl<'t, 'qs> TreeFormat<'t, 'qs> {
             return Ok(past_unsigned(self.search.width));
         }
         let read = match node {
-            Node::Value(value) => self.reader.unsigned(Width::Bits64, value),
+            Node::Value(value) => ReadError::of_result(self.reader.unsigned(Width::Bits64, value)),
             node => self.read_key(node, &Shape::U64),
         };
         match read? {

@@ -3,8 +3,8 @@
 ghost use Rattle.std.specs.Prelude.{◌≡◌};
 ghost use Rattle.qs_data.specs.read.Errors.{IsOfReading};
 
+use qs_data::ReadError;
 use qs_tree::Error;
-use std::alloc::Global;
 use std::fmt;
 
 /// An error of reading, with the path to the part that isn't read.
@@ -25,18 +25,14 @@ pub struct PathError {
 }
 
 impl PathError {
-    /// Returns the error of a read. An error of the type's own code becomes `Custom`, with its message, if no step returns such an error.
-    #[cold]
-    #[inline(never)]
-    pub(crate) fn of_reading(self, alloc: Global) -> PathError
+    /// Returns an error of reading with its path.
+    pub(crate) fn new(path: String, error: ReadError) -> PathError
         ensures { IsOfReading result.error }
     {
-        let PathError { path, error } = self;
-        let error = match error {
-            Error::Custom(_) | Error::Utf8(_) | Error::OutOfMemory => error,
-            _ => Error::custom(alloc, error, &()),
-        };
-        PathError { path, error }
+        PathError {
+            path,
+            error: Error::from(error),
+        }
     }
 }
 

@@ -18,9 +18,10 @@ ghost use Rattle.qs_serde.specs.Steps.{Is, Takes};
 
 use super::format::TreeFormat;
 use super::node::Node;
+use super::{ReadError, Result};
 use memchr::memmem;
 use qs_data::{Data, Reader, Shape};
-use qs_tree::{Error, Key, ParsedValue, Result};
+use qs_tree::{Key, ParsedValue};
 use std::borrow::CowSlice;
 use std::str;
 
@@ -56,7 +57,7 @@ impl<'t, 'qs> TreeFormat<'t, 'qs> {
         ensures errors { IfErr result (IsStepError (is_text (tree_at self.old))) }
     {
         let read = match self.take() {
-            Node::Value(value) => self.reader.text(value),
+            Node::Value(value) => ReadError::of_result(self.reader.text(value)),
             node => self.read_key(node, &Shape::Text),
         };
         match read? {
@@ -139,6 +140,6 @@ pub(crate) fn test_utf8(text: &[u8]) -> Result<()>
 {
     match str::from_utf8(text) {
         Ok(_) => Ok(()),
-        Err(cause) => Err(Error::Utf8(cause)),
+        Err(cause) => Err(ReadError::Utf8(cause)),
     }
 }

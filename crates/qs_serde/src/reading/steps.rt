@@ -5,7 +5,7 @@ ghost use Rattle.qs_spec.specs.Leaf.Leaf.{NoValue};
 ghost use Rattle.qs_spec.specs.Tree.Tree.{leaf};
 ghost use Rattle.serde.specs.Event.{boolean, signed, unsigned, single, double, character, text, octets, key_begins, map_begins, map_ends, nothing, seq_begins, seq_ends};
 ghost use Rattle.qs_tree.specs.tree.Views.{tree_of};
-ghost use Rattle.qs_data.specs.read.Gives.{Rejects};
+ghost use Rattle.qs_data.specs.read.internal.ReadError.{ReadRejects};
 ghost use Rattle.qs_data.specs.read.TreeText.{is_text};
 ghost use Rattle.qs_serde.specs.Errors.{IsStepError};
 ghost use Rattle.qs_serde.specs.Places.{tree_at};
@@ -16,14 +16,15 @@ use super::frame::FrameKind;
 use super::names::find_node;
 use super::node::{Node, Part};
 use super::scalars::{borrowed_text, test_utf8};
+use super::{ReadError, Result};
 use qs_data::{Data, Shape};
-use qs_tree::{Error, ParsedValue, Result};
+use qs_tree::ParsedValue;
 use serde::{Format, Kind, Name};
 use std::alloc::Global;
 
 #[tactic(auto, using(crate::proofs::Errors::step_errors))]
 impl<'t, 'qs> Format for TreeFormat<'t, 'qs> {
-    type Error = Error;
+    type Error = ReadError;
 
     type Mark = Mark;
 
@@ -38,7 +39,7 @@ impl<'t, 'qs> Format for TreeFormat<'t, 'qs> {
         ensures errors { IfErr result (IsStepError (is_text (tree_at self.old))) }
     {
         let read = match self.take() {
-            Node::Value(value) => self.reader.boolean(value),
+            Node::Value(value) => ReadError::of_result(self.reader.boolean(value)),
             node => self.read_key(node, &Shape::Bool),
         };
         match read? {
@@ -69,7 +70,7 @@ impl<'t, 'qs> Format for TreeFormat<'t, 'qs> {
         let part = self.part;
         match self.signed() {
             Ok(value) => return Ok(i128::from(value)),
-            Err(Error::OutOfMemory) => return Err(Error::OutOfMemory),
+            Err(ReadError::OutOfMemory) => return Err(ReadError::OutOfMemory),
             Err(_) => {}
         }
         self.part = part;
@@ -83,7 +84,7 @@ impl<'t, 'qs> Format for TreeFormat<'t, 'qs> {
         let part = self.part;
         match self.unsigned() {
             Ok(value) => return Ok(u128::from(value)),
-            Err(Error::OutOfMemory) => return Err(Error::OutOfMemory),
+            Err(ReadError::OutOfMemory) => return Err(ReadError::OutOfMemory),
             Err(_) => {}
         }
         self.part = part;
@@ -167,7 +168,7 @@ impl<'t, 'qs> Format for TreeFormat<'t, 'qs> {
             Part::Key => Ok(Kind::Str),
             Part::NoValue => Ok(Kind::Unit),
             Part::Value | Part::Held => match self.node {
-                ParsedValue::Uninitialized => Err(self.reader.nothing()),
+                ParsedValue::Uninitialized => Err(ReadError::of(self.reader.nothing())),
                 ParsedValue::Null | ParsedValue::NoValue => Ok(Kind::Unit),
                 ParsedValue::String(_) => Ok(Kind::Str),
                 ParsedValue::Sequence(_) => Ok(Kind::Seq),
@@ -205,7 +206,7 @@ impl<'t, 'qs> Format for TreeFormat<'t, 'qs> {
                     self.part = Part::NoValue;
                     Ok(false)
                 }
-                ParsedValue::Uninitialized => Err(self.reader.nothing()),
+                ParsedValue::Uninitialized => Err(ReadError::of(self.reader.nothing())),
                 _ => Ok(false),
             },
         }
@@ -214,10 +215,10 @@ impl<'t, 'qs> Format for TreeFormat<'t, 'qs> {
     #[tactic(auto, using(crate::proofs::Errors::begin_errors, crate::proofs::Places::has_items))]
     fn begin_seq(&mut self, _input: &[u8]) -> Result<()>
         ensures step { OnOk result (Reads self.old (seq_begins None) self.new) }
-        ensures errors { IfErr result (λ e. Rejects true e (next_items self.old)) }
+        ensures errors { IfErr result (λ e. ReadRejects true e (next_items self.old)) }
     {
         let node = self.next_node()?;
-        self.reader.items(node)?;
+        ReadError::of_result(self.reader.items(node))?;
         self.open(FrameKind::Items)
     }
 
@@ -245,10 +246,10 @@ impl<'t, 'qs> Format for TreeFormat<'t, 'qs> {
     #[tactic(auto, using(crate::proofs::Errors::begin_errors, crate::proofs::Places::has_map))]
     fn begin_map(&mut self, _input: &[u8]) -> Result<()>
         ensures step { OnOk result (Reads self.old (map_begins None) self.new) }
-        ensures errors { IfErr result (λ e. Rejects true e (next_entries self.old)) }
+        ensures errors { IfErr result (λ e. ReadRejects true e (next_entries self.old)) }
     {
         let node = self.next_node()?;
-        self.reader.entries(node)?;
+        ReadError::of_result(self.reader.entries(node))?;
         self.open(FrameKind::Map)
     }
 
@@ -258,7 +259,7 @@ impl<'t, 'qs> Format for TreeFormat<'t, 'qs> {
     fn begin_struct(&mut self, _input: &[u8]) -> Result<bool>
         ensures step { IfOk result (λ b. BeginsAfterLook self.old b self.new) }
         ensures kind { OnOk result (BeginsStruct self.old self.new) }
-        ensures errors { IfErr result (λ e. Rejects (is_text (tree_of self.old.node.now)) e (next_struct self.old)) }
+        ensures errors { IfErr result (λ e. ReadRejects (is_text (tree_of self.old.node.now)) e (next_struct self.old)) }
     {
         let kind = self.kind_of_struct()?;
         self.open(kind)?;
@@ -350,49 +351,49 @@ impl<'t, 'qs> Format for TreeFormat<'t, 'qs> {
 
     fn release(&mut self, _mark: Mark) {}
 
-    fn is_fatal(&self, error: &Error) -> bool {
-        matches!(error, Error::OutOfMemory)
+    fn is_fatal(&self, error: &ReadError) -> bool {
+        matches!(error, ReadError::OutOfMemory)
     }
 
     // A sequence that is read as a struct lacks an item rather than a name.
-    fn missing(&self, name: &str) -> Error {
+    fn missing(&self, name: &str) -> ReadError {
         if self.lacks_items {
-            self.reader.missing_item(self.count)
+            ReadError::of(self.reader.missing_item(self.count))
         } else {
-            self.reader.missing_field(name)
+            ReadError::of(self.reader.missing_field(name))
         }
     }
 
-    fn duplicate(&self, name: &str) -> Error {
-        self.reader.duplicate_field(name)
+    fn duplicate(&self, name: &str) -> ReadError {
+        ReadError::of(self.reader.duplicate_field(name))
     }
 
-    fn unknown_key(&self) -> Error {
+    fn unknown_key(&self) -> ReadError {
         self.no_field()
     }
 
     // The text was looked up among the names, or the current key.
-    fn unknown_variant(&self) -> Error {
+    fn unknown_variant(&self) -> ReadError {
         match self.asked {
             Asked::Variant => self.no_variant(Node::Value(self.node)),
             Asked::Key => self.no_variant(self.key()),
-            _ => Error::custom(self.reader.alloc, "unknown variant", &()),
+            _ => self.saying("unknown variant"),
         }
     }
 
-    fn wrong_len(&self) -> Error {
-        self.reader.missing_item(self.count)
+    fn wrong_len(&self) -> ReadError {
+        ReadError::of(self.reader.missing_item(self.count))
     }
 
-    fn invalid(&self) -> Error {
+    fn invalid(&self) -> ReadError {
         self.unfit()
     }
 
-    fn no_memory(&self) -> Error {
-        Error::OutOfMemory
+    fn no_memory(&self) -> ReadError {
+        ReadError::OutOfMemory
     }
 
-    fn custom(&self, message: &str) -> Error {
-        Error::custom(self.reader.alloc, message, &())
+    fn custom(&self, message: &str) -> ReadError {
+        self.saying(message)
     }
 }

@@ -2,13 +2,21 @@
 
 ghost use Rattle.qs_serde.specs.Placed.{IsMemory};
 
-use qs_data::{Stop, Writer};
-use qs_tree::Error;
-use std::alloc::{AllocError, AllocFailed};
+use qs_data::Stop;
+use qs_tree::{Config, Error};
+use std::alloc::{AllocError, AllocFailed, Global};
 
-/// Why an event isn't written. It is small, since each step returns one; [`into_error`](Halt::into_error) makes an [`Error`] of it.
+/// Why an event isn't written.
+///
+/// It is small, since each step of a serializer returns one. [`into_error`](Halt::into_error) makes an [`Error`] of it.
+///
+/// ```
+/// query.serialize(&mut serializer)?; // Err(Halt::Stopped(Stop::TooDeep)) if the value nests deeper than is allowed
+/// ```
 #[derive(Drop)]
-pub(crate) enum Halt {
+pub enum Halt {
+    /// The type's own code rejects the value, with this message.
+    Custom(String),
     /// The event isn't allowed here, for this reason.
     Misplaced(&'static str),
     /// The writer stopped, or an allocation failed.
@@ -18,13 +26,20 @@ pub(crate) enum Halt {
 }
 
 impl Halt {
-    /// Returns the error for a value that this writer writes.
+    /// Returns the error of a value that was written under this configuration: [`Custom`](Error::Custom),
+    /// [`MaxSerializationDepthExceeded`](Error::MaxSerializationDepthExceeded), [`Unsupported`](Error::Unsupported),
+    /// [`Failed`](Error::Failed) or [`OutOfMemory`](Error::OutOfMemory). It allocates only for the message of a misplaced event.
+    ///
+    /// ```
+    /// Err(halt) => Err(halt.into_error(alloc, config)),
+    /// ```
     #[cold]
     #[inline(never)]
-    pub(crate) fn into_error(self, writer: &Writer) -> Error {
+    pub fn into_error(self, alloc: Global, config: Config) -> Error {
         match self {
-            Halt::Misplaced(message) => Error::custom(writer.alloc, message, &()),
-            Halt::Stopped(stop) => stop.into_error(writer.config),
+            Halt::Custom(message) => Error::Custom(message),
+            Halt::Misplaced(message) => Error::custom(alloc, message, &()),
+            Halt::Stopped(stop) => stop.into_error(config),
             Halt::Failed => Error::Failed,
         }
     }

@@ -16,7 +16,6 @@ use super::halt::Halt;
 use super::log::{Log, Note};
 use super::position::Position;
 use qs_data::{Scalar, Stop};
-use qs_tree::Result;
 use ryu::{Buffer, Float};
 use serde::{Case, NameKind};
 use std::fmt::{Display, Write};
@@ -28,7 +27,7 @@ pub(crate) fn keep(
     log: &mut Log,
     made: Result<(), Halt>,
     note: &Note<'_>,
-) -> Result<()>
+) -> Result<(), Halt>
     ensures logs { OnOk result (IfSome (event_of note.now) (λ e. Logs log.old.events log.new.events e)) }
     ensures follows { (config : Settings) (before : At) (e : Event) → IsNoted note.now e → Moves (λ config. sent config e) made before position.old
         → Follows config log.old.events before → Follows config log.new.events position.new }
@@ -41,7 +40,7 @@ pub(crate) fn keep(
         Err(halt) => {
             *log = log.then(&Note::Lost);
             position.next = Next::Nothing;
-            Err(halt.into_error(&position.writer))
+            Err(halt)
         }
     }
 }

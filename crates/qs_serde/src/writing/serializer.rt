@@ -1,80 +1,80 @@
 //! The events that serde sends.
 
+use super::halt::Halt;
 use super::kept::{float, keep, key, printed, variant};
 use super::log::Note;
 use super::text::{Settings, TextSerializer};
 use itoa::Buffer;
-use qs_data::Scalar;
-use qs_tree::{Error, Result};
+use qs_data::{Scalar, Stop};
 use serde::{Case, NameKind, Serializer};
 use std::fmt::Display;
 
 impl<K: Settings> Serializer for TextSerializer<K> {
-    type Error = Error;
+    type Error = Halt;
 
     ghost written = { λ s. s.log.events };
 
-    fn bool(&mut self, v: bool) -> Result<()> {
+    fn bool(&mut self, v: bool) -> Result<(), Halt> {
         let made = self.position.scalar(Scalar::Bool(v));
         keep(&mut self.position, &mut self.log, made, &Note::Bool(v))
     }
 
-    fn i64(&mut self, v: i64) -> Result<()> {
+    fn i64(&mut self, v: i64) -> Result<(), Halt> {
         let made = self.position.scalar(Scalar::Signed(v));
         keep(&mut self.position, &mut self.log, made, &Note::I64(v))
     }
 
-    fn u64(&mut self, v: u64) -> Result<()> {
+    fn u64(&mut self, v: u64) -> Result<(), Halt> {
         let made = self.position.scalar(Scalar::Unsigned(v));
         keep(&mut self.position, &mut self.log, made, &Note::U64(v))
     }
 
-    fn i128(&mut self, v: i128) -> Result<()> {
+    fn i128(&mut self, v: i128) -> Result<(), Halt> {
         let made = self
             .position
             .scalar(Scalar::Bytes(Buffer::new().format(v).as_bytes()));
         keep(&mut self.position, &mut self.log, made, &Note::I128(v))
     }
 
-    fn u128(&mut self, v: u128) -> Result<()> {
+    fn u128(&mut self, v: u128) -> Result<(), Halt> {
         let made = self
             .position
             .scalar(Scalar::Bytes(Buffer::new().format(v).as_bytes()));
         keep(&mut self.position, &mut self.log, made, &Note::U128(v))
     }
 
-    fn f32(&mut self, v: f32) -> Result<()> {
+    fn f32(&mut self, v: f32) -> Result<(), Halt> {
         let made = float(&mut self.position, v);
         keep(&mut self.position, &mut self.log, made, &Note::Single(v))
     }
 
-    fn f64(&mut self, v: f64) -> Result<()> {
+    fn f64(&mut self, v: f64) -> Result<(), Halt> {
         let made = float(&mut self.position, v);
         keep(&mut self.position, &mut self.log, made, &Note::Double(v))
     }
 
-    fn char(&mut self, v: char) -> Result<()> {
+    fn char(&mut self, v: char) -> Result<(), Halt> {
         let made = self.position.scalar(Scalar::Char(v));
         keep(&mut self.position, &mut self.log, made, &Note::Char(v))
     }
 
-    fn str(&mut self, v: &str) -> Result<()> {
+    fn str(&mut self, v: &str) -> Result<(), Halt> {
         let made = self.position.scalar(Scalar::Bytes(v.as_bytes()));
         keep(&mut self.position, &mut self.log, made, &Note::Text(v))
     }
 
-    fn bytes(&mut self, v: &[u8]) -> Result<()> {
+    fn bytes(&mut self, v: &[u8]) -> Result<(), Halt> {
         let made = self.position.scalar(Scalar::Bytes(v));
         keep(&mut self.position, &mut self.log, made, &Note::Bytes(v))
     }
 
     // serde sends the same event for `None` and `()`. Both are written as no value.
-    fn unit(&mut self) -> Result<()> {
+    fn unit(&mut self) -> Result<(), Halt> {
         let made = self.position.nothing();
         keep(&mut self.position, &mut self.log, made, &Note::Unit)
     }
 
-    fn str_cased(&mut self, name: &str, case: Case) -> Result<()> {
+    fn str_cased(&mut self, name: &str, case: Case) -> Result<(), Halt> {
         let made = variant(&mut self.position, &mut self.room, name, case);
         keep(
             &mut self.position,
@@ -84,7 +84,7 @@ impl<K: Settings> Serializer for TextSerializer<K> {
         )
     }
 
-    fn begin_seq(&mut self, len: Option<usize>) -> Result<()> {
+    fn begin_seq(&mut self, len: Option<usize>) -> Result<(), Halt> {
         let made = self.position.begin_seq();
         keep(
             &mut self.position,
@@ -94,12 +94,12 @@ impl<K: Settings> Serializer for TextSerializer<K> {
         )
     }
 
-    fn end_seq(&mut self) -> Result<()> {
+    fn end_seq(&mut self) -> Result<(), Halt> {
         let made = self.position.end_seq();
         keep(&mut self.position, &mut self.log, made, &Note::EndSeq)
     }
 
-    fn begin_map(&mut self, len: Option<usize>) -> Result<()> {
+    fn begin_map(&mut self, len: Option<usize>) -> Result<(), Halt> {
         let made = self.position.begin_map();
         keep(
             &mut self.position,
@@ -109,12 +109,12 @@ impl<K: Settings> Serializer for TextSerializer<K> {
         )
     }
 
-    fn end_map(&mut self) -> Result<()> {
+    fn end_map(&mut self) -> Result<(), Halt> {
         let made = self.position.end_map();
         keep(&mut self.position, &mut self.log, made, &Note::EndMap)
     }
 
-    fn key_cased(&mut self, name: &str, case: Case) -> Result<()> {
+    fn key_cased(&mut self, name: &str, case: Case) -> Result<(), Halt> {
         let made = key(
             &mut self.position,
             &mut self.room,
@@ -130,7 +130,7 @@ impl<K: Settings> Serializer for TextSerializer<K> {
         )
     }
 
-    fn variant_key(&mut self, name: &str, case: Case) -> Result<()> {
+    fn variant_key(&mut self, name: &str, case: Case) -> Result<(), Halt> {
         let made = key(
             &mut self.position,
             &mut self.room,
@@ -146,26 +146,29 @@ impl<K: Settings> Serializer for TextSerializer<K> {
         )
     }
 
-    fn begin_key(&mut self) -> Result<()> {
+    fn begin_key(&mut self) -> Result<(), Halt> {
         let made = self.position.begin_key();
         keep(&mut self.position, &mut self.log, made, &Note::BeginKey)
     }
 
-    fn end_key(&mut self) -> Result<()> {
+    fn end_key(&mut self) -> Result<(), Halt> {
         let made = self.position.end_key();
         keep(&mut self.position, &mut self.log, made, &Note::EndKey)
     }
 
-    fn flatten_next(&mut self) -> Result<()> {
+    fn flatten_next(&mut self) -> Result<(), Halt> {
         let made = self.position.flatten();
         keep(&mut self.position, &mut self.log, made, &Note::Flatten)
     }
 
-    fn custom(&self, message: &str) -> Error {
-        Error::custom(self.position.writer.alloc, message, &())
+    fn custom(&self, message: &str) -> Halt {
+        match String::from_str(self.position.writer.alloc, message) {
+            Ok(message) => Halt::Custom(message),
+            Err(_) => Halt::Stopped(Stop::OutOfMemory),
+        }
     }
 
-    fn collect_str<T: Display>(&mut self, value: &T) -> Result<()> {
+    fn collect_str<T: Display>(&mut self, value: &T) -> Result<(), Halt> {
         let made = printed(&mut self.position, &mut self.room, value);
         keep(&mut self.position, &mut self.log, made, &Note::Lost)
     }

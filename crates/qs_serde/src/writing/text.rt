@@ -21,7 +21,7 @@ impl Settings for Brand {
 
 /// A [`Serializer`](serde::Serializer) that writes a querystring in memory, step by step.
 ///
-/// After an error nothing more is written: each step returns [`Failed`](qs_tree::Error::Failed). [`into_text`](TextSerializer::into_text)
+/// After an error nothing more is written: each step returns [`Failed`](crate::Halt::Failed). [`into_text`](TextSerializer::into_text)
 /// returns the text.
 ///
 /// ```

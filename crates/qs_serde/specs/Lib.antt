@@ -10,6 +10,7 @@ pub mod Sent
 pub mod Texts
 pub mod Sends
 pub mod Placed
+pub mod Halts
 pub mod Logged
 pub mod Noted
 pub mod Follows

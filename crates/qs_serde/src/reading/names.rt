@@ -1,6 +1,7 @@
 //! Names, and the texts and keys that match them.
 
-ghost use Rattle.std.specs.Prelude.{◌≡◌, ◌≤◌, false, decimal, HoldsAt, IfSome};
+ghost use Rattle.std.specs.Prelude.{◌≡◌, ◌≤◌, ◌↔◌, false, decimal, HoldsAt, IfSome, IsTrue};
+ghost use Rattle.serde.specs.Names.{StandsFor};
 ghost use Rattle.qs_spec.specs.Segment.{segment_text};
 ghost use Rattle.qs_tree.specs.tree.Views.{segment_of_key, tree_of};
 ghost use Rattle.qs_serde.specs.Nodes.{node_tree};
@@ -9,7 +10,7 @@ ghost use Rattle.qs_serde.specs.Lookups.{FindsText, LooksUp};
 use super::node::Node;
 use itoa::Buffer;
 use qs_tree::{Key, ParsedValue};
-use serde::Name;
+use serde::{Case, Name};
 use std::str;
 
 /// Returns the index of the name that a text or a key matches, or `usize::MAX` if it matches none. Returns `None` if it isn't UTF-8, or
@@ -55,10 +56,42 @@ fn find_value(names: &[Name<'_>], value: &ParsedValue<'_>) -> Option<usize>
 fn find_text(names: &[Name<'_>], text: &[u8]) -> Option<usize>
     ensures { IfSome result (λ at. FindsText names.now text.now at) }
 {
+    if let Some(at) = find_same(names, text) {
+        return Some(at);
+    }
     match str::from_utf8(text) {
         Ok(text) => Some(serde::find(names, text)),
         Err(_) => None,
     }
+}
+
+// Returns the index of the name that is this text, if each name up to it is matched only by itself. Such a text is UTF-8.
+fn find_same(names: &[Name<'_>], text: &[u8]) -> Option<usize>
+    ensures { IfSome result (λ at. FindsText names.now text.now at) }
+{
+    for at in 0..names.len() {
+        if is_same(&names[at], text)? {
+            return Some(at);
+        }
+    }
+    None
+}
+
+// Returns whether a name is this text, if it is matched only by itself.
+#[inline(always)]
+fn is_same(name: &Name<'_>, text: &[u8]) -> Option<bool>
+    ensures { IfSome result (λ b. IsTrue b ↔ StandsFor text.now name.now) }
+{
+    if name.skipped {
+        return None;
+    }
+    if name.case != Case::AsIs {
+        return None;
+    }
+    if !name.aliases.is_empty() {
+        return None;
+    }
+    Some(name.name.as_bytes() == text)
 }
 
 // Returns the index of the name that the digits of a number match.

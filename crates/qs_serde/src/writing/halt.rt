@@ -1,5 +1,6 @@
 //! Why an event isn't written.
 
+ghost use Rattle.qs_serde.specs.Halts.{IsHaltError};
 ghost use Rattle.qs_serde.specs.Placed.{IsMemory};
 
 use qs_data::Stop;
@@ -35,7 +36,9 @@ impl Halt {
     /// ```
     #[cold]
     #[inline(never)]
-    pub fn into_error(self, alloc: Global, config: Config) -> Error {
+    pub fn into_error(self, alloc: Global, config: Config) -> Error
+        ensures { IsHaltError config self result }
+    {
         match self {
             Halt::Custom(message) => Error::Custom(message),
             Halt::Misplaced(message) => Error::custom(alloc, message, &()),

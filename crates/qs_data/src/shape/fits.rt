@@ -19,9 +19,10 @@ use crate::shape::{Field, KeyShape, Shape, Variant, VariantKind, Width};
 impl Shape {
     /// Returns whether the data fits this shape: each part is of the kind that the shape reads there.
     ///
-    /// An `Unsigned` number fits the width of an unsigned shape, and a `Signed` number the width of a signed one. Variants and
-    /// keys are those of the shape. A tuple has the shape's length. The fields of a struct or a struct variant are fields of the
-    /// shape, in its order, and only optional ones are missing. Nothing fits [`Any`](Shape::Any) or [`Ignored`](Shape::Ignored).
+    /// An `Unsigned` number fits the width of an unsigned shape, and a `Signed` number the width of a signed one. The shape names an
+    /// enum's variant, and its shape of keys fits a map's keys. A tuple has the shape's length. The fields of a struct or a struct
+    /// variant are fields of the shape, in its order, and only optional ones are missing. Nothing fits
+    /// [`Any`](Shape::Any) or [`Ignored`](Shape::Ignored).
     ///
     /// If the data is also plain, and the names of the shape differ, the shape reads the data back from its written form: see
     /// [`Data::is_plain`] for the indexed format, and [`Data::is_listed`] for the others. Fitting alone isn't enough.

@@ -132,7 +132,7 @@ impl Writer {
 
     /// Writes the entries of the data at the writer's path, up to the first error.
     ///
-    /// The errors are those of [`scalar`](Writer::scalar) and of [`enter`](Writer::enter), and [`BadKey`](Stop::BadKey). With
+    /// It returns the same errors as [`scalar`](Writer::scalar) and [`enter`](Writer::enter), or [`BadKey`](Stop::BadKey). With
     /// [`TooDeep`](Stop::TooDeep) and `BadKey`, the entries before the rejected one are written.
     ///
     /// ```

@@ -23,7 +23,7 @@ use std::fmt::{Display, InlineText};
 /// }
 /// ```
 ///
-/// Errors, allocations and time are those of the serializer for a printed text.
+/// It returns the same errors as the serializer returns for a printed text, and allocates and takes time as the serializer does.
 pub fn serialize<T: Display, S: Serializer>(
     items: &[T],
     delimiter: char,
@@ -43,9 +43,9 @@ pub fn serialize<T: Display, S: Serializer>(
 /// }
 /// ```
 ///
-/// The errors are those of the format for a string. If a piece isn't an item, the error is the format's `custom` error with the message
-/// ``invalid item `x` ``, cut short after 128 bytes. It allocates for the text, the list and the items. The time grows with the length of
-/// the text.
+/// If there is no string, the format returns its error. If a piece isn't an item, the error is the format's `custom` error with the
+/// message ``invalid item `x` ``, cut short after 128 bytes. It allocates for the text, the list and the items. The time grows with the
+/// length of the text.
 pub fn deserialize<T: DeserializeOwned, F: Format>(
     alloc: Global,
     delimiter: char,

@@ -234,7 +234,7 @@ impl<'t, 'qs> Format for TreeFormat<'t, 'qs> {
         self.go_to_item(frame)
     }
 
-    // Items after those of the tuple are passed over.
+    // Skips the further items of a sequence that is longer than the tuple.
     fn end_tuple(&mut self, _input: &[u8]) -> Result<()>
         ensures step { OnOk result (Reads self.old seq_ends self.new) }
         ensures returns { IsOk result }

@@ -9,7 +9,7 @@ use super::class::{Class, LANES};
 use super::marks::Byte;
 use std::simd::prelude::*;
 
-// What form encoding writes for each byte. It is `%` for each byte to escape: those of the application/x-www-form-urlencoded
+// What form encoding writes for each byte: `%` if the byte is escaped. The escaped bytes are the application/x-www-form-urlencoded
 // percent-encode set of the URL Standard, section 1.3.
 static FORM: [u8; 256] = *b"\
     %%%%%%%%%%%%%%%%%%%%%%%%%%%%%%%%\

@@ -77,13 +77,14 @@ pub fn parse_with<'qs>(
     ensures least { IfParse result (λ position. steps.old + position ≤ steps.new) }
 {
     let taken = mem::replace(steps, Steps::new());
-    let mut cursor = Cursor::new(alloc, input, config.get_form(), taken);
-    let tree = parse_tree(alloc, &mut cursor, config.get_max_depth());
+    let mut cursor = Cursor::new(input, config.get_form(), taken);
+    let max_depth = config.get_max_depth();
+    let tree = parse_tree(alloc, &mut cursor, max_depth);
     *steps = cursor.take_steps();
     match tree {
         Ok(_) if input.is_empty() => Ok(ParsedValue::NoValue),
         Ok(tree) => Ok(tree),
-        Err(error) => Err(error.into_error(alloc, &cursor, input.len() + 1)),
+        Err(error) => Err(error.into_error(alloc, &cursor, max_depth, input.len() + 1)),
     }
 }
 

@@ -5,4 +5,3 @@ pub(crate) mod pair;
 pub(crate) mod parser;
 pub(crate) mod path;
 mod raw;
-mod spots;

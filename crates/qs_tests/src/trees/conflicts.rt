@@ -58,6 +58,24 @@ fn below_the_root(rt: HostRuntime) {
     reject(&rt, rt.alloc(), Config::new(), &BELOW_THE_ROOT);
 }
 
+const WITHOUT_BRACKETS: [(&str, usize, &str); 2] = [
+    ("=1&a[b]=2", 10, VALUE_AND_MAP),
+    ("=1&[b][c]=2", 12, VALUE_AND_MAP),
+];
+
+const ONE_BRACKET_DEEP: [(&str, usize, &str); 3] = [
+    ("=1&a[b]=2", 5, VALUE_AND_MAP),
+    ("a[b]=1&a[b][c]=2", 13, VALUE_AND_MAP),
+    ("a[b]=1&a[b][c][d]=2", 13, VALUE_AND_MAP),
+];
+
+// Brackets after the depth limit are part of the last key.
+#[test]
+fn at_the_depth_limit(rt: HostRuntime) {
+    reject(&rt, rt.alloc(), query(0), &WITHOUT_BRACKETS);
+    reject(&rt, rt.alloc(), query(1), &ONE_BRACKET_DEEP);
+}
+
 const A_PUSH_AT_A_LEAF: [(&str, usize, &str); 3] = [
     ("a=1&a[]=2", 7, VALUE_AND_SEQUENCE),
     ("abc&abc[]=1", 9, VALUE_AND_SEQUENCE),

@@ -87,7 +87,13 @@ impl ScanError {
     /// Returns the error at the cursor, in an input that takes `all` steps. The error's position is at most the number of steps taken.
     /// Allocates its message.
     #[inline(never)]
-    pub fn into_error(self, alloc: Global, cursor: &Cursor<'_>, all: usize) -> Error
+    pub fn into_error(
+        self,
+        alloc: Global,
+        cursor: &Cursor<'_>,
+        max_depth: usize,
+        all: usize,
+    ) -> Error
         ensures { Reports self (all - (length cursor.now.rest.now + to_come cursor.now.ended)) result }
     {
         match self {
@@ -96,7 +102,7 @@ impl ScanError {
             }
             ScanError::Conflict(conflict) => {
                 let Conflict { level, kind } = Box::into_inner(conflict);
-                let site = cursor.site(level);
+                let site = cursor.site(level, max_depth);
                 conflict_error(alloc, kind, site.key, all.saturating_sub(site.to_come))
             }
             ScanError::OutOfMemory => Error::OutOfMemory,

@@ -1,7 +1,7 @@
 //! A cursor over an input, which takes it token by token and counts the steps.
 
+mod site;
 mod steps;
-mod trail;
 
 ghost use Rattle.std.specs.Prelude.{◌≡◌, ℕ, ◌+◌, ◌++◌, ◌<◌, ◌≤◌, ◌-◌, [], length, take, drop, IfSome, IfNone, IsTrue, true, false};
 ghost use Rattle.qs_spec.specs.Escape.{is_marked};
@@ -12,10 +12,7 @@ ghost use Rattle.qs_spec.specs.internal.Parsing.{cut};
 ghost use Rattle.qs_tree.specs.internal.scan.Cursor.{kind_of_token, token_of, BeginsWith, ends_of, left, spent, looks, ended_after, raw_from_token, from_token, IsPast, GoesOn, taken, to_come, IsLeft, IsLetter};
 
 pub use self::steps::Steps;
-use self::trail::Trail;
 use crate::escape::{find_value_end, is_letter};
-use crate::scan::spots::Spots;
-use std::alloc::Global;
 use std::mem;
 
 /// The kind of a token.
@@ -168,7 +165,8 @@ fn run_len(bytes: &[u8], form: bool, until: Until) -> (usize, bool)
 ///   lengths.
 /// - In form encoding it reads the two bytes after a `%`, which may be part of an escaped bracket.
 /// - It reads up to 31 bytes after the `&` that ends a value, since the search for it tests 32 bytes at a time.
-/// - Bytes that were taken are read again for an index, for escapes, for comparisons of keys, and for the message of an error.
+/// - Bytes that were taken are read again for an index, for escapes, for comparisons of keys, and for the message and position of an
+///   error.
 #[derive(Drop)]
 pub(crate) struct Cursor<'qs> {
     rest: &'qs [u8],
@@ -177,29 +175,36 @@ pub(crate) struct Cursor<'qs> {
     /// Whether the last run or value is known to have no `+` and `%`.
     is_unmarked: bool,
     steps: Steps,
-    trail: Trail<'qs>,
+    /// The input from the current pair's first byte on.
+    pair: &'qs [u8],
 }
 
 impl<'qs> Cursor<'qs> {
-    /// Returns a cursor at the start of an input, with the steps of earlier calls. Doesn't allocate.
-    pub fn new(alloc: Global, input: &'qs [u8], form: bool, steps: Steps) -> Self
+    /// Returns a cursor at the start of an input, with the steps of earlier calls.
+    pub fn new(input: &'qs [u8], form: bool, steps: Steps) -> Self
         ensures rest { result.rest.now ≡ input.now }
         ensures form { result.form ≡ form }
         ensures steps { result.steps ≡ steps }
         ensures fresh { result.ended ≡ false }
     {
-        let spots = Spots::new(alloc);
         Cursor {
             rest: input,
             ended: false,
             form,
             is_unmarked: false,
             steps,
-            trail: Trail {
-                start: input,
-                spots,
-            },
+            pair: input,
         }
+    }
+
+    /// Starts a pair at the current position.
+    pub fn begin_pair(&mut self)
+        ensures rest { self.new.rest.now ≡ self.old.rest.now }
+        ensures form { self.new.form ≡ self.old.form }
+        ensures ended { self.new.ended ≡ self.old.ended }
+        ensures steps { self.new.steps ≡ self.old.steps }
+    {
+        self.pair = self.rest;
     }
 
     /// Takes the steps so far.

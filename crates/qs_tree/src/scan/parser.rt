@@ -141,7 +141,6 @@ fn parse_after_root<'qs>(
     parse_root(alloc, key, cursor.is_unmarked(), &mut pair.path)?;
     match stop {
         Some(token) if token.kind.is_open() => {
-            cursor.keep_root(key, token.place)?;
             parse_brackets(alloc, cursor, max_depth, token, pair)
         }
         _ => parse_direct(alloc, cursor, stop, pair),
@@ -257,7 +256,6 @@ fn parse_brackets<'qs>(
         let Some(first) = cursor.next() else {
             return Err(ParseError::Syntax(SyntaxError::EndAfterOpen));
         };
-        cursor.keep_spot(bracket.place)?;
         if first.kind.is_close() {
             return parse_push(alloc, cursor, pair);
         }

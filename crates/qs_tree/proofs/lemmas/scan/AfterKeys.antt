@@ -65,10 +65,6 @@ segment_found (suc room) path bracket t ts h e =
     let less : room ≡ suc room - 1 = omega arith in
     ap (λ x. in_segment x (parsed_brackets room) path t ts) e ∙ ap (λ n. after_run (parsed_brackets n) (longer path (raw_of (t ∷ (cut is_close ts).0))) (cut is_close ts).1) less
 
--- a token, and the bytes from its position on
-pub first_token : (place raw old new kept : List ℕ) → place ≡ old → old ≡ raw ++ new → kept ≡ new → place ≡ raw ++ kept
-first_token place raw old new kept at bytes same = at ∙ bytes ∙ ap (λ l. raw ++ l) (sym same)
-
 -- a segment whose key was put to the path
 pub segment_parsed : (room : ℕ) (keys new : List Key) (key : Key) (bracket raw : List ℕ) (t : Token) (ts stop : List Token) → 0 < room → is_close t.kind ≡ false
     → raw ≡ t.raw ++ raw_of (cut is_close ts).0 → (cut is_close ts).1 ≡ stop → new ≡ keys ++ key ∷ [] → marked_segment_of_key key ≡ marked_segment_of raw
@@ -98,12 +94,12 @@ pub pair_as : {A : Type 0} (found same : Rest Pair) (r : Result A parse_error.Pa
 pair_as found same r new p e h = subst (λ f. ParsesPair f r new p) (sym e) h
 
 -- after a root key and an opening bracket
-pub root_open : (depth : ℕ) (key : List ℕ) (stop : Option code.Token) (t : code.Token) (ts us : List Token) (path : List MarkedSegment) → stop ≡ Some t → is_open (kind_of_token t.kind) ≡ true → ts ≡ us → path ≡ root_path key
-    → from_root depth key (from_token stop ts) ≡ parsed_brackets depth path t.raw.now us
-root_open depth key stop t ts us path is opens same p =
-    ap₂ (λ o l. from_root depth key (from_token o l)) is same ∙ by (kind_of_token t.kind) opens ∙ ap (λ q. parsed_brackets depth q t.raw.now us) (sym p)
+pub root_open : (depth : ℕ) (key : List ℕ) (stop : Option code.Token) (t : code.Token) (ts : List Token) (path : List MarkedSegment) → stop ≡ Some t → is_open (kind_of_token t.kind) ≡ true → path ≡ root_path key
+    → from_root depth key (from_token stop ts) ≡ parsed_brackets depth path t.raw.now ts
+root_open depth key stop t ts path is opens p =
+    ap (λ o. from_root depth key (from_token o ts)) is ∙ by (kind_of_token t.kind) opens ∙ ap (λ q. parsed_brackets depth q t.raw.now ts) (sym p)
   where
-    by : (k : Kind) → is_open k ≡ true → from_root_at k depth (root_path key) (token_of t) us ≡ parsed_brackets depth (root_path key) t.raw.now us
+    by : (k : Kind) → is_open k ≡ true → from_root_at k depth (root_path key) (token_of t) ts ≡ parsed_brackets depth (root_path key) t.raw.now ts
     by Open e = refl
     by k e = cc
 

@@ -27,20 +27,20 @@ returns-in-Ok-clause-parsed c =
 
 pub returns-in-Ok-2-clause-parsed : goal.returns-in-Ok-2-clause-parsed
 returns-in-Ok-2-clause-parsed c =
-    parsed.parses c.args.config.form c.args.config.max_depth c.args.input.now (sym c.is_empty.ensures ∙ c.if-is_empty.false) c.get_max_depth.result (left c.new-cursor.result) c.get_max_depth.ensures
+    parsed.parses c.args.config.form c.args.config.max_depth c.args.input.now (sym c.is_empty.ensures ∙ c.if-is_empty.false) c.get_max_depth-max_depth.result (left c.new-cursor.result) c.get_max_depth-max_depth.ensures
     (ap₂ tokens (c.new-cursor.ensures.form ∙ c.get_form.ensures) c.new-cursor.ensures.rest) (Ok c.in-Ok.field-0) c.in-Ok.ensures.tree (λ small. refl)
 
 pub returns-clause-parsed : goal.returns-clause-parsed
 returns-clause-parsed c =
     let input = c.args.input.now in
-    let found = grown c.get_max_depth.result (left c.new-cursor.result) uninitialized in
+    let found = grown c.get_max_depth-max_depth.result (left c.new-cursor.result) uninitialized in
     let within = parsed.reports_within c.in-Err.error _ (length input + 1) (omega arith) c.into_error.result c.into_error.ensures in
     let returned = parsed.reported found (length input + 1) c.in-Err.error c.into_error.result c.in-Err.ensures.tree within in
     let no_allocation = λ (small : AllocatesNothing input). c.in-Err.ensures.no_allocation (subst AllocatesNothing (sym c.new-cursor.ensures.rest) small) in
     elim (cases_Bool (length input == 0)) [
       | inl empty ↦ let is = no_allocation (parsed.empty_is_small input empty) in absurd (cc)
       | inr some ↦
-          parsed.parses c.args.config.form c.args.config.max_depth input some c.get_max_depth.result (left c.new-cursor.result) c.get_max_depth.ensures
+          parsed.parses c.args.config.form c.args.config.max_depth input some c.get_max_depth-max_depth.result (left c.new-cursor.result) c.get_max_depth-max_depth.ensures
           (ap₂ tokens (c.new-cursor.ensures.form ∙ c.get_form.ensures) c.new-cursor.ensures.rest) (Err c.into_error.result) returned no_allocation
     ]
 

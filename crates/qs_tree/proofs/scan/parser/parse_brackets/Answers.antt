@@ -1,34 +1,30 @@
 use Rattle.qs_tree.proofs.Common.{◌≡◌, ◌-◌, ◌++◌, length, List, ◌∷◌, sym, ap, ap₂, ◌∙◌, arith, refl, append_assoc, Token, tokens, raw_of, Pair, Rest, direct, is_close, ends_last, cut, with_leaf, parsed_value, parsed_brackets, after_close, after_run, kind_of_token, token_of, looks, ended_after, left, from_token, taken, path_of}
-use Rattle.qs_tree.proofs.lemmas.scan.AfterKeys.{pair_as, push_found, last_found, first_token, rest_left, front_taken, segment_parsed, next_closing, next_open, next_close, next_other, closes}
+use Rattle.qs_tree.proofs.lemmas.scan.AfterKeys.{pair_as, push_found, last_found, rest_left, front_taken, segment_parsed, next_closing, next_open, next_close, next_other, closes}
 use Rattle.qs_tree.proofs.scan.parser.parse_brackets.Goals as goal
-use Rattle.qs_tree.proofs.scan.parser.parse_brackets.Goals.{In_ok-keep_spot, In_ok-push, In-Some-stop}
+use Rattle.qs_tree.proofs.scan.parser.parse_brackets.Goals.{In-Some, In_ok-push, In-Some-stop}
 
 -- what the tokens after a bracket give
-abbrev brackets : In_ok-keep_spot → List Token → Rest Pair
+abbrev brackets : In-Some → List Token → Rest Pair
 brackets w = parsed_brackets w.loop-first.room (path_of w.loop-first.pair.path) w.loop-first.bracket.raw.now
 
 -- the first token in it is the next one
-opened : (w : In_ok-keep_spot) → brackets w (left w.loop-first.cursor) ≡ brackets w (token_of w.in-Some.first ∷ left w.keep_spot.new.self)
-opened w = ap (brackets w) (w.in-Some.ensures.token ∙ ap (λ ts. token_of w.in-Some.first ∷ ts) (sym (ap₂ tokens w.in_ok-keep_spot.ensures.form w.in_ok-keep_spot.ensures.rest)))
+opened : (w : In-Some) → brackets w (left w.loop-first.cursor) ≡ brackets w (token_of w.in-Some.first ∷ left w.next.new.self)
+opened w = ap (brackets w) w.in-Some.ensures.token
 
 -- the bracket and that token are what was taken since the bracket's position
-whole : (w : In_ok-keep_spot) → w.loop-first.bracket.place.rest.now ≡ (w.loop-first.bracket.raw.now ++ (token_of w.in-Some.first).raw) ++ w.keep_spot.new.self.rest.now
+whole : (w : In-Some) → w.loop-first.bracket.place.rest.now ≡ (w.loop-first.bracket.raw.now ++ (token_of w.in-Some.first).raw) ++ w.next.new.self.rest.now
 whole w =
     let bracket = w.loop-first.bracket.raw.now in
-    let first = token_of w.in-Some.first in
-    let kept = w.keep_spot.new.self.rest.now in
-    w.loop-first.invariant.follows.0 ∙ ap (λ l. bracket ++ l) (first_token w.loop-first.cursor.rest.now first.raw w.loop-first.cursor.rest.now w.next.new.self.rest.now kept refl w.in-Some.ensures.bytes w.in_ok-keep_spot.ensures.rest)
-    ∙ sym (append_assoc bracket first.raw kept)
+    w.loop-first.invariant.follows.0 ∙ ap (λ l. bracket ++ l) w.in-Some.ensures.bytes ∙ sym (append_assoc bracket w.in-Some.first.raw.now w.next.new.self.rest.now)
 
 -- a segment after that
-segment : (w : In_ok-push) → parsed_brackets w.loop-first.room (path_of w.loop-first.pair.path) w.loop-first.bracket.raw.now (token_of w.in-Some.first ∷ left w.keep_spot.new.self)
+segment : (w : In_ok-push) → parsed_brackets w.loop-first.room (path_of w.loop-first.pair.path) w.loop-first.bracket.raw.now (token_of w.in-Some.first ∷ left w.next.new.self)
     ≡ after_run (parsed_brackets (w.loop-first.room - 1)) (path_of w.push.new.self) (from_token w.run_from.result.1 (left w.run_from.new.self))
 segment w =
     let first = token_of w.in-Some.first in
-    let kept = w.keep_spot.new.self in
-    let first_bytes = first_token w.in-Some.first.place.rest.now first.raw w.loop-first.cursor.rest.now w.next.new.self.rest.now kept.rest.now w.in-Some.ensures.place w.in-Some.ensures.bytes w.in_ok-keep_spot.ensures.rest in
-    let run = w.run_from.ensures.run ∙ ap (λ l. l ++ raw_of (cut is_close (left kept)).0) (front_taken w.in-Some.first.place.rest.now first.raw kept.rest.now first_bytes) in
-    segment_parsed w.loop-first.room w.loop-first.pair.path w.push.new.self w.in_ok-parse_key.field-0 w.loop-first.bracket.raw.now w.run_from.result.0.now first (left kept) (from_token w.run_from.result.1 (left w.run_from.new.self)) (omega arith)
+    let now = w.next.new.self in
+    let run = w.run_from.ensures.run ∙ ap (λ l. l ++ raw_of (cut is_close (left now)).0) (front_taken w.in-Some.first.place.rest.now first.raw now.rest.now (w.in-Some.ensures.place ∙ w.in-Some.ensures.bytes)) in
+    segment_parsed w.loop-first.room w.loop-first.pair.path w.push.new.self w.in_ok-parse_key.field-0 w.loop-first.bracket.raw.now w.run_from.result.0.now first (left now) (from_token w.run_from.result.1 (left w.run_from.new.self)) (omega arith)
     (sym w.is_close.ensures ∙ w.if-is_close.false) run w.run_from.ensures.token w.in_ok-push.ensures w.in_ok-parse_key.ensures.key
 
 -- and its closing bracket
@@ -39,34 +35,34 @@ closed w = ap (λ o. after_run (parsed_brackets (w.loop-first.room - 1)) (path_o
 pub returns-then-is_close-clause-pair : goal.returns-then-is_close-clause-pair
 returns-then-is_close-clause-pair c =
     let path = path_of c.loop-first.pair.path in
-    let found = c.loop-first.invariant.found ∙ opened (goal.at.returns-then-is_close-clause-pair c).In_ok-keep_spot in
+    let found = c.loop-first.invariant.found ∙ opened (goal.at.returns-then-is_close-clause-pair c).In-Some in
     pair_as _ _ c.parse_push.result c.parse_push.new.cursor c.parse_push.new.pair
-    (found ∙ push_found c.loop-first.room path c.loop-first.bracket.raw.now (token_of c.in-Some.first) (left c.keep_spot.new.self) (sym c.is_close.ensures ∙ c.if-is_close.true)) c.parse_push.ensures.pair
+    (found ∙ push_found c.loop-first.room path c.loop-first.bracket.raw.now (token_of c.in-Some.first) (left c.next.new.self) (sym c.is_close.ensures ∙ c.if-is_close.true)) c.parse_push.ensures.pair
 
 pub parse_last_key-requires-clause-follows : goal.parse_last_key-requires-clause-follows
 parse_last_key-requires-clause-follows c =
-    rest_left c.loop-first.bracket.place.rest.now (c.loop-first.bracket.raw.now ++ (token_of c.in-Some.first).raw) c.keep_spot.new.self.rest.now (whole (goal.at.parse_last_key-requires-clause-follows c).In_ok-keep_spot)
+    rest_left c.loop-first.bracket.place.rest.now (c.loop-first.bracket.raw.now ++ (token_of c.in-Some.first).raw) c.next.new.self.rest.now (whole (goal.at.parse_last_key-requires-clause-follows c).In-Some)
 
 pub returns-then-room-eq0-clause-pair : goal.returns-then-room-eq0-clause-pair
 returns-then-room-eq0-clause-pair c =
-    let w = (goal.at.returns-then-room-eq0-clause-pair c).In_ok-keep_spot in
+    let w = (goal.at.returns-then-room-eq0-clause-pair c).In-Some in
     let path = path_of c.loop-first.pair.path in
     let bracket = c.loop-first.bracket.raw.now in
     let first = token_of c.in-Some.first in
-    let kept = c.keep_spot.new.self in
+    let now = c.next.new.self in
     let place = c.loop-first.bracket.place.rest.now in
     let none : c.loop-first.room ≡ 0 = omega arith in
-    let run = cut ends_last (left kept) in
+    let run = cut ends_last (left now) in
     pair_as _ _ c.parse_last_key.result c.parse_last_key.new.cursor c.parse_last_key.new.pair
-    (c.loop-first.invariant.found ∙ opened w ∙ ap (λ n. parsed_brackets n path bracket (first ∷ left kept)) none
-    ∙ last_found path bracket (taken place kept.rest.now ++ raw_of run.0) first (left kept) run.1 (sym c.is_close.ensures ∙ c.if-is_close.false)
-    (ap (λ l. l ++ raw_of run.0) (front_taken place (bracket ++ first.raw) kept.rest.now (whole w))) refl)
+    (c.loop-first.invariant.found ∙ opened w ∙ ap (λ n. parsed_brackets n path bracket (first ∷ left now)) none
+    ∙ last_found path bracket (taken place now.rest.now ++ raw_of run.0) first (left now) run.1 (sym c.is_close.ensures ∙ c.if-is_close.false)
+    (ap (λ l. l ++ raw_of run.0) (front_taken place (bracket ++ first.raw) now.rest.now (whole w))) refl)
     c.parse_last_key.ensures.pair
 
 pub returns-in_default-stop-clause-pair : goal.returns-in_default-stop-clause-pair
 returns-in_default-stop-clause-pair c =
     let at = goal.at.returns-in_default-stop-clause-pair c in
-    c.loop-first.invariant.found ∙ opened at.In_ok-keep_spot ∙ segment at.In_ok-push
+    c.loop-first.invariant.found ∙ opened at.In-Some ∙ segment at.In_ok-push
     ∙ ap (λ o. after_run (parsed_brackets (c.loop-first.room - 1)) (path_of c.push.new.self) (from_token o (left c.run_from.new.self))) c.in_default-stop.is
 
 pub returns-in_default-next-clause-pair : goal.returns-in_default-next-clause-pair
@@ -74,7 +70,7 @@ returns-in_default-next-clause-pair c =
     let at = goal.at.returns-in_default-next-clause-pair c in
     let path = path_of c.push.new.self in
     pair_as _ _ c.parse_direct.result c.parse_direct.new.cursor c.parse_direct.new.pair
-    (c.loop-first.invariant.found ∙ opened at.In_ok-keep_spot ∙ segment at.In_ok-push ∙ closed at.In-Some-stop ∙ ap (after_close (parsed_brackets (c.loop-first.room - 1)) path) c.in_default-next.ensures.token
+    (c.loop-first.invariant.found ∙ opened at.In-Some ∙ segment at.In_ok-push ∙ closed at.In-Some-stop ∙ ap (after_close (parsed_brackets (c.loop-first.room - 1)) path) c.in_default-next.ensures.token
     ∙ ap (λ o. with_leaf (direct path) (parsed_value (from_token o (left c.next-next.new.self)))) (sym c.in_default-next.is))
     c.parse_direct.ensures.pair
 
@@ -84,7 +80,7 @@ returns-in-Ampersand-clause-pair c =
     let path = path_of c.push.new.self in
     let token = c.in-Some-next.token in
     pair_as _ _ c.parse_direct-in-Ampersand.result c.parse_direct-in-Ampersand.new.cursor c.parse_direct-in-Ampersand.new.pair
-    (c.loop-first.invariant.found ∙ opened at.In_ok-keep_spot ∙ segment at.In_ok-push ∙ closed at.In-Some-stop ∙ ap (after_close (parsed_brackets (c.loop-first.room - 1)) path) c.in-Some-next.ensures.token
+    (c.loop-first.invariant.found ∙ opened at.In-Some ∙ segment at.In_ok-push ∙ closed at.In-Some-stop ∙ ap (after_close (parsed_brackets (c.loop-first.room - 1)) path) c.in-Some-next.ensures.token
     ∙ next_closing (c.loop-first.room - 1) path token (left c.next-next.new.self) (kind_of_token token.kind) refl (closes token.kind c.in-Ampersand.is)
     ∙ ap (λ o. with_leaf (direct path) (parsed_value (from_token o (left c.next-next.new.self)))) (sym c.in-Some-next.is))
     c.parse_direct-in-Ampersand.ensures.pair
@@ -94,24 +90,24 @@ loop-first-preserved c =
     let at = goal.at.loop-first-preserved c in
     let path = path_of c.push.new.self in
     record {
-      found = c.loop-first.invariant.found ∙ opened at.In_ok-keep_spot ∙ segment at.In_ok-push ∙ closed at.In-Some-stop ∙ ap (after_close (parsed_brackets (c.loop-first.room - 1)) path) c.in-Some-next.ensures.token
+      found = c.loop-first.invariant.found ∙ opened at.In-Some ∙ segment at.In_ok-push ∙ closed at.In-Some-stop ∙ ap (after_close (parsed_brackets (c.loop-first.room - 1)) path) c.in-Some-next.ensures.token
           ∙ next_open (c.loop-first.room - 1) path c.in-Some-next.token (left c.next-next.new.self) (ap kind_of_token c.in-Open.is);
-      follows = (c.in-Some-next.ensures.place ∙ c.in-Some-next.ensures.bytes, c.in-Some-next.ensures.ended ∙ c.run_from.ensures.ended ∙ ap (λ o. ended_after o c.keep_spot.new.self.ended) c.in-Some-stop.is ∙ c.in_ok-keep_spot.ensures.ended ∙ c.in-Some.ensures.ended ∙ c.loop-first.invariant.follows.1);
-      form = c.in-Some-next.ensures.form ∙ c.run_from.ensures.form ∙ c.in_ok-keep_spot.ensures.form ∙ c.in-Some.ensures.form ∙ c.loop-first.invariant.form;
-      shorter = omega (arith, c.in-Some-next.ensures.shorter, c.in-Some.ensures.shorter, ap length c.in_ok-keep_spot.ensures.rest);
-      spent = omega (arith, c.in-Some-next.ensures.cost, c.in-Some.ensures.cost, c.in_ok-keep_spot.ensures.steps, ap length c.in_ok-keep_spot.ensures.rest, ap looks c.in-Some-stop.is);
+      follows = (c.in-Some-next.ensures.place ∙ c.in-Some-next.ensures.bytes, c.in-Some-next.ensures.ended ∙ c.run_from.ensures.ended ∙ ap (λ o. ended_after o c.next.new.self.ended) c.in-Some-stop.is ∙ c.in-Some.ensures.ended ∙ c.loop-first.invariant.follows.1);
+      form = c.in-Some-next.ensures.form ∙ c.run_from.ensures.form ∙ c.in-Some.ensures.form ∙ c.loop-first.invariant.form;
+      shorter = omega (arith, c.in-Some-next.ensures.shorter, c.in-Some.ensures.shorter);
+      spent = omega (arith, c.in-Some-next.ensures.cost, c.in-Some.ensures.cost, ap looks c.in-Some-stop.is);
     }
 
 pub returns-in-Close-clause-pair : goal.returns-in-Close-clause-pair
 returns-in-Close-clause-pair c =
     let at = goal.at.returns-in-Close-clause-pair c in
     let path = path_of c.push.new.self in
-    c.loop-first.invariant.found ∙ opened at.In_ok-keep_spot ∙ segment at.In_ok-push ∙ closed at.In-Some-stop ∙ ap (after_close (parsed_brackets (c.loop-first.room - 1)) path) c.in-Some-next.ensures.token
+    c.loop-first.invariant.found ∙ opened at.In-Some ∙ segment at.In_ok-push ∙ closed at.In-Some-stop ∙ ap (after_close (parsed_brackets (c.loop-first.room - 1)) path) c.in-Some-next.ensures.token
     ∙ next_close (c.loop-first.room - 1) path c.in-Some-next.token (left c.next-next.new.self) (ap kind_of_token c.in-Close.is)
 
 pub returns-in-Other-clause-pair : goal.returns-in-Other-clause-pair
 returns-in-Other-clause-pair c =
     let at = goal.at.returns-in-Other-clause-pair c in
     let path = path_of c.push.new.self in
-    c.loop-first.invariant.found ∙ opened at.In_ok-keep_spot ∙ segment at.In_ok-push ∙ closed at.In-Some-stop ∙ ap (after_close (parsed_brackets (c.loop-first.room - 1)) path) c.in-Some-next.ensures.token
+    c.loop-first.invariant.found ∙ opened at.In-Some ∙ segment at.In_ok-push ∙ closed at.In-Some-stop ∙ ap (after_close (parsed_brackets (c.loop-first.room - 1)) path) c.in-Some-next.ensures.token
     ∙ next_other (c.loop-first.room - 1) path c.in-Some-next.token (left c.next-next.new.self) (ap kind_of_token c.in-Other.is)

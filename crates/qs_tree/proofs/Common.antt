@@ -38,7 +38,7 @@ pub use Rattle.qs_tree.specs.internal.build.Finishing.{IsOpened, built_pairs, en
 pub use Rattle.qs_tree.specs.internal.build.Unsorted.{AreLeaves, entries_of_leaves, is_leaf, leaf_held, leaf_pairs}
 pub use Rattle.qs_tree.specs.internal.escape.Copying.{swapped}
 pub use Rattle.qs_tree.specs.internal.escape.Search.{NoneBetween, class_mask, first_set, is_escaped}
-pub use Rattle.qs_tree.specs.internal.scan.Cursor.{IsLeft, IsLetter, IsPast, KnowsEnd, ended_after, ends_of, from_token, in_all, kind_of_token, left, looks, raw_from_token, spent, taken, to_come, token_of}
+pub use Rattle.qs_tree.specs.internal.scan.Cursor.{IsLeft, IsOrdinary, IsPast, KnowsEnd, ended_after, ends_of, from_token, in_all, kind_of_token, left, looks, raw_from_token, spent, taken, to_come, token_of}
 pub use Rattle.qs_tree.specs.internal.scan.Pairs.{is_push, leaf_in, leaf_of, pair_of, path_of}
 pub use Rattle.qs_tree.specs.internal.scan.Parser.{Follows, FollowsStop, IsClosing, IsEnd, IsMore, IsParseError, ParsesItem, ParsesPair, from_root, from_root_at, is_nothing, root_path}
 pub use Rattle.qs_tree.specs.internal.scan.Raw.{index_from, index_of}

@@ -58,7 +58,7 @@ pub fn parse(alloc: Global, input: &[u8], config: Config) -> Result<ParsedValue<
 /// an input with an [`Error::Parse`] takes at least as many steps as the error's position. Only the code that takes bytes counts them.
 ///
 /// Other reads aren't counted. The parser may read a byte several times while it takes it, and up to 31 bytes after a value. It reads
-/// what it took again for an index, for escapes, for comparisons and for the message of an error.
+/// what it took again for an index, for escapes, for comparisons and for an error.
 ///
 /// ```
 /// let mut steps = Steps::new();

@@ -1,5 +1,5 @@
 pub mod LaneLemmas
-pub mod Letters
+pub mod Ordinary
 pub mod Tables
 pub mod EncodedFronts
 pub mod DecodedFronts

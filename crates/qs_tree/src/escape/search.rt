@@ -2,8 +2,8 @@
 
 mod class;
 mod encoded;
-mod letter;
 mod marks;
+mod ordinary;
 
 ghost use Rattle.std.specs.Prelude.{◌≡◌, ◌<◌, length, take, position, IfSome, IsTrue, is_some, false};
 ghost use Rattle.std.specs.List.{position_or_len};
@@ -13,9 +13,9 @@ ghost use Rattle.qs_tree.specs.escape.Classes.{is_escape, is_ampersand, is_encod
 pub(crate) use self::class::{Class, LANES, count, run};
 use self::encoded::Encoded;
 pub(crate) use self::encoded::Escaped;
-pub(crate) use self::letter::is_letter;
 pub(crate) use self::marks::Byte;
 use self::marks::Escape;
+pub(crate) use self::ordinary::is_ordinary;
 
 /// Returns the index of the first `+` or `%`, or `None`.
 ///
@@ -69,7 +69,7 @@ pub(crate) fn find_value_end(bytes: &[u8]) -> (usize, bool)
     }
     while at < bytes.len() {
         let byte = bytes[at];
-        if !is_letter(byte) {
+        if !is_ordinary(byte) {
             if byte == b'&' {
                 break;
             }

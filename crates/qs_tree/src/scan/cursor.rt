@@ -9,10 +9,10 @@ ghost use Rattle.qs_spec.specs.Token.{raw_of, tokens};
 ghost use Rattle.qs_tree.specs.Parsing.{is_unescaped};
 ghost use Rattle.qs_spec.specs.Grammar.{is_amp, is_equals, is_open, is_close};
 ghost use Rattle.qs_spec.specs.internal.Parsing.{cut};
-ghost use Rattle.qs_tree.specs.internal.scan.Cursor.{kind_of_token, token_of, BeginsWith, ends_of, left, spent, looks, ended_after, raw_from_token, from_token, IsPast, GoesOn, taken, to_come, IsLeft, IsLetter};
+ghost use Rattle.qs_tree.specs.internal.scan.Cursor.{kind_of_token, token_of, BeginsWith, ends_of, left, spent, looks, ended_after, raw_from_token, from_token, IsPast, GoesOn, taken, to_come, IsLeft, IsOrdinary};
 
 pub use self::steps::Steps;
-use crate::escape::{find_value_end, is_letter};
+use crate::escape::{find_value_end, is_ordinary};
 use std::mem;
 
 /// The kind of a token.
@@ -141,7 +141,7 @@ fn run_len(bytes: &[u8], form: bool, until: Until) -> (usize, bool)
     let mut at = 0;
     let mut is_unmarked = true;
     while at < bytes.len() {
-        if is_letter(bytes[at]) {
+        if is_ordinary(bytes[at]) {
             at += 1;
             continue;
         }
@@ -160,7 +160,7 @@ fn run_len(bytes: &[u8], form: bool, until: Until) -> (usize, bool)
 ///
 /// Other reads aren't counted. These are all of them:
 ///
-/// - A method may read a byte that it takes several times: to tell whether `is_letter` holds, whether it is an escape, and which token
+/// - A method may read a byte that it takes several times: to tell whether `is_ordinary` holds, whether it is an escape, and which token
 ///   it begins. It reads the token that ends a run or a value again when it takes that token. If nothing is left, it only compares
 ///   lengths.
 /// - In form encoding it reads the two bytes after a `%`, which may be part of an escaped bracket.

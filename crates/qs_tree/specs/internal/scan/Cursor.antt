@@ -29,8 +29,8 @@ abbrev pub BeginsWith : Bool → List ℕ → kind.Kind → ℕ → Type 0
 BeginsWith form bytes k len = tokens form bytes ≡ record { kind = kind_of_token k; raw = take len bytes } ∷ tokens form (drop len bytes)
 
 -- a byte that is no `%` and no separator or bracket, and so a token by itself
-abbrev pub IsLetter : ℕ → Type 0
-IsLetter b = ((b == 37) ≡ false) × (byte_kind b ≡ Kind.Other)
+abbrev pub IsOrdinary : ℕ → Type 0
+IsOrdinary b = ((b == 37) ≡ false) × (byte_kind b ≡ Kind.Other)
 
 -- the tokens that are left
 abbrev pub left : cursor.Cursor → List Token

@@ -1,14 +1,14 @@
 use Rattle.qs_tree.proofs.Common.{◌≡◌, false, refl, sym, ap, ◌∙◌, arith, inl, inr, cases_lt, is_escape, Other, ends_of, kind_of_token, slice_index}
 use Rattle.qs_tree.specs.declared.scan.cursor.Until as until
-use Rattle.qs_tree.proofs.lemmas.scan.Runs.{token_on, letter_on}
+use Rattle.qs_tree.proofs.lemmas.scan.Runs.{token_on, ordinary_on}
 use Rattle.qs_tree.proofs.scan.cursor.run_len.Goals as goal
 
-pub loop-at-preserved-then-is_letter : goal.loop-at-preserved-then-is_letter
-loop-at-preserved-then-is_letter c = (
-  letter_on (ends_of c.args.until) c.args.form c.args.bytes.now c.loop-at.at (other c.args.until) c.loop-at.invariant.0 (omega (arith, c.loop-at-test.true)) (c.if-is_letter.ensures.letter refl),
+pub loop-at-preserved-then-is_ordinary : goal.loop-at-preserved-then-is_ordinary
+loop-at-preserved-then-is_ordinary c = (
+  ordinary_on (ends_of c.args.until) c.args.form c.args.bytes.now c.loop-at.at (other c.args.until) c.loop-at.invariant.0 (omega (arith, c.loop-at-test.true)) (c.if-is_ordinary.ensures.ordinary refl),
   λ unmarked k from to. elim (cases_lt k c.loop-at.at) [
     | inl early ↦ c.loop-at.invariant.1 unmarked k from early
-    | inr late ↦ ap (λ n. is_escape (slice_index c.args.bytes.now n)) (omega (arith, late, to)) ∙ c.if-is_letter.ensures.is_unmarked refl
+    | inr late ↦ ap (λ n. is_escape (slice_index c.args.bytes.now n)) (omega (arith, late, to)) ∙ c.if-is_ordinary.ensures.is_unmarked refl
   ],
 )
   where

@@ -78,11 +78,15 @@ pub fn parse_with<'qs>(
 {
     let taken = mem::replace(steps, Steps::new());
     let mut cursor = Cursor::new(input, config.get_form(), taken);
+    if input.is_empty() {
+        let _ = cursor.next();
+        *steps = cursor.take_steps();
+        return Ok(ParsedValue::NoValue);
+    }
     let max_depth = config.get_max_depth();
     let tree = parse_tree(alloc, &mut cursor, max_depth);
     *steps = cursor.take_steps();
     match tree {
-        Ok(_) if input.is_empty() => Ok(ParsedValue::NoValue),
         Ok(tree) => Ok(tree),
         Err(error) => Err(error.into_error(alloc, &cursor, max_depth, input.len() + 1)),
     }

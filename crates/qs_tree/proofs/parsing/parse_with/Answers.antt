@@ -3,8 +3,8 @@ use Rattle.qs_tree.proofs.lemmas.Parsed as parsed
 use Rattle.qs_tree.proofs.parsing.parse_with.Goals as goal
 
 -- the empty input
-pub returns-in-Ok-clause-parsed : goal.returns-in-Ok-clause-parsed
-returns-in-Ok-clause-parsed c =
+pub returns-then-is_empty-clause-parsed : goal.returns-then-is_empty-clause-parsed
+returns-then-is_empty-clause-parsed c =
     let input = c.args.input.now in
     let form = c.args.config.form in
     let depth = c.args.config.max_depth in
@@ -25,35 +25,31 @@ returns-in-Ok-clause-parsed c =
       reordered = parsed.reordered form depth input (Ok NoValue) tree (λ h. absurd h);
     }
 
-pub returns-in-Ok-2-clause-parsed : goal.returns-in-Ok-2-clause-parsed
-returns-in-Ok-2-clause-parsed c =
+pub returns-in-Ok-clause-parsed : goal.returns-in-Ok-clause-parsed
+returns-in-Ok-clause-parsed c =
     parsed.parses c.args.config.form c.args.config.max_depth c.args.input.now (sym c.is_empty.ensures ∙ c.if-is_empty.false) c.get_max_depth-max_depth.result (left c.new-cursor.result) c.get_max_depth-max_depth.ensures
-    (ap₂ tokens (c.new-cursor.ensures.form ∙ c.get_form.ensures) c.new-cursor.ensures.rest) (Ok c.in-Ok.field-0) c.in-Ok.ensures.tree (λ small. refl)
+    (ap₂ tokens (c.new-cursor.ensures.form ∙ c.get_form.ensures) c.new-cursor.ensures.rest) (Ok c.in-Ok.tree) c.in-Ok.ensures.tree (λ small. refl)
 
-pub returns-clause-parsed : goal.returns-clause-parsed
-returns-clause-parsed c =
+pub returns-in-Err-clause-parsed : goal.returns-in-Err-clause-parsed
+returns-in-Err-clause-parsed c =
     let input = c.args.input.now in
     let found = grown c.get_max_depth-max_depth.result (left c.new-cursor.result) uninitialized in
     let within = parsed.reports_within c.in-Err.error _ (length input + 1) (omega arith) c.into_error.result c.into_error.ensures in
     let returned = parsed.reported found (length input + 1) c.in-Err.error c.into_error.result c.in-Err.ensures.tree within in
     let no_allocation = λ (small : AllocatesNothing input). c.in-Err.ensures.no_allocation (subst AllocatesNothing (sym c.new-cursor.ensures.rest) small) in
-    elim (cases_Bool (length input == 0)) [
-      | inl empty ↦ let is = no_allocation (parsed.empty_is_small input empty) in absurd (cc)
-      | inr some ↦
-          parsed.parses c.args.config.form c.args.config.max_depth input some c.get_max_depth-max_depth.result (left c.new-cursor.result) c.get_max_depth-max_depth.ensures
-          (ap₂ tokens (c.new-cursor.ensures.form ∙ c.get_form.ensures) c.new-cursor.ensures.rest) (Err c.into_error.result) returned no_allocation
-    ]
+    parsed.parses c.args.config.form c.args.config.max_depth input (sym c.is_empty.ensures ∙ c.if-is_empty.false) c.get_max_depth-max_depth.result (left c.new-cursor.result) c.get_max_depth-max_depth.ensures
+    (ap₂ tokens (c.new-cursor.ensures.form ∙ c.get_form.ensures) c.new-cursor.ensures.rest) (Err c.into_error.result) returned no_allocation
 
 -- the look at the end is one step
 at_most_one : (ended : Bool) → to_come ended ≤ 1
 at_most_one true = omega arith
 at_most_one false = omega arith
 
-pub returns-clause-least : goal.returns-clause-least
-returns-clause-least c =
+pub returns-in-Err-clause-least : goal.returns-in-Err-clause-least
+returns-in-Err-clause-least c =
     let before = c.new-cursor.ensures in
     let parsed_all = c.in-Err.ensures in
-    let after = c.take_steps.ensures in
+    let after = c.take_steps-2.ensures in
     parsed.reports_steps c.in-Err.error _ _ _
     (omega (arith, ap length after.rest, ap to_come after.ended, parsed_all.steps, parsed_all.fewer, ap length before.rest, ap to_come before.fresh, at_most_one c.parse_tree-tree.new.cursor.ended))
     c.into_error.result c.into_error.ensures

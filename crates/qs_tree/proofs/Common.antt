@@ -38,7 +38,7 @@ pub use Rattle.qs_tree.specs.internal.build.Finishing.{IsOpened, built_pairs, en
 pub use Rattle.qs_tree.specs.internal.build.Unsorted.{AreLeaves, entries_of_leaves, is_leaf, leaf_held, leaf_pairs}
 pub use Rattle.qs_tree.specs.internal.escape.Copying.{swapped}
 pub use Rattle.qs_tree.specs.internal.escape.Search.{NoneBetween, class_mask, first_set, is_escaped}
-pub use Rattle.qs_tree.specs.internal.scan.Cursor.{IsLeft, IsOrdinary, IsPast, KnowsEnd, ended_after, ends_of, from_token, in_all, kind_of_token, left, looks, raw_from_token, spent, taken, to_come, token_of}
+pub use Rattle.qs_tree.specs.internal.scan.Cursor.{IsInside, IsLeft, IsPast, KnowsEnd, classes_of, ended_after, ends_of, from_token, in_all, kind_of_token, left, looks, raw_from_token, spent, taken, to_come, token_of}
 pub use Rattle.qs_tree.specs.internal.scan.Pairs.{is_push, leaf_in, leaf_of, pair_of, path_of}
 pub use Rattle.qs_tree.specs.internal.scan.Parser.{Follows, FollowsStop, IsClosing, IsEnd, IsMore, IsParseError, ParsesItem, ParsesPair, from_root, from_root_at, is_nothing, root_path}
 pub use Rattle.qs_tree.specs.internal.scan.Raw.{index_from, index_of}
@@ -76,7 +76,7 @@ unfoldable pub use Rattle.std.specs.List.Sorted.{IsStrictlySortedBy}
 pub use Rattle.std.specs.Map.{keys_of, lookup, remove_entry, set_value}
 pub use Rattle.std.specs.Option.{IfNone, IfSome, is_some}
 pub use Rattle.std.specs.Ordering.{MatchOrdering, is_eq, is_ne, nat_cmp, ordering_reverse, ordering_then}
-pub use Rattle.std.specs.Prelude.{IsOk, nat_lt}
+pub use Rattle.std.specs.Prelude.{bit_and, IsOk, nat_lt}
 pub use Rattle.std.specs.Result.{IsErrAnd}
 pub use Rattle.std.specs.Str.Chunks.{utf8_chunks_rest}
 pub use Rattle.std.specs.Str.Lossy.{replacement_bytes, utf8_lossy}

@@ -8,5 +8,5 @@ mod search;
 pub use decoding::decode;
 pub(crate) use decoding::unescape_unless;
 pub use encoding::{encode, encode_to};
-pub(crate) use search::{find_value_end, is_ordinary};
+pub(crate) use search::{CLASSES, CLOSE, ESCAPE, OPEN, SEPARATOR, find_value_end};
 pub use search::{find_ampersand, find_encoded, find_escape};

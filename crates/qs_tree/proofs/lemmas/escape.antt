@@ -1,5 +1,5 @@
 pub mod LaneLemmas
-pub mod Ordinary
+pub mod ByteClasses
 pub mod Tables
 pub mod EncodedFronts
 pub mod DecodedFronts

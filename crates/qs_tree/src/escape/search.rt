@@ -1,9 +1,9 @@
 //! Searches for the first byte of a class.
 
 mod class;
+mod classes;
 mod encoded;
 mod marks;
-mod ordinary;
 
 ghost use Rattle.std.specs.Prelude.{◌≡◌, ◌<◌, length, take, position, IfSome, IsTrue, is_some, false};
 ghost use Rattle.std.specs.List.{position_or_len};
@@ -11,11 +11,11 @@ ghost use Rattle.qs_spec.specs.Escape.{is_marked};
 ghost use Rattle.qs_tree.specs.escape.Classes.{is_escape, is_ampersand, is_encoded};
 
 pub(crate) use self::class::{Class, LANES, count, run};
+pub(crate) use self::classes::{CLASSES, CLOSE, ESCAPE, OPEN, SEPARATOR, is_ordinary};
 use self::encoded::Encoded;
 pub(crate) use self::encoded::Escaped;
 pub(crate) use self::marks::Byte;
 use self::marks::Escape;
-pub(crate) use self::ordinary::is_ordinary;
 
 /// Returns the index of the first `+` or `%`, or `None`.
 ///

@@ -7,12 +7,13 @@ ghost use Rattle.std.specs.Prelude.{◌≡◌, ℕ, ◌+◌, ◌++◌, ◌<◌, 
 ghost use Rattle.qs_spec.specs.Escape.{is_marked};
 ghost use Rattle.qs_spec.specs.Token.{raw_of, tokens};
 ghost use Rattle.qs_tree.specs.Parsing.{is_unescaped};
+ghost use Rattle.qs_tree.specs.escape.Classes.{is_escape};
 ghost use Rattle.qs_spec.specs.Grammar.{is_amp, is_equals, is_open, is_close};
 ghost use Rattle.qs_spec.specs.internal.Parsing.{cut};
-ghost use Rattle.qs_tree.specs.internal.scan.Cursor.{kind_of_token, token_of, BeginsWith, ends_of, left, spent, looks, ended_after, raw_from_token, from_token, IsPast, GoesOn, taken, to_come, IsLeft, IsOrdinary};
+ghost use Rattle.qs_tree.specs.internal.scan.Cursor.{kind_of_token, token_of, BeginsWith, ends_of, left, spent, looks, ended_after, raw_from_token, from_token, IsPast, GoesOn, taken, to_come, IsInside, IsLeft, classes_of};
 
 pub use self::steps::Steps;
-use crate::escape::{find_value_end, is_ordinary};
+use crate::escape::{CLASSES, CLOSE, ESCAPE, OPEN, SEPARATOR, find_value_end};
 use std::mem;
 
 /// The kind of a token.
@@ -92,6 +93,28 @@ pub(crate) enum Until {
 }
 
 impl Until {
+    // Returns the classes of the bytes that end the run, and of escapes.
+    #[inline(always)]
+    fn classes(self) -> u8
+        ensures { result ≡ classes_of self }
+    {
+        match self {
+            Until::Separator => SEPARATOR | ESCAPE,
+            Until::SeparatorOrOpen => SEPARATOR | OPEN | ESCAPE,
+            Until::Close => CLOSE | ESCAPE,
+        }
+    }
+
+    // Returns whether a byte is a token of the run, and no escape.
+    #[inline(always)]
+    #[tactic(auto, using(crate::proofs::lemmas::escape::ByteClasses::inside_alone))]
+    fn is_inside(self, byte: u8) -> bool
+        ensures inside { IsTrue result → IsInside (ends_of self) byte }
+        ensures is_unmarked { IsTrue result → is_escape byte ≡ false }
+    {
+        CLASSES[byte as usize] & self.classes() == 0
+    }
+
     // Returns whether a token of this kind ends the run.
     fn is_at(self, kind: Kind) -> bool
         ensures { result ≡ ends_of self (kind_of_token kind) }
@@ -141,7 +164,7 @@ fn run_len(bytes: &[u8], form: bool, until: Until) -> (usize, bool)
     let mut at = 0;
     let mut is_unmarked = true;
     while at < bytes.len() {
-        if is_ordinary(bytes[at]) {
+        if until.is_inside(bytes[at]) {
             at += 1;
             continue;
         }
@@ -160,7 +183,7 @@ fn run_len(bytes: &[u8], form: bool, until: Until) -> (usize, bool)
 ///
 /// Other reads aren't counted. These are all of them:
 ///
-/// - A method may read a byte that it takes several times: to tell whether `is_ordinary` holds, whether it is an escape, and which token
+/// - A method may read a byte that it takes several times: to tell whether it ends the run, whether it is an escape, and which token
 ///   it begins. It reads the token that ends a run or a value again when it takes that token. If nothing is left, it only compares
 ///   lengths.
 /// - In form encoding it reads the two bytes after a `%`, which may be part of an escaped bracket.

@@ -1,5 +1,5 @@
 -- A run that is taken token by token.
-use Rattle.qs_tree.proofs.Common.{◌≡◌, ℕ, ◌+◌, ◌-◌, ◌≤◌, ◌&&◌, ◌||◌, ◌==◌, Bool, true, false, cond, List, [], ◌∷◌, ◌++◌, length, take, drop, get_or, ◌<◌, refl, sym, ap, ap₂, ◌∙◌, subst, arith, Option, Some, None, append_assoc, length-append, length-drop, drop-drop, IfSome, take-add, take-append_seam, drop_more, take_all, Kind, Token, tokens, byte_token, is_escaped_bracket, raw_of, cut, cut_at, kind_of_token, token_of, from_token, taken, IsLeft, IsOrdinary}
+use Rattle.qs_tree.proofs.Common.{◌≡◌, ℕ, ◌+◌, ◌-◌, ◌≤◌, ◌&&◌, ◌||◌, ◌==◌, Bool, true, false, cond, List, [], ◌∷◌, ◌++◌, length, take, drop, get_or, ◌<◌, refl, sym, ap, ap₂, ◌∙◌, subst, arith, Option, Some, None, append_assoc, length-append, length-drop, drop-drop, IfSome, take-add, take-append_seam, drop_more, take_all, Kind, Token, tokens, byte_token, is_escaped_bracket, raw_of, cut, cut_at, kind_of_token, token_of, from_token, taken, IsLeft, IsInside, byte_kind}
 use Rattle.qs_tree.specs.declared.scan.cursor.Token as code
 use Rattle.qs_tree.proofs.lemmas.scan.Values.{stop_ends}
 
@@ -13,15 +13,15 @@ taken_more start rest raw next h e =
     ∙ take-add (length start - length rest) (length raw) start
     ∙ ap (λ l. taken start rest ++ l) (ap (take (length raw)) (sym h ∙ e) ∙ take-append_seam raw next)
 
--- an ordinary byte is a token by itself
-pub ordinary_token : (form : Bool) (b : ℕ) (rest : List ℕ) → IsOrdinary b → tokens form (b ∷ rest) ≡ byte_token b ∷ tokens form rest
-ordinary_token form b (c ∷ e ∷ rest) h = by form (is_escaped_bracket b c e) (ap (λ x. (x && c == 53) && (e == 66 || e == 68)) h.0)
+-- a byte that is no `%` is a token by itself
+pub lone_token : (form : Bool) (b : ℕ) (rest : List ℕ) → (b == 37) ≡ false → tokens form (b ∷ rest) ≡ byte_token b ∷ tokens form rest
+lone_token form b (c ∷ e ∷ rest) h = by form (is_escaped_bracket b c e) (ap (λ x. (x && c == 53) && (e == 66 || e == 68)) h)
   where
     by : (f x : Bool) → x ≡ false → cond (f && x) (record { kind = cond (e == 66) Kind.Open Kind.Close; raw = b ∷ c ∷ e ∷ [] } ∷ tokens form rest) (byte_token b ∷ tokens form (c ∷ e ∷ rest)) ≡ byte_token b ∷ tokens form (c ∷ e ∷ rest)
     by false x i = refl
     by true false i = refl
     by true true i = cc
-ordinary_token form b rest h = refl
+lone_token form b rest h = refl
 
 module _ (ends : Kind → Bool) (form : Bool) (bytes : List ℕ) where
   -- the first bytes belong to the run, and what is left of it and ends it is as from there on
@@ -55,14 +55,15 @@ module _ (ends : Kind → Bool) (form : Bool) (bytes : List ℕ) where
       let all : take (length bytes - at) (drop at bytes) ≡ drop at bytes = take_all (length bytes - at) (drop at bytes) (omega (arith, long)) in
       goes_on at len k h (omega (arith, h.some, room, ap length all, long)) (subst (λ l. tokens form l ≡ record { kind = k; raw = take len l } ∷ tokens form (drop len l)) all is) other
 
-  pub ordinary_on : (at : ℕ) → ends Kind.Other ≡ false → Within at → at < length bytes → IsOrdinary (get_or bytes at 0) → Within (at + 1)
-  ordinary_on at other h some ordinary =
+  pub inside_on : (at : ℕ) → Within at → at < length bytes → IsInside ends (get_or bytes at 0) → Within (at + 1)
+  inside_on at h some inside =
+      let b = get_or bytes at 0 in
       let front = drop_more bytes at 0 some in
-      goes_on at 1 Kind.Other h (omega (arith, some))
-      (ap (tokens form) front ∙ ordinary_token form (get_or bytes at 0) (drop (at + 1) bytes) ordinary
-      ∙ ap₂ (λ k l. record { kind = k; raw = l } ∷ tokens form (drop (at + 1) bytes)) ordinary.1 (sym (ap (take 1) front))
-      ∙ ap (λ l. record { kind = Kind.Other; raw = take 1 (drop at bytes) } ∷ tokens form l) (sym (ap (drop 1) front)))
-      other
+      goes_on at 1 (byte_kind b) h (omega (arith, some))
+      (ap (tokens form) front ∙ lone_token form b (drop (at + 1) bytes) inside.0
+      ∙ ap (λ l. record { kind = byte_kind b; raw = l } ∷ tokens form (drop (at + 1) bytes)) (sym (ap (take 1) front))
+      ∙ ap (λ l. record { kind = byte_kind b; raw = take 1 (drop at bytes) } ∷ tokens form l) (sym (ap (drop 1) front)))
+      inside.1
 
 -- what follows a run ends it
 pub stop_kind : (ends : Kind → Bool) (ts : List Token) (stop : Option code.Token) (us : List Token) → (cut ends ts).1 ≡ from_token stop us → IfSome stop (λ t. ends (kind_of_token t.kind) ≡ true)

@@ -28,9 +28,15 @@ ends_of until.TheVariants.Close = is_close
 abbrev pub BeginsWith : Bool → List ℕ → kind.Kind → ℕ → Type 0
 BeginsWith form bytes k len = tokens form bytes ≡ record { kind = kind_of_token k; raw = take len bytes } ∷ tokens form (drop len bytes)
 
--- a byte that is no `%` and no separator or bracket, and so a token by itself
-abbrev pub IsOrdinary : ℕ → Type 0
-IsOrdinary b = ((b == 37) ≡ false) × (byte_kind b ≡ Kind.Other)
+-- a byte that is no `%`, and so a token by itself, and that doesn't end a run
+abbrev pub IsInside : (Kind → Bool) → ℕ → Type 0
+IsInside ends b = ((b == 37) ≡ false) × (ends (byte_kind b) ≡ false)
+
+-- the classes of the bytes that end a run, and of escapes
+abbrev pub classes_of : until.Until → ℕ
+classes_of until.TheVariants.Separator = 9
+classes_of until.TheVariants.SeparatorOrOpen = 11
+classes_of until.TheVariants.Close = 12
 
 -- the tokens that are left
 abbrev pub left : cursor.Cursor → List Token

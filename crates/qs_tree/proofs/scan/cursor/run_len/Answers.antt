@@ -1,21 +1,15 @@
-use Rattle.qs_tree.proofs.Common.{◌≡◌, false, refl, sym, ap, ◌∙◌, arith, inl, inr, cases_lt, is_escape, Other, ends_of, kind_of_token, slice_index}
-use Rattle.qs_tree.specs.declared.scan.cursor.Until as until
-use Rattle.qs_tree.proofs.lemmas.scan.Runs.{token_on, ordinary_on}
+use Rattle.qs_tree.proofs.Common.{◌≡◌, false, refl, sym, ap, ◌∙◌, arith, inl, inr, cases_lt, is_escape, ends_of, kind_of_token, slice_index}
+use Rattle.qs_tree.proofs.lemmas.scan.Runs.{token_on, inside_on}
 use Rattle.qs_tree.proofs.scan.cursor.run_len.Goals as goal
 
-pub loop-at-preserved-then-is_ordinary : goal.loop-at-preserved-then-is_ordinary
-loop-at-preserved-then-is_ordinary c = (
-  ordinary_on (ends_of c.args.until) c.args.form c.args.bytes.now c.loop-at.at (other c.args.until) c.loop-at.invariant.0 (omega (arith, c.loop-at-test.true)) (c.if-is_ordinary.ensures.ordinary refl),
+pub loop-at-preserved-then-is_inside : goal.loop-at-preserved-then-is_inside
+loop-at-preserved-then-is_inside c = (
+  inside_on (ends_of c.args.until) c.args.form c.args.bytes.now c.loop-at.at c.loop-at.invariant.0 (omega (arith, c.loop-at-test.true)) (c.if-is_inside.ensures.inside refl),
   λ unmarked k from to. elim (cases_lt k c.loop-at.at) [
     | inl early ↦ c.loop-at.invariant.1 unmarked k from early
-    | inr late ↦ ap (λ n. is_escape (slice_index c.args.bytes.now n)) (omega (arith, late, to)) ∙ c.if-is_ordinary.ensures.is_unmarked refl
+    | inr late ↦ ap (λ n. is_escape (slice_index c.args.bytes.now n)) (omega (arith, late, to)) ∙ c.if-is_inside.ensures.is_unmarked refl
   ],
 )
-  where
-    other : (u : until.Until) → ends_of u Other ≡ false
-    other until.TheVariants.Separator = refl
-    other until.TheVariants.SeparatorOrOpen = refl
-    other until.TheVariants.Close = refl
 
 pub loop-at-preserved : goal.loop-at-preserved
 loop-at-preserved c = (

@@ -16,12 +16,12 @@ pub struct Filter {
     pub size: Option<u8>,
 }
 
-type FilterParts = Struct<(String, Optional<u32, Optional<u8, ()>>)>;
+type FilterParts = Struct<(String, (Optional<u32>, (Optional<u8>, ())))>;
 
 const NAMES: &[&str] = &["text", "page", "size"];
 
 impl Compound for Filter {
-    ghost table = { made_of ⟦<FilterParts as Parts>⟧.table NAMES.now (λ filter. record { 0 = (filter.text, record { 0 = filter.page; 1 = record { 0 = filter.size; 1 = tt } }) }) _ };
+    ghost table = { made_of ⟦<FilterParts as Parts>⟧.table NAMES.now (λ filter. record { 0 = (filter.text, (record { 0 = filter.page }, (record { 0 = filter.size }, tt))) }) _ };
 
     fn form(alloc: Global) -> Result<Shape> {
         FilterParts::shape(alloc, NAMES)

@@ -50,19 +50,19 @@ pub struct Paging {
     pub is_short: bool,
 }
 
-type PagingParts = Struct<(String, Defaulted<Page, Defaulted<bool, ()>>)>;
+type PagingParts = Struct<(String, (Defaulted<Page>, (Defaulted<bool>, ())))>;
 
 const NAMES: &[&str] = &["text", "page", "short"];
 
 impl Compound for Paging {
-    ghost table = { made_of ⟦<PagingParts as Parts>⟧.table NAMES.now (λ paging. record { 0 = (paging.text, record { 0 = paging.page; 1 = record { 0 = paging.is_short; 1 = tt } }) }) _ };
+    ghost table = { made_of ⟦<PagingParts as Parts>⟧.table NAMES.now (λ paging. record { 0 = (paging.text, (record { 0 = paging.page }, (record { 0 = paging.is_short }, tt))) }) _ };
 
     fn form(alloc: Global) -> Result<Shape> {
         PagingParts::shape(alloc, NAMES)
     }
 
     fn read(source: Source) -> Result<Paging> {
-        let Struct((text, Defaulted(page, Defaulted(is_short, ())))) = PagingParts::read(
+        let Struct((text, (Defaulted(page), (Defaulted(is_short), ())))) = PagingParts::read(
             source, NAMES,
         )?;
         Ok(Paging {

@@ -30,14 +30,14 @@ pub struct Products {
     pub page: Option<u32>,
 }
 
-type ProductsParts = Struct<(BTreeMap<String, String>, Optional<Range, Rest>)>;
+type ProductsParts = Struct<(BTreeMap<String, String>, (Optional<Range>, Rest))>;
 
-type Rest = (Delimited<u32, Comma>, Optional<u32, ()>);
+type Rest = (Delimited<u32, Comma>, (Optional<u32>, ()));
 
 const NAMES: &[&str] = &["filter", "price", "shops", "page"];
 
 impl Compound for Products {
-    ghost table = { made_of ⟦<ProductsParts as Parts>⟧.table NAMES.now (λ p. record { 0 = (p.filter, record { 0 = p.price; 1 = (p.shops, record { 0 = p.page; 1 = tt }) }) }) _ };
+    ghost table = { made_of ⟦<ProductsParts as Parts>⟧.table NAMES.now (λ p. record { 0 = (p.filter, (record { 0 = p.price }, (p.shops, (record { 0 = p.page }, tt)))) }) _ };
 
     fn form(alloc: Global) -> Result<Shape> {
         ProductsParts::shape(alloc, NAMES)

@@ -16,12 +16,12 @@ use Rattle.qs_spec.specs.Tree.{Tree, Items, Entries}
 use Rattle.serde_qs.proofs.InRange.{below_64}
 use Rattle.serde_qs.specs.Fitting.{fitting}
 use Rattle.serde_qs.specs.Meaning.{both, boolean_in, option_data, option_in, sequence_in, text_in, unsigned_in, values_meant}
-use Rattle.serde_qs.specs.Optional.{is_first_named, optional_data, optional_in}
-use Rattle.serde_qs.specs.Records.{field_form, first_of, member_data, member_in, nothing_in, others_of, struct_in}
+use Rattle.serde_qs.specs.FieldTypes.{is_first_named}
+use Rattle.serde_qs.specs.Records.{field_data, field_form, field_in, first_of, member_in, nothing_in, others_of, struct_in}
 use Rattle.serde_qs.specs.internal.Booleans.{both_hold}
 use Rattle.serde_qs.specs.internal.Fitting.{itself}
 use Rattle.serde_qs.specs.declared.compound.optional.Optional.{Optional}
-use Rattle.serde_qs.specs.internal.Optional.{itself_named, later_named, other_field}
+use Rattle.serde_qs.specs.internal.FieldTypes.{itself_named, later_named, other_field}
 use Rattle.qs_tool.specs.internal.Exact.{IsExact}
 
 -- scalars
@@ -235,12 +235,12 @@ module _ {A B : Type 0} (t : Exact A) (r : ExactFields B) where
       let ns = r.are_meant later (both_hold (not (is_field_name (first_of names) fs)) (field_names_differ fs) k).1 ps in
       ((m.0, ns.0), ap (λ b. if b then both (t.meaning e) (r.meaning later ms) else None) ((bytes_eq-Decides (first_of names) (first_of names)).1 refl) ∙ both_meant (t.meaning e) (r.meaning later ms) m.0 ns.0 m.1 ns.1)
 
-  pub field_written : (names : List (List ℕ)) (x : A × B) (ms : Members) → member_in t.meaning r.meaning names ms ≡ Some (t.value x.0, r.value x.1) → members_of (member_data (t.datum x.0) (λ ns. r.written ns x.1) names) ≡ ms
+  pub field_written : (names : List (List ℕ)) (x : A × B) (ms : Members) → member_in t.meaning r.meaning names ms ≡ Some (t.value x.0, r.value x.1) → members_of (field_data (Some (t.datum x.0)) (λ ns. r.written ns x.1) names) ≡ ms
   field_written names x no_members p = cc
   field_written names x (one_member k e ms) p = by (bytes_eq k (first_of names)) refl p
     where
       by : (b : Bool) → bytes_eq k (first_of names) ≡ b → (if b then both (t.meaning e) (r.meaning (others_of names) ms) else None) ≡ Some (t.value x.0, r.value x.1)
-          → members_of (member_data (t.datum x.0) (λ ns. r.written ns x.1) names) ≡ one_member k e ms
+          → members_of (field_data (Some (t.datum x.0)) (λ ns. r.written ns x.1) names) ≡ one_member k e ms
       by true q p =
           let parts = both_parts (t.meaning e) (r.meaning (others_of names) ms) (t.value x.0) (r.value x.1) p in
           same_member k (first_of names) (t.datum x.0) e (members_of (r.written (others_of names) x.1)) ms q (t.exact.is_written x.0 e parts.0) (r.are_written (others_of names) x.1 ms parts.1)
@@ -248,14 +248,14 @@ module _ {A B : Type 0} (t : Exact A) (r : ExactFields B) where
 
   -- a field that was left out, before others
   absent : (names : List (List ℕ)) (ms : Members) (fs : Fields) → not (is_field_name (first_of names) fs) ≡ true → is_first_named fs ms ≡ true → (w : r.Value) → r.meaning (others_of names) ms ≡ Some w
-      → optional_in t.meaning r.meaning names ms ≡ Some (None, w)
+      → field_in (Some None) (λ e. option_map Some (t.meaning e)) r.meaning names ms ≡ Some (None, w)
   absent names no_members fs free named w p = ap (option_map (λ y. (None, y))) p
   absent names (one_member k e ms) fs free named w p =
       ap (λ b. if b then both (option_map Some (t.meaning e)) (r.meaning (others_of names) ms) else option_map (λ y. (None, y)) (r.meaning (others_of names) (one_member k e ms))) (other_field (first_of names) k fs free named)
       ∙ ap (option_map (λ y. (None, y))) p
 
   pub optional_meant : {reject_duplicates : Bool} (names : List (List ℕ)) {ms : Members} → field_names_differ (fields_of (field_form t.form true r.form names)) ≡ true → FieldsRead reject_duplicates (fields_of (field_form t.form true r.form names)) ms
-      → (v : Option t.Value × r.Value) × (optional_in t.meaning r.meaning names ms ≡ Some v)
+      → (v : Option t.Value × r.Value) × (field_in (Some None) (λ e. option_map Some (t.meaning e)) r.meaning names ms ≡ Some v)
   optional_meant names k (FieldsRead.one_read {d = e} {ms} p ps) =
       let later = others_of names in
       let fs = fields_of (r.form later) in
@@ -269,14 +269,14 @@ module _ {A B : Type 0} (t : Exact A) (r : ExactFields B) where
       let ns = r.are_meant later differ.1 ps in
       ((None, ns.0), absent names ms fs differ.0 (first_read ps) ns.0 ns.1)
 
-  pub optional_written : (names : List (List ℕ)) (a : Option A) (b : B) (ms : Members) → optional_in t.meaning r.meaning names ms ≡ Some (option_map t.value a, r.value b) → members_of (optional_data t.datum a (λ ns. r.written ns b) names) ≡ ms
+  pub optional_written : (names : List (List ℕ)) (a : Option A) (b : B) (ms : Members) → field_in (Some None) (λ e. option_map Some (t.meaning e)) r.meaning names ms ≡ Some (option_map t.value a, r.value b) → members_of (field_data (option_map t.datum a) (λ ns. r.written ns b) names) ≡ ms
   optional_written names None b no_members p = r.are_written (others_of names) b no_members (both_parts (Some None) (r.meaning (others_of names) no_members) None (r.value b) p).1
   optional_written names (Some a) b no_members p = let q = both_parts (Some None) (r.meaning (others_of names) no_members) (Some (t.value a)) (r.value b) p in absurd cc
   optional_written names a b (one_member k e ms) p = by (bytes_eq k (first_of names)) refl a p
     where
       by : (c : Bool) → bytes_eq k (first_of names) ≡ c → (a : Option A)
           → (if c then both (option_map Some (t.meaning e)) (r.meaning (others_of names) ms) else option_map (λ y. (None, y)) (r.meaning (others_of names) (one_member k e ms))) ≡ Some (option_map t.value a, r.value b)
-          → members_of (optional_data t.datum a (λ ns. r.written ns b) names) ≡ one_member k e ms
+          → members_of (field_data (option_map t.datum a) (λ ns. r.written ns b) names) ≡ one_member k e ms
       by true q None p = absurd (not_none (t.meaning e) (both_parts (option_map Some (t.meaning e)) (r.meaning (others_of names) ms) None (r.value b) p).0)
       by true q (Some a) p =
           let parts = both_parts (option_map Some (t.meaning e)) (r.meaning (others_of names) ms) (Some (t.value a)) (r.value b) p in
@@ -300,21 +300,21 @@ field t r = record {
   Value = t.Value × r.Value;
   value = λ x. (t.value x.0, r.value x.1);
   form = λ names. field_form t.form false r.form names;
-  written = λ names x. member_data (t.datum x.0) (λ ns. r.written ns x.1) names;
+  written = λ names x. field_data (Some (t.datum x.0)) (λ ns. r.written ns x.1) names;
   meaning = λ names ms. member_in t.meaning r.meaning names ms;
   are_meant = field_meant t r;
   are_written = λ names x ms p. field_written t r names x ms p;
 }
 
-abbrev pub optional_field : {A B : Type 0} → Exact A → ExactFields B → ExactFields (Optional A B)
+abbrev pub optional_field : {A B : Type 0} → Exact A → ExactFields B → ExactFields (Optional A × B)
 optional_field t r = record {
   Value = Option t.Value × r.Value;
-  value = λ x. (option_map t.value x.0, r.value x.1);
+  value = λ x. (option_map t.value x.0.0, r.value x.1);
   form = λ names. field_form t.form true r.form names;
-  written = λ names x. optional_data t.datum x.0 (λ ns. r.written ns x.1) names;
-  meaning = λ names ms. optional_in t.meaning r.meaning names ms;
+  written = λ names x. field_data (option_map t.datum x.0.0) (λ ns. r.written ns x.1) names;
+  meaning = λ names ms. field_in (Some None) (λ e. option_map Some (t.meaning e)) r.meaning names ms;
   are_meant = optional_meant t r;
-  are_written = λ names x ms p. optional_written t r names x.0 x.1 ms p;
+  are_written = λ names x ms p. optional_written t r names x.0.0 x.1 ms p;
 }
 
 -- a struct of such fields, strict or not

@@ -29,7 +29,7 @@ sequence {A} t = exact_of (sequence_exact t.value t.datum t.form t.meaning t.exa
 abbrev pub flat : {A : Type 0} → UnknownKeys → (A → Flat) → Exact A
 flat u of = exact_of (struct_exact (field string (field (number 8 refl) (field string (optional_field boolean (field (option string) no_fields)))))
     u (codes "name" ∷ codes "age" ∷ codes "occupation" ∷ codes "active" ∷ codes "note" ∷ []) refl
-    (λ x. ((of x).name, ((of x).age, ((of x).occupation, record { 0 = (of x).active; 1 = ((of x).note, tt) })))))
+    (λ x. ((of x).name, ((of x).age, ((of x).occupation, (record { 0 = (of x).active }, ((of x).note, tt)))))))
 
 abbrev pub address : {A : Type 0} → UnknownKeys → (A → Address) → Exact A
 address u of = exact_of (struct_exact (field string (field string (field string no_fields))) u (codes "city" ∷ codes "street" ∷ codes "postcode" ∷ []) refl

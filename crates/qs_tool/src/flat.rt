@@ -20,12 +20,12 @@ pub struct Flat {
     pub note: Option<String>,
 }
 
-type FlatFields = (String, (u8, (String, Optional<bool, (Option<String>, ())>)));
+type FlatFields = (String, (u8, (String, (Optional<bool>, (Option<String>, ())))));
 
 const NAMES: &[&str] = &["name", "age", "occupation", "active", "note"];
 
 impl Compound for Flat {
-    ghost table = { made_of ⟦<Struct<FlatFields> as Parts>⟧.table NAMES.now (λ flat. record { 0 = (flat.name, (flat.age, (flat.occupation, record { 0 = flat.active; 1 = (flat.note, tt) }))) }) _ };
+    ghost table = { made_of ⟦<Struct<FlatFields> as Parts>⟧.table NAMES.now (λ flat. record { 0 = (flat.name, (flat.age, (flat.occupation, (record { 0 = flat.active }, (flat.note, tt))))) }) _ };
 
     fn form(alloc: Global) -> Result<Shape> {
         Struct::<FlatFields>::shape(alloc, NAMES)
@@ -49,7 +49,7 @@ impl Compound for Flat {
 }
 
 impl Compound for Strict<Flat> {
-    ghost table = { made_of ⟦<StrictStruct<FlatFields> as Parts>⟧.table NAMES.now (λ strict. record { 0 = (strict.0.name, (strict.0.age, (strict.0.occupation, record { 0 = strict.0.active; 1 = (strict.0.note, tt) }))) }) _ };
+    ghost table = { made_of ⟦<StrictStruct<FlatFields> as Parts>⟧.table NAMES.now (λ strict. record { 0 = (strict.0.name, (strict.0.age, (strict.0.occupation, (record { 0 = strict.0.active }, (strict.0.note, tt))))) }) _ };
 
     fn form(alloc: Global) -> Result<Shape> {
         StrictStruct::<FlatFields>::shape(alloc, NAMES)

@@ -1,7 +1,7 @@
 -- The fields of a struct, read from a node: by their names among keys, and by their indices among items.
 use Rattle.std.proofs.Common.{◌≡◌, Bool, true, false, List, [], ◌∷◌, Option, Some, None, Result, refl, sym, ap, ap₂, ◌∙◌}
 use Rattle.std.specs.Result.{IsErrAnd}
-use Rattle.std.specs.Prelude.{ℕ, if◌then◌else◌, not, cond}
+use Rattle.std.specs.Prelude.{ℕ, if◌then◌else◌, not, cond, is_some}
 use Rattle.std.specs.Option.{option_map, option_and_then}
 use Rattle.std.specs.Str.{bytes_eq}
 use Rattle.std.proofs.lemmas.Slice.Eq.{bytes_eq-Decides}
@@ -16,14 +16,13 @@ use Rattle.qs_tree.specs.declared.error.Error.{Error}
 use Rattle.qs_data.specs.read.Gives.{Gives, Rejects}
 use Rattle.qs_data.specs.read.TreeText.{is_text, items_are_text}
 use Rattle.qs_data.proofs.lemmas.read.Errors.{and_right, gives_exit}
-use Rattle.serde_qs.specs.Defaulted.{defaulted_in}
+use Rattle.serde_qs.specs.FieldTypes.{absent, is_first_named, keyless}
 use Rattle.serde_qs.specs.Meaning.{both}
 use Rattle.serde_qs.specs.Nodes.{by_names, by_places, missing_data}
 use Rattle.serde_qs.specs.internal.NodeParts.{value_found, value_placed}
-use Rattle.serde_qs.specs.Optional.{is_first_named, optional_in}
-use Rattle.serde_qs.specs.Records.{field_form, first_of, member_in, others_of}
+use Rattle.serde_qs.specs.Records.{field_form, field_in, first_of, others_of}
 use Rattle.serde_qs.specs.internal.Booleans.{both_hold}
-use Rattle.serde_qs.specs.internal.Optional.{itself_named, later_named, other_field}
+use Rattle.serde_qs.specs.internal.FieldTypes.{itself_named, later_named, other_field}
 
 no_pair : {A B : Type 0} (a : Option A) (b : Option B) → b ≡ None → None ≡ both a b
 no_pair None b h = refl
@@ -35,47 +34,6 @@ same_name n = (bytes_eq-Decides n n).1 refl
 -- what is meant by the fields after the first
 abbrev rest_in : {B : Type 0} → (List (List ℕ) → Members → Option B) → List (List ℕ) → Option (List Named) → Option B
 rest_in others names rest = option_and_then (λ ms. others (others_of names) (members_of ms)) rest
-
--- a field that is there, whatever it means where it isn't
-
-module _ {A B : Type 0} (m : Data → Option A) (others : List (List ℕ) → Members → Option B) (names : List (List ℕ)) where
-  abbrev n : List ℕ
-  n = first_of names
-
-  member_there : (x : Data) (rest : Option (List Named)) → option_and_then (λ ms. member_in m others names (members_of ms)) (with_front (n, x) rest) ≡ both (m x) (rest_in others names rest)
-  member_there x None = no_pair (m x) None refl
-  member_there x (Some ms) = ap (λ b. if b then both (m x) (others (others_of names) (members_of ms)) else None) (same_name n)
-
-  read_there : (o : Option Data) (rest : Option (List Named))
-      → option_and_then (λ ms. member_in m others names (members_of ms)) (option_and_then (λ x. with_field n x rest) (option_map Some o)) ≡ both (option_and_then m o) (rest_in others names rest)
-  read_there None rest = refl
-  read_there (Some x) rest = member_there x rest
-
-  found_there : (p : Bool) (r : Reader) (ts : List Tree) (rest : Option (List Named))
-      → option_and_then (λ ms. member_in m others names (members_of ms)) (option_and_then (λ x. with_field n x rest) (read_field false p r ts)) ≡ both (value_found m (option_and_then m (cond p (Some d.none) None)) r ts) (rest_in others names rest)
-  found_there true r [] rest = member_there d.none rest
-  found_there false r [] rest = refl
-  found_there p r (t ∷ []) rest = read_there (r t) rest
-  found_there p r (t ∷ u ∷ ts) rest = refl
-
-  placed_there : (r : Reader) (xs : Items) (rest : Option (List Named))
-      → option_and_then (λ ms. member_in m others names (members_of ms)) (option_and_then (λ x. with_field n x rest) (read_place false r xs)) ≡ both (value_placed m None r xs) (rest_in others names rest)
-  placed_there r no_items rest = refl
-  placed_there r (item t xs) rest = read_there (r t) rest
-
-pair_by_names : {A B : Type 0} (m : Data → Option A) (others : List (List ℕ) → Members → Option B) (reject_duplicates : Bool) (s : Shape) (form : List (List ℕ) → List Field) (names : List (List ℕ)) (es : Entries)
-    → by_names reject_duplicates (field_form s false form names) (member_in m others names) es
-    ≡ both (value_found m (option_and_then m (missing_data s)) (reads reject_duplicates s) (found (first_of names) es)) (by_names reject_duplicates (form (others_of names)) (others (others_of names)) es)
-unfolding reads
-pair_by_names m others reject_duplicates s form names es =
-    found_there m others names (is_option s) (reads reject_duplicates s) (found (first_of names) es) (reads_names reject_duplicates (fields_of (form (others_of names))) es)
-
-pair_by_places : {A B : Type 0} (m : Data → Option A) (others : List (List ℕ) → Members → Option B) (reject_duplicates : Bool) (s : Shape) (form : List (List ℕ) → List Field) (names : List (List ℕ)) (xs : Items)
-    → by_places reject_duplicates (field_form s false form names) (member_in m others names) xs
-    ≡ both (value_placed m None (reads reject_duplicates s) xs) (by_places reject_duplicates (form (others_of names)) (others (others_of names)) (items_after xs))
-unfolding reads
-pair_by_places m others reject_duplicates s form names xs =
-    placed_there m others names (reads reject_duplicates s) xs (reads_places reject_duplicates (fields_of (form (others_of names))) (items_after xs))
 
 -- the first of the members that are read has the name of a field
 
@@ -100,142 +58,74 @@ places_named reject_duplicates [] xs ms e = let is : [] ≡ ms = cc in ap (λ ys
 places_named reject_duplicates (f ∷ fs) xs ms e =
     first_there f.0 f.1 f.2 (fields_of fs) (reads_places reject_duplicates (fields_of fs) (items_after xs)) (places_named reject_duplicates fs (items_after xs)) (read_place f.2 (reads reject_duplicates f.1) xs) ms e
 
--- a field that may be left out, whatever it means then
-module _ {A B : Type 0} (here : Data → Option A) (absent : Option A) (others : List (List ℕ) → Members → Option B) (names : List (List ℕ)) where
+-- a field and those after it
+
+module _ {A B : Type 0} (m : Data → Option A) (others : List (List ℕ) → Members → Option B) (names : List (List ℕ)) (rest : Option (List Named)) where
   abbrev first : List ℕ
   first = first_of names
 
-  -- the meaning of a field's members, and those after it
-  abbrev pub left_in : Members → Option (A × B)
-  left_in no_members = both absent (others (others_of names) no_members)
-  left_in (one_member k x ms) = if bytes_eq k first then both (here x) (others (others_of names) ms) else both absent (others (others_of names) (one_member k x ms))
+  -- the field is there
+  there : (v : Option A) (o : Option Data) → option_and_then (λ ms. field_in v m others names (members_of ms)) (option_and_then (λ x. with_field first x rest) (option_map Some o)) ≡ both (option_and_then m o) (rest_in others names rest)
+  there v None = refl
+  there v (Some x) = by rest
+    where
+      by : (rest : Option (List Named)) → option_and_then (λ ms. field_in v m others names (members_of ms)) (with_front (first, x) rest) ≡ both (m x) (rest_in others names rest)
+      by None = no_pair (m x) None refl
+      by (Some ms) = ap (λ b. if b then both (m x) (others (others_of names) (members_of ms)) else both v (others (others_of names) (one_member first x (members_of ms)))) (same_name first)
 
-  left_there : (x : Data) (rest : Option (List Named)) → option_and_then (λ ms. left_in (members_of ms)) (with_front (first, x) rest) ≡ both (here x) (rest_in others names rest)
-  left_there x None = no_pair (here x) None refl
-  left_there x (Some ms) = ap (λ b. if b then both (here x) (others (others_of names) (members_of ms)) else both absent (others (others_of names) (one_member first x (members_of ms)))) (same_name first)
+  -- the field isn't there, and may be missing
+  module _ (fs : Fields) (free : not (is_field_name first fs) ≡ true) (named : (ms : List Named) → rest ≡ Some ms → is_first_named fs (members_of ms) ≡ true) where
+    gone : (v : Option A) → option_and_then (λ ms. field_in v m others names (members_of ms)) rest ≡ both v (rest_in others names rest)
+    gone v = by rest named
+      where
+        by : (rest : Option (List Named)) → ((ms : List Named) → rest ≡ Some ms → is_first_named fs (members_of ms) ≡ true)
+            → option_and_then (λ ms. field_in v m others names (members_of ms)) rest ≡ both v (rest_in others names rest)
+        by None named = no_pair v None refl
+        by (Some []) named = refl
+        by (Some (p ∷ ms)) named =
+            ap (λ b. if b then both (m p.1) (others (others_of names) (members_of ms)) else both v (others (others_of names) (one_member p.0 p.1 (members_of ms)))) (other_field first p.0 fs free (named (p ∷ ms) refl))
 
-  left_read : (o : Option Data) (rest : Option (List Named)) → option_and_then (λ ms. left_in (members_of ms)) (option_and_then (λ x. with_field first x rest) (option_map Some o)) ≡ both (option_and_then here o) (rest_in others names rest)
-  left_read None rest = refl
-  left_read (Some x) rest = left_there x rest
+    by_name : (missing : Option (Option A)) (p : Bool) (r : Reader) (ts : List Tree)
+        → option_and_then (λ ms. field_in (absent missing) m others names (members_of ms)) (option_and_then (λ x. with_field first x rest) (read_field (is_some missing) p r ts))
+        ≡ both (value_found m (keyless m (cond p (Some d.none) None) missing) r ts) (rest_in others names rest)
+    by_name None true r [] = there None (Some d.none)
+    by_name None false r [] = refl
+    by_name (Some v) p r [] = gone v
+    by_name missing p r (t ∷ []) = there (absent missing) (r t)
+    by_name missing p r (t ∷ u ∷ ts) = refl
 
-  left_out : (fs : Fields) → not (is_field_name first fs) ≡ true → (rest : Option (List Named)) → ((ms : List Named) → rest ≡ Some ms → is_first_named fs (members_of ms) ≡ true)
-      → option_and_then (λ ms. left_in (members_of ms)) rest ≡ both absent (rest_in others names rest)
-  left_out fs free None named = no_pair absent None refl
-  left_out fs free (Some []) named = refl
-  left_out fs free (Some (p ∷ ms)) named =
-      ap (λ b. if b then both (here p.1) (others (others_of names) (members_of ms)) else both absent (others (others_of names) (one_member p.0 p.1 (members_of ms)))) (other_field first p.0 fs free (named (p ∷ ms) refl))
-
-  pub left_by_name : (p : Bool) (r : Reader) (fs : Fields) → not (is_field_name first fs) ≡ true → (rest : Option (List Named)) → ((ms : List Named) → rest ≡ Some ms → is_first_named fs (members_of ms) ≡ true) → (ts : List Tree)
-      → option_and_then (λ ms. left_in (members_of ms)) (option_and_then (λ x. with_field first x rest) (read_field true p r ts)) ≡ both (value_found here absent r ts) (rest_in others names rest)
-  left_by_name p r fs free rest named [] = left_out fs free rest named
-  left_by_name p r fs free rest named (t ∷ []) = left_read (r t) rest
-  left_by_name p r fs free rest named (t ∷ u ∷ ts) = refl
-
-  pub left_by_place : (r : Reader) (fs : Fields) → not (is_field_name first fs) ≡ true → (rest : Option (List Named)) → ((ms : List Named) → rest ≡ Some ms → is_first_named fs (members_of ms) ≡ true) → (xs : Items)
-      → option_and_then (λ ms. left_in (members_of ms)) (option_and_then (λ x. with_field first x rest) (read_place true r xs)) ≡ both (value_placed here absent r xs) (rest_in others names rest)
-  left_by_place r fs free rest named no_items = left_out fs free rest named
-  left_by_place r fs free rest named (item t xs) = left_read (r t) rest
-
--- both kinds of such fields
-
-as_optional : {A B : Type 0} (m : Data → Option A) (others : List (List ℕ) → Members → Option B) (names : List (List ℕ)) (o : Option (List Named))
-    → option_and_then (λ ms. optional_in m others names (members_of ms)) o ≡ option_and_then (λ ms. left_in (λ x. option_map Some (m x)) (Some None) others names (members_of ms)) o
-as_optional m others names None = refl
-as_optional m others names (Some []) = refl
-as_optional m others names (Some (p ∷ ms)) = refl
-
-as_defaulted : {A B : Type 0} (missing : Data) (m : Data → Option A) (others : List (List ℕ) → Members → Option B) (names : List (List ℕ)) (o : Option (List Named))
-    → option_and_then (λ ms. defaulted_in missing m others names (members_of ms)) o ≡ option_and_then (λ ms. left_in m (m missing) others names (members_of ms)) o
-as_defaulted missing m others names None = refl
-as_defaulted missing m others names (Some []) = refl
-as_defaulted missing m others names (Some (p ∷ ms)) = refl
-
--- the first name is none of the others
-free : (s : Shape) (form : List (List ℕ) → List Field) (names : List (List ℕ)) → field_names_differ (fields_of (field_form s true form names)) ≡ true → not (is_field_name (first_of names) (fields_of (form (others_of names)))) ≡ true
-free s form names h = (both_hold (not (is_field_name (first_of names) (fields_of (form (others_of names))))) (field_names_differ (fields_of (form (others_of names)))) h).0
-
-optional_by_names : {A B : Type 0} (m : Data → Option A) (others : List (List ℕ) → Members → Option B) (reject_duplicates : Bool) (s : Shape) (form : List (List ℕ) → List Field) (names : List (List ℕ)) (es : Entries)
-    → field_names_differ (fields_of (field_form s true form names)) ≡ true → by_names reject_duplicates (field_form s true form names) (optional_in m others names) es
-    ≡ both (value_found (λ x. option_map Some (m x)) (Some None) (reads reject_duplicates s) (found (first_of names) es)) (by_names reject_duplicates (form (others_of names)) (others (others_of names)) es)
-unfolding reads
-optional_by_names m others reject_duplicates s form names es h =
-    let fs = form (others_of names) in
-    as_optional m others names (reads_names reject_duplicates (fields_of (field_form s true form names)) es)
-    ∙ left_by_name (λ x. option_map Some (m x)) (Some None) others names (is_option s) (reads reject_duplicates s) (fields_of fs) (free s form names h) (reads_names reject_duplicates (fields_of fs) es) (names_named reject_duplicates fs es) (found (first_of names) es)
-
-optional_by_places : {A B : Type 0} (m : Data → Option A) (others : List (List ℕ) → Members → Option B) (reject_duplicates : Bool) (s : Shape) (form : List (List ℕ) → List Field) (names : List (List ℕ)) (xs : Items)
-    → field_names_differ (fields_of (field_form s true form names)) ≡ true → by_places reject_duplicates (field_form s true form names) (optional_in m others names) xs
-    ≡ both (value_placed (λ x. option_map Some (m x)) (Some None) (reads reject_duplicates s) xs) (by_places reject_duplicates (form (others_of names)) (others (others_of names)) (items_after xs))
-unfolding reads
-optional_by_places m others reject_duplicates s form names xs h =
-    let fs = form (others_of names) in
-    as_optional m others names (reads_places reject_duplicates (fields_of (field_form s true form names)) xs)
-    ∙ left_by_place (λ x. option_map Some (m x)) (Some None) others names (reads reject_duplicates s) (fields_of fs) (free s form names h) (reads_places reject_duplicates (fields_of fs) (items_after xs)) (places_named reject_duplicates fs (items_after xs)) xs
-
-defaulted_by_names : {A B : Type 0} (missing : Data) (m : Data → Option A) (others : List (List ℕ) → Members → Option B) (reject_duplicates : Bool) (s : Shape) (form : List (List ℕ) → List Field) (names : List (List ℕ)) (es : Entries)
-    → field_names_differ (fields_of (field_form s true form names)) ≡ true → by_names reject_duplicates (field_form s true form names) (defaulted_in missing m others names) es
-    ≡ both (value_found m (m missing) (reads reject_duplicates s) (found (first_of names) es)) (by_names reject_duplicates (form (others_of names)) (others (others_of names)) es)
-unfolding reads
-defaulted_by_names missing m others reject_duplicates s form names es h =
-    let fs = form (others_of names) in
-    as_defaulted missing m others names (reads_names reject_duplicates (fields_of (field_form s true form names)) es)
-    ∙ left_by_name m (m missing) others names (is_option s) (reads reject_duplicates s) (fields_of fs) (free s form names h) (reads_names reject_duplicates (fields_of fs) es) (names_named reject_duplicates fs es) (found (first_of names) es)
-
-defaulted_by_places : {A B : Type 0} (missing : Data) (m : Data → Option A) (others : List (List ℕ) → Members → Option B) (reject_duplicates : Bool) (s : Shape) (form : List (List ℕ) → List Field) (names : List (List ℕ)) (xs : Items)
-    → field_names_differ (fields_of (field_form s true form names)) ≡ true → by_places reject_duplicates (field_form s true form names) (defaulted_in missing m others names) xs
-    ≡ both (value_placed m (m missing) (reads reject_duplicates s) xs) (by_places reject_duplicates (form (others_of names)) (others (others_of names)) (items_after xs))
-unfolding reads
-defaulted_by_places missing m others reject_duplicates s form names xs h =
-    let fs = form (others_of names) in
-    as_defaulted missing m others names (reads_places reject_duplicates (fields_of (field_form s true form names)) xs)
-    ∙ left_by_place m (m missing) others names (reads reject_duplicates s) (fields_of fs) (free s form names h) (reads_places reject_duplicates (fields_of fs) (items_after xs)) (places_named reject_duplicates fs (items_after xs)) xs
+    by_place : (missing : Option (Option A)) (r : Reader) (xs : Items)
+        → option_and_then (λ ms. field_in (absent missing) m others names (members_of ms)) (option_and_then (λ x. with_field first x rest) (read_place (is_some missing) r xs)) ≡ both (value_placed m (absent missing) r xs) (rest_in others names rest)
+    by_place None r no_items = refl
+    by_place (Some v) r no_items = gone v
+    by_place missing r (item t xs) = there (absent missing) (r t)
 
 -- the same by the names that a function has split
 
-module _ {A B : Type 0} (m : Data → Option A) (others : List (List ℕ) → Members → Option B) (reject_duplicates : Bool) (s : Shape) (form : List (List ℕ) → List Field) (names : List (List ℕ))
-    (name : List ℕ) (rest : List (List ℕ)) (is_first : name ≡ first_of names) (are_others : rest ≡ others_of names) where
-  pub pair_named : (es : Entries) → by_names reject_duplicates (field_form s false form names) (member_in m others names) es
-      ≡ both (value_found m (option_and_then m (missing_data s)) (reads reject_duplicates s) (found name es)) (by_names reject_duplicates (form rest) (others rest) es)
-  pair_named es =
-      pair_by_names m others reject_duplicates s form names es
-      ∙ ap₂ (λ n ns. both (value_found m (option_and_then m (missing_data s)) (reads reject_duplicates s) (found n es)) (by_names reject_duplicates (form ns) (others ns) es)) (sym is_first) (sym are_others)
+module _ {A B : Type 0} (missing : Option (Option A)) (m : Data → Option A) (others : List (List ℕ) → Members → Option B) (reject_duplicates : Bool) (s : Shape) (form : List (List ℕ) → List Field) (names : List (List ℕ))
+    (name : List ℕ) (rest : List (List ℕ)) (is_first : name ≡ first_of names) (are_others : rest ≡ others_of names) (differ : field_names_differ (fields_of (field_form s (is_some missing) form names)) ≡ true) where
+  -- the first name is none of the others, and these differ too
+  names_differ : (not (is_field_name (first_of names) (fields_of (form (others_of names)))) ≡ true) × (field_names_differ (fields_of (form (others_of names))) ≡ true)
+  names_differ = both_hold (not (is_field_name (first_of names) (fields_of (form (others_of names))))) (field_names_differ (fields_of (form (others_of names)))) differ
 
-  pub pair_placed : (xs : Items) → by_places reject_duplicates (field_form s false form names) (member_in m others names) xs
-      ≡ both (value_placed m None (reads reject_duplicates s) xs) (by_places reject_duplicates (form rest) (others rest) (items_after xs))
-  pair_placed xs =
-      pair_by_places m others reject_duplicates s form names xs
-      ∙ ap (λ ns. both (value_placed m None (reads reject_duplicates s) xs) (by_places reject_duplicates (form ns) (others ns) (items_after xs))) (sym are_others)
+  pub others_differ : field_names_differ (fields_of (form rest)) ≡ true
+  others_differ = ap (λ ns. field_names_differ (fields_of (form ns))) are_others ∙ names_differ.1
 
-  module _ (differ : field_names_differ (fields_of (field_form s true form names)) ≡ true) where
-    pub optional_named : (es : Entries) → by_names reject_duplicates (field_form s true form names) (optional_in m others names) es
-        ≡ both (value_found (λ x. option_map Some (m x)) (Some None) (reads reject_duplicates s) (found name es)) (by_names reject_duplicates (form rest) (others rest) es)
-    optional_named es =
-        optional_by_names m others reject_duplicates s form names es differ
-        ∙ ap₂ (λ n ns. both (value_found (λ x. option_map Some (m x)) (Some None) (reads reject_duplicates s) (found n es)) (by_names reject_duplicates (form ns) (others ns) es)) (sym is_first) (sym are_others)
+  pub field_by_name : (es : Entries) → by_names reject_duplicates (field_form s (is_some missing) form names) (field_in (absent missing) m others names) es
+      ≡ both (value_found m (keyless m (missing_data s) missing) (reads reject_duplicates s) (found name es)) (by_names reject_duplicates (form rest) (others rest) es)
+  unfolding reads
+  field_by_name es =
+      let fs = form (others_of names) in
+      by_name m others names (reads_names reject_duplicates (fields_of fs) es) (fields_of fs) names_differ.0 (names_named reject_duplicates fs es) missing (is_option s) (reads reject_duplicates s) (found (first_of names) es)
+      ∙ ap₂ (λ n ns. both (value_found m (keyless m (missing_data s) missing) (reads reject_duplicates s) (found n es)) (by_names reject_duplicates (form ns) (others ns) es)) (sym is_first) (sym are_others)
 
-    pub optional_placed : (xs : Items) → by_places reject_duplicates (field_form s true form names) (optional_in m others names) xs
-        ≡ both (value_placed (λ x. option_map Some (m x)) (Some None) (reads reject_duplicates s) xs) (by_places reject_duplicates (form rest) (others rest) (items_after xs))
-    optional_placed xs =
-        optional_by_places m others reject_duplicates s form names xs differ
-        ∙ ap (λ ns. both (value_placed (λ x. option_map Some (m x)) (Some None) (reads reject_duplicates s) xs) (by_places reject_duplicates (form ns) (others ns) (items_after xs))) (sym are_others)
-
-    pub defaulted_named : (missing : Data) (es : Entries) → by_names reject_duplicates (field_form s true form names) (defaulted_in missing m others names) es
-        ≡ both (value_found m (m missing) (reads reject_duplicates s) (found name es)) (by_names reject_duplicates (form rest) (others rest) es)
-    defaulted_named missing es =
-        defaulted_by_names missing m others reject_duplicates s form names es differ
-        ∙ ap₂ (λ n ns. both (value_found m (m missing) (reads reject_duplicates s) (found n es)) (by_names reject_duplicates (form ns) (others ns) es)) (sym is_first) (sym are_others)
-
-    pub defaulted_placed : (missing : Data) (xs : Items) → by_places reject_duplicates (field_form s true form names) (defaulted_in missing m others names) xs
-        ≡ both (value_placed m (m missing) (reads reject_duplicates s) xs) (by_places reject_duplicates (form rest) (others rest) (items_after xs))
-    defaulted_placed missing xs =
-        defaulted_by_places missing m others reject_duplicates s form names xs differ
-        ∙ ap (λ ns. both (value_placed m (m missing) (reads reject_duplicates s) xs) (by_places reject_duplicates (form ns) (others ns) (items_after xs))) (sym are_others)
-
-    -- the names of the others differ too
-    pub others_differ : field_names_differ (fields_of (form rest)) ≡ true
-    others_differ =
-        ap (λ ns. field_names_differ (fields_of (form ns))) are_others
-        ∙ (both_hold (not (is_field_name (first_of names) (fields_of (form (others_of names))))) (field_names_differ (fields_of (form (others_of names)))) differ).1
+  pub field_by_place : (xs : Items) → by_places reject_duplicates (field_form s (is_some missing) form names) (field_in (absent missing) m others names) xs
+      ≡ both (value_placed m (absent missing) (reads reject_duplicates s) xs) (by_places reject_duplicates (form rest) (others rest) (items_after xs))
+  unfolding reads
+  field_by_place xs =
+      let fs = form (others_of names) in
+      by_place m others names (reads_places reject_duplicates (fields_of fs) (items_after xs)) (fields_of fs) names_differ.0 (places_named reject_duplicates fs (items_after xs)) missing (reads reject_duplicates s) xs
+      ∙ ap (λ ns. both (value_placed m (absent missing) (reads reject_duplicates s) xs) (by_places reject_duplicates (form ns) (others ns) (items_after xs))) (sym are_others)
 
 -- of what was read of the first field and of the others
 

@@ -7,8 +7,7 @@ pub mod Names
 pub mod Records
 pub mod ComesBack
 pub mod Fitting
-pub mod Optional
-pub mod Defaulted
+pub mod FieldTypes
 pub mod Tuples
 pub mod Variants
 pub mod Compound

@@ -1,15 +1,14 @@
 -- Tables of what structs and enums are made of.
-use Rattle.std.specs.Prelude.{◌≡◌, ℕ, suc, ◌+◌, ◌==◌, Bool, true, false, List, [], ◌∷◌, length, map, Option, option_map, refl}
+use Rattle.std.specs.Prelude.{◌≡◌, ℕ, suc, ◌+◌, ◌==◌, Bool, true, List, [], ◌∷◌, length, map, Option, Some, None, is_some, option_map, refl}
 use Rattle.qs_spec.specs.Data as d
 use Rattle.qs_spec.specs.Data.{Data, Members, Named, Values, members_of, values_of}
 use Rattle.qs_spec.specs.Shape as s
 use Rattle.qs_spec.specs.Shape.{Shape, Field, fields_of, shapes_of, variants_of, Variant, VariantKind, UnknownKeys, is_distinct, are_distinct, are_distinct_fields}
 use Rattle.serde_qs.specs.ComesBack.{FieldsComeBack, FieldsFit, PartsComeBack, PartsFit}
-use Rattle.serde_qs.specs.Defaulted.{defaulted_in}
+use Rattle.serde_qs.specs.FieldTypes.{FieldComesBack, FieldFits, FieldsAreNamed, absent}
 use Rattle.serde_qs.specs.Meaning.{newtype_in}
 use Rattle.serde_qs.specs.Names.{NamesSuitFields, suited}
-use Rattle.serde_qs.specs.Optional.{FieldsAreNamed, optional_data, optional_in}
-use Rattle.serde_qs.specs.Records.{are_names, field_form, member_data, member_in, nothing_in, others_of, struct_in}
+use Rattle.serde_qs.specs.Records.{are_names, field_data, field_form, field_in, nothing_in, others_of, struct_in}
 use Rattle.serde_qs.specs.Tables.{Table, table_with}
 use Rattle.serde_qs.specs.Tuples.{ItemsComeBack, ItemsFit, item_in, no_item_in, tuple_in, tuple_variant_in}
 use Rattle.serde_qs.specs.Variants.{AreDistinct, AreNamed, KindComesBack, KindFits, KindIsDistinct, KindIsNamed, VariantsComeBack, VariantsFit, are_variants, each, last_data, last_form, last_in, newtype_variant_in, struct_variant_in, unit_variant_in, variant_data, variant_form, variant_in}
@@ -23,10 +22,9 @@ use Rattle.serde_qs.specs.declared.compound.strict.StrictStruct.{StrictStruct}
 use Rattle.serde_qs.specs.declared.compound.variants.Last.{Last}
 use Rattle.serde_qs.specs.declared.compound.variants.OneOf.{OneOf}
 use Rattle.serde_qs.specs.internal.Booleans.{both_true}
-use Rattle.serde_qs.specs.internal.ComesBack.{fields_back, newtype_back, nothing_back, struct_back}
-use Rattle.serde_qs.specs.internal.Defaulted.{defaulted_back}
-use Rattle.serde_qs.specs.internal.Fits.{enum_fits, field_fits, items_fit, last_fits, newtype_variant_fits, nothing_fits, one_fits, optional_fits, struct_fits, struct_variant_fits, tuple_fits, tuple_variant_fits}
-use Rattle.serde_qs.specs.internal.Optional.{field_named, optional_back, optional_named}
+use Rattle.serde_qs.specs.internal.ComesBack.{newtype_back, nothing_back, struct_back}
+use Rattle.serde_qs.specs.internal.FieldTypes.{field_back, field_named, some_back, some_fits}
+use Rattle.serde_qs.specs.internal.Fits.{enum_fits, field_fits, items_fit, last_fits, newtype_variant_fits, nothing_fits, one_fits, struct_fits, struct_variant_fits, tuple_fits, tuple_variant_fits}
 use Rattle.serde_qs.specs.internal.Records.{differ}
 use Rattle.serde_qs.specs.internal.Tuples.{items_back, no_item_back, tuple_back, tuple_variant_back}
 use Rattle.serde_qs.specs.internal.Variants.{enum_back, enum_distinct, last_back, last_distinct, last_named, newtype_variant_back, one_back, one_distinct, one_named, struct_variant_back, unit_variant_back}
@@ -63,52 +61,75 @@ no_fields = record {
   are_distinct = λ names. refl;
 }
 
+-- A field: what it holds, its data, unless it is left out, its shape, what data means, and what it is if it is missing, where it may be. The
+-- data fits the shape if it is plain, and the value comes back from it.
+pub record FieldTable (A : Type 0) : Type 1 where
+  pub Value : Type 0
+  pub value : A → Value
+  pub datum : A → Option Data
+  pub form : Shape
+  pub meaning : Data → Option Value
+  pub missing : Option (Option Value)
+  pub distinct : is_distinct form ≡ true
+  pub fits : FieldFits datum form (is_some missing)
+  pub comes_back : FieldComesBack datum meaning (absent missing) value
+
+-- a field that must be there
+abbrev pub required : {A : Type 0} → Table A → FieldTable A
+required t = record {
+  Value = t.Value;
+  value = t.value;
+  datum = λ x. Some (t.datum x);
+  form = t.form;
+  meaning = t.meaning;
+  missing = None;
+  distinct = t.distinct;
+  fits = λ mode x. t.fit mode x;
+  comes_back = λ mode x e h p. t.comes_back mode x e h p;
+}
+
+-- a field that may be left out
+abbrev pub optional : {A : Type 0} → Table A → FieldTable (Optional A)
+optional t = record {
+  Value = Option t.Value;
+  value = λ x. option_map t.value x.0;
+  datum = λ x. option_map t.datum x.0;
+  form = t.form;
+  meaning = λ e. option_map Some (t.meaning e);
+  missing = Some (Some None);
+  distinct = t.distinct;
+  fits = λ mode x. some_fits t.datum t.form t.fit mode x.0;
+  comes_back = λ mode x. some_back t.datum t.meaning t.value t.comes_back mode x.0;
+}
+
+-- a field that has the value of this data if it is missing
+abbrev pub defaulted : {A : Type 0} → Data → Table A → FieldTable (Defaulted A)
+defaulted default t = record {
+  Value = t.Value;
+  value = λ x. t.value x.0;
+  datum = λ x. Some (t.datum x.0);
+  form = t.form;
+  meaning = t.meaning;
+  missing = Some (t.meaning default);
+  distinct = t.distinct;
+  fits = λ mode x. t.fit mode x.0;
+  comes_back = λ mode x e h p. t.comes_back mode x.0 e h p;
+}
+
 -- a field, and the fields after it
-abbrev pub field : {A B : Type 0} → Table A → FieldsTable B → FieldsTable (A × B)
-field t r = record {
-  Value = t.Value × r.Value;
-  value = λ x. (t.value x.0, r.value x.1);
+abbrev pub field : {A B : Type 0} → FieldTable A → FieldsTable B → FieldsTable (A × B)
+field f r = record {
+  Value = f.Value × r.Value;
+  value = λ x. (f.value x.0, r.value x.1);
   count = suc r.count;
   after = λ names. r.after (others_of names);
-  form = λ names. field_form t.form false r.form names;
-  written = λ names x. member_data (t.datum x.0) (λ ns. r.written ns x.1) names;
-  meaning = λ names ms. member_in t.meaning r.meaning names ms;
-  named = λ names x. field_named t.datum t.form r.form r.written names x.0 x.1;
-  fit = λ mode names x k u h. field_fits t.datum t.form t.fit mode r.form r.written r.fit false names x.0 x.1 k u h;
-  come_back = λ mode names x ms k h p. fields_back t.datum t.meaning t.value t.comes_back mode r.form r.written r.meaning r.value r.come_back t.form names x.0 x.1 ms k h p;
-  are_distinct = λ names. both_true t.distinct (r.are_distinct (others_of names));
-}
-
--- a field that may be left out, and the fields after it
-abbrev pub optional_field : {A B : Type 0} → Table A → FieldsTable B → FieldsTable (Optional A B)
-optional_field t r = record {
-  Value = Option t.Value × r.Value;
-  value = λ x. (option_map t.value x.0, r.value x.1);
-  count = suc r.count;
-  after = λ names. r.after (others_of names);
-  form = λ names. field_form t.form true r.form names;
-  written = λ names x. optional_data t.datum x.0 (λ ns. r.written ns x.1) names;
-  meaning = λ names ms. optional_in t.meaning r.meaning names ms;
-  named = λ names x. optional_named t.datum t.form r.form r.written r.named names x.0 x.1;
-  fit = λ mode names x k u h. optional_fits t.datum t.form t.fit mode r.form r.written r.named r.fit names x.0 x.1 k u h;
-  come_back = λ mode names x ms k h p. optional_back t.datum t.meaning t.value t.comes_back r.form r.written r.meaning r.value r.named r.come_back t.form mode names x.0 x.1 ms k h p;
-  are_distinct = λ names. both_true t.distinct (r.are_distinct (others_of names));
-}
-
--- a field that has the value of `missing` if its key is missing
-abbrev pub defaulted_field : {A B : Type 0} → Data → Table A → FieldsTable B → FieldsTable (Defaulted A B)
-defaulted_field missing t r = record {
-  Value = t.Value × r.Value;
-  value = λ x. (t.value x.0, r.value x.1);
-  count = suc r.count;
-  after = λ names. r.after (others_of names);
-  form = λ names. field_form t.form true r.form names;
-  written = λ names x. member_data (t.datum x.0) (λ ns. r.written ns x.1) names;
-  meaning = λ names ms. defaulted_in missing t.meaning r.meaning names ms;
-  named = λ names x. field_named t.datum t.form r.form r.written names x.0 x.1;
-  fit = λ mode names x k u h. field_fits t.datum t.form t.fit mode r.form r.written r.fit true names x.0 x.1 k u h;
-  come_back = λ mode names x ms k h p. defaulted_back missing t.datum t.meaning t.value t.comes_back r.form r.written r.meaning r.value r.come_back t.form mode names x.0 x.1 ms k h p;
-  are_distinct = λ names. both_true t.distinct (r.are_distinct (others_of names));
+  form = λ names. field_form f.form (is_some f.missing) r.form names;
+  written = λ names x. field_data (f.datum x.0) (λ ns. r.written ns x.1) names;
+  meaning = λ names ms. field_in (absent f.missing) f.meaning r.meaning names ms;
+  named = λ names x. field_named f.form (is_some f.missing) r.form r.written r.named names (f.datum x.0) x.1;
+  fit = λ mode names x k u h. field_fits mode f.form (f.datum x.0) (is_some f.missing) (f.fits mode x.0) r.form r.written r.named r.fit names x.1 k u h;
+  come_back = λ mode names x ms k h p. field_back f.meaning (absent f.missing) (f.value x.0) mode (f.datum x.0) (f.comes_back mode x.0) r.form r.written r.meaning r.value r.named r.come_back f.form (is_some f.missing) names x.1 ms k h p;
+  are_distinct = λ names. both_true f.distinct (r.are_distinct (others_of names));
 }
 
 -- the items of a tuple

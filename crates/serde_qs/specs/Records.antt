@@ -29,12 +29,13 @@ abbrev pub others_of : List (List ℕ) → List (List ℕ)
 others_of [] = []
 others_of (n ∷ names) = names
 
--- the first field and its data by the first name, in front of the others' data by their names
+-- the first field by the first name, in front of the others by their names; and its data, unless it is left out, in front of theirs
 abbrev pub field_form : Shape → Bool → (List (List ℕ) → List Field) → List (List ℕ) → List Field
 field_form s optional rest names = (first_of names, s, optional) ∷ rest (others_of names)
 
-abbrev pub member_data : v.Data → (List (List ℕ) → List Named) → List (List ℕ) → List Named
-member_data x rest names = (first_of names, x) ∷ rest (others_of names)
+abbrev pub field_data : Option v.Data → (List (List ℕ) → List Named) → List (List ℕ) → List Named
+field_data None rest names = rest (others_of names)
+field_data (Some x) rest names = (first_of names, x) ∷ rest (others_of names)
 
 -- the name of each field is UTF-8
 abbrev pub are_text_names : Fields → Bool
@@ -50,10 +51,16 @@ abbrev pub nothing_in : Members → Option (Unit {0})
 nothing_in no_members = Some tt
 nothing_in _ = None
 
--- the first member has the first name, and means a value of the first field
+-- If the first member has the first name, it means a value of the first field. Otherwise the field is missing, and `absent` is its value, if
+-- it has one then.
+abbrev pub field_in : {A B : Type 0} → Option A → (v.Data → Option A) → (List (List ℕ) → Members → Option B) → List (List ℕ) → Members → Option (A × B)
+field_in absent m rest names no_members = both absent (rest (others_of names) no_members)
+field_in absent m rest names (one_member k d ms) =
+    if bytes_eq k (first_of names) then both (m d) (rest (others_of names) ms) else both absent (rest (others_of names) (one_member k d ms))
+
+-- the same for a field that mustn't be missing
 abbrev pub member_in : {A B : Type 0} → (v.Data → Option A) → (List (List ℕ) → Members → Option B) → List (List ℕ) → Members → Option (A × B)
-member_in m rest names no_members = None
-member_in m rest names (one_member k d ms) = if bytes_eq k (first_of names) then both (m d) (rest (others_of names) ms) else None
+member_in m rest names ms = field_in None m rest names ms
 
 -- the fields of a struct
 abbrev pub struct_in : {A : Type 0} → (Members → Option A) → v.Data → Option A

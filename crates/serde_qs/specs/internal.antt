@@ -2,8 +2,8 @@
 pub mod Booleans
 pub mod ComesBack
 pub mod Compound
-pub mod Defaulted
 pub mod DelimitedComesBack
+pub mod FieldTypes
 pub mod Fits
 pub mod Fitting
 pub mod MapsComeBack
@@ -11,7 +11,6 @@ pub mod Names
 pub mod NodeEntries
 pub mod NodeParts
 pub mod NumberLists
-pub mod Optional
 pub mod OwnTables
 pub mod Pieces
 pub mod Ranges

@@ -2,6 +2,7 @@
 
 mod defaulted;
 mod defaults;
+mod field_types;
 mod fields;
 mod items;
 mod nodes;
@@ -29,6 +30,7 @@ ghost use Rattle.serde_qs.specs.Sources.{ReadsSource};
 use crate::path::Path;
 use crate::traits::{Deserialize, RoundTrip, Serialize};
 pub use defaulted::{Defaulted, OrDefault};
+pub use field_types::FieldType;
 pub use fields::Fields;
 pub use items::Items;
 pub use optional::Optional;
@@ -160,7 +162,7 @@ impl<C: Compound> RoundTrip for C {
 /// pattern or a value.
 ///
 /// A field that is left out if it is None has a question mark after it: `fields!(self; x, y?)` is `(&self.x, (SkipNone(&self.y), ()))`, and
-/// `fields!(x, y?)` is `(x, Optional(y, ()))`.
+/// `fields!(x, y?)` is `(x, (Optional(y), ()))`.
 ///
 /// ```
 /// let Struct(fields!(x, y)) = PointParts::read(source, NAMES)?;
@@ -174,6 +176,6 @@ macro_rules! fields {
         ($crate::SkipNone(&$value.$field), $crate::fields!($value; $($($others)*)?))
     };
     ($value:ident; $field:tt $(, $($others:tt)*)?) => { (&$value.$field, $crate::fields!($value; $($($others)*)?)) };
-    ($field:ident ? $(, $($others:tt)*)?) => { $crate::Optional($field, $crate::fields!($($($others)*)?)) };
+    ($field:ident ? $(, $($others:tt)*)?) => { ($crate::Optional($field), $crate::fields!($($($others)*)?)) };
     ($field:ident $(, $($others:tt)*)?) => { ($field, $crate::fields!($($($others)*)?)) };
 }

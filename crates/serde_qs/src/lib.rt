@@ -67,8 +67,8 @@ pub mod web;
 
 pub use calls::{ConfigExt, from_bytes, from_str, read_explained, to_string, to_writer};
 pub use compound::{
-    Compound, Defaulted, Enum, Exit, FieldReferences, Fields, ItemReferences, Items, Last,
-    ListedReferences, Newtype, OneOf, Optional, OrDefault, Out, Parts, Payload, References,
+    Compound, Defaulted, Enum, Exit, FieldReferences, FieldType, Fields, ItemReferences, Items,
+    Last, ListedReferences, Newtype, OneOf, Optional, OrDefault, Out, Parts, Payload, References,
     SkipNone, Source, StrictStruct, Struct, Tuple, Variants, newtype_struct, newtype_variant,
     struct_of, struct_variant, tuple_struct, tuple_variant, unit_variant,
 };

@@ -1,17 +1,14 @@
 -- Values come back from data that is the same as theirs.
 use Rattle.std.proofs.Common.{ap, ◌∙◌, refl}
-use Rattle.std.proofs.lemmas.Slice.Eq.{bytes_eq-Decides}
-use Rattle.std.specs.Prelude.{◌≡◌, ℕ, ◌==◌, ℤ, Bool, true, false, not, ◌&&◌, nat_le, List, length, [], ◌∷◌, map, Option, Some, None, option_map, option_and_then, if◌then◌else◌}
-use Rattle.std.specs.Str.{bytes_eq}
+use Rattle.std.specs.Prelude.{◌≡◌, ℕ, ◌==◌, ℤ, Bool, true, not, ◌&&◌, nat_le, List, length, [], ◌∷◌, map, Option, Some, None, option_map, option_and_then, if◌then◌else◌}
 use Rattle.qs_spec.specs.Data as d
 use Rattle.qs_spec.specs.Data.{Data, Values, Members, no_members, values_of, members_of, Named}
-use Rattle.qs_spec.specs.Shape.{Shape, Field, fields_of, is_field_name, field_names_differ}
+use Rattle.qs_spec.specs.Shape.{Field, fields_of, field_names_differ}
 use Rattle.qs_spec.specs.Plain.{are_few, are_plain, are_plain_members, has_members, is_optional, is_plain, member_names_differ}
 use Rattle.qs_spec.specs.Same.{Same, SameValues, SameMembers}
-use Rattle.serde_qs.specs.Meaning.{is_signed, unit_in, boolean_in, unsigned_in, signed_in, character_in, text_in, option_data, option_in, values_meant, sequence_in, newtype_in, both}
+use Rattle.serde_qs.specs.Meaning.{is_signed, unit_in, boolean_in, unsigned_in, signed_in, character_in, text_in, option_data, option_in, values_meant, sequence_in, newtype_in}
 use Rattle.serde_qs.specs.internal.Booleans.{both_hold}
-use Rattle.serde_qs.specs.internal.Fitting.{member_parts}
-use Rattle.serde_qs.specs.Records.{are_names, are_text_names, first_of, others_of, field_form, member_data, member_in, nothing_in, struct_in}
+use Rattle.serde_qs.specs.Records.{are_names, are_text_names, nothing_in, struct_in}
 use Rattle.serde_qs.specs.ComesBack.{ComesBack, FieldsComeBack}
 
 pub unit_back : (e : Data) → true ≡ true → Same d.unit e → unit_in e ≡ Some tt
@@ -50,19 +47,6 @@ module _ {A V : Type 0} (datum : A → Data) (meaning : Data → Option V) (valu
 
   pub newtype_back : (x : A) (e : Data) → is_plain mode (datum x) ≡ true → Same (d.newtype (datum x)) e → newtype_in meaning e ≡ Some (value x)
   newtype_back x _ h (Same.newtype {d} {e} p) = back mode x e h p
-
-  pub fields_back : {B W : Type 0} (form : List (List ℕ) → List Field) (written : List (List ℕ) → B → List Named) (others : List (List ℕ) → Members → Option W) (rest : B → W)
-      → FieldsComeBack form written others rest → (s : Shape) (names : List (List ℕ)) (a : A) (b : B) (ms : Members)
-      → field_names_differ (fields_of (field_form s false form names)) ≡ true → are_plain_members mode (members_of (member_data (datum a) (λ ns. written ns b) names)) ≡ true
-      → SameMembers (members_of (member_data (datum a) (λ ns. written ns b) names)) ms → member_in meaning others names ms ≡ Some (value a, rest b)
-  fields_back form written others rest more s names a b _ k h (SameMembers.members_more {name = n} {d} {e} {ms} {ns} p ps) =
-      let later = others_of names in
-      let same_name : bytes_eq (first_of names) (first_of names) ≡ true = (bytes_eq-Decides (first_of names) (first_of names)).1 refl in
-      let parts = member_parts mode (first_of names) (datum a) (members_of (written later b)) h in
-      let differ = both_hold (not (is_field_name (first_of names) (fields_of (form later)))) (field_names_differ (fields_of (form later))) k in
-      ap (λ t. if t then both (meaning e) (others later ns) else None) same_name
-      ∙ ap (λ r. both r (others later ns)) (back mode a e parts.0 p)
-      ∙ ap (λ r. option_map (λ y. (value a, y)) r) (more mode later b ns differ.1 parts.1 ps)
 
 pub nothing_back : {A : Type 0} (mode : Bool) (names : List (List ℕ)) (x : A) (ms : Members) → true ≡ true → true ≡ true → SameMembers no_members ms → nothing_in ms ≡ Some tt
 nothing_back mode names x _ k h SameMembers.members_end = refl

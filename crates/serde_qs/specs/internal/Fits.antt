@@ -17,15 +17,15 @@ use Rattle.serde_qs.specs.ComesBack.{DataFit, FieldsFit}
 use Rattle.serde_qs.specs.Maps.{entry_data}
 use Rattle.serde_qs.specs.Meaning.{option_data}
 use Rattle.serde_qs.specs.Names.{is_text}
-use Rattle.serde_qs.specs.Optional.{FieldsAreNamed, is_first_named, optional_data}
-use Rattle.serde_qs.specs.Records.{are_names, are_text_names, field_form, first_of, member_data, others_of}
+use Rattle.serde_qs.specs.FieldTypes.{DatumFits, FieldsAreNamed, is_first_named}
+use Rattle.serde_qs.specs.Records.{are_names, are_text_names, field_data, field_form, first_of, others_of}
 use Rattle.serde_qs.specs.Tuples.{ItemsFit}
 use Rattle.serde_qs.specs.Variants.{AreNamed, KindFits, KindIsNamed, VariantsFit, are_variants, fits_one_of, kind_differs, kind_is_text, last_data, last_form, name_in, variant_data, variant_form, variants_are_text, variants_differ}
 use Rattle.serde_qs.specs.declared.compound.variants.OneOf.TheVariants.{First, Later}
 use Rattle.serde_qs.specs.internal.Booleans.{both_hold, both_true}
 use Rattle.serde_qs.specs.internal.Fitting.{member_parts, pair_parts}
 use Rattle.serde_qs.specs.internal.Names.{text_is_utf8}
-use Rattle.serde_qs.specs.internal.Optional.{other_field}
+use Rattle.serde_qs.specs.internal.FieldTypes.{other_field}
 use Rattle.serde_qs.specs.internal.Variants.{other_name, variants_of_names}
 
 -- the text of a string is UTF-8, by its type
@@ -80,36 +80,30 @@ module _ {A : Type 0} (datum : A → Data) (s : Shape) (fit : DataFit datum s) (
       let parts = both_hold (is_plain mode (datum a)) (are_plain mode (values_of (written b))) h in
       both_true (fit mode a parts.0) (more mode b parts.1)
 
-  -- a field that is written, and those after it
-  pub field_fits : {B : Type 0} (form : List (List ℕ) → List Field) (written : List (List ℕ) → B → List Named) → FieldsFit form written
-      → (optional : Bool) (names : List (List ℕ)) (a : A) (b : B) → field_names_differ (fields_of (field_form s optional form names)) ≡ true → are_text_names (fields_of (field_form s optional form names)) ≡ true
-      → are_plain_members mode (members_of (member_data (datum a) (λ ns. written ns b) names)) ≡ true
-      → fits_fields (fields_of (field_form s optional form names)) (members_of (member_data (datum a) (λ ns. written ns b) names)) ≡ true
-  field_fits form written more optional names a b k u h =
-      let n = first_of names in
-      let fs = fields_of (form (others_of names)) in
-      let ms = members_of (written (others_of names) b) in
-      let parts = member_parts mode n (datum a) ms h in
-      let differ = both_hold (not (is_field_name n fs)) (field_names_differ fs) k in
-      let are_text = both_hold (is_text n) (are_text_names fs) u in
-      let others = more mode (others_of names) b differ.1 are_text.1 parts.1 in
-      both_true (text_is_utf8 n are_text.0)
-      (ap (λ t. if t then fits s (datum a) && fits_fields fs ms else (optional && at_field (λ z rest. fits z (datum a) && fits_fields rest ms) n fs)) ((bytes_eq-Decides n n).1 refl)
-      ∙ both_true (fit mode a parts.0) others)
-
-  -- a field that may be left out
-  pub optional_fits : {B : Type 0} (form : List (List ℕ) → List Field) (written : List (List ℕ) → B → List Named) → FieldsAreNamed form written → FieldsFit form written
-      → (names : List (List ℕ)) (a : Option A) (b : B) → field_names_differ (fields_of (field_form s true form names)) ≡ true → are_text_names (fields_of (field_form s true form names)) ≡ true
-      → are_plain_members mode (members_of (optional_data datum a (λ ns. written ns b) names)) ≡ true
-      → fits_fields (fields_of (field_form s true form names)) (members_of (optional_data datum a (λ ns. written ns b) names)) ≡ true
-  optional_fits form written named more names None b k u h =
-      let n = first_of names in
-      let later = others_of names in
-      let fs = fields_of (form later) in
-      let differ = both_hold (not (is_field_name n fs)) (field_names_differ fs) k in
-      let are_text = both_hold (is_text n) (are_text_names fs) u in
-      left_out n s fs (members_of (written later b)) differ.0 (named later b) (more mode later b differ.1 are_text.1 h)
-  optional_fits form written named more names (Some a) b k u h = field_fits form written more true names a b k u h
+-- a field, and those after it
+pub field_fits : {B : Type 0} (mode : Bool) (s : Shape) (o : Option Data) (optional : Bool) → DatumFits mode s optional o
+    → (form : List (List ℕ) → List Field) (written : List (List ℕ) → B → List Named) → FieldsAreNamed form written → FieldsFit form written
+    → (names : List (List ℕ)) (b : B) → field_names_differ (fields_of (field_form s optional form names)) ≡ true → are_text_names (fields_of (field_form s optional form names)) ≡ true
+    → are_plain_members mode (members_of (field_data o (λ ns. written ns b) names)) ≡ true
+    → fits_fields (fields_of (field_form s optional form names)) (members_of (field_data o (λ ns. written ns b) names)) ≡ true
+field_fits mode s None false fit form written named more names b k u h = absurd (false≢true fit)
+field_fits mode s None true fit form written named more names b k u h =
+    let n = first_of names in
+    let later = others_of names in
+    let fs = fields_of (form later) in
+    let differ = both_hold (not (is_field_name n fs)) (field_names_differ fs) k in
+    let are_text = both_hold (is_text n) (are_text_names fs) u in
+    left_out n s fs (members_of (written later b)) differ.0 (named later b) (more mode later b differ.1 are_text.1 h)
+field_fits mode s (Some x) optional fit form written named more names b k u h =
+    let n = first_of names in
+    let fs = fields_of (form (others_of names)) in
+    let ms = members_of (written (others_of names) b) in
+    let parts = member_parts mode n x ms h in
+    let differ = both_hold (not (is_field_name n fs)) (field_names_differ fs) k in
+    let are_text = both_hold (is_text n) (are_text_names fs) u in
+    both_true (text_is_utf8 n are_text.0)
+    (ap (λ t. if t then fits s x && fits_fields fs ms else (optional && at_field (λ z rest. fits z x && fits_fields rest ms) n fs)) ((bytes_eq-Decides n n).1 refl)
+    ∙ both_true (fit parts.0) (more mode (others_of names) b differ.1 are_text.1 parts.1))
 
 -- no members fit no fields
 pub nothing_fits : {A : Type 0} (mode : Bool) (names : List (List ℕ)) (x : A) → true ≡ true → true ≡ true → true ≡ true → fits_fields no_fields no_members ≡ true

@@ -16,8 +16,7 @@ use Rattle.serde_qs.specs.Delimited.{NumbersComeBack, list_data}
 use Rattle.serde_qs.specs.Items.{items_in, list_in, listed_in, pieces}
 use Rattle.serde_qs.specs.Maps.{entry_data}
 use Rattle.serde_qs.specs.Meaning.{option_data}
-use Rattle.serde_qs.specs.Optional.{optional_data}
-use Rattle.serde_qs.specs.Records.{first_of, member_data, others_of}
+use Rattle.serde_qs.specs.Records.{field_data, first_of, others_of}
 use Rattle.serde_qs.specs.Tables.{AreNumbersOf, Numbers, Table, numbers_of}
 
 unchanged : {A : Type 0} (o : Option A) → o ≡ option_map (λ v. v) o
@@ -29,14 +28,16 @@ pub themselves : {A V : Type 0} (value : A → V) (in_range : A → Bool) (print
 themselves value in_range printed meaning back = record { same_range = λ x. refl; same_printed = λ x. refl; kept = λ v. v; same_value = λ x. refl; same_meaning = λ t. unchanged (meaning t) }
 
 -- members and items, of which each is the same by a type's own data and by its table's
-pub same_member : {x y : Data} {f g : List (List ℕ) → List Named} → y ≡ x → ((ns : List (List ℕ)) → f ns ≡ g ns) → (names : List (List ℕ)) → member_data x f names ≡ member_data y g names
-same_member {x} {y} {f} {g} one others names =
-    ap (λ e. (first_of names, e) ∷ f (others_of names)) (sym one) ∙ ap (λ ms. (first_of names, y) ∷ ms) (others (others_of names))
+pub same_member : {o p : Option Data} {f g : List (List ℕ) → List Named} → p ≡ o → ((ns : List (List ℕ)) → f ns ≡ g ns) → (names : List (List ℕ)) → field_data o f names ≡ field_data p g names
+same_member {o} {p} {f} {g} one others names = ap (λ q. field_data q f names) (sym one) ∙ by p
+  where
+    by : (q : Option Data) → field_data q f names ≡ field_data q g names
+    by None = others (others_of names)
+    by (Some x) = ap (λ ms. (first_of names, x) ∷ ms) (others (others_of names))
 
-pub same_optional : {A : Type 0} {f g : A → Data} {h k : List (List ℕ) → List Named} → ((x : A) → g x ≡ f x) → (o : Option A) → ((ns : List (List ℕ)) → h ns ≡ k ns) → (names : List (List ℕ))
-    → optional_data f o h names ≡ optional_data g o k names
-same_optional one None others names = others (others_of names)
-same_optional {A} {f} {g} {h} {k} one (Some x) others names = same_member {x = f x} {y = g x} {f = h} {g = k} (one x) others names
+pub same_some : {A : Type 0} {f g : A → Data} → ((x : A) → g x ≡ f x) → (o : Option A) → option_map g o ≡ option_map f o
+same_some one None = refl
+same_some one (Some x) = ap Some (one x)
 
 pub same_item : {x y : Data} {xs ys : List Data} → y ≡ x → xs ≡ ys → x ∷ xs ≡ y ∷ ys
 same_item {x} {y} {xs} {ys} one others = ap (λ e. e ∷ xs) (sym one) ∙ ap (λ es. y ∷ es) others

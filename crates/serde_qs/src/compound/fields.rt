@@ -10,23 +10,24 @@ ghost use Rattle.qs_data.specs.read.Keys.{NumbersFit, entries_view};
 ghost use Rattle.qs_data.specs.shape.Views.{field_of};
 ghost use Rattle.serde_qs.specs.Nodes.{by_names, by_places};
 ghost use Rattle.serde_qs.specs.PartTables.{FieldsTable, field, no_fields};
-ghost use Rattle.serde_qs.specs.Records.{field_form, first_of, members_back, others_of, texts};
+ghost use Rattle.serde_qs.specs.Records.{first_of, members_back, others_of, texts};
 ghost use Rattle.serde_qs.specs.Typed.{Means};
 
+use super::field_types::FieldType;
 use super::{nodes, trace};
 use crate::path::Path;
-use crate::traits::{Deserialize, unexpected};
+use crate::traits::unexpected;
 use qs_data::{Data, Entries, Field, Reader, Result};
 use qs_tree::ParsedValue;
 use std::alloc::{AllocError, Global};
 
 /// The fields of a struct, as nested pairs of a field and the fields after it: `(A, (B, (C, ())))`.
 ///
-/// A field that may be left out is an [`Optional`](crate::Optional) in place of the pair, and one with a default a
-/// [`Defaulted`](crate::Defaulted). It is implemented for these alone; a user names them in a [`Struct`](crate::Struct).
+/// Each field is a [`FieldType`](crate::FieldType). It is implemented for these pairs alone; a user names them in a
+/// [`Struct`](crate::Struct).
 ///
 /// ```
-/// type FilterParts = Struct<(String, Optional<u32, ()>)>; // the fields are (String, Optional<u32, ()>)
+/// type FilterParts = Struct<(String, (Optional<u32>, ()))>; // the fields are (String, (Optional<u32>, ()))
 /// ```
 pub trait Fields: Sized + Drop {
     // How they are read and written, by their names, with the proofs that belong to them.
@@ -47,7 +48,7 @@ pub trait Fields: Sized + Drop {
         ensures errors { OnlyOutOfMemory result };
 
     /// Returns the fields that members mean; the last member is the first field's. It returns the same errors as
-    /// [`from_data`](Deserialize::from_data). It allocates, and takes time, as `from_data` of each field does.
+    /// [`from_data`](crate::Deserialize::from_data). It allocates, and takes time, as `from_data` of each field does.
     fn from_members(
         alloc: Global,
         names: &[&'static str],
@@ -56,7 +57,7 @@ pub trait Fields: Sized + Drop {
         ensures { Means table.value result (table.meaning (texts names.now) (members_back members.items)) };
 
     /// Returns the fields that are read by their names, from keys with their values. It returns the same errors as
-    /// [`from_node`](Deserialize::from_node). It allocates as `from_node` of each field does, and looks up each name.
+    /// [`from_node`](crate::Deserialize::from_node). It allocates as `from_node` of each field does, and looks up each name.
     fn from_entries(
         reader: Reader,
         names: &[&'static str],
@@ -68,7 +69,7 @@ pub trait Fields: Sized + Drop {
             (by_names reader.reject_duplicates (table.form (texts names.now)) (table.meaning (texts names.now)) (entries_view entries.entry)) };
 
     /// Returns the fields that are read by their indices, from these items, which are the last of `count`. It returns the same errors as
-    /// [`from_node`](Deserialize::from_node). It allocates, and takes time, as `from_node` of each field does.
+    /// [`from_node`](crate::Deserialize::from_node). It allocates, and takes time, as `from_node` of each field does.
     fn from_places(
         reader: Reader,
         names: &[&'static str],
@@ -150,8 +151,8 @@ impl Fields for () {
     }
 }
 
-impl<T: Deserialize + Drop, R: Fields> Fields for (T, R) {
-    ghost table = { field T.table R.table };
+impl<F: FieldType, R: Fields> Fields for (F, R) {
+    ghost table = { field F.table R.table };
 
     fn skip<'a>(names: &'a [&'static str]) -> &'a [&'static str] {
         let (_name, rest) = split(names);
@@ -166,26 +167,31 @@ impl<T: Deserialize + Drop, R: Fields> Fields for (T, R) {
     fn push_fields(
         alloc: Global,
         names: &[&'static str],
-        fields: Vec<Field>,
+        mut fields: Vec<Field>,
     ) -> Result<Vec<Field>> {
-        push_field::<T, R>(alloc, names, fields, false)
+        let (name, rest) = split(names);
+        fields.push(F::field(alloc, name)?)?;
+        R::push_fields(alloc, rest, fields)
     }
 
     fn from_members(
         alloc: Global,
         names: &[&'static str],
         mut members: Vec<(String, Data)>,
-    ) -> Result<(T, R)> {
+    ) -> Result<(F, R)> {
         let (name, rest) = split(names);
         let Some((found, datum)) = members.pop() else {
-            return Err(unexpected(alloc, "a field"));
+            let first = F::without_data(alloc)?;
+            return Ok((first, R::from_members(alloc, rest, members)?));
         };
-        if found.as_str() != name {
-            return Err(unexpected(alloc, "another field"));
+        if found.as_str() == name {
+            let first = F::of_data(alloc, datum)?;
+            Ok((first, R::from_members(alloc, rest, members)?))
+        } else {
+            members.push((found, datum))?;
+            let first = F::without_data(alloc)?;
+            Ok((first, R::from_members(alloc, rest, members)?))
         }
-        let first = T::from_data(alloc, datum)?;
-        let others = R::from_members(alloc, rest, members)?;
-        Ok((first, others))
     }
 
     #[inline(always)]
@@ -193,7 +199,7 @@ impl<T: Deserialize + Drop, R: Fields> Fields for (T, R) {
         reader: Reader,
         names: &[&'static str],
         entries: Entries<'_, '_>,
-    ) -> Result<(T, R)> {
+    ) -> Result<(F, R)> {
         let (name, rest) = split(names);
         let first = nodes::by_name(reader, name, entries)?;
         let others = R::from_entries(reader, rest, entries)?;
@@ -206,7 +212,7 @@ impl<T: Deserialize + Drop, R: Fields> Fields for (T, R) {
         names: &[&'static str],
         items: &[ParsedValue<'_>],
         count: usize,
-    ) -> Result<(T, R)> {
+    ) -> Result<(F, R)> {
         let (_name, rest) = split(names);
         let first = nodes::by_place(reader, items, count)?;
         let others = R::from_places(reader, rest, nodes::after(items), count)?;
@@ -220,32 +226,11 @@ impl<T: Deserialize + Drop, R: Fields> Fields for (T, R) {
         path: &mut Path,
     ) -> Result<(), AllocError> {
         let (name, rest) = split(names);
-        if trace::is_unread::<T>(reader, name, false, entries, path)? {
+        if trace::is_unread::<F>(reader, name, entries, path)? {
             return Ok(());
         }
         R::trace(reader, rest, entries, path)
     }
-}
-
-/// Returns the fields, and after them what is read for a field of the first name and for the fields of the other names.
-pub(crate) fn push_field<T: Deserialize, R: Fields>(
-    alloc: Global,
-    names: &[&'static str],
-    mut fields: Vec<Field>,
-    optional: bool,
-) -> Result<Vec<Field>>
-    ensures exact { IfOk result (λ all. map field_of all.items ≡ map field_of fields.items ++ field_form T.table.form optional R.table.form (texts names.now)) }
-    ensures errors { OnlyOutOfMemory result }
-{
-    let (name, rest) = split(names);
-    let shape = T::shape(alloc)?;
-    let name = String::from_str(alloc, name)?;
-    fields.push(Field {
-        name,
-        shape,
-        optional,
-    })?;
-    R::push_fields(alloc, rest, fields)
 }
 
 /// Returns the first name, which is empty if there is none, and the others.

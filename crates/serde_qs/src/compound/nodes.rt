@@ -1,6 +1,6 @@
 //! The fields of a struct, read from a node.
 
-ghost use Rattle.std.specs.Prelude.{◌≡◌, true, map, option_and_then, option_map, Some, None};
+ghost use Rattle.std.specs.Prelude.{◌≡◌, true, map};
 ghost use Rattle.qs_spec.specs.Node.{as_map, found};
 ghost use Rattle.qs_spec.specs.Shape.{field_names_differ, fields_of};
 ghost use Rattle.qs_spec.specs.internal.ReadFunction.{items_after, reads};
@@ -9,13 +9,13 @@ ghost use Rattle.qs_data.specs.read.Gives.{Gives};
 ghost use Rattle.qs_data.specs.read.internal.ReadError.{ReadGives};
 ghost use Rattle.qs_data.specs.read.TreeText.{entries_are_text, is_text, items_are_text};
 ghost use Rattle.qs_data.specs.read.Keys.{NumbersFit, entries_view, unknown_of};
+ghost use Rattle.serde_qs.specs.FieldTypes.{absent, keyless};
 ghost use Rattle.serde_qs.specs.Nodes.{missing_data};
 ghost use Rattle.serde_qs.specs.internal.NodeParts.{members_read, names_read, value_found, value_placed};
 ghost use Rattle.serde_qs.specs.Records.{texts};
 
-use super::defaulted::OrDefault;
+use super::field_types::FieldType;
 use super::fields::Fields;
-use crate::traits::Deserialize;
 use qs_data::{Entries, FieldNames, Found, ReadError, Reader, Result, UnknownKeys};
 use qs_tree::ParsedValue;
 use std::marker::PhantomData;
@@ -109,102 +109,38 @@ impl<F: Fields> FieldNames for NamesOf<'_, F> {
     }
 }
 
-/// Returns the value of a field by its name.
+/// Returns a field by its name.
 #[tactic(auto, using(crate::proofs::Narrowed::of_reading))]
 #[inline(always)]
-pub(crate) fn by_name<T: Deserialize>(
+pub(crate) fn by_name<F: FieldType>(
     reader: Reader,
     name: &str,
     entries: Entries<'_, '_>,
-) -> Result<T, ReadError>
+) -> Result<F, ReadError>
     requires { NumbersFit (entries_view entries) }
-    ensures { ReadGives T.table.value (entries_are_text (entries_view entries.entry)) result
-        (value_found T.table.meaning (option_and_then T.table.meaning (missing_data T.table.form)) (reads reader.reject_duplicates T.table.form) (found name.now (entries_view entries.entry))) }
+    ensures { ReadGives F.table.value (entries_are_text (entries_view entries.entry)) result
+        (value_found F.table.meaning (keyless F.table.meaning (missing_data F.table.form) F.table.missing) (reads reader.reject_duplicates F.table.form) (found name.now (entries_view entries.entry))) }
 {
     match entries.find(name) {
-        Found::Missing => ReadError::of_result(T::from_missing(reader, name)),
-        Found::One(node) => ReadError::of_result(T::from_node(reader, node)),
+        Found::Missing => ReadError::of_result(F::without_key(reader, name)),
+        Found::One(node) => ReadError::of_result(F::of_node(reader, node)),
         Found::Several => Err(ReadError::of(reader.duplicate_field(name))),
     }
 }
 
-/// Returns the value of a field by its name, if it isn't left out.
-#[tactic(auto, using(crate::proofs::Narrowed::of_reading))]
-pub(crate) fn optional_by_name<T: Deserialize>(
-    reader: Reader,
-    name: &str,
-    entries: Entries<'_, '_>,
-) -> Result<Option<T>, ReadError>
-    requires { NumbersFit (entries_view entries) }
-    ensures { ReadGives (option_map T.table.value) (entries_are_text (entries_view entries.entry)) result
-        (value_found (λ d. option_map Some (T.table.meaning d)) (Some None) (reads reader.reject_duplicates T.table.form) (found name.now (entries_view entries.entry))) }
-{
-    match entries.find(name) {
-        Found::Missing => Ok(None),
-        Found::One(node) => { Ok(Some(ReadError::of_result(T::from_node(reader, node))?)) }
-        Found::Several => Err(ReadError::of(reader.duplicate_field(name))),
-    }
-}
-
-/// Returns the value of a field by its name, or its default.
-#[tactic(auto, using(crate::proofs::Narrowed::of_reading))]
-pub(crate) fn defaulted_by_name<T: OrDefault>(
-    reader: Reader,
-    name: &str,
-    entries: Entries<'_, '_>,
-) -> Result<T, ReadError>
-    requires { NumbersFit (entries_view entries) }
-    ensures { ReadGives T.table.value (entries_are_text (entries_view entries.entry)) result
-        (value_found T.table.meaning (T.table.meaning T.default) (reads reader.reject_duplicates T.table.form) (found name.now (entries_view entries.entry))) }
-{
-    match entries.find(name) {
-        Found::Missing => ReadError::of_result(T::missing(reader.alloc)),
-        Found::One(node) => ReadError::of_result(T::from_node(reader, node)),
-        Found::Several => Err(ReadError::of(reader.duplicate_field(name))),
-    }
-}
-
-/// Returns the value of a field by its index, the first of these items. There are `count` items in all.
+/// Returns a field by its index, the first of these items. There are `count` items in all.
 #[inline(always)]
-pub(crate) fn by_place<T: Deserialize>(
+pub(crate) fn by_place<F: FieldType>(
     reader: Reader,
     items: &[ParsedValue<'_>],
     count: usize,
-) -> Result<T>
-    ensures { Gives T.table.value (items_are_text (items_from (map tree_of items.now))) result
-        (value_placed T.table.meaning None (reads reader.reject_duplicates T.table.form) (items_from (map tree_of items.now))) }
+) -> Result<F>
+    ensures { Gives F.table.value (items_are_text (items_from (map tree_of items.now))) result
+        (value_placed F.table.meaning (absent F.table.missing) (reads reader.reject_duplicates F.table.form) (items_from (map tree_of items.now))) }
 {
     match items {
-        [item, ..] => T::from_node(reader, item),
-        [] => Err(reader.missing_item(count)),
-    }
-}
-
-/// Returns the value of a field by its index, if it isn't left out.
-pub(crate) fn optional_by_place<T: Deserialize>(
-    reader: Reader,
-    items: &[ParsedValue<'_>],
-) -> Result<Option<T>>
-    ensures { Gives (option_map T.table.value) (items_are_text (items_from (map tree_of items.now))) result
-        (value_placed (λ d. option_map Some (T.table.meaning d)) (Some None) (reads reader.reject_duplicates T.table.form) (items_from (map tree_of items.now))) }
-{
-    match items {
-        [item, ..] => Ok(Some(T::from_node(reader, item)?)),
-        [] => Ok(None),
-    }
-}
-
-/// Returns the value of a field by its index, or its default.
-pub(crate) fn defaulted_by_place<T: OrDefault>(
-    reader: Reader,
-    items: &[ParsedValue<'_>],
-) -> Result<T>
-    ensures { Gives T.table.value (items_are_text (items_from (map tree_of items.now))) result
-        (value_placed T.table.meaning (T.table.meaning T.default) (reads reader.reject_duplicates T.table.form) (items_from (map tree_of items.now))) }
-{
-    match items {
-        [item, ..] => T::from_node(reader, item),
-        [] => T::missing(reader.alloc),
+        [item, ..] => F::of_node(reader, item),
+        [] => F::without_item(reader, count),
     }
 }
 

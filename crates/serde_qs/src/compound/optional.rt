@@ -1,98 +1,54 @@
 //! Fields that may be left out.
 
-ghost use Rattle.serde_qs.specs.PartTables.{optional_field};
+ghost use Rattle.serde_qs.specs.PartTables.{optional};
 
-use super::fields::{Fields, push_field, split};
-use super::{nodes, trace};
+use super::field_types::{FieldType, named};
 use crate::path::Path;
 use crate::traits::Deserialize;
-use qs_data::{Data, Entries, Field, Reader, Result};
+use qs_data::{Data, Field, Reader, Result};
 use qs_tree::ParsedValue;
-use std::alloc::{AllocError, Global};
+use std::alloc::Global;
 
-/// A field that may be left out, and the fields after it: `(String, Optional<u32, ()>)` for a string and perhaps a number.
+/// A field that may be left out: `(String, (Optional<u32>, ()))` for a string and perhaps a number.
 ///
 /// ```
-/// let Struct((text, Optional(page, ()))) = FilterParts::read(source, NAMES)?; // page: Option<u32>
+/// let Struct((text, (Optional(page), ()))) = FilterParts::read(source, NAMES)?; // page: Option<u32>
 /// ```
 ///
 /// If it is None, it isn't written; if its key is missing, it is read as None. Its shape is the shape of `T`, so `page=` for a number is
 /// rejected.
 #[derive(Debug, PartialEq, Drop)]
-pub struct Optional<T, R>(pub Option<T>, pub R);
+pub struct Optional<T>(pub Option<T>);
 
-impl<T: Deserialize + Drop, R: Fields> Fields for Optional<T, R> {
-    ghost table = { optional_field T.table R.table };
+impl<T: Deserialize + Drop> FieldType for Optional<T> {
+    ghost table = { optional T.table };
 
-    fn skip<'a>(names: &'a [&'static str]) -> &'a [&'static str] {
-        let (_name, rest) = split(names);
-        R::skip(rest)
+    fn field(alloc: Global, name: &str) -> Result<Field> {
+        named::<T>(alloc, name, true)
     }
 
-    fn has(names: &[&'static str], name: &[u8]) -> bool {
-        let (first, rest) = split(names);
-        first.as_bytes() == name || R::has(rest, name)
+    fn of_data(alloc: Global, datum: Data) -> Result<Optional<T>> {
+        Ok(Optional(Some(T::from_data(alloc, datum)?)))
     }
 
-    fn push_fields(
-        alloc: Global,
-        names: &[&'static str],
-        fields: Vec<Field>,
-    ) -> Result<Vec<Field>> {
-        push_field::<T, R>(alloc, names, fields, true)
+    #[inline(always)]
+    fn of_node(reader: Reader, node: &ParsedValue<'_>) -> Result<Optional<T>> {
+        Ok(Optional(Some(T::from_node(reader, node)?)))
     }
 
-    fn from_members(
-        alloc: Global,
-        names: &[&'static str],
-        mut members: Vec<(String, Data)>,
-    ) -> Result<Optional<T, R>> {
-        let (name, rest) = split(names);
-        let Some((found, datum)) = members.pop() else {
-            return Ok(Optional(None, R::from_members(alloc, rest, members)?));
-        };
-        if found.as_str() == name {
-            let first = T::from_data(alloc, datum)?;
-            Ok(Optional(Some(first), R::from_members(alloc, rest, members)?))
-        } else {
-            members.push((found, datum))?;
-            Ok(Optional(None, R::from_members(alloc, rest, members)?))
-        }
+    fn of_traced(reader: Reader, node: &ParsedValue<'_>, path: &mut Path) -> Result<Optional<T>> {
+        Ok(Optional(Some(T::from_traced(reader, node, path)?)))
     }
 
-    fn from_entries(
-        reader: Reader,
-        names: &[&'static str],
-        entries: Entries<'_, '_>,
-    ) -> Result<Optional<T, R>> {
-        let (name, rest) = split(names);
-        let first = nodes::optional_by_name(reader, name, entries)?;
-        let others = R::from_entries(reader, rest, entries)?;
-        Ok(Optional(first, others))
+    fn without_data(_alloc: Global) -> Result<Optional<T>> {
+        Ok(Optional(None))
     }
 
-    fn from_places(
-        reader: Reader,
-        names: &[&'static str],
-        items: &[ParsedValue<'_>],
-        count: usize,
-    ) -> Result<Optional<T, R>> {
-        let (_name, rest) = split(names);
-        let first = nodes::optional_by_place(reader, items)?;
-        let others = R::from_places(reader, rest, nodes::after(items), count)?;
-        Ok(Optional(first, others))
+    fn without_key(reader: Reader, _name: &str) -> Result<Optional<T>> {
+        Self::without_data(reader.alloc)
     }
 
-    fn trace(
-        reader: Reader,
-        names: &[&'static str],
-        entries: Entries<'_, '_>,
-        path: &mut Path,
-    ) -> Result<(), AllocError> {
-        let (name, rest) = split(names);
-        if trace::is_unread::<T>(reader, name, true, entries, path)? {
-            return Ok(());
-        }
-        R::trace(reader, rest, entries, path)
+    fn without_item(reader: Reader, _count: usize) -> Result<Optional<T>> {
+        Self::without_data(reader.alloc)
     }
 }

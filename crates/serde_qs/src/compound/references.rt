@@ -1,13 +1,12 @@
 //! The fields of a struct that is written, by reference.
 
-ghost use Rattle.std.specs.Prelude.{◌≡◌, refl, ℕ, List, [], ◌∷◌, ◌++◌, map, IfOk};
+ghost use Rattle.std.specs.Prelude.{◌≡◌, refl, ℕ, List, [], ◌∷◌, ◌++◌, map, Some, option_map, IfOk};
 ghost use Rattle.qs_spec.specs.Data.{Data as Datum, Named, members_of};
 ghost use Rattle.qs_tree.specs.Error.{OnlyOutOfMemory};
 ghost use Rattle.qs_data.specs.data.Views.{data_of, named};
 ghost use Rattle.qs_data.specs.write.Parts.{WritesPart, members_part};
-ghost use Rattle.serde_qs.specs.Optional.{optional_data};
-ghost use Rattle.serde_qs.specs.Records.{member_data, texts};
-ghost use Rattle.serde_qs.specs.internal.OwnTables.{same_item, same_member, same_optional};
+ghost use Rattle.serde_qs.specs.Records.{field_data, texts};
+ghost use Rattle.serde_qs.specs.internal.OwnTables.{same_item, same_member, same_some};
 
 use super::fields::split;
 use crate::parts::write_under;
@@ -69,7 +68,7 @@ impl References for () {
 }
 
 impl<'a, T: Serialize, R: References + Drop> References for (&'a T, R) {
-    ghost members = { λ names x. member_data (T.datum x.0.now) (λ ns. R.members ns x.1) names };
+    ghost members = { λ names x. field_data (Some (T.datum x.0.now)) (λ ns. R.members ns x.1) names };
 
     fn push_members(
         self,
@@ -94,7 +93,7 @@ impl<'a, T: Serialize, R: References + Drop> References for (&'a T, R) {
 }
 
 impl<'a, T: Serialize, R: References + Drop> References for (SkipNone<'a, T>, R) {
-    ghost members = { λ names x. optional_data T.datum x.0.0.now (λ ns. R.members ns x.1) names };
+    ghost members = { λ names x. field_data (option_map T.datum x.0.0.now) (λ ns. R.members ns x.1) names };
 
     fn push_members(
         self,
@@ -141,15 +140,15 @@ impl FieldReferences for () {
 }
 
 impl<'a, T: RoundTrip, R: FieldReferences + Drop> FieldReferences for (&'a T, R) {
-    ghost own_members = { λ names x. member_data (T.table.datum x.0.now) (λ ns. R.own_members ns x.1) names };
+    ghost own_members = { λ names x. field_data (Some (T.table.datum x.0.now)) (λ ns. R.own_members ns x.1) names };
 
-    ghost same = { λ names x. same_member (T.same_datum x.0.now) (λ ns. R.same ns x.1) names };
+    ghost same = { λ names x. same_member (same_some T.same_datum (Some x.0.now)) (λ ns. R.same ns x.1) names };
 }
 
 impl<'a, T: RoundTrip, R: FieldReferences + Drop> FieldReferences for (SkipNone<'a, T>, R) {
-    ghost own_members = { λ names x. optional_data T.table.datum x.0.0.now (λ ns. R.own_members ns x.1) names };
+    ghost own_members = { λ names x. field_data (option_map T.table.datum x.0.0.now) (λ ns. R.own_members ns x.1) names };
 
-    ghost same = { λ names x. same_optional T.same_datum x.0.0.now (λ ns. R.same ns x.1) names };
+    ghost same = { λ names x. same_member (same_some T.same_datum x.0.0.now) (λ ns. R.same ns x.1) names };
 }
 
 /// References to the items of a tuple that is written, as nested pairs: `(&self.0, (&self.1, ()))`.

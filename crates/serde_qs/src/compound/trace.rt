@@ -2,6 +2,7 @@
 
 ghost use Rattle.qs_data.specs.read.Keys.{NumbersFit, entries_view};
 
+use super::field_types::FieldType;
 use super::fields::Fields;
 use super::items::Items;
 use crate::path::{Path, Step};
@@ -28,21 +29,18 @@ pub(crate) fn trace_struct<F: Fields>(
     F::trace(reader, names, entries, path)
 }
 
-/// Returns whether a field isn't read. If so, it puts the steps to the field into the path. A field that may be missing is read without a
-/// key.
-pub(crate) fn is_unread<T: Deserialize + Drop>(
+/// Returns whether a field isn't read. If so, it puts the steps to the field into the path.
+pub(crate) fn is_unread<F: FieldType>(
     reader: Reader,
     name: &'static str,
-    may_be_missing: bool,
     entries: Entries<'_, '_>,
     path: &mut Path,
 ) -> Result<bool, AllocError>
     requires { NumbersFit (entries_view entries) }
 {
-    let read: Result<T> = match entries.find(name) {
-        Found::Missing if may_be_missing => return Ok(false),
-        Found::Missing => T::from_missing(reader, name),
-        Found::One(node) => T::from_traced(reader, node, path),
+    let read: Result<F> = match entries.find(name) {
+        Found::Missing => F::without_key(reader, name),
+        Found::One(node) => F::of_traced(reader, node, path),
         Found::Several => Err(reader.duplicate_field(name)),
     };
     path.enters(read, Step::Field(name))

@@ -1,8 +1,8 @@
-use Rattle.std.proofs.Common.{◌∙◌, List, ℕ, subst, Err, Ok}
+use Rattle.std.proofs.Common.{◌∙◌, List, ℕ, Some, subst, Err, Ok}
 use Rattle.qs_spec.specs.Data.{Named, members_of}
 use Rattle.qs_data.specs.write.Parts.{WritesPart, data_part, members_part, under}
 use Rattle.qs_data.proofs.lemmas.write.Parts.{part_exit}
-use Rattle.serde_qs.specs.Records.{first_of, member_data, others_of, texts}
+use Rattle.serde_qs.specs.Records.{field_data, first_of, others_of, texts}
 use Rattle.serde_qs.proofs.PartsWritten.{member_stops, member_then}
 use Rattle.serde_qs.proofs.compound.references.Tuple2RefReferences.write_members.Goals as goal
 
@@ -15,7 +15,7 @@ returns-in_err-write_under g c =
     let a = c.args.writer.now in
     let b = c.write_under.new.writer in
     record {
-      written = part_exit _ e a b (members_part (members_of (member_data x others names))) c.from_residual.ensures.1
+      written = part_exit _ e a b (members_part (members_of (field_data (Some x) others names))) c.from_residual.ensures.1
           (member_stops e a b (first_of names) x (others (others_of names))
           (subst (λ n. WritesPart (Err e) a b (under n (data_part x))) (c.as_bytes.ensures.value ∙ c.split.ensures.first) c.in_err-write_under.ensures));
     }

@@ -16,9 +16,7 @@ use Rattle.serde_qs.specs.declared.compound.defaulted.Defaulted.{Defaulted}
 use Rattle.serde_qs.specs.declared.compound.optional.Optional.{Optional}
 use Rattle.serde_qs.specs.declared.compound.parts.Enum.{Enum}
 use Rattle.serde_qs.specs.declared.compound.payloads.Newtype.{Newtype}
-use Rattle.serde_qs.specs.declared.compound.payloads.Struct.{Struct}
 use Rattle.serde_qs.specs.declared.compound.payloads.Tuple.{Tuple}
-use Rattle.serde_qs.specs.declared.compound.strict.StrictStruct.{StrictStruct}
 use Rattle.serde_qs.specs.declared.compound.variants.Last.{Last}
 use Rattle.serde_qs.specs.declared.compound.variants.OneOf.{OneOf}
 use Rattle.serde_qs.specs.internal.Booleans.{both_true}
@@ -249,14 +247,6 @@ fields_payload unknown kept t = record {
   is_distinct = λ names k. both_true k (t.are_distinct names);
 }
 
--- fields, and fields of a variant that rejects unknown keys
-
-abbrev pub struct_payload : {A : Type 0} → FieldsTable A → PayloadTable (Struct A)
-struct_payload t = fields_payload UnknownKeys.ignored (λ x. x.0) t
-
-abbrev pub strict_payload : {A : Type 0} → FieldsTable A → PayloadTable (StrictStruct A)
-strict_payload t = fields_payload UnknownKeys.rejected (λ x. x.0) t
-
 -- the variants of an enum, by their names and their fields' names
 pub record VariantsTable (A : Type 0) : Type 1 where
   pub Value : Type 0
@@ -325,14 +315,6 @@ fields_parts unknown kept t = record {
   come_back = λ mode names x e k h p. struct_back t.count t.form t.written t.meaning t.value t.come_back mode names (kept x) e k h p;
   distinct = λ names k. differ unknown names t.count (t.form names) k (t.are_distinct names);
 }
-
--- a struct, and one that rejects unknown keys
-
-abbrev pub struct_parts : {A : Type 0} → FieldsTable A → PartsTable (Struct A)
-struct_parts t = fields_parts UnknownKeys.ignored (λ x. x.0) t
-
-abbrev pub strict_parts : {A : Type 0} → FieldsTable A → PartsTable (StrictStruct A)
-strict_parts t = fields_parts UnknownKeys.rejected (λ x. x.0) t
 
 -- an enum
 abbrev pub enum_parts : {A : Type 0} → VariantsTable A → PartsTable (Enum A)

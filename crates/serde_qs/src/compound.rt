@@ -13,7 +13,7 @@ mod parts;
 mod payloads;
 mod references;
 mod source;
-mod strict;
+mod structs;
 pub(crate) mod trace;
 mod variants;
 mod written;
@@ -36,13 +36,13 @@ pub use items::Items;
 pub use optional::Optional;
 pub use out::{Exit, Out};
 pub use parts::{Enum, Parts};
-pub use payloads::{Newtype, Payload, Struct, Tuple};
+pub use payloads::{Newtype, Payload, Tuple};
 use qs_data::{Data, Reader, Result, Shape, WriteResult, Writer};
 use qs_tree::ParsedValue;
 pub use references::{FieldReferences, ItemReferences, ListedReferences, References, SkipNone};
 pub use source::Source;
 use std::alloc::Global;
-pub use strict::StrictStruct;
+pub use structs::{HoldsFields, StrictStruct, Struct};
 pub use variants::{Last, OneOf, Variants};
 pub use written::{
     newtype_struct, newtype_variant, struct_of, struct_variant, tuple_struct, tuple_variant,

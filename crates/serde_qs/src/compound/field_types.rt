@@ -18,8 +18,8 @@ use std::alloc::Global;
 
 /// The type of a field: a type that can be read, an [`Optional`](crate::Optional) or a [`Defaulted`](crate::Defaulted).
 ///
-/// It is implemented for these alone. Of each it says what a missing field is: an error, None or a default. A user names them in nested
-/// pairs, as [`Fields`](crate::Fields).
+/// It says what a missing field is: an error, None or a default. It is implemented for these alone; a user names them in the nested pairs
+/// of [`Fields`](crate::Fields).
 ///
 /// ```
 /// type FilterParts = Struct<(String, (Optional<u32>, ()))>; // a text must be there; a number may be missing
@@ -28,8 +28,8 @@ pub trait FieldType: Sized + Drop {
     // How the field is read and written, with the proofs that belong to it.
     ghost table: { FieldTable Self };
 
-    /// Returns the field of this name. The one error is [`OutOfMemory`](qs_data::Error::OutOfMemory). It allocates for the name, which is
-    /// copied, and the shape.
+    /// Returns what is read for a field of this name. The one error is [`OutOfMemory`](qs_data::Error::OutOfMemory). It allocates for the
+    /// name, which is copied, and the shape.
     fn field(alloc: Global, name: &str) -> Result<Field>
         ensures exact { IfOk result (λ f. field_of f ≡ (name.now, table.form, is_some table.missing)) }
         ensures errors { OnlyOutOfMemory result };
@@ -48,17 +48,20 @@ pub trait FieldType: Sized + Drop {
         ensures { ReadsNode table.value table.form table.meaning reader.reject_duplicates (tree_of node.now) result };
 
     /// Returns the field that isn't among the members of data. If it must be there, the error is [`Custom`](qs_data::Error::Custom); if an
-    /// allocation failed, [`OutOfMemory`](qs_data::Error::OutOfMemory). It allocates for the message of the error, or for the default.
+    /// allocation failed, [`OutOfMemory`](qs_data::Error::OutOfMemory). It allocates for the message of the error, or as
+    /// [`missing`](crate::OrDefault::missing) does.
     fn without_data(alloc: Global) -> Result<Self>
         ensures { Means table.value result (absent table.missing) };
 
-    /// Returns the field of this name that has no key. If it must be there, it returns the same as
-    /// [`from_missing`](Deserialize::from_missing), and otherwise the same as [`without_data`](FieldType::without_data).
+    /// Returns the field of this name that has no key. If it must be there, the result is the one of
+    /// [`from_missing`](Deserialize::from_missing), and otherwise the one of [`without_data`](FieldType::without_data). It allocates as
+    /// these do.
     fn without_key(reader: Reader, name: &str) -> Result<Self>
         ensures { Means table.value result (keyless table.meaning (missing_data table.form) table.missing) };
 
-    /// Returns the field that has no item among this many. If it must be there, the error is ``missing index, expected: .. got ..``. It
-    /// returns the same as [`without_data`](FieldType::without_data) otherwise.
+    /// Returns the field that has no item among this many. If it must be there, the error is the one of
+    /// [`missing_item`](Reader::missing_item). Otherwise the result is the one of [`without_data`](FieldType::without_data). It allocates
+    /// as these do.
     fn without_item(reader: Reader, count: usize) -> Result<Self>
         ensures { Means table.value result (absent table.missing) };
 }

@@ -8,19 +8,18 @@ ghost use Rattle.qs_spec.specs.Shape.{is_distinct};
 ghost use Rattle.qs_tree.specs.tree.Views.{tree_of};
 ghost use Rattle.serde_qs.specs.Nodes.{ReadsNode};
 ghost use Rattle.serde_qs.specs.Sources.{ReadsSource};
-ghost use Rattle.serde_qs.specs.PartTables.{PartsTable, enum_parts, newtype_parts, struct_parts, tuple_parts};
-ghost use Rattle.serde_qs.specs.Records.{struct_in, texts};
+ghost use Rattle.serde_qs.specs.PartTables.{PartsTable, enum_parts, newtype_parts, tuple_parts};
+ghost use Rattle.serde_qs.specs.Records.{texts};
 ghost use Rattle.serde_qs.specs.Typed.{Means};
 
-use super::fields::Fields;
 use super::items::Items;
-use super::payloads::{Newtype, Struct, Tuple};
+use super::payloads::{Newtype, Tuple};
 use super::source::Source;
+use super::trace;
 use super::variants::{Variants, variant_of};
-use super::{nodes, trace};
 use crate::path::Path;
 use crate::traits::{Deserialize, unexpected};
-use qs_data::{Data, Reader, Result, Shape, UnknownKeys};
+use qs_data::{Data, Reader, Result, Shape};
 use qs_tree::ParsedValue;
 use std::alloc::Global;
 
@@ -34,7 +33,7 @@ pub struct Enum<V>(pub V);
 
 /// What a struct or an enum is made of: its fields, its items, its variants, or one value.
 ///
-/// It is implemented for [`Struct`], [`StrictStruct`](crate::StrictStruct), [`Tuple`], [`Enum`] and [`Newtype`] alone; a user names them in a type
+/// It is implemented for [`Struct`](crate::Struct), [`StrictStruct`](crate::StrictStruct), [`Tuple`], [`Enum`] and [`Newtype`] alone; a user names them in a type
 /// alias, for a [`Compound`](crate::Compound).
 ///
 /// ```
@@ -108,56 +107,6 @@ pub trait Parts: Sized {
         };
         Self::from_node(reader, names, node)
     }
-}
-
-impl<F: Fields> Parts for Struct<F> {
-    ghost table = { struct_parts F.table };
-
-    fn shape(alloc: Global, names: &[&'static str]) -> Result<Shape> {
-        let fields = F::push_fields(alloc, names, Vec::new(alloc))?;
-        Ok(Shape::Struct(fields))
-    }
-
-    fn from_data(alloc: Global, names: &[&'static str], datum: Data) -> Result<Struct<F>> {
-        Ok(Struct(struct_fields(alloc, names, datum)?))
-    }
-
-    #[inline(always)]
-    fn from_node(
-        reader: Reader,
-        names: &[&'static str],
-        node: &ParsedValue<'_>,
-    ) -> Result<Struct<F>> {
-        let unknown = UnknownKeys::Ignored;
-        Ok(Struct(nodes::fields_of_struct(reader, unknown, names, node)?))
-    }
-
-    fn from_traced(
-        reader: Reader,
-        names: &[&'static str],
-        node: &ParsedValue<'_>,
-        path: &mut Path,
-    ) -> Result<Struct<F>> {
-        trace::trace_struct::<F>(reader, names, node, path)?;
-        Self::from_node(reader, names, node)
-    }
-}
-
-/// Returns the fields that the data of a struct means.
-#[inline(never)]
-#[tactic(auto, using(crate::proofs::Levels::levels))]
-pub(crate) fn struct_fields<F: Fields>(
-    alloc: Global,
-    names: &[&'static str],
-    datum: Data,
-) -> Result<F>
-    ensures { Means F.table.value result (struct_in (F.table.meaning (texts names.now)) (data_of datum)) }
-{
-    let Data::Struct(mut members) = datum else {
-        return Err(unexpected(alloc, "a struct"));
-    };
-    members.reverse();
-    F::from_members(alloc, names, members)
 }
 
 impl<V: Variants> Parts for Enum<V> {

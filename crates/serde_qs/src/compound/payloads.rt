@@ -9,16 +9,13 @@ ghost use Rattle.qs_data.specs.read.Gives.{Gives};
 ghost use Rattle.qs_data.specs.read.Held.{held_is_text};
 ghost use Rattle.qs_data.specs.shape.Views.{kind_of};
 ghost use Rattle.serde_qs.specs.Held.{kind_held};
-ghost use Rattle.serde_qs.specs.PartTables.{PayloadTable, newtype_payload, struct_payload, tuple_payload, unit_payload};
+ghost use Rattle.serde_qs.specs.PartTables.{PayloadTable, newtype_payload, tuple_payload, unit_payload};
 ghost use Rattle.serde_qs.specs.Records.{texts};
 ghost use Rattle.serde_qs.specs.Typed.{Means};
-ghost use Rattle.serde_qs.specs.Variants.{struct_variant_in};
 
-use super::fields::Fields;
 use super::items::Items;
-use super::nodes;
 use crate::traits::{Deserialize, unexpected};
-use qs_data::{Data, Reader, Result, UnknownKeys, VariantKind};
+use qs_data::{Data, Reader, Result, VariantKind};
 use qs_tree::ParsedValue;
 use std::alloc::Global;
 
@@ -30,14 +27,6 @@ use std::alloc::Global;
 #[derive(Debug, PartialEq, Drop)]
 pub struct Newtype<T>(pub T);
 
-/// The fields of a struct, or of a variant with named fields, as nested pairs: `Struct<(u8, (u8, ()))>`.
-///
-/// ```
-/// let Struct((x, (y, ()))) = PointParts::read(source, NAMES)?;
-/// ```
-#[derive(Debug, PartialEq, Drop)]
-pub struct Struct<F>(pub F);
-
 /// The items of a tuple, or of a variant with items, as nested pairs: `Tuple<(u8, (u8, ()))>`.
 ///
 /// ```
@@ -46,7 +35,7 @@ pub struct Struct<F>(pub F);
 #[derive(Debug, PartialEq, Drop)]
 pub struct Tuple<I>(pub I);
 
-/// What a variant of an enum holds: `()`, a [`Newtype`], a [`Tuple`], a [`Struct`] or a [`StrictStruct`](crate::StrictStruct).
+/// What a variant of an enum holds: `()`, a [`Newtype`], a [`Tuple`], a [`Struct`](crate::Struct) or a [`StrictStruct`](crate::StrictStruct).
 ///
 /// It is implemented for these alone; a user names them in an [`Enum`](crate::Enum).
 ///
@@ -144,32 +133,6 @@ impl<T: Deserialize> Payload for Newtype<T> {
     }
 }
 
-impl<F: Fields> Payload for Struct<F> {
-    ghost table = { struct_payload F.table };
-
-    fn skip<'a>(names: &'a [&'static str]) -> &'a [&'static str] {
-        F::skip(names)
-    }
-
-    fn kind(alloc: Global, names: &[&'static str]) -> Result<VariantKind> {
-        Ok(VariantKind::Struct(F::push_fields(alloc, names, Vec::new(alloc))?))
-    }
-
-    fn from_data(alloc: Global, names: &[&'static str], datum: Data) -> Result<Struct<F>> {
-        Ok(Struct(variant_fields(alloc, names, datum)?))
-    }
-
-    fn from_node(
-        reader: Reader,
-        names: &[&'static str],
-        held: Option<&ParsedValue<'_>>,
-    ) -> Result<Struct<F>> {
-        let node = reader.struct_variant(held)?;
-        let ignored = UnknownKeys::Ignored;
-        Ok(Struct(nodes::fields_of_variant(reader, ignored, names, node)?))
-    }
-}
-
 impl<I: Items> Payload for Tuple<I> {
     ghost table = { tuple_payload I.table };
 
@@ -198,20 +161,4 @@ impl<I: Items> Payload for Tuple<I> {
         let items = reader.tuple_variant(held)?;
         Ok(Tuple(I::from_places(reader, items, 0)?))
     }
-}
-
-/// Returns the fields that the data of a struct variant means.
-#[tactic(auto, using(crate::proofs::Levels::levels))]
-pub(crate) fn variant_fields<F: Fields>(
-    alloc: Global,
-    names: &[&'static str],
-    datum: Data,
-) -> Result<F>
-    ensures { Means F.table.value result (struct_variant_in (F.table.meaning (texts names.now)) (data_of datum)) }
-{
-    let Data::StructVariant(_, mut members) = datum else {
-        return Err(unexpected(alloc, "a struct variant"));
-    };
-    members.reverse();
-    F::from_members(alloc, names, members)
 }

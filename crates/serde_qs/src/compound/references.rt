@@ -99,16 +99,13 @@ impl<'a, T: Serialize, R: References + Drop> References for (SkipNone<'a, T>, R)
         self,
         alloc: Global,
         names: &[&str],
-        mut before: Vec<(String, Data)>,
+        before: Vec<(String, Data)>,
     ) -> Result<Vec<(String, Data)>> {
         let (SkipNone(field), others) = self;
-        let (name, rest) = split(names);
-        if let Some(value) = field {
-            let datum = value.to_data(alloc)?;
-            let name = String::from_str(alloc, name)?;
-            before.push((name, datum))?;
+        match field {
+            Some(value) => (value, others).push_members(alloc, names, before),
+            None => others.push_members(alloc, split(names).1, before),
         }
-        others.push_members(alloc, rest, before)
     }
 
     fn write_members(self, names: &[&str], writer: &mut Writer) -> WriteResult {

@@ -20,7 +20,10 @@ pub struct Flat {
     pub note: Option<String>,
 }
 
-type FlatFields = (String, (u8, (String, (Optional<bool>, (Option<String>, ())))));
+type FlatFields = (
+    String,
+    (u8, (String, (Optional<bool>, (Option<String>, ())))),
+);
 
 const NAMES: &[&str] = &["name", "age", "occupation", "active", "note"];
 

@@ -1,7 +1,6 @@
 -- Where a format is after it moved.
-use Rattle.std.proofs.Common.{◌≡◌, ◌≢◌, ℕ, zero, suc, ◌+◌, ◌-◌, ◌<◌, ◌≤◌, ◌++◌, Bool, true, false, cond, List, [], ◌∷◌, length, map, take, drop, slice_get, slice_set, get_or, Option, Some, None, refl, sym, ap, subst, ◌∙◌, arith, length-append}
-use Rattle.std.proofs.Math.Seq.{take-append_seam, take-suc}
-use Rattle.std.proofs.lemmas.List.{drop_all, set_split}
+use Rattle.std.proofs.Common.{◌≡◌, ℕ, zero, suc, ◌+◌, ◌-◌, ◌<◌, ◌++◌, Bool, true, false, cond, List, [], ◌∷◌, length, map, take, drop, slice_get, get_or, Option, Some, None, option_to_list, refl, sym, ap, subst, ◌∙◌, arith, append-nil}
+use Rattle.std.proofs.Math.Seq.{take-suc}
 use Rattle.std.proofs.lemmas.Option.{same_Some}
 use Rattle.std.specs.Option.{option_map}
 use Rattle.std.specs.Borrow.{Bor}
@@ -17,7 +16,7 @@ use Rattle.qs_data.specs.read.Entries.{node_entries}
 use Rattle.qs_data.specs.read.Items.{first_item}
 use Rattle.qs_data.proofs.lemmas.read.Items.{place_here, first_none, item_first}
 use Rattle.qs_serde.specs.Nodes.{listed, pairs_in}
-use Rattle.qs_serde.specs.Places.{IsAt, around, child_at, count_of, item_or, kind_of, last_frame, last_part, node_by, part_tree, passed, value_or}
+use Rattle.qs_serde.specs.Places.{IsAt, child_at, count_of, frames, item_or, kind_of, last_part, node_by, part_tree, passed, value_or}
 use Rattle.qs_serde.specs.Steps.{Begins, ComesBack, HasParts, Moves}
 use Rattle.qs_serde.specs.declared.reading.frame.Frame.{Frame}
 use Rattle.qs_serde.specs.declared.reading.frame.FrameKind.{FrameKind}
@@ -40,19 +39,10 @@ pub node_by_more : (t : Tree) (fs : List Frame) (f : Frame) → node_by t (fs ++
 node_by_more t [] f = refl
 node_by_more t (g ∷ fs) f = node_by_more (last_part t g.next) fs f
 
-pub around_more : (fs : List Frame) (f : Frame) → around (fs ++ f ∷ []) ≡ fs
-around_more fs f =
-    let n : length (fs ++ f ∷ []) - 1 ≡ length fs = omega (arith, length-append fs (f ∷ [])) in
-    ap (λ m. take m (fs ++ f ∷ [])) n ∙ take-append_seam fs (f ∷ [])
-
-get_last : (fs : List Frame) (f : Frame) → slice_get (fs ++ f ∷ []) (length fs) ≡ Some f
-get_last [] f = refl
-get_last (g ∷ fs) f = get_last fs f
-
-pub last_more : (fs : List Frame) (f : Frame) → last_frame (fs ++ f ∷ []) ≡ Some f
-last_more fs f =
-    let n : length (fs ++ f ∷ []) - 1 ≡ length fs = omega (arith, length-append fs (f ∷ [])) in
-    ap (slice_get (fs ++ f ∷ [])) n ∙ get_last fs f
+-- all of them, the innermost last
+pub node_by_all : (t : Tree) (fs : List Frame) (o : Option Frame) → node_by t (fs ++ option_to_list o) ≡ last_part (node_by t fs) (passed o)
+node_by_all t fs None = ap (node_by t) (append-nil fs)
+node_by_all t fs (Some f) = node_by_more t fs f
 
 -- one more of them is passed on the way from the root
 pub came_to : (t : Tree) (fs gs : List Frame) (i : ℕ) (n r : Tree) → gs ≡ fs → i < length gs → n ≡ node_by t (take i fs)
@@ -123,10 +113,11 @@ pub has_map : (t : Tree) (es : Entries) → node_entries t ≡ Some es → HasPa
 has_map t es h = has_entries t es h
 
 -- a list or a map was begun
-pub begun : (old new : TreeFormat) (kind : FrameKind) → new.stack.items ≡ old.stack.items ++ record { kind = kind; next = 0; field = 0 } ∷ [] → new.top ≡ old.node → new.node ≡ old.node
+pub begun : (old new : TreeFormat) (kind : FrameKind) → new.frame ≡ Some (record { kind = kind; next = 0; field = 0 }) → new.around.items ≡ frames old → new.top ≡ old.node → new.node ≡ old.node
     → new.part ≡ old.part → new.reader ≡ old.reader → new.root ≡ old.root → new.search ≡ old.search → Begins old kind new
-begun old new kind stack top node part reader root search = record {
-  stack = stack;
+begun old new kind frame around top node part reader root search = record {
+  frame = frame;
+  around = around;
   top = top;
   node = node;
   part = part;
@@ -134,77 +125,58 @@ begun old new kind stack top node part reader root search = record {
 } where
   place : IsAt old → IsAt new
   place h = (
-    ap (λ (v : Bor ParsedValue). tree_of v.now) top ∙ h.1 ∙ ap (λ (v : Bor ParsedValue). node_by (tree_of v.now) old.stack.items) (sym root)
-        ∙ ap (node_by (tree_of new.root.now)) (sym (ap around stack ∙ around_more old.stack.items (record { kind = kind; next = 0; field = 0 }))),
-    ap (λ (v : Bor ParsedValue). tree_of v.now) node ∙ h.1 ∙ ap (λ (v : Bor ParsedValue). node_by (tree_of v.now) old.stack.items) (sym root)
-        ∙ sym (node_by_more (tree_of new.root.now) old.stack.items (record { kind = kind; next = 0; field = 0 }))
-        ∙ ap (node_by (tree_of new.root.now)) (sym stack),
+    ap (λ (v : Bor ParsedValue). tree_of v.now) top ∙ h.1 ∙ ap (λ t. last_part t (count_of old)) h.0
+        ∙ sym (node_by_all (tree_of old.root.now) old.around.items old.frame)
+        ∙ ap (λ (v : Bor ParsedValue). node_by (tree_of v.now) (frames old)) (sym root) ∙ ap (node_by (tree_of new.root.now)) (sym around),
+    ap (λ (v : Bor ParsedValue). tree_of v.now) (node ∙ sym top) ∙ ap (λ o. last_part (tree_of new.top.now) (passed o)) (sym frame),
   )
 
--- the last frame is another one
-pub put_last : (fs : List Frame) (f : Frame) → fs ≢ [] → slice_set fs (length fs - 1) f ≡ around fs ++ f ∷ []
-put_last [] f h = absurd (h refl)
-put_last (g ∷ fs) f h =
-    let lt : length (g ∷ fs) - 1 < length (g ∷ fs) = omega arith in
-    let all : length (g ∷ fs) ≤ suc (length (g ∷ fs) - 1) = omega arith in
-    set_split (g ∷ fs) (length (g ∷ fs) - 1) f lt
-    ∙ ap (λ gs. take (length (g ∷ fs) - 1) (g ∷ fs) ++ f ∷ gs) (drop_all (suc (length (g ∷ fs) - 1)) (g ∷ fs) all)
-
 -- the innermost list or map is gone on in
-pub not_empty : (fs : List Frame) (kind : FrameKind) → option_map (λ f. f.kind) (last_frame fs) ≡ Some kind → fs ≢ []
-not_empty fs kind h e = let n : None ≡ Some kind = ap (λ gs. option_map (λ f. f.kind) (last_frame gs)) (sym e) ∙ h in absurd cc
-
-pub moved : (old new : TreeFormat) (frame : Frame) → kind_of old ≡ Some frame.kind → new.stack.items ≡ around old.stack.items ++ record frame { next = suc frame.next } ∷ []
+pub moved : (old new : TreeFormat) (frame : Frame) → kind_of old ≡ Some frame.kind → new.frame ≡ Some (record frame { next = suc frame.next }) → new.around.items ≡ old.around.items
     → new.top ≡ old.top → new.reader ≡ old.reader → new.root ≡ old.root → new.search ≡ old.search → child_at (tree_of old.top.now) frame.next ≡ tree_of new.node.now → Moves frame.next old new
-moved old new frame kind stack top reader root search child = record {
+moved old new frame kind last around top reader root search child = record {
   count = ap passed last;
   kind = ap (option_map (λ (f : Frame). f.kind)) last ∙ sym kind;
-  around = outer;
+  around = around;
   top = top;
   keeps = (reader, root, search, place);
 } where
-  last : last_frame new.stack.items ≡ Some (record frame { next = suc frame.next })
-  last = ap last_frame stack ∙ last_more (around old.stack.items) (record frame { next = suc frame.next })
-
-  outer : around new.stack.items ≡ around old.stack.items
-  outer = ap around stack ∙ around_more (around old.stack.items) (record frame { next = suc frame.next })
-
   place : IsAt old → IsAt new
   place h = (
-    ap (λ (v : Bor ParsedValue). tree_of v.now) top ∙ h.0 ∙ ap (λ (v : Bor ParsedValue). node_by (tree_of v.now) (around old.stack.items)) (sym root)
-        ∙ ap (node_by (tree_of new.root.now)) (sym outer),
-    sym child ∙ ap (λ t. child_at t frame.next) h.0
-        ∙ sym (node_by_more (tree_of old.root.now) (around old.stack.items) (record frame { next = suc frame.next }))
-        ∙ ap (λ (v : Bor ParsedValue). node_by (tree_of v.now) (around old.stack.items ++ record frame { next = suc frame.next } ∷ [])) (sym root)
-        ∙ ap (node_by (tree_of new.root.now)) (sym stack),
+    ap (λ (v : Bor ParsedValue). tree_of v.now) top ∙ h.0 ∙ ap (λ (v : Bor ParsedValue). node_by (tree_of v.now) old.around.items) (sym root)
+        ∙ ap (node_by (tree_of new.root.now)) (sym around),
+    sym child ∙ ap (λ (v : Bor ParsedValue). child_at (tree_of v.now) frame.next) (sym top) ∙ ap (λ o. last_part (tree_of new.top.now) (passed o)) (sym last),
   )
 
 -- the format came back to a mark
-pub comes_back : (mark : Mark) (old new : TreeFormat) → new.stack.items ≡ take mark.depth old.stack.items → new.root ≡ old.root → new.reader ≡ old.reader
+pub comes_back : (mark : Mark) (old new : TreeFormat) → new.around.items ≡ take mark.depth old.around.items → new.frame ≡ mark.frame → new.root ≡ old.root → new.reader ≡ old.reader
     → new.part ≡ mark.part → IsAt new → ComesBack mark old new
-comes_back mark old new stack root reader part at marked is place above = record {
-  stack = frames;
+comes_back mark old new around frame root reader part at marked is place above = record {
+  frame = same;
+  around = outer;
   top = top;
   node = node;
-  part = part ∙ is.1;
+  part = part ∙ is.2;
   root = root ∙ above.1;
   reader = reader ∙ above.2;
   next =
-      ap (λ (q : Part). part_tree q (tree_of new.node.now) (tree_of new.top.now) (count_of new - 1)) (part ∙ is.1)
+      ap (λ (q : Part). part_tree q (tree_of new.node.now) (tree_of new.top.now) (count_of new - 1)) (part ∙ is.2)
       ∙ ap (λ t. part_tree marked.part t (tree_of new.top.now) (count_of new - 1)) node
       ∙ ap (λ t. part_tree marked.part (tree_of marked.node.now) t (count_of new - 1)) top
-      ∙ ap (λ fs. part_tree marked.part (tree_of marked.node.now) (tree_of marked.top.now) (passed (last_frame fs) - 1)) frames;
+      ∙ ap (λ o. part_tree marked.part (tree_of marked.node.now) (tree_of marked.top.now) (passed o - 1)) same;
   place = at;
 } where
-  frames : new.stack.items ≡ marked.stack.items
-  frames = stack ∙ ap (λ n. take n old.stack.items) is.0 ∙ above.0
+  same : new.frame ≡ marked.frame
+  same = frame ∙ is.1
+
+  outer : new.around.items ≡ marked.around.items
+  outer = around ∙ ap (λ n. take n old.around.items) is.0 ∙ above.0
 
   top : tree_of new.top.now ≡ tree_of marked.top.now
   top =
-      at.0 ∙ ap (λ (v : Bor ParsedValue). node_by (tree_of v.now) (around new.stack.items)) (root ∙ above.1)
-      ∙ ap (λ fs. node_by (tree_of marked.root.now) (around fs)) frames ∙ sym place.0
+      at.0 ∙ ap (λ (v : Bor ParsedValue). node_by (tree_of v.now) new.around.items) (root ∙ above.1)
+      ∙ ap (node_by (tree_of marked.root.now)) outer ∙ sym place.0
 
   node : tree_of new.node.now ≡ tree_of marked.node.now
   node =
-      at.1 ∙ ap (λ (v : Bor ParsedValue). node_by (tree_of v.now) new.stack.items) (root ∙ above.1)
-      ∙ ap (node_by (tree_of marked.root.now)) frames ∙ sym place.1
+      at.1 ∙ ap (λ t. last_part t (count_of new)) top ∙ ap (λ o. last_part (tree_of marked.top.now) (passed o)) same ∙ sym place.1

@@ -1,5 +1,5 @@
 -- Where the code is after each step of its writer.
-use Rattle.qs_data.proofs.Common.{◌≡◌, ℕ, Bool, true, false, cond, List, [], ◌∷◌, ◌++◌, ◌+◌, length, option_map, refl, sym, ap, ◌∙◌, subst, ap₂, arith, ◌⊎◌, inl, inr, Option, Some, None, Result, Ok, Err, append-nil, le-ltb, nat_lt, false≢true, Config, Path, Entry, EntryError, Output, nothing, one, failure, too_deep, bad_key, length-append, StreamState, Adds, IsAt, EntersAt, Part, Writes, WritesAt, WritesPart, state_of, Vec, Global}
+use Rattle.qs_data.proofs.Common.{◌≡◌, ℕ, Bool, true, false, cond, List, [], ◌∷◌, ◌++◌, ◌+◌, length, option_map, refl, sym, ap, ◌∙◌, subst, ap₂, arith, ◌⊎◌, inl, inr, Option, Some, None, Result, Ok, Err, append-nil, le-ltb, nat_lt, false≢true, Config, Path, Entry, EntryError, Output, nothing, one, failure, too_deep, bad_key, length-append, StreamState, Adds, IsAt, EntersAt, Part, Writes, WritesAt, WritesPart, state_of}
 use Rattle.qs_spec.specs.Written.{written}
 use Rattle.qs_data.specs.write.Writes.{Stops as WriteStops}
 use Rattle.std.specs.Prelude.{is_some, option_to_list}
@@ -24,7 +24,7 @@ use Rattle.qs_serde.specs.Placed.{AreAround, Arrives, Goes, Holds, IsIn, IsLevel
 pub holds_fresh : (config : Config) (w : Writer) → IsFresh config w → Holds config w []
 holds_fresh config w f = record { settings = f.settings; adds = subst (λ t. Adds config.form blank t []) (sym f.state) (adds_nothing config.form blank) }
 
-pub stands_fresh : (config : Config) (p : Position) → IsFresh config p.writer → p.frame ≡ record { kind = k.Top; count = 0; part = None } → p.around.items ≡ [] → p.next ≡ n.Value → Stands config p start
+pub stands_fresh : (config : Config) (p : Position) → IsFresh config p.writer → p.frame ≡ record { kind = k.Top; count = 0; part = None } → p.around ≡ [] → p.next ≡ n.Value → Stands config p start
 stands_fresh config p f frame around next = record {
   holds = holds_fresh config p.writer f;
   next = next;
@@ -202,16 +202,16 @@ last_is (z ∷ xs) x (v ∷ ys) y e =
     let r = last_is xs x ys y tails in
     (rw heads (ap (λ t. v ∷ t) r.0), r.1)
 
-pub went_out : (config : Config) (s : State) (p : Position) (frame : Frame) (left : Vec Frame Global) → is_some p.frame.part ≡ false → p.around.items ≡ left.items ++ frame ∷ [] → Stands config p s
+pub went_out : (config : Config) (s : State) (p : Position) (frame : Frame) (left : List Frame) → is_some p.frame.part ≡ false → p.around ≡ left ++ frame ∷ [] → Stands config p s
     → (t : State) × (closes s ≡ Some t) × Stands config (record { writer = p.writer; frame = frame; around = left; next = p.next }) t
 went_out config s p frame left none items h = by s.around refl
   where
     by : (ls : List Level) → s.around ≡ ls → (t : State) × (closes s ≡ Some t) × Stands config (record { writer = p.writer; frame = frame; around = left; next = p.next }) t
-    by [] is = let no : p.around.items ≡ [] = subst (AreAround config.form p.around.items) is h.around in
-        let l = ap length (sym no ∙ items) in let m = length-append left.items (frame ∷ []) in absurd (omega (arith, l, m))
+    by [] is = let no : p.around ≡ [] = subst (AreAround config.form p.around) is h.around in
+        let l = ap length (sym no ∙ items) in let m = length-append left (frame ∷ []) in absurd (omega (arith, l, m))
     by (l ∷ ls) is =
-        let a = subst (AreAround config.form p.around.items) is h.around in
-        let same = last_is a.0 a.1 left.items frame (sym a.2 ∙ items) in
+        let a = subst (AreAround config.form p.around) is h.around in
+        let same = last_is a.0 a.1 left frame (sym a.2 ∙ items) in
         let part = empty config s p none h in (
           record { entries = s.entries; here = l; around = ls; next = s.next },
           ap (λ q. closed q s.around s) part ∙ ap (λ m. closed None m s) is,
@@ -223,6 +223,15 @@ went_out config s p frame left none items h = by s.around refl
             around = subst (λ fs. AreAround config.form fs ls) same.0 a.4;
           },
         )
+
+pub went_nowhere : (config : Config) (s : State) (p : Position) → is_some p.frame.part ≡ false → p.around ≡ [] → Stands config p s → closes s ≡ None
+went_nowhere config s p none empty_around h = by s.around refl
+  where
+    by : (ls : List Level) → s.around ≡ ls → closes s ≡ None
+    by [] is = ap (λ q. closed q s.around s) (empty config s p none h) ∙ ap (λ m. closed None m s) is
+    by (l ∷ ls) is =
+        let a = subst (AreAround config.form p.around) is h.around in
+        let k = ap length (sym empty_around ∙ a.2) in let m = length-append a.0 (a.1 ∷ []) in absurd (omega (arith, k, m))
 
 -- a flattened map has ended: its parts are those of the map around it
 pub merged : (config : Config) (s : State) (p q : Position) (frame : Frame) (count : ℕ) → IsIn config p s → p.next ≡ n.Value → frame ≡ p.frame → frame.kind ≡ k.Flattened

@@ -46,7 +46,7 @@ pub record Stands (config : Config) (p : Position) (s : State) : Type 0 where
   pub next : p.next ≡ s.next
   pub walk : IsAt config (path_at s) p.writer.walk
   pub here : IsLevel config.form (path_of s.around) p.frame s.here
-  pub around : AreAround config.form p.around.items s.around
+  pub around : AreAround config.form p.around s.around
 
 -- or there was an error before, and the text of these entries is there
 abbrev pub IsIn : Config → Position → State → Type 0

@@ -1,5 +1,5 @@
 -- Where a format is in its tree: the node that the open lists and maps lead to, and what the next step reads.
-use Rattle.std.specs.Prelude.{◌≡◌, ℕ, zero, suc, ◌-◌, List, [], ◌∷◌, length, take, drop, slice_get, Option, Some, None, option_map}
+use Rattle.std.specs.Prelude.{◌≡◌, ℕ, zero, suc, ◌-◌, List, [], ◌∷◌, ◌++◌, drop, slice_get, Option, Some, None, option_map, option_to_list}
 use Rattle.qs_spec.specs.Leaf.Leaf.{NoValue}
 use Rattle.qs_spec.specs.Segment.{MarkedSegment}
 use Rattle.qs_spec.specs.Tree.{Tree}
@@ -40,13 +40,9 @@ abbrev pub node_by : Tree → List Frame → Tree
 node_by t [] = t
 node_by t (frame ∷ frames) = node_by (last_part t frame.next) frames
 
--- the lists and maps around the innermost
-abbrev pub around : List Frame → List Frame
-around frames = take (length frames - 1) frames
-
--- the innermost list or map
-abbrev pub last_frame : List Frame → Option Frame
-last_frame frames = slice_get frames (length frames - 1)
+-- the open lists and maps, the innermost last
+abbrev pub frames : TreeFormat → List Frame
+frames f = f.around.items ++ option_to_list f.frame
 
 -- how many items or entries of a list or a map were reached
 abbrev pub passed : Option Frame → ℕ
@@ -55,17 +51,17 @@ passed (Some frame) = frame.next
 
 -- how many items or entries of the innermost list or map were reached
 abbrev pub count_of : TreeFormat → ℕ
-count_of f = passed (last_frame f.stack.items)
+count_of f = passed f.frame
 
 -- the kind of the innermost list or map
 abbrev pub kind_of : TreeFormat → Option FrameKind
-kind_of f = option_map (λ frame. frame.kind) (last_frame f.stack.items)
+kind_of f = option_map (λ frame. frame.kind) f.frame
 
 -- The format is where its open lists and maps lead from the root: `top` is the innermost, and `node` is the current node in it.
 abbrev pub IsAt : TreeFormat → Type 0
 IsAt f =
-    (tree_of f.top.now ≡ node_by (tree_of f.root.now) (around f.stack.items))
-    × (tree_of f.node.now ≡ node_by (tree_of f.root.now) f.stack.items)
+    (tree_of f.top.now ≡ node_by (tree_of f.root.now) f.around.items)
+    × (tree_of f.node.now ≡ last_part (tree_of f.top.now) (count_of f))
 
 -- a part of the current node
 abbrev pub part_tree : Part → Tree → Tree → ℕ → Tree

@@ -1,5 +1,5 @@
 -- What each step of the format reads, and where the format is then.
-use Rattle.std.specs.Prelude.{◌≡◌, ◌⊎◌, ℕ, suc, pos, negsuc, ◌<ℤ◌, ◌^◌, ◌≤◌, ⊤, Bool, true, false, List, [], ◌∷◌, ◌++◌, length, take, drop, slice_get, Option, Some, None, option_map, option_and_then, cond}
+use Rattle.std.specs.Prelude.{◌≡◌, ◌⊎◌, ◌↔◌, ℕ, suc, pos, negsuc, ◌<ℤ◌, ◌^◌, ◌≤◌, ◌<◌, ⊤, Bool, true, false, List, [], ◌∷◌, length, take, drop, slice_get, Option, Some, None, option_map, option_and_then, IsSome, cond}
 use Rattle.qs_spec.specs.Leaf.Leaf.{NoValue, Null, Text}
 use Rattle.qs_spec.specs.Tree.{Tree, Entries}
 use Rattle.qs_spec.specs.Tree.Tree.{leaf, sequence, mapping, uninitialized}
@@ -14,7 +14,7 @@ use Rattle.serde.specs.Event.{Event, boolean, signed, unsigned, single, double, 
 use Rattle.serde.specs.declared.name.Name.{Name}
 use Rattle.qs_serde.specs.Nodes.{IsEntry, key_tree, listed, pairs_in}
 use Rattle.qs_serde.specs.Lookups.{LooksUp}
-use Rattle.qs_serde.specs.Places.{IsAt, around, count_of, kind_of, last_frame, tree_at}
+use Rattle.qs_serde.specs.Places.{IsAt, count_of, frames, kind_of, tree_at}
 use Rattle.qs_serde.specs.declared.reading.node.Node.{Node}
 use Rattle.qs_serde.specs.declared.reading.node.Part.{Part}
 use Rattle.qs_serde.specs.declared.reading.node.Part.TheVariants as p
@@ -108,27 +108,28 @@ HasParts k.Map t = option_map entry_list (node_entries t) ≡ Some (pairs_in t)
 
 -- The list or the map of the node that is next was begun as this kind, and is before its first item or entry.
 pub record Begins (old : TreeFormat) (kind : FrameKind) (new : TreeFormat) : Type 0 where
-  pub stack : new.stack.items ≡ old.stack.items ++ record { kind = kind; next = 0; field = 0 } ∷ []
+  pub frame : new.frame ≡ Some (record { kind = kind; next = 0; field = 0 })
+  pub around : new.around.items ≡ frames old
   pub top : new.top ≡ old.node
   pub node : new.node ≡ old.node
   pub part : new.part ≡ old.part
   pub keeps : Keeps old new
 
--- The innermost list or map was left: the one around it is the innermost again.
+-- The innermost list or map was left: the one around it, if there is one, is the innermost again.
 abbrev pub Leaves : TreeFormat → TreeFormat → Type 0
-Leaves old new = (new.stack.items ≡ around old.stack.items) × Keeps old new
+Leaves old new = (old.around.items ≡ frames new) × (IsSome new.frame ↔ (0 < length old.around.items)) × Keeps old new
 
 -- The format went to this index of the innermost list or map, and the next index is next. The lists and maps around it are as they were.
 pub record Moves (i : ℕ) (old new : TreeFormat) : Type 0 where
   pub count : count_of new ≡ suc i
   pub kind : kind_of new ≡ kind_of old
-  pub around : around new.stack.items ≡ around old.stack.items
+  pub around : new.around.items ≡ old.around.items
   pub top : new.top ≡ old.top
   pub keeps : Keeps old new
 
 -- no entry of the innermost map is left
 abbrev pub HasNoEntry : TreeFormat → Type 0
-HasNoEntry old = (last_frame old.stack.items ≡ None) ⊎ (slice_get (pairs_in (tree_of old.top.now)) (count_of old) ≡ None)
+HasNoEntry old = (old.frame ≡ None) ⊎ (slice_get (pairs_in (tree_of old.top.now)) (count_of old) ≡ None)
 
 -- the format went to the entry at this index of the innermost map: this is its key, and its value is next
 pub record EntryComes (i : ℕ) (key : Node) (old new : TreeFormat) : Type 0 where
@@ -202,15 +203,16 @@ Picks old false names at new = LooksUp (tree_at old) names at × Notes old new
 
 -- the mark was made at this place
 abbrev pub IsMark : Mark → TreeFormat → Type 0
-IsMark mark f = (mark.depth ≡ length f.stack.items) × (mark.part ≡ f.part)
+IsMark mark f = (mark.depth ≡ length f.around.items) × (mark.frame ≡ f.frame) × (mark.part ≡ f.part)
 
--- The format reads the same tree as at the mark, and the lists and maps that were open then are as they were.
+-- The format reads the same tree as at the mark, and the lists and maps around the one that was the innermost then are as they were.
 abbrev pub IsAbove : TreeFormat → TreeFormat → Type 0
-IsAbove marked old = (take (length marked.stack.items) old.stack.items ≡ marked.stack.items) × (old.root ≡ marked.root) × (old.reader ≡ marked.reader)
+IsAbove marked old = (take (length marked.around.items) old.around.items ≡ marked.around.items) × (old.root ≡ marked.root) × (old.reader ≡ marked.reader)
 
 -- the format is where it was at the mark
 pub record IsBack (marked new : TreeFormat) : Type 0 where
-  pub stack : new.stack.items ≡ marked.stack.items
+  pub frame : new.frame ≡ marked.frame
+  pub around : new.around.items ≡ marked.around.items
   pub top : tree_of new.top.now ≡ tree_of marked.top.now
   pub node : tree_of new.node.now ≡ tree_of marked.node.now
   pub part : new.part ≡ marked.part

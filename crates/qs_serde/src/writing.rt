@@ -1,6 +1,7 @@
 //! Writing: the serializer, the events that it was sent, and where in the value it is.
 
 mod frame;
+mod frames;
 mod halt;
 mod kept;
 mod laws;

@@ -1,12 +1,12 @@
 //! The format: its place in a tree, and how it moves.
 
-ghost use Rattle.std.specs.Prelude.{◌≡◌, ◌≢◌, ◌<◌, ◌-◌, ◌++◌, ◌∷◌, [], false, suc, true, Some, slice_get, IfErr, IfOk, OnOk};
+ghost use Rattle.std.specs.Prelude.{◌≡◌, ◌<◌, ◌-◌, false, true, Some, slice_get, IfErr, IfOk, OnOk};
 ghost use Rattle.qs_spec.specs.Config.{are_rejected};
 ghost use Rattle.qs_tree.specs.tree.Views.{tree_of};
 ghost use Rattle.qs_data.specs.declared.read.error.ReadError.TheVariants.{OutOfMemory};
 ghost use Rattle.qs_data.specs.read.internal.ReadError.{ReadGives};
 ghost use Rattle.qs_serde.specs.Nodes.{key_tree, node_tree, pairs_in};
-ghost use Rattle.qs_serde.specs.Places.{IsAt, around, child_at, kind_of, last_frame, part_view, passed, tree_at};
+ghost use Rattle.qs_serde.specs.Places.{IsAt, child_at, count_of, kind_of, part_view, tree_at};
 ghost use Rattle.qs_serde.specs.Steps.{Begins, IsPlain, Leaves, Moves, Takes, next_node};
 
 use super::Result;
@@ -35,8 +35,9 @@ pub struct TreeFormat<'t, 'qs> {
     // The current node in it, and which part of that node is read next.
     pub(crate) node: &'t ParsedValue<'qs>,
     pub(crate) part: Part,
-    // The open lists and maps, the innermost last.
-    pub(crate) stack: Vec<Frame>,
+    // The innermost open list or map, if one is open, and the ones around it, the innermost last.
+    pub(crate) frame: Option<Frame>,
+    pub(crate) around: Vec<Frame>,
     // What the type requested of the current node.
     pub(crate) asked: Asked,
     // How many items the list that ended last had, and whether they were the fields of a struct.
@@ -82,6 +83,7 @@ pub(crate) struct Search {
 #[derive(Clone, Copy)]
 pub struct Mark {
     pub(crate) depth: usize,
+    pub(crate) frame: Option<Frame>,
     pub(crate) part: Part,
 }
 
@@ -117,7 +119,8 @@ impl<'t, 'qs> TreeFormat<'t, 'qs> {
             top: tree,
             node: tree,
             part: Part::Value,
-            stack: Vec::new(alloc),
+            frame: None,
+            around: Vec::new(alloc),
             asked: Asked::Unit,
             count: 0,
             lacks_items: false,
@@ -125,22 +128,11 @@ impl<'t, 'qs> TreeFormat<'t, 'qs> {
         }
     }
 
-    /// Returns the frame of the innermost list or map, if one is open.
-    #[inline(always)]
-    pub(crate) fn last(&self) -> Option<Frame>
-        ensures { result ≡ last_frame self.now.stack.items }
-    {
-        match self.stack.last() {
-            Some(frame) => Some(*frame),
-            None => None,
-        }
-    }
-
     /// Returns the key of the current entry.
     pub(crate) fn key(&self) -> Node<'t, 'qs>
-        ensures { node_tree result ≡ key_tree (slice_get (pairs_in (tree_of self.now.top.now)) (passed (last_frame self.now.stack.items) - 1)) }
+        ensures { node_tree result ≡ key_tree (slice_get (pairs_in (tree_of self.now.top.now)) (count_of self.now - 1)) }
     {
-        let at = match self.last() {
+        let at = match self.frame {
             Some(frame) => frame.last_index(),
             None => 0,
         };
@@ -192,9 +184,13 @@ impl<'t, 'qs> TreeFormat<'t, 'qs> {
         ensures begins { OnOk result (Begins self.old kind self.new) }
         ensures errors { IfErr result (λ e. e ≡ OutOfMemory) }
     {
-        self.stack.push(Frame::new(kind))?;
+        let around = self.frame;
+        self.frame = Some(Frame::new(kind));
         self.top = self.node;
-        Ok(())
+        match around {
+            Some(frame) => Ok(self.around.push(frame)?),
+            None => Ok(()),
+        }
     }
 
     /// Leaves the innermost list or map.
@@ -202,7 +198,7 @@ impl<'t, 'qs> TreeFormat<'t, 'qs> {
     pub(crate) fn close(&mut self)
         ensures { Leaves self.old self.new }
     {
-        self.stack.pop();
+        self.frame = self.around.pop();
         self.find_place();
         self.asked = Asked::Unit;
     }
@@ -213,12 +209,14 @@ impl<'t, 'qs> TreeFormat<'t, 'qs> {
         ensures place { IsAt self.new }
     {
         let mut top = self.root;
-        let mut node = self.root;
-        for frame in &self.stack {
-            top = node;
-            node = last_of(node, frame.next);
+        for frame in &self.around {
+            top = last_of(top, frame.next);
         }
-        self.go_to(top, node);
+        let count = match self.frame {
+            Some(frame) => frame.next,
+            None => 0,
+        };
+        self.go_to(top, last_of(top, count));
     }
 
     // Sets the innermost list or map, and the current node.
@@ -237,23 +235,11 @@ impl<'t, 'qs> TreeFormat<'t, 'qs> {
     pub(crate) fn advance(&mut self, frame: Frame, value: &'t ParsedValue<'qs>)
         ensures moves { kind_of self.old ≡ Some frame.kind → frame.next < 18446744073709551615 → child_at (tree_of self.old.top.now) frame.next ≡ tree_of value.now → Moves frame.next self.old self.new }
         ensures node { self.new.node.now ≡ value.now }
-        ensures kept { self.new ≡ record self.old { node = self.new.node; stack = self.new.stack; asked = self.new.asked } }
+        ensures kept { self.new ≡ record self.old { node = self.new.node; frame = self.new.frame; asked = self.new.asked } }
     {
-        self.set_last(frame.advanced());
+        self.frame = Some(frame.advanced());
         self.node = value;
         self.asked = Asked::Unit;
-    }
-
-    // Sets the frame of the innermost list or map.
-    #[inline(always)]
-    #[tactic(auto, using(crate::proofs::Places::put_last))]
-    fn set_last(&mut self, frame: Frame)
-        ensures kept { self.new ≡ record self.old { stack = self.new.stack } }
-        ensures last { self.old.stack.items ≢ [] → self.new.stack.items ≡ around self.old.stack.items ++ frame ∷ [] }
-    {
-        if let Some(last) = self.stack.last_mut() {
-            *last = frame;
-        }
     }
 }
 

@@ -1,16 +1,19 @@
 //! Numbers.
 
-ghost use Rattle.std.specs.Prelude.{◌≡◌, IfErr, ◌⊎◌, ◌^◌, ◌≤◌, pos, negsuc, ◌<ℤ◌, IfOk, OnOk};
+ghost use Rattle.std.specs.Prelude.{◌≡◌, Bool, IfErr, ◌⊎◌, ◌^◌, ◌≤◌, pos, negsuc, ◌<ℤ◌, IfOk, IfSome, OnOk, Some};
 ghost use Rattle.qs_spec.specs.Data as d;
 ghost use Rattle.qs_spec.specs.Shape as s;
 ghost use Rattle.qs_data.specs.read.TreeText.{is_text};
 ghost use Rattle.qs_serde.specs.Errors.{IsStepError};
+ghost use Rattle.qs_data.specs.read.Reads.{reads};
+ghost use Rattle.qs_serde.specs.Nodes.{node_tree};
 ghost use Rattle.qs_serde.specs.Places.{tree_at};
 ghost use Rattle.qs_serde.specs.Steps.{HasText, Is, IsPlain, Notes, Takes};
 
+use super::Result;
 use super::format::{Asked, Search, TreeFormat};
 use super::node::Node;
-use super::{ReadError, Result};
+use super::scalars::plain_text;
 use qs_data::{Data, Shape, Width};
 use std::str;
 
@@ -58,11 +61,20 @@ impl<'t, 'qs> TreeFormat<'t, 'qs> {
         if self.search.in_order && self.search.is_probed() {
             return Ok(past_signed(self.search.width));
         }
-        let read = match node {
-            Node::Value(value) => ReadError::of_result(self.reader.signed(Width::Bits64, value)),
-            node => self.read_key(node, &Shape::I64),
-        };
-        match read? {
+        match plain_signed(node) {
+            Some(number) => Ok(number),
+            None => self.other_signed(node),
+        }
+    }
+
+    // Reads a node that isn't a plain signed number as one.
+    #[inline(never)]
+    #[tactic(auto, using(crate::proofs::Errors::step_errors))]
+    fn other_signed(&self, node: Node<'t, 'qs>) -> Result<i64>
+        ensures number { IfOk result (λ v. reads self.now.reader.reject_duplicates (s.Shape.signed 64) (node_tree node.entry) ≡ Some (d.signed v)) }
+        ensures errors { IfErr result (IsStepError (is_text (node_tree node.entry))) }
+    {
+        match self.read_key(node, &Shape::I64)? {
             Data::Signed(value) => Ok(value),
             _ => Err(self.no_value()),
         }
@@ -81,11 +93,20 @@ impl<'t, 'qs> TreeFormat<'t, 'qs> {
         if self.search.in_order && self.search.is_probed() {
             return Ok(past_unsigned(self.search.width));
         }
-        let read = match node {
-            Node::Value(value) => ReadError::of_result(self.reader.unsigned(Width::Bits64, value)),
-            node => self.read_key(node, &Shape::U64),
-        };
-        match read? {
+        match plain_unsigned(node) {
+            Some(number) => Ok(number),
+            None => self.other_unsigned(node),
+        }
+    }
+
+    // Reads a node that isn't a plain unsigned number as one.
+    #[inline(never)]
+    #[tactic(auto, using(crate::proofs::Errors::step_errors))]
+    fn other_unsigned(&self, node: Node<'t, 'qs>) -> Result<u64>
+        ensures number { IfOk result (λ v. reads self.now.reader.reject_duplicates (s.Shape.unsigned 64) (node_tree node.entry) ≡ Some (d.unsigned v)) }
+        ensures errors { IfErr result (IsStepError (is_text (node_tree node.entry))) }
+    {
+        match self.read_key(node, &Shape::U64)? {
             Data::Unsigned(value) => Ok(value),
             _ => Err(self.no_value()),
         }
@@ -134,5 +155,27 @@ impl<'t, 'qs> TreeFormat<'t, 'qs> {
             Ok(value) => Ok(value),
             Err(_) => Err(self.no_number()),
         }
+    }
+}
+
+// Returns the signed number that a plain text holds.
+#[tactic(auto, using(crate::proofs::Borrowed::signed_read, qs_data::proofs::lemmas::read::Numbers::signed_ok))]
+fn plain_signed(node: Node<'_, '_>) -> Option<i64>
+    ensures { IfSome result (λ n. (reject_duplicates : Bool) → reads reject_duplicates (s.Shape.signed 64) (node_tree node.entry) ≡ Some (d.signed n)) }
+{
+    match plain_text(node)?.parse() {
+        Ok(number) => Some(number),
+        Err(_) => None,
+    }
+}
+
+// Returns the unsigned number that a plain text holds.
+#[tactic(auto, using(crate::proofs::Borrowed::unsigned_read, qs_data::proofs::lemmas::read::Numbers::unsigned_ok))]
+fn plain_unsigned(node: Node<'_, '_>) -> Option<u64>
+    ensures { IfSome result (λ n. (reject_duplicates : Bool) → reads reject_duplicates (s.Shape.unsigned 64) (node_tree node.entry) ≡ Some (d.unsigned n)) }
+{
+    match plain_text(node)?.parse() {
+        Ok(number) => Some(number),
+        Err(_) => None,
     }
 }

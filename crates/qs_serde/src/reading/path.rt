@@ -12,22 +12,26 @@ impl<'t, 'qs> TreeFormat<'t, 'qs> {
     pub(crate) fn path(&self) -> Result<String, AllocError> {
         let mut path = String::new(self.reader.alloc);
         let mut value = self.root;
-        for frame in &self.stack {
-            if frame.next != 0 {
-                append_segment(&mut path, *frame, value)?;
-            }
+        for frame in &self.around {
+            append_segment(&mut path, *frame, value)?;
             value = last_of(value, frame.next);
+        }
+        if let Some(frame) = self.frame {
+            append_segment(&mut path, frame, value)?;
         }
         Ok(path)
     }
 }
 
-// Appends the segment that leads from a list or a map to its current item or entry.
+// Appends the segment that leads from a list or a map to its current item or entry; none before the first.
 fn append_segment(
     path: &mut String,
     frame: Frame,
     value: &ParsedValue<'_>,
 ) -> Result<(), AllocError> {
+    if frame.next == 0 {
+        return Ok(());
+    }
     let at = frame.last_index();
     match frame.kind {
         FrameKind::Items | FrameKind::Places => append_index(path, at),

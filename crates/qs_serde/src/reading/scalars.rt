@@ -1,6 +1,6 @@
 //! Values of one text.
 
-ghost use Rattle.std.specs.Prelude.{◌≡◌, true, map, slice_range, IfErr, IfOk, IfSome, OnOk, Some, string_bytes};
+ghost use Rattle.std.specs.Prelude.{◌≡◌, Bool, true, map, slice_range, IfErr, IfOk, IfSome, OnOk, Some, string_bytes};
 ghost use Rattle.std.specs.Str.{is_utf8};
 ghost use Rattle.qs_spec.specs.Data as d;
 ghost use Rattle.qs_spec.specs.Node.{item_text, last_item};
@@ -50,17 +50,27 @@ impl<'t, 'qs> TreeFormat<'t, 'qs> {
     }
 
     /// Reads what is next as a text.
-    #[tactic(auto, using(crate::proofs::Errors::step_errors))]
+    #[tactic(auto, using(crate::proofs::Errors::step_errors, crate::proofs::Borrowed::text_read))]
     pub(crate) fn text(&mut self) -> Result<String>
         ensures takes { Takes self.old self.new }
         ensures text { IfOk result (λ v. Is self.old s.Shape.text (d.text (string_bytes v))) }
         ensures errors { IfErr result (IsStepError (is_text (tree_at self.old))) }
     {
-        let read = match self.take() {
-            Node::Value(value) => ReadError::of_result(self.reader.text(value)),
-            node => self.read_key(node, &Shape::Text),
-        };
-        match read? {
+        let node = self.take();
+        match plain_text(node) {
+            Some(text) => Ok(String::from_str(self.reader.alloc, text)?),
+            None => self.other_text(node),
+        }
+    }
+
+    // Reads a node that isn't a plain text as a text.
+    #[inline(never)]
+    #[tactic(auto, using(crate::proofs::Errors::step_errors))]
+    fn other_text(&self, node: Node<'t, 'qs>) -> Result<String>
+        ensures text { IfOk result (λ v. reads self.now.reader.reject_duplicates s.Shape.text (node_tree node.entry) ≡ Some (d.text (string_bytes v))) }
+        ensures errors { IfErr result (IsStepError (is_text (node_tree node.entry))) }
+    {
+        match self.read_key(node, &Shape::Text)? {
             Data::Text(text) => Ok(text),
             _ => Err(self.no_value()),
         }
@@ -81,6 +91,22 @@ impl<'t, 'qs> TreeFormat<'t, 'qs> {
         } else {
             Err(self.no_value())
         }
+    }
+}
+
+/// Returns the text of a node that is one, if it is UTF-8.
+#[inline(always)]
+#[tactic(auto, using(qs_data::proofs::lemmas::read::Errors::utf8_tests))]
+pub(crate) fn plain_text<'t>(node: Node<'t, '_>) -> Option<&'t str>
+    ensures text { IfSome result (λ t. is_utf8 t.now ≡ true) }
+    ensures given { IfSome result (λ t. (reject_duplicates : Bool) → given_text reject_duplicates (node_tree node.entry) ≡ Some (Some t.now)) }
+{
+    let Node::Value(ParsedValue::String(text)) = node else {
+        return None;
+    };
+    match str::from_utf8(text.as_slice()) {
+        Ok(text) => Some(text),
+        Err(_) => None,
     }
 }
 

@@ -228,7 +228,7 @@ impl<'t, 'qs> Format for TreeFormat<'t, 'qs> {
         ensures end { IfOk result (λ b. MatchBool b ⊤ (HasNoItem self.old)) }
         ensures errors { IfErr result (IsStepError true) }
     {
-        let Some(frame) = self.last() else {
+        let Some(frame) = self.frame else {
             return Err(self.no_value());
         };
         self.go_to_item(frame)
@@ -271,7 +271,7 @@ impl<'t, 'qs> Format for TreeFormat<'t, 'qs> {
         ensures step { IfOk result (λ o. MatchOption o (Reads self.old map_ends self.new) (λ at. Picks self.old true names.now at self.new)) }
         ensures errors { IfErr result (IsStepError (is_text (tree_of self.old.top.now))) }
     {
-        let Some(frame) = self.last() else {
+        let Some(frame) = self.frame else {
             self.close();
             return Ok(None);
         };
@@ -293,7 +293,7 @@ impl<'t, 'qs> Format for TreeFormat<'t, 'qs> {
         ensures end { IfOk result (λ b. MatchBool b ⊤ (HasNoEntry self.old)) }
         ensures returns { IsOk result }
     {
-        let Some(frame) = self.last() else {
+        let Some(frame) = self.frame else {
             self.close();
             return Ok(false);
         };
@@ -334,7 +334,8 @@ impl<'t, 'qs> Format for TreeFormat<'t, 'qs> {
         ensures kept { self.new ≡ self.old }
     {
         Mark {
-            depth: self.stack.len(),
+            depth: self.around.len(),
+            frame: self.frame,
             part: self.part,
         }
     }
@@ -343,7 +344,8 @@ impl<'t, 'qs> Format for TreeFormat<'t, 'qs> {
     fn rewind(&mut self, mark: Mark)
         ensures { ComesBack mark self.old self.new }
     {
-        self.stack.truncate(mark.depth);
+        self.around.truncate(mark.depth);
+        self.frame = mark.frame;
         self.find_place();
         self.part = mark.part;
         self.asked = Asked::Tried;

@@ -10,6 +10,7 @@ ghost use Rattle.qs_serde.specs.Placed.{Stands, Goes, Moves};
 ghost use Rattle.qs_serde.specs.declared.writing.frame.Next.TheVariants.{Value, Key, Flattened};
 
 use super::frame::{Frame, FrameKind, Next};
+use super::frames::Frames;
 use super::halt::Halt;
 use qs_data::{Scalar, Stop, WriteResult, Writer};
 use qs_tree::{ArrayFormat, Config};
@@ -22,7 +23,7 @@ pub(crate) struct Position {
     /// The list or map that is open, or the top.
     pub(crate) frame: Frame,
     /// The ones around it, the innermost last.
-    pub(crate) around: Vec<Frame>,
+    pub(crate) around: Frames,
     pub(crate) next: Next,
 }
 
@@ -34,7 +35,7 @@ impl Position {
         Ok(Position {
             writer: Writer::new(alloc, config)?,
             frame: Frame::new(FrameKind::Top),
-            around: Vec::new(alloc),
+            around: Frames::new(alloc),
             next: Next::Value,
         })
     }

@@ -1,7 +1,8 @@
-use Rattle.std.proofs.Common.{◌++◌, [], ◌∷◌, refl, ap, ◌∙◌}
+use Rattle.std.proofs.Common.{◌++◌, Some, refl, sym, ap, ◌∙◌, option_to_list}
 use Rattle.qs_serde.proofs.Places.{begun}
 use Rattle.qs_serde.proofs.reading.format.TreeFormat.open.Goals as goal
 
-pub returns-clause-begins : goal.returns-clause-begins
-returns-clause-begins c =
-    begun c.args.self.now _ c.args.kind (c.in_ok-push.ensures.items ∙ ap (λ frame. c.args.self.now.stack.items ++ frame ∷ []) c.new.ensures) refl refl refl refl refl refl
+pub returns-in_ok-push-in-Some-clause-begins : goal.returns-in_ok-push-in-Some-clause-begins
+returns-in_ok-push-in-Some-clause-begins c =
+    begun c.args.self.now _ c.args.kind (ap Some c.new.ensures) (c.in_ok-push-in-Some.ensures.items ∙ ap (λ o. c.args.self.now.around.items ++ option_to_list o) (sym c.in-Some.is))
+    refl refl refl refl refl refl

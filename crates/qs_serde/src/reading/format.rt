@@ -129,6 +129,7 @@ impl<'t, 'qs> TreeFormat<'t, 'qs> {
     }
 
     /// Returns the key of the current entry.
+    #[inline(never)]
     pub(crate) fn key(&self) -> Node<'t, 'qs>
         ensures { node_tree result ≡ key_tree (slice_get (pairs_in (tree_of self.now.top.now)) (count_of self.now - 1)) }
     {

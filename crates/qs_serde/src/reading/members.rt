@@ -1,13 +1,14 @@
 //! The items of lists and the entries of maps, one after another.
 
 ghost use Rattle.std.specs.Prelude.{◌≡◌, true, ℕ, ◌≢◌, [], Ok, None, Some, IfErr, IfOk, OnOk, IfSome, IfNone, MatchBool, MatchOption, slice_get};
+ghost use Rattle.serde.specs.Event.{map_ends};
 ghost use Rattle.qs_tree.specs.tree.Views.{tree_of};
 ghost use Rattle.qs_data.specs.read.internal.ReadError.{ReadGives};
 ghost use Rattle.qs_data.specs.read.TreeText.{is_text};
 ghost use Rattle.qs_serde.specs.Errors.{IsStepError};
 ghost use Rattle.qs_serde.specs.Nodes.{pairs_in};
 ghost use Rattle.qs_serde.specs.Places.{count_of, kind_of};
-ghost use Rattle.qs_serde.specs.Steps.{Comes, EntryComes, EntryIs, HasNoItem, HasParts, Leaves, next_node, next_struct};
+ghost use Rattle.qs_serde.specs.Steps.{Comes, EntryComes, EntryIs, HasNoItem, HasParts, Leaves, Picks, Reads, next_node, next_struct};
 
 use super::format::{Asked, TreeFormat};
 use super::frame::{Frame, FrameKind};
@@ -43,6 +44,7 @@ impl<'t, 'qs> TreeFormat<'t, 'qs> {
     }
 
     // Leaves the innermost list after its last item.
+    #[inline(never)]
     fn leave_list(&mut self, frame: Frame)
         ensures { Leaves self.old self.new }
     {
@@ -52,6 +54,7 @@ impl<'t, 'qs> TreeFormat<'t, 'qs> {
     }
 
     // Leaves the innermost map.
+    #[inline(never)]
     fn leave_map(&mut self)
         ensures { Leaves self.old self.new }
     {
@@ -101,10 +104,33 @@ impl<'t, 'qs> TreeFormat<'t, 'qs> {
         }
     }
 
-    /// Goes to the next item of a sequence that is read as a struct, and returns the index of its field. Further items are passed over.
+    /// Goes to the next key of any list or map, and returns the index of the name that it matches. At the end it leaves the list or map.
     #[inline(never)]
     #[tactic(auto, using(crate::proofs::Errors::step_errors))]
-    pub(crate) fn go_to_place(&mut self, names: &[Name<'_>], frame: Frame) -> Result<Option<usize>>
+    pub(crate) fn go_to_key(&mut self, names: &[Name<'_>]) -> Result<Option<usize>>
+        ensures step { IfOk result (λ o. MatchOption o (Reads self.old map_ends self.new) (λ at. Picks self.old true names.now at self.new)) }
+        ensures errors { IfErr result (IsStepError (is_text (tree_of self.old.top.now))) }
+    {
+        let Some(frame) = self.frame else {
+            self.close();
+            return Ok(None);
+        };
+        match frame.kind {
+            FrameKind::Fields => {
+                if self.search.in_order {
+                    self.go_to_field(names, frame)
+                } else {
+                    self.go_to_member(names, frame, Part::Value)
+                }
+            }
+            FrameKind::Places => self.go_to_place(names, frame),
+            FrameKind::Map | FrameKind::Items => self.go_to_shared(names, frame),
+        }
+    }
+
+    /// Goes to the next item of a sequence that is read as a struct, and returns the index of its field. Further items are passed over.
+    #[tactic(auto, using(crate::proofs::Errors::step_errors))]
+    fn go_to_place(&mut self, names: &[Name<'_>], frame: Frame) -> Result<Option<usize>>
         ensures errors { IfErr result (IsStepError (is_text (tree_of self.old.top.now))) }
         ensures step { kind_of self.old ≡ Some frame.kind → count_of self.old ≡ frame.next → IfOk result (λ o. MatchOption o (Leaves self.old self.new) (λ _. Comes self.old self.new)) }
     {
@@ -122,8 +148,7 @@ impl<'t, 'qs> TreeFormat<'t, 'qs> {
 
     /// Goes to the next entry of a struct, and returns the index of its field. Entries are in the order of their fields, with other keys
     /// last.
-    #[inline(never)]
-    pub(crate) fn go_to_field(&mut self, names: &[Name<'_>], frame: Frame) -> Result<Option<usize>>
+    fn go_to_field(&mut self, names: &[Name<'_>], frame: Frame) -> Result<Option<usize>>
         ensures errors { IfErr result (IsStepError (is_text (tree_of self.old.top.now))) }
         ensures some { kind_of self.old ≡ Some frame.kind → IfOk result (λ o. IfSome o (λ at. (i : ℕ) × EntryIs i names.now at self.old self.new)) }
         ensures none { IfOk result (λ o. IfNone o (Leaves self.old self.new)) }
@@ -174,8 +199,7 @@ impl<'t, 'qs> TreeFormat<'t, 'qs> {
 
     /// Goes to the next entry of a map that names a variant or is shared, and returns the index of the name that its key matches. At the
     /// end of an enum there are no names: its map ends, and the other keys are passed over.
-    #[inline(always)]
-    pub(crate) fn go_to_shared(&mut self, names: &[Name<'_>], frame: Frame) -> Result<Option<usize>>
+    fn go_to_shared(&mut self, names: &[Name<'_>], frame: Frame) -> Result<Option<usize>>
         ensures some { kind_of self.old ≡ Some frame.kind → IfOk result (λ o. IfSome o (λ at. EntryIs frame.next names.now at self.old self.new)) }
         ensures none { IfOk result (λ o. IfNone o (Leaves self.old self.new)) }
         ensures whole { names.now ≢ [] → IfOk result (λ o. IfNone o (slice_get (pairs_in (tree_of self.old.top.now)) frame.next ≡ None)) }

@@ -94,17 +94,19 @@ impl<'t, 'qs> TreeFormat<'t, 'qs> {
     }
 }
 
-/// Returns the text of a node that is one, if it is UTF-8.
+/// Returns the text of a node or a key that is one, if it is UTF-8.
 #[inline(always)]
 #[tactic(auto, using(qs_data::proofs::lemmas::read::Errors::utf8_tests))]
 pub(crate) fn plain_text<'t>(node: Node<'t, '_>) -> Option<&'t str>
     ensures text { IfSome result (λ t. is_utf8 t.now ≡ true) }
     ensures given { IfSome result (λ t. (reject_duplicates : Bool) → given_text reject_duplicates (node_tree node.entry) ≡ Some (Some t.now)) }
 {
-    let Node::Value(ParsedValue::String(text)) = node else {
-        return None;
+    let bytes = match node {
+        Node::Value(ParsedValue::String(text)) => text.as_slice(),
+        Node::Key(Key::String(text)) => text.as_slice(),
+        _ => return None,
     };
-    match str::from_utf8(text.as_slice()) {
+    match str::from_utf8(bytes) {
         Ok(text) => Some(text),
         Err(_) => None,
     }

@@ -271,21 +271,14 @@ impl<'t, 'qs> Format for TreeFormat<'t, 'qs> {
         ensures step { IfOk result (λ o. MatchOption o (Reads self.old map_ends self.new) (λ at. Picks self.old true names.now at self.new)) }
         ensures errors { IfErr result (IsStepError (is_text (tree_of self.old.top.now))) }
     {
-        let Some(frame) = self.frame else {
-            self.close();
-            return Ok(None);
-        };
-        match frame.kind {
-            FrameKind::Fields => {
-                if self.search.in_order {
-                    self.go_to_field(names, frame)
-                } else {
-                    self.go_to_member(names, frame, Part::Value)
+        if let Some(frame) = self.frame {
+            if let FrameKind::Fields = frame.kind {
+                if !self.search.in_order {
+                    return self.go_to_member(names, frame, Part::Value);
                 }
             }
-            FrameKind::Places => self.go_to_place(names, frame),
-            FrameKind::Map | FrameKind::Items => self.go_to_shared(names, frame),
         }
+        self.go_to_key(names)
     }
 
     fn next_entry(&mut self, _input: &[u8]) -> Result<bool>

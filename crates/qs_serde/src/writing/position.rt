@@ -29,6 +29,7 @@ pub(crate) struct Position {
 
 impl Position {
     /// Returns the position before the first event.
+    #[inline(always)]
     pub(crate) fn new(alloc: Global, config: Config) -> Result<Position, AllocError>
         ensures { IfOk result (λ position. Stands config position start) }
     {
@@ -41,6 +42,7 @@ impl Position {
     }
 
     /// Returns the text that was written.
+    #[inline(always)]
     pub(crate) fn into_text(self) -> Vec<u8>
         ensures { Some result.items ≡ (state_of self.writer).taken }
     {
@@ -60,6 +62,8 @@ impl Position {
     }
 
     // Returns the error of an event that isn't allowed next.
+    #[cold]
+    #[inline(never)]
     fn misplaced(&self) -> Halt {
         match self.next {
             Next::Value => Halt::Misplaced("a key ended that didn't begin"),
@@ -213,6 +217,7 @@ impl Position {
 // The events.
 impl Position {
     /// Writes a value of one text, or extends the path by it if it is a key.
+    #[inline(always)]
     pub(crate) fn scalar(&mut self, value: Scalar<'_>) -> Result<(), Halt>
         ensures { Moves (λ config s. text_sent config (scalar_text value.entry) s) result self.old self.new }
     {
@@ -293,6 +298,7 @@ impl Position {
     }
 
     /// Extends the path by a name.
+    #[inline(always)]
     pub(crate) fn key(&mut self, name: &[u8]) -> Result<(), Halt>
         ensures { Moves (λ config s. key_sent config name.now s) result self.old self.new }
     {

@@ -48,6 +48,7 @@ impl<K: Settings> TextSerializer<K> {
     /// ```
     /// let mut serializer: TextSerializer<Brand> = TextSerializer::new(alloc, Config::new())?;
     /// ```
+    #[inline(always)]
     pub fn new(alloc: Global, config: Config) -> Result<TextSerializer<K>>
         requires { config ≡ K.config }
         ensures { IfOk result (λ serializer. serializer.log.events ≡ Some []) }
@@ -65,6 +66,7 @@ impl<K: Settings> TextSerializer<K> {
     /// ```
     /// let text = serializer.into_text();
     /// ```
+    #[inline(always)]
     pub fn into_text(self) -> Vec<u8>
         ensures events { IsTextOf K.config self.log.events result.items }
         ensures entries { IsTextOfEntries K.config result.items }

@@ -50,7 +50,20 @@ impl Writer {
         ensures { IfOk result (λ writer. IsFresh config writer) }
     {
         let text = Vec::with_capacity(alloc, 128)?;
-        Ok(Writer {
+        Ok(Writer::over(alloc, config, text))
+    }
+
+    /// Returns a writer at the top that appends to this empty text. It doesn't allocate.
+    ///
+    /// ```
+    /// let writer = Writer::over(alloc, Config::new(), Vec::with_capacity(alloc, 128)?);
+    /// ```
+    #[inline(always)]
+    pub fn over(alloc: Global, config: Config, text: Vec<u8>) -> Writer
+        requires { text.items ≡ [] }
+        ensures { IsFresh config result }
+    {
+        Writer {
             alloc,
             config,
             stream: Stream {
@@ -58,7 +71,7 @@ impl Writer {
                 started: false,
             },
             walk: Walk::new(alloc, config),
-        })
+        }
     }
 
     /// Returns this writer, and leaves one without text in its place. Doesn't allocate.
@@ -70,15 +83,7 @@ impl Writer {
         ensures taken { result ≡ self.old }
         ensures left { IsFresh self.old.config self.new }
     {
-        let empty = Writer {
-            alloc: self.alloc,
-            config: self.config,
-            stream: Stream {
-                sink: ByWrite::new(Vec::new(self.alloc)),
-                started: false,
-            },
-            walk: Walk::new(self.alloc, self.config),
-        };
+        let empty = Writer::over(self.alloc, self.config, Vec::new(self.alloc));
         mem::replace(self, empty)
     }
 

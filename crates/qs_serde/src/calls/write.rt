@@ -76,7 +76,8 @@ fn write_text<K: Settings, T: Serialize>(alloc: Global, config: Config, value: &
     requires { config ≡ K.config }
     ensures { ReturnsTextOf K.config (T.writes value.now) result }
 {
-    let mut serializer: TextSerializer<K> = TextSerializer::new(alloc, config)?;
+    let text = Vec::with_capacity(alloc, 128)?;
+    let mut serializer: TextSerializer<K> = TextSerializer::over(alloc, config, text);
     let made = value.serialize(&mut serializer);
     finished(alloc, config, made)?;
     Ok(string_of(serializer.into_text()))

@@ -1,6 +1,6 @@
 //! Where in a value the next part goes, and how each event moves the position.
 
-ghost use Rattle.std.specs.Prelude.{◌≡◌, ◌↔◌, ℕ, List, Option, IsOk, IfOk, Some, option_map};
+ghost use Rattle.std.specs.Prelude.{◌≡◌, ◌↔◌, ℕ, List, [], Option, IsOk, IfOk, Some, option_map};
 ghost use Rattle.qs_spec.specs.Config.{Config as Settings, element_segment};
 ghost use Rattle.qs_spec.specs.Entry.{one};
 ghost use Rattle.qs_data.specs.write.Parts.{WritesPart, state_of};
@@ -14,7 +14,7 @@ use super::frames::Frames;
 use super::halt::Halt;
 use qs_data::{Scalar, Stop, WriteResult, Writer};
 use qs_tree::{ArrayFormat, Config};
-use std::alloc::{AllocError, Global};
+use std::alloc::Global;
 
 /// What was written, and where in the value the next part goes.
 #[derive(Drop)]
@@ -28,17 +28,18 @@ pub(crate) struct Position {
 }
 
 impl Position {
-    /// Returns the position before the first event.
+    /// Returns the position before the first event, for an empty text.
     #[inline(always)]
-    pub(crate) fn new(alloc: Global, config: Config) -> Result<Position, AllocError>
-        ensures { IfOk result (λ position. Stands config position start) }
+    pub(crate) fn new(alloc: Global, config: Config, text: Vec<u8>) -> Position
+        requires { text.items ≡ [] }
+        ensures { Stands config result start }
     {
-        Ok(Position {
-            writer: Writer::new(alloc, config)?,
+        Position {
+            writer: Writer::over(alloc, config, text),
             frame: Frame::new(FrameKind::Top),
             around: Frames::new(alloc),
             next: Next::Value,
-        })
+        }
     }
 
     /// Returns the text that was written.
@@ -203,14 +204,23 @@ impl Position {
     }
 
     // Ends a list or a map as a part of what is around it. If it has no parts, an empty value is written.
+    #[inline(always)]
     fn end_as(&mut self, is_empty: bool) -> Result<(), Halt>
         ensures { Goes (λ config s. Some (ends_as is_empty s)) result self.old self.new }
     {
         if is_empty {
-            return self.put(Some(Scalar::Bytes(&[])));
+            return self.put_empty();
         }
         self.end();
         Ok(())
+    }
+
+    // Writes an empty value as a part.
+    #[inline(never)]
+    fn put_empty(&mut self) -> Result<(), Halt>
+        ensures { Goes (λ config s. Some (puts (Some []) s)) result self.old self.new }
+    {
+        self.put(Some(Scalar::Bytes(&[])))
     }
 }
 

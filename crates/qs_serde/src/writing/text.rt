@@ -48,17 +48,27 @@ impl<K: Settings> TextSerializer<K> {
     /// ```
     /// let mut serializer: TextSerializer<Brand> = TextSerializer::new(alloc, Config::new())?;
     /// ```
-    #[inline(always)]
     pub fn new(alloc: Global, config: Config) -> Result<TextSerializer<K>>
         requires { config ≡ K.config }
         ensures { IfOk result (λ serializer. serializer.log.events ≡ Some []) }
     {
-        Ok(TextSerializer {
-            position: Position::new(alloc, config)?,
+        let text = Vec::with_capacity(alloc, 128)?;
+        Ok(TextSerializer::over(alloc, config, text))
+    }
+
+    /// Returns a serializer that appends to this empty text. It doesn't allocate.
+    #[inline(always)]
+    pub(crate) fn over(alloc: Global, config: Config, text: Vec<u8>) -> TextSerializer<K>
+        requires config { config ≡ K.config }
+        requires text { text.items ≡ [] }
+        ensures { result.log.events ≡ Some [] }
+    {
+        TextSerializer {
+            position: Position::new(alloc, config, text),
             room: String::new(alloc),
             log: Log::new(),
             of: PhantomData,
-        })
+        }
     }
 
     /// Returns the text that was written: whole entries only, even after an error. It doesn't allocate.

@@ -6,5 +6,5 @@ string_of-requires g c = are_visible g.K.Settings.config c.into_text.result.item
 
 pub returns : goal.returns
 returns g c =
-    returned g.K.Settings.config (g.T.Described.writes c.args.value.now) c.in_ok-serializer.serializer.log.events c.serialize-made.new.out.log.events c.into_text.result.items c.string_of.result c.in_ok-serializer.ensures
+    returned g.K.Settings.config (g.T.Described.writes c.args.value.now) c.over-serializer.result.log.events c.serialize-made.new.out.log.events c.into_text.result.items c.string_of.result c.over-serializer.ensures
     (was_ok _ c.serialize-made.result c.in_ok-finished.ensures c.serialize-made.ensures) c.into_text.ensures.events c.into_text.ensures.entries c.string_of.ensures

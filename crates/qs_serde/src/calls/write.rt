@@ -99,10 +99,7 @@ fn string_of(text: Vec<u8>) -> String
     requires { ∥ All IsVisible text.items ∥₁ }
     ensures { string_bytes result ≡ text.items }
 {
-    match String::from_utf8(text) {
-        Ok(string) => string,
-        Err(_) => unreachable!(),
-    }
+    unsafe { String::from_utf8_unchecked(text) }
 }
 
 /// Writes the querystring of a value under a configuration. Errors, what was written before them, allocations and time are as for

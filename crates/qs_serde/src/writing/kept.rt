@@ -63,6 +63,7 @@ pub(crate) fn variant(
 }
 
 /// Extends the path by a name in a case.
+#[inline(always)]
 pub(crate) fn key(
     position: &mut Position,
     room: &mut String,
@@ -75,6 +76,20 @@ pub(crate) fn key(
     if let Case::AsIs = case {
         return position.key(name.as_bytes());
     }
+    spelled_key(position, room, kind, name, case)
+}
+
+// Extends the path by a name as a case spells it.
+#[inline(never)]
+fn spelled_key(
+    position: &mut Position,
+    room: &mut String,
+    kind: NameKind,
+    name: &str,
+    case: Case,
+) -> Result<(), Halt>
+    ensures { Moves (λ config s. key_sent config (spelled case kind name.now) s) result position.old position.new }
+{
     room.clear();
     case.append(kind, name, room)?;
     position.key(room.as_bytes())

@@ -217,18 +217,8 @@ impl<'t, 'qs> TreeFormat<'t, 'qs> {
             Some(frame) => frame.next,
             None => 0,
         };
-        self.go_to(top, last_of(top, count));
-    }
-
-    // Sets the innermost list or map, and the current node.
-    #[inline(always)]
-    fn go_to(&mut self, top: &'t ParsedValue<'qs>, node: &'t ParsedValue<'qs>)
-        ensures kept { self.new ≡ record self.old { top = self.new.top; node = self.new.node } }
-        ensures top { self.new.top.now ≡ top.now }
-        ensures node { self.new.node.now ≡ node.now }
-    {
         self.top = top;
-        self.node = node;
+        self.node = last_of(top, count);
     }
 
     /// Goes to this item or value of the innermost list or map, which is at the frame's index.

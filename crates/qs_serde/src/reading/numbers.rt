@@ -61,19 +61,9 @@ impl<'t, 'qs> TreeFormat<'t, 'qs> {
         if self.search.in_order && self.search.is_probed() {
             return Ok(past_signed(self.search.width));
         }
-        match plain_signed(node) {
-            Some(number) => Ok(number),
-            None => self.other_signed(node),
+        if let Some(number) = plain_signed(node) {
+            return Ok(number);
         }
-    }
-
-    // Reads a node that isn't a plain signed number as one.
-    #[inline(never)]
-    #[tactic(auto, using(crate::proofs::Errors::step_errors))]
-    fn other_signed(&self, node: Node<'t, 'qs>) -> Result<i64>
-        ensures number { IfOk result (λ v. reads self.now.reader.reject_duplicates (s.Shape.signed 64) (node_tree node.entry) ≡ Some (d.signed v)) }
-        ensures errors { IfErr result (IsStepError (is_text (node_tree node.entry))) }
-    {
         match self.read_key(node, &Shape::I64)? {
             Data::Signed(value) => Ok(value),
             _ => Err(self.no_value()),
@@ -93,19 +83,9 @@ impl<'t, 'qs> TreeFormat<'t, 'qs> {
         if self.search.in_order && self.search.is_probed() {
             return Ok(past_unsigned(self.search.width));
         }
-        match plain_unsigned(node) {
-            Some(number) => Ok(number),
-            None => self.other_unsigned(node),
+        if let Some(number) = plain_unsigned(node) {
+            return Ok(number);
         }
-    }
-
-    // Reads a node that isn't a plain unsigned number as one.
-    #[inline(never)]
-    #[tactic(auto, using(crate::proofs::Errors::step_errors))]
-    fn other_unsigned(&self, node: Node<'t, 'qs>) -> Result<u64>
-        ensures number { IfOk result (λ v. reads self.now.reader.reject_duplicates (s.Shape.unsigned 64) (node_tree node.entry) ≡ Some (d.unsigned v)) }
-        ensures errors { IfErr result (IsStepError (is_text (node_tree node.entry))) }
-    {
         match self.read_key(node, &Shape::U64)? {
             Data::Unsigned(value) => Ok(value),
             _ => Err(self.no_value()),

@@ -57,19 +57,9 @@ impl<'t, 'qs> TreeFormat<'t, 'qs> {
         ensures errors { IfErr result (IsStepError (is_text (tree_at self.old))) }
     {
         let node = self.take();
-        match plain_text(node) {
-            Some(text) => Ok(String::from_str(self.reader.alloc, text)?),
-            None => self.other_text(node),
+        if let Some(text) = plain_text(node) {
+            return Ok(String::from_str(self.reader.alloc, text)?);
         }
-    }
-
-    // Reads a node that isn't a plain text as a text.
-    #[inline(never)]
-    #[tactic(auto, using(crate::proofs::Errors::step_errors))]
-    fn other_text(&self, node: Node<'t, 'qs>) -> Result<String>
-        ensures text { IfOk result (λ v. reads self.now.reader.reject_duplicates s.Shape.text (node_tree node.entry) ≡ Some (d.text (string_bytes v))) }
-        ensures errors { IfErr result (IsStepError (is_text (node_tree node.entry))) }
-    {
         match self.read_key(node, &Shape::Text)? {
             Data::Text(text) => Ok(text),
             _ => Err(self.no_value()),

@@ -1,5 +1,5 @@
 -- What each step of the format reads, and where the format is then.
-use Rattle.std.specs.Prelude.{◌≡◌, ◌⊎◌, ◌↔◌, ℕ, suc, pos, negsuc, ◌<ℤ◌, ◌^◌, ◌≤◌, ◌<◌, ⊤, Bool, true, false, List, [], ◌∷◌, length, take, drop, slice_get, Option, Some, None, option_map, option_and_then, IsSome, cond}
+use Rattle.std.specs.Prelude.{◌≡◌, ◌⊎◌, ◌↔◌, ℕ, suc, pos, negsuc, ◌<ℤ◌, ◌^◌, ◌≤◌, ◌<◌, ⊤, Bool, true, false, List, length, take, drop, slice_get, Option, Some, None, option_map, option_and_then, IsSome, cond}
 use Rattle.qs_spec.specs.Leaf.Leaf.{NoValue, Null, Text}
 use Rattle.qs_spec.specs.Tree.{Tree, Entries}
 use Rattle.qs_spec.specs.Tree.Tree.{leaf, sequence, mapping, uninitialized}

@@ -99,7 +99,10 @@ fn string_of(text: Vec<u8>) -> String
     requires { ∥ All IsVisible text.items ∥₁ }
     ensures { string_bytes result ≡ text.items }
 {
-    unsafe { String::from_utf8_unchecked(text) }
+    match String::from_utf8(text) {
+        Ok(string) => string,
+        Err(_) => unreachable!(),
+    }
 }
 
 /// Writes the querystring of a value under a configuration. Errors, what was written before them, allocations and time are as for

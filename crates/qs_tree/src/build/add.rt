@@ -1,5 +1,5 @@
 //! Adding a pair to a tree, in place.
-ghost use Rattle.std.specs.Prelude.{◌≡◌, ◌+◌, ◌^◌, ◌<◌, ◌≤◌, [], ◌∷◌, length, drop, true, false, IsOkAnd};
+ghost use Rattle.std.specs.Prelude.{◌≡◌, ◌+◌, ◌<◌, ◌≤◌, length, drop, false, IsOkAnd};
 ghost use Rattle.qs_spec.specs.Tree.{empty_segment, mapping};
 ghost use Rattle.qs_spec.specs.internal.InPlace as in_place;
 ghost use Rattle.qs_spec.specs.internal.InPlace.{add, add_flat, update};
@@ -9,19 +9,18 @@ ghost use Rattle.std.specs.List.Sorted.{IsStrictlySortedBy};
 ghost use Rattle.std.specs.Map.{keys_of};
 ghost use Rattle.qs_tree.specs.tree.Keys.{key_cmp};
 ghost use Rattle.qs_tree.specs.internal.tree.Places.{IsPlaced};
-ghost use Rattle.qs_tree.specs.tree.Views.{marked_segment_of_key, tree_of};
+ghost use Rattle.qs_tree.specs.tree.Views.{marked_segment_of_key};
 ghost use Rattle.qs_tree.specs.internal.scan.Pairs.{IsBare, leaf_of, is_push, pair_of, path_of};
-ghost use Rattle.qs_tree.specs.internal.build.Adding.{Adds, AddGives};
+ghost use Rattle.qs_tree.specs.internal.build.Adding.{AddGives};
 
 use crate::build::add_to_value::{add_at_end, add_to_leaves, add_to_value};
 use crate::build::builder::{MapBuilder, TreeBuilder, goes_between, into_tree, place_among};
 use crate::build::conflict::{AddError, ConflictKind};
-use crate::build::descent::{Zipper, descend, map_of, rebuild};
+use crate::build::descent::{Frame, descend, map_of, rebuild};
 use crate::build::unsorted::Unsorted;
 use crate::scan::pair::{Leaf, Manner, Pair};
 use crate::tree::entries::Entries;
 use crate::tree::key::Key;
-use crate::tree::value::ParsedValue;
 use std::alloc::Global;
 use std::collections::BTreeMap;
 use std::mem;
@@ -60,8 +59,9 @@ fn add_along<'qs>(
     ensures fresh { IsBare pair.old → level ≡ 0 → node.old ≡ fresh → IsOkAnd result (λ _. IsFlat node.new) }
 {
     if let TreeBuilder::Value(value) = node {
-        if level < pair.path.len() {
-            match add_in_place(alloc, value, pair, level) {
+        let left = pair.path.len() - level;
+        if 0 < left && left <= LEVELS {
+            match add_to_value(alloc, value, pair, level) {
                 Ok(true) => return Ok(()),
                 Ok(false) => {}
                 Err(error) => return Err(error),
@@ -86,7 +86,7 @@ fn add_further<'qs>(
     ensures fresh { IsBare pair.old → level ≡ 0 → node.old ≡ fresh → IsOkAnd result (λ _. IsFlat node.new) }
 {
     if level >= LEVELS {
-        return add_by_value(alloc, node, pair, level);
+        return add_by_zipper(alloc, node, pair, level);
     }
     if level == pair.path.len() {
         return add_here(alloc, node, pair);
@@ -119,7 +119,8 @@ fn add_unsorted<'qs>(
     Ok(leaves.push(key, pair.leaf.take())?)
 }
 
-// Adds a pair to a map with many entries, one of which is after the pair's key.
+// Adds a pair to a map that isn't under construction yet, and that has many entries, one of which is after the pair's key, or leaves in
+// no order.
 #[cycle(adding)]
 #[inline(never)]
 fn add_out_of_order<'qs>(
@@ -139,46 +140,9 @@ fn add_out_of_order<'qs>(
         }
     }
     let key = pair.take_key(level);
-    add_in_new_map(alloc, node, key, pair, level)
-}
-
-// Adds a pair to a finished node. Returns `false`, and changes nothing, if the node has to become a map under construction.
-#[inline(always)]
-fn add_in_place<'qs>(
-    alloc: Global,
-    value: &mut ParsedValue<'qs>,
-    pair: &mut Pair<'qs>,
-    level: usize,
-) -> Result<bool, AddError>
-    requires { level ≤ length pair.old.path }
-    ensures { let path = path_of (drop level pair.old.path) in let old = tree_of value.old in
-        Adds (add path (is_push pair.old.manner) (leaf_of pair.old.leaf) old) old (tree_of value.new) pair.old pair.new result }
-{
-    if pair.path.len() - level > LEVELS {
-        return Ok(false);
-    }
-    add_to_value(alloc, value, pair, level)
-}
-
-// Adds a pair, whose next key is this one, to a node that becomes a map under construction.
-#[cycle(adding)]
-#[inline(never)]
-fn add_in_new_map<'qs>(
-    alloc: Global,
-    node: &mut TreeBuilder<'qs>,
-    key: Key<'qs>,
-    pair: &mut Pair<'qs>,
-    level: usize,
-) -> Result<(), AddError>
-    requires level { level < length pair.old.path }
-    requires fits { level + 1 < 2 ^ 64 }
-    ensures { let push = is_push pair.old.manner in let path = marked_segment_of_key key.entry ∷ path_of (drop (level + 1) pair.old.path) in
-        AddGives (λ _. built_tree node.new) (add path push (leaf_of pair.old.leaf) (built_tree node.old)) result }
-{
-    let mut map = map_of(alloc, mem::replace(node, TreeBuilder::fresh()), level)?;
-    add_at_key(alloc, &mut map, key, pair, level + 1)?;
-    *node = TreeBuilder::Map(map);
-    Ok(())
+    let frame = Frame::open(alloc, node, key, level)?;
+    add_along(alloc, node, pair, level + 1)?;
+    frame.close(alloc, node)
 }
 
 // Adds a pair to the node at a key of a map. The node is at this level of the pair's path.
@@ -257,7 +221,7 @@ fn add_in_tree<'qs>(
 
 // Adds a pair to the node at a level of its path, by a zipper.
 #[inline(never)]
-fn add_by_value<'qs>(
+fn add_by_zipper<'qs>(
     alloc: Global,
     node: &mut TreeBuilder<'qs>,
     pair: &mut Pair<'qs>,
@@ -267,14 +231,9 @@ fn add_by_value<'qs>(
     ensures { let push = is_push pair.old.manner in let path = path_of (drop level pair.old.path) in
         AddGives (λ _. built_tree node.new) (add path push (leaf_of pair.old.leaf) (built_tree node.old)) result }
 {
-    let top = mem::replace(node, TreeBuilder::fresh());
-    let Zipper {
-        maps,
-        node: mut end,
-    } = descend(alloc, top, pair, level)?;
-    add_here(alloc, &mut end, pair)?;
-    *node = rebuild(alloc, maps, end)?;
-    Ok(())
+    let frames = descend(alloc, node, pair, level)?;
+    add_here(alloc, node, pair)?;
+    rebuild(alloc, frames, node)
 }
 
 // Adds a pair's leaf at the end of its path.
@@ -292,42 +251,29 @@ fn add_here<'qs>(
         TreeBuilder::Value(value) => add_at_end(alloc, value, pair),
         TreeBuilder::Unsorted(leaves) => match pair.manner {
             Manner::Direct => Ok(leaves.push(Key::from(""), pair.leaf.take())?),
-            Manner::Push => Err(map_of(
-                alloc,
-                mem::replace(node, TreeBuilder::fresh()),
-                pair.path.len(),
-            )?
-            .conflict(alloc, pair.path.len())),
+            Manner::Push => Err(conflict(alloc, node, pair.path.len())),
         },
         TreeBuilder::Map(map) => match pair.manner {
-            Manner::Direct => map.add_at_empty(alloc, pair.leaf.take(), pair.path.len()),
-            Manner::Push => Err(map.conflict(alloc, pair.path.len())),
+            Manner::Direct => add_at_empty(alloc, map, pair.leaf.take(), pair.path.len()),
+            Manner::Push => Err(conflict(alloc, node, pair.path.len())),
         },
     }
 }
 
-impl<'qs> MapBuilder<'qs> {
-    // Adds a direct leaf at the empty string key.
-    #[inline(never)]
-    fn add_at_empty(&mut self, alloc: Global, leaf: Leaf<'qs>, level: usize) -> Result<(), AddError>
-        ensures { AddGives (λ _. built_entries self.new) (update empty_segment (add_flat false (leaf_of leaf.entry)) (built_entries self.old)) result }
-    {
-        let key = Key::from("");
-        let mut node = self.take(&key);
-        add_leaf(alloc, &mut node, leaf, level)?;
-        self.put(alloc, key, node)?;
-        Ok(())
-    }
-
-    // Returns the conflict of a leaf with this map, or `OutOfMemory` if an allocation failed. Drops the map's entries.
-    #[inline(never)]
-    fn conflict(&mut self, alloc: Global, level: usize) -> AddError {
-        let map = mem::replace(self, MapBuilder::new(alloc));
-        match map.key_list(alloc) {
-            Ok(keys) => AddError::conflict(alloc, level, ConflictKind::LeafOnMap(keys)),
-            Err(_) => AddError::OutOfMemory,
-        }
-    }
+// Adds a direct leaf at the empty string key of a map.
+#[inline(never)]
+fn add_at_empty<'qs>(
+    alloc: Global,
+    map: &mut MapBuilder<'qs>,
+    leaf: Leaf<'qs>,
+    level: usize,
+) -> Result<(), AddError>
+    ensures { AddGives (λ _. built_entries map.new) (update empty_segment (add_flat false (leaf_of leaf.entry)) (built_entries map.old)) result }
+{
+    let key = Key::from("");
+    let mut node = map.take(&key);
+    add_leaf(alloc, &mut node, leaf, level)?;
+    Ok(map.put(alloc, key, node)?)
 }
 
 // Adds a direct leaf to a node, or returns the conflict with a map.
@@ -341,12 +287,21 @@ fn add_leaf<'qs>(
     ensures { AddGives (λ _. built_tree node.new) (add_flat false (leaf_of leaf.entry) (built_tree node.old)) result }
 {
     match node {
-        TreeBuilder::Value(value) => add_to_leaves(alloc, value, leaf, level),
-        TreeBuilder::Map(map) => Err(map.conflict(alloc, level)),
-        TreeBuilder::Unsorted(_) => Err(map_of(
-            alloc,
-            mem::replace(node, TreeBuilder::fresh()),
-            level,
-        )?.conflict(alloc, level)),
+        TreeBuilder::Value(value) => add_to_leaves(alloc, value, leaf, Manner::Direct, level),
+        TreeBuilder::Map(_) => Err(conflict(alloc, node, level)),
+        TreeBuilder::Unsorted(_) => Err(conflict(alloc, node, level)),
+    }
+}
+
+// Returns the conflict of a leaf with a map, or `OutOfMemory` if an allocation failed. Takes the map's entries.
+#[inline(never)]
+fn conflict<'qs>(alloc: Global, node: &mut TreeBuilder<'qs>, level: usize) -> AddError {
+    let map = match map_of(alloc, mem::replace(node, TreeBuilder::fresh()), level) {
+        Ok(map) => map,
+        Err(error) => return error,
+    };
+    match map.key_list(alloc) {
+        Ok(keys) => AddError::conflict(alloc, level, ConflictKind::LeafOnMap(keys)),
+        Err(_) => AddError::OutOfMemory,
     }
 }

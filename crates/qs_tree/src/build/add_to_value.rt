@@ -1,6 +1,6 @@
 //! Adding a pair to a finished node, in place.
 ghost use Rattle.std.specs.Prelude.{◌≡◌, ◌<◌, ◌≤◌, true, false, length, drop, IfOk, IsOkAnd, Some};
-ghost use Rattle.qs_spec.specs.Tree.{empty_segment, mapping, uninitialized};
+ghost use Rattle.qs_spec.specs.Tree.{mapping, uninitialized};
 ghost use Rattle.qs_spec.specs.internal.InPlace as in_place;
 ghost use Rattle.qs_spec.specs.internal.InPlace.{add, add_flat, update};
 ghost use Rattle.qs_tree.specs.declared.scan.pair.Manner.TheVariants.{Direct};
@@ -84,32 +84,16 @@ fn add_in_map<'qs>(
     ensures { let path = path_of (drop level pair.old.path) in let old = mapping (entries_of_map map.old) in
         Adds (add path (is_push pair.old.manner) (leaf_of pair.old.leaf) old) old (mapping (entries_of_map map.new)) pair.old pair.new result }
 {
-    add_in_entries(alloc, &mut map.map, pair, level)
-}
-
-// Adds a pair to the entries of a map.
-#[cycle(add_to_value)]
-#[inline(always)]
-fn add_in_entries<'qs>(
-    alloc: Global,
-    entries: &mut Entries<Key<'qs>, ParsedValue<'qs>>,
-    pair: &mut Pair<'qs>,
-    level: usize,
-) -> Result<bool, AddError>
-    requires { level < length pair.old.path }
-    ensures { let path = path_of (drop level pair.old.path) in let old = mapping (entries_held entries.old) in
-        Adds (add path (is_push pair.old.manner) (leaf_of pair.old.leaf) old) old (mapping (entries_held entries.new)) pair.old pair.new result }
-{
-    let place = place_among(entries.as_slice(), pair.key(level));
+    let place = place_among(map.map.as_slice(), pair.key(level));
     match place {
-        Ok(at) => add_to_value(alloc, entries.at_mut(at), pair, level + 1),
+        Ok(at) => add_to_value(alloc, map.map.at_mut(at), pair, level + 1),
         Err(at) => {
-            if goes_between(place, entries.len()) {
+            if goes_between(place, map.map.len()) {
                 return Ok(false);
             }
             let key = pair.take_key(level);
             let value = chain_of(alloc, pair, level + 1)?;
-            entries.insert_at(at, key, value)?;
+            map.map.insert_at(at, key, value)?;
             Ok(true)
         }
     }
@@ -126,7 +110,7 @@ fn chain_of<'qs>(
     ensures { let path = path_of (drop level pair.old.path) in
         IfOk result (λ value. add path (is_push pair.old.manner) (leaf_of pair.old.leaf) uninitialized ≡ Some (tree_of value)) }
 {
-    let mut value = value_at_end(alloc, pair)?;
+    let mut value = value_of(alloc, pair.leaf.take(), pair.manner)?;
     'keys: while level < pair.path.len() {
         let key = pair.pop_key();
         let map = ParsedMap::of(alloc, key, value)?;
@@ -135,16 +119,19 @@ fn chain_of<'qs>(
     Ok(value)
 }
 
-// Takes the leaf out of a pair, and returns a node with only that leaf.
+// Returns a node with only this leaf.
 #[inline(always)]
-fn value_at_end<'qs>(alloc: Global, pair: &mut Pair<'qs>) -> Result<ParsedValue<'qs>, AllocError>
-    ensures value { IfOk result (λ value. add_flat (is_push pair.old.manner) (leaf_of pair.old.leaf) uninitialized ≡ Some (tree_of value)) }
-    ensures path { pair.new.path ≡ pair.old.path }
+fn value_of<'qs>(
+    alloc: Global,
+    leaf: Leaf<'qs>,
+    manner: Manner,
+) -> Result<ParsedValue<'qs>, AllocError>
+    ensures value { IfOk result (λ value. add_flat (is_push manner) (leaf_of leaf.entry) uninitialized ≡ Some (tree_of value)) }
+    ensures direct { manner ≡ Direct → IsOkAnd result (λ value. IsNoMap (tree_of value)) }
 {
-    let leaf = pair.leaf.take().into_value();
-    match pair.manner {
-        Manner::Direct => Ok(leaf),
-        Manner::Push => Ok(ParsedValue::Sequence(vec![in alloc; leaf]?)),
+    match manner {
+        Manner::Direct => Ok(leaf.into_value()),
+        Manner::Push => Ok(ParsedValue::Sequence(vec![in alloc; leaf.into_value()]?)),
     }
 }
 
@@ -162,55 +149,36 @@ pub(crate) fn add_at_end<'qs>(
     ensures fresh { pair.old.manner ≡ Direct → value.old ≡ Uninitialized → IsOkAnd result (λ _. IsNoMap (tree_of value.new)) }
 {
     let leaf = pair.leaf.take();
-    match pair.manner {
-        Manner::Push => add_pushed(alloc, value, leaf, pair.path.len()),
-        Manner::Direct => add_direct(alloc, value, leaf, pair.path.len()),
-    }
-}
-
-// Adds a direct leaf to a node, in a map at the empty string key.
-#[inline(always)]
-#[tactic(auto, using(crate::proofs::lemmas::Views::views))]
-fn add_direct<'qs>(
-    alloc: Global,
-    value: &mut ParsedValue<'qs>,
-    leaf: Leaf<'qs>,
-    level: usize,
-) -> Result<(), AddError>
-    ensures added { AddGives (λ _. tree_of value.new) (in_place.add_here false (leaf_of leaf.entry) (tree_of value.old)) result }
-    ensures fresh { value.old ≡ Uninitialized → IsOkAnd result (λ _. IsNoMap (tree_of value.new)) }
-{
     match value {
-        ParsedValue::Map(map) => add_at_empty(alloc, map, leaf, level),
-        _ => add_to_leaves(alloc, value, leaf, level),
+        ParsedValue::Map(map) => add_at_map(alloc, map, leaf, pair.manner, pair.path.len()),
+        _ => add_to_leaves(alloc, value, leaf, pair.manner, pair.path.len()),
     }
 }
 
-/// Adds a direct leaf to a node, or returns the conflict with a map.
+/// Adds a leaf to a node, or returns the conflict with it.
 #[inline(never)]
 #[tactic(auto, using(crate::proofs::lemmas::Views::views))]
 pub(crate) fn add_to_leaves<'qs>(
     alloc: Global,
     value: &mut ParsedValue<'qs>,
     leaf: Leaf<'qs>,
+    manner: Manner,
     level: usize,
 ) -> Result<(), AddError>
-    ensures added { AddGives (λ _. tree_of value.new) (add_flat false (leaf_of leaf.entry) (tree_of value.old)) result }
-    ensures fresh { value.old ≡ Uninitialized → IsOkAnd result (λ _. IsNoMap (tree_of value.new)) }
+    ensures added { AddGives (λ _. tree_of value.new) (in_place.add_flat (is_push manner) (leaf_of leaf.entry) (tree_of value.old)) result }
+    ensures fresh { manner ≡ Direct → value.old ≡ Uninitialized → IsOkAnd result (λ _. IsNoMap (tree_of value.new)) }
 {
     match value {
         ParsedValue::Uninitialized => {
-            *value = leaf.into_value();
+            *value = value_of(alloc, leaf, manner)?;
             Ok(())
         }
-        ParsedValue::Sequence(items) => {
-            items.push(leaf.into_value())?;
-            Ok(())
-        }
+        ParsedValue::Sequence(items) => Ok(items.push(leaf.into_value())?),
         ParsedValue::Map(map) => Err(conflict(alloc, map, level)),
-        ParsedValue::String(_) => add_second(alloc, value, leaf),
-        ParsedValue::Null => add_second(alloc, value, leaf),
-        ParsedValue::NoValue => add_second(alloc, value, leaf),
+        _ => match manner {
+            Manner::Direct => add_second(alloc, value, leaf),
+            Manner::Push => Err(AddError::conflict(alloc, level, ConflictKind::PushOnLeaf)),
+        },
     }
 }
 
@@ -228,39 +196,21 @@ fn add_second<'qs>(
     Ok(())
 }
 
-// Pushes a leaf onto a sequence or an empty node, or returns the conflict with another node.
+// Adds a direct leaf at the empty string key of a map, or returns the conflict of a push.
 #[inline(never)]
-#[tactic(auto, using(crate::proofs::lemmas::Views::views))]
-fn add_pushed<'qs>(
-    alloc: Global,
-    value: &mut ParsedValue<'qs>,
-    leaf: Leaf<'qs>,
-    level: usize,
-) -> Result<(), AddError>
-    ensures { AddGives (λ _. tree_of value.new) (add_flat true (leaf_of leaf.entry) (tree_of value.old)) result }
-{
-    match value {
-        ParsedValue::Uninitialized => *value = ParsedValue::Sequence(vec![in alloc;
-            leaf.into_value(),
-        ]?),
-        ParsedValue::Sequence(items) => items.push(leaf.into_value())?,
-        ParsedValue::Map(map) => return Err(conflict(alloc, map, level)),
-        _ => return Err(AddError::conflict(alloc, level, ConflictKind::PushOnLeaf)),
-    }
-    Ok(())
-}
-
-// Adds a direct leaf at the empty string key of a map.
-#[inline(never)]
-fn add_at_empty<'qs>(
+fn add_at_map<'qs>(
     alloc: Global,
     map: &mut ParsedMap<'qs>,
     leaf: Leaf<'qs>,
+    manner: Manner,
     level: usize,
 ) -> Result<(), AddError>
-    ensures { AddGives (λ _. entries_of_map map.new) (update empty_segment (add_flat false (leaf_of leaf.entry)) (entries_of_map map.old)) result }
+    ensures { AddGives (λ _. mapping (entries_of_map map.new)) (in_place.add_here (is_push manner) (leaf_of leaf.entry) (mapping (entries_of_map map.old))) result }
 {
-    add_leaf_at(alloc, &mut map.map, Key::from(""), leaf, level)
+    match manner {
+        Manner::Direct => add_leaf_at(alloc, &mut map.map, Key::from(""), leaf, level),
+        Manner::Push => Err(conflict(alloc, map, level)),
+    }
 }
 
 /// Adds a direct leaf to the node at a key, which is at a level of its path.
@@ -274,7 +224,7 @@ pub(crate) fn add_leaf_at<'qs>(
     ensures { AddGives (λ _. entries_held entries.new) (update (marked_segment_of_key key.entry) (add_flat false (leaf_of leaf.entry)) (entries_held entries.old)) result }
 {
     match place_among(entries.as_slice(), &key) {
-        Ok(at) => add_to_leaves(alloc, entries.at_mut(at), leaf, level),
+        Ok(at) => add_to_leaves(alloc, entries.at_mut(at), leaf, Manner::Direct, level),
         Err(at) => Ok(entries.insert_at(at, key, leaf.into_value())?),
     }
 }

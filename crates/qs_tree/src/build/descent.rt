@@ -4,15 +4,16 @@ ghost use Rattle.qs_tree.specs.tree.Views.{marked_segment_of_key, tree_of};
 ghost use Rattle.qs_tree.specs.internal.scan.Pairs.{path_of};
 ghost use Rattle.qs_tree.specs.internal.build.Builder.{built_tree, built_entries};
 ghost use Rattle.qs_tree.specs.internal.build.Adding.{AddGives, IsRejected, entries_below};
-ghost use Rattle.qs_tree.specs.internal.build.Descent.{IsOpen, Leads, IsBarred, put_all_back};
+ghost use Rattle.qs_tree.specs.internal.build.Descent.{IsOpen, Leads, IsBarred, put_back, put_all_back};
 
 use crate::build::builder::{MapBuilder, TreeBuilder};
-use crate::build::conflict::{AddError, ConflictKind};
+use crate::build::conflict::AddError;
 use crate::scan::pair::Pair;
 use crate::tree::key::Key;
 use crate::tree::map::ParsedMap;
 use crate::tree::value::ParsedValue;
 use std::alloc::Global;
+use std::mem;
 
 /// A map from which the node at one key is taken out.
 #[derive(Drop)]
@@ -21,76 +22,80 @@ pub(crate) struct Frame<'qs> {
     key: Key<'qs>,
 }
 
-/// The node at the end of a path, with a frame for each map above it.
-#[derive(Drop)]
-pub(crate) struct Zipper<'qs> {
-    /// The frames from the top down.
-    pub maps: Vec<Frame<'qs>>,
-    pub node: TreeBuilder<'qs>,
+impl<'qs> Frame<'qs> {
+    /// Replaces a map by its node at a key, and returns the rest of the map. An empty node becomes a map first. The node at the key may
+    /// be empty.
+    ///
+    /// Returns an error if the node can't have a child, or if an allocation failed. The node is dropped then.
+    pub fn open(
+        alloc: Global,
+        node: &mut TreeBuilder<'qs>,
+        key: Key<'qs>,
+        level: usize,
+    ) -> Result<Frame<'qs>, AddError>
+        ensures { let before = built_tree node.old in MatchResult result
+            (λ frame. IsOpen (marked_segment_of_key key.entry) before frame (built_tree node.new))
+            (λ error. IsRejected (entries_below before) error) }
+    {
+        let mut map = map_of(alloc, mem::replace(node, TreeBuilder::fresh()), level)?;
+        *node = map.take(&key);
+        Ok(Frame { map, key })
+    }
+
+    /// Replaces the node at the key by the whole map. Returns an error only if an allocation failed.
+    pub fn close(self, alloc: Global, node: &mut TreeBuilder<'qs>) -> Result<(), AddError>
+        ensures { AddGives (λ _. built_tree node.new) (put_back self.entry (built_tree node.old)) result }
+    {
+        let Frame { mut map, key } = self;
+        map.put(alloc, key, mem::replace(node, TreeBuilder::fresh()))?;
+        *node = TreeBuilder::Map(map);
+        Ok(())
+    }
 }
 
-/// Goes down from the node at a level along the remaining keys of a pair, and takes them out of the pair. Empty nodes become maps.
+/// Goes down from the node at a level along the remaining keys of a pair, and takes them out of the pair. Replaces the node by the one
+/// at the end of the path, and returns the frames from the top down. Empty nodes become maps.
 ///
 /// Returns an error if a node can't have a child at the next key, or if an allocation failed. The node is dropped then.
 /// Allocates the frames.
 pub(crate) fn descend<'qs>(
     alloc: Global,
-    node: TreeBuilder<'qs>,
+    node: &mut TreeBuilder<'qs>,
     pair: &mut Pair<'qs>,
     level: usize,
-) -> Result<Zipper<'qs>, AddError>
+) -> Result<Vec<Frame<'qs>>, AddError>
     requires { level ≤ length pair.old.path }
-    ensures way { let path = path_of (drop level pair.old.path) in let before = built_tree node.entry in MatchResult result
-        (λ way. Leads path before way.maps.items [] (built_tree way.node)) (λ error. IsBarred path before error) }
+    ensures way { let path = path_of (drop level pair.old.path) in let before = built_tree node.old in MatchResult result
+        (λ frames. Leads path before frames.items [] (built_tree node.new)) (λ error. IsBarred path before error) }
     ensures manner { pair.new.manner ≡ pair.old.manner }
     ensures leaf { pair.new.leaf ≡ pair.old.leaf }
 {
-    let mut maps = Vec::new(alloc);
-    let mut node = node;
+    let mut frames = Vec::new(alloc);
     let mut level = level;
     while level < pair.path.len() {
         let key = pair.take_key(level);
-        let (map, child) = open(alloc, node, key, level)?;
-        maps.push(map)?;
-        node = child;
+        let frame = Frame::open(alloc, node, key, level)?;
+        frames.push(frame)?;
         level += 1;
     }
-    Ok(Zipper { maps, node })
+    Ok(frames)
 }
 
-/// Puts a node back into the maps above it, the lowest first.
+/// Puts a node back into the maps above it, the lowest first, and replaces it by the topmost.
 ///
 /// Returns an error only if an allocation failed.
 pub(crate) fn rebuild<'qs>(
     alloc: Global,
-    maps: Vec<Frame<'qs>>,
-    node: TreeBuilder<'qs>,
-) -> Result<TreeBuilder<'qs>, AddError>
-    ensures { AddGives built_tree (put_all_back maps.entry.items (built_tree node.entry)) result }
+    frames: Vec<Frame<'qs>>,
+    node: &mut TreeBuilder<'qs>,
+) -> Result<(), AddError>
+    ensures { AddGives (λ _. built_tree node.new) (put_all_back frames.entry.items (built_tree node.old)) result }
 {
-    let mut maps = maps;
-    let mut node = node;
-    while let Some(Frame { mut map, key }) = maps.pop() {
-        map.put(alloc, key, node)?;
-        node = TreeBuilder::Map(map);
+    let mut frames = frames;
+    while let Some(frame) = frames.pop() {
+        frame.close(alloc, node)?;
     }
-    Ok(node)
-}
-
-// Takes the node at a key out of a map. An empty node becomes a map first. The node at the key may be empty.
-fn open<'qs>(
-    alloc: Global,
-    node: TreeBuilder<'qs>,
-    key: Key<'qs>,
-    level: usize,
-) -> Result<(Frame<'qs>, TreeBuilder<'qs>), AddError>
-    ensures { let before = built_tree node.entry in MatchResult result
-        (λ p. IsOpen (marked_segment_of_key key.entry) before p.0 (built_tree p.1))
-        (λ error. IsRejected (entries_below before) error) }
-{
-    let mut map = map_of(alloc, node, level)?;
-    let child = map.take(&key);
-    Ok((Frame { map, key }, child))
+    Ok(())
 }
 
 /// Returns the node as a map. An empty node becomes an empty map.
@@ -123,12 +128,9 @@ fn map_of_value<'qs>(
 ) -> Result<MapBuilder<'qs>, AddError>
     ensures { AddGives built_entries (entries_below (tree_of value.entry)) result }
 {
-    let kind = match value {
-        ParsedValue::Map(map) => return Ok(MapBuilder::reopen(alloc, map)?),
-        ParsedValue::Uninitialized => return Ok(MapBuilder::new(alloc)),
-        ParsedValue::Sequence(_) => ConflictKind::BelowSequence,
-        ParsedValue::String(_) => ConflictKind::BelowText,
-        ParsedValue::Null | ParsedValue::NoValue => ConflictKind::BelowUnit,
-    };
-    Err(AddError::conflict(alloc, level, kind))
+    match value {
+        ParsedValue::Map(map) => Ok(MapBuilder::reopen(alloc, map)?),
+        ParsedValue::Uninitialized => Ok(MapBuilder::new(alloc)),
+        value => Err(AddError::below(alloc, level, &value)),
+    }
 }

@@ -1,8 +1,8 @@
 -- A node with one pair alone, and what a finished map holds after a step.
-use Rattle.qs_tree.proofs.Common.{map-append, ◌≡◌, ℕ, zero, suc, ◌≤◌, ◌<◌, Bool, true, false, List, [], ◌∷◌, ◌++◌, length, drop, slice_get, Some, None, option_map, unwrap_or, Result, Ok, Err, refl, sym, ap, ◌∙◌, arith, drop-append-le, same_Some, IsStrictlySortedBy, keys_of, insert_entry, MarkedSegment, Leaf, Tree, mapping, uninitialized, entry, no_entries, add_flat, add, Key, ParsedValue, Uninitialized, AddError, key_cmp, segment_of_key, key_mark, marked_segment_of_key, tree_of, path_of, IsHit, IsGap, put_value, entries_held, Adds, entries_below}
+use Rattle.qs_tree.proofs.Common.{map-append, ◌≡◌, ℕ, zero, suc, ◌≤◌, ◌<◌, Bool, true, false, List, [], ◌∷◌, ◌++◌, length, drop, slice_get, Some, None, option_map, unwrap_or, Result, Ok, Err, refl, sym, ap, ◌∙◌, arith, drop-append-le, same_Some, IsStrictlySortedBy, keys_of, insert_entry, MarkedSegment, Leaf, Tree, mapping, uninitialized, entry, no_entries, add_flat, add, Key, ParsedMap, ParsedValue, Uninitialized, AddError, key_cmp, segment_of_key, key_mark, marked_segment_of_key, tree_of, entries_of_map, path_of, IsHit, IsGap, put_value, entries_held, Adds, entries_below}
 use Rattle.qs_tree.specs.declared.scan.pair.Pair.{Pair}
 use Rattle.qs_tree.proofs.lemmas.Views.{tree_of-Uninitialized}
-use Rattle.qs_tree.proofs.lemmas.tree.Keys.{Held}
+use Rattle.qs_tree.proofs.lemmas.tree.Keys.{Held, entries_of_map-map}
 use Rattle.qs_tree.proofs.lemmas.tree.Places.{hit_value, hit_insert, gap_lookup}
 use Rattle.qs_tree.proofs.lemmas.build.Turns.{rejected_too}
 use Rattle.qs_tree.proofs.lemmas.build.Descending.{nothing_below}
@@ -42,6 +42,12 @@ put_same : (es : Held) (i : ℕ) (old new : ParsedValue) → option_map (λ e. e
 put_same [] i old new is same = refl
 put_same (e ∷ es) zero old new is same = ap (λ t. entry (segment_of_key e.0) (key_mark e.0) t (entries_held es)) (same ∙ ap tree_of (sym (same_Some _ _ is)))
 put_same (e ∷ es) (suc i) old new is same = ap (entry (segment_of_key e.0) (key_mark e.0) (tree_of e.1)) (put_same es i old new is same)
+
+-- what is added to a map's entries is added to the map
+pub in_map : (old new : ParsedMap) (path : List MarkedSegment) (push : Bool) (l : Leaf) (before after : Pair) (r : Result Bool AddError)
+    → Adds (add path push l (mapping (entries_held old.map))) (mapping (entries_held old.map)) (mapping (entries_held new.map)) before after r
+    → Adds (add path push l (mapping (entries_of_map old))) (mapping (entries_of_map old)) (mapping (entries_of_map new)) before after r
+in_map old new path push l before after r h = rw (entries_of_map-map old, entries_of_map-map new) h
 
 module _ (k : Key) (es : Held) (sorted : IsStrictlySortedBy key_cmp (keys_of es)) (i : ℕ) (path : List MarkedSegment) (push : Bool) (l : Leaf) where
   -- a pair is added at the value at a key

@@ -1,5 +1,5 @@
 -- What a step of a zipper leaves.
-use Rattle.qs_tree.proofs.Common.{◌≡◌, Bool, List, [], ◌∷◌, ◌++◌, Option, Some, None, option_map, option_and_then, refl, sym, ap, subst, ◌∙◌, append-nil, MarkedSegment, Leaf, Tree, Entries, mapping, uninitialized, update, add_below, add, AddError, marked_segment_of_key, built_entries, Takes, IsRejected, entries_below, put_back, put_all_back, IsOpen, Leads, IsBarred}
+use Rattle.qs_tree.proofs.Common.{◌≡◌, Bool, List, [], ◌∷◌, ◌++◌, Option, Some, None, option_map, option_and_then, Result, refl, sym, ap, subst, ◌∙◌, append-nil, MarkedSegment, Leaf, Tree, Entries, mapping, uninitialized, update, add_below, add, AddError, AddGives, marked_segment_of_key, built_entries, Takes, IsRejected, entries_below, put_back, put_all_back, IsOpen, Leads, IsBarred}
 use Rattle.qs_tree.specs.declared.build.descent.Frame.{Frame}
 use Rattle.qs_tree.proofs.lemmas.build.Turns.{rejected_too, updated, one_below}
 
@@ -56,11 +56,8 @@ module _ (push : Bool) (l : Leaf) (path : List MarkedSegment) (node : Tree) (ms 
   pub rejected_at_end : (error : AddError) → IsRejected (add [] push l end) error → IsRejected (add path push l node) error
   rejected_at_end error h = rejected_too (add [] push l end) _ error (λ none. whole_way ∙ ap (option_and_then (put_all_back ms)) none) h
 
-  pub added_at_end : (made whole : Tree) → add [] push l end ≡ Some made → put_all_back ms made ≡ Some whole → add path push l node ≡ Some whole
-  added_at_end made whole is h = whole_way ∙ ap (option_and_then (put_all_back ms)) is ∙ h
-
-  pub lost_at_end : (made : Tree) (error : AddError) → add [] push l end ≡ Some made → IsRejected (put_all_back ms made) error → IsRejected (add path push l node) error
-  lost_at_end made error is h = λ other. whole_way ∙ ap (option_and_then (put_all_back ms)) is ∙ h other
+  pub added_at_end : (made whole : Tree) (r : Result (Unit {0}) AddError) → add [] push l end ≡ Some made → AddGives (λ _. whole) (put_all_back ms made) r → AddGives (λ _. whole) (add path push l node) r
+  added_at_end made whole r is h = rw (whole_way, is) h
 
 -- a pair whose path ends here
 pub barred_at_end : (push : Bool) (l : Leaf) (path : List MarkedSegment) (node : Tree) (error : AddError) → IsBarred path node error → IsRejected (add path push l node) error

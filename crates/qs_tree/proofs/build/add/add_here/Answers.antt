@@ -5,8 +5,8 @@ use Rattle.qs_tree.proofs.build.add.add_here.Goals as goal
 
 pub returns-in-Direct-manner-clause-added : goal.returns-in-Direct-manner-clause-added
 returns-in-Direct-manner-clause-added c =
-    rw (c.in-Direct-manner.is, c.in-Map.is, built_tree-Map c.in-Map.map, built_tree-Map c.add_at_empty.new.self)
-    (at_map (leaf_of c.args.pair.now.leaf) (built_entries c.in-Map.map) (built_entries c.add_at_empty.new.self) c.add_at_empty.result (rw c.take-in-Direct-manner.ensures at c.add_at_empty.ensures))
+    rw (c.in-Direct-manner.is, c.in-Map.is, built_tree-Map c.in-Map.map, built_tree-Map c.add_at_empty.new.map)
+    (at_map (leaf_of c.args.pair.now.leaf) (built_entries c.in-Map.map) (built_entries c.add_at_empty.new.map) c.add_at_empty.result (rw c.take-in-Direct-manner.ensures at c.add_at_empty.ensures))
 
 pub returns-in_ok-push-in-Direct-clause-added : goal.returns-in_ok-push-in-Direct-clause-added
 returns-in_ok-push-in-Direct-clause-added c =

@@ -7,8 +7,8 @@ pub keys-init : goal.keys-init
 keys-init c =
     let pair = c.args.pair.now in
     record {
-      made = rw c.in_ok-value.ensures.path (alone (path_of (drop c.args.level pair.path)) (is_push pair.manner) (leaf_of pair.leaf) (tree_of c.in_ok-value.value) c.in_ok-value.ensures.value);
-      count = rw c.in_ok-value.ensures.path c.requires;
+      made = alone (path_of (drop c.args.level pair.path)) (is_push pair.manner) (leaf_of pair.leaf) (tree_of c.in_ok-value.value) (rw c.take.ensures at c.in_ok-value.ensures.value);
+      count = c.requires;
     }
 
 pub keys-preserved : goal.keys-preserved

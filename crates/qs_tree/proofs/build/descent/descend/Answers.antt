@@ -7,8 +7,8 @@ loop-level-preserved c =
     let level = c.loop-level.level in
     let way = rw c.take_key-key.ensures.key at c.loop-level.invariant.way in
     record {
-      way = rw c.in_ok-push.ensures.items (goes_on (path_of (drop c.args.level c.args.pair.now.path)) (built_tree c.args.node) c.loop-level.maps.items (marked_segment_of_key c.take_key-key.result) (path_of (drop (level + 1) c.take_key-key.new.self.path)) (built_tree c.loop-level.node) way
-          c.in_ok-map.map (built_tree c.in_ok-map.child) c.in_ok-map.ensures);
+      way = rw c.in_ok-push.ensures.items (goes_on (path_of (drop c.args.level c.args.pair.now.path)) (built_tree c.args.node.now) c.loop-level.frames.items (marked_segment_of_key c.take_key-key.result) (path_of (drop (level + 1) c.take_key-key.new.self.path)) (built_tree c.loop-level.node) way
+          c.in_ok-frame.frame (built_tree c.«open».new.node) c.in_ok-frame.ensures);
       count = omega (arith, c.loop-level-test.true, c.take_key-key.ensures.len);
       manner = c.take_key-key.ensures.manner ∙ c.loop-level.invariant.manner;
       leaf = c.take_key-key.ensures.leaf ∙ c.loop-level.invariant.leaf;

@@ -1,5 +1,5 @@
 #!/usr/bin/env bash
-# The rows of docs/COMING_FROM.md that show a querystring and what the program prints for it.
+# The rows of docs/DIFFERENCES.md that show a querystring and what the program prints for it.
 source "$(dirname "${BASH_SOURCE[0]}")/support/counting.sh"
 
 # | `INPUT` | `LINE` | .. or | `INPUT` with `OPTIONS` | `LINE` | ..
@@ -13,7 +13,7 @@ while IFS= read -r line; do
     status=${PIPESTATUS[1]}
     [[ $wanted == error:* ]] && code=1 || code=0
     expect "qs_tool any $options on '$input'" $code "$wanted"$'\n'
-done <"$root/docs/COMING_FROM.md"
+done <"$root/docs/DIFFERENCES.md"
 
 [ $rows -ge 25 ] || fail "only $rows rows were found"
 

@@ -49,7 +49,7 @@ def faults(value, schema, definitions, path):
 
 
 def words_of(document):
-    return " ".join((ROOT / f"docs/{document}.md").read_text(encoding="utf-8").split())
+    return " ".join((ROOT / document).read_text(encoding="utf-8").split())
 
 
 def try_file(text, suite):
@@ -62,7 +62,7 @@ def try_file(text, suite):
     claim("the schema takes any case", list(faults({"cases": [{"name": 1}]}, schema, schema["$defs"], "")))
     names = [(case["feature"], case["name"]) for case in suite["cases"]]
     claim("two cases of a feature have the same name", len(set(names)) == len(names))
-    document = words_of("QUERYSTRINGS")
+    document = words_of("docs/QUERYSTRINGS.md")
     for feature, sentence in suite["features"].items():
         claim(f"docs/QUERYSTRINGS.md doesn't have the sentence of {feature}: {sentence}", sentence in document)
     for name in re.findall(r"`([a-z ]+/[a-z0-9-]+)`", document):
@@ -119,7 +119,7 @@ def try_clients():
         claim(f"{row['client']}, {row['text']}: {got}, and not {want}", got == want and is_explained)
     meant = sum(not row[names.index("why")] for row in rows)
     numbers = f"has {len(rows)} texts", f"{meant} of them are read as they were meant", f"The other {len(rows) - meant} are"
-    claim(f"docs/COMING_FROM.md has other numbers of texts than {numbers}", all(number in words_of("COMING_FROM") for number in numbers))
+    claim(f"conformance/README.md has other numbers of texts than {numbers}", all(number in words_of("conformance/README.md") for number in numbers))
 
 
 text = (SUITE / "cases.json").read_text(encoding="utf-8")
@@ -128,6 +128,6 @@ try_file(text, suite)
 try_trees(sys.argv[1], suite["cases"])
 try_runner(suite["cases"])
 try_clients()
-claim(f"docs/COMING_FROM.md doesn't say that there are {len(suite['cases']):,} cases", f"agrees on all {len(suite['cases']):,}," in words_of("COMING_FROM"))
+claim(f"conformance/README.md doesn't say that there are {len(suite['cases']):,} cases", f"agrees on all {len(suite['cases']):,}," in words_of("conformance/README.md"))
 print(f"conformance: {counts['passed']} passed, {counts['failed']} failed")
 sys.exit(counts["failed"] > 0)

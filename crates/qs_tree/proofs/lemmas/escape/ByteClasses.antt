@@ -1,5 +1,5 @@
 -- What the table of classes says of a byte.
-use Rattle.qs_tree.proofs.Common.{◌≡◌, ◌∙◌, ℕ, ◌<◌, ◌==◌, ◌||◌, Bool, true, false, cond, not, get_or, refl, sym, agree_below_at, byte_kind, bit_and, is_escape, is_ampersand, ends_of, classes_of, IsInside, ◌&&◌}
+use Rattle.qs_tree.proofs.Common.{◌≡◌, ◌∙◌, ℕ, ◌<◌, ◌==◌, ◌||◌, Bool, true, false, not, get_or, refl, sym, agree_below_at, byte_kind, bit_and, is_escape, is_ampersand, ends_of, classes_of, IsInside}
 use Rattle.qs_tree.specs.declared.escape.search.classes.TheConstants.{CLASSES}
 use Rattle.qs_tree.specs.declared.scan.cursor.Until as until
 

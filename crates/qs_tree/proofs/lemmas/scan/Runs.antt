@@ -1,5 +1,5 @@
 -- A run that is taken token by token.
-use Rattle.qs_tree.proofs.Common.{◌≡◌, ℕ, ◌+◌, ◌-◌, ◌≤◌, ◌&&◌, ◌||◌, ◌==◌, Bool, true, false, cond, List, [], ◌∷◌, ◌++◌, length, take, drop, get_or, ◌<◌, refl, sym, ap, ap₂, ◌∙◌, subst, arith, Option, Some, None, append_assoc, length-append, length-drop, drop-drop, IfSome, take-add, take-append_seam, drop_more, take_all, Kind, Token, tokens, byte_token, is_escaped_bracket, raw_of, cut, cut_at, kind_of_token, token_of, from_token, taken, IsLeft, IsInside, byte_kind}
+use Rattle.qs_tree.proofs.Common.{◌≡◌, ℕ, ◌+◌, ◌-◌, ◌≤◌, ◌&&◌, ◌||◌, ◌==◌, Bool, true, false, cond, List, [], ◌∷◌, ◌++◌, length, take, drop, get_or, ◌<◌, refl, sym, ap, ◌∙◌, subst, arith, Option, Some, None, append_assoc, length-append, length-drop, drop-drop, IfSome, take-add, take-append_seam, drop_more, take_all, Kind, Token, tokens, byte_token, is_escaped_bracket, raw_of, cut, cut_at, kind_of_token, token_of, from_token, taken, IsLeft, IsInside, byte_kind}
 use Rattle.qs_tree.specs.declared.scan.cursor.Token as code
 use Rattle.qs_tree.proofs.lemmas.scan.Values.{stop_ends}
 

@@ -1,4 +1,4 @@
-use Rattle.qs_tree.proofs.Common.{◌≡◌, ◌≤◌, ◌==◌, Bool, Ok, Err, true, false, inl, inr, cases_Bool, arith, refl, sym, ap, ap₂, subst, ◌∙◌, ◌+◌, length, tokens, NoValue, left, to_come, grown, uninitialized, AllocatesNothing}
+use Rattle.qs_tree.proofs.Common.{◌≤◌, Bool, Ok, Err, true, false, arith, refl, sym, ap, ap₂, subst, ◌∙◌, ◌+◌, length, tokens, NoValue, left, to_come, grown, uninitialized, AllocatesNothing}
 use Rattle.qs_tree.proofs.lemmas.Parsed as parsed
 use Rattle.qs_tree.proofs.parsing.parse_with.Goals as goal
 

@@ -1,4 +1,4 @@
-use Rattle.qs_tree.proofs.Common.{◌≡◌, false, refl, sym, ap, ◌∙◌, arith, inl, inr, cases_lt, is_escape, ends_of, kind_of_token, slice_index}
+use Rattle.qs_tree.proofs.Common.{refl, sym, ap, ◌∙◌, arith, inl, inr, cases_lt, is_escape, ends_of, kind_of_token, slice_index}
 use Rattle.qs_tree.proofs.lemmas.scan.Runs.{token_on, inside_on}
 use Rattle.qs_tree.proofs.scan.cursor.run_len.Goals as goal
 

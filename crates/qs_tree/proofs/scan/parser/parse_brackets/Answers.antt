@@ -1,4 +1,4 @@
-use Rattle.qs_tree.proofs.Common.{◌≡◌, ◌-◌, ◌++◌, length, List, ◌∷◌, sym, ap, ap₂, ◌∙◌, arith, refl, append_assoc, Token, tokens, raw_of, Pair, Rest, direct, is_close, ends_last, cut, with_leaf, parsed_value, parsed_brackets, after_close, after_run, kind_of_token, token_of, looks, ended_after, left, from_token, taken, path_of}
+use Rattle.qs_tree.proofs.Common.{◌≡◌, ◌-◌, ◌++◌, List, ◌∷◌, sym, ap, ◌∙◌, arith, refl, append_assoc, Token, raw_of, Pair, Rest, direct, is_close, ends_last, cut, with_leaf, parsed_value, parsed_brackets, after_close, after_run, kind_of_token, token_of, looks, ended_after, left, from_token, taken, path_of}
 use Rattle.qs_tree.proofs.lemmas.scan.AfterKeys.{pair_as, push_found, last_found, rest_left, front_taken, segment_parsed, next_closing, next_open, next_close, next_other, closes}
 use Rattle.qs_tree.proofs.scan.parser.parse_brackets.Goals as goal
 use Rattle.qs_tree.proofs.scan.parser.parse_brackets.Goals.{In-Some, In_ok-push, In-Some-stop}

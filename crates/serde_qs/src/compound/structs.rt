@@ -40,7 +40,7 @@ pub struct StrictStruct<F>(pub F);
 
 /// What holds the fields of a struct, and says what is done with unknown keys: a [`Struct`] or a [`StrictStruct`].
 ///
-/// It is implemented for these alone. A user names them, and calls no function of it.
+/// It is implemented for these alone. A user names them, and calls no function of it. Its functions take constant time.
 pub trait HoldsFields: Sized {
     type Held: Fields;
 
